@@ -1,0 +1,4 @@
+pub mod Digits
+pub mod Kinds
+pub mod Calendar
+pub mod Canonical

@@ -1,0 +1,19 @@
+//! The values of a GTFS field, and the one text that each of them is written as.
+#![tactic(auto)]
+
+mod clock;
+mod colour;
+mod coord;
+mod day;
+mod fault;
+mod list;
+mod text;
+
+pub use clock::Clock;
+pub use colour::Colour;
+pub use coord::{Axis, Coord};
+pub use day::Day;
+pub use fault::FieldFault;
+pub use list::List;
+pub use std::alloc::AllocError as OutOfMemory;
+pub use text::Text;
