@@ -1,1 +1,4 @@
+mod Choices
+mod Numerals
+mod Times
 mod WorkedTexts

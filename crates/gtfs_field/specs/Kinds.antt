@@ -50,18 +50,24 @@ is_in_ranges ranges n = list_any (λ r. nat_le r.0 n && nat_le n r.1) ranges
 abbrev pub choice_of : List (ℕ × ℕ) → List ℕ → Result ℕ FieldFault
 choice_of ranges t = shaped (is_number t) (within (is_in_ranges ranges (number t)) (number t))
 
--- a time: what stands before the first colon is one to three digits of hours, and what stands after it is
--- MM:SS, each of two digits and below 60; whole seconds from the origin of the service day
+-- two digits that write a number below 60
+abbrev pub is_sixtieth : List ℕ → Bool
+is_sixtieth ds = is_wide 2 ds && nat_lt (number ds) 60
+
+-- one to three digits of hours, and MM:SS after the first colon
 abbrev pub has_time_shape : List ℕ → List ℕ → Bool
 has_time_shape hours rest =
     is_number hours && nat_le (length hours) 3 && (length rest == 5) && is_colon (slice_index rest 2)
-    && is_wide 2 (take 2 rest) && is_wide 2 (drop 3 rest) && nat_lt (number (take 2 rest)) 60 && nat_lt (number (drop 3 rest)) 60
+    && is_sixtieth (take 2 rest) && is_sixtieth (drop 3 rest)
 
-abbrev pub time_of : List ℕ → Result ℕ FieldFault
-time_of t =
-    let hours = before_first is_colon t in
-    let rest = after_first is_colon t in
+-- whole seconds from the origin of the service day, from what stands before the first colon and after it
+abbrev pub time_from : List ℕ → List ℕ → Result ℕ FieldFault
+time_from hours rest =
     shaped (has_time_shape hours rest) (Ok (3600 * number hours + 60 * number (take 2 rest) + number (drop 3 rest)))
+
+-- a time: H:MM:SS, with minutes and seconds below 60
+abbrev pub time_of : List ℕ → Result ℕ FieldFault
+time_of t = time_from (before_first is_colon t) (after_first is_colon t)
 
 -- the calendar has this day, in a year from 1900 to 9999
 abbrev pub is_calendar_day : ℕ → ℕ → ℕ → Bool

@@ -3,14 +3,17 @@
 
 mod clock;
 mod colour;
+mod count;
 mod coord;
 mod day;
+mod digits;
 mod fault;
 mod list;
 mod text;
 
-pub use clock::Clock;
+pub use clock::{Clock, read_time};
 pub use colour::Colour;
+pub use count::read_count;
 pub use coord::{Axis, Coord};
 pub use day::Day;
 pub use fault::FieldFault;

@@ -1,0 +1,25 @@
+-- Answers that are there exactly where a test passes, and results that go by tests.
+use Rattle.std.proofs.Common.{◌≡◌, Bool, true, false, Option, Some, None, Result, Ok, Err, if◌then◌else◌, refl}
+use Rattle.gtfs_field.specs.Kinds.{shaped, within}
+use Rattle.gtfs_field.specs.declared.fault.FieldFault.{FieldFault}
+use Rattle.gtfs_field.specs.declared.fault.FieldFault.TheVariants.{Form, Range}
+
+pub test-some : {V : Type 0} (b : Bool) (x y : V) → Some x ≡ (if b then Some y else None) → (b ≡ true) × (x ≡ y)
+test-some true x y h = (refl, cc)
+test-some false x y h = (cc, cc)
+
+pub test-none : {V : Type 0} (b : Bool) (y : V) → None ≡ (if b then Some y else None) → b ≡ false
+test-none true y h = cc
+test-none false y h = refl
+
+pub shaped-true : {V : Type 0} (b : Bool) (r : Result V FieldFault) → b ≡ true → shaped b r ≡ r
+shaped-true b r h = rw h refl
+
+pub shaped-false : {V : Type 0} (b : Bool) (r : Result V FieldFault) → b ≡ false → shaped b r ≡ Err Form
+shaped-false b r h = rw h refl
+
+pub within-true : {V : Type 0} (b : Bool) (v : V) → b ≡ true → within b v ≡ Ok v
+within-true b v h = rw h refl
+
+pub within-false : {V : Type 0} (b : Bool) (v : V) → b ≡ false → within b v ≡ Err Range
+within-false b v h = rw h refl

@@ -1,0 +1,44 @@
+-- Times from what stands before the first colon and after it.
+use Rattle.std.proofs.Common.{◌≡◌, ◌≢◌, ℕ, ◌+◌, ◌*◌, ◌<◌, ◌≤◌, ◌&&◌, ◌==◌, Bool, true, false, Option, Some, None, Ok, if◌then◌else◌, nat_le, List, [], ◌∷◌, length, get_or, arith, refl, sym, ap, ◌∙◌}
+use Rattle.std.specs.Result.{result_ok}
+use Rattle.std.proofs.lemmas.Bool.{and_left, and_right, and_from}
+use Rattle.std.proofs.lemmas.Bool.Decides.{nat_tests}
+use Rattle.gtfs_field.specs.Digits.{is_number, number}
+use Rattle.gtfs_field.specs.Kinds.{time_from, has_time_shape, is_sixtieth, is_colon}
+use Rattle.gtfs_field.proofs.Choices.{test-some, test-none, shaped-true, shaped-false}
+
+-- the two bytes at a place of a text
+abbrev pub pair_at : List ℕ → ℕ → List ℕ
+pair_at t i = get_or t i 0 ∷ get_or t (i + 1) 0 ∷ []
+
+abbrev pub hours_at : List ℕ → Option ℕ
+hours_at hours = if is_number hours && nat_le (length hours) 3 then Some (number hours) else None
+
+abbrev pub sixtieth_at : List ℕ → ℕ → Option ℕ
+sixtieth_at t i = if is_sixtieth (pair_at t i) then Some (number (pair_at t i)) else None
+
+pub time_from-not : (hours rest : List ℕ) → has_time_shape hours rest ≡ false → None ≡ result_ok (time_from hours rest)
+time_from-not hours rest without = sym (ap result_ok (shaped-false _ _ without))
+
+length-not : (n : ℕ) → n ≢ 5 → (n == 5) ≡ false
+length-not n other = grind (arith, nat_tests)
+
+pub time_from-length : (hours rest : List ℕ) → length rest ≢ 5 → None ≡ result_ok (time_from hours rest)
+time_from-length hours rest other =
+    time_from-not hours rest (and_left _ _ (and_left _ _ (and_left _ _ (and_right _ _ (length-not (length rest) other)))))
+
+pub time_from-seconds : (hours rest : List ℕ) → length rest ≡ 5 → None ≡ sixtieth_at rest 3 → None ≡ result_ok (time_from hours rest)
+time_from-seconds hours (m1 ∷ m2 ∷ colon ∷ s1 ∷ s2 ∷ []) five none =
+    time_from-not hours (m1 ∷ m2 ∷ colon ∷ s1 ∷ s2 ∷ []) (and_right _ _ (test-none _ _ none))
+time_from-seconds hours rest five none = absurd (omega arith)
+
+pub time_from-ok : (hours rest : List ℕ) (h m s : ℕ) → length rest ≡ 5 → get_or rest 2 0 ≡ 58 → Some h ≡ hours_at hours → Some m ≡ sixtieth_at rest 0 → Some s ≡ sixtieth_at rest 3 → Some (3600 * h + 60 * m + s) ≡ result_ok (time_from hours rest)
+time_from-ok hours (m1 ∷ m2 ∷ colon ∷ s1 ∷ s2 ∷ []) h m s five is-colon there minutes seconds =
+    let a = test-some _ _ _ there in
+    let b = test-some _ _ _ minutes in
+    let c = test-some _ _ _ seconds in
+    let middle : is_colon colon ≡ true = grind (arith, nat_tests) in
+    let shape : has_time_shape hours (m1 ∷ m2 ∷ colon ∷ s1 ∷ s2 ∷ []) ≡ true =
+      and_from _ _ (and_from _ _ (and_from _ _ (and_from _ _ a.0 refl) middle) b.0) c.0 in
+    rw (a.1, b.1, c.1) (sym (ap result_ok (shaped-true _ _ shape)))
+time_from-ok hours rest h m s five is-colon there minutes seconds = absurd (omega arith)
