@@ -1,4 +1,6 @@
 mod Choices
+mod Colours
+mod Dates
 mod Numerals
 mod Times
 mod WorkedTexts

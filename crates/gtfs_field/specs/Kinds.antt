@@ -74,17 +74,21 @@ abbrev pub is_calendar_day : ℕ → ℕ → ℕ → Bool
 is_calendar_day y m d =
     nat_le 1900 y && nat_le y 9999 && nat_le 1 m && nat_le m 12 && nat_le 1 d && nat_le d (days_in_month (pos y) m)
 
--- a date: YYYYMMDD; the day's number, 0 for 1970-01-01
-abbrev pub date_of : List ℕ → Result ℤ FieldFault
-date_of t =
-    let y = number (take 4 t) in
-    let m = number (take 2 (drop 4 t)) in
-    let d = number (drop 6 t) in
-    shaped (is_wide 8 t) (within (is_calendar_day y m d) (days_from_civil (pos y) m d))
+-- the number of a calendar day, 0 for 1970-01-01
+abbrev pub day_at : ℕ → ℕ → ℕ → Result ℤ FieldFault
+day_at y m d = within (is_calendar_day y m d) (days_from_civil (pos y) m d)
 
--- a colour: six hexadecimal digits of either case; 24 bits
+-- a date: YYYYMMDD
+abbrev pub date_of : List ℕ → Result ℤ FieldFault
+date_of t = shaped (is_wide 8 t) (day_at (number (take 4 t)) (number (take 2 (drop 4 t))) (number (drop 6 t)))
+
+-- six hexadecimal digits of either case
+abbrev pub is_six_hexadecimal : List ℕ → Bool
+is_six_hexadecimal t = (length t == 6) && list_all (λ b. nat_lt (digit_value b) 16) t
+
+-- a colour: 24 bits
 abbrev pub colour_of : List ℕ → Result ℕ FieldFault
-colour_of t = shaped ((length t == 6) && list_all (λ b. nat_lt (digit_value b) 16) t) (Ok (digits_value 16 t))
+colour_of t = shaped (is_six_hexadecimal t) (Ok (digits_value 16 t))
 
 -- the most degrees that an axis has on either side of zero
 abbrev pub most_degrees : Axis → ℕ

@@ -1,6 +1,11 @@
-ghost use Rattle.std.specs.Prelude.{◌≡◌, ◌≤◌};
+ghost use Rattle.std.specs.Prelude.{◌≡◌, ◌≤◌, nat_lt};
+ghost use Rattle.std.specs.Char.{digit_value};
+ghost use Rattle.std.specs.List.{list_all};
+ghost use Rattle.gtfs_field.specs.Kinds.{colour_of, is_six_hexadecimal};
 
 use std::marker::Model;
+
+use crate::fault::FieldFault;
 
 /// A colour of 24 bits: eight each of red, green and blue, red highest.
 #[derive(Clone, Copy, Debug, PartialEq, Eq, PartialOrd, Ord)]
@@ -36,4 +41,36 @@ impl Colour {
     {
         self.bits
     }
+}
+
+/// Reads a colour: six hexadecimal digits of either case, two each for red, green and blue.
+///
+/// GTFS Schedule Reference, "Field Types", Color.
+///
+/// # Errors
+/// `Form` for every other text. A colour is never out of range.
+pub fn read_colour(text: &str) -> Result<Colour, FieldFault>
+    ensures { result ≡ colour_of text.now }
+{
+    if !is_hexadecimal(text.as_bytes()) {
+        return Err(FieldFault::Form);
+    }
+    match u32::from_str_radix(text, 16) {
+        Ok(bits) => Ok(Colour { bits }),
+        Err(_) => Err(FieldFault::Form),
+    }
+}
+
+/// Whether a text is six hexadecimal digits.
+fn is_hexadecimal(text: &[u8]) -> bool
+    ensures { result ≡ is_six_hexadecimal text.now }
+{
+    text.len() == 6 && are_hexadecimal(text)
+}
+
+/// Whether each byte is a hexadecimal digit.
+fn are_hexadecimal(text: &[u8]) -> bool
+    ensures { result ≡ list_all (λ b. nat_lt (digit_value b) 16) text.now }
+{
+    text.iter().all(|byte| char::from(*byte).is_digit(16))
 }

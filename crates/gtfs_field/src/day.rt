@@ -1,6 +1,11 @@
-ghost use Rattle.std.specs.Prelude.{◌≡◌, pos, negsuc, ◌≤ℤ◌};
+ghost use Rattle.std.specs.Prelude.{◌≡◌, pos, negsuc, ◌≤ℤ◌, ◌<◌, ◌^◌, ◌/◌, ◌%◌};
+ghost use Rattle.gtfs_field.specs.Kinds.{date_of, day_at};
 
+use jiff_core::civil::Date;
 use std::marker::Model;
+
+use crate::digits::number_of;
+use crate::fault::FieldFault;
 
 /// A date of the years 1900 to 9999, by its number: how many days it lies after 1970-01-01.
 ///
@@ -39,5 +44,37 @@ impl Day {
         ensures high { result ≤ℤ pos 2_932_896 }
     {
         self.number
+    }
+}
+
+/// Reads a date: the eight digits YYYYMMDD of a day that the calendar has, from 19000101 to 99991231.
+///
+/// GTFS Schedule Reference, "Field Types", Date.
+///
+/// # Errors
+/// `Form` where the text is not eight digits, `Range` where the calendar has no such day or the year is before 1900.
+pub fn read_date(text: &str) -> Result<Day, FieldFault>
+    ensures { result ≡ date_of text.now }
+{
+    match number_of(text.as_bytes()) {
+        Some(digits) if text.len() == 8 => day_of(digits),
+        _ => Err(FieldFault::Form),
+    }
+}
+
+/// The day that a number of eight digits YYYYMMDD writes.
+fn day_of(digits: u64) -> Result<Day, FieldFault>
+    requires { digits < 10 ^ 8 }
+    ensures { result ≡ day_at (digits / 10_000) (digits / 100 % 100) (digits % 100) }
+{
+    let year = (digits / 10_000) as i16;
+    let month = (digits / 100 % 100) as i8;
+    let day = (digits % 100) as i8;
+    if year < 1900 {
+        return Err(FieldFault::Range);
+    }
+    match Date::new(year, month, day) {
+        Ok(date) => Ok(Day::from_number(date.to_unix_epoch_day())),
+        Err(_) => Err(FieldFault::Range),
     }
 }

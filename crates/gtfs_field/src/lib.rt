@@ -12,10 +12,10 @@ mod list;
 mod text;
 
 pub use clock::{Clock, read_time};
-pub use colour::Colour;
+pub use colour::{Colour, read_colour};
 pub use count::read_count;
 pub use coord::{Axis, Coord};
-pub use day::Day;
+pub use day::{Day, read_date};
 pub use fault::FieldFault;
 pub use list::List;
 pub use std::alloc::AllocError as OutOfMemory;
