@@ -23,3 +23,9 @@ within-true b v h = rw h refl
 
 pub within-false : {V : Type 0} (b : Bool) (v : V) → b ≡ false → within b v ≡ Err Range
 within-false b v h = rw h refl
+
+pub some-test : {V : Type 0} (b : Bool) (x y : V) → b ≡ true → x ≡ y → Some x ≡ (if b then Some y else None)
+some-test b x y passes same = rw (passes, same) refl
+
+pub none-test : {V : Type 0} (b : Bool) (y : V) → b ≡ false → None ≡ (if b then Some y else None)
+none-test b y fails = rw fails refl

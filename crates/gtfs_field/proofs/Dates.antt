@@ -39,7 +39,7 @@ pub eight_digits : (t : List ℕ) → length t ≡ 8 → all_ascii_digits t ≡ 
 eight_digits (a ∷ b ∷ c ∷ d ∷ e ∷ f ∷ g ∷ h ∷ []) eight digits =
     let each = numerals.to (a ∷ b ∷ c ∷ d ∷ e ∷ f ∷ g ∷ h ∷ []) digits in
     parts (digit_value a) (digit_value b) (digit_value c) (digit_value d) (digit_value e) (digit_value f) (digit_value g) (digit_value h)
-      each.0 each.1.0 each.1.1.0 each.1.1.1.0 each.1.1.1.1.0 each.1.1.1.1.1.0 each.1.1.1.1.1.1.0 each.1.1.1.1.1.1.1.0
+    each.0 each.1.0 each.1.1.0 each.1.1.1.0 each.1.1.1.1.0 each.1.1.1.1.1.0 each.1.1.1.1.1.1.0 each.1.1.1.1.1.1.1.0
 eight_digits t eight digits = absurd (omega arith)
 
 -- what `number_of` answers
@@ -75,10 +75,10 @@ pub day_number-low : (d : Date) → pos 1900 ≤ℤ d.year → negsuc 25_566 ≤
 day_number-low d year = elim (cases_date first_date d) [
   | inl later ↦ omega (arith, signed_arith, epoch_day-lt first_date d later, first_date-number)
   | inr (inl earlier) ↦ elim earlier [
-      | inl before ↦ absurd (omega (arith, signed_arith))
-      | inr (same, inl month) ↦ absurd (omega (arith, d.month_in))
-      | inr (same, inr day) ↦ absurd (omega (arith, d.day_in))
-    ]
+    | inl before ↦ absurd (omega (arith, signed_arith))
+    | inr (same, inl month) ↦ absurd (omega (arith, d.month_in))
+    | inr (same, inr day) ↦ absurd (omega (arith, d.day_in))
+  ]
   | inr (inr same) ↦ omega (arith, signed_arith, epoch_day_same first_date d same.0 same.1 same.2, first_date-number)
 ]
 
@@ -89,7 +89,7 @@ is_calendar-date d y m n year month day from =
     let P : ℤ → Type 0 = λ z. n ≤ days_in_month z m in
     let last : n ≤ days_in_month (pos y) m = subst P year here in
     and_from _ _ (and_from _ _ (and_from _ _ (and_from _ _ (and_from _ _ (leb_from _ _ from) (leb_from _ _ most))
-      (leb_from _ _ (omega (arith, d.month_in)))) (leb_from _ _ (omega (arith, d.month_in)))) (leb_from _ _ (omega (arith, d.day_in)))) (leb_from _ _ last)
+    (leb_from _ _ (omega (arith, d.month_in)))) (leb_from _ _ (omega (arith, d.month_in)))) (leb_from _ _ (omega (arith, d.day_in)))) (leb_from _ _ last)
 
 -- the number of a date that the calendar has
 pub day_at-date : (d : Date) (y m n : ℕ) → d.year ≡ pos y → pos d.month ≡ pos m → pos d.day ≡ pos n → 1900 ≤ y → Ok (epoch_day d) ≡ day_at y m n

@@ -6,9 +6,8 @@ use Rattle.std.specs.Str.Parse.{digits_value, AllDigits}
 use Rattle.std.proofs.lemmas.Bool.Decides.{nat_tests}
 use Rattle.std.proofs.lemmas.Str.Parse.{IsNumeralModel, numerals_by_value, tells_all_ascii_digits}
 use Rattle.std.proofs.lemmas.Int.Digits.{digits_more, digits_value_more, digits_value-lt}
-use Rattle.std.proofs.lemmas.Bool.{and_right}
 use Rattle.std.proofs.lemmas.List.{take_all}
-use Rattle.gtfs_field.specs.Digits.{is_number, number}
+use Rattle.gtfs_field.specs.Digits.{number}
 
 -- decimal digits, in the words of std
 pub numerals : IsNumeralModel (λ ds. all_ascii_digits ds ≡ true) number
@@ -30,9 +29,6 @@ pub all_digits-not : (t : List ℕ) (i : ℕ) → i < length t → is_ascii_digi
 all_digits-not [] i h here = absurd (omega arith)
 all_digits-not (b ∷ t) zero h here = rw here
 all_digits-not (b ∷ t) (suc i) h here = let rest = all_digits-not t i (omega arith) here in grind (arith, rest)
-
-pub is_number-not : (t : List ℕ) (i : ℕ) → i < length t → is_ascii_digit (get_or t i 0) ≡ false → is_number t ≡ false
-is_number-not t i h here = and_right _ _ (all_digits-not t i h here)
 
 -- a running value that stops at `most`
 pub min-more : (most n d : ℕ) → min (min (min n most * 10) most + d) most ≡ min (n * 10 + d) most

@@ -39,6 +39,6 @@ time_from-ok hours (m1 ∷ m2 ∷ colon ∷ s1 ∷ s2 ∷ []) h m s five is-colo
     let c = test-some _ _ _ seconds in
     let middle : is_colon colon ≡ true = grind (arith, nat_tests) in
     let shape : has_time_shape hours (m1 ∷ m2 ∷ colon ∷ s1 ∷ s2 ∷ []) ≡ true =
-      and_from _ _ (and_from _ _ (and_from _ _ (and_from _ _ a.0 refl) middle) b.0) c.0 in
+    and_from _ _ (and_from _ _ (and_from _ _ (and_from _ _ a.0 refl) middle) b.0) c.0 in
     rw (a.1, b.1, c.1) (sym (ap result_ok (shaped-true _ _ shape)))
 time_from-ok hours rest h m s five is-colon there minutes seconds = absurd (omega arith)

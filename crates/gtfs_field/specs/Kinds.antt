@@ -5,6 +5,7 @@
 -- has the shape and the value lies outside the limits.
 use Rattle.std.specs.Prelude.{ℕ, ◌+◌, ◌*◌, ◌/◌, ◌^◌, ◌==◌, ◌&&◌, ◌||◌, not, Bool, nat_lt, nat_le, if◌then◌else◌, List, length, take, drop, filter, count_by, slice_index, ℤ, pos, neg_ℤ, Result, Ok, Err}
 use Rattle.std.specs.List.{list_any, list_all, before_first, after_first}
+use Rattle.std.specs.Str.{all_ascii_digits}
 use Rattle.std.specs.Str.Parse.{digits_value}
 use Rattle.std.specs.Char.{digit_value}
 use Rattle.jiff_core.specs.Calendar.{days_in_month, days_from_civil}
@@ -111,6 +112,14 @@ has_coordinate_shape body = nat_le (count_by is_point body) 1 && is_number (with
 abbrev pub magnitude : List ℕ → ℕ
 magnitude body = number (without_points body) * 10 ^ 9 / 10 ^ length (after_first is_point body)
 
+-- the same from what stands before the first point and after it: digits, not both empty, and their value
+abbrev pub are_digits : List ℕ → List ℕ → Bool
+are_digits whole fraction =
+    not ((length whole == 0) && (length fraction == 0)) && (all_ascii_digits whole && all_ascii_digits fraction)
+
+abbrev pub billionths : List ℕ → List ℕ → ℕ
+billionths whole fraction = number whole * 10 ^ 9 + number fraction * 10 ^ 9 / 10 ^ length fraction
+
 -- a coordinate: an optional sign, and digits with at most one point; the limit is judged after the cut
 abbrev pub coordinate_of : Axis → List ℕ → Result ℤ FieldFault
 coordinate_of axis t =
@@ -121,6 +130,10 @@ coordinate_of axis t =
 -- a number that begins with no zero, unless it is 0
 abbrev pub is_plain_number : List ℕ → Bool
 is_plain_number ds = is_number ds && ((length ds == 1) || not (slice_index ds 0 == 48))
+
+-- such a number of at most 12 digits
+abbrev pub plain_number_of : List ℕ → Result ℕ FieldFault
+plain_number_of ds = shaped (is_plain_number ds) (within (nat_le (length ds) 12) (number ds))
 
 -- the instant of a key text: seconds since 1970-01-01T00:00:00Z, with no leading zero, no `-0` and at most 12 digits
 abbrev pub instant_of : List ℕ → Result ℤ FieldFault

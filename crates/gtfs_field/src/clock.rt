@@ -3,10 +3,9 @@ ghost use Rattle.std.specs.Result.{result_ok};
 ghost use Rattle.gtfs_field.specs.Digits.{is_number, number};
 ghost use Rattle.gtfs_field.specs.Kinds.{time_of, time_from, is_sixtieth};
 
-use std::marker::Model;
-
 use crate::digits::{number_of, two_digits};
 use crate::fault::FieldFault;
+use std::marker::Model;
 
 /// A time of a service day, in whole seconds from the day's origin: 0 to 7,199,999.
 ///

@@ -3,9 +3,8 @@ ghost use Rattle.std.specs.Char.{digit_value};
 ghost use Rattle.std.specs.List.{list_all};
 ghost use Rattle.gtfs_field.specs.Kinds.{colour_of, is_six_hexadecimal};
 
-use std::marker::Model;
-
 use crate::fault::FieldFault;
+use std::marker::Model;
 
 /// A colour of 24 bits: eight each of red, green and blue, red highest.
 #[derive(Clone, Copy, Debug, PartialEq, Eq, PartialOrd, Ord)]

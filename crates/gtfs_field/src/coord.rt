@@ -1,5 +1,11 @@
-ghost use Rattle.std.specs.Prelude.{◌≡◌, pos, negsuc, ◌≤ℤ◌};
+ghost use Rattle.std.specs.Prelude.{◌≡◌, pos, negsuc, neg_ℤ, ◌≤ℤ◌, ◌≤◌, ◌<◌, ◌*◌, ◌-◌, ◌/◌, ◌^◌, Some, None, min, slice_index, length, if◌then◌else◌};
+ghost use Rattle.std.specs.List.{before_first, after_first};
+ghost use Rattle.std.specs.Str.{all_ascii_digits};
+ghost use Rattle.gtfs_field.specs.Digits.{number};
+ghost use Rattle.gtfs_field.specs.Kinds.{coordinate_of, has_coordinate_shape, magnitude, unsigned_part, is_sign, is_point, are_digits, billionths};
 
+use crate::digits::digits_of;
+use crate::fault::FieldFault;
 use std::marker::Model;
 
 /// Which of its two kinds a coordinate is.
@@ -9,6 +15,21 @@ pub enum Axis {
     Latitude,
     /// East or west of the prime meridian: -180 to 180 degrees.
     Longitude,
+}
+
+impl Axis {
+    ghost use Rattle.gtfs_field.specs.Kinds.{most_degrees};
+
+    /// The most units of 10^-9 degree that the axis has on either side of zero.
+    fn most_nanodegrees(self) -> u64
+        ensures value { result ≡ most_degrees self * 10 ^ 9 }
+        ensures bound { result ≤ 180_000_000_000 }
+    {
+        match self {
+            Axis::Latitude => 90_000_000_000,
+            Axis::Longitude => 180_000_000_000,
+        }
+    }
 }
 
 /// A latitude or a longitude in units of 10^-9 degree, from -180 to 180 degrees.
@@ -47,4 +68,91 @@ impl Coord {
     {
         self.nanodegrees
     }
+}
+
+/// Reads a coordinate in degrees: an optional sign, and digits with at most one point among them, at least one digit.
+///
+/// Digits after the ninth of the fraction are cut off, and the limit is judged after the cut: 90 degrees for a
+/// latitude, 180 for a longitude, on either side of zero (GTFS Schedule Reference, "Field Types", Latitude and
+/// Longitude).
+///
+/// # Errors
+/// `Form` for every other text, exponents included; `Range` where the cut value lies beyond the limit.
+pub fn read_coord(text: &str, axis: Axis) -> Result<Coord, FieldFault>
+    ensures { result ≡ coordinate_of axis text.now }
+{
+    match magnitude_of(without_sign(text)) {
+        None => Err(FieldFault::Form),
+        Some(magnitude) if magnitude > axis.most_nanodegrees() => Err(FieldFault::Range),
+        Some(magnitude) if text.starts_with('-') => Ok(Coord::from_nanodegrees(
+            -(magnitude as i64),
+        )),
+        Some(magnitude) => Ok(Coord::from_nanodegrees(magnitude as i64)),
+    }
+}
+
+/// The text without a sign at its head.
+fn without_sign(text: &str) -> &str
+    ensures { result.now ≡ unsigned_part text.now }
+{
+    if begins_with_sign(text.as_bytes()) {
+        &text[1..]
+    } else {
+        text
+    }
+}
+
+/// Whether the first byte is `+` or `-`.
+fn begins_with_sign(text: &[u8]) -> bool
+    ensures { result ≡ is_sign (slice_index text.now 0) }
+{
+    matches!(text, [b'+' | b'-', ..])
+}
+
+/// Units of 10^-9 degree, `u64::MAX` where there are more; None where the text has no coordinate's shape.
+fn magnitude_of(body: &str) -> Option<u64>
+    ensures { result ≡ (if has_coordinate_shape body.now then Some (min (magnitude body.now) (2 ^ 64 - 1)) else None) }
+{
+    let (whole, fraction) = around_point(body);
+    magnitude_from(whole.as_bytes(), fraction.as_bytes())
+}
+
+/// The same, from what stands before the point and after it.
+fn magnitude_from(whole: &[u8], fraction: &[u8]) -> Option<u64>
+    ensures { result ≡ (if are_digits whole.now fraction.now then Some (min (billionths whole.now fraction.now) (2 ^ 64 - 1)) else None) }
+{
+    if whole.is_empty() && fraction.is_empty() {
+        return None;
+    }
+    let degrees = digits_of(whole)?;
+    let billionths = billionths_of(fraction)?;
+    Some(
+        degrees
+            .saturating_mul(1_000_000_000)
+            .saturating_add(billionths),
+    )
+}
+
+/// What stands before the first point, and after it.
+fn around_point(body: &str) -> (&str, &str)
+    ensures whole { result.0.now ≡ before_first is_point body.now }
+    ensures fraction { result.1.now ≡ after_first is_point body.now }
+{
+    body.split_once('.').unwrap_or((body, ""))
+}
+
+/// The billionths that the digits of a fraction mean, further digits cut off; None where a byte is no digit.
+fn billionths_of(fraction: &[u8]) -> Option<u64>
+    ensures value { result ≡ (if all_ascii_digits fraction.now then Some (number fraction.now * 10 ^ 9 / 10 ^ length fraction.now) else None) }
+{
+    let mut billionths: u64 = 0;
+    let mut weight: u64 = 1_000_000_000;
+    for byte in fraction {
+        if !byte.is_ascii_digit() {
+            return None;
+        }
+        weight /= 10;
+        billionths += u64::from(*byte - b'0') * weight;
+    }
+    Some(billionths)
 }

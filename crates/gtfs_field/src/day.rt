@@ -1,11 +1,10 @@
 ghost use Rattle.std.specs.Prelude.{◌≡◌, pos, negsuc, ◌≤ℤ◌, ◌<◌, ◌^◌, ◌/◌, ◌%◌};
 ghost use Rattle.gtfs_field.specs.Kinds.{date_of, day_at};
 
-use jiff_core::civil::Date;
-use std::marker::Model;
-
 use crate::digits::number_of;
 use crate::fault::FieldFault;
+use jiff_core::civil::Date;
+use std::marker::Model;
 
 /// A date of the years 1900 to 9999, by its number: how many days it lies after 1970-01-01.
 ///

@@ -1,11 +1,23 @@
 //! Decimal digits in a text.
 ghost use Rattle.std.specs.Prelude.{◌≡◌, ◌+◌, ◌*◌, ◌-◌, ◌^◌, ◌<◌, ◌≤◌, ◌&&◌, ◌∷◌, [], if◌then◌else◌, min, length, IfSome, Some, None, nat_le, nat_lt};
-ghost use Rattle.std.specs.Char.{is_ascii_digit};
+ghost use Rattle.std.specs.Str.{all_ascii_digits};
 ghost use Rattle.gtfs_field.specs.Digits.{is_number, number, is_wide};
 
 /// The number that decimal digits write, `u64::MAX` where it is larger; None where the text is not one digit or more.
 pub(crate) fn number_of(text: &[u8]) -> Option<u64>
     ensures value { result ≡ (if is_number text.now then Some (min (number text.now) (2 ^ 64 - 1)) else None) }
+    ensures bound { IfSome result (λ n. n < 10 ^ length text.now) }
+{
+    if text.is_empty() {
+        None
+    } else {
+        digits_of(text)
+    }
+}
+
+/// The same, where the text may also be empty: then the number is 0.
+pub(crate) fn digits_of(text: &[u8]) -> Option<u64>
+    ensures value { result ≡ (if all_ascii_digits text.now then Some (min (number text.now) (2 ^ 64 - 1)) else None) }
     ensures bound { IfSome result (λ n. n < 10 ^ length text.now) }
 {
     let mut number: u64 = 0;
@@ -17,7 +29,7 @@ pub(crate) fn number_of(text: &[u8]) -> Option<u64>
             .saturating_mul(10)
             .saturating_add(u64::from(*byte - b'0'));
     }
-    if text.is_empty() { None } else { Some(number) }
+    Some(number)
 }
 
 /// The number below 100 that two decimal digits write.

@@ -3,20 +3,22 @@
 
 mod clock;
 mod colour;
-mod count;
 mod coord;
+mod count;
 mod day;
 mod digits;
 mod fault;
+mod instant;
 mod list;
 mod text;
 
 pub use clock::{Clock, read_time};
 pub use colour::{Colour, read_colour};
+pub use coord::{Axis, Coord, read_coord};
 pub use count::read_count;
-pub use coord::{Axis, Coord};
 pub use day::{Day, read_date};
 pub use fault::FieldFault;
+pub use instant::read_instant;
 pub use list::List;
 pub use std::alloc::AllocError as OutOfMemory;
 pub use text::Text;

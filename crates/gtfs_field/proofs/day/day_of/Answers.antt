@@ -21,4 +21,4 @@ returns-in-Ok c =
     let year = to_z_pos w16 (digits / 10_000) (omega arith) in
     let from : 1900 ≤ digits / 10_000 = omega (arith, signed_arith, year, c.if-year-lt1900.false) in
     rw (c.from_number.ensures, to_z-of_z w32 number fits, c.to_unix_epoch_day.ensures.value)
-      (day_at-date c.in-Ok.date _ _ _ (parts.0 ∙ year) (parts.1 ∙ to_z_pos w8 (digits / 100 % 100) (omega arith)) (parts.2 ∙ to_z_pos w8 (digits % 100) (omega arith)) from)
+    (day_at-date c.in-Ok.date _ _ _ (parts.0 ∙ year) (parts.1 ∙ to_z_pos w8 (digits / 100 % 100) (omega arith)) (parts.2 ∙ to_z_pos w8 (digits % 100) (omega arith)) from)

@@ -1,11 +1,11 @@
 use Rattle.std.proofs.Common.{◌≡◌, ◌<◌, true, false, length, arith, get_or, sym}
 use Rattle.std.specs.Char.{is_ascii_digit}
-use Rattle.gtfs_field.proofs.Numerals.{all_digits-more, is_number-not, number-more, number-lt}
-use Rattle.gtfs_field.proofs.digits.number_of.Goals as goal
+use Rattle.gtfs_field.proofs.Numerals.{all_digits-more, all_digits-not, number-more, number-lt}
+use Rattle.gtfs_field.proofs.digits.digits_of.Goals as goal
 
 pub returns-then-not-is_ascii_digit-clause-value : goal.returns-then-not-is_ascii_digit-clause-value
 returns-then-not-is_ascii_digit-clause-value c =
-    rw (is_number-not c.args.text.now c.loop-byte.byte-index c.loop-byte-test.true (sym c.if-not-is_ascii_digit.ensures.value))
+    rw (all_digits-not c.args.text.now c.loop-byte.byte-index c.loop-byte-test.true (sym c.if-not-is_ascii_digit.ensures.value))
 
 pub loop-byte-preserved : goal.loop-byte-preserved
 loop-byte-preserved c =
@@ -14,9 +14,9 @@ loop-byte-preserved c =
     record {
       digits = all_digits-more c.args.text.now i c.loop-byte-test.true c.loop-byte.invariant.digits digit;
       value = rw (c.saturating_add-number.ensures, c.saturating_mul.ensures, c.from.ensures)
-        (number-more _ c.args.text.now i c.loop-byte.number c.loop-byte-test.true digit c.loop-byte.invariant.value);
+          (number-more _ c.args.text.now i c.loop-byte.number c.loop-byte-test.true digit c.loop-byte.invariant.value);
     }
 
-pub returns-else-is_empty-clause-bound : goal.returns-else-is_empty-clause-bound
-returns-else-is_empty-clause-bound c =
+pub returns-clause-bound : goal.returns-clause-bound
+returns-clause-bound c =
     number-lt _ c.args.text.now c.loop-byte.byte-index c.loop-byte.number c.loop-byte-test.false c.loop-byte.invariant.digits c.loop-byte.invariant.value
