@@ -4,5 +4,7 @@ mod Coordinates
 mod Dates
 mod Fractions
 mod Numerals
+mod Texts
 mod Times
+mod Wides
 mod WorkedTexts

@@ -10,11 +10,13 @@ use Rattle.gtfs_field.specs.Calendar.{date_of_day}
 abbrev pub count_text : ℕ → List ℕ
 count_text n = decimal n
 
--- a time: H:MM:SS with at least two digits of hours
+-- hours: at least two digits
+abbrev pub hours_text : ℕ → List ℕ
+hours_text hours = if nat_lt hours 100 then wide 2 hours else decimal hours
+
+-- a time: the hours, then :MM:SS
 abbrev pub time_text : ℕ → List ℕ
-time_text v =
-    let hours = v / 3600 in
-    (if nat_lt hours 100 then wide 2 hours else decimal hours) ++ 58 ∷ wide 2 (v / 60 % 60) ++ 58 ∷ wide 2 (v % 60)
+time_text v = hours_text (v / 3600) ++ 58 ∷ wide 2 (v / 60 % 60) ++ 58 ∷ wide 2 (v % 60)
 
 -- a date: YYYYMMDD
 abbrev pub digits_of_date : Date → List ℕ

@@ -1,10 +1,13 @@
-ghost use Rattle.std.specs.Prelude.{◌≡◌, ◌≤◌, ◌<◌, ◌&&◌, ◌∷◌, [], if◌then◌else◌, length, nat_le, nat_lt, Some, None, IfSome};
+ghost use Rattle.std.specs.Prelude.{◌≡◌, ◌≤◌, ◌<◌, ◌&&◌, ◌∷◌, [], if◌then◌else◌, length, drop, nat_le, Some, None, IfSome, ℕ, ◌+◌, ◌/◌, ◌%◌, ◌++◌, Ok, OnOk, OnErr, string_bytes};
 ghost use Rattle.std.specs.Result.{result_ok};
-ghost use Rattle.gtfs_field.specs.Digits.{is_number, number};
+ghost use Rattle.gtfs_field.specs.Digits.{is_number, number, wide};
 ghost use Rattle.gtfs_field.specs.Kinds.{time_of, time_from, is_sixtieth};
+ghost use Rattle.gtfs_field.specs.Canonical.{time_text, hours_text};
 
+use crate::ascii::{push_ascii, write_wide};
 use crate::digits::{number_of, two_digits};
 use crate::fault::FieldFault;
+use std::alloc::{AllocError, Global};
 use std::marker::Model;
 
 /// A time of a service day, in whole seconds from the day's origin: 0 to 7,199,999.
@@ -59,6 +62,47 @@ pub fn read_time(text: &str) -> Result<Clock, FieldFault>
     match seconds_of(text) {
         Some(seconds) => Ok(Clock { seconds }),
         None => Err(FieldFault::Form),
+    }
+}
+
+/// Appends the canonical text of a time: H:MM:SS with at least two digits of hours.
+///
+/// Times from 1000:00:00 on, which only a run that starts late has, take four digits of hours and are not read back.
+///
+/// # Errors
+/// `OutOfMemory` where the text cannot grow; it is then as it was.
+pub fn push_time(_alloc: Global, text: &mut String, clock: Clock) -> Result<(), AllocError>
+    ensures appended { OnOk result (string_bytes text.new ≡ string_bytes text.old ++ time_text clock) }
+    ensures unchanged { OnErr result (string_bytes text.new ≡ string_bytes text.old) }
+    ensures reads_back { clock ≤ 3_599_999 → time_of (time_text clock) ≡ Ok clock }
+    ensures unique { (other : ℕ) → other ≤ 7_199_999 → time_text other ≡ time_text clock → other ≡ clock }
+{
+    let seconds = clock.seconds();
+    push_ascii(text, &time_bytes(seconds)[spare_digits(seconds / 3600)..])
+}
+
+/// A time with four digits of hours.
+fn time_bytes(seconds: u32) -> [u8; 10]
+    requires { seconds ≤ 7_199_999 }
+    ensures { result ≡ wide 4 (seconds / 3600) ++ 58 ∷ wide 2 (seconds / 60 % 60) ++ 58 ∷ wide 2 (seconds % 60) }
+{
+    let mut bytes = *b"0000:00:00";
+    write_wide(u64::from(seconds / 3600), 4, 4, &mut bytes);
+    write_wide(u64::from(seconds / 60 % 60), 2, 7, &mut bytes);
+    write_wide(u64::from(seconds % 60), 2, 10, &mut bytes);
+    bytes
+}
+
+/// How many of four digits of hours the canonical text leaves out.
+fn spare_digits(hours: u32) -> usize
+    requires { hours < 10_000 }
+    ensures value { drop result (wide 4 hours) ≡ hours_text hours }
+    ensures bound { result ≤ 2 }
+{
+    match hours {
+        0..=99 => 2,
+        100..=999 => 1,
+        _ => 0,
     }
 }
 

@@ -1,8 +1,11 @@
-ghost use Rattle.std.specs.Prelude.{◌≡◌};
+ghost use Rattle.std.specs.Prelude.{◌≡◌, ◌++◌, ◌≤◌, ◌<◌, ◌^◌, ℕ, Ok, OnOk, OnErr, string_bytes};
 ghost use Rattle.gtfs_field.specs.Kinds.{count_of};
+ghost use Rattle.gtfs_field.specs.Canonical.{count_text};
 
 use crate::digits::number_of;
 use crate::fault::FieldFault;
+use itoa::Buffer;
+use std::alloc::{AllocError, Global};
 
 /// The greatest count.
 const GREATEST: u64 = 2_147_483_647;
@@ -21,4 +24,17 @@ pub fn read_count(text: &str) -> Result<u32, FieldFault>
         Some(count) if count <= GREATEST => Ok(count as u32),
         Some(_) => Err(FieldFault::Range),
     }
+}
+
+/// Appends the canonical text of a count: its digits with no zero in front.
+///
+/// # Errors
+/// `OutOfMemory` where the text cannot grow; it is then as it was.
+pub fn push_count(_alloc: Global, text: &mut String, count: u32) -> Result<(), AllocError>
+    ensures appended { OnOk result (string_bytes text.new ≡ string_bytes text.old ++ count_text count) }
+    ensures unchanged { OnErr result (string_bytes text.new ≡ string_bytes text.old) }
+    ensures reads_back { count ≤ 2_147_483_647 → count_of (count_text count) ≡ Ok count }
+    ensures unique { (other : ℕ) → other < 2 ^ 32 → count_text other ≡ count_text count → other ≡ count }
+{
+    text.push_str(Buffer::new().format(count))
 }

@@ -1,6 +1,7 @@
 //! The values of a GTFS field, and the one text that each of them is written as.
 #![tactic(auto)]
 
+mod ascii;
 mod clock;
 mod colour;
 mod coord;
@@ -12,10 +13,10 @@ mod instant;
 mod list;
 mod text;
 
-pub use clock::{Clock, read_time};
+pub use clock::{Clock, push_time, read_time};
 pub use colour::{Colour, read_colour};
 pub use coord::{Axis, Coord, read_coord};
-pub use count::read_count;
+pub use count::{push_count, read_count};
 pub use day::{Day, read_date};
 pub use fault::FieldFault;
 pub use instant::read_instant;
