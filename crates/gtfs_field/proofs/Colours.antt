@@ -1,13 +1,18 @@
 -- Colours of six hexadecimal digits.
-use Rattle.std.proofs.Common.{◌≡◌, ◌≢◌, ℕ, ◌+◌, ◌*◌, ◌^◌, ◌<◌, ◌≤◌, ◌&&◌, Bool, true, false, nat_lt, List, [], ◌∷◌, length, get_or, drop, arith, refl}
+use Rattle.std.proofs.Common.{◌≡◌, ◌≢◌, ℕ, ◌+◌, ◌*◌, ◌^◌, ◌<◌, ◌≤◌, ◌&&◌, Bool, true, false, nat_lt, List, [], ◌∷◌, length, get_or, drop, arith, refl, zero, suc, ◌/◌, ◌%◌, ◌++◌, Ok, ap, ◌∙◌}
 use Rattle.std.specs.Char.{digit_value}
 use Rattle.std.specs.List.{list_all}
 use Rattle.std.specs.Str.Parse.{digits_value, AllDigits, IsNumeral, without_leading_plus}
-use Rattle.std.proofs.lemmas.Bool.{and_parts, ltb-true, eqb-true}
+use Rattle.std.proofs.lemmas.Bool.{and_parts, and_from, ltb-true, eqb-true}
 use Rattle.std.proofs.lemmas.Bool.Decides.{nat_tests}
 use Rattle.std.proofs.lemmas.Int.Digits.{digits_value-lt}
 use Rattle.std.proofs.lemmas.Str.Parse.{without_leading_plus_none}
-use Rattle.gtfs_field.specs.Kinds.{is_six_hexadecimal}
+use Rattle.gtfs_field.specs.Kinds.{is_six_hexadecimal, colour_of}
+use Rattle.gtfs_field.specs.Canonical.{colour_text}
+use Rattle.gtfs_field.specs.Digits.{wide_hex, hex_digit}
+use Rattle.gtfs_field.proofs.Choices.{shaped-true, same-value, ltb_from}
+use Rattle.std.proofs.Math.Nat.{pow-suc, div-add-mod'}
+use Rattle.std.proofs.lemmas.Int.Digits.{digits_push, digits_value_push}
 
 all_hexadecimal : (t : List ℕ) → list_all (λ b. nat_lt (digit_value b) 16) t ≡ true → AllDigits 16 t
 all_hexadecimal [] all = tt
@@ -38,3 +43,33 @@ six_hexadecimal t shape =
       same = same;
       below = rw six at (digits_value-lt 16 t all);
     }
+
+glyph-value : (d : ℕ) → d < 16 → digit_value (hex_digit d) ≡ d
+glyph-value d small = grind (arith, nat_tests)
+
+wide_hex-digits : (k n : ℕ) → AllDigits 16 (wide_hex k n)
+wide_hex-digits zero n = tt
+wide_hex-digits (suc k) n =
+    let d : n % 16 < 16 = omega arith in
+    let small : digit_value (hex_digit (n % 16)) < 16 = rw (glyph-value (n % 16) d) d in
+    digits_push 16 (wide_hex k (n / 16)) (hex_digit (n % 16)) (wide_hex-digits k (n / 16)) small
+
+wide_hex-value : (k n : ℕ) → n < 16 ^ k → digits_value 16 (wide_hex k n) ≡ n
+wide_hex-value zero n small = omega arith
+wide_hex-value (suc k) n small =
+    let front : n / 16 < 16 ^ k = let p = 16 ^ k in omega (arith, pow-suc 16 k) in
+    let d : n % 16 < 16 = omega arith in
+    rw (digits_value_push 16 (wide_hex k (n / 16)) (hex_digit (n % 16)), wide_hex-value k (n / 16) front, glyph-value (n % 16) d) (div-add-mod' n 16)
+
+from_digits : (t : List ℕ) → AllDigits 16 t → list_all (λ b. nat_lt (digit_value b) 16) t ≡ true
+from_digits [] digits = refl
+from_digits (b ∷ t) digits = and_from _ _ (ltb_from (digit_value b) 16 digits.0) (from_digits t digits.1)
+
+-- a colour reads back
+pub colour_of-text : (v : ℕ) → v ≤ 0xFF_FFFF → colour_of (colour_text v) ≡ Ok v
+colour_of-text v most =
+    let shape : is_six_hexadecimal (colour_text v) ≡ true = and_from true _ refl (from_digits (colour_text v) (wide_hex-digits 6 v)) in
+    shaped-true _ _ shape ∙ ap (λ n. Ok n) (wide_hex-value 6 v (omega arith))
+
+pub colour_text-unique : (u v : ℕ) → u ≤ 0xFF_FFFF → v ≤ 0xFF_FFFF → colour_text u ≡ colour_text v → u ≡ v
+colour_text-unique u v most-u most-v same = same-value colour_of (colour_of-text u most-u) (colour_of-text v most-v) same

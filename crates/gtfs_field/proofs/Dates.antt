@@ -1,23 +1,23 @@
 -- Dates of eight digits, and the calendar's days in numbers.
-use Rattle.std.proofs.Common.{subst, ℤ, ◌≡◌, ◌≢◌, ℕ, ◌+◌, ◌-◌, ◌*◌, ◌/◌, ◌%◌, ◌^◌, ◌<◌, ◌≤◌, ◌&&◌, ◌==◌, not, Bool, true, false, Option, Some, None, Ok, Err, if◌then◌else◌, nat_lt, nat_le, List, [], ◌∷◌, length, get_or, take, drop, min, arith, refl, sym, ap, ◌∙◌, pos, negsuc, ◌≤ℤ◌, inl, inr}
-use Rattle.std.specs.Str.{all_ascii_digits}
+use Rattle.std.proofs.Common.{subst, ℤ, unsigned_abs, ◌-ℤ◌, ◌++◌, ◌≡◌, ◌≢◌, ℕ, ◌+◌, ◌-◌, ◌*◌, ◌/◌, ◌%◌, ◌^◌, ◌<◌, ◌≤◌, ◌&&◌, ◌==◌, not, Bool, true, false, Option, Some, None, Ok, Err, if◌then◌else◌, nat_lt, nat_le, List, [], ◌∷◌, length, get_or, take, drop, min, arith, refl, sym, ap, ◌∙◌, pos, negsuc, ◌≤ℤ◌, inl, inr}
+use Rattle.std.specs.Str.{all_ascii_digits, IsAscii}
 use Rattle.std.proofs.lemmas.Bool.{and_left, and_right, and_from, and_cases, and_parts}
 use Rattle.std.proofs.lemmas.Bool.Decides.{nat_tests}
 use Rattle.std.specs.Char.{digit_value}
 use Rattle.jiff_core.specs.Calendar.{days_in_month}
 use Rattle.jiff_core.specs.Date.{epoch_day}
 use Rattle.jiff_core.specs.declared.civil.date.Date.{Date}
-use Rattle.jiff_core.proofs.DateLemmas.{cases_date, epoch_day-lt, epoch_day_same}
+use Rattle.jiff_core.proofs.DateLemmas.{cases_date, epoch_day-lt, epoch_day_same, epoch_day_injective, epoch_day_range}
+use Rattle.jiff_core.proofs.CalendarLemmas.{days_in_month_bounds}
 use Rattle.jiff_core.proofs.SignedLemmas.{signed_arith}
-use Rattle.gtfs_field.specs.Digits.{is_number, number, is_wide}
+use Rattle.gtfs_field.specs.Digits.{is_number, number, is_wide, wide}
 use Rattle.gtfs_field.specs.Kinds.{date_of, day_at, is_calendar_day}
-use Rattle.gtfs_field.specs.Calendar.{first_date, first_date-number}
+use Rattle.gtfs_field.specs.Canonical.{date_text, digits_of_date}
+use Rattle.gtfs_field.proofs.Wides.{wide-digits, number-wide}
+use Rattle.gtfs_field.specs.Calendar.{first_date, first_date-number, date_of_day, date_after-number}
 use Rattle.gtfs_field.specs.declared.fault.FieldFault.TheVariants.{Form}
-use Rattle.gtfs_field.proofs.Numerals.{numerals}
-use Rattle.gtfs_field.proofs.Choices.{test-some, test-none, shaped-true, shaped-false, within-true}
-
-leb_from : (a b : ℕ) → a ≤ b → nat_le a b ≡ true
-leb_from a b h = grind (arith, nat_tests)
+use Rattle.gtfs_field.proofs.Numerals.{numerals, digits-append, digits-ascii}
+use Rattle.gtfs_field.proofs.Choices.{test-some, test-none, shaped-true, shaped-false, within-true, leb_from, same-value}
 
 -- the parts of eight digits
 pub record HasParts (n y m d : ℕ) : Type 0 where
@@ -97,3 +97,64 @@ day_at-date d y m n year month day from =
     let at_month : d.month ≡ m = omega (arith, signed_arith) in
     let at_day : d.day ≡ n = omega (arith, signed_arith) in
     rw (year, at_month, at_day) (sym (within-true _ _ (is_calendar-date d y m n year at_month at_day from)))
+
+-- and a date whose number is not before the first is of those years
+pub year-from : (d : Date) → negsuc 25_566 ≤ℤ epoch_day d → pos 1900 ≤ℤ d.year
+year-from d from = elim (cases_date first_date d) [
+  | inl later ↦ elim later [ inl year ↦ omega (arith, signed_arith) | inr (same, rest) ↦ omega (arith, signed_arith) ]
+  | inr (inl earlier) ↦ absurd (omega (arith, signed_arith, epoch_day-lt d first_date earlier, first_date-number))
+  | inr (inr same) ↦ omega (arith, signed_arith, same.0)
+]
+
+abs-pos : (z : ℤ) → pos 0 ≤ℤ z → pos (unsigned_abs z) ≡ z
+abs-pos (pos n) from = refl
+abs-pos (negsuc n) from = absurd (omega (arith, signed_arith))
+
+-- the number of the date of a number
+pub day_number-date : (n : ℤ) → negsuc 25_566 ≤ℤ n → n ≤ℤ pos 2_932_896 → epoch_day (date_of_day n) ≡ n
+day_number-date n low high =
+    let k = unsigned_abs (n -ℤ negsuc 25_566) in
+    let size : pos k ≡ n -ℤ negsuc 25_566 = abs-pos (n -ℤ negsuc 25_566) (omega (arith, signed_arith)) in
+    date_after-number k (omega (arith, signed_arith, size)) ∙ omega (arith, signed_arith, size)
+
+-- one number, one text
+pub date_text-same : (d : Date) (n : ℤ) → pos 1900 ≤ℤ d.year → epoch_day d ≡ n → digits_of_date d ≡ date_text n
+date_text-same d n from number =
+    let low : negsuc 25_566 ≤ℤ n = rw (← number) (day_number-low d from) in
+    let high : n ≤ℤ pos 2_932_896 = rw (← number) (epoch_day_range d).1 in
+    let same = epoch_day_injective d (date_of_day n) (number ∙ sym (day_number-date n low high)) in
+    rw (same.0, same.1, same.2) refl
+
+date-digits : (y m d : ℕ) → all_ascii_digits (wide 4 y ++ wide 2 m ++ wide 2 d) ≡ true
+date-digits y m d = digits-append (wide 4 y ++ wide 2 m) (wide 2 d) (digits-append (wide 4 y) (wide 2 m) (wide-digits 4 y) (wide-digits 2 m)) (wide-digits 2 d)
+
+pub date-ascii : (d : Date) → IsAscii (digits_of_date d)
+date-ascii d = digits-ascii (digits_of_date d) (date-digits (unsigned_abs d.year) d.month d.day)
+
+read-digits : (y m d : ℕ) → y < 10_000 → m < 100 → d < 100 → date_of (wide 4 y ++ wide 2 m ++ wide 2 d) ≡ day_at y m d
+read-digits y m d year month day =
+    let shape : is_wide 8 (wide 4 y ++ wide 2 m ++ wide 2 d) ≡ true = and_from true _ refl (date-digits y m d) in
+    let at_year : number (wide 4 y) ≡ y = number-wide 4 y year in
+    let at_month : number (wide 2 m) ≡ m = number-wide 2 m month in
+    let at_day : number (wide 2 d) ≡ d = number-wide 2 d day in
+    let parts : day_at (number (wide 4 y)) (number (wide 2 m)) (number (wide 2 d)) ≡ day_at y m d = rw (at_year, at_month, at_day) refl in
+    shaped-true _ _ shape ∙ parts
+
+-- a date reads back
+pub date_of-digits : (d : Date) → pos 1900 ≤ℤ d.year → date_of (digits_of_date d) ≡ Ok (epoch_day d)
+date_of-digits d from =
+    let y = unsigned_abs d.year in
+    let size : pos y ≡ d.year = abs-pos d.year (omega (arith, signed_arith)) in
+    let year : d.year ≡ pos y = sym size in
+    let few : d.day < 100 = omega (arith, d.day_in, (days_in_month_bounds d.year d.month).0) in
+    read-digits y d.month d.day (omega (arith, signed_arith, size, d.year_in)) (omega (arith, d.month_in)) few
+    ∙ sym (day_at-date d y d.month d.day year refl refl (omega (arith, signed_arith, size)))
+
+pub date_of-text : (n : ℤ) → negsuc 25_566 ≤ℤ n → n ≤ℤ pos 2_932_896 → date_of (date_text n) ≡ Ok n
+date_of-text n low high =
+    let number = day_number-date n low high in
+    let from : pos 1900 ≤ℤ (date_of_day n).year = year-from (date_of_day n) (rw number low) in
+    date_of-digits (date_of_day n) from ∙ ap (λ v. Ok v) number
+
+pub date_text-unique : (m n : ℤ) → negsuc 25_566 ≤ℤ m → m ≤ℤ pos 2_932_896 → negsuc 25_566 ≤ℤ n → n ≤ℤ pos 2_932_896 → date_text m ≡ date_text n → m ≡ n
+date_text-unique m n low-m high-m low-n high-n same = same-value date_of (date_of-text m low-m high-m) (date_of-text n low-n high-n) same

@@ -1,5 +1,6 @@
 mod Choices
 mod Colours
+mod CoordinateTexts
 mod Coordinates
 mod Dates
 mod Fractions
@@ -8,3 +9,4 @@ mod Texts
 mod Times
 mod Wides
 mod WorkedTexts
+mod Zeros

@@ -1,7 +1,9 @@
 -- Texts of decimal digits, a byte at a time.
-use Rattle.std.proofs.Common.{◌≡◌, ℕ, zero, suc, ◌+◌, ◌-◌, ◌*◌, ◌^◌, ◌<◌, ◌≤◌, ◌&&◌, Bool, true, false, List, [], ◌∷◌, length, get_or, take, min, arith, refl, sym}
+use Rattle.std.proofs.Common.{◌≡◌, ℕ, zero, suc, ◌+◌, ◌-◌, ◌*◌, ◌^◌, ◌<◌, ◌≤◌, ◌&&◌, Bool, true, false, List, [], ◌∷◌, ◌++◌, length, get_or, take, min, arith, refl, sym}
 use Rattle.std.specs.Char.{is_ascii_digit, digit_value}
-use Rattle.std.specs.Str.{all_ascii_digits}
+use Rattle.std.specs.Str.{all_ascii_digits, IsAscii}
+use Rattle.std.proofs.lemmas.Bool.{and_parts, and_from}
+use Rattle.std.proofs.lemmas.Fmt.{IsAscii-from_digits}
 use Rattle.std.specs.Str.Parse.{digits_value, AllDigits}
 use Rattle.std.proofs.lemmas.Bool.Decides.{nat_tests}
 use Rattle.std.proofs.lemmas.Str.Parse.{IsNumeralModel, numerals_by_value, tells_all_ascii_digits}
@@ -45,3 +47,12 @@ number-lt most t i m all digits value =
     let below = digits_value-lt 10 t (numerals.to t (rw whole at digits)) in
     let e = rw whole at value in
     omega (arith, below, e)
+
+pub digits-append : (xs ys : List ℕ) → all_ascii_digits xs ≡ true → all_ascii_digits ys ≡ true → all_ascii_digits (xs ++ ys) ≡ true
+digits-append [] ys first second = second
+digits-append (x ∷ xs) ys first second =
+    let given = and_parts (is_ascii_digit x) (all_ascii_digits xs) first in and_from _ _ given.0 (digits-append xs ys given.1 second)
+
+-- digits are ASCII
+pub digits-ascii : (t : List ℕ) → all_ascii_digits t ≡ true → IsAscii t
+digits-ascii t digits = IsAscii-from_digits t (numerals.to t digits)

@@ -8,15 +8,15 @@ use Rattle.std.specs.Char.{is_ascii_digit}
 use Rattle.std.specs.Fmt.{decimal}
 use Rattle.std.proofs.lemmas.Bool.{and_from, and_parts, cases_lt}
 use Rattle.std.proofs.lemmas.Bool.Decides.{nat_tests}
-use Rattle.std.proofs.lemmas.Fmt.{decimal_digit, decimal_step, decimal_is_IsNumeral, decimal_nonempty, length-decimal-le, IsAscii-from_digits}
+use Rattle.std.proofs.lemmas.Fmt.{decimal_digit, decimal_step, decimal_is_IsNumeral, decimal_nonempty, length-decimal-le}
 use Rattle.std.proofs.lemmas.Str.{IsAscii-append}
 use Rattle.std.proofs.lemmas.Str.Ascii.{IsAscii-cons}
 use Rattle.gtfs_field.specs.Digits.{number, wide, is_number, is_wide}
 use Rattle.gtfs_field.specs.Kinds.{count_of, time_of, time_from, is_colon, is_sixtieth}
 use Rattle.gtfs_field.specs.Canonical.{count_text, time_text, hours_text}
 use Rattle.gtfs_field.specs.declared.fault.FieldFault.{FieldFault}
-use Rattle.gtfs_field.proofs.Numerals.{numerals}
-use Rattle.gtfs_field.proofs.Choices.{shaped-true, within-true, some-test}
+use Rattle.gtfs_field.proofs.Numerals.{numerals, digits-ascii}
+use Rattle.gtfs_field.proofs.Choices.{shaped-true, within-true, some-test, ltb_from, leb_from}
 use Rattle.gtfs_field.proofs.Times.{time_from-ok, hours_at, sixtieth_at}
 use Rattle.gtfs_field.proofs.Wides.{length-wide, wide-digits, number-wide}
 
@@ -35,12 +35,6 @@ decimal-is_number n fits = is_number-from (decimal n) (decimal_is_IsNumeral n fi
 
 pub number-decimal : (n : ℕ) → n < 2 ^ 64 → number (decimal n) ≡ n
 number-decimal n fits = (decimal_is_IsNumeral n fits).1
-
-leb_from : (a b : ℕ) → a ≤ b → nat_le a b ≡ true
-leb_from a b h = grind (arith, nat_tests)
-
-ltb_from : (a b : ℕ) → a < b → nat_lt a b ≡ true
-ltb_from a b h = grind (arith, nat_tests)
 
 -- a count reads back
 pub count_of-text : (n : ℕ) → n ≤ 2_147_483_647 → count_of (count_text n) ≡ Ok n
@@ -181,9 +175,6 @@ time-slice v spare bytes few hours whole =
     let all : length (drop spare bytes) ≤ 10 - spare = rw whole (rw length-drop (omega arith)) in
     take_all (10 - spare) (drop spare bytes) all
     ∙ rw (whole, drop-append-le spare (four ++ middle) last (omega arith), drop-append-le spare four middle (omega arith), hours) refl
-
-pub digits-ascii : (t : List ℕ) → all_ascii_digits t ≡ true → IsAscii t
-digits-ascii t digits = IsAscii-from_digits t (numerals.to t digits)
 
 pub time-ascii : (v : ℕ) → v ≤ 7_199_999 → IsAscii (time_text v)
 time-ascii v most =

@@ -30,10 +30,13 @@ date_text n = digits_of_date (date_of_day n)
 abbrev pub colour_text : ℕ → List ℕ
 colour_text v = wide_hex 6 v
 
--- a coordinate: `-` where negative, whole degrees, and a point with the digits of the fraction up to the last that is
--- not zero, where there is one
-abbrev pub coordinate_text : ℤ → List ℕ
-coordinate_text v =
-    let m = unsigned_abs v in
+-- degrees of a number of units of 10^-9 degree: the whole degrees, and a point with the digits of the fraction up to
+-- the last that is not zero, where there is one
+abbrev pub degrees_text : ℕ → List ℕ
+degrees_text m =
     let fraction = without_last_zeros (wide 9 (m % 10 ^ 9)) in
-    (if int_lt v (pos 0) then 45 ∷ [] else []) ++ decimal (m / 10 ^ 9) ++ (if length fraction == 0 then [] else 46 ∷ fraction)
+    decimal (m / 10 ^ 9) ++ (if length fraction == 0 then [] else 46 ∷ fraction)
+
+-- a coordinate: `-` where negative, and the degrees
+abbrev pub coordinate_text : ℤ → List ℕ
+coordinate_text v = (if int_lt v (pos 0) then 45 ∷ [] else []) ++ degrees_text (unsigned_abs v)

@@ -1,5 +1,6 @@
 //! Short ASCII texts: made on the stack, and appended in one piece.
-ghost use Rattle.std.specs.Prelude.{◌≡◌, ◌++◌, ◌<◌, ◌≤◌, ◌^◌, ◌+◌, ◌-◌, OnOk, OnErr, length, take, drop, string_bytes};
+ghost use Rattle.std.specs.Prelude.{◌≡◌, ◌++◌, ◌<◌, ◌≤◌, ◌^◌, ◌+◌, ◌-◌, IsOk, OnOk, OnErr, length, take, drop, string_bytes, string_len};
+ghost use Rattle.std.specs.String.{string_capacity};
 ghost use Rattle.std.specs.Str.{IsAscii};
 ghost use Rattle.gtfs_field.specs.Digits.{wide};
 
@@ -11,6 +12,7 @@ pub(crate) fn push_ascii(text: &mut String, bytes: &[u8]) -> Result<(), AllocErr
     requires { IsAscii bytes.now }
     ensures appended { OnOk result (string_bytes text.new ≡ string_bytes text.old ++ bytes.now) }
     ensures unchanged { OnErr result (string_bytes text.new ≡ string_bytes text.old) }
+    ensures room { string_len text.old + length bytes.now ≤ string_capacity text.old → IsOk result }
 {
     text.push_str(str::from_utf8(bytes).unwrap())
 }

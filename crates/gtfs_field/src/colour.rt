@@ -1,9 +1,13 @@
-ghost use Rattle.std.specs.Prelude.{◌≡◌, ◌≤◌, nat_lt};
+ghost use Rattle.std.specs.Prelude.{◌≡◌, ◌≤◌, ◌<◌, ◌++◌, ℕ, nat_lt, Ok, OnOk, OnErr, string_bytes};
 ghost use Rattle.std.specs.Char.{digit_value};
 ghost use Rattle.std.specs.List.{list_all};
 ghost use Rattle.gtfs_field.specs.Kinds.{colour_of, is_six_hexadecimal};
+ghost use Rattle.gtfs_field.specs.Canonical.{colour_text};
+ghost use Rattle.gtfs_field.specs.Digits.{hex_digit as glyph};
 
+use crate::ascii::push_ascii;
 use crate::fault::FieldFault;
+use std::alloc::{AllocError, Global};
 use std::marker::Model;
 
 /// A colour of 24 bits: eight each of red, green and blue, red highest.
@@ -72,4 +76,43 @@ fn are_hexadecimal(text: &[u8]) -> bool
     ensures { result ≡ list_all (λ b. nat_lt (digit_value b) 16) text.now }
 {
     text.iter().all(|byte| char::from(*byte).is_digit(16))
+}
+
+/// Appends the canonical text of a colour: six hexadecimal digits in upper case.
+///
+/// # Errors
+/// `OutOfMemory` where the text cannot grow; it is then as it was.
+pub fn push_colour(_alloc: Global, text: &mut String, colour: Colour) -> Result<(), AllocError>
+    ensures appended { OnOk result (string_bytes text.new ≡ string_bytes text.old ++ colour_text colour) }
+    ensures unchanged { OnErr result (string_bytes text.new ≡ string_bytes text.old) }
+    ensures reads_back { colour_of (colour_text colour) ≡ Ok colour }
+    ensures unique { (other : ℕ) → other ≤ 0xFF_FFFF → colour_text other ≡ colour_text colour → other ≡ colour }
+{
+    push_ascii(text, &hexadecimal(colour.bits()))
+}
+
+/// The six hexadecimal digits of a colour, in upper case.
+fn hexadecimal(bits: u32) -> [u8; 6]
+    ensures { result ≡ colour_text bits }
+{
+    [
+        hex_digit(bits / 0x10_0000 % 16),
+        hex_digit(bits / 0x1_0000 % 16),
+        hex_digit(bits / 0x1000 % 16),
+        hex_digit(bits / 0x100 % 16),
+        hex_digit(bits / 0x10 % 16),
+        hex_digit(bits % 16),
+    ]
+}
+
+/// The upper-case hexadecimal digit of a number below 16.
+fn hex_digit(value: u32) -> u8
+    requires { value < 16 }
+    ensures { result ≡ glyph value }
+{
+    if value < 10 {
+        b'0' + value as u8
+    } else {
+        b'A' + (value - 10) as u8
+    }
 }

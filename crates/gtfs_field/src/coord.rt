@@ -1,11 +1,17 @@
-ghost use Rattle.std.specs.Prelude.{◌≡◌, pos, negsuc, neg_ℤ, ◌≤ℤ◌, ◌≤◌, ◌<◌, ◌*◌, ◌-◌, ◌/◌, ◌^◌, Some, None, min, slice_index, length, if◌then◌else◌};
+ghost use Rattle.std.specs.Prelude.{◌≡◌, pos, negsuc, neg_ℤ, ◌≤ℤ◌, ◌≤◌, ◌<◌, ◌*◌, ◌-◌, ◌/◌, ◌^◌, Some, None, min, slice_index, length, if◌then◌else◌, ◌+◌, ◌++◌, ◌∷◌, [], ℤ, unsigned_abs, Ok, OnOk, OnErr, string_bytes, string_len};
+ghost use Rattle.std.specs.String.{string_capacity};
 ghost use Rattle.std.specs.List.{before_first, after_first};
 ghost use Rattle.std.specs.Str.{all_ascii_digits};
-ghost use Rattle.gtfs_field.specs.Digits.{number};
-ghost use Rattle.gtfs_field.specs.Kinds.{coordinate_of, has_coordinate_shape, magnitude, unsigned_part, is_sign, is_point, are_digits, billionths};
+ghost use Rattle.gtfs_field.specs.Digits.{number, wide, without_last_zeros};
+ghost use Rattle.gtfs_field.specs.Canonical.{coordinate_text, degrees_text};
+ghost use Rattle.gtfs_field.specs.Kinds.{coordinate_of, has_coordinate_shape, magnitude, unsigned_part, is_sign, is_point, are_digits, billionths, most_degrees};
+ghost use Rattle.gtfs_field.specs.declared.coord.Axis.{Axis};
 
+use crate::ascii::{push_ascii, write_wide};
 use crate::digits::digits_of;
 use crate::fault::FieldFault;
+use itoa::Buffer;
+use std::alloc::{AllocError, Global};
 use std::marker::Model;
 
 /// Which of its two kinds a coordinate is.
@@ -155,4 +161,76 @@ fn billionths_of(fraction: &[u8]) -> Option<u64>
         billionths += u64::from(*byte - b'0') * weight;
     }
     Some(billionths)
+}
+
+/// How many units one degree has.
+const NANODEGREES: u64 = 1_000_000_000;
+
+/// Appends the canonical text of a coordinate in degrees: `-` where it is negative, and the digits of the fraction up to
+/// the last that is not zero.
+///
+/// # Errors
+/// `OutOfMemory` where the text cannot grow; it is then as it was.
+pub fn push_coord(_alloc: Global, text: &mut String, coord: Coord) -> Result<(), AllocError>
+    ensures appended { OnOk result (string_bytes text.new ≡ string_bytes text.old ++ coordinate_text coord) }
+    ensures unchanged { OnErr result (string_bytes text.new ≡ string_bytes text.old) }
+    ensures reads_back { (axis : Axis) → unsigned_abs coord ≤ most_degrees axis * 10 ^ 9 → coordinate_of axis (coordinate_text coord) ≡ Ok coord }
+    ensures unique { (other : ℤ) → unsigned_abs other ≤ 180_000_000_000 → coordinate_text other ≡ coordinate_text coord → other ≡ coord }
+{
+    let nanodegrees = coord.nanodegrees();
+    // A sign, three digits of degrees, the point and nine digits of the fraction.
+    text.reserve(14)?;
+    push_sign(text, nanodegrees < 0);
+    push_degrees(text, nanodegrees.unsigned_abs());
+    Ok(())
+}
+
+/// Appends the sign of a negative number.
+fn push_sign(text: &mut String, is_negative: bool)
+    requires room { string_len text.old + 1 ≤ string_capacity text.old }
+    ensures appended { string_bytes text.new ≡ string_bytes text.old ++ (if is_negative then 45 ∷ [] else []) }
+    ensures len { string_len text.new ≤ string_len text.old + 1 }
+    ensures capacity { string_capacity text.old ≤ string_capacity text.new }
+{
+    if is_negative {
+        text.push('-').unwrap();
+    }
+}
+
+/// Appends a number of nanodegrees in degrees.
+fn push_degrees(text: &mut String, magnitude: u64)
+    requires small { magnitude ≤ 180_000_000_000 }
+    requires room { string_len text.old + 13 ≤ string_capacity text.old }
+    ensures { string_bytes text.new ≡ string_bytes text.old ++ degrees_text magnitude }
+{
+    text.push_str(Buffer::new().format(magnitude / NANODEGREES))
+        .unwrap();
+    let digits = fraction_bytes(magnitude % NANODEGREES);
+    let fraction = without_zeros(&digits);
+    if !fraction.is_empty() {
+        text.push('.').unwrap();
+        push_ascii(text, fraction).unwrap();
+    }
+}
+
+/// The nine digits of a fraction.
+fn fraction_bytes(billionths: u64) -> [u8; 9]
+    requires { billionths < 10 ^ 9 }
+    ensures { result ≡ wide 9 billionths }
+{
+    let mut bytes = [b'0'; 9];
+    write_wide(billionths, 9, 9, &mut bytes);
+    bytes
+}
+
+/// Digits without the zeros at their end.
+#[tactic(auto, using(crate::proofs::Zeros::last_zeros))]
+fn without_zeros(digits: &[u8]) -> &[u8]
+    ensures { result.now ≡ without_last_zeros digits.now }
+{
+    let mut rest = digits;
+    while let [front @ .., b'0'] = rest {
+        rest = front;
+    }
+    rest
 }

@@ -1,9 +1,13 @@
-ghost use Rattle.std.specs.Prelude.{◌≡◌, pos, negsuc, ◌≤ℤ◌, ◌<◌, ◌^◌, ◌/◌, ◌%◌};
+ghost use Rattle.std.specs.Prelude.{◌≡◌, pos, negsuc, ◌≤ℤ◌, ◌<◌, ◌^◌, ◌/◌, ◌%◌, ◌++◌, ℤ, Ok, OnOk, OnErr, string_bytes};
+ghost use Rattle.jiff_core.specs.Date.{epoch_day};
 ghost use Rattle.gtfs_field.specs.Kinds.{date_of, day_at};
+ghost use Rattle.gtfs_field.specs.Canonical.{date_text, digits_of_date};
 
+use crate::ascii::{push_ascii, write_wide};
 use crate::digits::number_of;
 use crate::fault::FieldFault;
 use jiff_core::civil::Date;
+use std::alloc::{AllocError, Global};
 use std::marker::Model;
 
 /// A date of the years 1900 to 9999, by its number: how many days it lies after 1970-01-01.
@@ -34,6 +38,14 @@ impl Day {
         ensures { result ≡ number }
     {
         Day { number }
+    }
+
+    /// The date on `jiff`'s calendar.
+    fn date(self) -> Date
+        ensures number { epoch_day result ≡ self }
+        ensures from { pos 1900 ≤ℤ result.year }
+    {
+        Date::from_unix_epoch_day(i64::from(self.number)).unwrap()
     }
 
     /// Days since 1970-01-01, from -25,567 to 2,932,896.
@@ -76,4 +88,29 @@ fn day_of(digits: u64) -> Result<Day, FieldFault>
         Ok(date) => Ok(Day::from_number(date.to_unix_epoch_day())),
         Err(_) => Err(FieldFault::Range),
     }
+}
+
+/// Appends the canonical text of a date: YYYYMMDD.
+///
+/// # Errors
+/// `OutOfMemory` where the text cannot grow; it is then as it was.
+pub fn push_date(_alloc: Global, text: &mut String, day: Day) -> Result<(), AllocError>
+    ensures appended { OnOk result (string_bytes text.new ≡ string_bytes text.old ++ date_text day) }
+    ensures unchanged { OnErr result (string_bytes text.new ≡ string_bytes text.old) }
+    ensures reads_back { date_of (date_text day) ≡ Ok day }
+    ensures unique { (other : ℤ) → negsuc 25_566 ≤ℤ other → other ≤ℤ pos 2_932_896 → date_text other ≡ date_text day → other ≡ day }
+{
+    push_ascii(text, &date_bytes(day.date()))
+}
+
+/// The eight digits of a date.
+fn date_bytes(date: Date) -> [u8; 8]
+    requires { pos 0 ≤ℤ date.year }
+    ensures { result ≡ digits_of_date date }
+{
+    let mut bytes = [b'0'; 8];
+    write_wide(u64::from(date.year.unsigned_abs()), 4, 4, &mut bytes);
+    write_wide(u64::from(date.month), 2, 6, &mut bytes);
+    write_wide(u64::from(date.day), 2, 8, &mut bytes);
+    bytes
 }

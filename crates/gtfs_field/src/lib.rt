@@ -14,10 +14,10 @@ mod list;
 mod text;
 
 pub use clock::{Clock, push_time, read_time};
-pub use colour::{Colour, read_colour};
-pub use coord::{Axis, Coord, read_coord};
+pub use colour::{Colour, push_colour, read_colour};
+pub use coord::{Axis, Coord, push_coord, read_coord};
 pub use count::{push_count, read_count};
-pub use day::{Day, read_date};
+pub use day::{Day, push_date, read_date};
 pub use fault::FieldFault;
 pub use instant::read_instant;
 pub use list::List;
