@@ -60,7 +60,7 @@ pub fn read_time(text: &str) -> Result<Clock, FieldFault>
     ensures { result ≡ time_of text.now }
 {
     match seconds_of(text) {
-        Some(seconds) => Ok(Clock { seconds }),
+        Some(seconds) => Ok(Clock::from_seconds(seconds)),
         None => Err(FieldFault::Form),
     }
 }

@@ -59,7 +59,7 @@ pub fn read_colour(text: &str) -> Result<Colour, FieldFault>
         return Err(FieldFault::Form);
     }
     match u32::from_str_radix(text, 16) {
-        Ok(bits) => Ok(Colour { bits }),
+        Ok(bits) => Ok(Colour::from_bits(bits)),
         Err(_) => Err(FieldFault::Form),
     }
 }
