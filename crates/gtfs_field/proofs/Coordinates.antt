@@ -135,16 +135,18 @@ value-append-after n (x ∷ xs) ys = value-append-after (n * 10 + digit_value x)
 pub number-append : (xs ys : List ℕ) → number (xs ++ ys) ≡ number xs * 10 ^ length ys + number ys
 number-append xs ys = value-append-after 0 xs ys ∙ value-after (number xs) ys
 
+-- degrees and a fraction over one power of ten
+spread : (w f k : ℕ) → (w * 10 ^ k + f) * 10 ^ 9 / 10 ^ k ≡ w * 10 ^ 9 + f * 10 ^ 9 / 10 ^ k
+spread w f k =
+    let p = 10 ^ k in
+    let sum : (w * p + f) * 10 ^ 9 ≡ w * 10 ^ 9 * p + f * 10 ^ 9 = omega arith in
+    rw sum (mul-add-div_right (one-le-pow k 10 (omega arith)) (w * 10 ^ 9) (f * 10 ^ 9))
+
 pub magnitude-around : (t : List ℕ) → are_digits (whole_of t) (fraction_of t) ≡ true → magnitude t ≡ billionths (whole_of t) (fraction_of t)
 magnitude-around t shape =
-    let inner : (all_ascii_digits (whole_of t) && all_ascii_digits (fraction_of t)) ≡ true = (and_parts _ _ shape).1 in
-    let fraction : all_ascii_digits (fraction_of t) ≡ true = (and_parts _ _ inner).1 in
-    let p = 10 ^ length (fraction_of t) in
-    let w = number (whole_of t) in
-    let f = number (fraction_of t) in
-    let spread : (w * p + f) * 10 ^ 9 ≡ w * 10 ^ 9 * p + f * 10 ^ 9 = omega arith in
-    rw (without_points-around t fraction, number-append (whole_of t) (fraction_of t), spread)
-    (mul-add-div_right (one-le-pow (length (fraction_of t)) 10 (omega arith)) (w * 10 ^ 9) (f * 10 ^ 9))
+    let both : (all_ascii_digits (whole_of t) && all_ascii_digits (fraction_of t)) ≡ true = (and_parts _ _ shape).1 in
+    let fraction : all_ascii_digits (fraction_of t) ≡ true = (and_parts _ _ both).1 in
+    rw (without_points-around t fraction, number-append (whole_of t) (fraction_of t)) (spread (number (whole_of t)) (number (fraction_of t)) (length (fraction_of t)))
 
 -- what `magnitude_of` answers
 abbrev pub magnitude_at : List ℕ → List ℕ → Option ℕ

@@ -51,8 +51,8 @@ length-not n other = grind (arith, nat_tests)
 
 pub date_of-eight : (t : List ℕ) (n : ℕ) → length t ≡ 8 → Some n ≡ number_at t → day_at (n / 10_000) (n / 100 % 100) (n % 100) ≡ date_of t
 date_of-eight t n eight there =
-    let given = test-some _ _ _ there in
-    let digits : all_ascii_digits t ≡ true = (and_parts _ _ given.0).1 in
+    let given = test-some (is_number t) n (min (number t) (2 ^ 64 - 1)) there in
+    let digits : all_ascii_digits t ≡ true = (and_parts (not (length t == 0)) (all_ascii_digits t) given.0).1 in
     let split : HasParts (number t) (number (take 4 t)) (number (take 2 (drop 4 t))) (number (drop 6 t)) = eight_digits t eight digits in
     let same : n ≡ number t = omega (arith, given.1, split.below) in
     let wide : is_wide 8 t ≡ true = and_from _ _ (rw eight refl) digits in
