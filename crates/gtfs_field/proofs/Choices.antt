@@ -1,5 +1,5 @@
 -- Answers that are there exactly where a test passes, and results that go by tests.
-use Rattle.std.proofs.Common.{◌≡◌, Bool, true, false, Option, Some, None, Result, Ok, Err, if◌then◌else◌, refl, ap, List, ℕ, ◌<◌, ◌≤◌, nat_lt, nat_le, arith}
+use Rattle.std.proofs.Common.{◌≡◌, Bool, true, false, Some, None, Result, Ok, Err, if◌then◌else◌, refl, ap, List, ℕ, ◌<◌, ◌≤◌, nat_lt, nat_le, arith}
 use Rattle.std.proofs.lemmas.Bool.Decides.{nat_tests}
 use Rattle.gtfs_field.specs.Kinds.{shaped, within}
 use Rattle.gtfs_field.specs.declared.fault.FieldFault.{FieldFault}

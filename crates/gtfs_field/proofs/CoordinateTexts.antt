@@ -1,5 +1,5 @@
 -- The canonical texts of coordinates, and what they read back to.
-use Rattle.std.proofs.Common.{◌≡◌, ◌≢◌, ℕ, zero, suc, ◌+◌, ◌-◌, ◌*◌, ◌/◌, ◌%◌, ◌^◌, ◌<◌, ◌≤◌, ◌&&◌, ◌==◌, not, Bool, true, false, nat_lt, nat_le, Result, Ok, Err, List, [], ◌∷◌, ◌++◌, length, take, drop, get_or, arith, refl, sym, ap, subst, ◌∙◌, inl, inr, length-append, append_assoc, if◌then◌else◌, lit<, lit≤, ℤ, pos, negsuc, neg_ℤ, int_lt, unsigned_abs}
+use Rattle.std.proofs.Common.{◌≡◌, ℕ, suc, ◌+◌, ◌-◌, ◌*◌, ◌/◌, ◌%◌, ◌^◌, ◌<◌, ◌≤◌, ◌&&◌, ◌==◌, not, Bool, true, false, Result, Ok, List, [], ◌∷◌, ◌++◌, length, get_or, arith, refl, sym, ap, ◌∙◌, inl, inr, if◌then◌else◌, ℤ, pos, negsuc, neg_ℤ, int_lt, unsigned_abs}
 use Rattle.std.specs.List.{before_first, after_first, position_or_len}
 use Rattle.std.specs.Str.{all_ascii_digits}
 use Rattle.std.specs.Char.{is_ascii_digit}
@@ -10,7 +10,7 @@ use Rattle.std.proofs.lemmas.Fmt.{decimal_nonempty}
 use Rattle.std.proofs.Math.Nat.{mul-div_cancel, one-le-pow}
 use Rattle.std.proofs.lemmas.Nat.{pow-add}
 use Rattle.gtfs_field.specs.Digits.{number, wide, without_last_zeros}
-use Rattle.gtfs_field.specs.Kinds.{coordinate_of, is_point, is_sign, is_minus, unsigned_part, has_coordinate_shape, magnitude, are_digits, billionths, most_degrees}
+use Rattle.gtfs_field.specs.Kinds.{coordinate_of, is_point, is_sign, is_minus, unsigned_part, has_coordinate_shape, magnitude, are_digits, most_degrees}
 use Rattle.gtfs_field.specs.Canonical.{coordinate_text, degrees_text}
 use Rattle.gtfs_field.specs.declared.fault.FieldFault.{FieldFault}
 use Rattle.gtfs_field.specs.declared.coord.Axis.{Axis}
@@ -18,7 +18,7 @@ use Rattle.gtfs_field.specs.declared.coord.Axis.TheVariants.{Longitude}
 use Rattle.gtfs_field.proofs.Choices.{shaped-true, within-true, leb_from, same-value}
 use Rattle.gtfs_field.proofs.Coordinates.{whole_of, fraction_of, shape-around, magnitude-around}
 use Rattle.gtfs_field.proofs.Texts.{decimal-digits, number-decimal}
-use Rattle.gtfs_field.proofs.Wides.{wide-digits, number-wide, length-wide}
+use Rattle.gtfs_field.proofs.Wides.{wide-digits, number-wide}
 use Rattle.gtfs_field.proofs.Zeros.{without-digits, length-without, number-without}
 
 digit-no-point : (b : ℕ) → is_ascii_digit b ≡ true → is_point b ≡ false

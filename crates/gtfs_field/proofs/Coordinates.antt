@@ -1,16 +1,16 @@
 -- The shape of a coordinate, and its value, from what stands before the first point and after it.
-use Rattle.std.proofs.Common.{◌≡◌, ◌≢◌, ℕ, zero, suc, ◌+◌, ◌-◌, ◌*◌, ◌/◌, ◌^◌, ◌<◌, ◌≤◌, ◌&&◌, ◌==◌, Bool, true, false, not, cond, Option, Some, None, if◌then◌else◌, nat_lt, nat_le, List, [], ◌∷◌, ◌++◌, length, filter, count_by, arith, refl, sym, ap, ◌∙◌, inl, inr, length-append, min, get_or}
+use Rattle.std.proofs.Common.{◌≡◌, ℕ, suc, ◌+◌, ◌-◌, ◌*◌, ◌/◌, ◌^◌, ◌<◌, ◌&&◌, ◌==◌, Bool, true, false, not, cond, Option, Some, None, if◌then◌else◌, nat_le, List, [], ◌∷◌, ◌++◌, length, count_by, arith, refl, sym, ap, ◌∙◌, inl, inr, length-append, min, get_or}
 use Rattle.std.specs.List.{before_first, after_first, position_or_len}
 use Rattle.std.proofs.lemmas.List.Sums.{sum_by-cons}
 use Rattle.std.specs.Str.{all_ascii_digits, IsUtf8, IsCharBoundary}
 use Rattle.std.proofs.lemmas.Str.{IsCharBoundary-after_ascii}
 use Rattle.std.specs.Str.Parse.{digits_value_after}
 use Rattle.std.specs.Char.{is_ascii_digit, digit_value}
-use Rattle.std.proofs.lemmas.Bool.{and_left, and_right, and_from, and_parts, and_cases, cases_Bool}
+use Rattle.std.proofs.lemmas.Bool.{and_left, and_right, and_parts, cases_Bool}
 use Rattle.std.proofs.Math.Bool.{and_assoc}
 use Rattle.std.proofs.lemmas.Bool.Decides.{nat_tests}
 use Rattle.std.proofs.Math.Nat.{pow-suc, mul-add-div_right, one-le-pow}
-use Rattle.gtfs_field.specs.Digits.{is_number, number}
+use Rattle.gtfs_field.specs.Digits.{number}
 use Rattle.gtfs_field.specs.Kinds.{is_point, without_points, has_coordinate_shape, magnitude, is_sign, are_digits, billionths}
 
 digit-no-point : (b : ℕ) → is_ascii_digit b ≡ true → is_point b ≡ false

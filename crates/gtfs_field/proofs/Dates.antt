@@ -1,5 +1,5 @@
 -- Dates of eight digits, and the calendar's days in numbers.
-use Rattle.std.proofs.Common.{subst, ℤ, unsigned_abs, ◌-ℤ◌, ◌++◌, ◌≡◌, ◌≢◌, ℕ, ◌+◌, ◌-◌, ◌*◌, ◌/◌, ◌%◌, ◌^◌, ◌<◌, ◌≤◌, ◌&&◌, ◌==◌, not, Bool, true, false, Option, Some, None, Ok, Err, if◌then◌else◌, nat_lt, nat_le, List, [], ◌∷◌, length, get_or, take, drop, min, arith, refl, sym, ap, ◌∙◌, pos, negsuc, ◌≤ℤ◌, inl, inr}
+use Rattle.std.proofs.Common.{subst, ℤ, unsigned_abs, ◌-ℤ◌, ◌++◌, ◌≡◌, ◌≢◌, ℕ, ◌+◌, ◌-◌, ◌*◌, ◌/◌, ◌%◌, ◌^◌, ◌<◌, ◌≤◌, ◌==◌, not, true, false, Option, Some, None, Ok, Err, if◌then◌else◌, List, [], ◌∷◌, length, take, drop, min, arith, refl, sym, ap, ◌∙◌, pos, negsuc, ◌≤ℤ◌, inl, inr}
 use Rattle.std.specs.Str.{all_ascii_digits, IsAscii}
 use Rattle.std.proofs.lemmas.Bool.{and_left, and_right, and_from, and_cases, and_parts}
 use Rattle.std.proofs.lemmas.Bool.Decides.{nat_tests}

@@ -1,7 +1,7 @@
 -- The first nine digits of a fraction, a digit at a time.
-use Rattle.std.proofs.Common.{◌≡◌, ℕ, zero, suc, ◌+◌, ◌-◌, ◌*◌, ◌/◌, ◌^◌, ◌<◌, ◌≤◌, arith, refl, sym, ◌∙◌, inl, inr, ap, add-one}
-use Rattle.std.proofs.Math.Nat.{mul-div_cancel, mul-div_cancel_left, div-div-eq-div-mul, pow-le-pow_right, mul-le-mul_right, pow-suc, one-le-pow, div_self, div-le_self}
-use Rattle.std.proofs.lemmas.Nat.{pow-add, div-mul-add, div_below}
+use Rattle.std.proofs.Common.{◌≡◌, ℕ, suc, ◌+◌, ◌-◌, ◌*◌, ◌/◌, ◌^◌, ◌<◌, ◌≤◌, arith, refl, inl, inr, add-one}
+use Rattle.std.proofs.Math.Nat.{mul-div_cancel, mul-div_cancel_left, div-div-eq-div-mul, mul-le-mul_right, pow-suc, one-le-pow, div_self, div-le_self}
+use Rattle.std.proofs.lemmas.Nat.{pow-add, div-mul-add}
 use Rattle.std.proofs.lemmas.Bool.{cases_lt}
 
 -- a digit within the nine

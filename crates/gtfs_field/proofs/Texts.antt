@@ -1,5 +1,5 @@
 -- The canonical texts of counts and times, and what they read back to.
-use Rattle.std.proofs.Common.{◌≡◌, ◌≢◌, ℕ, zero, suc, ◌+◌, ◌-◌, ◌*◌, ◌/◌, ◌%◌, ◌^◌, ◌<◌, ◌≤◌, ◌&&◌, Bool, true, false, not, ◌==◌, nat_lt, nat_le, Result, Ok, Err, Option, Some, None, List, [], ◌∷◌, ◌++◌, length, take, drop, arith, refl, sym, ap, ◌∙◌, inl, inr, length-append, append_assoc, if◌then◌else◌, lit<, lit≤}
+use Rattle.std.proofs.Common.{◌≡◌, ℕ, suc, ◌+◌, ◌-◌, ◌*◌, ◌/◌, ◌%◌, ◌^◌, ◌<◌, ◌≤◌, true, false, not, ◌==◌, nat_lt, Result, Ok, Err, Some, List, [], ◌∷◌, ◌++◌, length, take, drop, arith, refl, sym, ap, ◌∙◌, inl, inr, append_assoc, lit<, lit≤}
 use Rattle.std.proofs.lemmas.List.{take_all, drop-append-le, length-drop}
 use Rattle.std.specs.List.{before_first, after_first, position_or_len}
 use Rattle.std.specs.Result.{result_ok}
@@ -12,13 +12,13 @@ use Rattle.std.proofs.lemmas.Fmt.{decimal_digit, decimal_step, decimal_is_IsNume
 use Rattle.std.proofs.lemmas.Str.{IsAscii-append}
 use Rattle.std.proofs.lemmas.Str.Ascii.{IsAscii-cons}
 use Rattle.gtfs_field.specs.Digits.{number, wide, is_number, is_wide}
-use Rattle.gtfs_field.specs.Kinds.{count_of, time_of, time_from, is_colon, is_sixtieth}
+use Rattle.gtfs_field.specs.Kinds.{count_of, time_of, is_colon, is_sixtieth}
 use Rattle.gtfs_field.specs.Canonical.{count_text, time_text, hours_text}
 use Rattle.gtfs_field.specs.declared.fault.FieldFault.{FieldFault}
 use Rattle.gtfs_field.proofs.Numerals.{numerals, digits-ascii}
 use Rattle.gtfs_field.proofs.Choices.{shaped-true, within-true, some-test, ltb_from, leb_from}
 use Rattle.gtfs_field.proofs.Times.{time_from-ok, hours_at, sixtieth_at}
-use Rattle.gtfs_field.proofs.Wides.{length-wide, wide-digits, number-wide}
+use Rattle.gtfs_field.proofs.Wides.{wide-digits, number-wide}
 
 there : (n : ℕ) → 0 < n → not (n == 0) ≡ true
 there n some = grind (arith, nat_tests)

@@ -1,18 +1,18 @@
 -- Numbers of a fixed width.
-use Rattle.std.proofs.Common.{◌≡◌, ◌≢◌, ℕ, zero, suc, ◌+◌, ◌-◌, ◌*◌, ◌/◌, ◌%◌, ◌^◌, ◌<◌, ◌≤◌, ◌&&◌, Bool, true, false, List, [], ◌∷◌, ◌++◌, length, take, drop, replicate, arith, refl, sym, ap, ◌∙◌, inl, inr, length-append, append_assoc}
-use Rattle.std.specs.Str.{all_ascii_digits, IsAscii}
+use Rattle.std.proofs.Common.{◌≡◌, ℕ, zero, suc, ◌+◌, ◌-◌, ◌/◌, ◌%◌, ◌^◌, ◌<◌, ◌≤◌, true, List, [], ◌∷◌, ◌++◌, length, take, drop, replicate, arith, refl, sym, ap, ◌∙◌, inl, inr, length-append, append_assoc}
+use Rattle.std.specs.Str.{all_ascii_digits}
 use Rattle.std.specs.Str.Parse.{AllDigits}
-use Rattle.std.specs.Char.{digit_value, is_ascii_digit}
+use Rattle.std.specs.Char.{digit_value}
 use Rattle.std.specs.Fmt.{decimal}
-use Rattle.std.proofs.lemmas.Bool.{and_from, cases_lt}
+use Rattle.std.proofs.lemmas.Bool.{cases_lt}
 use Rattle.std.proofs.lemmas.Bool.Decides.{nat_tests}
 use Rattle.std.proofs.lemmas.Int.Digits.{digits_value_push, digits_push}
-use Rattle.std.proofs.lemmas.Fmt.{decimal_digit, decimal_step, decimal_is_IsNumeral, length-decimal-le, IsAscii-from_digits}
+use Rattle.std.proofs.lemmas.Fmt.{decimal_digit, decimal_step, length-decimal-le}
 use Rattle.std.proofs.lemmas.List.{length-replicate, replicate_more, take-append-drop, take-append-le, take-replicate, length-take, length-drop, drop-drop}
 use borrow.Rule.Slice.PartMut.{put_mid}
 use Rattle.std.proofs.Math.Seq.{take-append-add, drop-append-add, drop-append_seam}
-use Rattle.std.proofs.Math.Nat.{pow-suc, div-add-mod', div-div-eq-div-mul}
-use Rattle.gtfs_field.specs.Digits.{number, wide, is_number}
+use Rattle.std.proofs.Math.Nat.{pow-suc, div-add-mod'}
+use Rattle.gtfs_field.specs.Digits.{number, wide}
 use Rattle.gtfs_field.proofs.Numerals.{numerals}
 
 glyph : (d : ℕ) → d < 10 → digit_value (48 + d) ≡ d

@@ -4,11 +4,11 @@ ghost use Rattle.std.specs.String.{string_capacity};
 ghost use Rattle.std.specs.Str.{IsAscii};
 ghost use Rattle.gtfs_field.specs.Digits.{wide};
 
+use crate::OutOfMemory;
 use itoa::write_digits;
-use std::alloc::AllocError;
 
 /// Appends ASCII bytes to a text: all of them, or none where memory is refused.
-pub(crate) fn push_ascii(text: &mut String, bytes: &[u8]) -> Result<(), AllocError>
+pub(crate) fn push_ascii(text: &mut String, bytes: &[u8]) -> Result<(), OutOfMemory>
     requires { IsAscii bytes.now }
     ensures appended { OnOk result (string_bytes text.new ≡ string_bytes text.old ++ bytes.now) }
     ensures unchanged { OnErr result (string_bytes text.new ≡ string_bytes text.old) }

@@ -4,10 +4,11 @@ ghost use Rattle.gtfs_field.specs.Digits.{is_number, number, wide};
 ghost use Rattle.gtfs_field.specs.Kinds.{time_of, time_from, is_sixtieth};
 ghost use Rattle.gtfs_field.specs.Canonical.{time_text, hours_text};
 
+use crate::OutOfMemory;
 use crate::ascii::{push_ascii, write_wide};
 use crate::digits::{number_of, two_digits};
 use crate::fault::FieldFault;
-use std::alloc::{AllocError, Global};
+use std::alloc::Global;
 use std::marker::Model;
 
 /// A time of a service day, in whole seconds from the day's origin: 0 to 7,199,999.
@@ -71,7 +72,7 @@ pub fn read_time(text: &str) -> Result<Clock, FieldFault>
 ///
 /// # Errors
 /// `OutOfMemory` where the text cannot grow; it is then as it was.
-pub fn push_time(_alloc: Global, text: &mut String, clock: Clock) -> Result<(), AllocError>
+pub fn push_time(_alloc: Global, text: &mut String, clock: Clock) -> Result<(), OutOfMemory>
     ensures appended { OnOk result (string_bytes text.new ≡ string_bytes text.old ++ time_text clock) }
     ensures unchanged { OnErr result (string_bytes text.new ≡ string_bytes text.old) }
     ensures reads_back { clock ≤ 3_599_999 → time_of (time_text clock) ≡ Ok clock }

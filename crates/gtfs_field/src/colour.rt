@@ -5,9 +5,10 @@ ghost use Rattle.gtfs_field.specs.Kinds.{colour_of, is_six_hexadecimal};
 ghost use Rattle.gtfs_field.specs.Canonical.{colour_text};
 ghost use Rattle.gtfs_field.specs.Digits.{hex_digit as glyph};
 
+use crate::OutOfMemory;
 use crate::ascii::push_ascii;
 use crate::fault::FieldFault;
-use std::alloc::{AllocError, Global};
+use std::alloc::Global;
 use std::marker::Model;
 
 /// A colour of 24 bits: eight each of red, green and blue, red highest.
@@ -82,7 +83,7 @@ fn are_hexadecimal(text: &[u8]) -> bool
 ///
 /// # Errors
 /// `OutOfMemory` where the text cannot grow; it is then as it was.
-pub fn push_colour(_alloc: Global, text: &mut String, colour: Colour) -> Result<(), AllocError>
+pub fn push_colour(_alloc: Global, text: &mut String, colour: Colour) -> Result<(), OutOfMemory>
     ensures appended { OnOk result (string_bytes text.new ≡ string_bytes text.old ++ colour_text colour) }
     ensures unchanged { OnErr result (string_bytes text.new ≡ string_bytes text.old) }
     ensures reads_back { colour_of (colour_text colour) ≡ Ok colour }

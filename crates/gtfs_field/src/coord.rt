@@ -7,11 +7,12 @@ ghost use Rattle.gtfs_field.specs.Canonical.{coordinate_text, degrees_text};
 ghost use Rattle.gtfs_field.specs.Kinds.{coordinate_of, has_coordinate_shape, magnitude, unsigned_part, is_sign, is_point, are_digits, billionths, most_degrees};
 ghost use Rattle.gtfs_field.specs.declared.coord.Axis.{Axis};
 
+use crate::OutOfMemory;
 use crate::ascii::{push_ascii, write_wide};
 use crate::digits::digits_of;
 use crate::fault::FieldFault;
 use itoa::Buffer;
-use std::alloc::{AllocError, Global};
+use std::alloc::Global;
 use std::marker::Model;
 
 /// Which of its two kinds a coordinate is.
@@ -171,7 +172,7 @@ const NANODEGREES: u64 = 1_000_000_000;
 ///
 /// # Errors
 /// `OutOfMemory` where the text cannot grow; it is then as it was.
-pub fn push_coord(_alloc: Global, text: &mut String, coord: Coord) -> Result<(), AllocError>
+pub fn push_coord(_alloc: Global, text: &mut String, coord: Coord) -> Result<(), OutOfMemory>
     ensures appended { OnOk result (string_bytes text.new ≡ string_bytes text.old ++ coordinate_text coord) }
     ensures unchanged { OnErr result (string_bytes text.new ≡ string_bytes text.old) }
     ensures reads_back { (axis : Axis) → unsigned_abs coord ≤ most_degrees axis * 10 ^ 9 → coordinate_of axis (coordinate_text coord) ≡ Ok coord }

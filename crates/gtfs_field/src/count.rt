@@ -2,10 +2,11 @@ ghost use Rattle.std.specs.Prelude.{◌≡◌, ◌++◌, ◌≤◌, ◌<◌, ◌
 ghost use Rattle.gtfs_field.specs.Kinds.{count_of};
 ghost use Rattle.gtfs_field.specs.Canonical.{count_text};
 
+use crate::OutOfMemory;
 use crate::digits::number_of;
 use crate::fault::FieldFault;
 use itoa::Buffer;
-use std::alloc::{AllocError, Global};
+use std::alloc::Global;
 
 /// The greatest count.
 const GREATEST: u64 = 2_147_483_647;
@@ -30,7 +31,7 @@ pub fn read_count(text: &str) -> Result<u32, FieldFault>
 ///
 /// # Errors
 /// `OutOfMemory` where the text cannot grow; it is then as it was.
-pub fn push_count(_alloc: Global, text: &mut String, count: u32) -> Result<(), AllocError>
+pub fn push_count(_alloc: Global, text: &mut String, count: u32) -> Result<(), OutOfMemory>
     ensures appended { OnOk result (string_bytes text.new ≡ string_bytes text.old ++ count_text count) }
     ensures unchanged { OnErr result (string_bytes text.new ≡ string_bytes text.old) }
     ensures reads_back { count ≤ 2_147_483_647 → count_of (count_text count) ≡ Ok count }

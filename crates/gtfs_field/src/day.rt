@@ -3,12 +3,16 @@ ghost use Rattle.jiff_core.specs.Date.{epoch_day};
 ghost use Rattle.gtfs_field.specs.Kinds.{date_of, day_at};
 ghost use Rattle.gtfs_field.specs.Canonical.{date_text, digits_of_date};
 
+use crate::OutOfMemory;
 use crate::ascii::{push_ascii, write_wide};
 use crate::digits::number_of;
 use crate::fault::FieldFault;
 use jiff_core::civil::Date;
-use std::alloc::{AllocError, Global};
+use std::alloc::Global;
 use std::marker::Model;
+
+/// The first year that a date may have.
+const FIRST_YEAR: i16 = 1900;
 
 /// A date of the years 1900 to 9999, by its number: how many days it lies after 1970-01-01.
 ///
@@ -81,7 +85,7 @@ fn day_of(digits: u64) -> Result<Day, FieldFault>
     let year = (digits / 10_000) as i16;
     let month = (digits / 100 % 100) as i8;
     let day = (digits % 100) as i8;
-    if year < 1900 {
+    if year < FIRST_YEAR {
         return Err(FieldFault::Range);
     }
     match Date::new(year, month, day) {
@@ -94,7 +98,7 @@ fn day_of(digits: u64) -> Result<Day, FieldFault>
 ///
 /// # Errors
 /// `OutOfMemory` where the text cannot grow; it is then as it was.
-pub fn push_date(_alloc: Global, text: &mut String, day: Day) -> Result<(), AllocError>
+pub fn push_date(_alloc: Global, text: &mut String, day: Day) -> Result<(), OutOfMemory>
     ensures appended { OnOk result (string_bytes text.new ≡ string_bytes text.old ++ date_text day) }
     ensures unchanged { OnErr result (string_bytes text.new ≡ string_bytes text.old) }
     ensures reads_back { date_of (date_text day) ≡ Ok day }

@@ -1,5 +1,4 @@
-use Rattle.std.proofs.Common.{◌≡◌, ◌≤◌, ◌++◌, ◌∷◌, ◌/◌, ◌-◌, take, drop, arith, ap, ◌∙◌, List, ℕ}
-use Rattle.gtfs_field.specs.Canonical.{time_text}
+use Rattle.std.proofs.Common.{◌≤◌}
 use Rattle.gtfs_field.proofs.Texts.{time_of-text, time_text-unique, time-slice, time-ascii}
 use Rattle.gtfs_field.proofs.clock.push_time.Goals as goal
 

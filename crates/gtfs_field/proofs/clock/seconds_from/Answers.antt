@@ -1,4 +1,4 @@
-use Rattle.std.proofs.Common.{◌≡◌, ◌≢◌, length, arith, ◌∙◌}
+use Rattle.std.proofs.Common.{◌≢◌, length, arith, ◌∙◌}
 use Rattle.gtfs_field.proofs.Times.{time_from-length, time_from-seconds, time_from-ok}
 use Rattle.gtfs_field.proofs.clock.seconds_from.Goals as goal
 

@@ -1,4 +1,4 @@
-use Rattle.std.proofs.Common.{◌≤◌, arith}
+use Rattle.std.proofs.Common.{◌≤◌}
 use Rattle.gtfs_field.proofs.Colours.{colour_of-text, colour_text-unique}
 use Rattle.gtfs_field.proofs.colour.push_colour.Goals as goal
 

@@ -1,5 +1,4 @@
-use Rattle.std.proofs.Common.{◌≡◌, ◌<◌, ◌^◌, arith, ◌∙◌, sym, true}
-use Rattle.gtfs_field.specs.Kinds.{is_six_hexadecimal}
+use Rattle.std.proofs.Common.{arith, sym}
 use Rattle.gtfs_field.proofs.Colours.{six_hexadecimal}
 use Rattle.gtfs_field.proofs.colour.read_colour.Goals as goal
 

@@ -1,5 +1,5 @@
-use Rattle.std.proofs.Common.{◌≡◌, ◌<◌, ◌-◌, true, length, arith, get_or, sym, refl, take}
-use Rattle.std.specs.Char.{is_ascii_digit, digit_value}
+use Rattle.std.proofs.Common.{◌≡◌, ◌<◌, ◌-◌, true, arith, get_or, sym, refl, take}
+use Rattle.std.specs.Char.{is_ascii_digit}
 use Rattle.std.proofs.lemmas.Int.Digits.{digits_value_more}
 use Rattle.gtfs_field.specs.Digits.{number}
 use Rattle.gtfs_field.proofs.Numerals.{all_digits-more, all_digits-not, digit_value-digit, digit-bounds}

@@ -1,4 +1,4 @@
-use Rattle.std.proofs.Common.{◌≡◌, ◌≤◌, ◌≤ℤ◌, ◌++◌, ◌∷◌, [], ℤ, ℕ, Bool, List, pos, negsuc, unsigned_abs, int_lt, arith, ◌∙◌, sym, ap, FitsSigned, w64, append_assoc, if◌then◌else◌}
+use Rattle.std.proofs.Common.{◌≡◌, ◌≤◌, ◌≤ℤ◌, ◌++◌, ◌∷◌, [], ℤ, ℕ, List, pos, negsuc, unsigned_abs, int_lt, arith, ◌∙◌, ap, FitsSigned, w64, append_assoc, if◌then◌else◌}
 use Rattle.std.proofs.lemmas.Int.{to_z-of_z}
 use Rattle.jiff_core.proofs.SignedLemmas.{signed_arith}
 use Rattle.gtfs_field.specs.Canonical.{coordinate_text, degrees_text}

@@ -1,7 +1,5 @@
-use Rattle.std.proofs.Common.{ℕ, ◌≡◌, ◌≤◌, ◌<◌, ◌+◌, ◌/◌, ◌%◌, ◌^◌, length, arith, ◌∙◌, sym, lit<, lit≤}
+use Rattle.std.proofs.Common.{ℕ, ◌≤◌, ◌/◌, ◌%◌, ◌^◌, length, arith, lit<}
 use Rattle.std.specs.Fmt.{decimal}
-use Rattle.std.specs.Str.{IsAscii}
-use Rattle.std.specs.String.{string_len, string_capacity}
 use Rattle.std.proofs.lemmas.Fmt.{length-decimal-le}
 use Rattle.gtfs_field.specs.Digits.{wide}
 use Rattle.gtfs_field.proofs.Numerals.{digits-ascii}

@@ -1,4 +1,4 @@
-use Rattle.std.proofs.Common.{sym, ◌∙◌, ap}
+use Rattle.std.proofs.Common.{sym}
 use Rattle.gtfs_field.proofs.Coordinates.{boundary-sign}
 use Rattle.gtfs_field.proofs.coord.without_sign.Goals as goal
 

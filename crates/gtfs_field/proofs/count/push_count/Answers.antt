@@ -1,5 +1,5 @@
 use Rattle.std.proofs.lemmas.Fmt.{decimal_injective}
-use Rattle.std.proofs.Common.{arith, ◌<◌, ◌^◌}
+use Rattle.std.proofs.Common.{arith}
 use Rattle.gtfs_field.proofs.Texts.{count_of-text}
 use Rattle.gtfs_field.proofs.count.push_count.Goals as goal
 

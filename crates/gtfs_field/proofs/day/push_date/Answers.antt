@@ -1,4 +1,4 @@
-use Rattle.std.proofs.Common.{◌≡◌, ◌≤ℤ◌, negsuc, pos, arith, ◌∙◌}
+use Rattle.std.proofs.Common.{◌≡◌, ◌≤ℤ◌, negsuc, pos, ◌∙◌}
 use Rattle.jiff_core.proofs.DateLemmas.{epoch_day_range}
 use Rattle.gtfs_field.specs.Canonical.{date_text}
 use Rattle.gtfs_field.proofs.Dates.{date-ascii, date_text-same, date_of-text, date_text-unique, day_number-low}

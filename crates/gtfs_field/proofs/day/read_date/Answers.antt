@@ -1,4 +1,4 @@
-use Rattle.std.proofs.Common.{◌≡◌, arith, ◌∙◌}
+use Rattle.std.proofs.Common.{◌∙◌}
 use Rattle.gtfs_field.proofs.Dates.{date_of-eight, date_of-length, date_of-none}
 use Rattle.gtfs_field.proofs.day.read_date.Goals as goal
 use Rattle.gtfs_field.proofs.day.read_date.Goals.{in_default-via-in-Some+else-text-eq8, in_default-via-in_default}

@@ -1,4 +1,4 @@
-use Rattle.std.proofs.Common.{◌≡◌, ◌<◌, true, false, length, arith, get_or, sym}
+use Rattle.std.proofs.Common.{◌≡◌, true, get_or, sym}
 use Rattle.std.specs.Char.{is_ascii_digit}
 use Rattle.gtfs_field.proofs.Numerals.{all_digits-more, all_digits-not, number-more, number-lt}
 use Rattle.gtfs_field.proofs.digits.digits_of.Goals as goal

@@ -1,4 +1,4 @@
-use Rattle.std.proofs.Common.{◌≤◌, ◌<◌, ◌^◌, length, arith}
+use Rattle.std.proofs.Common.{◌≤◌, ◌^◌, length, arith}
 use Rattle.std.proofs.Math.Nat.{pow-le-pow_right}
 use Rattle.gtfs_field.proofs.instant.plain_number.Goals as goal
 

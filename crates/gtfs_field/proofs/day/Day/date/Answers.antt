@@ -1,4 +1,4 @@
-use Rattle.std.proofs.Common.{◌≡◌, ◌≤ℤ◌, negsuc, sym, arith, FitsSigned, w32, w64, ◌∙◌}
+use Rattle.std.proofs.Common.{arith, FitsSigned, w32, w64}
 use Rattle.std.proofs.lemmas.Int.{to_z-of_z}
 use Rattle.jiff_core.proofs.SignedLemmas.{signed_arith}
 use Rattle.gtfs_field.proofs.Dates.{year-from}
