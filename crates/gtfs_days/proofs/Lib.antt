@@ -1,0 +1,3 @@
+pub mod Exceptions
+pub mod Weekdays
+mod WorkedDays
