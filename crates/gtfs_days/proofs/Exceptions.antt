@@ -8,7 +8,6 @@ use Rattle.std.proofs.lemmas.Bool.{cases_lt}
 use Rattle.std.proofs.lemmas.Cmp.{int_cmp_total}
 use Rattle.std.proofs.lemmas.Int.{ints}
 use Rattle.std.proofs.lemmas.List.{get_or-map, length-map}
-use Rattle.std.proofs.lemmas.List.Elements.{All-head, All-tail}
 use Rattle.std.proofs.lemmas.List.Folds.{list_any_none}
 use Rattle.std.proofs.lemmas.List.Sorted.{IsPermutation-map}
 use Rattle.std.proofs.lemmas.Map.Keys.{IsDistinct-from_apart, IsDistinct-IsPermutation, apart_from_distinct, sorted_from_all_adjacent, Less-from_sorted}
@@ -44,7 +43,8 @@ or_false : (b : Bool) → (b || false) ≡ b
 or_false true = refl
 or_false false = refl
 
-by_day_tail : (y : Row) (es : List Row) → IsByDay (y ∷ es) → IsByDay es
+-- and ascend themselves
+pub by_day_tail : (y : Row) (es : List Row) → IsByDay (y ∷ es) → IsByDay es
 by_day_tail y es up = λ i j d h l. up (suc i) (suc j) d (omega arith) (omega arith)
 
 -- the exceptions after the first name later days

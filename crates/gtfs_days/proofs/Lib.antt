@@ -1,3 +1,4 @@
 pub mod Exceptions
+pub mod ActiveDays
 pub mod Weekdays
 mod WorkedDays

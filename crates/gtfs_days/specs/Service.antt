@@ -13,6 +13,10 @@ pub record ServiceDates : Type 0 where
   pub week : Option Week
   pub exceptions : List (ℤ × Exception)
 
+-- the service with other exceptions
+abbrev pub with_exceptions : ServiceDates → List (ℤ × Exception) → ServiceDates
+with_exceptions s es = record { week = s.week; exceptions = es }
+
 -- 1900-01-01 and 9998-12-31
 abbrev pub first_service_day : ℤ
 first_service_day = negsuc 25_566

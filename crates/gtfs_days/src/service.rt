@@ -1,5 +1,7 @@
-ghost use Rattle.std.specs.Prelude.{◌≡◌, Bool, false, IfOk, IsPermutation, option_copied};
+ghost use Rattle.std.specs.Prelude.{◌≡◌, Bool, false, All, IfOk, IsPermutation, option_copied, ℤ, pos, ◌+ℤ◌, ◌≤ℤ◌, int_lt, if◌then◌else◌};
 ghost use Rattle.std.specs.Option.{option_map_or};
+ghost use Rattle.jiff_core.specs.Calendar.{IsBetween};
+ghost use Rattle.gtfs_days.specs.Service.{first_service_day, is_service_day};
 
 use crate::exception::Exception;
 use crate::week::{LAST_SERVICE_DAY, Week};
@@ -27,7 +29,7 @@ impl Model for Service {
 }
 
 impl Service {
-    ghost use Rattle.gtfs_days.specs.Service.{is_active, has_exception, covered_by, IsByDay, IsOrdered, NamesEachDayOnce};
+    ghost use Rattle.gtfs_days.specs.Service.{is_active, has_exception, is_regular, covered_by, with_exceptions, IsFirstIfAny, IsByDay, IsOrdered, NamesEachDayOnce};
     ghost use Rattle.gtfs_days.specs.declared.exception.Exception.{Exception};
 
     /// The service with this calendar row, if any, and these exceptions, in whatever order.
@@ -102,5 +104,99 @@ impl Service {
             Ok(at) => Some(self.exceptions[at].1),
             Err(_) => None,
         }
+    }
+
+    /// The first day from `day` on, that day included, on which the service runs, and none exactly
+    /// where it runs on no such day.
+    pub fn next_active(&self, day: Day) -> Option<Day>
+        ensures { IsFirstIfAny (is_active self.now) day result }
+    {
+        match self.next_among(self.exceptions_from(day), day.number()) {
+            Some(number) => Some(Day::from_number(number)),
+            None => None,
+        }
+    }
+
+    // The exceptions for days from `day` on, found by binary search: from there on only they count.
+    fn exceptions_from(&self, day: Day) -> &[(Day, Exception)]
+        ensures by_day { IsByDay result.now }
+        ensures from_on { All (λ e. day ≤ℤ e.0) result.now }
+        ensures same { (e : ℤ) → day ≤ℤ e → is_active self.now e ≡ is_active (with_exceptions self.now result.now) e }
+    {
+        let from = day.number();
+        let place = self
+            .exceptions
+            .partition_point(|exception| exception.0.number() < from);
+        &self.exceptions[place..]
+    }
+
+    // The first active day from `from` on, if these are the exceptions. Between two exceptions the
+    // days are as the calendar row says, so none of them is looked at one by one.
+    fn next_among(&self, exceptions: &[(Day, Exception)], from: i32) -> Option<i32>
+        requires low { first_service_day ≤ℤ from }
+        requires high { from ≤ℤ pos 2_932_896 }
+        requires by_day { IsByDay exceptions.now }
+        requires from_on { All (λ e. from ≤ℤ e.0) exceptions.now }
+        ensures { IsFirstIfAny (is_active (with_exceptions self.now exceptions.now)) from result }
+    {
+        let mut regular = self.next_regular(from);
+        for &(day, exception) in exceptions {
+            let day = day.number();
+            if is_before(regular, day) {
+                return regular;
+            }
+            match exception {
+                Exception::Added => return service_day(day),
+                Exception::Removed => regular = self.regular_after(regular, day),
+            }
+        }
+        regular
+    }
+
+    // The first service day after `removed` that the calendar row covers, where `regular` is the
+    // first from `removed` on.
+    fn regular_after(&self, regular: Option<i32>, removed: i32) -> Option<i32>
+        requires low { first_service_day ≤ℤ removed }
+        requires high { removed ≤ℤ pos 2_932_896 }
+        requires regular { IsFirstIfAny (is_regular self.now.week) removed regular }
+        ensures { IsFirstIfAny (is_regular self.now.week) (removed +ℤ pos 1) result }
+    {
+        match regular {
+            Some(day) if day == removed => self.next_regular(removed + 1),
+            other => other,
+        }
+    }
+
+    // The first service day from `from` on that the calendar row covers.
+    fn next_regular(&self, from: i32) -> Option<i32>
+        requires { IsBetween first_service_day (pos 2_932_897) from }
+        ensures { IsFirstIfAny (is_regular self.now.week) from result }
+    {
+        match &self.week {
+            Some(week) => week.next_covered(from),
+            None => None,
+        }
+    }
+}
+
+// Whether there is a day found, and it lies before this one.
+fn is_before(found: Option<i32>, day: i32) -> bool
+    ensures { result ≡ option_map_or (λ f. int_lt f day) found false }
+{
+    match found {
+        Some(found) => found < day,
+        None => false,
+    }
+}
+
+// The day, if a service can be active on it.
+fn service_day(day: i32) -> Option<i32>
+    requires { first_service_day ≤ℤ day }
+    ensures { result ≡ (if is_service_day day then Some day else None) }
+{
+    if day <= LAST_SERVICE_DAY {
+        Some(day)
+    } else {
+        None
     }
 }

@@ -1,6 +1,6 @@
-use Rattle.std.proofs.Common.{rules, subst, IsPermutation, List}
+use Rattle.std.proofs.Common.{rules, IsPermutation}
 use Rattle.std.proofs.lemmas.List.Sorted.{answers_always}
-use Rattle.gtfs_days.proofs.Exceptions.{Row, by_day_from_sort}
+use Rattle.gtfs_days.proofs.Exceptions.{by_day_from_sort}
 use Rattle.gtfs_days.proofs.service.Service.new.Goals as goal
 
 pub invariant_of-result : goal.invariant_of-result
