@@ -123,24 +123,24 @@ quiet_before week x es low r up first late e h l =
 
 -- x adds its day
 pub added_step : (week : Option Week) (d : ℤ) (es : List Row) (low : ℤ) (r : Option ℤ) → first_service_day ≤ℤ d → low ≤ℤ d → IsByDay ((d, Added) ∷ es) → IsFirstIfAny (is_regular week) low r → option_map_or (λ f. int_lt f d) r false ≡ false
-  → IsFirstIfAny (is_active (dates week ((d, Added) ∷ es))) low (if is_service_day d then Some d else None)
+    → IsFirstIfAny (is_active (dates week ((d, Added) ∷ es))) low (if is_service_day d then Some d else None)
 added_step week d es low r service before up first late =
     let quiet = quiet_before week (d, Added) es low r up first late in
     elim (cases_Bool (is_service_day d)) [
       | inl is ↦ rw is (record {
-          passes = added_day week d es ∙ is;
-          not_before = before;
-          least = quiet;
-        })
+        passes = added_day week d es ∙ is;
+        not_before = before;
+        least = quiet;
+      })
       | inr isnt ↦ rw isnt (λ e h. elim (cases_int e d) [
-          | inl early ↦ quiet e h early
-          | inr on ↦ and_left (is_service_day e) _ (past_service d e service isnt on)
-        ])
+        | inl early ↦ quiet e h early
+        | inr on ↦ and_left (is_service_day e) _ (past_service d e service isnt on)
+      ])
     ]
 
 -- x removes its day
 pub removed_step : (week : Option Week) (d : ℤ) (es : List Row) (low : ℤ) (r found : Option ℤ) → low ≤ℤ d → IsByDay ((d, Removed) ∷ es) → IsFirstIfAny (is_regular week) low r → option_map_or (λ f. int_lt f d) r false ≡ false
-  → IsFirstIfAny (is_active (dates week es)) (d +ℤ pos 1) found → IsFirstIfAny (is_active (dates week ((d, Removed) ∷ es))) low found
+    → IsFirstIfAny (is_active (dates week es)) (d +ℤ pos 1) found → IsFirstIfAny (is_active (dates week ((d, Removed) ∷ es))) low found
 removed_step week d es low r found before up first late rest =
     let p = is_active (dates week ((d, Removed) ∷ es)) in
     let quiet = quiet_before week (d, Removed) es low r up first late in
@@ -152,7 +152,7 @@ removed_step week d es low r found before up first late rest =
           subst F same (removed_day week d es (none_again (d, Removed) es up))
     ] in
     let after : (e : ℤ) → (d +ℤ pos 1) ≤ℤ e → is_active (dates week es) e ≡ p e = λ e h.
-      sym (other_day week (d, Removed) es e (λ same. omega (arith, signed_arith))) in
+    sym (other_day week (d, Removed) es e (λ same. omega (arith, signed_arith))) in
     earlier_start p low (d +ℤ pos 1) found (omega (arith, signed_arith)) quiet_on (first_same _ p (d +ℤ pos 1) found after rest)
 
 -- no exception is left
@@ -211,8 +211,8 @@ left_after week es from low i x regular regular' h is left late kind first =
       from_on = λ k z l. let later = by_day_head x (drop (i + 1) es) here.by_day k z l in omega (arith, signed_arith);
       first = first;
       answers = λ r rest. here.answers r (
-        let F : Row → Type 0 = λ y. IsFirstIfAny (is_active (dates week (y ∷ drop (i + 1) es))) low r in
-        subst F (sym same) (removed_step week x.0 (drop (i + 1) es) low regular r before up here.first late rest));
+          let F : Row → Type 0 = λ y. IsFirstIfAny (is_active (dates week (y ∷ drop (i + 1) es))) low r in
+          subst F (sym same) (removed_step week x.0 (drop (i + 1) es) low regular r before up here.first late rest));
     }
 
 -- the first regular day from the exception on
@@ -255,9 +255,9 @@ split_at es from i up place =
     record {
       before = λ k z h l. lt_from (get_or es k z).0 from (sides.0 k z (omega arith) h);
       after = λ k z l.
-        let l' : i + k < length es = omega (arith, length-drop i es) in
-        let later = not_lt_from (get_or es (i + k) z).0 from (sides.1 (i + k) z (omega arith) l') in
-        rw (get_or-drop i es k z) later;
+          let l' : i + k < length es = omega (arith, length-drop i es) in
+          let later = not_lt_from (get_or es (i + k) z).0 from (sides.1 (i + k) z (omega arith) l') in
+          rw (get_or-drop i es k z) later;
     }
 
 by_day_drop : (es : List Row) (n : ℕ) → IsByDay es → IsByDay (drop n es)
@@ -278,6 +278,6 @@ rest_from week es from i up place =
       by_day = by_day_drop es i up;
       from_on = split.after;
       same = λ e h.
-        let before : (k : ℕ) (z : Row) → k < i → k < length es → (get_or es k z).0 <ℤ e = λ k z l m. let less = split.before k z l m in omega (arith, signed_arith) in
-        rw (skipped is_removed i es e before, skipped is_added i es e before) refl;
+          let before : (k : ℕ) (z : Row) → k < i → k < length es → (get_or es k z).0 <ℤ e = λ k z l m. let less = split.before k z l m in omega (arith, signed_arith) in
+          rw (skipped is_removed i es e before, skipped is_added i es e before) refl;
     }

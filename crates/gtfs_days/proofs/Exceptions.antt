@@ -68,18 +68,18 @@ by_day_from_sort es fs once moved sorted =
     let day : Row → ℤ = λ e. e.0 in
     let here : (xs : List Row) (k : ℕ) (d : Row) (z : ℤ) → k < length xs → get_or (map day xs) k z ≡ (get_or xs k d).0 = λ xs k d z h. get_or-map day xs k d z h in
     let apart : IsDistinct int_eq (map day es) = IsDistinct-from_apart int_eq (map day es) (λ i j z h l.
-      let l' : j < length es = omega (arith, length-map es day) in
-      rw (here es i (z, Removed) z (omega arith), here es j (z, Removed) z l') (ne-int_eq _ _ (once i j (z, Removed) h l'))) in
+    let l' : j < length es = omega (arith, length-map es day) in
+    rw (here es i (z, Removed) z (omega arith), here es j (z, Removed) z l') (ne-int_eq _ _ (once i j (z, Removed) h l'))) in
     let apart' : IsDistinct int_eq (map day fs) = IsDistinct-IsPermutation int_eq int_eq_flips _ _ (IsPermutation-map day es fs moved) apart in
     let rises : IsStrictlySortedBy int_cmp (map day fs) = sorted_from_all_adjacent int_cmp_total (map day fs) (pos 0) (λ k l.
-      let l' : k + 1 < length fs = omega (arith, length-map fs day) in
-      let not_less = sorted k (pos 0, Removed) (omega arith) l' in
-      let not_same = apart_from_distinct int_eq (map day fs) k (k + 1) (pos 0) apart' (omega arith) l in
-      less_from (get_or (map day fs) k (pos 0)) (get_or (map day fs) (k + 1) (pos 0)) (rw (here fs (k + 1) (pos 0, Removed) (pos 0) l', here fs k (pos 0, Removed) (pos 0) (omega arith)) not_less) not_same) in
+    let l' : k + 1 < length fs = omega (arith, length-map fs day) in
+    let not_less = sorted k (pos 0, Removed) (omega arith) l' in
+    let not_same = apart_from_distinct int_eq (map day fs) k (k + 1) (pos 0) apart' (omega arith) l in
+    less_from (get_or (map day fs) k (pos 0)) (get_or (map day fs) (k + 1) (pos 0)) (rw (here fs (k + 1) (pos 0, Removed) (pos 0) l', here fs k (pos 0, Removed) (pos 0) (omega arith)) not_less) not_same) in
     λ i j d h l.
-      let l' : j < length (map day fs) = omega (arith, length-map fs day) in
-      let below = Less-from_sorted int_cmp (map day fs) i j d.0 rises h l' in
-      lt_from (get_or fs i d).0 (get_or fs j d).0 (rw (here fs i d d.0 (omega arith), here fs j d d.0 l) at below)
+    let l' : j < length (map day fs) = omega (arith, length-map fs day) in
+    let below = Less-from_sorted int_cmp (map day fs) i j d.0 rises h l' in
+    lt_from (get_or fs i d).0 (get_or fs j d).0 (rw (here fs i d d.0 (omega arith), here fs j d d.0 l) at below)
 
 same_from : (a b : ℤ) → int_cmp a b ≡ Equal → a ≡ b
 same_from a b h = grind (arith, ints)

@@ -83,8 +83,8 @@ span_of w from first last low high early f l = record {
 
 -- the same of numbers as the code passes them
 pub span_passed : (w : Week) (from start end first last : ℤ) → FitsSigned w32 from → FitsSigned w32 start → FitsSigned w32 end → start ≡ w.start → end ≡ w.end
-  → first_service_day ≤ℤ from → from ≤ℤ pos 2_932_897 → start ≤ℤ pos 2_932_896
-  → first ≡ int_max (to_z w32 (of_z w32 from)) (to_z w32 (of_z w32 start)) → last ≡ int_min last_service_day (to_z w32 (of_z w32 end)) → IsSpan w from first last
+    → first_service_day ≤ℤ from → from ≤ℤ pos 2_932_897 → start ≤ℤ pos 2_932_896
+    → first ≡ int_max (to_z w32 (of_z w32 from)) (to_z w32 (of_z w32 start)) → last ≡ int_min last_service_day (to_z w32 (of_z w32 end)) → IsSpan w from first last
 span_passed w from start end first last ff fs fe is_start is_end low high early f l =
     let f' : first ≡ int_max from w.start = rw (← is_start) (f ∙ ap (λ x. int_max x (to_z w32 (of_z w32 start))) (to_z-of_z ff) ∙ ap (int_max from) (to_z-of_z fs)) in
     let l' : last ≡ int_min last_service_day w.end = rw (← is_end) (l ∙ ap (int_min last_service_day) (to_z-of_z fe)) in
@@ -92,7 +92,7 @@ span_passed w from start end first last ff fs fe is_start is_end low high early 
 
 -- the day that many days after the first one, as the code adds them
 pub day_passed : (first step : ℤ) (n : ℕ) → FitsSigned w32 first → FitsSigned w32 step → first_service_day ≤ℤ first → first ≤ℤ pos 2_932_897 → step ≡ pos n → n < 7
-  → to_z w32 (of_z w32 (to_z w32 (of_z w32 first) +ℤ to_z w32 (of_z w32 step))) ≡ first +ℤ pos n
+    → to_z w32 (of_z w32 (to_z w32 (of_z w32 first) +ℤ to_z w32 (of_z w32 step))) ≡ first +ℤ pos n
 day_passed first step n ff fs low high is_step small =
     let fits : FitsSigned w32 (first +ℤ pos n) = omega (arith, signed_arith) in
     rw (to_z-of_z ff, to_z-of_z fs, is_step) (to_z-of_z fits)
@@ -133,6 +133,6 @@ first_named w from first last n span service none within named = record {
   });
   not_before = omega (arith, signed_arith, span.from_on);
   least = λ e low high. false_from_ne_true _ (λ yes.
-    let day = covered_from w e yes in
-    both_ways _ (unnamed w first n none e (span.least e low day.start) high) day.named);
+      let day = covered_from w e yes in
+      both_ways _ (unnamed w first n none e (span.least e low day.start) high) day.named);
 }

@@ -200,3 +200,6 @@ fn service_day(day: i32) -> Option<i32>
         None
     }
 }
+
+#[cfg(test)]
+mod tests;

@@ -28,9 +28,7 @@ impl Week {
         ensures { result ≡ covers self.now day }
     {
         let number = day.number();
-        self.start.number() <= number
-            && number <= self.end.number()
-            && self.days[weekday(number)]
+        self.start.number() <= number && number <= self.end.number() && self.days[weekday(number)]
     }
 
     // The first service day from `from` on that the row covers. It looks at seven days at most,

@@ -146,3 +146,6 @@ fn shown(clock: civil::DateTime, offset: Offset) -> Civil
         offset: offset.seconds(),
     }
 }
+
+#[cfg(test)]
+mod tests;
