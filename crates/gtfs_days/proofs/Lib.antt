@@ -1,4 +1,5 @@
 pub mod Exceptions
+pub mod Footers
 pub mod Clocks
 pub mod ActiveDays
 pub mod Weekdays

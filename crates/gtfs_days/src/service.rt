@@ -183,10 +183,7 @@ impl Service {
 fn is_before(found: Option<i32>, day: i32) -> bool
     ensures { result ≡ option_map_or (λ f. int_lt f day) found false }
 {
-    match found {
-        Some(found) => found < day,
-        None => false,
-    }
+    found.is_some_and(|found| found < day)
 }
 
 // The day, if a service can be active on it.

@@ -1,4 +1,4 @@
-ghost use Rattle.std.specs.Prelude.{◌≡◌, ◌↔◌, true, pos, ◌*ℤ◌, ◌-ℤ◌, IfOk, IfErr, IsOk, IsErrOf};
+ghost use Rattle.std.specs.Prelude.{◌≡◌, ◌↔◌, true, pos, ◌*ℤ◌, ◌-ℤ◌, IfOk, IfErr, IsOk, IsErr, IsErrOf};
 ghost use Rattle.jiff_core.specs.Calendar.{IsBetween, IsWithin};
 ghost use Rattle.jiff.specs.Words.{compatible_offset};
 ghost use Rattle.jiff.specs.ZoneView.{plain_offsets};
@@ -44,6 +44,7 @@ impl Zone {
         ensures value { IfOk result (IsZoneOf bytes.now) }
         ensures long { IsTooLong bytes.now → IsErrOf result ZoneFault.Unreadable }
         ensures broken { HasFault bytes.now → IsErrOf result ZoneFault.Unreadable }
+        ensures refused { IsUnreadable bytes.now → IsErr result }
         ensures unreadable { IsErrOf result ZoneFault.Unreadable → IsUnreadable bytes.now }
     {
         if bytes.len() > LIMIT {
