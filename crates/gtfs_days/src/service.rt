@@ -1,4 +1,4 @@
-ghost use Rattle.std.specs.Prelude.{◌≡◌, Bool, false, All, IfOk, IsPermutation, option_copied, ℤ, pos, ◌+ℤ◌, ◌≤ℤ◌, int_lt, if◌then◌else◌};
+ghost use Rattle.std.specs.Prelude.{◌≡◌, [], Bool, false, All, IfOk, IsOk, IsPermutation, option_copied, ℤ, pos, ◌+ℤ◌, ◌≤ℤ◌, int_lt, if◌then◌else◌};
 ghost use Rattle.std.specs.Option.{option_map_or};
 ghost use Rattle.jiff_core.specs.Calendar.{IsBetween};
 ghost use Rattle.gtfs_days.specs.Service.{first_service_day, is_service_day};
@@ -44,8 +44,10 @@ impl Service {
         ensures week { IfOk result (λ s. s.week ≡ week) }
         ensures exceptions { IfOk result (λ s. IsPermutation exceptions.now s.exceptions) }
         ensures by_day { IfOk result (λ s. IsByDay s.exceptions) }
+        ensures no_memory { exceptions.now ≡ [] → IsOk result }
     {
-        let mut by_day = Vec::from_slice(alloc, exceptions)?;
+        let mut by_day = Vec::with_capacity(alloc, exceptions.len())?;
+        by_day.extend_from_slice(exceptions)?;
         by_day.sort_unstable_by_key(|exception| exception.0.number());
         Ok(Service {
             week,
