@@ -32,8 +32,11 @@ impl Service {
     ghost use Rattle.gtfs_days.specs.Service.{is_active, has_exception, is_regular, covered_by, with_exceptions, IsFirstIfAny, IsByDay, IsOrdered, NamesEachDayOnce};
     ghost use Rattle.gtfs_days.specs.declared.exception.Exception.{Exception};
 
-    /// The service with this calendar row, if any, and these exceptions, in whatever order.
-    /// With neither it is never active. A service without exceptions takes no memory.
+    /// The service with this calendar row, if any, and these exceptions, in whatever order, of
+    /// which no two are for one day. With neither it is never active.
+    ///
+    /// # Errors
+    /// `OutOfMemory` where memory ran out. A service without exceptions takes none.
     pub fn new(
         alloc: Global,
         week: Option<Week>,

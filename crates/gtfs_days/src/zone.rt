@@ -27,7 +27,8 @@ pub struct Zone {
 /// Why a zone file is not read.
 #[derive(Clone, Copy, Debug, PartialEq, Eq, Error)]
 pub enum ZoneFault {
-    /// More than 1,048,576 bytes, or bytes that are no zone file (TZif, RFC 9636).
+    /// More than 1,048,576 bytes, bytes that are no zone file (TZif, RFC 9636), or a rule at the
+    /// end of the file that contradicts the last row of its table.
     #[error("not a zone file")]
     Unreadable = 1,
     /// Memory ran out.
@@ -38,8 +39,12 @@ pub enum ZoneFault {
 impl Zone {
     ghost use Rattle.gtfs_days.specs.Zone.{zone_origin, noon_offset, IsTooLong, HasFault, IsUnreadable, IsZoneOf, IsInstant, IsCivil};
 
-    /// Reads a zone file, which is TZif data (RFC 9636). The limit on its length is judged first.
-    /// Bytes that the format refuses are `Unreadable` whatever the memory.
+    /// Reads a zone file, which is TZif data (RFC 9636).
+    ///
+    /// # Errors
+    /// `Unreadable` where there are more than 1,048,576 bytes, which is judged first, or where
+    /// `jiff` refuses them for what they say. Bytes that break the format are `Unreadable` whatever
+    /// the memory. `OutOfMemory` where memory ran out.
     pub fn read(alloc: Global, bytes: &[u8]) -> Result<Zone, ZoneFault>
         ensures value { IfOk result (IsZoneOf bytes.now) }
         ensures long { IsTooLong bytes.now → IsErrOf result ZoneFault.Unreadable }
@@ -58,10 +63,13 @@ impl Zone {
     }
 
     /// The origin of a service day, from which its times count: noon in the zone less twelve
-    /// hours, in seconds of the epoch. Noon that is skipped or repeated is read by the offset
-    /// before the change. It takes no memory. Origins need not rise with the days.
+    /// hours, in seconds since 1970-01-01T00:00:00Z. Noon that is skipped or repeated is read by
+    /// the offset before the change. Origins need not rise with the days.
     ///
-    /// GTFS Schedule Reference, "Field Types", Time.
+    /// GTFS Schedule Reference, "Field Types", Time. The day is one from 1900-01-01 to 9998-12-31.
+    ///
+    /// # Errors
+    /// None: no memory is taken today.
     pub fn origin(&self, _alloc: Global, day: Day) -> Result<i64, OutOfMemory>
         requires { is_service_day day ≡ true }
         ensures answers { IsOk result }
@@ -83,8 +91,11 @@ impl Zone {
         compatible(offsets)
     }
 
-    /// What the zone's clock shows at an instant, which is given in seconds of the epoch:
-    /// `OutOfRange` where it is no instant of `jiff`. It takes no memory.
+    /// What the zone's clock shows at an instant, in seconds since 1970-01-01T00:00:00Z.
+    ///
+    /// # Errors
+    /// `OutOfRange` where the number is no instant of `jiff`, which has those from -377,705,023,201
+    /// to 253,402,207,200. `OutOfMemory` never: no memory is taken today.
     pub fn civil(&self, _alloc: Global, instant: i64) -> Result<Civil, CivilFault>
         ensures succeeds { IsOk result ↔ IsInstant instant }
         ensures value { IfOk result (IsCivil self.now instant) }

@@ -6,7 +6,7 @@ pub returns-in-Ok-clause-refused : goal.returns-in-Ok-clause-refused
 returns-in-Ok-clause-refused c bad = elim bad [
   | inl long ↦ absurd (omega arith)
   | inr content ↦ elim content [
-      | inl fault ↦ rw c.in-Ok.ensures.value at fault
-      | inr rule ↦ absurd (no_bad_rule c.in-Ok.table c.in-Ok.ensures.agrees (rw c.in-Ok.ensures.value at rule))
-    ]
+    | inl fault ↦ rw c.in-Ok.ensures.value at fault
+    | inr rule ↦ absurd (no_bad_rule c.in-Ok.table c.in-Ok.ensures.agrees (rw c.in-Ok.ensures.value at rule))
+  ]
 ]
