@@ -1,8 +1,8 @@
 -- Days on which worked services are active. 19814 is Monday, 1 April 2024.
-use Rattle.std.proofs.Common.{◌≡◌, ◌∷◌, [], refl, pos, Some, None, true, false}
+use Rattle.std.proofs.Common.{◌≡◌, ◌∷◌, [], ◌-◌, ◌+ℤ◌, refl, pos, Some, None, true, false}
 use Rattle.jiff_core.specs.Calendar.{weekday_number}
 use Rattle.gtfs_days.specs.declared.exception.Exception.TheVariants.{Added, Removed}
-use Rattle.gtfs_days.specs.Service.{ServiceDates, is_active}
+use Rattle.gtfs_days.specs.Service.{ServiceDates, is_active, first_service_day, last_service_day, service_day_count}
 
 -- Monday to Friday from 1 to 5 April 2024, without the 3rd and with the 10th
 abbrev weekdays : ServiceDates
@@ -61,3 +61,7 @@ past_it = refl
 
 added_past_it : is_active always (pos 2_932_600) ≡ false
 added_past_it = refl
+
+-- the last of the service days is 31 December 9998
+last_of_all : first_service_day +ℤ pos (service_day_count - 1) ≡ last_service_day
+last_of_all = refl

@@ -1,7 +1,7 @@
 -- On which days a service is active (GTFS Schedule Reference, calendar.txt and calendar_dates.txt).
 -- A day is its number: how many days it lies after 1970-01-01.
-use Rattle.std.specs.Prelude.{◌≡◌, ◌≢◌, ◌&&◌, ◌||◌, not, Bool, true, false, List, AllPairs, IfSome, MatchOption, slice_index_or, ℤ, pos, negsuc, ◌<ℤ◌, ◌≤ℤ◌, int_le, Option, Some, None}
-use Rattle.std.specs.List.{list_any}
+use Rattle.std.specs.Prelude.{ℕ, ◌≡◌, ◌≢◌, ◌&&◌, ◌||◌, not, Bool, true, false, List, AllPairs, map, IfSome, MatchOption, slice_index_or, ℤ, pos, negsuc, ◌+ℤ◌, ◌<ℤ◌, ◌≤ℤ◌, int_le, Option, Some, None}
+use Rattle.std.specs.List.{list_any, range_with_len}
 use Rattle.std.specs.Ordering.{int_eq}
 use Rattle.jiff_core.specs.Calendar.{weekday_number}
 use Rattle.gtfs_days.specs.declared.week.Week.{Week}
@@ -26,6 +26,14 @@ last_service_day = pos 2_932_531
 
 abbrev pub is_service_day : ℤ → Bool
 is_service_day d = int_le first_service_day d && int_le d last_service_day
+
+-- how many service days there are
+abbrev pub service_day_count : ℕ
+service_day_count = 2_958_099
+
+-- every service day, ascending
+unfoldable pub service_days : List ℤ
+service_days = map (λ i. first_service_day +ℤ pos i) (range_with_len 0 service_day_count)
 
 -- the calendar row names the day's weekday, and the day lies between its two days
 abbrev pub covers : Week → ℤ → Bool
