@@ -1,0 +1,6 @@
+pub mod Exceptions
+pub mod Footers
+pub mod Clocks
+pub mod ActiveDays
+pub mod Weekdays
+mod WorkedDays

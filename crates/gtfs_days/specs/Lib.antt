@@ -1,0 +1,3 @@
+pub mod Noon
+pub mod Service
+pub mod Zone

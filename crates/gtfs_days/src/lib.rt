@@ -1,0 +1,41 @@
+//! On which days a service of a GTFS feed runs, where such a day begins in a time zone, and what
+//! the clocks of that zone show.
+//!
+//! - A [`Service`] is a row of `calendar.txt`, if any, which is a [`Week`], and its rows of
+//!   `calendar_dates.txt`, each a day and an [`Exception`]. `active` says whether it runs on a day,
+//!   and `next_active` finds the first day on which it runs: neither walks over days without
+//!   service.
+//! - A [`Zone`] is read from a zone file (TZif, RFC 9636). `origin` is the instant from which the
+//!   times of a service day count: noon less twelve hours, which on a day with a change of clocks
+//!   is not midnight. `civil` is the local date and time at an instant, a [`Civil`].
+//!
+//! A day is a `gtfs_field::Day`, and an instant is a number of seconds since
+//! 1970-01-01T00:00:00Z. A service day is a day from 1900-01-01 to 9998-12-31.
+//!
+//! ```text
+//! let week = Week { days: [true, true, true, true, true, false, false], start, end };
+//! let service = Service::new(alloc, Some(week), &[(holiday, Exception::Removed)])?;
+//! let zone = Zone::read(alloc, bytes)?;
+//! if let Some(day) = service.next_active(today) {
+//!     // A stop time of 25:10:00 on that day is this instant.
+//!     let instant = zone.origin(alloc, day)? + 25 * 3_600 + 10 * 60;
+//! }
+//! ```
+//!
+//! Zones exist in which two days begin at one instant, or a later day begins earlier: where a
+//! place skips a day, or moves its clocks by more than a day. So nothing may be concluded from the
+//! order of days on the order of their origins, but each lies within 93,599 seconds of 86,400 times
+//! the number of its day.
+#![tactic(auto)]
+
+mod civil;
+mod exception;
+mod service;
+mod week;
+mod zone;
+
+pub use civil::{Civil, CivilFault};
+pub use exception::Exception;
+pub use service::Service;
+pub use week::Week;
+pub use zone::{Zone, ZoneFault};
