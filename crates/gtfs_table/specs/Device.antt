@@ -1,11 +1,16 @@
 -- What devices tell of themselves: how often they failed, and what went out to an output.
-use Rattle.std.specs.Prelude.{ℕ, List, ◌++◌, Option, Some, None, ◌≡◌, ◌+◌, ◌-◌, ◌^◌, ◌≤◌, ⊤, min}
+use Rattle.std.specs.Prelude.{ℕ, List, ◌+◌, ◌-◌, ◌^◌, ◌≤◌, min}
 
--- a count of failures has risen; one that stands at its greatest value stays there and counts as risen
+-- a count of failures after one more; it stays at its greatest value
+abbrev pub counted : ℕ → ℕ
+counted count = min (count + 1) (2 ^ 64 - 1)
+
+-- a count of failures has risen; one that stands at its greatest value counts as risen
 abbrev pub Rises : ℕ → ℕ → Type 0
-Rises old new = min (old + 1) (2 ^ 64 - 1) ≤ new
+Rises before after = counted before ≤ after
 
--- where an output tells what went out: these bytes and no others went out in between
-abbrev pub Appends : Option (List ℕ) → Option (List ℕ) → List ℕ → Type 0
-Appends None new text = ⊤
-Appends (Some old) new text = new ≡ Some (old ++ text)
+-- an output in memory: what went out, how many bytes still fit, and how often it failed
+pub record Sent : Type 0 where
+  pub text : List ℕ
+  pub left : ℕ
+  pub failures : ℕ

@@ -2,5 +2,11 @@
 #![tactic(auto)]
 
 mod folders;
+mod memory_out;
+mod out;
+mod write_out;
 
 pub use folders::{FolderFault, Folders};
+pub use memory_out::MemoryOut;
+pub use out::{Failed, Out, OutFault, write_text};
+pub use write_out::WriteOut;
