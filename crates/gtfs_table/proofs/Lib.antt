@@ -1,1 +1,2 @@
 mod SentText
+pub mod ByText

@@ -1,2 +1,3 @@
 pub mod Device
 pub mod Folder
+pub mod Held

@@ -2,7 +2,9 @@
 #![tactic(auto)]
 
 mod folders;
+mod memory_files;
 mod memory_out;
+mod memory_store;
 mod out;
 mod write_out;
 
