@@ -1,2 +1,3 @@
 mod SentText
 pub mod ByText
+pub mod HeldFacts

@@ -5,6 +5,7 @@ use Rattle.std.specs.Prelude.{ℕ, IsTrue, is_some, List, Option, Some, None, op
 use Rattle.std.specs.Cmp.Lexicographic.{slice_cmp}
 use Rattle.std.specs.Ordering.{nat_cmp}
 use Rattle.std.specs.declared.cmp.Ordering.{Ordering}
+use Rattle.std.specs.Coded.{Coded, coded_ℕ, coded_list}
 use Rattle.std.specs.FinMap as map
 use Rattle.gtfs_table.specs.Device.{Rises}
 use Rattle.gtfs_table.specs.declared.folders.FolderFault.{FolderFault}
@@ -21,6 +22,12 @@ Files = map.FinMap text_cmp (List ℕ)
 -- folders, from their names to their files
 abbrev pub Store : Type 0
 Store = map.FinMap text_cmp Files
+
+abbrev pub files_code : Coded Files
+files_code = map.code (coded_list coded_ℕ) (coded_list coded_ℕ)
+
+abbrev pub store_code : Coded Store
+store_code = map.code (coded_list coded_ℕ) files_code
 
 -- the files of a folder, and none where there is no such folder
 abbrev pub files_of : Store → List ℕ → Files

@@ -1,7 +1,8 @@
 -- Folders in memory: their state, and the answer of each call as that state says it.
-use Rattle.std.specs.Prelude.{ℕ, Bool, false, ◌==◌, nat_le, if◌then◌else◌, List, length, Option, Some, None, Result, Ok, Err, IsOk, ok_or, ◌≡◌}
+use Rattle.std.specs.Prelude.{ℕ, Bool, false, ◌==◌, nat_le, if◌then◌else◌, List, length, Option, Some, None, Result, Ok, Err, IsOk, ok_or, ◌≡◌, refl}
+use Rattle.std.specs.Coded.{Coded, code_by, coded×, coded_ℕ, coded_option}
 use Rattle.gtfs_table.specs.Device.{counted}
-use Rattle.gtfs_table.specs.Folder.{Store, names_in, file_in}
+use Rattle.gtfs_table.specs.Folder.{Store, store_code, names_in, file_in}
 use Rattle.gtfs_table.specs.declared.folders.FolderFault.{FolderFault}
 use Rattle.gtfs_table.specs.declared.folders.FolderFault.TheVariants.{Read, TooLarge, OutOfMemory, NoFolder, Write}
 
@@ -14,6 +15,12 @@ pub record Held : Type 0 where
   pub calls : ℕ
   pub failures : ℕ
 
+abbrev pub held_code : Coded Held
+held_code =
+    code_by (Store × (ℕ × (Option ℕ × (ℕ × ℕ)))) (coded× store_code (coded× coded_ℕ (coded× (coded_option coded_ℕ) (coded× coded_ℕ coded_ℕ))))
+    (λ h. (h.store, (h.limit, (h.fail, (h.calls, h.failures)))))
+    (λ p. record { store = p.0; limit = p.1.0; fail = p.1.1.0; calls = p.1.1.1.0; failures = p.1.1.1.1 }) (λ _. refl)
+
 abbrev pub is_numbered : Option ℕ → ℕ → Bool
 is_numbered None call = false
 is_numbered (Some number) call = number == call
@@ -25,10 +32,6 @@ is_failing held = is_numbered held.fail (counted held.calls)
 -- the state after one more call that writes nothing
 abbrev pub after_call : Held → Held
 after_call held = record held { calls = counted held.calls; failures = if is_failing held then counted held.failures else held.failures }
-
--- the state after one more call that leaves this store
-abbrev pub after_write : Held → Store → Held
-after_write held store = record held { store = store; calls = counted held.calls; failures = if is_failing held then counted held.failures else held.failures }
 
 -- ---- the answers, as memory suffices
 

@@ -3,12 +3,14 @@
 
 mod folders;
 mod memory_files;
+mod memory_folders;
 mod memory_out;
 mod memory_store;
 mod out;
 mod write_out;
 
 pub use folders::{FolderFault, Folders};
+pub use memory_folders::MemoryFolders;
 pub use memory_out::MemoryOut;
 pub use out::{Failed, Out, OutFault, write_text};
 pub use write_out::WriteOut;

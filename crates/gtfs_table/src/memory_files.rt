@@ -13,14 +13,11 @@ pub(crate) struct MemoryFiles {
 }
 
 impl Model for MemoryFiles {
-    ghost use Rattle.std.specs.Prelude.{List as Sequence, ℕ};
-    ghost use Rattle.std.specs.Coded.{coded_ℕ, coded_list};
-    ghost use Rattle.std.specs.FinMap.{code};
-    ghost use Rattle.gtfs_table.specs.Folder.{Files, by_text};
+    ghost use Rattle.gtfs_table.specs.Folder.{Files, files_code, by_text};
 
     ghost Value = { Files };
 
-    ghost coded = { code (coded_list coded_ℕ) (coded_list coded_ℕ) };
+    ghost coded = { files_code };
 
     ghost view = { λ folder. by_text folder.files.entries };
 }

@@ -19,13 +19,11 @@ pub(crate) struct MemoryStore {
 }
 
 impl Model for MemoryStore {
-    ghost use Rattle.std.specs.Coded.{coded_ℕ, coded_list};
-    ghost use Rattle.std.specs.FinMap.{code};
-    ghost use Rattle.gtfs_table.specs.Folder.{Store, by_text};
+    ghost use Rattle.gtfs_table.specs.Folder.{Store, store_code, by_text};
 
     ghost Value = { Store };
 
-    ghost coded = { code (coded_list coded_ℕ) (code (coded_list coded_ℕ) (coded_list coded_ℕ)) };
+    ghost coded = { store_code };
 
     ghost view = { λ store. by_text store.folders.entries };
 }
