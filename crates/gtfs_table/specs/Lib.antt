@@ -1,3 +1,4 @@
 pub mod Device
 pub mod Folder
 pub mod Held
+pub mod Disk

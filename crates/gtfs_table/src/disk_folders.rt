@@ -1,0 +1,248 @@
+ghost use Rattle.std.specs.Prelude.{◌≡◌, ◌≤◌, ⊤, None, IfErr, OnOk};
+ghost use Rattle.gtfs_table.specs.Device.{Rises, counted};
+ghost use Rattle.gtfs_table.specs.Folder.{Lists, Finds, Writes, RefusesNames, RefusesRead, RefusesWrite};
+ghost use Rattle.gtfs_table.specs.Disk.{RefusesList, RefusesFile, RefusesStore};
+
+use crate::folders::{FolderFault, Folders};
+use crate::read_within::read_within;
+use gtfs_field::OutOfMemory;
+use std::alloc::Global;
+use std::fs::OpenFile;
+use std::io::ErrorKind;
+use std::marker::Model;
+use std::rt::Files;
+use std::{fs, io};
+
+/// The greatest length in bytes of a file that is read.
+const FILE_LIMIT: u64 = 1_073_741_824;
+
+/// The most entries of a folder that is listed.
+const ENTRY_LIMIT: usize = 1_000_000;
+
+/// The folders of a file system, by their paths. It tells nothing of what it holds.
+///
+/// A folder or file is not there where no entry has its name. Where there is one and it is of another type
+/// than wanted, or its name is no UTF-8, or a folder has more than 1,000,000 entries, the call fails with
+/// Read. An empty path names no folder. Files of up to 1,073,741,824 bytes are read.
+#[derive(Drop)]
+pub struct DiskFolders<'a, R: Files + Alloc + Clone + Drop> {
+    rt: &'a R,
+    limit: u64,
+    entries: usize,
+    failures: u64,
+}
+
+impl<'a, R: Files + Alloc + Clone + Drop> Model for DiskFolders<'a, R> {
+    ghost use Rattle.gtfs_table.specs.Disk.{Disk};
+
+    ghost Value = { Disk };
+
+    ghost view = { λ disk. record { limit = disk.limit; entries = disk.entries; failures = disk.failures } };
+}
+
+impl<'a, R: Files + Alloc + Clone + Drop> DiskFolders<'a, R> {
+    /// The folders of this runtime's file system. It takes no memory.
+    pub fn new(rt: &'a R) -> DiskFolders<'a, R>
+        ensures { result ≡ record { limit = FILE_LIMIT; entries = ENTRY_LIMIT; failures = 0 } }
+    {
+        DiskFolders::with_limits(rt, FILE_LIMIT, ENTRY_LIMIT)
+    }
+
+    fn with_limits(rt: &'a R, limit: u64, entries: usize) -> DiskFolders<'a, R>
+        ensures { result ≡ record { limit = limit; entries = entries; failures = 0 } }
+    {
+        DiskFolders {
+            rt,
+            limit,
+            entries,
+            failures: 0,
+        }
+    }
+
+    /// Passes a fault on, and counts it where the device failed.
+    fn count(&mut self, fault: FolderFault) -> FolderFault
+        ensures same { result ≡ fault }
+        ensures read { fault ≡ FolderFault.Read → Rises self.old.failures self.new.failures }
+        ensures write { fault ≡ FolderFault.Write → Rises self.old.failures self.new.failures }
+        ensures grows { self.old.failures ≤ self.new.failures }
+        ensures stays { self.new ≡ record self.old { failures = self.new.failures } }
+    {
+        if fault == FolderFault::Read || fault == FolderFault::Write {
+            self.failures = self.failures.saturating_add(1);
+        }
+        fault
+    }
+}
+
+impl<'a, R: Files + Alloc + Clone + Drop> Folders for DiskFolders<'a, R> {
+    ghost held = { λ _. None };
+
+    ghost failure_count = { λ disk. disk.failures };
+
+    fn names(&mut self, alloc: Global, dir: &str) -> Result<Vec<String>, FolderFault> {
+        match list(self.rt, alloc, dir, self.entries) {
+            Ok(names) => Ok(names),
+            Err(fault) => Err(self.count(fault)),
+        }
+    }
+
+    fn read(
+        &mut self,
+        alloc: Global,
+        dir: &str,
+        name: &str,
+    ) -> Result<Option<Vec<u8>>, FolderFault> {
+        match read_file(self.rt, alloc, dir, name, self.limit) {
+            Ok(file) => Ok(file),
+            Err(fault) => Err(self.count(fault)),
+        }
+    }
+
+    fn write(
+        &mut self,
+        alloc: Global,
+        dir: &str,
+        name: &str,
+        bytes: &[u8],
+    ) -> Result<(), FolderFault> {
+        match write_file(self.rt, alloc, dir, name, bytes) {
+            Ok(()) => Ok(()),
+            Err(fault) => Err(self.count(fault)),
+        }
+    }
+
+    fn failures(&self) -> u64 {
+        self.failures
+    }
+}
+
+/// The names of a folder's entries, in byte order.
+fn list<R: Files + Alloc + Clone + Drop>(
+    rt: &R,
+    alloc: Global,
+    dir: &str,
+    entries: usize,
+) -> Result<Vec<String>, FolderFault>
+    ensures { IfErr result RefusesList }
+{
+    let mut names = Vec::new(alloc);
+    for entry in open_folder(rt, dir)? {
+        let entry = entry.map_err(|fault| read_fault(&fault))?;
+        if names.len() >= entries {
+            return Err(FolderFault::Read);
+        }
+        names.push(String::from_str(alloc, entry.file_name())?)?;
+    }
+    names.sort_unstable();
+    Ok(names)
+}
+
+/// A folder's entries. NoFolder where there is no entry of its name.
+fn open_folder<R: Files + Alloc + Clone + Drop>(
+    rt: &R,
+    dir: &str,
+) -> Result<fs::ReadDir<R, R::A>, FolderFault>
+    ensures { IfErr result RefusesList }
+{
+    if dir.is_empty() {
+        return Err(FolderFault::NoFolder);
+    }
+    match fs::read_dir(rt, dir) {
+        Ok(listing) => Ok(listing),
+        Err(fault) if fault.kind() == ErrorKind::NotFound && is_absent(rt, dir) => Err(
+            FolderFault::NoFolder,
+        ),
+        Err(fault) => Err(read_fault(&fault)),
+    }
+}
+
+/// Whether no entry has this name; a link that leads nowhere is one.
+fn is_absent<R: Files>(rt: &R, path: &str) -> bool {
+    match fs::symlink_metadata(rt, path.trim_end_matches('/')) {
+        Ok(_) => false,
+        Err(fault) => fault.kind() == ErrorKind::NotFound,
+    }
+}
+
+fn read_fault(fault: &io::Error) -> FolderFault
+    ensures { RefusesList result }
+{
+    match fault.kind() {
+        ErrorKind::OutOfMemory => FolderFault::OutOfMemory,
+        _ => FolderFault::Read,
+    }
+}
+
+/// A folder's file, or None where the folder has no such entry.
+fn read_file<R: Files + Alloc + Clone + Drop>(
+    rt: &R,
+    alloc: Global,
+    dir: &str,
+    name: &str,
+    limit: u64,
+) -> Result<Option<Vec<u8>>, FolderFault>
+    ensures { IfErr result RefusesFile }
+{
+    if dir.is_empty() {
+        return Err(FolderFault::NoFolder);
+    }
+    let path = path_of(alloc, dir, name)?;
+    match fs::open(rt, path.as_str()) {
+        Ok(mut file) => {
+            let size = size_hint(&file, limit);
+            Ok(Some(read_within(alloc, &mut file, limit, size)?))
+        }
+        Err(fault) if fault.kind() == ErrorKind::NotFound && is_absent(rt, path.as_str()) => {
+            missing_file(rt, dir)
+        }
+        Err(fault) => Err(FolderFault::Read),
+    }
+}
+
+/// What it means that a folder has no entry of some name: the folder may be missing too.
+fn missing_file<R: Files>(rt: &R, dir: &str) -> Result<Option<Vec<u8>>, FolderFault>
+    ensures { IfErr result RefusesFile }
+{
+    match fs::metadata(rt, dir) {
+        Ok(found) if found.is_dir() => Ok(None),
+        Err(fault) if fault.kind() == ErrorKind::NotFound && is_absent(rt, dir) => Err(
+            FolderFault::NoFolder,
+        ),
+        _ => Err(FolderFault::Read),
+    }
+}
+
+/// Makes all levels of the folder that are missing, and the file.
+fn write_file<R: Files>(
+    rt: &R,
+    alloc: Global,
+    dir: &str,
+    name: &str,
+    bytes: &[u8],
+) -> Result<(), FolderFault>
+    ensures { IfErr result RefusesStore }
+{
+    if dir.is_empty() {
+        return Err(FolderFault::Write);
+    }
+    let path = path_of(alloc, dir, name)?;
+    match fs::create_dir_all(rt, dir).and_then(|_| fs::write(rt, path.as_str(), bytes)) {
+        Ok(()) => Ok(()),
+        Err(_) => Err(FolderFault::Write),
+    }
+}
+
+fn path_of(alloc: Global, dir: &str, name: &str) -> Result<String, OutOfMemory> {
+    let mut path = String::from_str(alloc, dir)?;
+    path.push('/')?;
+    path.push_str(name)?;
+    Ok(path)
+}
+
+/// How many bytes to make room for, as far as the file system tells it.
+fn size_hint<F: OpenFile>(file: &F, limit: u64) -> usize {
+    match file.metadata() {
+        Ok(found) => found.len().min(limit) as usize,
+        Err(_) => 0,
+    }
+}
