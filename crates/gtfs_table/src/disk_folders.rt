@@ -1,7 +1,6 @@
-ghost use Rattle.std.specs.Prelude.{◌≡◌, ◌≤◌, ⊤, None, IfErr, OnOk};
-ghost use Rattle.gtfs_table.specs.Device.{Rises, counted};
+ghost use Rattle.std.specs.Prelude.{◌≡◌, ◌≤◌, map, option_map, string_bytes, IfOk, IfErr, OnOk, MatchResult};
 ghost use Rattle.gtfs_table.specs.Folder.{Lists, Finds, Writes, RefusesNames, RefusesRead, RefusesWrite};
-ghost use Rattle.gtfs_table.specs.Disk.{RefusesList, RefusesFile, RefusesStore};
+ghost use Rattle.gtfs_table.specs.Disk.{told, after_fault, RefusesList, RefusesFile, RefusesStore};
 
 use crate::folders::{FolderFault, Folders};
 use crate::read_within::read_within;
@@ -62,10 +61,8 @@ impl<'a, R: Files + Alloc + Clone + Drop> DiskFolders<'a, R> {
     /// Passes a fault on, and counts it where the device failed.
     fn count(&mut self, fault: FolderFault) -> FolderFault
         ensures same { result ≡ fault }
-        ensures read { fault ≡ FolderFault.Read → Rises self.old.failures self.new.failures }
-        ensures write { fault ≡ FolderFault.Write → Rises self.old.failures self.new.failures }
+        ensures counts { self.new ≡ after_fault fault self.old }
         ensures grows { self.old.failures ≤ self.new.failures }
-        ensures stays { self.new ≡ record self.old { failures = self.new.failures } }
     {
         if fault == FolderFault::Read || fault == FolderFault::Write {
             self.failures = self.failures.saturating_add(1);
@@ -75,36 +72,55 @@ impl<'a, R: Files + Alloc + Clone + Drop> DiskFolders<'a, R> {
 }
 
 impl<'a, R: Files + Alloc + Clone + Drop> Folders for DiskFolders<'a, R> {
-    ghost held = { λ _. None };
+    ghost held = { told };
 
     ghost failure_count = { λ disk. disk.failures };
 
-    fn names(&mut self, alloc: Global, dir: &str) -> Result<Vec<String>, FolderFault> {
+    /// Reads the folder from the system. It counts a failure exactly where it answers Read.
+    fn names(&mut self, alloc: Global, dir: &str) -> Result<Vec<String>, FolderFault>
+        ensures lists { IfOk result (λ names. Lists (told self.old) dir.now (map string_bytes names.items)) }
+        ensures refused { IfErr result (λ fault. RefusesNames fault (told self.old) dir.now self.old.failures self.new.failures) }
+        ensures unchanged { told self.new ≡ told self.old }
+        ensures grows { self.old.failures ≤ self.new.failures }
+
+        ensures counted { MatchResult result (λ _. self.new ≡ self.old) (λ fault. self.new ≡ after_fault fault self.old) }
+    {
         match list(self.rt, alloc, dir, self.entries) {
             Ok(names) => Ok(names),
             Err(fault) => Err(self.count(fault)),
         }
     }
 
-    fn read(
-        &mut self,
-        alloc: Global,
-        dir: &str,
-        name: &str,
-    ) -> Result<Option<Vec<u8>>, FolderFault> {
+    /// Reads the file from the system. It counts a failure exactly where it answers Read.
+    fn read(&mut self, alloc: Global, dir: &str, name: &str) -> Result<Option<Vec<u8>>, FolderFault>
+        ensures finds { IfOk result (λ file. Finds (told self.old) dir.now name.now (option_map (λ bytes. bytes.items) file)) }
+        ensures refused { IfErr result (λ fault. RefusesRead fault (told self.old) dir.now name.now self.old.failures self.new.failures) }
+        ensures unchanged { told self.new ≡ told self.old }
+        ensures grows { self.old.failures ≤ self.new.failures }
+
+        ensures counted { MatchResult result (λ _. self.new ≡ self.old) (λ fault. self.new ≡ after_fault fault self.old) }
+    {
         match read_file(self.rt, alloc, dir, name, self.limit) {
             Ok(file) => Ok(file),
             Err(fault) => Err(self.count(fault)),
         }
     }
 
+    /// Writes the file to the system, after it made the levels of the folder that are missing. It counts
+    /// a failure exactly where it answers Write.
     fn write(
         &mut self,
         alloc: Global,
         dir: &str,
         name: &str,
         bytes: &[u8],
-    ) -> Result<(), FolderFault> {
+    ) -> Result<(), FolderFault>
+        ensures written { OnOk result (Writes (told self.old) (told self.new) dir.now name.now bytes.now) }
+        ensures refused { IfErr result (λ fault. RefusesWrite fault (told self.old) (told self.new) dir.now name.now self.old.failures self.new.failures) }
+        ensures grows { self.old.failures ≤ self.new.failures }
+
+        ensures counted { MatchResult result (λ _. self.new ≡ self.old) (λ fault. self.new ≡ after_fault fault self.old) }
+    {
         match write_file(self.rt, alloc, dir, name, bytes) {
             Ok(()) => Ok(()),
             Err(fault) => Err(self.count(fault)),

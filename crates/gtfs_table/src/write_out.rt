@@ -1,4 +1,4 @@
-ghost use Rattle.std.specs.Prelude.{◌≡◌, ◌<◌, ◌≤◌, length, take, IfSome, MatchOption, OnOk, OnErr};
+ghost use Rattle.std.specs.Prelude.{◌≡◌, ◌<◌, ◌≤◌, length, take, IfOk, IfSome, MatchOption, OnOk, OnErr};
 ghost use Rattle.std.specs.Io.KnownBytes.{Appends, Keeps};
 ghost use Rattle.gtfs_table.specs.Device.{Rises, counted};
 
@@ -63,7 +63,17 @@ impl<W: Write> Out for WriteOut<W> {
 
     /// Hands the text to the writer once, and again where a signal interrupted it. A writer that takes
     /// nothing of a text that has bytes fails.
-    fn write(&mut self, text: &[u8]) -> Result<usize, Failed> {
+    fn write(&mut self, text: &[u8]) -> Result<usize, Failed>
+        ensures taken { IfOk result (λ n. Appends (W.contents self.old.0) (W.contents self.new.0) (take n text.now)) }
+        ensures within { IfOk result (λ n. n ≤ length text.now) }
+        ensures moves { IfOk result (λ n. 0 < length text.now → 0 < n) }
+        ensures nothing { OnErr result (Keeps (W.contents self.old.0) (W.contents self.new.0)) }
+        ensures counted { OnErr result (Rises self.old.1 self.new.1) }
+        ensures grows { self.old.1 ≤ self.new.1 }
+
+        ensures ok { OnOk result (self.new.1 ≡ self.old.1) }
+        ensures err { OnErr result (self.new.1 ≡ counted self.old.1) }
+    {
         match write_some(&mut self.writer, text) {
             Some(count) => Ok(count),
             None => Err(self.fail()),
