@@ -6,11 +6,12 @@ use crate::folders::{FolderFault, Folders};
 use crate::read_within::read_within;
 use gtfs_field::OutOfMemory;
 use std::alloc::Global;
+use std::fs;
 use std::fs::OpenFile;
 use std::io::ErrorKind;
 use std::marker::Model;
 use std::rt::Files;
-use std::{fs, io};
+
 
 /// The greatest length in bytes of a file that is read.
 const FILE_LIMIT: u64 = 1_073_741_824;
@@ -141,9 +142,13 @@ fn list<R: Files + Alloc + Clone + Drop>(
 ) -> Result<Vec<String>, FolderFault>
     ensures { IfErr result RefusesList }
 {
+    if dir.is_empty() {
+        return Err(FolderFault::NoFolder);
+    }
     let mut names = Vec::new(alloc);
-    for entry in open_folder(rt, dir)? {
-        let entry = entry.map_err(|fault| read_fault(&fault))?;
+    let listing = fs::read_dir(rt, dir).map_err(|fault| list_fault(rt, dir, fault.kind()))?;
+    for entry in listing {
+        let entry = entry.map_err(|fault| list_fault(rt, dir, fault.kind()))?;
         if names.len() >= entries {
             return Err(FolderFault::Read);
         }
@@ -153,26 +158,17 @@ fn list<R: Files + Alloc + Clone + Drop>(
     Ok(names)
 }
 
-/// A folder's entries. NoFolder where there is no entry of its name.
-fn open_folder<R: Files + Alloc + Clone + Drop>(
-    rt: &R,
-    dir: &str,
-) -> Result<fs::ReadDir<R, R::A>, FolderFault>
-    ensures { IfErr result RefusesList }
+fn list_fault<R: Files>(rt: &R, dir: &str, kind: ErrorKind) -> FolderFault
+    ensures { RefusesList result }
 {
-    if dir.is_empty() {
-        return Err(FolderFault::NoFolder);
-    }
-    match fs::read_dir(rt, dir) {
-        Ok(listing) => Ok(listing),
-        Err(fault) if fault.kind() == ErrorKind::NotFound && is_absent(rt, dir) => Err(
-            FolderFault::NoFolder,
-        ),
-        Err(fault) => Err(read_fault(&fault)),
+    match kind {
+        ErrorKind::NotFound if is_absent(rt, dir) => FolderFault::NoFolder,
+        ErrorKind::OutOfMemory => FolderFault::OutOfMemory,
+        _ => FolderFault::Read,
     }
 }
 
-/// Whether no entry has this name; a link that leads nowhere is one.
+/// Whether no entry has this path; a link that leads nowhere is one.
 fn is_absent<R: Files>(rt: &R, path: &str) -> bool {
     match fs::symlink_metadata(rt, path.trim_end_matches('/')) {
         Ok(_) => false,
@@ -180,17 +176,8 @@ fn is_absent<R: Files>(rt: &R, path: &str) -> bool {
     }
 }
 
-fn read_fault(fault: &io::Error) -> FolderFault
-    ensures { RefusesList result }
-{
-    match fault.kind() {
-        ErrorKind::OutOfMemory => FolderFault::OutOfMemory,
-        _ => FolderFault::Read,
-    }
-}
-
-/// A folder's file, or None where the folder has no such entry.
-fn read_file<R: Files + Alloc + Clone + Drop>(
+/// A folder's file, or None where the folder has no entry of that name.
+fn read_file<R: Files>(
     rt: &R,
     alloc: Global,
     dir: &str,
@@ -202,33 +189,50 @@ fn read_file<R: Files + Alloc + Clone + Drop>(
     if dir.is_empty() {
         return Err(FolderFault::NoFolder);
     }
+    if name.is_empty() {
+        return Err(FolderFault::Read);
+    }
     let path = path_of(alloc, dir, name)?;
     match fs::open(rt, path.as_str()) {
         Ok(mut file) => {
             let size = size_hint(&file, limit);
             Ok(Some(read_within(alloc, &mut file, limit, size)?))
         }
-        Err(fault) if fault.kind() == ErrorKind::NotFound && is_absent(rt, path.as_str()) => {
-            missing_file(rt, dir)
-        }
-        Err(fault) => Err(FolderFault::Read),
+        Err(fault) => without_file(rt, dir, path.as_str(), fault.kind()),
     }
 }
 
-/// What it means that a folder has no entry of some name: the folder may be missing too.
-fn missing_file<R: Files>(rt: &R, dir: &str) -> Result<Option<Vec<u8>>, FolderFault>
+/// What it means that the file of this path could not be opened: the folder has none, is not there itself,
+/// or something else stands in the way.
+fn without_file<R: Files>(
+    rt: &R,
+    dir: &str,
+    path: &str,
+    kind: ErrorKind,
+) -> Result<Option<Vec<u8>>, FolderFault>
     ensures { IfErr result RefusesFile }
 {
+    if kind != ErrorKind::NotFound || !is_absent(rt, path) {
+        return Err(FolderFault::Read);
+    }
     match fs::metadata(rt, dir) {
         Ok(found) if found.is_dir() => Ok(None),
-        Err(fault) if fault.kind() == ErrorKind::NotFound && is_absent(rt, dir) => Err(
-            FolderFault::NoFolder,
-        ),
+        Err(fault) if fault.kind() == ErrorKind::NotFound && is_absent(rt, dir) => {
+            Err(FolderFault::NoFolder)
+        }
         _ => Err(FolderFault::Read),
     }
 }
 
-/// Makes all levels of the folder that are missing, and the file.
+/// How many bytes to make room for, as far as the file system tells it.
+fn size_hint<F: OpenFile>(file: &F, limit: u64) -> usize {
+    match file.metadata() {
+        Ok(found) => found.len().min(limit) as usize,
+        Err(_) => 0,
+    }
+}
+
+/// Makes all levels of the folder that are missing, and the file. Memory is taken before anything is made.
 fn write_file<R: Files>(
     rt: &R,
     alloc: Global,
@@ -242,7 +246,7 @@ fn write_file<R: Files>(
         return Err(FolderFault::Write);
     }
     let path = path_of(alloc, dir, name)?;
-    match fs::create_dir_all(rt, dir).and_then(|_| fs::write(rt, path.as_str(), bytes)) {
+    match fs::create_dir_all(rt, dir).and_then(|()| fs::write(rt, path.as_str(), bytes)) {
         Ok(()) => Ok(()),
         Err(_) => Err(FolderFault::Write),
     }
@@ -255,10 +259,5 @@ fn path_of(alloc: Global, dir: &str, name: &str) -> Result<String, OutOfMemory> 
     Ok(path)
 }
 
-/// How many bytes to make room for, as far as the file system tells it.
-fn size_hint<F: OpenFile>(file: &F, limit: u64) -> usize {
-    match file.metadata() {
-        Ok(found) => found.len().min(limit) as usize,
-        Err(_) => 0,
-    }
-}
+#[cfg(test)]
+mod tests;

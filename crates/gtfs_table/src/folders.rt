@@ -97,3 +97,6 @@ pub trait Folders {
     fn failures(&self) -> u64
         ensures { result ≡ failure_count self.now };
 }
+
+#[cfg(test)]
+mod tests;

@@ -151,3 +151,6 @@ impl Folders for MemoryFolders {
         self.failures
     }
 }
+
+#[cfg(test)]
+mod tests;

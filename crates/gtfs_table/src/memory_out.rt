@@ -83,3 +83,6 @@ impl Out for MemoryOut {
         self.failures
     }
 }
+
+#[cfg(test)]
+mod tests;

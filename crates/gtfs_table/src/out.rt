@@ -61,3 +61,6 @@ pub fn write_text<O: Out>(out: &mut O, text: &[u8]) -> Result<(), OutFault>
     }
     Ok(())
 }
+
+#[cfg(test)]
+mod tests;
