@@ -1,3 +1,3 @@
-mod SentText
-pub mod ByText
-pub mod HeldFacts
+mod SentLemmas
+mod ByTextLemmas
+mod HeldLemmas

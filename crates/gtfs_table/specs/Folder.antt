@@ -1,11 +1,10 @@
 -- Folders of files: what they hold, and what their calls answer.
 -- GTFS Schedule Reference, "Dataset Files": a dataset lies in one folder, each file under its own name.
 -- A device may tell nothing of what it holds (None); then the words below that speak of it claim nothing.
-use Rattle.std.specs.Prelude.{ℕ, IsTrue, is_some, List, Option, Some, None, option_map, unwrap_or, String, string_bytes, map as each, ◌≡◌, ◌≢◌, ⊤}
+use Rattle.std.specs.Prelude.{ℕ, IsTrue, is_some, List, Option, Some, None, option_map, unwrap_or, ◌≡◌, ◌≢◌, ⊤}
 use Rattle.std.specs.Cmp.Lexicographic.{slice_cmp}
 use Rattle.std.specs.Ordering.{nat_cmp}
 use Rattle.std.specs.declared.cmp.Ordering.{Ordering}
-use Rattle.std.specs.Coded.{Coded, coded_ℕ, coded_list}
 use Rattle.std.specs.FinMap as map
 use Rattle.gtfs_table.specs.Device.{Rises}
 use Rattle.gtfs_table.specs.declared.folders.FolderFault.{FolderFault}
@@ -22,12 +21,6 @@ Files = map.FinMap text_cmp (List ℕ)
 -- folders, from their names to their files
 abbrev pub Store : Type 0
 Store = map.FinMap text_cmp Files
-
-abbrev pub files_code : Coded Files
-files_code = map.code (coded_list coded_ℕ) (coded_list coded_ℕ)
-
-abbrev pub store_code : Coded Store
-store_code = map.code (coded_list coded_ℕ) files_code
 
 -- the files of a folder, and none where there is no such folder
 abbrev pub files_of : Store → List ℕ → Files
@@ -48,10 +41,6 @@ put store dir name bytes = map.insert store dir (map.insert (files_of store dir)
 -- the store with this folder, which is empty where it was absent
 abbrev pub put_folder : Store → List ℕ → Store
 put_folder store dir = map.insert store dir (files_of store dir)
-
--- entries under texts, as the map from the texts' bytes
-abbrev pub by_text : {X Y : Type 0} → List (String Y × X) → map.FinMap text_cmp X
-by_text entries = map.from_entries (each (λ e. (string_bytes e.0, e.1)) entries)
 
 -- ---- what a device answers, told is what it holds
 

@@ -2,7 +2,8 @@
 use Rattle.std.specs.Prelude.{ℕ, Bool, false, ◌==◌, nat_le, if◌then◌else◌, List, length, Option, Some, None, Result, Ok, Err, IsOk, ok_or, ◌≡◌, refl}
 use Rattle.std.specs.Coded.{Coded, code_by, coded×, coded_ℕ, coded_option}
 use Rattle.gtfs_table.specs.Device.{counted}
-use Rattle.gtfs_table.specs.Folder.{Store, store_code, names_in, file_in}
+use Rattle.gtfs_table.specs.Folder.{Store, names_in, file_in}
+use Rattle.gtfs_table.specs.ByText.{store_code}
 use Rattle.gtfs_table.specs.declared.folders.FolderFault.{FolderFault}
 use Rattle.gtfs_table.specs.declared.folders.FolderFault.TheVariants.{Read, TooLarge, OutOfMemory, NoFolder, Write}
 

@@ -12,7 +12,6 @@ use std::io::ErrorKind;
 use std::marker::Model;
 use std::rt::Files;
 
-
 /// The greatest length in bytes of a file that is read.
 const FILE_LIMIT: u64 = 1_073_741_824;
 
@@ -37,7 +36,8 @@ impl<'a, R: Files + Alloc + Clone + Drop> Model for DiskFolders<'a, R> {
 
     ghost Value = { Disk };
 
-    ghost view = { λ disk. record { limit = disk.limit; entries = disk.entries; failures = disk.failures } };
+    ghost view = { λ disk.
+        record { limit = disk.limit; entries = disk.entries; failures = disk.failures } };
 }
 
 impl<'a, R: Files + Alloc + Clone + Drop> DiskFolders<'a, R> {
@@ -79,12 +79,16 @@ impl<'a, R: Files + Alloc + Clone + Drop> Folders for DiskFolders<'a, R> {
 
     /// Reads the folder from the system. It counts a failure exactly where it answers Read.
     fn names(&mut self, alloc: Global, dir: &str) -> Result<Vec<String>, FolderFault>
-        ensures lists { IfOk result (λ names. Lists (told self.old) dir.now (map string_bytes names.items)) }
-        ensures refused { IfErr result (λ fault. RefusesNames fault (told self.old) dir.now self.old.failures self.new.failures) }
+        ensures lists { IfOk result
+            (λ names. Lists (told self.old) dir.now (map string_bytes names.items)) }
+        ensures refused { IfErr result
+            (λ fault. RefusesNames fault (told self.old) dir.now self.old.failures self.new.failures) }
         ensures unchanged { told self.new ≡ told self.old }
         ensures grows { self.old.failures ≤ self.new.failures }
 
-        ensures counted { MatchResult result (λ _. self.new ≡ self.old) (λ fault. self.new ≡ after_fault fault self.old) }
+        ensures counted { MatchResult result
+            (λ _. self.new ≡ self.old)
+            (λ fault. self.new ≡ after_fault fault self.old) }
     {
         match list(self.rt, alloc, dir, self.entries) {
             Ok(names) => Ok(names),
@@ -94,12 +98,17 @@ impl<'a, R: Files + Alloc + Clone + Drop> Folders for DiskFolders<'a, R> {
 
     /// Reads the file from the system. It counts a failure exactly where it answers Read.
     fn read(&mut self, alloc: Global, dir: &str, name: &str) -> Result<Option<Vec<u8>>, FolderFault>
-        ensures finds { IfOk result (λ file. Finds (told self.old) dir.now name.now (option_map (λ bytes. bytes.items) file)) }
-        ensures refused { IfErr result (λ fault. RefusesRead fault (told self.old) dir.now name.now self.old.failures self.new.failures) }
+        ensures finds { IfOk result
+            (λ file. Finds (told self.old) dir.now name.now (option_map (λ bytes. bytes.items) file)) }
+        ensures refused { IfErr result
+            (λ fault. RefusesRead fault (told self.old) dir.now name.now
+            self.old.failures self.new.failures) }
         ensures unchanged { told self.new ≡ told self.old }
         ensures grows { self.old.failures ≤ self.new.failures }
 
-        ensures counted { MatchResult result (λ _. self.new ≡ self.old) (λ fault. self.new ≡ after_fault fault self.old) }
+        ensures counted { MatchResult result
+            (λ _. self.new ≡ self.old)
+            (λ fault. self.new ≡ after_fault fault self.old) }
     {
         match read_file(self.rt, alloc, dir, name, self.limit) {
             Ok(file) => Ok(file),
@@ -116,11 +125,16 @@ impl<'a, R: Files + Alloc + Clone + Drop> Folders for DiskFolders<'a, R> {
         name: &str,
         bytes: &[u8],
     ) -> Result<(), FolderFault>
-        ensures written { OnOk result (Writes (told self.old) (told self.new) dir.now name.now bytes.now) }
-        ensures refused { IfErr result (λ fault. RefusesWrite fault (told self.old) (told self.new) dir.now name.now self.old.failures self.new.failures) }
+        ensures written { OnOk result
+            (Writes (told self.old) (told self.new) dir.now name.now bytes.now) }
+        ensures refused { IfErr result
+            (λ fault. RefusesWrite fault (told self.old) (told self.new) dir.now name.now
+            self.old.failures self.new.failures) }
         ensures grows { self.old.failures ≤ self.new.failures }
 
-        ensures counted { MatchResult result (λ _. self.new ≡ self.old) (λ fault. self.new ≡ after_fault fault self.old) }
+        ensures counted { MatchResult result
+            (λ _. self.new ≡ self.old)
+            (λ fault. self.new ≡ after_fault fault self.old) }
     {
         match write_file(self.rt, alloc, dir, name, bytes) {
             Ok(()) => Ok(()),

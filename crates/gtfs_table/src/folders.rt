@@ -62,8 +62,11 @@ pub trait Folders {
     ///
     /// Refused with Read, with NoFolder where there is no such folder, and with OutOfMemory.
     fn names(&mut self, alloc: Global, dir: &str) -> Result<Vec<String>, FolderFault>
-        ensures lists { IfOk result (λ names. Lists (held self.old) dir.now (map string_bytes names.items)) }
-        ensures refused { IfErr result (λ fault. RefusesNames fault (held self.old) dir.now (failure_count self.old) (failure_count self.new)) }
+        ensures lists { IfOk result
+            (λ names. Lists (held self.old) dir.now (map string_bytes names.items)) }
+        ensures refused { IfErr result
+            (λ fault. RefusesNames fault (held self.old) dir.now
+            (failure_count self.old) (failure_count self.new)) }
         ensures unchanged { held self.new ≡ held self.old }
         ensures grows { failure_count self.old ≤ failure_count self.new };
 
@@ -72,8 +75,11 @@ pub trait Folders {
     /// Refused with Read, with TooLarge where the file is longer than the device's limit, with NoFolder
     /// where there is no such folder, and with OutOfMemory.
     fn read(&mut self, alloc: Global, dir: &str, name: &str) -> Result<Option<Vec<u8>>, FolderFault>
-        ensures finds { IfOk result (λ file. Finds (held self.old) dir.now name.now (option_map (λ bytes. bytes.items) file)) }
-        ensures refused { IfErr result (λ fault. RefusesRead fault (held self.old) dir.now name.now (failure_count self.old) (failure_count self.new)) }
+        ensures finds { IfOk result
+            (λ file. Finds (held self.old) dir.now name.now (option_map (λ bytes. bytes.items) file)) }
+        ensures refused { IfErr result
+            (λ fault. RefusesRead fault (held self.old) dir.now name.now
+            (failure_count self.old) (failure_count self.new)) }
         ensures unchanged { held self.new ≡ held self.old }
         ensures grows { failure_count self.old ≤ failure_count self.new };
 
@@ -89,8 +95,11 @@ pub trait Folders {
         name: &str,
         bytes: &[u8],
     ) -> Result<(), FolderFault>
-        ensures written { OnOk result (Writes (held self.old) (held self.new) dir.now name.now bytes.now) }
-        ensures refused { IfErr result (λ fault. RefusesWrite fault (held self.old) (held self.new) dir.now name.now (failure_count self.old) (failure_count self.new)) }
+        ensures written { OnOk result
+            (Writes (held self.old) (held self.new) dir.now name.now bytes.now) }
+        ensures refused { IfErr result
+            (λ fault. RefusesWrite fault (held self.old) (held self.new) dir.now name.now
+            (failure_count self.old) (failure_count self.new)) }
         ensures grows { failure_count self.old ≤ failure_count self.new };
 
     /// How often a call failed with Read or Write, at most 2^64 - 1.

@@ -13,7 +13,8 @@ pub(crate) struct MemoryFiles {
 }
 
 impl Model for MemoryFiles {
-    ghost use Rattle.gtfs_table.specs.Folder.{Files, files_code, by_text};
+    ghost use Rattle.gtfs_table.specs.Folder.{Files};
+    ghost use Rattle.gtfs_table.specs.ByText.{files_code, by_text};
 
     ghost Value = { Files };
 

@@ -30,7 +30,13 @@ impl Model for MemoryFolders {
 
     ghost coded = { held_code };
 
-    ghost view = { λ folders. record { store = folders.store; limit = folders.limit; fail = folders.fail; calls = folders.calls; failures = folders.failures } };
+    ghost view = { λ folders. record {
+      store = folders.store;
+      limit = folders.limit;
+      fail = folders.fail;
+      calls = folders.calls;
+      failures = folders.failures;
+    } };
 }
 
 impl MemoryFolders {
@@ -40,7 +46,8 @@ impl MemoryFolders {
     /// The count of calls stays at 2^64 - 1, so the number of the call that fails lies below.
     pub fn new(alloc: Global, limit: u64, fail: Option<u64>) -> MemoryFolders
         requires { ForSome fail (λ number. number < 2 ^ 64 - 1) }
-        ensures { result ≡ record { store = finite.empty; limit = limit; fail = fail; calls = 0; failures = 0 } }
+        ensures { result ≡
+            record { store = finite.empty; limit = limit; fail = fail; calls = 0; failures = 0 } }
     {
         MemoryFolders {
             store: MemoryStore::new(alloc),
@@ -51,18 +58,24 @@ impl MemoryFolders {
         }
     }
 
-    /// Adds a folder, empty, where it is absent. It is no counted call, and a refusal leaves all as it was.
+    /// Adds a folder, empty, where it is absent. It is no counted call.
+    ///
+    /// Refused with OutOfMemory, which leaves all as it was.
     pub fn put_folder(&mut self, dir: &str) -> Result<(), OutOfMemory>
-        ensures ok { OnOk result (self.new ≡ record self.old { store = put_folder self.old.store dir.now }) }
+        ensures ok { OnOk result
+            (self.new ≡ record self.old { store = put_folder self.old.store dir.now }) }
         ensures err { OnErr result (self.new ≡ self.old) }
     {
         self.store.put_folder(dir)
     }
 
     /// Makes these bytes the whole of a folder's file, and makes the folder where it is absent. It is no
-    /// counted call, and a refusal leaves all as it was.
+    /// counted call.
+    ///
+    /// Refused with OutOfMemory, which leaves all as it was.
     pub fn put(&mut self, dir: &str, name: &str, bytes: &[u8]) -> Result<(), OutOfMemory>
-        ensures ok { OnOk result (self.new ≡ record self.old { store = put self.old.store dir.now name.now bytes.now }) }
+        ensures ok { OnOk result
+            (self.new ≡ record self.old { store = put self.old.store dir.now name.now bytes.now }) }
         ensures err { OnErr result (self.new ≡ self.old) }
     {
         self.store.put(dir, name, bytes)
@@ -91,12 +104,17 @@ impl Folders for MemoryFolders {
     /// Answers Read exactly at the call that fails; at any other, NoFolder exactly where there is no such
     /// folder, and else the names, as memory suffices.
     fn names(&mut self, alloc: Global, dir: &str) -> Result<Vec<String>, FolderFault>
-        ensures lists { IfOk result (λ names. Lists (Some self.old.store) dir.now (map string_bytes names.items)) }
-        ensures refused { IfErr result (λ fault. RefusesNames fault (Some self.old.store) dir.now self.old.failures self.new.failures) }
+        ensures lists { IfOk result
+            (λ names. Lists (Some self.old.store) dir.now (map string_bytes names.items)) }
+        ensures refused { IfErr result
+            (λ fault. RefusesNames fault (Some self.old.store) dir.now
+            self.old.failures self.new.failures) }
         ensures unchanged { Some self.new.store ≡ Some self.old.store }
         ensures grows { self.old.failures ≤ self.new.failures }
 
-        ensures answers { MatchResult result (λ names. names_answer self.old dir.now ≡ Ok (map string_bytes names.items)) (λ fault. Refuses fault (names_answer self.old dir.now)) }
+        ensures answers { MatchResult result
+            (λ names. names_answer self.old dir.now ≡ Ok (map string_bytes names.items))
+            (λ fault. Refuses fault (names_answer self.old dir.now)) }
         ensures counted { self.new ≡ after_call self.old }
     {
         if self.fails() {
@@ -109,12 +127,18 @@ impl Folders for MemoryFolders {
     /// folder, TooLarge exactly where its file is longer than the limit, and else the file or None, as
     /// memory suffices.
     fn read(&mut self, alloc: Global, dir: &str, name: &str) -> Result<Option<Vec<u8>>, FolderFault>
-        ensures finds { IfOk result (λ file. Finds (Some self.old.store) dir.now name.now (option_map (λ bytes. bytes.items) file)) }
-        ensures refused { IfErr result (λ fault. RefusesRead fault (Some self.old.store) dir.now name.now self.old.failures self.new.failures) }
+        ensures finds { IfOk result
+            (λ file. Finds (Some self.old.store) dir.now name.now
+            (option_map (λ bytes. bytes.items) file)) }
+        ensures refused { IfErr result
+            (λ fault. RefusesRead fault (Some self.old.store) dir.now name.now
+            self.old.failures self.new.failures) }
         ensures unchanged { Some self.new.store ≡ Some self.old.store }
         ensures grows { self.old.failures ≤ self.new.failures }
 
-        ensures answers { MatchResult result (λ file. read_answer self.old dir.now name.now ≡ Ok (option_map (λ bytes. bytes.items) file)) (λ fault. Refuses fault (read_answer self.old dir.now name.now)) }
+        ensures answers { MatchResult result
+            (λ file. read_answer self.old dir.now name.now ≡ Ok (option_map (λ bytes. bytes.items) file))
+            (λ fault. Refuses fault (read_answer self.old dir.now name.now)) }
         ensures counted { self.new ≡ after_call self.old }
     {
         if self.fails() {
@@ -132,12 +156,19 @@ impl Folders for MemoryFolders {
         name: &str,
         bytes: &[u8],
     ) -> Result<(), FolderFault>
-        ensures written { OnOk result (Writes (Some self.old.store) (Some self.new.store) dir.now name.now bytes.now) }
-        ensures refused { IfErr result (λ fault. RefusesWrite fault (Some self.old.store) (Some self.new.store) dir.now name.now self.old.failures self.new.failures) }
+        ensures written { OnOk result
+            (Writes (Some self.old.store) (Some self.new.store) dir.now name.now bytes.now) }
+        ensures refused { IfErr result
+            (λ fault. RefusesWrite fault (Some self.old.store) (Some self.new.store) dir.now name.now
+            self.old.failures self.new.failures) }
         ensures grows { self.old.failures ≤ self.new.failures }
 
         ensures failing { IsErrOf result FolderFault.Write ↔ IsTrue (is_failing self.old) }
-        ensures ok { OnOk result (self.new ≡ record (after_call self.old) { store = put self.old.store dir.now name.now bytes.now }) }
+        ensures ok { OnOk result
+            (self.new ≡ record (after_call self.old) {
+              store = put self.old.store
+                  dir.now name.now bytes.now;
+            }) }
         ensures err { OnErr result (self.new ≡ after_call self.old) }
     {
         if self.fails() {

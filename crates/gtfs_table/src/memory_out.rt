@@ -28,7 +28,8 @@ impl Model for MemoryOut {
 }
 
 impl MemoryOut {
-    /// An output with room for this many bytes, to which nothing went out yet. It takes all its memory here.
+    /// An output with room for this many bytes, to which nothing went out yet. It takes all its
+    /// memory here.
     pub fn new(alloc: Global, room: usize) -> Result<MemoryOut, OutOfMemory>
         ensures { IfOk result (λ out. out ≡ record { text = []; left = room; failures = 0 }) }
     {
@@ -52,10 +53,11 @@ impl Out for MemoryOut {
 
     ghost failure_count = { λ out. out.failures };
 
-    /// Takes as many bytes as still fit, at most the whole text. Fails exactly where the text has bytes and
-    /// none fits.
+    /// Takes as many bytes as still fit, at most the whole text. Fails exactly where the text has bytes
+    /// and none fits.
     fn write(&mut self, text: &[u8]) -> Result<usize, Failed>
-        ensures taken { IfOk result (λ n. Appends (Some self.old.text) (Some self.new.text) (take n text.now)) }
+        ensures taken { IfOk result
+            (λ n. Appends (Some self.old.text) (Some self.new.text) (take n text.now)) }
         ensures within { IfOk result (λ n. n ≤ length text.now) }
         ensures moves { IfOk result (λ n. 0 < length text.now → 0 < n) }
         ensures nothing { OnErr result (Keeps (Some self.old.text) (Some self.new.text)) }
@@ -63,9 +65,15 @@ impl Out for MemoryOut {
         ensures grows { self.old.failures ≤ self.new.failures }
 
         ensures fits { IfOk result (λ n. n ≡ min (length text.now) self.old.left) }
-        ensures ok { IfOk result (λ n. self.new ≡ record { text = self.old.text ++ take n text.now; left = self.old.left - n; failures = self.old.failures }) }
+        ensures ok { IfOk result
+            (λ n. self.new ≡ record {
+              text = self.old.text ++ take n text.now;
+              left = self.old.left - n;
+              failures = self.old.failures;
+            }) }
         ensures full { IsErr result ↔ ((0 < length text.now) × (self.old.left ≡ 0)) }
-        ensures err { OnErr result (self.new ≡ record self.old { failures = counted self.old.failures }) }
+        ensures err { OnErr result
+            (self.new ≡ record self.old { failures = counted self.old.failures }) }
     {
         let count = text.len().min(self.left);
         if count == 0 && !text.is_empty() {

@@ -19,7 +19,8 @@ pub(crate) struct MemoryStore {
 }
 
 impl Model for MemoryStore {
-    ghost use Rattle.gtfs_table.specs.Folder.{Store, store_code, by_text};
+    ghost use Rattle.gtfs_table.specs.Folder.{Store};
+    ghost use Rattle.gtfs_table.specs.ByText.{store_code, by_text};
 
     ghost Value = { Store };
 
@@ -47,7 +48,9 @@ impl MemoryStore {
 
     /// The names of a folder's files, in byte order.
     pub(crate) fn names(&self, alloc: Global, dir: &str) -> Result<Vec<String>, FolderFault>
-        ensures { MatchResult result (λ names. names_in self.now dir.now ≡ Some (map string_bytes names.items)) (λ fault. Refuses fault (ok_or (names_in self.now dir.now) NoFolder)) }
+        ensures { MatchResult result
+            (λ names. names_in self.now dir.now ≡ Some (map string_bytes names.items))
+            (λ fault. Refuses fault (ok_or (names_in self.now dir.now) NoFolder)) }
     {
         match self.files(dir) {
             Some(files) => Ok(files.names(alloc)?),
@@ -63,7 +66,9 @@ impl MemoryStore {
         name: &str,
         limit: u64,
     ) -> Result<Option<Vec<u8>>, FolderFault>
-        ensures { MatchResult result (λ file. file_answer limit (file_in self.now dir.now name.now) ≡ Ok (option_map (λ bytes. bytes.items) file)) (λ fault. Refuses fault (file_answer limit (file_in self.now dir.now name.now))) }
+        ensures { MatchResult result
+            (λ file. file_answer limit (file_in self.now dir.now name.now) ≡ Ok (option_map (λ bytes. bytes.items) file))
+            (λ fault. Refuses fault (file_answer limit (file_in self.now dir.now name.now))) }
     {
         match self.files(dir) {
             Some(files) => read_file(alloc, files.get(name), limit),
@@ -111,7 +116,9 @@ impl MemoryStore {
 }
 
 fn read_file(alloc: Global, file: Option<&[u8]>, limit: u64) -> Result<Option<Vec<u8>>, FolderFault>
-    ensures { MatchResult result (λ read. within_limit limit (option_copied file.entry) ≡ Ok (option_map (λ bytes. bytes.items) read)) (λ fault. Refuses fault (within_limit limit (option_copied file.entry))) }
+    ensures { MatchResult result
+        (λ read. within_limit limit (option_copied file.entry) ≡ Ok (option_map (λ bytes. bytes.items) read))
+        (λ fault. Refuses fault (within_limit limit (option_copied file.entry))) }
 {
     match file {
         None => Ok(None),

@@ -47,7 +47,8 @@ pub trait Out {
 /// Refused with the number of bytes that went out, which are the first of the text.
 pub fn write_text<O: Out>(out: &mut O, text: &[u8]) -> Result<(), OutFault>
     ensures whole { OnOk result (Appends (O.told out.old) (O.told out.new) text.now) }
-    ensures prefix { IfErr result (λ fault. Appends (O.told out.old) (O.told out.new) (take fault.written text.now)) }
+    ensures prefix { IfErr result
+        (λ fault. Appends (O.told out.old) (O.told out.new) (take fault.written text.now)) }
     ensures within { IfErr result (λ fault. fault.written < length text.now) }
     ensures counted { OnErr result (Rises (O.failure_count out.old) (O.failure_count out.new)) }
     ensures grows { O.failure_count out.old ≤ O.failure_count out.new }

@@ -21,7 +21,8 @@ pub(crate) fn read_within<F: Read>(
 ) -> Result<Vec<u8>, FolderFault>
     ensures whole { IfOk result (λ bytes. IfSome (F.remaining file.old) (λ left. bytes.items ≡ left)) }
     ensures within { IfOk result (λ bytes. vec_len bytes ≤ limit) }
-    ensures large { IsErrOf result FolderFault.TooLarge → IfSome (F.remaining file.old) (λ left. limit < length left) }
+    ensures large { IsErrOf result FolderFault.TooLarge
+        → IfSome (F.remaining file.old) (λ left. limit < length left) }
     ensures faults { IfErr result RefusesFile }
 {
     let mut bytes = Vec::with_capacity(alloc, size)?;

@@ -64,7 +64,8 @@ impl<W: Write> Out for WriteOut<W> {
     /// Hands the text to the writer once, and again where a signal interrupted it. A writer that takes
     /// nothing of a text that has bytes fails.
     fn write(&mut self, text: &[u8]) -> Result<usize, Failed>
-        ensures taken { IfOk result (λ n. Appends (W.contents self.old.0) (W.contents self.new.0) (take n text.now)) }
+        ensures taken { IfOk result
+            (λ n. Appends (W.contents self.old.0) (W.contents self.new.0) (take n text.now)) }
         ensures within { IfOk result (λ n. n ≤ length text.now) }
         ensures moves { IfOk result (λ n. 0 < length text.now → 0 < n) }
         ensures nothing { OnErr result (Keeps (W.contents self.old.0) (W.contents self.new.0)) }
@@ -87,7 +88,9 @@ impl<W: Write> Out for WriteOut<W> {
 
 /// One write that no signal interrupts: how much the writer took, or None where it failed.
 fn write_some<W: Write>(writer: &mut W, text: &[u8]) -> Option<usize>
-    ensures taken { MatchOption result (Keeps (W.contents writer.old) (W.contents writer.new)) (λ n. Appends (W.contents writer.old) (W.contents writer.new) (take n text.now)) }
+    ensures taken { MatchOption result
+        (Keeps (W.contents writer.old) (W.contents writer.new))
+        (λ n. Appends (W.contents writer.old) (W.contents writer.new) (take n text.now)) }
     ensures within { IfSome result (λ n. n ≤ length text.now) }
     ensures moves { IfSome result (λ n. 0 < length text.now → 0 < n) }
 {

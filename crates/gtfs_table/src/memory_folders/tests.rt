@@ -37,8 +37,14 @@ fn assert_file<R: Abort + AllocGlobal>(
 #[test]
 fn what_was_put_is_told(rt: HostRuntime) -> Result<(), Fail> {
     let mut folders = MemoryFolders::new(rt.alloc(), 100, None);
-    assert_eq!(rt; folders.names(rt.alloc(), "f1").err(), Some(FolderFault::NoFolder));
-    assert_eq!(rt; folders.read(rt.alloc(), "f1", "stops.txt").err(), Some(FolderFault::NoFolder));
+    assert_eq!(rt;
+        folders.names(rt.alloc(), "f1").err(),
+        Some(FolderFault::NoFolder)
+    );
+    assert_eq!(rt;
+        folders.read(rt.alloc(), "f1", "stops.txt").err(),
+        Some(FolderFault::NoFolder)
+    );
 
     folders.put_folder("f1")?;
     assert_names(&rt, &mut folders, "f1", &NO_NAMES)?;
@@ -76,7 +82,10 @@ fn reading_alone_judges_the_limit(rt: HostRuntime) -> Result<(), Fail> {
     folders.write(rt.alloc(), "f1", "fits", b"1234")?;
     folders.write(rt.alloc(), "f1", "large", b"12345")?;
     assert_file(&rt, &mut folders, "fits", Some(b"1234"))?;
-    assert_eq!(rt; folders.read(rt.alloc(), "f1", "large").err(), Some(FolderFault::TooLarge));
+    assert_eq!(rt;
+        folders.read(rt.alloc(), "f1", "large").err(),
+        Some(FolderFault::TooLarge)
+    );
     assert_eq!(rt; folders.failures(), 0);
     Ok(())
 }
@@ -94,7 +103,11 @@ fn each_call_fails_in_turn(rt: HostRuntime) -> Result<(), Fail> {
         let written = folders.write(rt.alloc(), "f1", "a", b"new").err();
         assert_eq!(rt; written, (number == 3).then_some(FolderFault::Write));
         let missing = folders.read(rt.alloc(), "f2", "a").err();
-        let fault = if number == 4 { FolderFault::Read } else { FolderFault::NoFolder };
+        let fault = if number == 4 {
+            FolderFault::Read
+        } else {
+            FolderFault::NoFolder
+        };
         assert_eq!(rt; missing, Some(fault));
         assert_eq!(rt; folders.failures(), u64::from(0 < number && number < 5));
         if number != 5 {
@@ -114,10 +127,16 @@ fn full_counts_stay(rt: HostRuntime) {
         calls: u64::MAX - 2,
         failures: u64::MAX,
     };
-    assert_eq!(rt; folders.names(rt.alloc(), "f1").err(), Some(FolderFault::Read));
+    assert_eq!(rt;
+        folders.names(rt.alloc(), "f1").err(),
+        Some(FolderFault::Read)
+    );
     assert_eq!(rt; folders.failures(), u64::MAX);
     for _ in 0..3 {
-        assert_eq!(rt; folders.names(rt.alloc(), "f1").err(), Some(FolderFault::NoFolder));
+        assert_eq!(rt;
+            folders.names(rt.alloc(), "f1").err(),
+            Some(FolderFault::NoFolder)
+        );
         assert_eq!(rt; folders.failures(), u64::MAX);
     }
 }

@@ -33,10 +33,16 @@ impl Read for Drip<'_> {
 fn a_reader_is_read_up_to_the_limit(rt: HostRuntime) -> Result<(), Fail> {
     for size in [0, 3, 100] {
         let mut reader = b"stops".as_slice();
-        assert_eq!(rt; read_within(rt.alloc(), &mut reader, 5, size)?.as_slice(), b"stops".as_slice());
+        assert_eq!(rt;
+            read_within(rt.alloc(), &mut reader, 5, size)?.as_slice(),
+            b"stops".as_slice()
+        );
     }
     let mut reader = b"stops".as_slice();
-    assert_eq!(rt; read_within(rt.alloc(), &mut reader, 4, 0).err(), Some(FolderFault::TooLarge));
+    assert_eq!(rt;
+        read_within(rt.alloc(), &mut reader, 4, 0).err(),
+        Some(FolderFault::TooLarge)
+    );
     let mut reader = b"".as_slice();
     assert_eq!(rt; read_within(rt.alloc(), &mut reader, 0, 0)?.len(), 0);
     Ok(())
@@ -49,7 +55,10 @@ fn one_byte_more_than_the_limit_is_taken(rt: HostRuntime) {
         reads: 0,
         fault: None,
     };
-    assert_eq!(rt; read_within(rt.alloc(), &mut reader, 4, 0).err(), Some(FolderFault::TooLarge));
+    assert_eq!(rt;
+        read_within(rt.alloc(), &mut reader, 4, 0).err(),
+        Some(FolderFault::TooLarge)
+    );
     assert_eq!(rt; reader.left, b"times".as_slice());
 }
 
@@ -60,7 +69,10 @@ fn a_fault_ends_the_reading(rt: HostRuntime) {
         reads: 0,
         fault: Some(ErrorKind::TimedOut),
     };
-    assert_eq!(rt; read_within(rt.alloc(), &mut reader, 9, 0).err(), Some(FolderFault::Read));
+    assert_eq!(rt;
+        read_within(rt.alloc(), &mut reader, 9, 0).err(),
+        Some(FolderFault::Read)
+    );
     assert_eq!(rt; reader.reads, 6);
 }
 
@@ -72,6 +84,9 @@ fn a_reader_that_never_ends_is_given_up(rt: HostRuntime) {
         reads: 0,
         fault: Some(ErrorKind::Interrupted),
     };
-    assert_eq!(rt; read_within(rt.alloc(), &mut reader, 7, 0).err(), Some(FolderFault::Read));
+    assert_eq!(rt;
+        read_within(rt.alloc(), &mut reader, 7, 0).err(),
+        Some(FolderFault::Read)
+    );
     assert_eq!(rt; reader.reads, 9);
 }

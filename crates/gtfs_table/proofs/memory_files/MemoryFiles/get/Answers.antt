@@ -1,6 +1,6 @@
 use Rattle.std.proofs.Common.{ap, sym, ◌∙◌, Some}
 use Rattle.std.specs.FinMap as finite
-use Rattle.gtfs_table.proofs.ByText.{get-by_text}
+use Rattle.gtfs_table.proofs.ByTextLemmas.{get-by_text}
 use Rattle.gtfs_table.proofs.memory_files.MemoryFiles.get.Goals as goal
 
 pub returns-in-Some : goal.returns-in-Some

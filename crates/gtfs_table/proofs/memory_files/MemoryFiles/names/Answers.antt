@@ -3,7 +3,7 @@ use Rattle.std.specs.BTreeMap as tree
 use Rattle.std.specs.FinMap as finite
 use Rattle.std.specs.Map.Iter.{deref}
 use Rattle.std.proofs.lemmas.Map.Iter.{iter_end}
-use Rattle.gtfs_table.proofs.ByText.{keys-by_text, map-deref}
+use Rattle.gtfs_table.proofs.ByTextLemmas.{keys-by_text, map-deref}
 use Rattle.gtfs_table.proofs.memory_files.MemoryFiles.names.Goals as goal
 
 pub returns : goal.returns

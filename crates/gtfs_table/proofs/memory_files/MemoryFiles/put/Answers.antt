@@ -1,6 +1,6 @@
 use Rattle.std.proofs.Common.{ap, ◌∙◌, string_bytes}
 use Rattle.std.specs.FinMap as finite
-use Rattle.gtfs_table.proofs.ByText.{by_text-inserted}
+use Rattle.gtfs_table.proofs.ByTextLemmas.{by_text-inserted}
 use Rattle.gtfs_table.proofs.memory_files.MemoryFiles.put.Goals as goal
 
 pub returns-clause-ok : goal.returns-clause-ok

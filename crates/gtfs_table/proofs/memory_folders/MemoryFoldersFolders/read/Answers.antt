@@ -2,7 +2,7 @@ use Rattle.std.proofs.Common.{◌≡◌, Some, ap, subst, ◌∙◌}
 use Rattle.std.proofs.lemmas.Result.{MatchResult-weaker}
 use Rattle.gtfs_table.specs.Folder.{RefusesRead}
 use Rattle.gtfs_table.specs.Held.{Held}
-use Rattle.gtfs_table.proofs.HeldFacts.{read-refused}
+use Rattle.gtfs_table.proofs.HeldLemmas.{read-refused}
 use Rattle.gtfs_table.proofs.memory_folders.MemoryFoldersFolders.read.Goals as goal
 
 pub returns-clause-refused : goal.returns-clause-refused

@@ -1,6 +1,6 @@
 use Rattle.std.proofs.Common.{refl, sym, ◌∙◌, ap}
 use Rattle.gtfs_table.specs.Held.{Held}
-use Rattle.gtfs_table.proofs.HeldFacts.{rises, differs-nowhere}
+use Rattle.gtfs_table.proofs.HeldLemmas.{rises, differs-nowhere}
 use Rattle.gtfs_table.proofs.memory_folders.MemoryFoldersFolders.write.Goals as goal
 
 pub returns-then-fails-clause-refused : goal.returns-then-fails-clause-refused

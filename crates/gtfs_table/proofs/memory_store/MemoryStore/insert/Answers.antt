@@ -1,4 +1,4 @@
-use Rattle.gtfs_table.proofs.ByText.{by_text-inserted}
+use Rattle.gtfs_table.proofs.ByTextLemmas.{by_text-inserted}
 use Rattle.gtfs_table.proofs.memory_store.MemoryStore.insert.Goals as goal
 
 pub returns-clause-ok : goal.returns-clause-ok

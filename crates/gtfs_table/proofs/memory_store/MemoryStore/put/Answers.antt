@@ -1,7 +1,7 @@
 use Rattle.std.proofs.Common.{◌≡◌, string_bytes, None, ap, sym, ◌∙◌}
 use Rattle.std.specs.FinMap as finite
-use Rattle.gtfs_table.specs.Folder.{by_text}
-use Rattle.gtfs_table.proofs.ByText.{put-through, kept-through, put-absent, get-by_text}
+use Rattle.gtfs_table.specs.ByText.{by_text}
+use Rattle.gtfs_table.proofs.ByTextLemmas.{put-through, kept-through, put-absent, get-by_text}
 use Rattle.std.proofs.lemmas.Result.{on_ok_weaker, on_err_weaker}
 use Rattle.gtfs_table.proofs.memory_store.MemoryStore.put.Goals as goal
 

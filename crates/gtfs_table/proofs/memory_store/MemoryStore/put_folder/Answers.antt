@@ -1,5 +1,5 @@
 use Rattle.std.proofs.Common.{sym}
-use Rattle.gtfs_table.proofs.ByText.{put_folder-present}
+use Rattle.gtfs_table.proofs.ByTextLemmas.{put_folder-present}
 use Rattle.gtfs_table.proofs.memory_store.MemoryStore.put_folder.Goals as goal
 
 pub returns-in-Some-clause-ok : goal.returns-in-Some-clause-ok

@@ -13,7 +13,8 @@ use Rattle.std.specs.List.Sorted.{IsStrictlySortedBy}
 use Rattle.std.specs.List.{AllByRecursion}
 use Rattle.std.proofs.lemmas.Cmp.{eq_by_cmp_equiv}
 use Rattle.std.proofs.lemmas.Map.Text.{is_eq-slice_cmp, btree_map_updates_text}
-use Rattle.gtfs_table.specs.Folder.{Files, Store, text_cmp, by_text, put, put_folder}
+use Rattle.gtfs_table.specs.Folder.{Files, Store, text_cmp, put, put_folder}
+use Rattle.gtfs_table.specs.ByText.{by_text}
 
 pub texts_total : IsTotalOrder text_cmp
 texts_total = nat_list_cmp_total
