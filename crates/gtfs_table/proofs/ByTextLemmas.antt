@@ -82,7 +82,7 @@ map-deref (k ∷ ks) = ap (λ ts. string_bytes k.now ∷ ts) (map-deref ks)
 
 -- ---- a store with one more file
 
-equal_of : (r : Ordering) → is_eq r ≡ true → r ≡ Equal
+pub equal_of : (r : Ordering) → is_eq r ≡ true → r ≡ Equal
 equal_of Less p = cc
 equal_of Equal p = refl
 equal_of Greater p = cc

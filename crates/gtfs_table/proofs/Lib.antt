@@ -1,3 +1,4 @@
 mod SentLemmas
-mod ByTextLemmas
+pub mod ByTextLemmas
+pub mod FolderLemmas
 mod HeldLemmas

@@ -1,4 +1,5 @@
-ghost use Rattle.std.specs.Prelude.{◌≡◌, ◌≤◌, map, option_map, string_bytes, IfOk, IfErr, OnOk, MatchResult};
+ghost use Rattle.std.specs.Prelude.{◌≡◌, ◌≤◌, map, option_map, string_bytes, string_cmp, vec_len, IfOk, IfErr, IfSome, IsNone, OnOk, MatchResult};
+ghost use Rattle.std.specs.List.Sorted.{IsSorted};
 ghost use Rattle.gtfs_table.specs.Folder.{Lists, Finds, Writes, RefusesNames, RefusesRead, RefusesWrite};
 ghost use Rattle.gtfs_table.specs.Disk.{told, after_fault, RefusesList, RefusesFile, RefusesStore};
 
@@ -86,6 +87,8 @@ impl<'a, R: Files + Alloc + Clone + Drop> Folders for DiskFolders<'a, R> {
         ensures unchanged { told self.new ≡ told self.old }
         ensures grows { self.old.failures ≤ self.new.failures }
 
+        ensures ordered { IfOk result (λ names. IsSorted string_cmp names.items) }
+        ensures few { IfOk result (λ names. vec_len names ≤ self.old.entries) }
         ensures counted { MatchResult result
             (λ _. self.new ≡ self.old)
             (λ fault. self.new ≡ after_fault fault self.old) }
@@ -106,6 +109,8 @@ impl<'a, R: Files + Alloc + Clone + Drop> Folders for DiskFolders<'a, R> {
         ensures unchanged { told self.new ≡ told self.old }
         ensures grows { self.old.failures ≤ self.new.failures }
 
+        ensures within { IfOk result
+            (λ file. IfSome file (λ bytes. vec_len bytes ≤ self.old.limit)) }
         ensures counted { MatchResult result
             (λ _. self.new ≡ self.old)
             (λ fault. self.new ≡ after_fault fault self.old) }
@@ -154,7 +159,9 @@ fn list<R: Files + Alloc + Clone + Drop>(
     dir: &str,
     entries: usize,
 ) -> Result<Vec<String>, FolderFault>
-    ensures { IfErr result RefusesList }
+    ensures ordered { IfOk result (λ names. IsSorted string_cmp names.items) }
+    ensures few { IfOk result (λ names. vec_len names ≤ entries) }
+    ensures refused { IfErr result RefusesList }
 {
     if dir.is_empty() {
         return Err(FolderFault::NoFolder);
@@ -198,7 +205,8 @@ fn read_file<R: Files>(
     name: &str,
     limit: u64,
 ) -> Result<Option<Vec<u8>>, FolderFault>
-    ensures { IfErr result RefusesFile }
+    ensures within { IfOk result (λ file. IfSome file (λ bytes. vec_len bytes ≤ limit)) }
+    ensures refused { IfErr result RefusesFile }
 {
     if dir.is_empty() {
         return Err(FolderFault::NoFolder);
@@ -224,7 +232,8 @@ fn without_file<R: Files>(
     path: &str,
     kind: ErrorKind,
 ) -> Result<Option<Vec<u8>>, FolderFault>
-    ensures { IfErr result RefusesFile }
+    ensures absent { IfOk result IsNone }
+    ensures refused { IfErr result RefusesFile }
 {
     if kind != ErrorKind::NotFound || !is_absent(rt, path) {
         return Err(FolderFault::Read);
