@@ -42,8 +42,9 @@ put store dir name bytes = map.insert store dir (map.insert (files_of store dir)
 abbrev pub put_folder : Store → List ℕ → Store
 put_folder store dir = map.insert store dir (files_of store dir)
 
--- ---- what a device answers, told is what it holds
+-- ---- what a call answers, beside what the device tells that it holds
 
+-- the names are those that the folder has
 abbrev pub Lists : Option Store → List ℕ → List (List ℕ) → Type 0
 Lists None dir names = ⊤
 Lists (Some store) dir names = names_in store dir ≡ Some names
@@ -53,10 +54,12 @@ abbrev pub Finds : Option Store → List ℕ → List ℕ → Option (List ℕ) 
 Finds None dir name file = ⊤
 Finds (Some store) dir name file = file_in store dir name ≡ Some file
 
+-- there is no such folder
 abbrev pub LacksFolder : Option Store → List ℕ → Type 0
 LacksFolder None dir = ⊤
 LacksFolder (Some store) dir = map.get store dir ≡ None
 
+-- there is such a file
 abbrev pub HasFile : Option Store → List ℕ → List ℕ → Type 0
 HasFile None dir name = ⊤
 HasFile (Some store) dir name = (bytes : List ℕ) × (file_in store dir name ≡ Some (Some bytes))

@@ -16,6 +16,7 @@ use std::marker::Model;
 /// Write, and no other call does.
 #[derive(Debug, Drop)]
 pub struct MemoryFolders {
+    alloc: Global,
     store: MemoryStore,
     limit: u64,
     fail: Option<u64>,
@@ -50,6 +51,7 @@ impl MemoryFolders {
             record { store = finite.empty; limit = limit; fail = fail; calls = 0; failures = 0 } }
     {
         MemoryFolders {
+            alloc,
             store: MemoryStore::new(alloc),
             limit,
             fail,
@@ -66,7 +68,7 @@ impl MemoryFolders {
             (self.new ≡ record self.old { store = put_folder self.old.store dir.now }) }
         ensures err { OnErr result (self.new ≡ self.old) }
     {
-        self.store.put_folder(dir)
+        self.store.put_folder(self.alloc, dir)
     }
 
     /// Makes these bytes the whole of a folder's file, and makes the folder where it is absent. It is no
@@ -78,7 +80,7 @@ impl MemoryFolders {
             (self.new ≡ record self.old { store = put self.old.store dir.now name.now bytes.now }) }
         ensures err { OnErr result (self.new ≡ self.old) }
     {
-        self.store.put(dir, name, bytes)
+        self.store.put(self.alloc, dir, name, bytes)
     }
 
     /// Counts a call, and says whether it is the one that fails.
@@ -151,7 +153,7 @@ impl Folders for MemoryFolders {
     /// file, as memory suffices.
     fn write(
         &mut self,
-        _alloc: Global,
+        alloc: Global,
         dir: &str,
         name: &str,
         bytes: &[u8],
@@ -174,7 +176,7 @@ impl Folders for MemoryFolders {
         if self.fails() {
             return Err(FolderFault::Write);
         }
-        self.store.put(dir, name, bytes)?;
+        self.store.put(alloc, dir, name, bytes)?;
         Ok(())
     }
 

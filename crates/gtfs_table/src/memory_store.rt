@@ -14,7 +14,6 @@ use std::marker::Model;
 /// Folders in memory, by their names.
 #[derive(Debug, Drop)]
 pub(crate) struct MemoryStore {
-    alloc: Global,
     folders: BTreeMap<String, MemoryFiles>,
 }
 
@@ -35,7 +34,6 @@ impl MemoryStore {
         ensures { result ≡ finite.empty }
     {
         MemoryStore {
-            alloc,
             folders: BTreeMap::new(alloc),
         }
     }
@@ -77,39 +75,45 @@ impl MemoryStore {
     }
 
     /// Adds a folder, empty, where it is absent. A refusal leaves all as it was.
-    pub(crate) fn put_folder(&mut self, dir: &str) -> Result<(), OutOfMemory>
+    pub(crate) fn put_folder(&mut self, alloc: Global, dir: &str) -> Result<(), OutOfMemory>
         ensures ok { OnOk result (self.new ≡ put_folder self.old dir.now) }
         ensures err { OnErr result (self.new ≡ self.old) }
     {
         match self.files(dir) {
             Some(_) => Ok(()),
-            None => self.insert(dir, MemoryFiles::new(self.alloc)),
+            None => self.insert(alloc, dir, MemoryFiles::new(alloc)),
         }
     }
 
     /// Makes these bytes the whole of a folder's file, and makes the folder where it is absent. A refusal
     /// leaves all as it was.
-    pub(crate) fn put(&mut self, dir: &str, name: &str, bytes: &[u8]) -> Result<(), OutOfMemory>
+    pub(crate) fn put(
+        &mut self,
+        alloc: Global,
+        dir: &str,
+        name: &str,
+        bytes: &[u8],
+    ) -> Result<(), OutOfMemory>
         ensures ok { OnOk result (self.new ≡ put self.old dir.now name.now bytes.now) }
         ensures err { OnErr result (self.new ≡ self.old) }
     {
-        let name = String::from_str(self.alloc, name)?;
-        let bytes = List::new(Vec::from_slice(self.alloc, bytes)?);
+        let name = String::from_str(alloc, name)?;
+        let bytes = List::new(Vec::from_slice(alloc, bytes)?);
         match self.folders.get_mut(dir) {
             Some(files) => files.put(name, bytes),
             None => {
-                let mut files = MemoryFiles::new(self.alloc);
+                let mut files = MemoryFiles::new(alloc);
                 files.put(name, bytes)?;
-                self.insert(dir, files)
+                self.insert(alloc, dir, files)
             }
         }
     }
 
-    fn insert(&mut self, dir: &str, files: MemoryFiles) -> Result<(), OutOfMemory>
+    fn insert(&mut self, alloc: Global, dir: &str, files: MemoryFiles) -> Result<(), OutOfMemory>
         ensures ok { OnOk result (self.new ≡ finite.insert self.old dir.now files) }
         ensures err { OnErr result (self.new ≡ self.old) }
     {
-        let dir = String::from_str(self.alloc, dir)?;
+        let dir = String::from_str(alloc, dir)?;
         self.folders.insert(dir, files)?;
         Ok(())
     }

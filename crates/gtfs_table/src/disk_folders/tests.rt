@@ -120,7 +120,7 @@ fn what_cannot_be_written_counts_as_a_failure(rt: HostRuntime) -> Result<(), Fai
         ("", "stops.txt"),
         (below.as_str(), "stops.txt"),
         (base.as_str(), "folder"),
-        ("/proc/none", "a"),
+        ("/dev/null", "a"),
     ];
     for (dir, name) in cases {
         assert_eq!(rt;

@@ -121,6 +121,7 @@ fn each_call_fails_in_turn(rt: HostRuntime) -> Result<(), Fail> {
 #[test]
 fn full_counts_stay(rt: HostRuntime) {
     let mut folders = MemoryFolders {
+        alloc: rt.alloc(),
         store: MemoryStore::new(rt.alloc()),
         limit: 0,
         fail: Some(u64::MAX - 1),
