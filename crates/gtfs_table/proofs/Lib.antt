@@ -1,0 +1,4 @@
+mod SentLemmas
+pub mod ByTextLemmas
+pub mod FolderLemmas
+mod HeldLemmas

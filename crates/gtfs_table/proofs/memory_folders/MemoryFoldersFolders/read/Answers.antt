@@ -1,0 +1,13 @@
+use Rattle.std.proofs.Common.{◌≡◌, Some, ap, subst, ◌∙◌}
+use Rattle.std.proofs.lemmas.Result.{MatchResult-weaker}
+use Rattle.gtfs_table.specs.Folder.{RefusesRead}
+use Rattle.gtfs_table.specs.Held.{Held}
+use Rattle.gtfs_table.proofs.HeldLemmas.{read-refused}
+use Rattle.gtfs_table.proofs.memory_folders.MemoryFoldersFolders.read.Goals as goal
+
+pub returns-clause-refused : goal.returns-clause-refused
+returns-clause-refused c =
+    let kept : c.self.inside.store ≡ c.args.self.now.store = ap (λ (h : Held). h.store) (c.self.view_is ∙ c.fails.ensures.after) in
+    MatchResult-weaker c.read.result c.read.ensures (λ file e. tt) (λ fault r.
+    subst (λ s. RefusesRead fault (Some s) c.args.dir.now c.args.name.now c.args.self.now.failures c.fails.new.self.failures) kept
+    (read-refused c.self.inside.limit c.self.inside.store c.args.dir.now c.args.name.now c.args.self.now.failures c.fails.new.self.failures fault r))

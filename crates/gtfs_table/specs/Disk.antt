@@ -1,0 +1,49 @@
+-- Folders on a disk, which tell nothing of what they hold: what their answers rest on.
+use Rattle.std.specs.Prelude.{ℕ, Option, None, ⊤}
+use Rattle.gtfs_table.specs.Device.{counted}
+use Rattle.gtfs_table.specs.Folder.{Store}
+use Rattle.gtfs_table.specs.declared.folders.FolderFault.{FolderFault}
+use Rattle.gtfs_table.specs.declared.folders.FolderFault.TheVariants.{Read, TooLarge, OutOfMemory, NoFolder, Write}
+
+-- the greatest length of a file that is read, the most entries of a folder that is listed, and how many
+-- calls failed
+pub record Disk : Type 0 where
+  pub limit : ℕ
+  pub entries : ℕ
+  pub failures : ℕ
+
+-- it tells nothing of what it holds
+abbrev pub told : Disk → Option Store
+told disk = None
+
+-- the state after a call that ended in a fault: the count rises where the device failed
+abbrev pub after_fault : FolderFault → Disk → Disk
+after_fault Read disk = record disk { failures = counted disk.failures }
+after_fault TooLarge disk = disk
+after_fault OutOfMemory disk = disk
+after_fault NoFolder disk = disk
+after_fault Write disk = record disk { failures = counted disk.failures }
+
+-- why a folder is not listed
+abbrev pub RefusesList : FolderFault → Type 0
+RefusesList Read = ⊤
+RefusesList TooLarge = ⊥
+RefusesList OutOfMemory = ⊤
+RefusesList NoFolder = ⊤
+RefusesList Write = ⊥
+
+-- why a file is not read
+abbrev pub RefusesFile : FolderFault → Type 0
+RefusesFile Read = ⊤
+RefusesFile TooLarge = ⊤
+RefusesFile OutOfMemory = ⊤
+RefusesFile NoFolder = ⊤
+RefusesFile Write = ⊥
+
+-- why a file is not written
+abbrev pub RefusesStore : FolderFault → Type 0
+RefusesStore Read = ⊥
+RefusesStore TooLarge = ⊥
+RefusesStore OutOfMemory = ⊤
+RefusesStore NoFolder = ⊥
+RefusesStore Write = ⊤

@@ -1,0 +1,111 @@
+ghost use Rattle.std.specs.Prelude.{◌≡◌, ◌≤◌, ℕ, Option, map, option_map, string_bytes, IfOk, IfErr, OnOk};
+ghost use Rattle.gtfs_table.specs.Folder.{Store, Lists, Finds, Writes, RefusesNames, RefusesRead, RefusesWrite};
+
+use gtfs_field::OutOfMemory;
+use std::alloc::{AllocFailed, Global};
+use thiserror::Error;
+
+/// Why a call on folders was refused.
+#[derive(Clone, Copy, Debug, PartialEq, Eq, Error)]
+pub enum FolderFault {
+    /// The folder or the file could not be read. The count of failures rose.
+    #[error("cannot be read")]
+    Read = 1,
+    /// The file is longer than the device's limit.
+    #[error("holds a file over the limit")]
+    TooLarge = 2,
+    /// Memory was refused.
+    #[error("out of memory")]
+    OutOfMemory = 3,
+    /// There is no such folder.
+    #[error("is not there")]
+    NoFolder = 4,
+    /// The file could not be written. The count of failures rose.
+    #[error("cannot be written")]
+    Write = 5,
+}
+
+impl From<OutOfMemory> for FolderFault {
+    ghost use Rattle.std.specs.Prelude.{◌≡◌};
+    ghost use Rattle.gtfs_table.specs.declared.folders.FolderFault.TheVariants.{OutOfMemory as no_memory};
+
+    ghost from_gives = { λ _ fault. fault ≡ no_memory };
+
+    fn from(_refused: OutOfMemory) -> FolderFault {
+        FolderFault::OutOfMemory
+    }
+}
+
+impl<T: Drop> From<AllocFailed<T>> for FolderFault {
+    ghost use Rattle.std.specs.Prelude.{◌≡◌};
+    ghost use Rattle.gtfs_table.specs.declared.folders.FolderFault.TheVariants.{OutOfMemory as no_memory};
+
+    ghost from_gives = { λ _ fault. fault ≡ no_memory };
+
+    fn from(_refused: AllocFailed<T>) -> FolderFault {
+        FolderFault::OutOfMemory
+    }
+}
+
+/// A device that holds folders of files (GTFS Schedule Reference, "Dataset Files"): each file lies in a
+/// folder under a name, and is a list of bytes.
+///
+/// A device counts its failures. It answers Read and Write only where that count rose in the very call;
+/// a count at 2^64 - 1 stays there and counts as risen. What a device holds it may tell or not tell, as a
+/// disk does not: the clauses on what it holds claim nothing then.
+pub trait Folders {
+    ghost held: { Self → Option Store };
+
+    ghost failure_count: { Self → ℕ };
+
+    /// The names of what lies in a folder, in byte order.
+    ///
+    /// Refused with Read, with NoFolder where there is no such folder, and with OutOfMemory.
+    fn names(&mut self, alloc: Global, dir: &str) -> Result<Vec<String>, FolderFault>
+        ensures lists { IfOk result
+            (λ names. Lists (held self.old) dir.now (map string_bytes names.items)) }
+        ensures refused { IfErr result
+            (λ fault. RefusesNames fault (held self.old) dir.now
+            (failure_count self.old) (failure_count self.new)) }
+        ensures unchanged { held self.new ≡ held self.old }
+        ensures grows { failure_count self.old ≤ failure_count self.new };
+
+    /// The bytes of a folder's file, or None where the folder has no such file.
+    ///
+    /// Refused with Read, with TooLarge where the file is longer than the device's limit, with NoFolder
+    /// where there is no such folder, and with OutOfMemory.
+    fn read(&mut self, alloc: Global, dir: &str, name: &str) -> Result<Option<Vec<u8>>, FolderFault>
+        ensures finds { IfOk result
+            (λ file. Finds (held self.old) dir.now name.now (option_map (λ bytes. bytes.items) file)) }
+        ensures refused { IfErr result
+            (λ fault. RefusesRead fault (held self.old) dir.now name.now
+            (failure_count self.old) (failure_count self.new)) }
+        ensures unchanged { held self.new ≡ held self.old }
+        ensures grows { failure_count self.old ≤ failure_count self.new };
+
+    /// Makes these bytes the whole of a folder's file. Makes the folder where it is absent, and takes the
+    /// place of a file that was there. It judges no limit.
+    ///
+    /// Refused with OutOfMemory, which leaves all as it was, and with Write, after which the content of
+    /// that one file is open.
+    fn write(
+        &mut self,
+        alloc: Global,
+        dir: &str,
+        name: &str,
+        bytes: &[u8],
+    ) -> Result<(), FolderFault>
+        ensures written { OnOk result
+            (Writes (held self.old) (held self.new) dir.now name.now bytes.now) }
+        ensures refused { IfErr result
+            (λ fault. RefusesWrite fault (held self.old) (held self.new) dir.now name.now
+            (failure_count self.old) (failure_count self.new)) }
+        ensures grows { failure_count self.old ≤ failure_count self.new };
+
+    /// How often a call failed with Read or Write, at most 2^64 - 1.
+    fn failures(&self) -> u64
+        ensures { result ≡ failure_count self.now };
+}
+
+#[cfg(test)]
+mod tests;
