@@ -1,4 +1,15 @@
-mod SentLemmas
+pub mod AllRecords
+pub mod BlankFacts
 pub mod ByTextLemmas
+pub mod FieldFacts
+pub mod FolderFacts
 pub mod FolderLemmas
 mod HeldLemmas
+pub mod MarkFacts
+pub mod PartFacts
+pub mod ReadSteps
+mod SentLemmas
+pub mod StoreFacts
+pub mod Utf8Fields
+pub mod ValueFacts
+pub mod WriteFacts

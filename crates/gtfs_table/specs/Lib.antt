@@ -1,5 +1,12 @@
-pub mod Device
-pub mod Folder
+pub mod Blanks
 pub mod ByText
-pub mod Held
+pub mod Device
 pub mod Disk
+pub mod Files
+pub mod Folder
+pub mod Held
+pub mod Parts
+pub mod Reading
+pub mod Storage
+pub mod Tables
+pub mod Written

@@ -2,7 +2,7 @@ ghost use Rattle.std.specs.Prelude.{◌≡◌, ◌<◌, ◌≤◌, ◌-◌, ◌+
 ghost use Rattle.std.specs.Io.KnownBytes.{Appends, Keeps};
 ghost use Rattle.gtfs_table.specs.Device.{Sent, Rises, counted};
 
-use crate::out::{Failed, Out};
+use crate::output::{Failed, Out};
 use gtfs_field::OutOfMemory;
 use std::alloc::Global;
 use std::marker::Model;

@@ -2,7 +2,7 @@ ghost use Rattle.std.specs.Prelude.{◌≡◌, ◌<◌, ◌≤◌, length, take,
 ghost use Rattle.std.specs.Io.KnownBytes.{Appends, Keeps};
 ghost use Rattle.gtfs_table.specs.Device.{Rises, counted};
 
-use crate::out::{Failed, Out};
+use crate::output::{Failed, Out};
 use std::io::{ErrorKind, Write};
 use std::marker::Model;
 

@@ -1,5 +1,5 @@
 use super::MemoryOut;
-use crate::out::{Failed, Out};
+use crate::output::{Failed, Out};
 use std::test::Fail;
 
 #[test]

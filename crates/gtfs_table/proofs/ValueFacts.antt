@@ -1,0 +1,45 @@
+-- Fields and columns of a table.
+use Rattle.std.proofs.Common.{◌≡◌, ◌<◌, ◌≤◌, ◌+◌, ◌-◌, ◌==◌, ◌∷◌, ◌∙◌, ◌⊎◌, [], ℕ, zero, suc, List, Bool, Option, Some, None, cond, length, take, get_or, refl, sym, ap, arith, true, false, inl, inr}
+use Rattle.std.specs.Prelude.{position, bytes_eq}
+use Rattle.std.specs.List.{position_from}
+use Rattle.std.proofs.lemmas.Bool.{cases_Bool, ne_eqb}
+use Rattle.std.proofs.lemmas.List.{get_or_past}
+use Rattle.std.proofs.lemmas.Iterator.Adapters.{position_from-zero}
+use Rattle.gtfs_table.specs.Blanks.{cut, without_first_blanks}
+use Rattle.gtfs_table.specs.Tables.{Records, record_at, field_cut, column_of}
+
+pub cut-none : cut [] ≡ []
+unfolding without_first_blanks
+cut-none = refl
+
+-- a row that is not there
+pub no-record : (rs : Records) (row n : ℕ) → (row ≡ 0) ⊎ (length rs < row) → [] ≡ field_cut (record_at rs row) n
+no-record rs row n (inl e) = rw e (sym cut-none)
+no-record rs row n (inr h) =
+    let some : (row == 0) ≡ false = ne_eqb row 0 (λ z. omega arith) in
+    let none : get_or rs (row - 1) [] ≡ [] = get_or_past rs (row - 1) [] (omega arith) in
+    rw (some, none) (sym cut-none)
+
+-- the first place that passes
+from-at : {X : Type 0} (p : X → Bool) (k : ℕ) (xs : List X) (n : ℕ) (d : X) → position_from p k (take n xs) ≡ None → n < length xs → p (get_or xs n d) ≡ true
+    → position_from p k xs ≡ Some (k + n)
+from-at p k [] n d before h here = absurd (omega arith)
+from-at p k (x ∷ xs) zero d before h here = let e : k + 0 ≡ k = omega arith in rw (here, e) refl
+from-at p k (x ∷ xs) (suc n) d before h here = elim (cases_Bool (p x)) [
+  | inl is ↦ let q = rw is at before in cc q
+  | inr not ↦
+      let q = rw not at before in
+      let e : (k + 1) + n ≡ k + suc n = omega arith in
+      rw not (from-at p (k + 1) xs n d q (omega arith) here ∙ ap (λ (z : ℕ). Some z) e)
+]
+
+pub position-at : {X : Type 0} (p : X → Bool) (xs : List X) (n : ℕ) (d : X) → position p (take n xs) ≡ None → n < length xs → p (get_or xs n d) ≡ true → position p xs ≡ Some n
+position-at p xs n d before h here =
+    let e : 0 + n ≡ n = omega arith in
+    position_from-zero p xs ∙ from-at p 0 xs n d (sym (position_from-zero p (take n xs)) ∙ before) h here ∙ ap (λ (z : ℕ). Some z) e
+
+pub column-at : (rs : Records) (name : List ℕ) (n : ℕ) → (length name == 0) ≡ false → position (λ column. bytes_eq (cut column) name) (take n (record_at rs 1)) ≡ None
+    → n < length (record_at rs 1) → bytes_eq (field_cut (record_at rs 1) n) name ≡ true → Some n ≡ column_of rs name
+column-at rs name n some before h here =
+    let p : List ℕ → Bool = λ column. bytes_eq (cut column) name in
+    rw some (sym (position-at p (record_at rs 1) n [] before h here))

@@ -1,0 +1,13 @@
+use Rattle.std.proofs.Common.{◌≡◌, ◌<◌, ◌∙◌, ◌==◌, sym, length, true, false}
+use Rattle.std.specs.Prelude.{bytes_eq}
+use Rattle.gtfs_table.specs.Tables.{record_at, field_cut}
+use Rattle.gtfs_table.proofs.ValueFacts.{column-at}
+use Rattle.gtfs_table.proofs.table.FileTable.column.Goals as goal
+
+pub returns-then-eq : goal.returns-then-eq
+returns-then-eq c =
+    let some : (length c.args.name.now == 0) ≡ false = sym c.is_empty.ensures ∙ c.if-is_empty.false in
+    let within = rw (c.fields-n-end.ensures) at c.loop-n-test.true in
+    let here : bytes_eq (field_cut (record_at c.args.self.now.records 1) c.loop-n.n) c.args.name.now ≡ true =
+    rw (← c.field.ensures) (sym c.eq.ensures ∙ c.if-eq.true) in
+    column-at c.args.self.now.records c.args.name.now c.loop-n.n some c.loop-n.invariant within here

@@ -1,0 +1,42 @@
+ghost use Rattle.std.specs.Prelude.{◌≡◌, reverse};
+ghost use Rattle.gtfs_table.specs.Blanks.{cut, is_blank as blank_of, without_first_blanks};
+
+/// The text without the blanks at its ends: a blank is a space or a control character (codes 0 to 31, and 127).
+pub(crate) fn cut(text: &str) -> &str
+    ensures { result.now ≡ cut text.now }
+{
+    let bytes = cut_end(cut_start(text.as_bytes()));
+    unsafe { str::from_utf8_unchecked(bytes) }
+}
+
+fn cut_start(bytes: &[u8]) -> &[u8]
+    ensures { result.now ≡ without_first_blanks bytes.now }
+{
+    let mut left = bytes;
+    while let [first, rest @ ..] = left {
+        if !is_blank(*first) {
+            break;
+        }
+        left = rest;
+    }
+    left
+}
+
+fn cut_end(bytes: &[u8]) -> &[u8]
+    ensures { result.now ≡ reverse (without_first_blanks (reverse bytes.now)) }
+{
+    let mut left = bytes;
+    while let [rest @ .., last] = left {
+        if !is_blank(*last) {
+            break;
+        }
+        left = rest;
+    }
+    left
+}
+
+fn is_blank(byte: u8) -> bool
+    ensures { result ≡ blank_of byte }
+{
+    byte <= 32 || byte == 127
+}

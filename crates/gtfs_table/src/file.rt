@@ -1,0 +1,48 @@
+ghost use Rattle.std.specs.Prelude.{◌≡◌};
+ghost use Rattle.gtfs_table.specs.Files.{file_name};
+
+/// One of the nine files of a GTFS Schedule dataset that are read and kept ("Dataset Files" of the GTFS Schedule Reference).
+#[derive(Clone, Copy, Debug, PartialEq, Eq)]
+pub enum File {
+    Agency,
+    Stops,
+    Routes,
+    Trips,
+    StopTimes,
+    Calendar,
+    CalendarDates,
+    Frequencies,
+    Transfers,
+}
+
+impl File {
+    /// The nine files, in the order in which they are read and written.
+    pub const ALL: [File; 9] = [
+        File::Agency,
+        File::Stops,
+        File::Routes,
+        File::Trips,
+        File::StopTimes,
+        File::Calendar,
+        File::CalendarDates,
+        File::Frequencies,
+        File::Transfers,
+    ];
+
+    /// The file's name in a dataset's folder, as `stop_times.txt`.
+    pub fn name(self) -> &'static str
+        ensures { result.now ≡ file_name self }
+    {
+        match self {
+            File::Agency => "agency.txt",
+            File::Stops => "stops.txt",
+            File::Routes => "routes.txt",
+            File::Trips => "trips.txt",
+            File::StopTimes => "stop_times.txt",
+            File::Calendar => "calendar.txt",
+            File::CalendarDates => "calendar_dates.txt",
+            File::Frequencies => "frequencies.txt",
+            File::Transfers => "transfers.txt",
+        }
+    }
+}

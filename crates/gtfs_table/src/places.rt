@@ -1,0 +1,84 @@
+ghost use Rattle.std.specs.Prelude.{◌≡◌, ◌<◌, ◌+◌, ◌++◌, ◌∷◌, [], length, take, OnOk, OnErr, slice_index, slice_index_or};
+
+use gtfs_field::OutOfMemory;
+use std::alloc::Global;
+use std::marker::Model;
+
+/// A list of places in a buffer, of four bytes each until the first that takes more.
+#[derive(Drop)]
+pub(crate) struct Places {
+    narrow: Vec<u32>,
+    wide: Vec<u64>,
+}
+
+impl Model for Places {
+    ghost use Rattle.std.specs.Prelude.{List, ℕ, ◌++◌};
+
+    ghost Value = { List ℕ };
+
+    ghost view = { λ p. p.narrow.items ++ p.wide.items };
+}
+
+impl Places {
+    pub(crate) fn new(alloc: Global) -> Places
+        ensures { result ≡ [] }
+    {
+        Places {
+            narrow: Vec::new(alloc),
+            wide: Vec::new(alloc),
+        }
+    }
+
+    pub(crate) fn len(&self) -> usize
+        ensures { result ≡ length self.now }
+    {
+        self.narrow.len() + self.wide.len()
+    }
+
+    /// The place with this number, from 0.
+    pub(crate) fn get(&self, i: usize) -> usize
+        requires { i < length self.now }
+        ensures { result ≡ slice_index self.now i }
+    {
+        let narrow = self.narrow.len();
+        if i < narrow {
+            self.narrow[i] as usize
+        } else {
+            self.wide[i - narrow] as usize
+        }
+    }
+
+    /// Where the part that begins at the place with this number ends: at the next place, or else at `size`.
+    pub(crate) fn end_of(&self, i: usize, size: usize) -> usize
+        requires { i < length self.now }
+        ensures { result ≡ slice_index_or self.now (i + 1) size }
+    {
+        let last = self.len() - 1;
+        if i < last { self.get(i + 1) } else { size }
+    }
+
+    /// Adds a place at the end. A refusal leaves the list as it was.
+    pub(crate) fn push(&mut self, place: usize) -> Result<(), OutOfMemory>
+        ensures ok { OnOk result (self.new ≡ self.old ++ place ∷ []) }
+        ensures err { OnErr result (self.new ≡ self.old) }
+    {
+        match u32::try_from(place) {
+            Ok(narrow) if self.wide.is_empty() => self.narrow.push(narrow)?,
+            _ => self.wide.push(place as u64)?,
+        }
+        Ok(())
+    }
+
+    /// Keeps the first places, as many as `count`.
+    pub(crate) fn truncate(&mut self, count: usize)
+        ensures { self.new ≡ take count self.old }
+    {
+        let narrow = self.narrow.len();
+        if count < narrow {
+            self.narrow.truncate(count);
+            self.wide.clear();
+        } else {
+            self.wide.truncate(count - narrow);
+        }
+    }
+}

@@ -1,0 +1,117 @@
+ghost use Rattle.std.specs.Prelude.{All, ◌≡◌, ◌<◌, ◌++◌, ◌∷◌, [], length, OnOk, OnErr, slice_index_or};
+ghost use Rattle.csv.specs.Records.{AllText, fields_of};
+ghost use Rattle.gtfs_table.specs.Parts.{add_to_last};
+
+use crate::places::Places;
+use crate::texts::Texts;
+use csv::ByteRecord;
+use gtfs_field::OutOfMemory;
+use std::alloc::Global;
+use std::marker::Model;
+
+/// The records of a file, whose fields lie in one buffer.
+#[derive(Drop)]
+pub(crate) struct Records {
+    fields: Texts,
+    starts: Places,
+}
+
+impl Model for Records {
+    ghost use Rattle.std.specs.Prelude.{List, ℕ};
+
+    ghost Value = { List (List (List ℕ)) };
+
+    ghost use Rattle.gtfs_table.specs.Storage.{records_in, IsRecordStore};
+
+    ghost view = { records_in };
+
+    ghost invariant = { IsRecordStore };
+}
+
+impl Records {
+    pub(crate) fn new(alloc: Global) -> Records
+        ensures { result ≡ [] }
+    {
+        Records {
+            fields: Texts::new(alloc),
+            starts: Places::new(alloc),
+        }
+    }
+
+    pub(crate) fn len(&self) -> usize
+        ensures { result ≡ length self.now }
+    {
+        self.starts.len()
+    }
+
+    /// How many fields the record with this number has, from 0.
+    pub(crate) fn fields(&self, i: usize) -> usize
+        requires { i < length self.now }
+        ensures { result ≡ length (slice_index_or self.now i []) }
+    {
+        let start = self.starts.get(i);
+        let end = self.starts.end_of(i, self.fields.len());
+        end - start
+    }
+
+    /// A field of a record, both numbered from 0: the empty text where the record has no such field.
+    pub(crate) fn field(&self, i: usize, n: usize) -> &str
+        requires { i < length self.now }
+        ensures { result.now ≡ slice_index_or (slice_index_or self.now i []) n [] }
+    {
+        let start = self.starts.get(i);
+        let end = self.starts.end_of(i, self.fields.len());
+        if n < end - start {
+            self.fields.get(start + n)
+        } else {
+            ""
+        }
+    }
+
+    /// Each record has a field, and each field is UTF-8: facts for callers.
+    pub(crate) fn are_filled_with_text(&self)
+        ensures filled { All (λ fields. 0 < length fields) self.now }
+        ensures text { All AllText self.now }
+    {
+        self.fields.are_utf8();
+    }
+
+    /// Adds a record of one field. A refusal leaves the records as they were.
+    pub(crate) fn push_record(&mut self, field: &str) -> Result<(), OutOfMemory>
+        ensures ok { OnOk result (self.new ≡ self.old ++ (field.now ∷ []) ∷ []) }
+        ensures err { OnErr result (self.new ≡ self.old) }
+    {
+        let count = self.starts.len();
+        self.starts.push(self.fields.len())?;
+        let pushed = self.fields.push(field);
+        if pushed.is_err() {
+            self.starts.truncate(count);
+        }
+        pushed
+    }
+
+    /// Adds a record that `csv` read. A refusal leaves the records as they were.
+    pub(crate) fn push_row(&mut self, row: &ByteRecord) -> Result<(), OutOfMemory>
+        requires text { AllText (fields_of row.now) }
+        requires filled { 0 < length (fields_of row.now) }
+        ensures ok { OnOk result (self.new ≡ self.old ++ fields_of row.now ∷ []) }
+        ensures err { OnErr result (self.new ≡ self.old) }
+    {
+        let count = self.starts.len();
+        self.starts.push(self.fields.len())?;
+        let pushed = self.fields.append(row);
+        if pushed.is_err() {
+            self.starts.truncate(count);
+        }
+        pushed
+    }
+
+    /// Adds a field to the last record. A refusal leaves the records as they were.
+    pub(crate) fn push_field(&mut self, field: &str) -> Result<(), OutOfMemory>
+        requires { 0 < length self.old }
+        ensures ok { OnOk result (self.new ≡ add_to_last self.old field.now) }
+        ensures err { OnErr result (self.new ≡ self.old) }
+    {
+        self.fields.push(field)
+    }
+}

@@ -1,0 +1,121 @@
+ghost use Rattle.std.specs.Prelude.{◌≡◌, ◌<◌, length, option_map, IfOk, OnOk, OnErr};
+ghost use Rattle.gtfs_table.specs.Tables.{absent, column_of, field_cut, record_at, with_field, with_record};
+ghost use Rattle.gtfs_table.specs.Written.{text_of_table, ReadsBack};
+
+use crate::records::Records;
+use crate::state::State;
+use crate::{blanks, writer};
+use gtfs_field::OutOfMemory;
+use std::alloc::Global;
+use std::marker::Model;
+
+/// What is known of one kept file, and its records.
+pub(crate) struct FileTable {
+    pub(crate) state: State,
+    pub(crate) records: Records,
+}
+
+impl Model for FileTable {
+    ghost use Rattle.gtfs_table.specs.Tables.{Table};
+
+    ghost Value = { Table };
+
+    ghost view = { λ t. record { state = t.state; records = t.records } };
+}
+
+// Written out, so that a function that lets a table go has one call to prove.
+impl Drop for FileTable {
+    fn drop(self) {
+        let FileTable {
+            state: _,
+            records: _,
+        } = self;
+    }
+}
+
+impl FileTable {
+    /// The table of a file that is not there.
+    pub(crate) fn absent(alloc: Global) -> FileTable
+        ensures { result ≡ absent }
+    {
+        FileTable {
+            state: State::Absent,
+            records: Records::new(alloc),
+        }
+    }
+
+    pub(crate) fn state(&self) -> State
+        ensures { result ≡ self.now.state }
+    {
+        self.state
+    }
+
+    pub(crate) fn len(&self) -> usize
+        ensures { result ≡ length self.now.records }
+    {
+        self.records.len()
+    }
+
+    /// How many fields the record of a row has, from 1: none where there is no such row.
+    pub(crate) fn fields(&self, row: usize) -> usize
+        ensures { result ≡ length (record_at self.now.records row) }
+    {
+        if row == 0 || row > self.records.len() {
+            return 0;
+        }
+        self.records.fields(row - 1)
+    }
+
+    /// A field of a row, cut of its blanks: the empty text where there is no such field.
+    pub(crate) fn field(&self, row: usize, n: usize) -> &str
+        ensures { result.now ≡ field_cut (record_at self.now.records row) n }
+    {
+        if row == 0 || row > self.records.len() {
+            return "";
+        }
+        blanks::cut(self.records.field(row - 1, n))
+    }
+
+    /// The place of the first column of this name in the header.
+    pub(crate) fn column(&self, name: &str) -> Option<usize>
+        ensures { result ≡ column_of self.now.records name.now }
+    {
+        if name.is_empty() {
+            return None;
+        }
+        for n in 0..self.fields(1) {
+            if self.field(1, n) == name {
+                return Some(n);
+            }
+        }
+        None
+    }
+
+    pub(crate) fn push_record(&mut self, field: &str) -> Result<(), OutOfMemory>
+        ensures ok { OnOk result (self.new ≡ with_record self.old field.now) }
+        ensures err { OnErr result (self.new ≡ self.old) }
+    {
+        self.records.push_record(field)?;
+        self.state = State::Read;
+        Ok(())
+    }
+
+    pub(crate) fn push_field(&mut self, field: &str) -> Result<(), OutOfMemory>
+        requires { 0 < length self.old.records }
+        ensures ok { OnOk result (self.new ≡ with_field self.old field.now) }
+        ensures err { OnErr result (self.new ≡ self.old) }
+    {
+        self.records.push_field(field)
+    }
+
+    /// The text of the records as `csv` writes it: none where the file is absent.
+    pub(crate) fn write(&self, alloc: Global) -> Result<Option<Vec<u8>>, OutOfMemory>
+        ensures text { IfOk result (λ text. option_map (λ bytes. bytes.items) text ≡ text_of_table self.now) }
+        ensures reads_back { IfOk result (λ text. ReadsBack self.now (option_map (λ bytes. bytes.items) text)) }
+    {
+        match self.state {
+            State::Absent => Ok(None),
+            State::NotUtf8 | State::Read => Ok(Some(writer::write_records(alloc, &self.records)?)),
+        }
+    }
+}

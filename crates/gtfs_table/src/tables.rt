@@ -1,0 +1,305 @@
+ghost use Rattle.std.specs.Prelude.{◌≡◌, ◌<◌, ◌≤◌, not, filter, length, map, option_map, string_bytes, IfOk, IfErr, OnOk, OnErr};
+ghost use Rattle.gtfs_table.specs.Files.{file_name};
+ghost use Rattle.gtfs_table.specs.Folder.{RefusesRead};
+ghost use Rattle.gtfs_table.specs.Reading.{is_kept, kept_files, HoldsDataset, HoldsTable, RefusesDataset, SetsTables};
+ghost use Rattle.gtfs_table.specs.Tables.{column_of, empty_dataset, field_cut, record_at, table_of, value, with_field, with_record, with_table};
+ghost use Rattle.gtfs_table.specs.Written.{text_of_table, ReadsBack};
+
+use crate::file::File;
+use crate::folders::{FolderFault, Folders};
+use crate::reader;
+use crate::state::State;
+use crate::table::FileTable;
+use gtfs_field::{OutOfMemory, Text};
+use std::alloc::Global;
+use std::marker::Model;
+
+/// The nine kept files of a GTFS Schedule dataset as tables, and the names of what else its folder holds.
+///
+/// A table is a list of records of fields. Rows are numbered from 1, and row 1 is the header; fields and
+/// columns are numbered from 0. A table keeps its fields as they were read or pushed; what reads a field
+/// cuts the blanks (spaces and control characters) at both its ends.
+pub struct Tables {
+    agency: FileTable,
+    stops: FileTable,
+    routes: FileTable,
+    trips: FileTable,
+    stop_times: FileTable,
+    calendar: FileTable,
+    calendar_dates: FileTable,
+    frequencies: FileTable,
+    transfers: FileTable,
+    others: Vec<Text>,
+}
+
+impl Model for Tables {
+    ghost use Rattle.gtfs_table.specs.Tables.{Dataset};
+
+    ghost Value = { Dataset };
+
+    ghost view = { λ t. record { agency = t.agency; stops = t.stops; routes = t.routes; trips = t.trips; stop_times = t.stop_times; calendar = t.calendar; calendar_dates = t.calendar_dates; frequencies = t.frequencies; transfers = t.transfers; others = t.others.items } };
+}
+
+// Written out, so that a function that lets tables go has one call to prove.
+impl Drop for Tables {
+    fn drop(self) {
+        let Tables {
+            agency: _,
+            stops: _,
+            routes: _,
+            trips: _,
+            stop_times: _,
+            calendar: _,
+            calendar_dates: _,
+            frequencies: _,
+            transfers: _,
+            others: _,
+        } = self;
+    }
+}
+
+impl Tables {
+    /// Tables of no file, with no other name. It takes no memory.
+    pub fn empty(alloc: Global) -> Tables
+        ensures { result ≡ empty_dataset }
+    {
+        Tables::of_names(Vec::new(alloc), alloc)
+    }
+
+    fn of_names(others: Vec<Text>, alloc: Global) -> Tables
+        ensures { result ≡ record empty_dataset { others = others.items } }
+    {
+        Tables {
+            agency: FileTable::absent(alloc),
+            stops: FileTable::absent(alloc),
+            routes: FileTable::absent(alloc),
+            trips: FileTable::absent(alloc),
+            stop_times: FileTable::absent(alloc),
+            calendar: FileTable::absent(alloc),
+            calendar_dates: FileTable::absent(alloc),
+            frequencies: FileTable::absent(alloc),
+            transfers: FileTable::absent(alloc),
+            others,
+        }
+    }
+
+    /// Reads a folder: first its names, and then each kept file in the order of [`File::ALL`], whichever
+    /// names there were. The first fault ends it.
+    ///
+    /// Every byte order mark at the very start of a file is cut, and what follows has to be UTF-8. Its
+    /// records are those that `csv` reads by default, with no header handling, of any lengths.
+    ///
+    /// Refused with [`FolderFault::Read`], with [`FolderFault::TooLarge`] where a kept file is longer than
+    /// the device's limit, with [`FolderFault::NoFolder`] and with [`FolderFault::OutOfMemory`].
+    pub fn read<F: Folders>(
+        alloc: Global,
+        folders: &mut F,
+        dir: &str,
+    ) -> Result<Tables, FolderFault>
+        ensures reads { IfOk result (λ tables. HoldsDataset (F.held folders.old) dir.now tables) }
+        ensures refused { IfErr result (λ fault. RefusesDataset fault (F.held folders.old) dir.now (F.failure_count folders.old) (F.failure_count folders.new)) }
+        ensures unchanged { F.held folders.new ≡ F.held folders.old }
+        ensures grows { F.failure_count folders.old ≤ F.failure_count folders.new }
+    {
+        let names = folders.names(alloc, dir)?;
+        let mut tables = Tables::of_names(other_names(alloc, names)?, alloc);
+        tables.read_files(alloc, folders, dir)?;
+        Ok(tables)
+    }
+
+    /// Whether a file is there, and is UTF-8.
+    pub fn state(&self, file: File) -> State
+        ensures { result ≡ (table_of self.now file).state }
+    {
+        self.table(file).state()
+    }
+
+    /// How many records a file has, the header among them: none where it is absent or not UTF-8.
+    pub fn records(&self, file: File) -> usize
+        ensures { result ≡ length (table_of self.now file).records }
+    {
+        self.table(file).len()
+    }
+
+    /// How many fields the record of a row has: none where there is no such row.
+    pub fn fields(&self, file: File, row: usize) -> usize
+        ensures { result ≡ length (record_at (table_of self.now file).records row) }
+    {
+        self.table(file).fields(row)
+    }
+
+    /// A field of a row, cut of its blanks: the empty text where there is no such field.
+    pub fn field(&self, file: File, row: usize, n: usize) -> &str
+        ensures { result.now ≡ field_cut (record_at (table_of self.now file).records row) n }
+    {
+        self.table(file).field(row, n)
+    }
+
+    /// The place of a column: that of the first field of the header which, cut of its blanks, is this
+    /// name. The empty name is no column.
+    ///
+    /// A column is looked up once, and its fields are then read by [`Tables::field`] row after row.
+    pub fn column(&self, file: File, name: &str) -> Option<usize>
+        ensures { result ≡ column_of (table_of self.now file).records name.now }
+    {
+        self.table(file).column(name)
+    }
+
+    /// The value of a column in a row: the field under the first header column of that name, cut of its
+    /// blanks, and the empty text where there is none.
+    pub fn value(&self, file: File, row: usize, column: &str) -> &str
+        ensures { result.now ≡ value (table_of self.now file).records row column.now }
+    {
+        match self.column(file, column) {
+            Some(n) => self.field(file, row, n),
+            None => "",
+        }
+    }
+
+    /// The names of what else the folder holds, by bytes.
+    pub fn others(&self) -> &[Text]
+        ensures { result.now ≡ self.now.others }
+    {
+        self.others.as_slice()
+    }
+
+    /// Adds a record of this one field to a file, which then counts as there and as UTF-8. A refusal
+    /// leaves all as it was.
+    pub fn push_record(&mut self, file: File, field: &str) -> Result<(), OutOfMemory>
+        ensures ok { OnOk result (self.new ≡ with_table self.old file (with_record (table_of self.old file) field.now)) }
+        ensures err { OnErr result (self.new ≡ self.old) }
+    {
+        match file {
+            File::Agency => self.agency.push_record(field),
+            File::Stops => self.stops.push_record(field),
+            File::Routes => self.routes.push_record(field),
+            File::Trips => self.trips.push_record(field),
+            File::StopTimes => self.stop_times.push_record(field),
+            File::Calendar => self.calendar.push_record(field),
+            File::CalendarDates => self.calendar_dates.push_record(field),
+            File::Frequencies => self.frequencies.push_record(field),
+            File::Transfers => self.transfers.push_record(field),
+        }
+    }
+
+    /// Adds a field to the last record of a file, which has to have one. A refusal leaves all as it was.
+    pub fn push_field(&mut self, file: File, field: &str) -> Result<(), OutOfMemory>
+        requires { 0 < length (table_of self.old file).records }
+        ensures ok { OnOk result (self.new ≡ with_table self.old file (with_field (table_of self.old file) field.now)) }
+        ensures err { OnErr result (self.new ≡ self.old) }
+    {
+        match file {
+            File::Agency => self.agency.push_field(field),
+            File::Stops => self.stops.push_field(field),
+            File::Routes => self.routes.push_field(field),
+            File::Trips => self.trips.push_field(field),
+            File::StopTimes => self.stop_times.push_field(field),
+            File::Calendar => self.calendar.push_field(field),
+            File::CalendarDates => self.calendar_dates.push_field(field),
+            File::Frequencies => self.frequencies.push_field(field),
+            File::Transfers => self.transfers.push_field(field),
+        }
+    }
+
+    /// The text of a file as `csv` writes it by default (RFC 4180, section 2, with LF at the end of each
+    /// record): none where the file is absent, and an empty text where it is not UTF-8.
+    ///
+    /// Read again, the text gives the same table, if the file is UTF-8 and its very first field does not
+    /// begin with a byte order mark, which a reader would cut. A record of one empty field is written as
+    /// two quotes, and so is read back too.
+    pub fn write(&self, alloc: Global, file: File) -> Result<Option<Vec<u8>>, OutOfMemory>
+        ensures text { IfOk result (λ text. option_map (λ bytes. bytes.items) text ≡ text_of_table (table_of self.now file)) }
+        ensures reads_back { IfOk result (λ text. ReadsBack (table_of self.now file) (option_map (λ bytes. bytes.items) text)) }
+    {
+        self.table(file).write(alloc)
+    }
+
+    fn read_files<F: Folders>(
+        &mut self,
+        alloc: Global,
+        folders: &mut F,
+        dir: &str,
+    ) -> Result<(), FolderFault>
+        ensures sets { OnOk result (SetsTables (F.held folders.old) dir.now kept_files self.old self.new) }
+        ensures refused { IfErr result (λ fault. RefusesDataset fault (F.held folders.old) dir.now (F.failure_count folders.old) (F.failure_count folders.new)) }
+        ensures unchanged { F.held folders.new ≡ F.held folders.old }
+        ensures grows { F.failure_count folders.old ≤ F.failure_count folders.new }
+    {
+        for file in &File::ALL {
+            let table = read_file(alloc, folders, dir, *file)?;
+            self.set(*file, table);
+        }
+        Ok(())
+    }
+
+    fn set(&mut self, file: File, table: FileTable)
+        ensures { self.new ≡ with_table self.old file table }
+    {
+        match file {
+            File::Agency => self.agency = table,
+            File::Stops => self.stops = table,
+            File::Routes => self.routes = table,
+            File::Trips => self.trips = table,
+            File::StopTimes => self.stop_times = table,
+            File::Calendar => self.calendar = table,
+            File::CalendarDates => self.calendar_dates = table,
+            File::Frequencies => self.frequencies = table,
+            File::Transfers => self.transfers = table,
+        }
+    }
+
+    fn table(&self, file: File) -> &FileTable
+        ensures { result.now ≡ table_of self.now file }
+    {
+        match file {
+            File::Agency => &self.agency,
+            File::Stops => &self.stops,
+            File::Routes => &self.routes,
+            File::Trips => &self.trips,
+            File::StopTimes => &self.stop_times,
+            File::Calendar => &self.calendar,
+            File::CalendarDates => &self.calendar_dates,
+            File::Frequencies => &self.frequencies,
+            File::Transfers => &self.transfers,
+        }
+    }
+}
+
+// The file's bytes are given up before the next file is read.
+fn read_file<F: Folders>(
+    alloc: Global,
+    folders: &mut F,
+    dir: &str,
+    file: File,
+) -> Result<FileTable, FolderFault>
+    ensures reads { IfOk result (λ table. HoldsTable (F.held folders.old) dir.now file table) }
+    ensures refused { IfErr result (λ fault. RefusesRead fault (F.held folders.old) dir.now (file_name file) (F.failure_count folders.old) (F.failure_count folders.new)) }
+    ensures unchanged { F.held folders.new ≡ F.held folders.old }
+    ensures grows { F.failure_count folders.old ≤ F.failure_count folders.new }
+{
+    match folders.read(alloc, dir, file.name())? {
+        Some(bytes) => Ok(reader::read_table(alloc, &bytes)?),
+        None => Ok(FileTable::absent(alloc)),
+    }
+}
+
+fn other_names(alloc: Global, names: Vec<String>) -> Result<Vec<Text>, OutOfMemory>
+    ensures { IfOk result (λ others. others.items ≡ filter (λ name. not (is_kept name)) (map string_bytes names.items)) }
+{
+    let mut others = Vec::new(alloc);
+    for name in names {
+        if !is_kept(name.as_str()) {
+            others.push(Text::new(name))?;
+        }
+    }
+    Ok(others)
+}
+
+fn is_kept(name: &str) -> bool
+    ensures { result ≡ is_kept name.now }
+{
+    File::ALL.iter().any(|file| file.name() == name)
+}
+
+#[cfg(test)]
+mod tests;

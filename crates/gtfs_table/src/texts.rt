@@ -1,0 +1,110 @@
+ghost use Rattle.std.specs.Prelude.{◌≡◌, ◌<◌, ◌++◌, ◌∷◌, [], length, take, OnOk, OnErr, slice_index_or};
+ghost use Rattle.std.specs.List.{concat};
+ghost use Rattle.csv.specs.Records.{AllText, fields_of};
+ghost use Rattle.gtfs_table.specs.Parts.{starts_of};
+
+use crate::places::Places;
+use csv::ByteRecord;
+use gtfs_field::OutOfMemory;
+use std::alloc::Global;
+use std::marker::Model;
+
+/// A list of texts that lie in one buffer, so that none has an allocation of its own.
+#[derive(Drop)]
+pub(crate) struct Texts {
+    bytes: Vec<u8>,
+    starts: Places,
+}
+
+impl Model for Texts {
+    ghost use Rattle.std.specs.Prelude.{List, ℕ};
+
+    ghost Value = { List (List ℕ) };
+
+    ghost use Rattle.gtfs_table.specs.Storage.{texts_of, IsTextStore};
+
+    ghost view = { texts_of };
+
+    ghost invariant = { IsTextStore };
+}
+
+impl Texts {
+    pub(crate) fn new(alloc: Global) -> Texts
+        ensures { result ≡ [] }
+    {
+        Texts {
+            bytes: Vec::new(alloc),
+            starts: Places::new(alloc),
+        }
+    }
+
+    pub(crate) fn len(&self) -> usize
+        ensures { result ≡ length self.now }
+    {
+        self.starts.len()
+    }
+
+    /// The text with this number, from 0.
+    pub(crate) fn get(&self, i: usize) -> &str
+        requires { i < length self.now }
+        ensures { result.now ≡ slice_index_or self.now i [] }
+    {
+        let bytes = self.bytes.as_slice();
+        let start = self.starts.get(i);
+        let end = self.starts.end_of(i, bytes.len());
+        unsafe { str::from_utf8_unchecked(&bytes[start..end]) }
+    }
+
+    /// Each text is UTF-8: a fact for callers.
+    pub(crate) fn are_utf8(&self)
+        ensures { AllText self.now }
+    {
+        let _ = &self.bytes;
+    }
+
+    /// Adds a text at the end. A refusal leaves the list as it was.
+    pub(crate) fn push(&mut self, text: &str) -> Result<(), OutOfMemory>
+        ensures ok { OnOk result (self.new ≡ self.old ++ text.now ∷ []) }
+        ensures err { OnErr result (self.new ≡ self.old) }
+    {
+        let bytes = text.as_bytes();
+        self.bytes.reserve(bytes.len())?;
+        self.starts.push(self.bytes.len())?;
+        self.bytes.extend_from_slice(bytes).unwrap();
+        Ok(())
+    }
+
+    /// Adds the fields of a record that `csv` read. A refusal leaves the list as it was.
+    pub(crate) fn append(&mut self, row: &ByteRecord) -> Result<(), OutOfMemory>
+        requires { AllText (fields_of row.now) }
+        ensures ok { OnOk result (self.new ≡ self.old ++ fields_of row.now) }
+        ensures err { OnErr result (self.new ≡ self.old) }
+    {
+        let count = self.starts.len();
+        let size = self.bytes.len();
+        let appended = append_fields(&mut self.bytes, &mut self.starts, row);
+        if appended.is_err() {
+            self.starts.truncate(count);
+            self.bytes.truncate(size);
+        }
+        appended
+    }
+}
+
+// A refusal leaves what was there, and maybe more after it.
+fn append_fields(
+    bytes: &mut Vec<u8>,
+    starts: &mut Places,
+    row: &ByteRecord,
+) -> Result<(), OutOfMemory>
+    ensures starts { OnOk result (starts.new ≡ starts.old ++ starts_of (length bytes.old.items) (fields_of row.now)) }
+    ensures bytes { OnOk result (bytes.new.items ≡ bytes.old.items ++ concat (fields_of row.now)) }
+    ensures front { OnErr result (take (length starts.old) starts.new ≡ starts.old) }
+    ensures kept { OnErr result (take (length bytes.old.items) bytes.new.items ≡ bytes.old.items) }
+{
+    for field in row {
+        starts.push(bytes.len())?;
+        bytes.extend_from_slice(field)?;
+    }
+    Ok(())
+}
