@@ -1,0 +1,44 @@
+//! Measures the crates of this repository over a feed on disk. `bench/run` runs it, and reads what it prints.
+#![tactic(auto)]
+
+mod count;
+mod disk;
+mod memory;
+mod shelf;
+mod speed;
+
+use anyhow::{Result, bail};
+use std::env;
+use std::process::ExitCode;
+use std::rt::Runtime;
+
+const USAGE: &str = "usage: gtfs_bench WORD DIR
+  tables DIR         the time to read the tables of the feed in DIR, and that of a bare csv loop
+  tables-memory DIR  the memory that reading these tables takes";
+
+fn main(rt: HostRuntime) -> ExitCode {
+    match run(&rt) {
+        Ok(()) => ExitCode::SUCCESS,
+        Err(fault) => {
+            let _ = eprintln!(rt; "gtfs_bench: {fault:#}");
+            ExitCode::FAILURE
+        }
+    }
+}
+
+fn run<R: Runtime + AllocGlobal>(rt: &R) -> Result<()> {
+    let words = env::args(rt)?.collect::<Vec<String>>(rt.alloc())?;
+    match words.as_slice() {
+        [] | [_] => Ok(rt.println(USAGE)?),
+        [_, word, dir] => measure(rt, word.as_str(), dir.as_str()),
+        _ => bail!("one word and a folder are wanted"),
+    }
+}
+
+fn measure<R: Runtime + AllocGlobal>(rt: &R, word: &str, dir: &str) -> Result<()> {
+    match word {
+        "tables" => speed::measure(rt, dir),
+        "tables-memory" => memory::measure(rt, dir),
+        _ => bail!("no such measurement: {word}"),
+    }
+}
