@@ -1,8 +1,8 @@
 -- The records that a reader gave are all the records of the text.
-use Rattle.std.proofs.Common.{◌≡◌, ◌<◌, ◌≤◌, ◌+◌, ◌++◌, ◌==◌, ◌||◌, ◌∷◌, ◌∙◌, [], ℕ, zero, suc, List, length, Bool, Option, Some, None, refl, sym, ap, true, false, if◌then◌else◌, arith, cond, inl, inr}
+use Rattle.std.proofs.Common.{◌≡◌, ◌<◌, ◌≤◌, ◌+◌, ◌++◌, ◌==◌, ◌||◌, ◌∷◌, [], ℕ, zero, suc, List, length, Bool, Some, None, refl, ap, true, false, if◌then◌else◌, arith, inl, inr}
 use Rattle.std.proofs.lemmas.Bool.{cases_Bool}
 use Rattle.std.proofs.lemmas.List.{length_push}
-use Rattle.csv.specs.Machine.{Read, step, in_field, start_field, start_record, after_end, next_record, is_end, fields_after, field_after, ends_at_end}
+use Rattle.csv.specs.Machine.{Read, step, in_field, start_field, start_record, after_end, next_record, is_end, fields_after, ends_at_end}
 use Rattle.csv.specs.Reading.{AreRecords, Reached, default_config, records, records_from}
 use Rattle.csv.specs.declared.parser.State.{State}
 use Rattle.csv.specs.declared.parser.State.TheVariants as st

@@ -1,10 +1,10 @@
 -- A text cut of its blanks.
-use Rattle.std.proofs.Common.{◌≡◌, ◌<◌, ◌≤◌, ◌+◌, ◌-◌, ◌∷◌, ◌++◌, ◌∙◌, ◌||◌, ◌==◌, [], ℕ, zero, suc, List, length, take, drop, get_or, reverse, refl, sym, ap, subst, arith, true, false, inl, inr}
+use Rattle.std.proofs.Common.{◌≡◌, ◌<◌, ◌+◌, ◌-◌, ◌∷◌, ◌++◌, ◌∙◌, [], ℕ, List, length, take, drop, get_or, reverse, refl, sym, ap, subst, arith, true, false, inl, inr}
 use Rattle.std.specs.Str.{IsUtf8}
 use Rattle.std.proofs.Math.Seq.{take-append_seam}
 use Rattle.std.proofs.lemmas.Bool.{cases_Bool}
 use Rattle.std.proofs.lemmas.Bool.Decides.{nat_tests}
-use Rattle.std.proofs.lemmas.List.{append-nil, reverse-append, reverse-reverse, take_more, drop_more, take_all, drop_all, length_push, get_or_at, length-reverse}
+use Rattle.std.proofs.lemmas.List.{reverse-append, reverse-reverse, take_more, take_all, length_push, get_or_at}
 use Rattle.std.proofs.lemmas.Str.{IsUtf8-past_char, encode_ascii, IsUtf8-take, IsCharBoundary-before_ascii}
 use Rattle.gtfs_table.specs.Blanks.{is_blank, without_first_blanks, cut}
 

@@ -1,15 +1,14 @@
 -- The tables of what a device holds.
-use Rattle.std.proofs.Common.{◌≡◌, ◌<◌, ◌≤◌, ◌+◌, ◌-◌, ◌^◌, ◌∷◌, ◌++◌, ◌∙◌, [], ℕ, List, Bool, Option, Some, None, length, take, get_or, map, refl, sym, ap, subst, arith, min}
-use Rattle.std.specs.Prelude.{option_map, filter, not, ⊤}
+use Rattle.std.proofs.Common.{◌≡◌, ◌<◌, ◌≤◌, ◌+◌, ◌∷◌, ◌++◌, ◌∙◌, [], ℕ, List, Option, Some, None, length, take, get_or, refl, sym, ap, arith}
+use Rattle.std.specs.Prelude.{option_map, filter, not}
 use Rattle.std.specs.FinMap as finmap
 use Rattle.std.proofs.lemmas.List.{take_more}
 use Rattle.gtfs_table.specs.Device.{Rises}
 use Rattle.gtfs_table.specs.Files.{file_name}
-use Rattle.gtfs_table.specs.Folder.{Files, Store, Finds, Lists, HasFile, LacksFolder, RefusesNames, RefusesRead}
+use Rattle.gtfs_table.specs.Folder.{Files, Store, Finds, Lists, RefusesNames, RefusesRead}
 use Rattle.gtfs_table.specs.Reading.{HoldsTable, HoldsDataset, RefusesDataset, SetsTables, dataset_of, is_kept, kept_files, table_in, tables_set}
 use Rattle.gtfs_table.specs.Tables.{Dataset, Table, absent, empty_dataset, table_of_bytes, with_table}
 use Rattle.gtfs_table.specs.declared.file.File.{File}
-use Rattle.gtfs_table.specs.declared.file.File.TheVariants as file
 use Rattle.gtfs_table.specs.declared.folders.FolderFault.{FolderFault}
 use Rattle.gtfs_table.specs.declared.folders.FolderFault.TheVariants.{Read, TooLarge, OutOfMemory, NoFolder, Write}
 

@@ -12,4 +12,5 @@ mod SentLemmas
 pub mod StoreFacts
 pub mod Utf8Fields
 pub mod ValueFacts
+mod WorkedTables
 pub mod WriteFacts

@@ -1,5 +1,5 @@
 -- Byte order marks at the start of a text.
-use Rattle.std.proofs.Common.{◌≡◌, ◌<◌, ◌≤◌, ◌∷◌, ◌∙◌, ◌==◌, ◌&&◌, [], ℕ, List, Bool, length, take, drop, refl, sym, ap, arith, true, false, inl, inr}
+use Rattle.std.proofs.Common.{◌≡◌, ◌∷◌, ◌∙◌, ◌==◌, ◌&&◌, [], ℕ, List, Bool, take, drop, refl, sym, true, false, inl, inr}
 use Rattle.std.specs.Prelude.{nat_eq}
 use Rattle.std.specs.Cmp.Lexicographic.{pointwise}
 use Rattle.std.proofs.lemmas.Bool.{cases_Bool}

@@ -1,7 +1,7 @@
 -- A list cut at rising places.
 use Rattle.std.proofs.Common.{◌≡◌, ◌<◌, ◌≤◌, ◌+◌, ◌-◌, ◌∷◌, ◌++◌, ◌∙◌, [], ℕ, zero, suc, List, length, take, drop, get_or, refl, sym, ap, arith, length-append}
 use Rattle.std.proofs.Math.Seq.{drop-append_seam, take-length}
-use Rattle.std.proofs.lemmas.List.{append-nil, take-append-le, drop-append-le, length-drop, length_push, take_all, get_or-take, get_or-drop, get_or_past, length-take}
+use Rattle.std.proofs.lemmas.List.{take-append-le, drop-append-le, length-drop, length_push, take_all, get_or-take, get_or-drop, length-take}
 use Rattle.std.proofs.lemmas.List.Elements.{All-nil, All-cons, All-head, All-tail}
 use Rattle.std.specs.List.{All}
 use Rattle.csv.specs.Records.{Rising}

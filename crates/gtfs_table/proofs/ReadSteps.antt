@@ -1,8 +1,8 @@
 -- One more record of a text, read by `csv` without headers.
-use Rattle.std.proofs.Common.{◌≡◌, ◌<◌, ◌≤◌, ◌+◌, ◌++◌, ◌∷◌, ◌∙◌, [], ℕ, List, Option, Some, None, length, refl, sym, ap, subst, arith, true, false}
+use Rattle.std.proofs.Common.{◌≡◌, ◌<◌, ◌+◌, ◌++◌, ◌∷◌, ◌∙◌, [], ℕ, List, Option, Some, length, refl, sym, ap, subst, arith, true, false}
 use Rattle.std.specs.Prelude.{unwrap_or}
 use Rattle.std.specs.Str.{IsUtf8}
-use Rattle.csv.specs.Machine.{Read, next_record, ends_at_end}
+use Rattle.csv.specs.Machine.{Read, next_record}
 use Rattle.csv.specs.Reading.{Reached, ReadRecord, default_config, source_of, records}
 use Rattle.csv.specs.Records.{AllText}
 use Rattle.csv.specs.declared.reader.Reader.{Reader}

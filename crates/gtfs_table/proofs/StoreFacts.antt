@@ -1,6 +1,7 @@
 -- What one more text, field or record leaves of the places and of what they cut.
-use Rattle.std.specs.Prelude.{Result, OnOk}
-use Rattle.std.proofs.Common.{◌≡◌, ◌<◌, ◌≤◌, ◌+◌, ◌∷◌, ◌++◌, ◌∙◌, [], ℕ, List, Ok, Err, length, refl, sym, ap, arith, length-append}
+use Rattle.std.specs.Prelude.{Result, OnOk, if◌then◌else◌}
+use Rattle.std.specs.Result.{is_ok}
+use Rattle.std.proofs.Common.{◌≡◌, ◌<◌, ◌≤◌, ◌∷◌, ◌++◌, ◌∙◌, [], ℕ, List, Ok, Err, length, refl, arith, length-append}
 use Rattle.std.specs.List.{All}
 use Rattle.std.specs.Str.{IsUtf8}
 use Rattle.std.proofs.lemmas.List.Elements.{All-push}
@@ -60,3 +61,11 @@ field-push starts fields new_fields field records e r all f =
 pub on_ok-map : {T E : Type 0} (r : Result T E) (P Q : Type 0) → (P → Q) → OnOk r P → OnOk r Q
 on_ok-map (Ok x) P Q f h = f h
 on_ok-map (Err e) P Q f h = h
+
+pub on_ok-always : {T E : Type 0} (r : Result T E) (P : Type 0) → P → OnOk r P
+on_ok-always (Ok x) P p = p
+on_ok-always (Err e) P p = tt
+
+pub on_ok-if : {T E : Type 0} (r : Result T E) (x a b z : List ℕ) → x ≡ (if is_ok r then a else b) → a ≡ z → OnOk r (x ≡ z)
+on_ok-if (Ok y) x a b z e h = e ∙ h
+on_ok-if (Err y) x a b z e h = tt

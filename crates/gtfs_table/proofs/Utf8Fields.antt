@@ -1,6 +1,6 @@
 -- The fields of a record of a text are texts.
-use Rattle.std.specs.Prelude.{◌⊎◌, ⊤}
-use Rattle.std.proofs.Common.{◌≡◌, ◌<◌, ◌≤◌, ◌+◌, ◌/◌, ◌==◌, ◌++◌, ◌∷◌, ◌∙◌, ◌&&◌, ◌||◌, [], ℕ, List, Bool, Option, Some, None, refl, sym, ap, subst, true, false, append_assoc, inl, inr, if◌then◌else◌, arith, nat_lt, lit≤}
+use Rattle.std.specs.Prelude.{⊤}
+use Rattle.std.proofs.Common.{◌≡◌, ◌≤◌, ◌==◌, ◌++◌, ◌∷◌, ◌∙◌, ◌&&◌, ◌||◌, [], ℕ, List, Bool, Option, Some, None, refl, ap, subst, true, false, append_assoc, inl, inr, if◌then◌else◌, arith, nat_lt}
 use Rattle.std.specs.Str.{IsUtf8}
 use Rattle.std.proofs.lemmas.Str.{IsUtf8-nil, IsUtf8-append, IsUtf8-encode, encode_ascii}
 use Rattle.std.proofs.lemmas.List.{append-nil}
@@ -8,7 +8,7 @@ use Rattle.std.proofs.lemmas.Bool.{cases_Bool, cases_lt, ne_eqb}
 use Rattle.std.proofs.lemmas.Bool.Decides.{nat_tests}
 use Rattle.std.specs.List.{AllByRecursion}
 use lib.Utf8.{scalars, scalar, encodes, encode}
-use Rattle.csv.specs.Machine.{Read, step, in_field, start_field, start_record, ends_with, after_end, next_record, is_end, fields_after, field_after, ends_at_end}
+use Rattle.csv.specs.Machine.{Read, step, in_field, start_field, start_record, after_end, next_record, is_end, fields_after, field_after, ends_at_end}
 use Rattle.csv.specs.Reading.{default_config}
 use Rattle.csv.specs.Records.{AllText}
 use Rattle.csv.proofs.RecordFacts.{text-more}

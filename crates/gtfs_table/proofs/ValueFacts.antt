@@ -1,5 +1,5 @@
 -- Fields and columns of a table.
-use Rattle.std.proofs.Common.{◌≡◌, ◌<◌, ◌≤◌, ◌+◌, ◌-◌, ◌==◌, ◌∷◌, ◌∙◌, ◌⊎◌, [], ℕ, zero, suc, List, Bool, Option, Some, None, cond, length, take, get_or, refl, sym, ap, arith, true, false, inl, inr}
+use Rattle.std.proofs.Common.{◌≡◌, ◌<◌, ◌+◌, ◌-◌, ◌==◌, ◌∷◌, ◌∙◌, ◌⊎◌, [], ℕ, zero, suc, List, Bool, Some, None, length, take, get_or, refl, sym, ap, arith, true, false, inl, inr}
 use Rattle.std.specs.Prelude.{position, bytes_eq}
 use Rattle.std.specs.List.{position_from}
 use Rattle.std.proofs.lemmas.Bool.{cases_Bool, ne_eqb}

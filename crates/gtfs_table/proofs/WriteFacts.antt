@@ -1,5 +1,5 @@
 -- The text of records, and its records.
-use Rattle.std.proofs.Common.{◌≡◌, ◌<◌, ◌≤◌, ◌+◌, ◌==◌, ◌||◌, ◌&&◌, ◌++◌, ◌∷◌, ◌∙◌, ◌⊎◌, [], ℕ, zero, suc, List, Bool, Option, Some, None, length, refl, sym, ap, subst, true, false, if◌then◌else◌, arith, append_assoc, inl, inr, drop}
+use Rattle.std.proofs.Common.{◌≡◌, ◌<◌, ◌≤◌, ◌==◌, ◌&&◌, ◌++◌, ◌∷◌, [], ℕ, zero, suc, List, Bool, Some, length, refl, sym, subst, true, false, if◌then◌else◌, arith, append_assoc, inl, inr, drop}
 use Rattle.std.specs.List.{All, AllByRecursion, list_any}
 use Rattle.std.specs.Str.{IsUtf8, is_utf8}
 use Rattle.std.proofs.lemmas.Bool.{cases_Bool, cases_lt, ne_eqb}
@@ -8,14 +8,14 @@ use Rattle.std.proofs.lemmas.List.Elements.{All-nil, All-cons, All-head, All-tai
 use Rattle.std.proofs.lemmas.Str.{IsUtf8-nil, IsUtf8-append, IsUtf8-encode, encode_ascii, is_utf8-from_IsUtf8}
 use lib.Utf8.{scalars, scalar, encodes, encode}
 use Rattle.csv.specs.Machine.{next_record}
-use Rattle.csv.specs.Reading.{Reached, AreRecords, default_config, is_bom, records}
+use Rattle.csv.specs.Reading.{Reached, default_config, is_bom, records}
 use Rattle.csv.specs.declared.writer.WriterBuilder.{WriterBuilder}
 use Rattle.csv.specs.Records.{AllText}
 use Rattle.csv.proofs.RecordFacts.{text-take}
 use Rattle.csv.specs.Writing.{default_writer, with_flexible, escaped, field_text, fields_text, is_blank, needs_byte, read_back, row_body, row_text}
 use Rattle.csv.specs.declared.parser.State.TheVariants as st
 use Rattle.csv.proofs.RoundTrip.{read-write}
-use Rattle.gtfs_table.specs.Tables.{Records, Table, records_of, table_of_bytes, without_marks}
+use Rattle.gtfs_table.specs.Tables.{Records, table_of_bytes, without_marks}
 use Rattle.gtfs_table.specs.Written.{text_of_records, begins_with_mark, is_marked}
 use Rattle.gtfs_table.specs.declared.state.State.TheVariants as state
 use Rattle.gtfs_table.proofs.AllRecords.{records-AreRecords}

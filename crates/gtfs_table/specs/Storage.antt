@@ -1,5 +1,5 @@
 -- How the texts and records of a file lie in memory.
-use Rattle.std.specs.Prelude.{ℕ, ◌<◌, ◌++◌, List, length, All}
+use Rattle.std.specs.Prelude.{ℕ, ◌<◌, List, length, All}
 use Rattle.csv.specs.Records.{AllText, Rising}
 use Rattle.gtfs_table.specs.Parts.{parts}
 use Rattle.gtfs_table.specs.declared.texts.Texts.TheInside as texts

@@ -1,7 +1,7 @@
 -- Tables: the records of the kept files, and the values in them.
 -- GTFS Schedule Reference, "Dataset Files" and "File Requirements"; records are those of `csv`, a text is
 -- the list of its bytes.
-use Rattle.std.specs.Prelude.{ℕ, ◌-◌, ◌==◌, ◌&&◌, Bool, if◌then◌else◌, List, [], ◌∷◌, ◌++◌, length, bytes_eq, position, slice_index_or, Option, Some, None}
+use Rattle.std.specs.Prelude.{ℕ, ◌-◌, ◌==◌, if◌then◌else◌, List, [], ◌∷◌, ◌++◌, length, bytes_eq, position, slice_index_or, Option, Some, None}
 use Rattle.std.specs.Str.{is_utf8}
 use Rattle.csv.specs.Reading.{default_config, is_bom, records}
 use Rattle.gtfs_table.specs.Blanks.{cut}

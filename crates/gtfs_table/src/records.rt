@@ -1,5 +1,5 @@
 ghost use Rattle.std.specs.Prelude.{All, ◌≡◌, ◌<◌, ◌++◌, ◌∷◌, [], length, OnOk, OnErr, slice_index_or};
-ghost use Rattle.csv.specs.Records.{AllText, fields_of};
+ghost use Rattle.csv.specs.Records.{AllText, IsRecord, fields_of};
 ghost use Rattle.gtfs_table.specs.Parts.{add_to_last};
 
 use crate::places::Places;
@@ -94,6 +94,7 @@ impl Records {
     pub(crate) fn push_row(&mut self, row: &ByteRecord) -> Result<(), OutOfMemory>
         requires text { AllText (fields_of row.now) }
         requires filled { 0 < length (fields_of row.now) }
+        requires whole { IsRecord row.now }
         ensures ok { OnOk result (self.new ≡ self.old ++ fields_of row.now ∷ []) }
         ensures err { OnErr result (self.new ≡ self.old) }
     {

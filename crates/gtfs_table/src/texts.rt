@@ -1,6 +1,6 @@
 ghost use Rattle.std.specs.Prelude.{◌≡◌, ◌<◌, ◌++◌, ◌∷◌, [], length, take, OnOk, OnErr, slice_index_or};
 ghost use Rattle.std.specs.List.{concat};
-ghost use Rattle.csv.specs.Records.{AllText, fields_of};
+ghost use Rattle.csv.specs.Records.{AllText, IsRecord, fields_of};
 ghost use Rattle.gtfs_table.specs.Parts.{starts_of};
 
 use crate::places::Places;
@@ -76,35 +76,38 @@ impl Texts {
 
     /// Adds the fields of a record that `csv` read. A refusal leaves the list as it was.
     pub(crate) fn append(&mut self, row: &ByteRecord) -> Result<(), OutOfMemory>
-        requires { AllText (fields_of row.now) }
+        requires text { AllText (fields_of row.now) }
+        requires whole { IsRecord row.now }
         ensures ok { OnOk result (self.new ≡ self.old ++ fields_of row.now) }
         ensures err { OnErr result (self.new ≡ self.old) }
     {
         let count = self.starts.len();
-        let size = self.bytes.len();
         let appended = append_fields(&mut self.bytes, &mut self.starts, row);
         if appended.is_err() {
             self.starts.truncate(count);
-            self.bytes.truncate(size);
         }
         appended
     }
 }
 
-// A refusal leaves what was there, and maybe more after it.
+// The bytes of all fields are copied at once. A refusal may leave more places than there were.
 fn append_fields(
     bytes: &mut Vec<u8>,
     starts: &mut Places,
     row: &ByteRecord,
 ) -> Result<(), OutOfMemory>
+    requires { IsRecord row.now }
     ensures starts { OnOk result (starts.new ≡ starts.old ++ starts_of (length bytes.old.items) (fields_of row.now)) }
     ensures bytes { OnOk result (bytes.new.items ≡ bytes.old.items ++ concat (fields_of row.now)) }
     ensures front { OnErr result (take (length starts.old) starts.new ≡ starts.old) }
-    ensures kept { OnErr result (take (length bytes.old.items) bytes.new.items ≡ bytes.old.items) }
+    ensures kept { OnErr result (bytes.new.items ≡ bytes.old.items) }
 {
+    let row_bytes = row.as_slice();
+    let first = bytes.as_slice().len();
+    let mut size = 0;
     for field in row {
-        starts.push(bytes.len())?;
-        bytes.extend_from_slice(field)?;
+        starts.push(first + size)?;
+        size += field.len();
     }
-    Ok(())
+    bytes.extend_from_slice(&row_bytes[..size])
 }

@@ -1,6 +1,5 @@
-use Rattle.std.proofs.Common.{◌≡◌, ◌<◌, ◌-◌, ◌∙◌, ℕ, List, [], length, take, get_or, reverse, true, false, sym, ap, arith}
-use Rattle.std.proofs.lemmas.List.{nil_from_length}
-use Rattle.gtfs_table.specs.Blanks.{is_blank, without_first_blanks}
+use Rattle.std.proofs.Common.{◌≡◌, ◌-◌, ◌∙◌, ℕ, List, length, get_or, reverse, true, false, sym, ap, arith}
+use Rattle.gtfs_table.specs.Blanks.{is_blank}
 use Rattle.gtfs_table.proofs.BlankFacts.{end-blank, end-other, end-none}
 use Rattle.gtfs_table.proofs.blanks.cut_end.Goals as goal
 

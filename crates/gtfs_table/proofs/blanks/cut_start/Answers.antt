@@ -1,4 +1,4 @@
-use Rattle.std.proofs.Common.{◌≡◌, ◌<◌, ◌-◌, ◌∙◌, ℕ, List, [], length, take, drop, get_or, true, false, subst, sym, ap, arith}
+use Rattle.std.proofs.Common.{◌≡◌, ◌-◌, ◌∙◌, ℕ, List, length, take, drop, get_or, true, false, subst, sym, arith}
 use Rattle.std.proofs.lemmas.List.{take_all, length-drop}
 use Rattle.gtfs_table.specs.Blanks.{is_blank, without_first_blanks}
 use Rattle.gtfs_table.proofs.BlankFacts.{start-blank, start-other, start-none}

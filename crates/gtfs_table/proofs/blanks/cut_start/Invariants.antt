@@ -1,4 +1,4 @@
-use Rattle.std.proofs.Common.{◌≡◌, ℕ, length}
+use Rattle.std.proofs.Common.{◌≡◌, length}
 use Rattle.gtfs_table.specs.Blanks.{without_first_blanks}
 use Rattle.gtfs_table.proofs.blanks.cut_start.Given as goal
 

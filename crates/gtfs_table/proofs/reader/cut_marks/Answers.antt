@@ -1,5 +1,4 @@
-use Rattle.std.proofs.Common.{◌≡◌, ◌∙◌, sym, refl}
-use Rattle.gtfs_table.specs.Tables.{without_marks}
+use Rattle.std.proofs.Common.{◌∙◌, sym}
 use Rattle.gtfs_table.proofs.MarkFacts.{past-mark, no-mark}
 use Rattle.gtfs_table.proofs.reader.cut_marks.Goals as goal
 

@@ -1,4 +1,4 @@
-use Rattle.std.proofs.Common.{◌≡◌, ℕ, length}
+use Rattle.std.proofs.Common.{◌≡◌, length}
 use Rattle.gtfs_table.specs.Tables.{without_marks}
 use Rattle.gtfs_table.proofs.reader.cut_marks.Given as goal
 

@@ -1,7 +1,7 @@
-use Rattle.std.proofs.Common.{◌≡◌, ◌∙◌, ℕ, List, Some, Bor, inl, inr, refl, sym, true, false}
-use Rattle.csv.specs.Reading.{Reached, ReadRecord}
+use Rattle.std.proofs.Common.{◌∙◌, ℕ, List, Some, Bor, inl, inr, refl, sym}
+use Rattle.csv.specs.Reading.{Reached}
 use Rattle.csv.specs.Records.{fields_of}
-use Rattle.gtfs_table.proofs.ReadSteps.{IsStep, left_of, read-step, read-more, read-end}
+use Rattle.gtfs_table.proofs.ReadSteps.{read-step, read-more, read-end}
 use Rattle.gtfs_table.proofs.reader.read_records.Goals as goal
 
 pub loop-records-init : goal.loop-records-init

@@ -1,6 +1,6 @@
-use Rattle.std.proofs.Common.{◌≡◌, ◌∙◌, sym, refl, ℕ, List, true, false, inl, inr}
+use Rattle.std.proofs.Common.{◌≡◌, ◌∙◌, refl, true, inl, inr}
 use Rattle.std.proofs.lemmas.Bool.{cases_Bool}
-use Rattle.std.specs.Str.{is_utf8, IsUtf8}
+use Rattle.std.specs.Str.{is_utf8}
 use Rattle.std.proofs.lemmas.Str.{IsUtf8-from_is_utf8, is_utf8-from_IsUtf8}
 use Rattle.gtfs_table.specs.Tables.{table_of_bytes, without_marks}
 use Rattle.gtfs_table.proofs.MarkFacts.{strip-without_marks}

@@ -1,6 +1,4 @@
-use Rattle.std.proofs.Common.{◌≡◌, Some, None, subst, sym, Option, List, ℕ}
-use Rattle.gtfs_table.specs.Reading.{HoldsTable}
-use Rattle.gtfs_table.specs.Tables.{Table}
+use Rattle.std.proofs.Common.{None}
 use Rattle.gtfs_table.proofs.FolderFacts.{finds-table, table-none}
 use Rattle.gtfs_table.proofs.tables.read_file.Goals as goal
 

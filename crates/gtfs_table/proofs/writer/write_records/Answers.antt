@@ -1,9 +1,8 @@
-use Rattle.std.proofs.Common.{◌≡◌, ◌≢◌, ◌∙◌, ◌<◌, ◌++◌, ℕ, List, Some, [], take, get_or, true, false, sym, refl, ap, length, arith}
+use Rattle.std.proofs.Common.{◌≡◌, ◌≢◌, ◌∙◌, ◌++◌, ℕ, List, [], take, get_or, false, sym, refl, ap, arith}
 use Rattle.std.specs.Result.{is_err}
 use Rattle.std.proofs.lemmas.List.{take_more, take_all}
 use Rattle.csv.proofs.ReadFacts.{on-ok}
-use Rattle.csv.specs.Records.{fields_of}
-use Rattle.csv.specs.Writing.{default_writer, with_flexible, writer_setup, row_text}
+use Rattle.csv.specs.Writing.{writer_setup}
 use Rattle.csv.specs.declared.writer.QuoteStyle.TheVariants as style
 use Rattle.gtfs_table.specs.Written.{text_of_records}
 use Rattle.gtfs_table.proofs.WriteFacts.{reads-back, row-flexible, text-more}

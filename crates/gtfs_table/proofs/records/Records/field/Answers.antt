@@ -1,4 +1,4 @@
-use Rattle.std.proofs.Common.{◌≡◌, ◌<◌, ◌≤◌, ◌+◌, ◌-◌, ◌∙◌, ℕ, [], length, get_or, arith, sym}
+use Rattle.std.proofs.Common.{◌≤◌, [], length, get_or, arith, sym}
 use Rattle.std.proofs.lemmas.List.{get_or_past}
 use Rattle.gtfs_table.proofs.PartFacts.{bounds-of, length-of, item-of}
 use Rattle.gtfs_table.proofs.records.Records.field.Goals as goal

@@ -1,4 +1,4 @@
-use Rattle.std.proofs.Common.{◌≡◌, ◌<◌, ◌∙◌, ◌==◌, sym, length, true, false}
+use Rattle.std.proofs.Common.{◌≡◌, ◌∙◌, ◌==◌, sym, length, true, false}
 use Rattle.std.specs.Prelude.{bytes_eq}
 use Rattle.gtfs_table.specs.Tables.{record_at, field_cut}
 use Rattle.gtfs_table.proofs.ValueFacts.{column-at}

@@ -1,4 +1,4 @@
-use Rattle.std.proofs.Common.{◌≡◌, ◌<◌, ◌∙◌, ℕ, length, sym, ap, inl, inr, arith}
+use Rattle.std.proofs.Common.{◌≡◌, ◌∙◌, length, sym, ap, inl, inr, arith}
 use Rattle.gtfs_table.specs.Tables.{Table}
 use Rattle.gtfs_table.proofs.ValueFacts.{no-record}
 use Rattle.gtfs_table.proofs.table.FileTable.field.Goals as goal

@@ -1,8 +1,8 @@
-use Rattle.std.proofs.Common.{◌≡◌, ◌≤◌, ◌∙◌, List, ℕ, Option, get_or, subst, refl, sym, arith}
+use Rattle.std.proofs.Common.{◌∙◌, Option, get_or, subst, refl, arith}
 use Rattle.gtfs_table.specs.Folder.{Store}
 use Rattle.gtfs_table.specs.Reading.{HoldsTable, kept_files}
 use Rattle.gtfs_table.specs.declared.file.File.TheVariants as file
-use Rattle.gtfs_table.proofs.FolderFacts.{sets-none, sets-more, refused-read}
+use Rattle.gtfs_table.proofs.FolderFacts.{sets-none, sets-more}
 use Rattle.gtfs_table.proofs.tables.Tables.read_files.Goals as goal
 
 pub loop-file-init : goal.loop-file-init

@@ -1,4 +1,4 @@
-use Rattle.std.proofs.Common.{◌≡◌, ◌++◌, ◌∙◌, List, ℕ, false, sym}
+use Rattle.std.proofs.Common.{◌≡◌, ◌++◌, ◌∙◌, false, sym}
 use Rattle.std.specs.Result.{is_err}
 use Rattle.csv.specs.Records.{fields_of}
 use Rattle.csv.proofs.ReadFacts.{on-ok}
@@ -12,7 +12,7 @@ added c =
     let starts = on-ok c.append_fields-appended.result good c.append_fields-appended.ensures.starts in
     let bytes = on-ok c.append_fields-appended.result good c.append_fields-appended.ensures.bytes in
     rw (starts, bytes) (texts-added (fields_of c.args.row.now) c.self.inside.starts c.self.inside.bytes.items c.args.self.now
-    (record { rising = c.self.invariant.rising; utf8 = c.self.invariant.utf8; value = c.self.view_is }) c.requires)
+    (record { rising = c.self.invariant.rising; utf8 = c.self.invariant.utf8; value = c.self.view_is }) c.requires.text)
 
 pub invariant_of-self-else-is_err : goal.invariant_of-self-else-is_err
 invariant_of-self-else-is_err c = record { rising = (added c).rising; utf8 = (added c).utf8 }

@@ -1,7 +1,4 @@
-use Rattle.std.proofs.Common.{◌≡◌, ◌<◌, ◌≤◌, ◌+◌, ◌-◌, ℕ, List, [], length, get_or, arith, sym, ◌∙◌, subst, take, drop, rules}
-use Rattle.std.specs.Str.{IsUtf8}
 use Rattle.csv.proofs.RecordFacts.{text-at}
-use Rattle.gtfs_table.specs.Parts.{parts}
 use Rattle.gtfs_table.proofs.PartFacts.{bounds-of, part-of}
 use Rattle.gtfs_table.proofs.texts.Texts.get.Goals as goal
 

@@ -1,4 +1,4 @@
-use Rattle.std.proofs.Common.{refl, lit≤, arith}
+use Rattle.std.proofs.Common.{refl, arith}
 use Rattle.csv.specs.Records.{AllText, Rising}
 use Rattle.gtfs_table.specs.Parts.{parts}
 use Rattle.gtfs_table.proofs.texts.Texts.new.Goals as goal

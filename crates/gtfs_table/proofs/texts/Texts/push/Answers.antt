@@ -1,4 +1,4 @@
-use Rattle.std.proofs.Common.{◌≡◌, ◌++◌, ◌∷◌, ◌∙◌, [], List, ℕ, length}
+use Rattle.std.proofs.Common.{◌≡◌, ◌++◌, ◌∷◌, ◌∙◌, [], length}
 use Rattle.gtfs_table.proofs.StoreFacts.{IsTextPush, text-push}
 use Rattle.gtfs_table.proofs.texts.Texts.push.Goals as goal
 
