@@ -6,6 +6,7 @@ pub mod FolderFacts
 pub mod FolderLemmas
 mod HeldLemmas
 pub mod MarkFacts
+mod NameLemmas
 pub mod PartFacts
 pub mod ReadSteps
 mod SentLemmas

@@ -1,7 +1,7 @@
 -- Folders of files: what they hold, and what their calls answer.
 -- GTFS Schedule Reference, "Dataset Files": a dataset lies in one folder, each file under its own name.
 -- A device may tell nothing of what it holds (None); then the words below that speak of it claim nothing.
-use Rattle.std.specs.Prelude.{ℕ, IsTrue, is_some, List, Option, Some, None, option_map, unwrap_or, ◌≡◌, ◌≢◌, ⊤}
+use Rattle.std.specs.Prelude.{ℕ, IsTrue, is_some, List, Option, Some, None, option_map, unwrap_or, IsSorted, ◌≡◌, ◌≢◌, ⊤}
 use Rattle.std.specs.Cmp.Lexicographic.{slice_cmp}
 use Rattle.std.specs.Ordering.{nat_cmp}
 use Rattle.std.specs.declared.cmp.Ordering.{Ordering}
@@ -41,6 +41,10 @@ put store dir name bytes = map.insert store dir (map.insert (files_of store dir)
 -- the store with this folder, which is empty where it was absent
 abbrev pub put_folder : Store → List ℕ → Store
 put_folder store dir = map.insert store dir (files_of store dir)
+
+-- names by their bytes, none before a lesser one
+abbrev pub IsByBytes : List (List ℕ) → Type 0
+IsByBytes = IsSorted text_cmp
 
 -- ---- what a call answers, beside what the device tells that it holds
 

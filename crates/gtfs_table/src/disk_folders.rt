@@ -1,6 +1,5 @@
-ghost use Rattle.std.specs.Prelude.{◌≡◌, ◌≤◌, map, option_map, string_bytes, string_cmp, vec_len, IfOk, IfErr, IfSome, IsNone, OnOk, MatchResult};
-ghost use Rattle.std.specs.List.Sorted.{IsSorted};
-ghost use Rattle.gtfs_table.specs.Folder.{Lists, Finds, Writes, RefusesNames, RefusesRead, RefusesWrite};
+ghost use Rattle.std.specs.Prelude.{◌≡◌, ◌≤◌, map, option_map, string_bytes, vec_len, IfOk, IfErr, IfSome, IsNone, OnOk, MatchResult};
+ghost use Rattle.gtfs_table.specs.Folder.{IsByBytes, Lists, Finds, Writes, RefusesNames, RefusesRead, RefusesWrite};
 ghost use Rattle.gtfs_table.specs.Disk.{told, after_fault, RefusesList, RefusesFile, RefusesStore};
 
 use crate::folders::{FolderFault, Folders};
@@ -82,12 +81,12 @@ impl<'a, R: Files + Alloc + Clone + Drop> Folders for DiskFolders<'a, R> {
     fn names(&mut self, alloc: Global, dir: &str) -> Result<Vec<String>, FolderFault>
         ensures lists { IfOk result
             (λ names. Lists (told self.old) dir.now (map string_bytes names.items)) }
+        ensures ordered { IfOk result (λ names. IsByBytes (map string_bytes names.items)) }
         ensures refused { IfErr result
             (λ fault. RefusesNames fault (told self.old) dir.now self.old.failures self.new.failures) }
         ensures unchanged { told self.new ≡ told self.old }
         ensures grows { self.old.failures ≤ self.new.failures }
 
-        ensures ordered { IfOk result (λ names. IsSorted string_cmp names.items) }
         ensures few { IfOk result (λ names. vec_len names ≤ self.old.entries) }
         ensures counted { MatchResult result
             (λ _. self.new ≡ self.old)
@@ -159,7 +158,7 @@ fn list<R: Files + Alloc + Clone + Drop>(
     dir: &str,
     entries: usize,
 ) -> Result<Vec<String>, FolderFault>
-    ensures ordered { IfOk result (λ names. IsSorted string_cmp names.items) }
+    ensures ordered { IfOk result (λ names. IsByBytes (map string_bytes names.items)) }
     ensures few { IfOk result (λ names. vec_len names ≤ entries) }
     ensures refused { IfErr result RefusesList }
 {

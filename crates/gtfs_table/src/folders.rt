@@ -1,5 +1,5 @@
 ghost use Rattle.std.specs.Prelude.{◌≡◌, ◌≤◌, ℕ, Option, map, option_map, string_bytes, IfOk, IfErr, OnOk};
-ghost use Rattle.gtfs_table.specs.Folder.{Store, Lists, Finds, Writes, RefusesNames, RefusesRead, RefusesWrite};
+ghost use Rattle.gtfs_table.specs.Folder.{Store, IsByBytes, Lists, Finds, Writes, RefusesNames, RefusesRead, RefusesWrite};
 
 use gtfs_field::OutOfMemory;
 use std::alloc::{AllocFailed, Global};
@@ -64,6 +64,7 @@ pub trait Folders {
     fn names(&mut self, alloc: Global, dir: &str) -> Result<Vec<String>, FolderFault>
         ensures lists { IfOk result
             (λ names. Lists (held self.old) dir.now (map string_bytes names.items)) }
+        ensures ordered { IfOk result (λ names. IsByBytes (map string_bytes names.items)) }
         ensures refused { IfErr result
             (λ fault. RefusesNames fault (held self.old) dir.now
             (failure_count self.old) (failure_count self.new)) }

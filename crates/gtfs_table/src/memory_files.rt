@@ -1,5 +1,6 @@
 ghost use Rattle.std.specs.Prelude.{◌≡◌, map, option_copied, string_bytes, IfOk, OnOk, OnErr};
 ghost use Rattle.std.specs.FinMap as finite;
+ghost use Rattle.gtfs_table.specs.Folder.{IsByBytes};
 
 use gtfs_field::{List, OutOfMemory};
 use std::alloc::Global;
@@ -54,7 +55,8 @@ impl MemoryFiles {
 
     /// The names of the files, in byte order.
     pub(crate) fn names(&self, alloc: Global) -> Result<Vec<String>, OutOfMemory>
-        ensures { IfOk result (λ names. map string_bytes names.items ≡ finite.keys self.now) }
+        ensures all { IfOk result (λ names. map string_bytes names.items ≡ finite.keys self.now) }
+        ensures ordered { IfOk result (λ names. IsByBytes (map string_bytes names.items)) }
     {
         let mut names = Vec::new(alloc);
         for name in self.files.keys() {

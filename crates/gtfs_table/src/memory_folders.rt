@@ -1,7 +1,7 @@
 ghost use Rattle.std.specs.Prelude.{◌≡◌, ◌≤◌, ◌<◌, ◌-◌, ◌^◌, ◌↔◌, map, option_map, string_bytes, IsTrue, IfOk, IfErr, OnOk, OnErr, IfSome, IsErrOf, MatchResult, Ok, Some};
 ghost use Rattle.std.specs.Option.{ForSome};
 ghost use Rattle.std.specs.FinMap as finite;
-ghost use Rattle.gtfs_table.specs.Folder.{Lists, Finds, Writes, RefusesNames, RefusesRead, RefusesWrite, put, put_folder};
+ghost use Rattle.gtfs_table.specs.Folder.{IsByBytes, Lists, Finds, Writes, RefusesNames, RefusesRead, RefusesWrite, put, put_folder};
 ghost use Rattle.gtfs_table.specs.Held.{Refuses, is_failing, after_call, names_answer, read_answer};
 
 use crate::folders::{FolderFault, Folders};
@@ -108,6 +108,7 @@ impl Folders for MemoryFolders {
     fn names(&mut self, alloc: Global, dir: &str) -> Result<Vec<String>, FolderFault>
         ensures lists { IfOk result
             (λ names. Lists (Some self.old.store) dir.now (map string_bytes names.items)) }
+        ensures ordered { IfOk result (λ names. IsByBytes (map string_bytes names.items)) }
         ensures refused { IfErr result
             (λ fault. RefusesNames fault (Some self.old.store) dir.now
             self.old.failures self.new.failures) }

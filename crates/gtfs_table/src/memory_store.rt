@@ -1,6 +1,6 @@
-ghost use Rattle.std.specs.Prelude.{◌≡◌, map, option_map, option_copied, string_bytes, ok_or, MatchResult, Ok, OnOk, OnErr};
+ghost use Rattle.std.specs.Prelude.{◌≡◌, map, option_map, option_copied, string_bytes, ok_or, MatchResult, Ok, IfOk, OnOk, OnErr};
 ghost use Rattle.std.specs.FinMap as finite;
-ghost use Rattle.gtfs_table.specs.Folder.{names_in, file_in, put, put_folder};
+ghost use Rattle.gtfs_table.specs.Folder.{IsByBytes, names_in, file_in, put, put_folder};
 ghost use Rattle.gtfs_table.specs.Held.{Refuses, within_limit, file_answer};
 ghost use Rattle.gtfs_table.specs.declared.folders.FolderFault.TheVariants.{NoFolder};
 
@@ -46,9 +46,10 @@ impl MemoryStore {
 
     /// The names of a folder's files, in byte order.
     pub(crate) fn names(&self, alloc: Global, dir: &str) -> Result<Vec<String>, FolderFault>
-        ensures { MatchResult result
+        ensures answers { MatchResult result
             (λ names. names_in self.now dir.now ≡ Some (map string_bytes names.items))
             (λ fault. Refuses fault (ok_or (names_in self.now dir.now) NoFolder)) }
+        ensures ordered { IfOk result (λ names. IsByBytes (map string_bytes names.items)) }
     {
         match self.files(dir) {
             Some(files) => Ok(files.names(alloc)?),

@@ -1,6 +1,6 @@
 ghost use Rattle.std.specs.Prelude.{◌≡◌, ◌<◌, ◌≤◌, not, filter, length, map, option_map, string_bytes, IfOk, IfErr, OnOk, OnErr};
 ghost use Rattle.gtfs_table.specs.Files.{file_name};
-ghost use Rattle.gtfs_table.specs.Folder.{RefusesRead};
+ghost use Rattle.gtfs_table.specs.Folder.{IsByBytes, RefusesRead};
 ghost use Rattle.gtfs_table.specs.Reading.{is_kept, kept_files, HoldsDataset, HoldsTable, RefusesDataset, SetsTables};
 ghost use Rattle.gtfs_table.specs.Tables.{column_of, empty_dataset, field_cut, record_at, table_of, value, with_field, with_record, with_table};
 ghost use Rattle.gtfs_table.specs.Written.{text_of_table, ReadsBack};
@@ -38,6 +38,10 @@ impl Model for Tables {
     ghost Value = { Dataset };
 
     ghost view = { λ t. record { agency = t.agency; stops = t.stops; routes = t.routes; trips = t.trips; stop_times = t.stop_times; calendar = t.calendar; calendar_dates = t.calendar_dates; frequencies = t.frequencies; transfers = t.transfers; others = t.others.items } };
+
+    ghost use Rattle.gtfs_table.specs.Folder.{IsByBytes};
+
+    ghost invariant = { λ t. IsByBytes t.others.items };
 }
 
 // Written out, so that a function that lets tables go has one call to prove.
@@ -67,6 +71,7 @@ impl Tables {
     }
 
     fn of_names(others: Vec<Text>, alloc: Global) -> Tables
+        requires { IsByBytes others.items }
         ensures { result ≡ record empty_dataset { others = others.items } }
     {
         Tables {
@@ -158,7 +163,8 @@ impl Tables {
 
     /// The names of what else the folder holds, by bytes.
     pub fn others(&self) -> &[Text]
-        ensures { result.now ≡ self.now.others }
+        ensures value { result.now ≡ self.now.others }
+        ensures ordered { IsByBytes result.now }
     {
         self.others.as_slice()
     }

@@ -1,3 +1,6 @@
+ghost use Rattle.std.specs.Prelude.{◌<◌, ◌-◌, ◌^◌};
+ghost use Rattle.std.specs.Option.{ForSome};
+
 use crate::{File, FolderFault, Folders, MemoryFolders, State, Tables};
 use gtfs_field::OutOfMemory;
 use std::alloc::Global;
@@ -10,7 +13,9 @@ fn folders_of(
     alloc: Global,
     files: &[(&str, &[u8])],
     fail: Option<u64>,
-) -> Result<MemoryFolders, OutOfMemory> {
+) -> Result<MemoryFolders, OutOfMemory>
+    requires { ForSome fail (λ number. number < 2 ^ 64 - 1) }
+{
     let mut folders = MemoryFolders::new(alloc, LIMIT, fail);
     for (name, bytes) in files {
         folders.put("f1", name, bytes)?;
