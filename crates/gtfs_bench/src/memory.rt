@@ -1,6 +1,6 @@
 use crate::count::Count;
 use crate::disk::Disk;
-use anyhow::{Context, Result};
+use anyhow::{Context, Result, ensure};
 use gtfs_table::Tables;
 use std::fs;
 use std::rt::Files;
@@ -9,15 +9,20 @@ use std::rt::Files;
 /// from the disk and while they are kept.
 pub fn measure<R: Files + AllocGlobal + Print>(rt: &R, dir: &str) -> Result<()> {
     print_status(rt, "before")?;
-    let tables = Tables::read(rt.alloc(), &mut Disk::new(rt), dir).context(format_args!(
-        "reading {dir}"
-    ))?;
+    let mut disk = Disk::new(rt);
+    let tables = Tables::read(rt.alloc(), &mut disk, dir).context(format_args!("reading {dir}"))?;
     print_status(rt, "kept")?;
+    let count = Count::of_tables(&tables);
+    ensure!(count != Count::NOTHING, "no feed in {dir}");
+    print_count(rt, &count)
+}
+
+fn print_count<R: Print>(rt: &R, count: &Count) -> Result<()> {
     let Count {
         records,
         fields,
         bytes,
-    } = Count::of_tables(&tables);
+    } = *count;
     println!(rt; "records={records} fields={fields} bytes={bytes}")?;
     Ok(())
 }

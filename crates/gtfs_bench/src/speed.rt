@@ -53,6 +53,7 @@ fn take_turn<R: Files + AllocGlobal + Clock>(
     let start = Instant::now(rt)?;
     let looped = count_all(rt.alloc(), &shelf)?;
     least.bare = least.bare.min(start.elapsed(rt)?);
+    ensure!(looped != Count::NOTHING, "no feed in {dir}");
     let start = Instant::now(rt)?;
     let tables = Tables::read(rt.alloc(), &mut shelf, dir)?;
     least.read = least.read.min(start.elapsed(rt)?);
