@@ -1,4 +1,4 @@
-ghost use Rattle.std.specs.Prelude.{◌≡◌, ◌<◌, ◌+◌, ◌++◌, ◌∷◌, [], length, take, OnOk, OnErr, slice_index, slice_index_or};
+ghost use Rattle.std.specs.Prelude.{◌≡◌, ◌<◌, ◌+◌, ◌++◌, ◌∷◌, [], length, take, IfOk, OnOk, OnErr, slice_index, slice_index_or};
 
 use gtfs_field::OutOfMemory;
 use std::alloc::Global;
@@ -27,6 +27,16 @@ impl Places {
             narrow: Vec::new(alloc),
             wide: Vec::new(alloc),
         }
+    }
+
+    /// No place yet, and room for this many.
+    pub(crate) fn with_room(alloc: Global, count: usize) -> Result<Places, OutOfMemory>
+        ensures { IfOk result (λ places. places ≡ []) }
+    {
+        Ok(Places {
+            narrow: Vec::with_capacity(alloc, count)?,
+            wide: Vec::new(alloc),
+        })
     }
 
     pub(crate) fn len(&self) -> usize

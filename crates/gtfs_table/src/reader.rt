@@ -48,7 +48,7 @@ fn read_records(alloc: Global, text: &str) -> Result<Records, OutOfMemory>
         .flexible(true)
         .from_reader(alloc, text.as_bytes());
     let mut row = ByteRecord::new(alloc);
-    let mut records = Records::new(alloc);
+    let mut records = Records::with_room(alloc, text.len())?;
     loop {
         match reader.read_byte_record(&mut row) {
             Ok(true) => records.push_row(&row)?,

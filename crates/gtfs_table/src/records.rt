@@ -1,4 +1,4 @@
-ghost use Rattle.std.specs.Prelude.{All, ◌≡◌, ◌<◌, ◌++◌, ◌∷◌, [], length, OnOk, OnErr, slice_index_or};
+ghost use Rattle.std.specs.Prelude.{All, ◌≡◌, ◌<◌, ◌++◌, ◌∷◌, [], length, IfOk, OnOk, OnErr, slice_index_or};
 ghost use Rattle.csv.specs.Records.{AllText, IsRecord, fields_of};
 ghost use Rattle.gtfs_table.specs.Parts.{add_to_last};
 
@@ -8,6 +8,9 @@ use csv::ByteRecord;
 use gtfs_field::OutOfMemory;
 use std::alloc::Global;
 use std::marker::Model;
+
+// Few files have shorter fields, the commas counted.
+const BYTES_OF_A_FIELD: usize = 4;
 
 /// The records of a file, whose fields lie in one buffer.
 #[derive(Drop)]
@@ -36,6 +39,17 @@ impl Records {
             fields: Texts::new(alloc),
             starts: Places::new(alloc),
         }
+    }
+
+    /// No record yet, and room for about as many fields as a file of this size has. Room that is not used
+    /// is asked for and not touched.
+    pub(crate) fn with_room(alloc: Global, size: usize) -> Result<Records, OutOfMemory>
+        ensures { IfOk result (λ records. records ≡ []) }
+    {
+        Ok(Records {
+            fields: Texts::with_room(alloc, size / BYTES_OF_A_FIELD, size)?,
+            starts: Places::new(alloc),
+        })
     }
 
     pub(crate) fn len(&self) -> usize

@@ -1,4 +1,4 @@
-ghost use Rattle.std.specs.Prelude.{◌≡◌, ◌<◌, ◌++◌, ◌∷◌, [], length, take, OnOk, OnErr, slice_index_or};
+ghost use Rattle.std.specs.Prelude.{◌≡◌, ◌<◌, ◌++◌, ◌∷◌, [], length, take, IfOk, OnOk, OnErr, slice_index_or};
 ghost use Rattle.std.specs.List.{concat};
 ghost use Rattle.csv.specs.Records.{AllText, IsRecord, fields_of};
 ghost use Rattle.gtfs_table.specs.Parts.{starts_of};
@@ -36,6 +36,16 @@ impl Texts {
             bytes: Vec::new(alloc),
             starts: Places::new(alloc),
         }
+    }
+
+    /// No text yet, and room for this many texts that come to this many bytes.
+    pub(crate) fn with_room(alloc: Global, count: usize, size: usize) -> Result<Texts, OutOfMemory>
+        ensures { IfOk result (λ texts. texts ≡ []) }
+    {
+        Ok(Texts {
+            bytes: Vec::with_capacity(alloc, size)?,
+            starts: Places::with_room(alloc, count)?,
+        })
     }
 
     pub(crate) fn len(&self) -> usize

@@ -12,7 +12,7 @@ loop-records-init c =
     let f = c.flexible.ensures in
     let bytes = c.as_bytes.ensures.value in
     let source = fr.source in
-    rw (c.new-records.ensures) (
+    rw (c.in_ok-records.ensures) (
       rw (f, e) at fr.trim ∙ c.new.ensures.trim,
       inr (inr (rw (f, e) at fr.has_headers, fr.headers)),
       rw (f, e) at fr.config ∙ c.new.ensures.config,
