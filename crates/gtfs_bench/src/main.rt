@@ -2,7 +2,6 @@
 #![tactic(auto)]
 
 mod count;
-mod disk;
 mod memory;
 mod shelf;
 mod speed;

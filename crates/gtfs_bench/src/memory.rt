@@ -1,15 +1,17 @@
 use crate::count::Count;
-use crate::disk::Disk;
 use anyhow::{Context, Result, ensure};
-use gtfs_table::Tables;
+use gtfs_table::{DiskFolders, Tables};
 use std::fs;
 use std::rt::Files;
 
 /// Prints the memory of this process (VmRSS) and its peak (VmHWM), before the tables of a feed are read
 /// from the disk and while they are kept.
-pub fn measure<R: Files + AllocGlobal + Print>(rt: &R, dir: &str) -> Result<()> {
+pub fn measure<R: Files + Alloc + AllocGlobal + Clone + Drop + Print>(
+    rt: &R,
+    dir: &str,
+) -> Result<()> {
     print_status(rt, "before")?;
-    let mut disk = Disk::new(rt);
+    let mut disk = DiskFolders::new(rt);
     let tables = Tables::read(rt.alloc(), &mut disk, dir).context(format_args!("reading {dir}"))?;
     print_status(rt, "kept")?;
     let count = Count::of_tables(&tables);

@@ -1,8 +1,8 @@
-use crate::disk::read_file;
 use gtfs_table::{File, FolderFault, Folders};
 use std::alloc::Global;
-use std::io;
+use std::io::ErrorKind;
 use std::rt::Files;
+use std::{fs, io};
 
 /// The kept files of one folder in memory. Each is handed out once.
 #[derive(Drop)]
@@ -65,5 +65,15 @@ impl Folders for Shelf {
 
     fn failures(&self) -> u64 {
         0
+    }
+}
+
+/// The bytes of a folder's file, if it has it.
+fn read_file<R: Files + AllocGlobal>(rt: &R, dir: &str, name: &str) -> io::Result<Option<Vec<u8>>> {
+    let path = format!(in rt.alloc(); "{dir}/{name}")?;
+    match fs::read(rt, path.as_str()) {
+        Ok(bytes) => Ok(Some(bytes)),
+        Err(fault) if fault.kind() == ErrorKind::NotFound => Ok(None),
+        Err(fault) => Err(fault),
     }
 }
