@@ -1,5 +1,5 @@
 -- Names in the order of their bytes.
-use Rattle.std.proofs.Common.{◌≡◌, ◌<◌, ◌+◌, ◌∷◌, ◌∙◌, [], ℕ, suc, zero, List, Bool, false, String, Ordering, Less, Equal, Greater, string_bytes, map, filter, length, get_or, IsSorted, refl, sym, ap, arith}
+use Rattle.std.proofs.Common.{◌≡◌, ◌<◌, ◌+◌, ◌∷◌, ◌∙◌, [], ℕ, List, Bool, false, String, Ordering, Less, Equal, Greater, string_bytes, map, filter, length, get_or, IsSorted, refl, ap, arith}
 use Rattle.std.specs.String.{string_cmp}
 use Rattle.std.specs.Ordering.{is_lt, ordering_reverse}
 use Rattle.std.specs.List.Sorted.{IsStrictlySortedBy}
@@ -7,7 +7,7 @@ use Rattle.std.proofs.lemmas.List.{get_or-map, length-map}
 use Rattle.std.proofs.lemmas.List.Kept.{IsSortedBy-filter}
 use Rattle.std.proofs.lemmas.List.Sorted.{ranks_by}
 use Rattle.std.proofs.lemmas.Map.Keys.{Less-from_sorted}
-use Rattle.gtfs_table.specs.Folder.{IsByBytes, text_cmp}
+use Rattle.gtfs_table.specs.Folder.{IsByBytes}
 use Rattle.gtfs_table.proofs.ByTextLemmas.{texts_total}
 
 -- texts in order are bytes in order

@@ -1,4 +1,4 @@
-use Rattle.std.proofs.Common.{◌≡◌, List, rules, map, ap, sym, subst, ◌∙◌, string_bytes}
+use Rattle.std.proofs.Common.{◌≡◌, rules, map, ap, sym, subst, ◌∙◌, string_bytes}
 use Rattle.std.specs.BTreeMap as tree
 use Rattle.std.specs.FinMap as finite
 use Rattle.std.specs.Map.Iter.{deref}
@@ -12,7 +12,7 @@ pub returns : goal.returns
 returns c =
     let all : map deref c.loop-name.yielded ≡ tree.keys c.self.inside.files = search (rules, iter_end) in
     let names : map string_bytes c.loop-name.names.items ≡ map string_bytes (tree.keys c.self.inside.files) =
-        c.loop-name.invariant ∙ map-deref c.loop-name.yielded ∙ ap (map string_bytes) all in
+    c.loop-name.invariant ∙ map-deref c.loop-name.yielded ∙ ap (map string_bytes) all in
     record {
       all = names ∙ sym (keys-by_text c.self.inside.files c.keys-name-items.ensures.ordered) ∙ ap (λ files. finite.keys files) c.self.view_is;
       ordered = subst IsByBytes (sym names) (keys-by_bytes (tree.keys c.self.inside.files) c.keys-name-items.ensures.ordered);
