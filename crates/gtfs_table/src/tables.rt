@@ -37,7 +37,18 @@ impl Model for Tables {
 
     ghost Value = { Dataset };
 
-    ghost view = { λ t. record { agency = t.agency; stops = t.stops; routes = t.routes; trips = t.trips; stop_times = t.stop_times; calendar = t.calendar; calendar_dates = t.calendar_dates; frequencies = t.frequencies; transfers = t.transfers; others = t.others.items } };
+    ghost view = { λ t. record {
+      agency = t.agency;
+      stops = t.stops;
+      routes = t.routes;
+      trips = t.trips;
+      stop_times = t.stop_times;
+      calendar = t.calendar;
+      calendar_dates = t.calendar_dates;
+      frequencies = t.frequencies;
+      transfers = t.transfers;
+      others = t.others.items;
+    } };
 
     ghost use Rattle.gtfs_table.specs.Folder.{IsByBytes};
 
@@ -102,7 +113,9 @@ impl Tables {
         dir: &str,
     ) -> Result<Tables, FolderFault>
         ensures reads { IfOk result (λ tables. HoldsDataset (F.held folders.old) dir.now tables) }
-        ensures refused { IfErr result (λ fault. RefusesDataset fault (F.held folders.old) dir.now (F.failure_count folders.old) (F.failure_count folders.new)) }
+        ensures refused { IfErr result
+            (λ fault. RefusesDataset fault (F.held folders.old) dir.now
+            (F.failure_count folders.old) (F.failure_count folders.new)) }
         ensures unchanged { F.held folders.new ≡ F.held folders.old }
         ensures grows { F.failure_count folders.old ≤ F.failure_count folders.new }
     {
@@ -227,7 +240,9 @@ impl Tables {
         dir: &str,
     ) -> Result<(), FolderFault>
         ensures sets { OnOk result (SetsTables (F.held folders.old) dir.now kept_files self.old self.new) }
-        ensures refused { IfErr result (λ fault. RefusesDataset fault (F.held folders.old) dir.now (F.failure_count folders.old) (F.failure_count folders.new)) }
+        ensures refused { IfErr result
+            (λ fault. RefusesDataset fault (F.held folders.old) dir.now
+            (F.failure_count folders.old) (F.failure_count folders.new)) }
         ensures unchanged { F.held folders.new ≡ F.held folders.old }
         ensures grows { F.failure_count folders.old ≤ F.failure_count folders.new }
     {
@@ -279,7 +294,9 @@ fn read_file<F: Folders>(
     file: File,
 ) -> Result<FileTable, FolderFault>
     ensures reads { IfOk result (λ table. HoldsTable (F.held folders.old) dir.now file table) }
-    ensures refused { IfErr result (λ fault. RefusesRead fault (F.held folders.old) dir.now (file_name file) (F.failure_count folders.old) (F.failure_count folders.new)) }
+    ensures refused { IfErr result
+        (λ fault. RefusesRead fault (F.held folders.old) dir.now (file_name file)
+        (F.failure_count folders.old) (F.failure_count folders.new)) }
     ensures unchanged { F.held folders.new ≡ F.held folders.old }
     ensures grows { F.failure_count folders.old ≤ F.failure_count folders.new }
 {

@@ -12,7 +12,9 @@ use std::alloc::Global;
 /// The text of records as `csv` writes it by default, but that records may differ in length.
 pub(crate) fn write_records(alloc: Global, records: &Records) -> Result<Vec<u8>, OutOfMemory>
     ensures text { IfOk result (λ text. text.items ≡ text_of_records records.now) }
-    ensures reads_back { IfOk result (λ text. is_marked records.now ≡ false → table_of_bytes (Some text.items) ≡ record { state = State.Read; records = records.now }) }
+    ensures reads_back { IfOk result
+        (λ text. is_marked records.now ≡ false
+        → table_of_bytes (Some text.items) ≡ record { state = State.Read; records = records.now }) }
 {
     records.are_filled_with_text();
     let mut writer = WriterBuilder::new()
