@@ -1,0 +1,7 @@
+//! The rows of a feed as typed values, read from its tables.
+
+mod content;
+mod rows;
+
+pub use content::Feed;
+pub use rows::{Frequency, LocationType, PickupType, Route, ServiceRow, Stop, StopTime, Trip};

@@ -1,0 +1,83 @@
+use gtfs_days::Service;
+use gtfs_field::Clock;
+
+/// The kind of a place: `location_type` of stops.txt.
+#[derive(Clone, Copy, Debug, PartialEq, Eq)]
+pub enum LocationType {
+    /// A stop, or a platform of a station.
+    Stop,
+    Station,
+    /// An entrance or an exit of a station.
+    Entrance,
+    /// A generic node of a station.
+    Node,
+    /// A boarding area of a platform.
+    BoardingArea,
+}
+
+/// How riders board: `pickup_type` of stop_times.txt.
+#[derive(Clone, Copy, Debug, PartialEq, Eq)]
+pub enum PickupType {
+    /// At the scheduled time.
+    Regular,
+    /// Not at all.
+    None,
+    /// By arrangement with the agency, by telephone.
+    Phone,
+    /// By arrangement with the driver.
+    Driver,
+}
+
+/// A row of stops.txt.
+#[derive(Clone, Copy, Debug)]
+pub struct Stop<'a> {
+    pub stop_id: &'a str,
+    pub location_type: LocationType,
+    pub parent_station: Option<&'a str>,
+}
+
+/// A row of routes.txt.
+#[derive(Clone, Copy, Debug)]
+pub struct Route<'a> {
+    pub route_id: &'a str,
+    pub route_short_name: Option<&'a str>,
+    pub route_long_name: Option<&'a str>,
+}
+
+/// The rows of calendar.txt and calendar_dates.txt with one id.
+#[derive(Debug, Drop)]
+pub struct ServiceRow<'a> {
+    pub service_id: &'a str,
+    pub service: Service,
+}
+
+/// A row of trips.txt.
+#[derive(Clone, Copy, Debug)]
+pub struct Trip<'a> {
+    pub trip_id: &'a str,
+    pub route_id: &'a str,
+    pub service_id: &'a str,
+    pub trip_headsign: Option<&'a str>,
+}
+
+/// A row of stop_times.txt.
+#[derive(Clone, Copy, Debug)]
+pub struct StopTime<'a> {
+    pub trip_id: &'a str,
+    pub stop_sequence: u32,
+    pub stop_id: &'a str,
+    pub arrival_time: Option<Clock>,
+    pub departure_time: Option<Clock>,
+    pub stop_headsign: Option<&'a str>,
+    pub pickup_type: PickupType,
+}
+
+/// A row of frequencies.txt. The headway is in seconds.
+#[derive(Clone, Copy, Debug)]
+pub struct Frequency<'a> {
+    pub trip_id: &'a str,
+    pub start_time: Clock,
+    pub end_time: Clock,
+    pub headway_secs: u32,
+    pub exact_times: bool,
+}
