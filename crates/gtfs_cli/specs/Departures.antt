@@ -5,7 +5,7 @@ use Rattle.std.specs.Ordering.{int_eq, is_eq, is_lt}
 use Rattle.gtfs_cli.specs.Content.{Content}
 use Rattle.gtfs_days.specs.Service.{is_active}
 use Rattle.gtfs_cli.specs.Trips.{is_run, is_departure_row, passes_at}
-use Rattle.gtfs_cli.specs.Key.{Key, key_cmp, is_above}
+use Rattle.gtfs_cli.specs.Key.{Key, key_cmp}
 use Rattle.gtfs_cli.specs.declared.feed.rows.LocationType.{LocationType}
 use Rattle.gtfs_cli.specs.declared.feed.rows.LocationType.TheVariants as place
 use Rattle.gtfs_cli.specs.Rows.{StopRow, TripRow}
@@ -51,6 +51,11 @@ is_departure f origin k = departs_from f origin any_row k
 -- those at the place of a stop
 abbrev pub departs_at : Content → Origins → List ℕ → Key → Bool
 departs_at f origin s k = departs_from f origin (λ row. is_in_place f s row.stop_id) k
+
+-- the key lies above this one, or there is none
+abbrev pub is_above : Option Key → Key → Bool
+is_above None x = true
+is_above (Some k) x = is_lt (key_cmp k x)
 
 -- a span of instants, the first one included and the last one not
 abbrev pub is_within : ℤ → ℤ → ℤ → Bool

@@ -1,4 +1,5 @@
 pub mod Key
+pub mod Lent
 pub mod Rows
 pub mod Content
 pub mod FeedView

@@ -1,4 +1,5 @@
 //! The command line of the program `gtfs`, as a library.
 #![tactic(auto)]
 
+mod board;
 mod feed;
