@@ -1,1 +1,3 @@
 mod KeyOrder
+mod Found
+mod Listing

@@ -1,6 +1,7 @@
 -- The departures of a feed, and a stop's board.
 use Rattle.std.specs.Prelude.{◌≡◌, ℕ, ◌==◌, ◌&&◌, ◌||◌, Bool, true, false, List, [], ◌∷◌, bytes_eq, Option, Some, None, ℤ, pos, ◌+ℤ◌, int_le, int_lt}
 use Rattle.std.specs.List.{list_any}
+use Rattle.std.specs.List.Sorted.{IsStrictlySortedBy}
 use Rattle.std.specs.Ordering.{int_eq, is_eq, is_lt}
 use Rattle.gtfs_cli.specs.Content.{Content}
 use Rattle.gtfs_days.specs.Service.{is_active}
@@ -65,14 +66,9 @@ is_within from until x = int_le from x && int_lt x until
 abbrev pub is_listed : Content → Origins → List ℕ → ℤ → ℤ → Option Key → Key → Bool
 is_listed f origin s from until after k = departs_at f origin s k && is_within from until k.instant && is_above after k
 
--- each key is above the one before it
-abbrev pub RisesAbove : Key → List Key → Type 0
-RisesAbove k [] = Unit {0}
-RisesAbove k (x ∷ xs) = (is_lt (key_cmp k x) ≡ true) × RisesAbove x xs
-
+-- each key lies below those after it
 abbrev pub IsAscending : List Key → Type 0
-IsAscending [] = Unit {0}
-IsAscending (x ∷ xs) = RisesAbove x xs
+IsAscending = IsStrictlySortedBy key_cmp
 
 abbrev pub is_member : Key → List Key → Bool
 is_member k xs = list_any (λ x. is_eq (key_cmp k x)) xs

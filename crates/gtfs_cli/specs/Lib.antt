@@ -1,5 +1,7 @@
 pub mod Key
+pub mod KeyTexts
 pub mod Lent
+pub mod Lines
 pub mod Rows
 pub mod Content
 pub mod FeedView
@@ -7,3 +9,9 @@ pub mod Values
 pub mod Reading
 pub mod Trips
 pub mod Departures
+pub mod Shown
+pub mod Events
+pub mod Board
+pub mod Waits
+pub mod Found
+pub mod FeedOrder

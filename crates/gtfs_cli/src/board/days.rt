@@ -1,0 +1,92 @@
+ghost use Rattle.std.specs.Prelude.{◌≡◌, ◌≤ℤ◌, ℕ, List, true, IfSome, OnOk};
+ghost use Rattle.gtfs_days.specs.Service.{is_active};
+ghost use Rattle.gtfs_days.specs.Zone.{zone_origin};
+ghost use Rattle.gtfs_cli.specs.Events.{IsEvent};
+ghost use Rattle.gtfs_cli.specs.Board.{is_span};
+ghost use Rattle.gtfs_cli.specs.Found.{AllFound, departure_on};
+ghost use Rattle.gtfs_cli.specs.Waits.{shown_of, IsDated};
+
+use crate::board::span::Span;
+use crate::board::waiting::Waiting;
+use crate::feed::Feed;
+use crate::runs::Event;
+use gtfs_days::{Service, Zone};
+use gtfs_field::{Day, OutOfMemory};
+use std::alloc::Global;
+
+/// The first and the last service day: 1900-01-01 and 9998-12-31.
+const FIRST_SERVICE_DAY: i64 = -25_567;
+const LAST_SERVICE_DAY: i64 = 2_932_531;
+
+/// How far the origin of a day can lie from midnight UTC of its date, in seconds.
+const FARTHEST: i64 = 93_599;
+
+/// Adds the departures of an event on all days of its service that fall into the span.
+pub(super) fn push_days<'a>(
+    alloc: Global,
+    feed: &Feed<'_>,
+    zone: &Zone,
+    span: Span,
+    event: &Event<'a>,
+    waiting: &mut Vec<Waiting<'a>>,
+) -> Result<(), OutOfMemory>
+    requires { is_span span ≡ true }
+    ensures { OnOk result ((s : List ℕ) → IsEvent feed.now s event.now → AllFound feed.now (zone_origin zone.now) s span waiting.old.items
+        → AllFound feed.now (zone_origin zone.now) s span waiting.new.items) }
+{
+    let Some(service) = feed.service(event.service) else {
+        return Ok(());
+    };
+    let mut next = active_from(service, first_day(span, event.at));
+    while let Some(day) = next {
+        if is_past(span, day, event.at) {
+            break;
+        }
+        let instant = zone.origin(alloc, day)? + i64::from(event.at);
+        if span.contains(instant) {
+            waiting.push(waiting_at(event, instant, day))?;
+        }
+        next = active_from(service, i64::from(day.number()) + 1);
+    }
+    Ok(())
+}
+
+// The departure of an event on a day, at its instant.
+fn waiting_at<'a>(event: &Event<'a>, instant: i64, day: Day) -> Waiting<'a>
+    ensures shown { shown_of result ≡ departure_on event.now instant day }
+    ensures dated { IsDated result }
+{
+    Waiting {
+        instant,
+        trip: event.trip,
+        run: event.run,
+        sequence: event.sequence,
+        day: day.number(),
+        stop: event.stop,
+        route: event.route,
+        headsign: event.headsign,
+        mark: event.mark,
+    }
+}
+
+// A day before which no origin plus this time falls into the span.
+fn first_day(span: Span, at: u32) -> i64
+    requires { is_span span ≡ true }
+{
+    (span.from - i64::from(at) - FARTHEST).div_euclid(86_400)
+}
+
+// Whether on this and every later day the time falls behind the span.
+fn is_past(span: Span, day: Day, at: u32) -> bool {
+    i64::from(day.number()) * 86_400 - FARTHEST + i64::from(at) >= span.until
+}
+
+// The first day from the one of this number on, on which the service runs.
+fn active_from(service: &Service, number: i64) -> Option<Day>
+    ensures { IfSome result (λ d. (is_active service.now d ≡ true) × (number ≤ℤ d)) }
+{
+    if number > LAST_SERVICE_DAY {
+        return None;
+    }
+    service.next_active(Day::from_number(number.max(FIRST_SERVICE_DAY) as i32))
+}

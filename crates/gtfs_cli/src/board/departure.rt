@@ -1,0 +1,23 @@
+use crate::board::key::Key;
+
+/// How the line of a departure is marked.
+#[derive(Clone, Copy, Debug, PartialEq, Eq)]
+pub enum Mark {
+    /// `s`: the run keeps a timetable.
+    Scheduled,
+    /// `f`: the run is one of a period of frequencies.txt whose `exact_times` is 0, so its times are not exact.
+    Frequency,
+}
+
+/// A departure as a board lists it. The feed lends its texts.
+#[derive(Clone, Copy, Debug, PartialEq, Eq)]
+pub struct Departure<'a> {
+    pub key: Key<'a>,
+    /// `stop_id` of the stop from which it leaves, which may be a platform of the board's station.
+    pub stop: &'a str,
+    /// `route_short_name`, or where that is empty `route_long_name`.
+    pub route: &'a str,
+    /// `stop_headsign`, or where that is empty `trip_headsign`; empty where both are.
+    pub headsign: &'a str,
+    pub mark: Mark,
+}
