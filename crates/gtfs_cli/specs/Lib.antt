@@ -2,6 +2,7 @@ pub mod Key
 pub mod Rows
 pub mod Content
 pub mod FeedView
+pub mod FeedOrder
 pub mod Values
 pub mod Reading
 pub mod Trips

@@ -4,12 +4,12 @@ use std::marker::Model;
 /// The rows of a feed by their keys: stops, routes, services and trips by id, stop times by trip and sequence, and periods
 /// by trip and start, each ascending. Texts are lent by the tables that the feed was read from.
 pub struct Feed<'a> {
-    stops: Vec<Stop<'a>>,
-    routes: Vec<Route<'a>>,
-    services: Vec<ServiceRow<'a>>,
-    trips: Vec<Trip<'a>>,
-    stop_times: Vec<StopTime<'a>>,
-    frequencies: Vec<Frequency<'a>>,
+    pub(super) stops: Vec<Stop<'a>>,
+    pub(super) routes: Vec<Route<'a>>,
+    pub(super) services: Vec<ServiceRow<'a>>,
+    pub(super) trips: Vec<Trip<'a>>,
+    pub(super) stop_times: Vec<StopTime<'a>>,
+    pub(super) frequencies: Vec<Frequency<'a>>,
 }
 
 impl<'a> Model for Feed<'a> {
@@ -20,6 +20,10 @@ impl<'a> Model for Feed<'a> {
     ghost use Rattle.gtfs_cli.specs.FeedView.{content};
 
     ghost view = { content };
+
+    ghost use Rattle.gtfs_cli.specs.FeedOrder.{IsInOrder};
+
+    ghost invariant = { IsInOrder };
 }
 
 // Written out, so that a function that lets a feed go has one call to prove.
