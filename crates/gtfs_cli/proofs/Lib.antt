@@ -1,0 +1,4 @@
+pub mod SameElements
+pub mod ByKey
+pub mod Groups
+pub mod Searched
