@@ -1,3 +1,6 @@
+pub mod SameElements
+pub mod ByKey
+pub mod Groups
+pub mod Searched
 mod KeyOrder
 mod Found
-mod Listing

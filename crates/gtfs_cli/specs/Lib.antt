@@ -5,6 +5,7 @@ pub mod Lines
 pub mod Rows
 pub mod Content
 pub mod FeedView
+pub mod FeedOrder
 pub mod Values
 pub mod Reading
 pub mod Trips

@@ -7,7 +7,7 @@ ghost use Rattle.gtfs_cli.specs.FeedView.{frequencies_of, period_row, stop_time_
 ghost use Rattle.gtfs_cli.specs.Rows.{TripRow as Row};
 
 use crate::feed::content::Feed;
-use crate::feed::rows::{Frequency, LocationType, Stop, StopTime, Trip};
+use crate::feed::rows::{Frequency, LocationType, Route, Stop, StopTime, Trip};
 use gtfs_days::Service;
 use gtfs_field::OutOfMemory;
 use std::alloc::Global;
@@ -96,12 +96,21 @@ impl<'a> Feed<'a> {
             (find (λ r. bytes_eq r.route_id id.now) self.now.routes)) [] }
     {
         match self.routes.binary_search_by(|row| row.route_id.cmp(id)) {
-            Ok(at) => {
-                let route = self.routes[at];
-                route.route_short_name.or(route.route_long_name).unwrap_or("")
-            }
+            Ok(at) => name_of(&self.routes[at]),
             Err(_) => "",
         }
+    }
+}
+
+// The short name, or where there is none the long one.
+fn name_of<'a>(route: &Route<'a>) -> &'a str
+    ensures { result.now ≡ unwrap_or (option_or (option_map (λ t. t.now) route.now.route_short_name)
+        (option_map (λ t. t.now) route.now.route_long_name)) [] }
+{
+    match (route.route_short_name, route.route_long_name) {
+        (Some(name), _) => name,
+        (None, Some(name)) => name,
+        (None, None) => "",
     }
 }
 
