@@ -12,7 +12,7 @@ use Rattle.gtfs_cli.specs.Departures.{Origins, is_in_place, is_within, is_listed
 use Rattle.gtfs_cli.specs.Events.{IsEvent}
 use Rattle.gtfs_cli.specs.Shown.{shown, trip_named, row_numbered, IsShown}
 use Rattle.gtfs_cli.specs.Waits.{shown_of, IsDated}
-use Rattle.gtfs_cli.specs.Found.{IsFound, departure_on}
+use Rattle.gtfs_cli.specs.Found.{IsFound, IsServed, departure_on}
 use Rattle.gtfs_cli.specs.declared.board.span.Span.{Span}
 use Rattle.gtfs_cli.specs.declared.board.waiting.Waiting.{Waiting}
 use Rattle.gtfs_cli.specs.declared.runs.event.Event.{Event}
@@ -72,7 +72,7 @@ shows f s e d x event = rw (event.of_trip, event.of_row) (λ i. Some (record {
     key = (departure_on e x d).key; stop = sym event.stop i; route = sym event.route i; headsign = sym event.headsign i; mark = sym event.mark i }))
 
 pub event-found : (f : Content) (origin : Origins) (s : List ℕ) (span : Span) (e : Event) (d x : ℤ) (w : Waiting) (service : ServiceDates) → IsEvent f s e
-    → option_map (λ r. r.service) (find (with_id e.service.now) f.services) ≡ Some service → is_active service d ≡ true
+    → IsServed f e service → is_active service d ≡ true
     → x ≡ origin d +ℤ pos e.at → is_within span.from span.until x ≡ true → shown_of w ≡ departure_on e x d → IsDated w → IsFound f origin s span w
 event-found f origin s span e d x w service event found active instant within is dated =
     let same : option_map (λ (r : ServiceRow). r.service) (find (with_id event.trip.service_id) f.services) ≡ Some service

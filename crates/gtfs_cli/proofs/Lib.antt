@@ -4,3 +4,4 @@ pub mod Groups
 pub mod Searched
 mod KeyOrder
 mod Found
+mod DaysLeft

@@ -15,4 +15,3 @@ pub mod Events
 pub mod Board
 pub mod Waits
 pub mod Found
-pub mod FeedOrder

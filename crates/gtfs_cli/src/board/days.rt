@@ -1,9 +1,10 @@
-ghost use Rattle.std.specs.Prelude.{◌≡◌, ◌≤ℤ◌, ℕ, List, true, IfSome, OnOk};
-ghost use Rattle.gtfs_days.specs.Service.{is_active};
+ghost use Rattle.std.specs.Prelude.{◌≡◌, ◌≤ℤ◌, ◌+ℤ◌, pos, ℕ, List, true, IfSome, IfOk, OnOk};
+ghost use Rattle.gtfs_days.specs.Service.{is_active, is_service_day, ServiceDates};
 ghost use Rattle.gtfs_days.specs.Zone.{zone_origin};
+ghost use Rattle.gtfs_cli.specs.Content.{Content};
 ghost use Rattle.gtfs_cli.specs.Events.{IsEvent};
 ghost use Rattle.gtfs_cli.specs.Board.{is_span};
-ghost use Rattle.gtfs_cli.specs.Found.{AllFound, departure_on};
+ghost use Rattle.gtfs_cli.specs.Found.{AllFound, IsServed, departure_on};
 ghost use Rattle.gtfs_cli.specs.Waits.{shown_of, IsDated};
 
 use crate::board::span::Span;
@@ -42,13 +43,38 @@ pub(super) fn push_days<'a>(
         if is_past(span, day, event.at) {
             break;
         }
-        let instant = zone.origin(alloc, day)? + i64::from(event.at);
-        if span.contains(instant) {
-            waiting.push(waiting_at(event, instant, day))?;
-        }
-        next = active_from(service, i64::from(day.number()) + 1);
+        push_day(alloc, zone, span, event, day, waiting)?;
+        next = active_after(service, day);
     }
     Ok(())
+}
+
+// Adds the departure of an event on a day, if it falls into the span.
+fn push_day<'a>(
+    alloc: Global,
+    zone: &Zone,
+    span: Span,
+    event: &Event<'a>,
+    day: Day,
+    waiting: &mut Vec<Waiting<'a>>,
+) -> Result<(), OutOfMemory>
+    requires { is_service_day day ≡ true }
+    ensures { OnOk result ((f : Content) (s : List ℕ) (service : ServiceDates) → IsEvent f s event.now → IsServed f event.now service → is_active service day ≡ true
+        → AllFound f (zone_origin zone.now) s span waiting.old.items → AllFound f (zone_origin zone.now) s span waiting.new.items) }
+{
+    let instant = instant_on(alloc, zone, event, day)?;
+    if span.contains(instant) {
+        waiting.push(waiting_at(event, instant, day))?;
+    }
+    Ok(())
+}
+
+// When an event takes place on a day.
+fn instant_on(alloc: Global, zone: &Zone, event: &Event<'_>, day: Day) -> Result<i64, OutOfMemory>
+    requires { is_service_day day ≡ true }
+    ensures { IfOk result (λ x. x ≡ zone_origin zone.now day +ℤ pos event.now.at) }
+{
+    Ok(zone.origin(alloc, day)? + i64::from(event.at))
 }
 
 // The departure of an event on a day, at its instant.
@@ -89,4 +115,11 @@ fn active_from(service: &Service, number: i64) -> Option<Day>
         return None;
     }
     service.next_active(Day::from_number(number.max(FIRST_SERVICE_DAY) as i32))
+}
+
+// The first day after this one on which the service runs.
+fn active_after(service: &Service, day: Day) -> Option<Day>
+    ensures { IfSome result (λ d. (is_active service.now d ≡ true) × ((day +ℤ pos 1) ≤ℤ d)) }
+{
+    active_from(service, i64::from(day.number()) + 1)
 }

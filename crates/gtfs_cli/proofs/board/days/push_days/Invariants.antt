@@ -1,9 +1,10 @@
-use Rattle.std.proofs.Common.{◌≡◌, ◌≤ℤ◌, ℕ, List, true, ◌+◌, ◌-ℤ◌, pos, unsigned_abs, option_map_or}
+use Rattle.std.proofs.Common.{◌≡◌, ℕ, List, true}
 use Rattle.std.specs.Prelude.{IfSome}
-use Rattle.gtfs_days.specs.Service.{is_active, last_service_day}
+use Rattle.gtfs_days.specs.Service.{is_active}
 use Rattle.gtfs_days.specs.Zone.{zone_origin}
 use Rattle.gtfs_cli.specs.Events.{IsEvent}
 use Rattle.gtfs_cli.specs.Found.{AllFound}
+use Rattle.gtfs_cli.proofs.DaysLeft.{days_left}
 use Rattle.gtfs_cli.proofs.board.days.push_days.Given as goal
 
 -- what was found so far is on the board, and the service runs on the next day
@@ -14,6 +15,5 @@ pub record Finds (l : goal.Live-loop-next) : Type 0 where
 abbrev pub invariant-loop-next : goal.invariant-loop-next
 invariant-loop-next l = Finds l
 
--- the days from the next one to the last service day
 abbrev pub decreases-loop-next : goal.decreases-loop-next
-decreases-loop-next l = option_map_or (λ d. unsigned_abs (last_service_day -ℤ d) + 1) l.next 0
+decreases-loop-next l = days_left l.next
