@@ -2,3 +2,4 @@ pub mod SameElements
 pub mod ByKey
 pub mod Groups
 pub mod Searched
+pub mod Places
