@@ -1,7 +1,8 @@
-pub mod SameElements
+mod DaysLeft
+mod Found
+mod KeyOrder
 pub mod ByKey
 pub mod Groups
+pub mod Places
+pub mod SameElements
 pub mod Searched
-mod KeyOrder
-mod Found
-mod DaysLeft

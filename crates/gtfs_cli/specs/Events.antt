@@ -1,12 +1,17 @@
 -- The events of a stop: each run of a trip that passes a departure row at the stop's place, whatever the day.
 -- GTFS Schedule Reference, stop_times.txt and frequencies.txt.
-use Rattle.std.specs.Prelude.{◌≡◌, ℕ, List, true, Some}
+use Rattle.std.specs.Prelude.{◌≡◌, ℕ, List, true, Some, map, bytes_eq, Bor}
+use Rattle.std.specs.List.{list_any}
 use Rattle.gtfs_cli.specs.Rows.{StopRow, TripRow}
 use Rattle.gtfs_cli.specs.Content.{Content}
 use Rattle.gtfs_cli.specs.Trips.{is_run, is_departure_row, passes_at}
 use Rattle.gtfs_cli.specs.Departures.{is_in_place}
 use Rattle.gtfs_cli.specs.Shown.{trip_named, row_numbered, route_name, headsign, mark_of}
 use Rattle.gtfs_cli.specs.declared.runs.event.Event.{Event}
+
+-- the ids are those of the place of a stop
+abbrev pub IsPlace : Content → List ℕ → List (Bor (List ℕ)) → Type 0
+IsPlace f s ids = (x : List ℕ) → list_any (bytes_eq x) (map (λ id. id.now) ids) ≡ is_in_place f s x
 
 -- a run of a trip passes a departure row at the place of the stop, this long after the origin of its day
 pub record IsEvent (f : Content) (s : List ℕ) (e : Event) : Type 0 where

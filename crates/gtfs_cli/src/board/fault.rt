@@ -1,16 +1,22 @@
 use gtfs_field::OutOfMemory;
 use thiserror::Error;
 
-/// Why a board could not be opened.
+/// Why a board was not opened.
 #[derive(Clone, Copy, Debug, PartialEq, Eq, Error)]
 pub enum BoardFault {
     /// The feed has no stop of this id.
     #[error("unknown stop")]
-    UnknownStop,
+    UnknownStop = 1,
     /// The span ends before it begins, or one of its instants has more than twelve digits.
     #[error("bad span")]
-    BadSpan,
-    /// Memory was refused.
+    BadSpan = 2,
+    /// Memory ran out.
     #[error("out of memory")]
-    OutOfMemory(#[from] OutOfMemory),
+    OutOfMemory = 3,
+}
+
+impl From<OutOfMemory> for BoardFault {
+    fn from(_refused: OutOfMemory) -> BoardFault {
+        BoardFault::OutOfMemory
+    }
 }

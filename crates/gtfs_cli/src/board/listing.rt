@@ -1,12 +1,12 @@
-ghost use Rattle.std.specs.Prelude.{◌≡◌, ◌∷◌, [], ◌↔◌, map, All, true, false, None, Some, Ok, IfOk, OnOk, OnErr, IsErrOf, MatchOption};
+ghost use Rattle.std.specs.Prelude.{◌≡◌, ◌∷◌, [], ◌↔◌, List, map, reverse, All, true, false, None, Ok, IfOk, OnErr, IsErrOf, MatchOption};
 ghost use Rattle.gtfs_days.specs.Zone.{zone_origin};
 ghost use Rattle.gtfs_cli.specs.Board.{is_stop, is_span, keys_of, IsOfBoard};
 ghost use Rattle.gtfs_cli.specs.Departures.{IsAscending};
 ghost use Rattle.gtfs_cli.specs.Found.{AllFound};
 ghost use Rattle.gtfs_cli.specs.Lent.{listed};
+ghost use Rattle.gtfs_cli.specs.Lines.{Listed};
 ghost use Rattle.gtfs_cli.specs.Shown.{IsShown};
 ghost use Rattle.gtfs_cli.specs.Waits.{shown_of, IsDated};
-ghost use Rattle.gtfs_cli.specs.declared.board.fault.BoardFault.{BoardFault};
 
 use crate::board::days::push_days;
 use crate::board::departure::Departure;
@@ -15,7 +15,7 @@ use crate::board::key::Key;
 use crate::board::span::Span;
 use crate::board::waiting::Waiting;
 use crate::feed::Feed;
-use crate::runs::{Event, events};
+use crate::runs::events;
 use gtfs_days::Zone;
 use gtfs_field::{Day, OutOfMemory};
 use std::alloc::Global;
