@@ -6,3 +6,4 @@ pub mod Groups
 pub mod Places
 pub mod SameElements
 pub mod Searched
+mod Ordered

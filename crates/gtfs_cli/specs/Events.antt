@@ -1,6 +1,7 @@
 -- The events of a stop: each run of a trip that passes a departure row at the stop's place, whatever the day.
 -- GTFS Schedule Reference, stop_times.txt and frequencies.txt.
-use Rattle.std.specs.Prelude.{◌≡◌, ℕ, List, true, Some, map, bytes_eq, Bor}
+use Rattle.std.specs.Prelude.{◌≡◌, ℕ, List, true, Some, map, bytes_eq}
+use Rattle.std.specs.Borrow.{Bor}
 use Rattle.std.specs.List.{list_any}
 use Rattle.gtfs_cli.specs.Rows.{StopRow, TripRow}
 use Rattle.gtfs_cli.specs.Content.{Content}

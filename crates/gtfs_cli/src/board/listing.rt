@@ -1,12 +1,13 @@
-ghost use Rattle.std.specs.Prelude.{◌≡◌, ◌∷◌, [], ◌↔◌, List, map, reverse, All, true, false, None, Ok, IfOk, OnErr, IsErrOf, MatchOption};
+ghost use Rattle.std.specs.Prelude.{◌≡◌, ℕ, ◌∷◌, [], ◌↔◌, List, map, reverse, All, true, false, None, Ok, IfOk, OnErr, IsErrOf, MatchOption};
 ghost use Rattle.gtfs_days.specs.Zone.{zone_origin};
 ghost use Rattle.gtfs_cli.specs.Board.{is_stop, is_span, keys_of, IsOfBoard};
-ghost use Rattle.gtfs_cli.specs.Departures.{IsAscending};
+ghost use Rattle.gtfs_cli.specs.Content.{Content};
+ghost use Rattle.gtfs_cli.specs.Departures.{IsAscending, Origins};
 ghost use Rattle.gtfs_cli.specs.Found.{AllFound};
 ghost use Rattle.gtfs_cli.specs.Lent.{listed};
-ghost use Rattle.gtfs_cli.specs.Lines.{Listed};
 ghost use Rattle.gtfs_cli.specs.Shown.{IsShown};
 ghost use Rattle.gtfs_cli.specs.Waits.{shown_of, IsDated};
+ghost use Rattle.gtfs_cli.specs.declared.board.span.Span.{Span as Instants};
 
 use crate::board::days::push_days;
 use crate::board::departure::Departure;
@@ -94,7 +95,7 @@ impl<'a> Board<'a> {
 // The departure that waits.
 fn departure<'a>(waiting: Waiting<'a>) -> Departure<'a>
     requires { IsDated waiting }
-    ensures { listed result ≡ shown_of waiting }
+    ensures { listed result ≡ shown_of waiting.entry }
 {
     Departure {
         key: Key {
@@ -132,7 +133,7 @@ fn departures<'a>(
 // Each departure once, the latest first.
 fn latest_first(mut found: Vec<Waiting<'_>>) -> Vec<Waiting<'_>>
     ensures ascending { IsAscending (keys_of (map shown_of (reverse result.items))) }
-    ensures kept { (P : Listed → Type 0) → All P (map shown_of found.entry.items) → All P (map shown_of (reverse result.items)) }
+    ensures kept { (f : Content) (origin : Origins) (s : List ℕ) (span : Instants) → AllFound f origin s span found.entry.items → AllFound f origin s span (reverse result.items) }
 {
     found.sort_unstable();
     found.dedup();
