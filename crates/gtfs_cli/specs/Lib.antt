@@ -6,3 +6,4 @@ pub mod Values
 pub mod Reading
 pub mod Trips
 pub mod Departures
+pub mod ReadRows

@@ -1,7 +1,10 @@
 //! The rows of a feed as typed values, read from its tables.
 
 mod content;
+mod fault;
+mod read;
 mod rows;
 
 pub use content::Feed;
+pub use fault::FeedFault;
 pub use rows::{Frequency, LocationType, PickupType, Route, ServiceRow, Stop, StopTime, Trip};

@@ -1,5 +1,4 @@
 use gtfs_days::Service;
-use gtfs_field::Clock;
 
 /// The kind of a place: `location_type` of stops.txt.
 #[derive(Clone, Copy, Debug, PartialEq, Eq)]
@@ -60,24 +59,24 @@ pub struct Trip<'a> {
     pub trip_headsign: Option<&'a str>,
 }
 
-/// A row of stop_times.txt.
+/// A row of stop_times.txt. Times are seconds from the origin of the service day, 0 to 3,599,999.
 #[derive(Clone, Copy, Debug)]
 pub struct StopTime<'a> {
     pub trip_id: &'a str,
     pub stop_sequence: u32,
     pub stop_id: &'a str,
-    pub arrival_time: Option<Clock>,
-    pub departure_time: Option<Clock>,
+    pub arrival_time: Option<u32>,
+    pub departure_time: Option<u32>,
     pub stop_headsign: Option<&'a str>,
     pub pickup_type: PickupType,
 }
 
-/// A row of frequencies.txt. The headway is in seconds.
+/// A row of frequencies.txt. Times are seconds from the origin of the service day, 0 to 3,599,999; the headway is in seconds.
 #[derive(Clone, Copy, Debug)]
 pub struct Frequency<'a> {
     pub trip_id: &'a str,
-    pub start_time: Clock,
-    pub end_time: Clock,
+    pub start_time: u32,
+    pub end_time: u32,
     pub headway_secs: u32,
     pub exact_times: bool,
 }
