@@ -7,3 +7,5 @@ pub mod Values
 pub mod Reading
 pub mod Trips
 pub mod Departures
+pub mod ReadRows
+pub mod CalendarRows
