@@ -1,9 +1,11 @@
 mod DaysLeft
 mod Found
 mod KeyOrder
+pub mod RowLemmas
+pub mod SameElements
 pub mod ByKey
 pub mod Groups
 pub mod Places
-pub mod SameElements
 pub mod Searched
 mod Ordered
+pub mod Sorted

@@ -15,3 +15,5 @@ pub mod Events
 pub mod Board
 pub mod Waits
 pub mod Found
+pub mod ReadRows
+pub mod CalendarRows

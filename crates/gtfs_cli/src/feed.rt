@@ -3,6 +3,8 @@
 mod content;
 mod fault;
 mod lookups;
+mod order;
+mod read;
 mod rows;
 
 pub use content::Feed;

@@ -1,0 +1,24 @@
+use Rattle.std.proofs.Common.{sym, ◌∙◌, [], ◌∷◌}
+use Rattle.std.proofs.lemmas.List.Elements.{All-push}
+use Rattle.gtfs_table.specs.declared.file.File.TheVariants as file
+use Rattle.gtfs_cli.specs.Values.{is_row, records_in}
+use Rattle.gtfs_cli.specs.ReadRows.{IsDay, service_exception_in}
+use Rattle.gtfs_cli.proofs.RowLemmas.{rows_skipped, rows_taken}
+use Rattle.gtfs_cli.proofs.feed.read.dates.read_dates.Goals.{then-is_row+in_ok-date+in_ok-push, else-is_row}
+use Rattle.gtfs_cli.proofs.feed.read.dates.read_dates.Goals as goal
+
+pub loop-n-preserved : goal.loop-n-preserved
+loop-n-preserved c =
+    let g = service_exception_in c.args.tables.now in
+    let p = is_row (records_in c.args.tables.now file.CalendarDates) in
+    elim c.if-is_row.branch [
+      | then-is_row+in_ok-date+in_ok-push w ↦ record {
+        content = rw (w.dates-is, w.in_ok-push.ensures.items)
+            (rows_taken _ g p _ _ c.loop-n.n c.loop-n.invariant.content (sym c.is_row.ensures ∙ w.if-is_row.true) w.in_ok-date.ensures.content);
+        each = rw (w.dates-is, w.in_ok-push.ensures.items) (All-push (λ e. IsDay e.day) _ _ c.loop-n.invariant.each w.in_ok-date.ensures.day);
+      }
+      | else-is_row w ↦ record {
+        content = rw w.dates-is (rows_skipped _ g p _ c.loop-n.n c.loop-n.invariant.content (sym c.is_row.ensures ∙ w.if-is_row.false));
+        each = rw w.dates-is c.loop-n.invariant.each;
+      }
+    ]

@@ -1,0 +1,61 @@
+-- The rows of the files whose rows go by the id of something else: each typed row, and what the file says in its row.
+use Rattle.std.specs.Prelude.{ℕ, List, Option, option_map, ℤ, pos, negsuc, ◌≤ℤ◌}
+use Rattle.gtfs_table.specs.Tables.{Dataset}
+use Rattle.gtfs_table.specs.declared.file.File.TheVariants as file
+use Rattle.gtfs_days.specs.declared.week.Week.{Week}
+use Rattle.gtfs_days.specs.declared.exception.Exception.{Exception}
+use Rattle.gtfs_cli.specs.Rows.{StopRow, Period}
+use Rattle.gtfs_cli.specs.Values.{text_at, text_in}
+use Rattle.gtfs_cli.specs.Reading.{stop_row_in, period_in, week_in, exception_in}
+use Rattle.gtfs_cli.specs.FeedView.{stop_time_row, period_row}
+use Rattle.gtfs_cli.specs.declared.feed.rows.Trip.{Trip}
+use Rattle.gtfs_cli.specs.declared.feed.rows.StopTime.{StopTime}
+use Rattle.gtfs_cli.specs.declared.feed.rows.Frequency.{Frequency}
+use Rattle.gtfs_cli.specs.declared.feed.read.calendar.CalendarWeek.{CalendarWeek}
+use Rattle.gtfs_cli.specs.declared.feed.read.calendar.CalendarDate.{CalendarDate}
+
+-- the texts of a trip: its id, those of its route and of its service, and its headsign
+abbrev pub trip_texts : Trip → List ℕ × List ℕ × List ℕ × Option (List ℕ)
+trip_texts t = (t.trip_id.now, t.route_id.now, t.service_id.now, option_map (λ x. x.now) t.trip_headsign)
+
+abbrev pub trip_texts_in : Dataset → ℕ → List ℕ × List ℕ × List ℕ × Option (List ℕ)
+trip_texts_in d n = (text_at d file.Trips n "trip_id", text_at d file.Trips n "route_id", text_at d file.Trips n "service_id", text_in d file.Trips n "trip_headsign")
+
+-- a stop time, and the id of its trip
+abbrev pub trip_stop_time : StopTime → List ℕ × StopRow
+trip_stop_time t = (t.trip_id.now, stop_time_row t)
+
+abbrev pub trip_stop_time_in : Dataset → ℕ → List ℕ × StopRow
+trip_stop_time_in d n = (text_at d file.StopTimes n "trip_id", stop_row_in d n)
+
+-- a period, and the id of its trip
+abbrev pub trip_period : Frequency → List ℕ × Period
+trip_period p = (p.trip_id.now, period_row p)
+
+abbrev pub trip_period_in : Dataset → ℕ → List ℕ × Period
+trip_period_in d n = (text_at d file.Frequencies n "trip_id", period_in d n)
+
+-- a number of a day that a date can have, 1900-01-01 to 9999-12-31
+abbrev pub IsDay : ℤ → Type 0
+IsDay n = (negsuc 25_566 ≤ℤ n) × (n ≤ℤ pos 2_932_896)
+
+abbrev pub week_of : CalendarWeek → Week
+week_of w = record { days = w.days; start = w.start; end = w.end }
+
+-- a week whose days a date can have, and which does not end before it starts
+abbrev pub IsOrdered : CalendarWeek → Type 0
+IsOrdered w = (negsuc 25_566 ≤ℤ w.start) × (w.start ≤ℤ w.end) × (w.end ≤ℤ pos 2_932_896)
+
+-- a week, and the id of its service
+abbrev pub service_week : CalendarWeek → List ℕ × Week
+service_week w = (w.service_id.now, week_of w)
+
+abbrev pub service_week_in : Dataset → ℕ → List ℕ × Week
+service_week_in d n = (text_at d file.Calendar n "service_id", week_in d n)
+
+-- an exception with its day, and the id of its service
+abbrev pub service_exception : CalendarDate → List ℕ × (ℤ × Exception)
+service_exception e = (e.service_id.now, (e.day, e.exception))
+
+abbrev pub service_exception_in : Dataset → ℕ → List ℕ × (ℤ × Exception)
+service_exception_in d n = (text_at d file.CalendarDates n "service_id", exception_in d n)

@@ -1,0 +1,75 @@
+ghost use Rattle.std.specs.Prelude.{◌≡◌, All, IfOk, codes, map};
+ghost use Rattle.gtfs_table.specs.Tables.{column_of};
+ghost use Rattle.gtfs_table.specs.declared.file.File.TheVariants as file;
+ghost use Rattle.gtfs_cli.specs.Values.{records_in, rows};
+ghost use Rattle.gtfs_cli.specs.ReadRows.{IsDay, service_exception, service_exception_in};
+
+use crate::feed::fault::FeedFault;
+use crate::feed::read::calendar::CalendarDate;
+use crate::feed::read::choice::exception;
+use crate::feed::read::record::{is_row, text_at};
+use crate::feed::read::text::id;
+use crate::feed::read::value::{count, date};
+use gtfs_table::{File, Tables};
+use std::alloc::Global;
+
+/// The places of the columns of calendar_dates.txt.
+#[derive(Clone, Copy)]
+struct DateColumns {
+    service_id: Option<usize>,
+    date: Option<usize>,
+    exception_type: Option<usize>,
+}
+
+/// The rows of calendar_dates.txt, in the file's order.
+///
+/// # Errors
+/// `Unreadable` where a row lacks a value, where its date is none or its type not 1 or 2, and where the id holds a
+/// control character; `OutOfMemory`.
+pub fn read_dates<'a>(alloc: Global, tables: &'a Tables) -> Result<Vec<CalendarDate<'a>>, FeedFault>
+    ensures content { IfOk result (λ dates. map service_exception dates.items ≡ map (service_exception_in tables.now) (rows tables.now file.CalendarDates)) }
+    ensures days { IfOk result (λ dates. All (λ e. IsDay e.day) dates.items) }
+{
+    let columns = DateColumns::of(tables);
+    let mut dates = Vec::new(alloc);
+    for n in 0..tables.records(File::CalendarDates).saturating_sub(1) {
+        let row = n + 2;
+        if is_row(tables, File::CalendarDates, row) {
+            dates.push(columns.date(tables, row)?)?;
+        }
+    }
+    Ok(dates)
+}
+
+impl DateColumns {
+    fn of(tables: &Tables) -> DateColumns
+        ensures service_id { result.service_id ≡ column_of (records_in tables.now file.CalendarDates) (codes "service_id") }
+        ensures date { result.date ≡ column_of (records_in tables.now file.CalendarDates) (codes "date") }
+        ensures exception_type { result.exception_type ≡ column_of (records_in tables.now file.CalendarDates) (codes "exception_type") }
+    {
+        DateColumns {
+            service_id: tables.column(File::CalendarDates, "service_id"),
+            date: tables.column(File::CalendarDates, "date"),
+            exception_type: tables.column(File::CalendarDates, "exception_type"),
+        }
+    }
+
+    fn date<'a>(self, tables: &'a Tables, row: usize) -> Result<CalendarDate<'a>, FeedFault>
+        requires service_id { self.service_id ≡ column_of (records_in tables.now file.CalendarDates) (codes "service_id") }
+        requires date { self.date ≡ column_of (records_in tables.now file.CalendarDates) (codes "date") }
+        requires exception_type { self.exception_type ≡ column_of (records_in tables.now file.CalendarDates) (codes "exception_type") }
+        ensures content { IfOk result (λ date. service_exception date ≡ service_exception_in tables.now row) }
+        ensures day { IfOk result (λ e. IsDay e.day) }
+    {
+        Ok(CalendarDate {
+            service_id: id(text_at(tables, File::CalendarDates, row, self.service_id))?,
+            day: date(text_at(tables, File::CalendarDates, row, self.date))?,
+            exception: exception(count(text_at(
+                tables,
+                File::CalendarDates,
+                row,
+                self.exception_type,
+            ))?)?,
+        })
+    }
+}

@@ -1,0 +1,101 @@
+ghost use Rattle.std.specs.Prelude.{◌≡◌, IfOk, codes, map};
+ghost use Rattle.gtfs_table.specs.Tables.{column_of};
+ghost use Rattle.gtfs_table.specs.declared.file.File.TheVariants as file;
+ghost use Rattle.gtfs_cli.specs.Values.{records_in, rows};
+ghost use Rattle.gtfs_cli.specs.ReadRows.{trip_stop_time, trip_stop_time_in};
+
+use crate::feed::fault::FeedFault;
+use crate::feed::read::choice::pickup_type;
+use crate::feed::read::record::{is_row, text_at};
+use crate::feed::read::text::{id, optional};
+use crate::feed::read::value::{count, optional_count, optional_time};
+use crate::feed::rows::StopTime;
+use gtfs_table::{File, Tables};
+use std::alloc::Global;
+
+/// The places of the columns of stop_times.txt.
+#[derive(Clone, Copy)]
+struct StopTimeColumns {
+    trip_id: Option<usize>,
+    arrival_time: Option<usize>,
+    departure_time: Option<usize>,
+    stop_id: Option<usize>,
+    stop_sequence: Option<usize>,
+    stop_headsign: Option<usize>,
+    pickup_type: Option<usize>,
+}
+
+/// The rows of stop_times.txt, in the file's order.
+///
+/// # Errors
+/// `Unreadable` where a row lacks an id or its sequence, where a time, the sequence or `pickup_type` is neither empty
+/// nor of its kind, and where an id or the headsign holds a control character; `OutOfMemory`.
+pub fn read_stop_times<'a>(
+    alloc: Global,
+    tables: &'a Tables,
+) -> Result<Vec<StopTime<'a>>, FeedFault>
+    ensures { IfOk result (λ times. map trip_stop_time times.items ≡ map (trip_stop_time_in tables.now) (rows tables.now file.StopTimes)) }
+{
+    let columns = StopTimeColumns::of(tables);
+    let mut stop_times = Vec::new(alloc);
+    for n in 0..tables.records(File::StopTimes).saturating_sub(1) {
+        let row = n + 2;
+        if is_row(tables, File::StopTimes, row) {
+            stop_times.push(columns.stop_time(tables, row)?)?;
+        }
+    }
+    Ok(stop_times)
+}
+
+impl StopTimeColumns {
+    fn of(tables: &Tables) -> StopTimeColumns
+        ensures trip_id { result.trip_id ≡ column_of (records_in tables.now file.StopTimes) (codes "trip_id") }
+        ensures arrival_time { result.arrival_time ≡ column_of (records_in tables.now file.StopTimes) (codes "arrival_time") }
+        ensures departure_time { result.departure_time ≡ column_of (records_in tables.now file.StopTimes) (codes "departure_time") }
+        ensures stop_id { result.stop_id ≡ column_of (records_in tables.now file.StopTimes) (codes "stop_id") }
+        ensures stop_sequence { result.stop_sequence ≡ column_of (records_in tables.now file.StopTimes) (codes "stop_sequence") }
+        ensures stop_headsign { result.stop_headsign ≡ column_of (records_in tables.now file.StopTimes) (codes "stop_headsign") }
+        ensures pickup_type { result.pickup_type ≡ column_of (records_in tables.now file.StopTimes) (codes "pickup_type") }
+    {
+        StopTimeColumns {
+            trip_id: tables.column(File::StopTimes, "trip_id"),
+            arrival_time: tables.column(File::StopTimes, "arrival_time"),
+            departure_time: tables.column(File::StopTimes, "departure_time"),
+            stop_id: tables.column(File::StopTimes, "stop_id"),
+            stop_sequence: tables.column(File::StopTimes, "stop_sequence"),
+            stop_headsign: tables.column(File::StopTimes, "stop_headsign"),
+            pickup_type: tables.column(File::StopTimes, "pickup_type"),
+        }
+    }
+
+    fn stop_time<'a>(self, tables: &'a Tables, row: usize) -> Result<StopTime<'a>, FeedFault>
+        requires trip_id { self.trip_id ≡ column_of (records_in tables.now file.StopTimes) (codes "trip_id") }
+        requires arrival_time { self.arrival_time ≡ column_of (records_in tables.now file.StopTimes) (codes "arrival_time") }
+        requires departure_time { self.departure_time ≡ column_of (records_in tables.now file.StopTimes) (codes "departure_time") }
+        requires stop_id { self.stop_id ≡ column_of (records_in tables.now file.StopTimes) (codes "stop_id") }
+        requires stop_sequence { self.stop_sequence ≡ column_of (records_in tables.now file.StopTimes) (codes "stop_sequence") }
+        requires stop_headsign { self.stop_headsign ≡ column_of (records_in tables.now file.StopTimes) (codes "stop_headsign") }
+        requires pickup_type { self.pickup_type ≡ column_of (records_in tables.now file.StopTimes) (codes "pickup_type") }
+        ensures { IfOk result (λ stop_time. trip_stop_time stop_time ≡ trip_stop_time_in tables.now row) }
+    {
+        Ok(StopTime {
+            trip_id: id(text_at(tables, File::StopTimes, row, self.trip_id))?,
+            stop_sequence: count(text_at(tables, File::StopTimes, row, self.stop_sequence))?,
+            stop_id: id(text_at(tables, File::StopTimes, row, self.stop_id))?,
+            arrival_time: optional_time(text_at(tables, File::StopTimes, row, self.arrival_time))?,
+            departure_time: optional_time(text_at(
+                tables,
+                File::StopTimes,
+                row,
+                self.departure_time,
+            ))?,
+            stop_headsign: optional(text_at(tables, File::StopTimes, row, self.stop_headsign))?,
+            pickup_type: pickup_type(optional_count(text_at(
+                tables,
+                File::StopTimes,
+                row,
+                self.pickup_type,
+            ))?)?,
+        })
+    }
+}
