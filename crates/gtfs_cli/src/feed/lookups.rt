@@ -1,10 +1,11 @@
-ghost use Rattle.std.specs.Prelude.{◌≡◌, ◌<◌, ◌&&◌, ℕ, List, [], length, map, bytes_eq, option_map, option_copied, slice_index_or, unwrap_or, IfOk};
-ghost use Rattle.std.specs.List.{find, list_any};
+ghost use Rattle.std.specs.Prelude.{◌≡◌, ◌<◌, ◌&&◌, ℕ, List, [], length, map, bytes_eq, option_map, option_copied, slice_index_or, unwrap_or, IfOk, Some};
+ghost use Rattle.std.specs.List.{find, list_any, AllPairs};
 ghost use Rattle.std.specs.Option.{option_and_then, option_or};
 ghost use Rattle.gtfs_cli.specs.Departures.{is_in_place, is_plain_stop, is_text};
 ghost use Rattle.gtfs_cli.specs.FeedOrder.{frequency_cmp, stop_time_cmp, Ascends};
 ghost use Rattle.gtfs_cli.specs.FeedView.{frequencies_of, period_row, stop_time_row, stop_times_of};
 ghost use Rattle.gtfs_cli.specs.Rows.{TripRow as Row};
+ghost use Rattle.gtfs_cli.specs.Shown.{trip_named};
 
 use crate::feed::content::Feed;
 use crate::feed::rows::{Frequency, LocationType, Route, Stop, StopTime, Trip};
@@ -52,6 +53,7 @@ impl<'a> Feed<'a> {
     /// The trip of a number, in the order of ids.
     pub fn trip(&self, i: usize) -> Trip<'a>
         requires { i < length self.now.trips }
+        ensures named { (d : Row) → trip_named self.now result.trip_id.now ≡ Some (slice_index_or self.now.trips i d) }
         ensures trip_id { (d : Row) → result.trip_id.now ≡ (slice_index_or self.now.trips i d).trip_id }
         ensures route_id { (d : Row) → result.route_id.now ≡ (slice_index_or self.now.trips i d).route_id }
         ensures service_id { (d : Row) → result.service_id.now ≡ (slice_index_or self.now.trips i d).service_id }
@@ -64,7 +66,8 @@ impl<'a> Feed<'a> {
     /// The stop times of a trip, ascending by sequence.
     pub fn stop_times(&self, i: usize) -> &[StopTime<'a>]
         requires { i < length self.now.trips }
-        ensures { (d : Row) → map stop_time_row result.now ≡ (slice_index_or self.now.trips i d).stop_rows }
+        ensures rows { (d : Row) → map stop_time_row result.now ≡ (slice_index_or self.now.trips i d).stop_rows }
+        ensures ascending { AllPairs (λ t u. t.stop_sequence < u.stop_sequence) result.now }
     {
         times_of(self.stop_times.as_slice(), self.trips[i].trip_id)
     }

@@ -103,10 +103,5 @@ fn headsign<'a>(trip: &Trip<'a>, row: &StopTime<'a>) -> &'a str
 fn holds(ids: &[&str], id: &str) -> bool
     ensures { result ≡ list_any (bytes_eq id.now) (map (λ x. x.now) ids.now) }
 {
-    for other in ids {
-        if *other == id {
-            return true;
-        }
-    }
-    false
+    ids.contains(&id)
 }
