@@ -1,0 +1,3 @@
+mod TakenWords
+mod GivenTexts
+pub mod GtfsWords

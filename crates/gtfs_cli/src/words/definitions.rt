@@ -1,0 +1,86 @@
+//! The command line as `clap` is told of it. A command is a function here, and a line in `gtfs`.
+ghost use Rattle.std.specs.Prelude.{◌≡◌, IfOk, false};
+ghost use Rattle.clap.specs.Words.{app_of, rule_of, with_rule};
+ghost use Rattle.gtfs_cli.specs.CommandLine.{board_app, gtfs_app, gtfs_top, option_rule, word_rule};
+
+use clap::{Arg, ArgAction, Command};
+use std::alloc::{AllocError, Global};
+
+const USAGE: &str = "gtfs board DIR --zone FILE --stop ID --from T --until T";
+
+const TIMES: &str = "T is an instant or a service date:\n  \
+    @SECONDS   SECONDS after 1970-01-01T00:00:00Z, as @1711958400\n  \
+    YYYYMMDD   the beginning of that service day in the zone of FILE\n             \
+    (noon less twelve hours), as 20240401";
+
+/// The program `gtfs` with all its commands.
+pub(super) fn gtfs<'w>(alloc: Global) -> Result<Command<'w>, AllocError>
+    ensures { IfOk result (λ c. app_of c ≡ gtfs_app) }
+{
+    top(alloc).subcommand(board(alloc)?)
+}
+
+fn top<'w>(alloc: Global) -> Command<'w>
+    ensures { app_of result ≡ gtfs_top }
+{
+    Command::new(alloc, "gtfs")
+        .about("Departure boards from GTFS Schedule feeds")
+        .override_usage(USAGE)
+        .subcommand_required(true)
+        .disable_help_subcommand(true)
+}
+
+fn board<'w>(alloc: Global) -> Result<Command<'w>, AllocError>
+    ensures { IfOk result (λ c. app_of c ≡ board_app) }
+{
+    let board = Command::new(alloc, "board")
+        .about("Print the departures at a stop, in the order of their times")
+        .after_help(TIMES);
+    let dir = with_word(board, alloc, "DIR", "The folder of the feed")?;
+    let zone = with_option(dir, alloc, "zone", "FILE", "The zone file (TZif) of the time zone")?;
+    let stop = with_option(zone, alloc, "stop", "ID", "The stop, by its stop_id")?;
+    let from = with_option(stop, alloc, "from", "T", "The first instant of the board")?;
+    with_option(from, alloc, "until", "T", "The instant before which the board ends")
+}
+
+fn with_word<'w>(
+    command: Command<'w>,
+    alloc: Global,
+    id: &'w str,
+    help: &'w str,
+) -> Result<Command<'w>, AllocError>
+    ensures { IfOk result (λ c. app_of c ≡ with_rule (app_of command.entry) (word_rule id.entry.now)) }
+{
+    command.arg(needed_word(alloc, id, help))
+}
+
+fn with_option<'w>(
+    command: Command<'w>,
+    alloc: Global,
+    id: &'w str,
+    value: &'w str,
+    help: &'w str,
+) -> Result<Command<'w>, AllocError>
+    ensures { IfOk result (λ c. app_of c ≡ with_rule (app_of command.entry) (option_rule id.entry.now)) }
+{
+    command.arg(needed_option(alloc, id, value, help))
+}
+
+// A text that must stand at its place among the words.
+fn needed_word<'w>(alloc: Global, id: &'w str, help: &'w str) -> Arg<'w>
+    ensures rule { rule_of result ≡ word_rule id.entry.now }
+    ensures local { result.global ≡ false }
+{
+    Arg::new(alloc, id)
+        .action(ArgAction::Set)
+        .required(true)
+        .help(help)
+}
+
+// A text that must be given after `--id`.
+fn needed_option<'w>(alloc: Global, id: &'w str, value: &'w str, help: &'w str) -> Arg<'w>
+    ensures rule { rule_of result ≡ option_rule id.entry.now }
+    ensures local { result.global ≡ false }
+{
+    needed_word(alloc, id, help).long(id).value_name(value)
+}
