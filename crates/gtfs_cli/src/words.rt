@@ -115,3 +115,6 @@ fn given_text<'w>(given: &ArgMatches<'w>, id: &str) -> Option<&'w str>
 {
     given.get_str(id)
 }
+
+#[cfg(test)]
+mod tests;

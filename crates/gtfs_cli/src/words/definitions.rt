@@ -6,12 +6,12 @@ ghost use Rattle.gtfs_cli.specs.CommandLine.{board_app, gtfs_app, gtfs_top, opti
 use clap::{Arg, ArgAction, Command};
 use std::alloc::{AllocError, Global};
 
-const USAGE: &str = "gtfs board DIR --zone FILE --stop ID --from T --until T";
+// How each command is called, a line each.
+const BOARD: &str = "gtfs board DIR --zone FILE --stop ID --from T --until T";
 
 const TIMES: &str = "T is an instant or a service date:\n  \
-    @SECONDS   SECONDS after 1970-01-01T00:00:00Z, as @1711958400\n  \
-    YYYYMMDD   the beginning of that service day in the zone of FILE\n             \
-    (noon less twelve hours), as 20240401";
+    @SECONDS  that many seconds after 1970-01-01T00:00:00Z, as @1711958400\n  \
+    YYYYMMDD  where that service day begins in the time zone (noon less twelve hours), as 20240401";
 
 /// The program `gtfs` with all its commands.
 pub(super) fn gtfs<'w>(alloc: Global) -> Result<Command<'w>, AllocError>
@@ -25,7 +25,7 @@ fn top<'w>(alloc: Global) -> Command<'w>
 {
     Command::new(alloc, "gtfs")
         .about("Departure boards from GTFS Schedule feeds")
-        .override_usage(USAGE)
+        .override_usage(BOARD)
         .subcommand_required(true)
         .disable_help_subcommand(true)
 }
@@ -35,12 +35,25 @@ fn board<'w>(alloc: Global) -> Result<Command<'w>, AllocError>
 {
     let board = Command::new(alloc, "board")
         .about("Print the departures at a stop, in the order of their times")
+        .override_usage(BOARD)
         .after_help(TIMES);
     let dir = with_word(board, alloc, "DIR", "The folder of the feed")?;
-    let zone = with_option(dir, alloc, "zone", "FILE", "The zone file (TZif) of the time zone")?;
+    let zone = with_option(
+        dir,
+        alloc,
+        "zone",
+        "FILE",
+        "The zone file (TZif) of the time zone",
+    )?;
     let stop = with_option(zone, alloc, "stop", "ID", "The stop, by its stop_id")?;
     let from = with_option(stop, alloc, "from", "T", "The first instant of the board")?;
-    with_option(from, alloc, "until", "T", "The instant before which the board ends")
+    with_option(
+        from,
+        alloc,
+        "until",
+        "T",
+        "The instant before which the board ends",
+    )
 }
 
 fn with_word<'w>(
