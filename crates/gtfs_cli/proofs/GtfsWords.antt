@@ -12,6 +12,7 @@ use Rattle.clap.specs.declared.parser.matches.ArgMatches.{ArgMatches}
 use Rattle.gtfs_cli.specs.CommandLine.{board_app, gtfs_app, no_memory, HasBoard, IsFaultOf, IsToldOf, IsWhole}
 use Rattle.gtfs_cli.specs.declared.words.WordsFault.{WordsFault}
 use Rattle.gtfs_cli.specs.declared.words.WordsFault.TheVariants as fault
+use Rattle.gtfs_cli.proofs.HelpAlone.{alone, built_alone, only_help}
 use Rattle.gtfs_cli.proofs.TakenWords.{both, built_taken, is_bare}
 use Rattle.gtfs_cli.proofs.GivenTexts.{are_filled, given_text, level_command, level_filled, level_given}
 
@@ -90,16 +91,27 @@ not_true : (b : Bool) → (b ≡ true → ⊥) → b ≡ false
 not_true true never = absurd (never refl)
 not_true false never = refl
 
+-- help is the only kind that is named beside no other
+help_alone : (words : List Text) → alone (fault_of gtfs_app words) ≡ true
+help_alone words = built_alone (built gtfs_app) nothing_held (argument_words gtfs_app words) refl refl
+
 -- a fault that is told of an error of `clap` is the fault of the words
 pub fault_is : (words : List Text) (k : ErrorKind) (told : WordsFault) → (takes gtfs_app words ≡ true → k ≡ kind.OutOfMemory)
     → (k ≡ kind.OutOfMemory) ⊎ IsAmong k (fault_of gtfs_app words) → IsToldOf k told → IsFaultOf words told
 fault_is words k (fault.Refused text) passes among is = (
   not_true (takes gtfs_app words) (λ e. is.1 (passes e)),
-  (k, is.0, elim among [ inl no_room ↦ absurd (is.1 no_room) | inr found ↦ found ]),
+  λ asks. elim among [ inl no_room ↦ is.1 no_room | inr found ↦ other_kind (subst (IsAmong k) asks found) ],
 )
+  where
+    other_kind : IsAmong k (kind.DisplayHelp ∷ []) → ⊥
+    other_kind (inl same) = is.0 same
+    other_kind (inr none) = none
 fault_is words k (fault.Help text) passes among is = (
   not_true (takes gtfs_app words) (λ e. help_is_no_memory (sym is ∙ passes e)),
-  elim among [ inl no_room ↦ absurd (help_is_no_memory (sym is ∙ no_room)) | inr found ↦ subst (λ x. IsAmong x (fault_of gtfs_app words)) is found ],
+  elim among [
+    | inl no_room ↦ absurd (help_is_no_memory (sym is ∙ no_room))
+    | inr found ↦ only_help (fault_of gtfs_app words) (help_alone words) (subst (λ x. IsAmong x (fault_of gtfs_app words)) is found)
+  ],
 )
 fault_is words k fault.OutOfMemory passes among is = tt
 

@@ -1,3 +1,5 @@
 mod TakenWords
 mod GivenTexts
+mod HelpAlone
 pub mod GtfsWords
+mod WorkedWords

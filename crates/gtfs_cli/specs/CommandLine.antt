@@ -1,6 +1,6 @@
 -- The command line of the program `gtfs`, as `clap` sees it, and what its words ask for.
-use Rattle.std.specs.Prelude.{◌≡◌, ◌≢◌, List, Option, Some, None, IsSome, codes, true, false}
-use Rattle.clap.specs.Words.{App, Row, Rule, Text, IsAmong, fault_of, first_of, new_app, new_rule, takes, with_rule, with_subcommand}
+use Rattle.std.specs.Prelude.{◌≡◌, ◌≢◌, List, [], ◌∷◌, Option, Some, None, IsSome, codes, true, false}
+use Rattle.clap.specs.Words.{App, Row, Rule, Text, fault_of, first_of, new_app, new_rule, takes, with_rule, with_subcommand}
 use Rattle.clap.specs.declared.builder.ArgAction.TheVariants.{Set}
 use Rattle.clap.specs.declared.error.kind.ErrorKind.{ErrorKind}
 use Rattle.clap.specs.declared.error.kind.ErrorKind.TheVariants.{DisplayHelp}
@@ -72,10 +72,12 @@ IsToldOf kind (Refused text) = (kind ≢ DisplayHelp) × (kind ≢ kinds.OutOfMe
 IsToldOf kind (Help text) = kind ≡ DisplayHelp
 IsToldOf kind OutOfMemory = Unit {0}
 
--- `clap` does not take the words: help was asked for, or something else is the matter with them
+-- what `clap` has to say of the words first is that they ask for help
+abbrev pub AsksForHelp : List Text → Type 0
+AsksForHelp words = fault_of gtfs_app words ≡ DisplayHelp ∷ []
+
+-- `clap` does not take the words: they ask for help, or something else is the matter with them
 abbrev pub IsFaultOf : List Text → WordsFault → Type 0
-IsFaultOf words (Refused text) = (takes gtfs_app words ≡ false)
-    × ((kind : ErrorKind) × (kind ≢ DisplayHelp) × IsAmong kind (fault_of gtfs_app words))
-IsFaultOf words (Help text) =
-    (takes gtfs_app words ≡ false) × IsAmong DisplayHelp (fault_of gtfs_app words)
+IsFaultOf words (Refused text) = (takes gtfs_app words ≡ false) × (AsksForHelp words → ⊥)
+IsFaultOf words (Help text) = (takes gtfs_app words ≡ false) × AsksForHelp words
 IsFaultOf words OutOfMemory = Unit {0}

@@ -26,9 +26,9 @@ pub(crate) struct BoardWords<'w> {
     pub(crate) zone: &'w str,
     /// The `stop_id` of the stop.
     pub(crate) stop: &'w str,
-    /// The first instant or service day of the span.
+    /// Where the board begins.
     pub(crate) from: &'w str,
-    /// Where the span ends.
+    /// Where the board ends.
     pub(crate) until: &'w str,
 }
 
@@ -54,16 +54,16 @@ impl From<AllocError> for WordsFault {
 /// Reads the words of the command line, of which the first is the program's name.
 ///
 /// # Errors
-/// `Help` where `--help` or `-h` stands among the words before anything is wrong with them,
-/// `Refused` where they are wrong otherwise, `OutOfMemory` where memory ran out. Words that `clap`
-/// takes only ever fail for want of memory.
+/// `Help` where the words ask for help before anything is wrong with them, `Refused` where
+/// something is wrong first, `OutOfMemory` where memory ran out. Words that `clap` takes only ever
+/// fail for want of memory.
 pub(crate) fn read_words<'w, S: AsStr>(
     alloc: Global,
     words: &'w [S],
 ) -> Result<Command<'w>, WordsFault>
     ensures read { IfOk result (IsCommandOf (subcommand_of gtfs_app (map S.text words.entry.now))) }
     ensures taken { IfOk result (λ _. takes gtfs_app (map S.text words.entry.now) ≡ true) }
-    ensures refused { IfErr result (IsFaultOf (map S.text words.entry.now)) }
+    ensures fault { IfErr result (IsFaultOf (map S.text words.entry.now)) }
     ensures memory { takes gtfs_app (map S.text words.entry.now) ≡ true → IfErr result (λ fault. fault ≡ no_memory) }
 {
     let definition = definitions::gtfs(alloc)?;

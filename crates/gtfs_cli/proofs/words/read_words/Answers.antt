@@ -13,8 +13,8 @@ pub returns-in-Ok-clause-taken : goal.returns-in-Ok-clause-taken
 returns-in-Ok-clause-taken g c =
     taken_by (app_of c.in_ok-definition.definition) (map g.S.AsStr.text c.args.words.now) c.in_ok-definition.ensures c.in-Ok.ensures.kinds
 
-pub returns-in-Err-clause-refused : goal.returns-in-Err-clause-refused
-returns-in-Err-clause-refused g c =
+pub returns-in-Err-clause-fault : goal.returns-in-Err-clause-fault
+returns-in-Err-clause-fault g c =
     fault_by (app_of c.in_ok-definition.definition) (map g.S.AsStr.text c.args.words.now) c.in_ok-definition.ensures
     (kind_of c.in-Err.error) c.fault_of.result c.fault_of.ensures c.in-Err.ensures.passes c.in-Err.ensures.kinds
 
