@@ -9,3 +9,8 @@ pub mod Places
 pub mod Searched
 mod Ordered
 pub mod Sorted
+mod TakenWords
+mod GivenTexts
+mod HelpAlone
+pub mod GtfsWords
+mod WorkedWords

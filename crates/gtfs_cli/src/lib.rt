@@ -4,3 +4,4 @@
 mod board;
 mod feed;
 mod runs;
+mod words;

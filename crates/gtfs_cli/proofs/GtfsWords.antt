@@ -1,0 +1,132 @@
+-- What the words of `gtfs` ask for where `clap` takes them, and what is the matter where it does not.
+use Rattle.std.proofs.Common.{◌≡◌, ◌≢◌, ◌⊎◌, ◌∙◌, ◌&&◌, ◌||◌, Bool, true, false, not, List, [], ◌∷◌, Option, Some, None, is_some, refl, sym, ap, subst, inl, inr, codes}
+use Rattle.std.specs.Prelude.{find, option_map, if◌then◌else◌}
+use Rattle.std.specs.Option.{option_map_or}
+use Rattle.clap.specs.Words.{App, Row, Text, HasMatchesOf, IsAmong, fault_of, is_simple_and_free, first_of, subcommand_of, subcommand_rows_of, takes}
+use Rattle.clap.specs.Simple.{Shape, argument_words, built, built_leaf, entered, inherited, label_of, marked_built, names_of, rows_at, with_leaf_noted}
+use Rattle.clap.specs.Takes as take
+use Rattle.clap.specs.Walk.{answers_to, nothing_held, finished, rows_after, walk}
+use Rattle.clap.specs.declared.error.kind.ErrorKind.{ErrorKind}
+use Rattle.clap.specs.declared.error.kind.ErrorKind.TheVariants as kind
+use Rattle.clap.specs.declared.parser.matches.ArgMatches.{ArgMatches}
+use Rattle.gtfs_cli.specs.CommandLine.{board_app, gtfs_app, no_memory, HasBoard, IsFaultOf, IsToldOf, IsWhole}
+use Rattle.gtfs_cli.specs.declared.words.WordsFault.{WordsFault}
+use Rattle.gtfs_cli.specs.declared.words.WordsFault.TheVariants as fault
+use Rattle.gtfs_cli.proofs.HelpAlone.{alone, built_alone, only_help}
+use Rattle.gtfs_cli.proofs.TakenWords.{both, built_taken, is_bare}
+use Rattle.gtfs_cli.proofs.GivenTexts.{are_filled, given_text, level_command, level_filled, level_given}
+
+help_is_no_memory : kind.DisplayHelp ≡ kind.OutOfMemory → ⊥
+help_is_no_memory e = cc
+
+-- words without a fault are taken
+pub taken : (words : List Text) → fault_of gtfs_app words ≡ [] → takes gtfs_app words ≡ true
+taken words e = built_taken (built gtfs_app) nothing_held (argument_words gtfs_app words) refl refl e
+
+abbrev board_built : Shape
+board_built = built_leaf (inherited (with_leaf_noted (marked_built gtfs_app.top)) board_app.top)
+
+is_only : (built gtfs_app).subs ≡ board_built ∷ []
+is_only = refl
+
+-- where nothing required is wanting, each id of `board` has a text
+has_board : (rows : List Row) → are_filled rows ≡ true
+    → (take.is_given (codes "DIR") rows && (take.is_given (codes "zone") rows && (take.is_given (codes "stop") rows
+    && (take.is_given (codes "from") rows && (take.is_given (codes "until") rows && true))))) ≡ true
+    → HasBoard rows
+has_board rows filled all =
+    let until = take.is_given (codes "until") rows && true in
+    let from = take.is_given (codes "from") rows && until in
+    let stop = take.is_given (codes "stop") rows && from in
+    let zone = take.is_given (codes "zone") rows && stop in
+    let dirs = both (take.is_given (codes "DIR") rows) zone all in
+    let zones = both (take.is_given (codes "zone") rows) stop dirs.1 in
+    let stops = both (take.is_given (codes "stop") rows) from zones.1 in
+    let froms = both (take.is_given (codes "from") rows) until stops.1 in
+    let untils = both (take.is_given (codes "until") rows) true froms.1 in
+    record {
+      dir = given_text (codes "DIR") rows filled dirs.0;
+      zone = given_text (codes "zone") rows filled zones.0;
+      stop = given_text (codes "stop") rows filled stops.0;
+      from = given_text (codes "from") rows filled froms.0;
+      until = given_text (codes "until") rows filled untils.0;
+    }
+
+entered_whole : (stop : Option (Text × List Text)) → take.entered_passes (built gtfs_app) stop ≡ true → is_some (entered (built gtfs_app) stop) ≡ true
+    → IsWhole (entered (built gtfs_app) stop)
+entered_whole None passes has = cc
+entered_whole (Some p) passes has = go (answers_to p.0 (label_of board_built)) passes has
+  where
+    go : (answers : Bool)
+        → option_map_or (λ s. take.level_passes s [] nothing_held p.1 false) (if answers then Some board_built else None) true ≡ true
+        → is_some (option_map (λ s. rows_at s p.1) (if answers then Some board_built else None)) ≡ true
+        → IsWhole (option_map (λ s. rows_at s p.1) (if answers then Some board_built else None))
+    go false passes has = cc
+    go true passes has =
+        (refl, has_board (rows_after board_built.rules [] p.1) (level_filled board_built [] p.1 false refl passes) (level_given board_built [] p.1 passes))
+
+-- words that are taken name a command and give all that it needs
+pub whole : (words : List Text) → takes gtfs_app words ≡ true → IsWhole (subcommand_of gtfs_app words)
+whole words e =
+    let app = built gtfs_app in
+    let args = argument_words gtfs_app words in
+    let stop = (walk app.top.rules (names_of app) nothing_held args).stopped in
+    let below = take.entered_passes app stop in
+    let above = take.level_passes app.top (names_of app) nothing_held args (is_some (entered app stop)) in
+    let levels = both below above e in
+    entered_whole stop levels.0 (level_command app.top (names_of app) args (is_some (entered app stop)) refl levels.1)
+
+-- what a parse of the words gives, where a is the command line of `gtfs`
+module _ (a : App) (words : List Text) (is : a ≡ gtfs_app) where
+  pub taken_by : (is_simple_and_free a ≡ true → fault_of a words ≡ []) → takes gtfs_app words ≡ true
+  taken_by faults = taken words (subst (λ x. is_simple_and_free x ≡ true → fault_of x words ≡ []) is faults refl)
+
+  pub read_by : (m : ArgMatches) → HasMatchesOf a words m → subcommand_rows_of m ≡ subcommand_of gtfs_app words
+  read_by m matches = (subst (λ x. HasMatchesOf x words m) is matches refl).1
+
+  pub whole_by : (m : ArgMatches) → HasMatchesOf a words m → (is_simple_and_free a ≡ true → fault_of a words ≡ []) → IsWhole (subcommand_rows_of m)
+  whole_by m matches faults = subst IsWhole (sym (read_by m matches)) (whole words (taken_by faults))
+
+not_true : (b : Bool) → (b ≡ true → ⊥) → b ≡ false
+not_true true never = absurd (never refl)
+not_true false never = refl
+
+-- help is the only kind that is named beside no other
+help_alone : (words : List Text) → alone (fault_of gtfs_app words) ≡ true
+help_alone words = built_alone (built gtfs_app) nothing_held (argument_words gtfs_app words) refl refl
+
+-- a fault that is told of an error of `clap` is the fault of the words
+pub fault_is : (words : List Text) (k : ErrorKind) (told : WordsFault) → (takes gtfs_app words ≡ true → k ≡ kind.OutOfMemory)
+    → (k ≡ kind.OutOfMemory) ⊎ IsAmong k (fault_of gtfs_app words) → IsToldOf k told → IsFaultOf words told
+fault_is words k (fault.Refused text) passes among is = (
+  not_true (takes gtfs_app words) (λ e. is.1 (passes e)),
+  λ asks. elim among [ inl no_room ↦ is.1 no_room | inr found ↦ other_kind (subst (IsAmong k) asks found) ],
+)
+  where
+    other_kind : IsAmong k (kind.DisplayHelp ∷ []) → ⊥
+    other_kind (inl same) = is.0 same
+    other_kind (inr none) = none
+fault_is words k (fault.Help text) passes among is = (
+  not_true (takes gtfs_app words) (λ e. help_is_no_memory (sym is ∙ passes e)),
+  elim among [
+    | inl no_room ↦ absurd (help_is_no_memory (sym is ∙ no_room))
+    | inr found ↦ only_help (fault_of gtfs_app words) (help_alone words) (subst (λ x. IsAmong x (fault_of gtfs_app words)) is found)
+  ],
+)
+fault_is words k fault.OutOfMemory passes among is = tt
+
+-- of words that are taken only memory is told
+pub memory_is : (words : List Text) (k : ErrorKind) (told : WordsFault) → (takes gtfs_app words ≡ true → k ≡ kind.OutOfMemory) → IsToldOf k told
+    → takes gtfs_app words ≡ true → told ≡ no_memory
+memory_is words k (fault.Refused text) passes is e = absurd (is.1 (passes e))
+memory_is words k (fault.Help text) passes is e = absurd (help_is_no_memory (sym is ∙ passes e))
+memory_is words k fault.OutOfMemory passes is e = refl
+
+module _ (a : App) (words : List Text) (is : a ≡ gtfs_app) (k : ErrorKind) (told : WordsFault) (told_of : IsToldOf k told)
+    (passes : takes a words ≡ true → k ≡ kind.OutOfMemory) where
+  pub fault_by : (is_simple_and_free a ≡ true → (k ≡ kind.OutOfMemory) ⊎ IsAmong k (fault_of a words)) → IsFaultOf words told
+  fault_by kinds = fault_is words k told (subst (λ x. takes x words ≡ true → k ≡ kind.OutOfMemory) is passes)
+      (subst (λ x. is_simple_and_free x ≡ true → (k ≡ kind.OutOfMemory) ⊎ IsAmong k (fault_of x words)) is kinds refl) told_of
+
+  pub memory_by : takes gtfs_app words ≡ true → told ≡ no_memory
+  memory_by = memory_is words k told (subst (λ x. takes x words ≡ true → k ≡ kind.OutOfMemory) is passes) told_of

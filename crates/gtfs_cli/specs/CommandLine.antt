@@ -1,0 +1,83 @@
+-- The command line of the program `gtfs`, as `clap` sees it, and what its words ask for.
+use Rattle.std.specs.Prelude.{◌≡◌, ◌≢◌, List, [], ◌∷◌, Option, Some, None, IsSome, codes, true, false}
+use Rattle.clap.specs.Words.{App, Row, Rule, Text, fault_of, first_of, new_app, new_rule, takes, with_rule, with_subcommand}
+use Rattle.clap.specs.declared.builder.ArgAction.TheVariants.{Set}
+use Rattle.clap.specs.declared.error.kind.ErrorKind.{ErrorKind}
+use Rattle.clap.specs.declared.error.kind.ErrorKind.TheVariants.{DisplayHelp}
+use Rattle.clap.specs.declared.error.kind.ErrorKind.TheVariants as kinds
+use Rattle.gtfs_cli.specs.declared.words.BoardWords.{BoardWords}
+use Rattle.gtfs_cli.specs.declared.words.Command.{Command}
+use Rattle.gtfs_cli.specs.declared.words.Command.TheVariants.{Board}
+use Rattle.gtfs_cli.specs.declared.words.WordsFault.{WordsFault}
+use Rattle.gtfs_cli.specs.declared.words.WordsFault.TheVariants.{Refused, Help, OutOfMemory}
+
+-- a text that must stand at its place among the words
+abbrev pub word_rule : Text → Rule
+word_rule id = record (new_rule id) { action = Some Set; required = true }
+
+-- a text that must be given, as `--id text` or `--id=text`; help has one name for the text
+abbrev pub option_rule : Text → Rule
+option_rule id = record (word_rule id) { long = Some id; value_names = 1 }
+
+-- `board DIR --zone FILE --stop ID --from T --until T`
+abbrev pub board_app : App
+board_app = with_rule (with_rule (with_rule (with_rule (with_rule (new_app (codes "board"))
+    (word_rule (codes "DIR"))) (option_rule (codes "zone"))) (option_rule (codes "stop")))
+    (option_rule (codes "from"))) (option_rule (codes "until"))
+
+-- `gtfs`, of which one of the commands must be named, and `help` is none of them
+abbrev pub gtfs_top : App
+gtfs_top = record (new_app (codes "gtfs")) {
+  top = record (new_app (codes "gtfs")).top {
+    subcommand_required = true;
+    disable_help_subcommand = true;
+  };
+}
+
+abbrev pub gtfs_app : App
+gtfs_app = with_subcommand gtfs_top board_app.top
+
+-- each field is the text that was given for it
+pub record IsBoardOf (given : List Row) (words : BoardWords) : Type 0 where
+  pub dir : first_of (codes "DIR") given ≡ Some words.dir.now
+  pub zone : first_of (codes "zone") given ≡ Some words.zone.now
+  pub stop : first_of (codes "stop") given ≡ Some words.stop.now
+  pub from : first_of (codes "from") given ≡ Some words.from.now
+  pub until : first_of (codes "until") given ≡ Some words.until.now
+
+-- the subcommand with what was given for each of its ids is this command
+abbrev pub IsCommandOf : Option (Text × List Row) → Command → Type 0
+IsCommandOf None command = ⊥
+IsCommandOf (Some found) (Board words) = (found.0 ≡ codes "board") × IsBoardOf found.1 words
+
+-- a text was given for each id of `board`
+pub record HasBoard (given : List Row) : Type 0 where
+  pub dir : IsSome (first_of (codes "DIR") given)
+  pub zone : IsSome (first_of (codes "zone") given)
+  pub stop : IsSome (first_of (codes "stop") given)
+  pub from : IsSome (first_of (codes "from") given)
+  pub until : IsSome (first_of (codes "until") given)
+
+-- a command is named, and all that it needs is given
+abbrev pub IsWhole : Option (Text × List Row) → Type 0
+IsWhole None = ⊥
+IsWhole (Some found) = (found.0 ≡ codes "board") × HasBoard found.1
+
+abbrev pub no_memory : WordsFault
+no_memory = OutOfMemory
+
+-- the fault for an error of `clap` of this kind
+abbrev pub IsToldOf : ErrorKind → WordsFault → Type 0
+IsToldOf kind (Refused text) = (kind ≢ DisplayHelp) × (kind ≢ kinds.OutOfMemory)
+IsToldOf kind (Help text) = kind ≡ DisplayHelp
+IsToldOf kind OutOfMemory = Unit {0}
+
+-- what `clap` has to say of the words first is that they ask for help
+abbrev pub AsksForHelp : List Text → Type 0
+AsksForHelp words = fault_of gtfs_app words ≡ DisplayHelp ∷ []
+
+-- `clap` does not take the words: they ask for help, or something else is the matter with them
+abbrev pub IsFaultOf : List Text → WordsFault → Type 0
+IsFaultOf words (Refused text) = (takes gtfs_app words ≡ false) × (AsksForHelp words → ⊥)
+IsFaultOf words (Help text) = (takes gtfs_app words ≡ false) × AsksForHelp words
+IsFaultOf words OutOfMemory = Unit {0}
