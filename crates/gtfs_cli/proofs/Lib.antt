@@ -1,1 +1,3 @@
 mod KeyOrder
+mod Pieces
+mod WorkedLines
