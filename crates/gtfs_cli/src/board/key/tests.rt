@@ -1,5 +1,4 @@
 use super::*;
-use std::alloc::AllocError;
 use std::process::Abort;
 use std::test::Fail;
 
@@ -42,35 +41,29 @@ fn keys_have_texts(rt: HostRuntime) -> Result<(), Fail> {
     Ok(())
 }
 
-// Keys that ascend, each by another part than the one before.
-fn ascending(alloc: Global) -> Result<Vec<Key<'static>>, AllocError> {
+// What the order of their type says of two values.
+fn order<K: Ord>(one: &K, other: &K) -> (Ordering, bool) {
+    (one.cmp(other), one < other)
+}
+
+// The first key stands before the second.
+fn assert_before<'a>(rt: &impl Abort, first: &Key<'a>, second: &Key<'a>) {
+    assert_eq!(rt; order(first, second), (Ordering::Less, true));
+    assert_eq!(rt; order(second, first), (Ordering::Greater, false));
+    assert_eq!(rt; order(first, first), (Ordering::Equal, false));
+}
+
+#[test]
+fn keys_compare_by_their_parts(rt: HostRuntime) -> Result<(), Fail> {
+    assert_before(&rt, &key(-7, "Z", 9, 9), &key(5, "T", 1, 1));
+    assert_before(&rt, &key(5, "T", 9, 9), &key(5, "T10", 1, 1));
+    assert_before(&rt, &key(5, "T10", 9, 9), &key(5, "T2", 1, 1));
+    assert_before(&rt, &key(5, "T2", 7, 9), &key(5, "T2", 8, 1));
+    assert_before(&rt, &key(5, "T2", 8, 2), &key(5, "T2", 8, 3));
     let next_day = Key {
         day: Day::from_number(19_815),
         ..key(5, "T2", 8, 3)
     };
-    Vec::from_slice(
-        alloc,
-        &[
-            key(-7, "Z", 9, 9),
-            key(5, "T", 9, 9),
-            key(5, "T10", 9, 9),
-            key(5, "T2", 7, 9),
-            key(5, "T2", 8, 2),
-            key(5, "T2", 8, 3),
-            next_day,
-            key(6, "A", 0, 0),
-        ],
-    )
-}
-
-#[test]
-fn keys_sort_by_their_parts(rt: HostRuntime) -> Result<(), Fail> {
-    let alloc = rt.alloc();
-    let expected = ascending(alloc)?;
-    let mut keys = ascending(alloc)?;
-    keys.reverse();
-    assert!(rt; keys.as_slice() != expected.as_slice());
-    keys.sort()?;
-    assert_eq!(rt; keys.as_slice(), expected.as_slice());
+    assert_before(&rt, &key(5, "T2", 8, 3), &next_day);
     Ok(())
 }
