@@ -1,8 +1,8 @@
-ghost use Rattle.std.specs.Prelude.{◌≡◌, ◌++◌, ◌≤◌, ◌+◌, ◌-◌, ◌^◌, List, ℕ, length, min, string_bytes, string_len, OnOk, OnErr};
+ghost use Rattle.std.specs.Prelude.{◌≡◌, ◌++◌, ◌≤◌, ◌+◌, ◌-◌, ◌^◌, List, ℕ, min, string_bytes, string_len, OnOk, OnErr};
 ghost use Rattle.std.specs.String.{string_capacity};
 ghost use Rattle.gtfs_days.specs.Zone.{IsInstant};
 ghost use Rattle.gtfs_cli.specs.Lent.{listed};
-ghost use Rattle.gtfs_cli.specs.Lines.{line_text, IsLine};
+ghost use Rattle.gtfs_cli.specs.Lines.{line_text, texts_len, IsLine};
 
 use crate::board::clock::push_clock;
 use crate::board::departure::Departure;
@@ -43,7 +43,7 @@ pub fn push_line(
 
 /// How many bytes the line of a departure has, at most.
 fn room_for(departure: &Departure<'_>) -> usize
-    ensures { result ≡ min (89 + length departure.now.key.trip.now + length departure.now.stop.now + length departure.now.route.now + length departure.now.headsign.now) (2 ^ 64 - 1) }
+    ensures { result ≡ min (89 + texts_len (listed departure.now)) (2 ^ 64 - 1) }
 {
     LINE_ROOM
         .saturating_add(departure.key.trip.len())
@@ -54,7 +54,7 @@ fn room_for(departure: &Departure<'_>) -> usize
 
 /// Appends the line of a departure, for which there is room.
 fn write_line(text: &mut String, civil: Civil, departure: &Departure<'_>)
-    requires { string_len text.old + (89 + length departure.now.key.trip.now + length departure.now.stop.now + length departure.now.route.now + length departure.now.headsign.now) ≤ string_capacity text.old }
+    requires { string_len text.old + (89 + texts_len (listed departure.now)) ≤ string_capacity text.old }
     ensures { string_bytes text.new ≡ string_bytes text.old ++ line_text civil (listed departure.now) }
 {
     write_key(text, &departure.key);
