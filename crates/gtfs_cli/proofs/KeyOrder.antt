@@ -7,7 +7,7 @@ use Rattle.std.specs.FinMap.{IsAntisymmetric, nat_cmp-IsAntisymmetric, int_cmp-I
 use Rattle.std.specs.Ordering.{ordering_then, is_lt, int_cmp, MatchOrdering}
 use Rattle.std.specs.declared.cmp.Ordering.{Ordering}
 use Rattle.std.specs.declared.cmp.Ordering.TheVariants.{Less, Equal, Greater}
-use Rattle.gtfs_cli.specs.Key.{Key, text_cmp, key_cmp}
+use Rattle.gtfs_cli.specs.Key.{Key, key_cmp}
 
 -- ---- two orders, one after the other
 

@@ -14,3 +14,5 @@ mod GivenTexts
 mod HelpAlone
 pub mod GtfsWords
 mod WorkedWords
+mod Pieces
+mod WorkedLines

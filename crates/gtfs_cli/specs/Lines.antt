@@ -1,5 +1,5 @@
 -- The lines of a board.
-use Rattle.std.specs.Prelude.{◌≡◌, ℕ, ◌/◌, ◌%◌, ◌==◌, if◌then◌else◌, List, [], ◌++◌, unsigned_abs, int_lt, codes, ℤ, pos}
+use Rattle.std.specs.Prelude.{◌≡◌, ℕ, ◌+◌, ◌/◌, ◌%◌, ◌==◌, if◌then◌else◌, List, [], ◌++◌, length, unsigned_abs, int_lt, codes, ℤ, pos}
 use Rattle.gtfs_field.specs.Digits.{wide}
 use Rattle.gtfs_days.specs.Zone.{IsCivil}
 use Rattle.gtfs_days.specs.declared.civil.Civil.{Civil}
@@ -16,6 +16,10 @@ pub record Listed : Type 0 where
   pub route : List ℕ
   pub headsign : List ℕ
   pub mark : Mark
+
+-- how many bytes of a departure's line are texts of the feed
+abbrev pub texts_len : Listed → ℕ
+texts_len d = length d.key.trip + length d.stop + length d.route + length d.headsign
 
 -- ---- the local clock
 

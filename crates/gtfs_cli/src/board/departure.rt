@@ -1,3 +1,6 @@
+ghost use Rattle.std.specs.Prelude.{◌≡◌, length};
+ghost use Rattle.gtfs_cli.specs.Lines.{mark_text};
+
 use crate::board::key::Key;
 
 /// How the line of a departure is marked.
@@ -7,6 +10,19 @@ pub enum Mark {
     Scheduled,
     /// `f`: the run is one of a period of frequencies.txt whose `exact_times` is 0, so its times are not exact.
     Frequency,
+}
+
+impl Mark {
+    /// The mark's letter.
+    pub(crate) fn text(self) -> &'static str
+        ensures value { result.now ≡ mark_text self }
+        ensures len { length result.now ≡ 1 }
+    {
+        match self {
+            Mark::Scheduled => "s",
+            Mark::Frequency => "f",
+        }
+    }
 }
 
 /// A departure as a board lists it. The feed lends its texts.
