@@ -19,3 +19,4 @@ mod WorkedLines
 mod InOrder
 mod Passing
 mod Opened
+mod OneBoard

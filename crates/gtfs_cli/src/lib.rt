@@ -5,3 +5,5 @@ mod board;
 mod feed;
 mod runs;
 mod words;
+
+pub use board::boards_are_one;
