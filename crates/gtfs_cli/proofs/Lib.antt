@@ -5,3 +5,5 @@ pub mod Groups
 pub mod Searched
 pub mod Places
 pub mod Sorted
+pub mod Services
+pub mod Assembled

@@ -2,10 +2,12 @@
 
 mod content;
 mod fault;
+mod load;
 mod lookups;
 mod order;
 mod read;
 mod rows;
+mod services;
 
 pub use content::Feed;
 pub use fault::FeedFault;
