@@ -7,3 +7,4 @@ pub mod Places
 pub mod Sorted
 pub mod Services
 pub mod Assembled
+pub mod LoadedRows
