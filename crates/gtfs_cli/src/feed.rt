@@ -2,6 +2,7 @@
 
 mod content;
 mod fault;
+mod fit;
 mod load;
 mod lookups;
 mod order;

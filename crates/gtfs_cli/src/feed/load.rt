@@ -21,6 +21,41 @@ use crate::feed::services::services_of;
 use gtfs_table::Tables;
 use std::alloc::Global;
 
+impl<'a> Feed<'a> {
+    /// The feed that the tables of a dataset say: its rows by their keys.
+    ///
+    /// GTFS Schedule Reference, the fields of stops.txt, routes.txt, calendar.txt, calendar_dates.txt, trips.txt,
+    /// stop_times.txt and frequencies.txt.
+    ///
+    /// # Errors
+    /// `Unreadable` where a field cannot be read, where two rows have one key, and where the rows do not fit one another:
+    /// an id that no row has, a trip whose first or last stop time has no time, and periods of a trip that overlap.
+    /// `OutOfMemory` where memory ran out.
+    pub fn read(alloc: Global, tables: &'a Tables) -> Result<Feed<'a>, FeedFault>
+        ensures { IfOk result (λ feed. feed ≡ content_of tables.now) }
+    {
+        let stops = load_stops(alloc, tables)?;
+        let routes = load_routes(alloc, tables)?;
+        let services = load_services(alloc, tables)?;
+        let stop_times = load_stop_times(alloc, tables)?;
+        let frequencies = load_frequencies(alloc, tables)?;
+        let trips = by_trip_id(read_trips(alloc, tables)?)?;
+        let feed = Feed {
+            stops,
+            routes,
+            services,
+            trips,
+            stop_times,
+            frequencies,
+        };
+        if feed.fits_together() {
+            Ok(feed)
+        } else {
+            Err(FeedFault::Unreadable)
+        }
+    }
+}
+
 // The rows of stops.txt by id.
 fn load_stops<'a>(alloc: Global, tables: &'a Tables) -> Result<Vec<Stop<'a>>, FeedFault>
     ensures rows { IfOk result (λ v. map stop_row v.items
