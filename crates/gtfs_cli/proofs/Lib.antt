@@ -20,3 +20,6 @@ mod InOrder
 mod Passing
 mod Opened
 mod OneBoard
+pub mod Services
+pub mod Assembled
+pub mod LoadedRows
