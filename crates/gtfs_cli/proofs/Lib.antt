@@ -23,3 +23,4 @@ mod OneBoard
 pub mod Services
 pub mod Assembled
 pub mod LoadedRows
+mod WorkedBoards
