@@ -1,5 +1,5 @@
 -- The rows of the files whose rows go by the id of something else: each typed row, and what the file says in its row.
-use Rattle.std.specs.Prelude.{ℕ, List, Option, option_map, ℤ, pos, negsuc, ◌≤ℤ◌}
+use Rattle.std.specs.Prelude.{ℕ, ◌<◌, ◌≤◌, List, Option, IfSome, option_map, ℤ, pos, negsuc, ◌≤ℤ◌}
 use Rattle.gtfs_table.specs.Tables.{Dataset}
 use Rattle.gtfs_table.specs.declared.file.File.TheVariants as file
 use Rattle.gtfs_days.specs.declared.week.Week.{Week}
@@ -21,12 +21,26 @@ trip_texts t = (t.trip_id.now, t.route_id.now, t.service_id.now, option_map (λ 
 abbrev pub trip_texts_in : Dataset → ℕ → List ℕ × List ℕ × List ℕ × Option (List ℕ)
 trip_texts_in d n = (text_at d file.Trips n "trip_id", text_at d file.Trips n "route_id", text_at d file.Trips n "service_id", text_in d file.Trips n "trip_headsign")
 
+-- a time that a file can hold, 0:00:00 to 999:59:59
+abbrev pub IsTime : ℕ → Type 0
+IsTime n = n ≤ 3_599_999
+
+abbrev pub IsTimeIfAny : Option ℕ → Type 0
+IsTimeIfAny time = IfSome time IsTime
+
+abbrev pub HasTimes : StopTime → Type 0
+HasTimes t = IsTimeIfAny t.arrival_time × IsTimeIfAny t.departure_time
+
 -- a stop time, and the id of its trip
 abbrev pub trip_stop_time : StopTime → List ℕ × StopRow
 trip_stop_time t = (t.trip_id.now, stop_time_row t)
 
 abbrev pub trip_stop_time_in : Dataset → ℕ → List ℕ × StopRow
 trip_stop_time_in d n = (text_at d file.StopTimes n "trip_id", stop_row_in d n)
+
+-- a period that is not empty, with a headway above 0
+abbrev pub IsPeriod : Frequency → Type 0
+IsPeriod p = (p.start_time < p.end_time) × IsTime p.end_time × (0 < p.headway_secs)
 
 -- a period, and the id of its trip
 abbrev pub trip_period : Frequency → List ℕ × Period

@@ -1,8 +1,8 @@
-ghost use Rattle.std.specs.Prelude.{◌≡◌, IfOk, codes, map};
+ghost use Rattle.std.specs.Prelude.{◌≡◌, All, IfOk, codes, map};
 ghost use Rattle.gtfs_table.specs.Tables.{column_of};
 ghost use Rattle.gtfs_table.specs.declared.file.File.TheVariants as file;
 ghost use Rattle.gtfs_cli.specs.Values.{records_in, rows};
-ghost use Rattle.gtfs_cli.specs.ReadRows.{trip_period, trip_period_in};
+ghost use Rattle.gtfs_cli.specs.ReadRows.{IsPeriod, trip_period, trip_period_in};
 
 use crate::feed::fault::FeedFault;
 use crate::feed::read::choice::is_one;
@@ -32,7 +32,8 @@ pub fn read_frequencies<'a>(
     alloc: Global,
     tables: &'a Tables,
 ) -> Result<Vec<Frequency<'a>>, FeedFault>
-    ensures { IfOk result (λ periods. map trip_period periods.items ≡ map (trip_period_in tables.now) (rows tables.now file.Frequencies)) }
+    ensures content { IfOk result (λ periods. map trip_period periods.items ≡ map (trip_period_in tables.now) (rows tables.now file.Frequencies)) }
+    ensures periods { IfOk result (λ periods. All IsPeriod periods.items) }
 {
     let columns = FrequencyColumns::of(tables);
     let mut frequencies = Vec::new(alloc);
@@ -68,7 +69,8 @@ impl FrequencyColumns {
         requires end_time { self.end_time ≡ column_of (records_in tables.now file.Frequencies) (codes "end_time") }
         requires headway_secs { self.headway_secs ≡ column_of (records_in tables.now file.Frequencies) (codes "headway_secs") }
         requires exact_times { self.exact_times ≡ column_of (records_in tables.now file.Frequencies) (codes "exact_times") }
-        ensures { IfOk result (λ period. trip_period period ≡ trip_period_in tables.now row) }
+        ensures content { IfOk result (λ period. trip_period period ≡ trip_period_in tables.now row) }
+        ensures period { IfOk result IsPeriod }
     {
         let frequency = Frequency {
             trip_id: id(text_at(tables, File::Frequencies, row, self.trip_id))?,

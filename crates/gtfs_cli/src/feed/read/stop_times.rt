@@ -1,8 +1,8 @@
-ghost use Rattle.std.specs.Prelude.{◌≡◌, IfOk, codes, map};
+ghost use Rattle.std.specs.Prelude.{◌≡◌, All, IfOk, codes, map};
 ghost use Rattle.gtfs_table.specs.Tables.{column_of};
 ghost use Rattle.gtfs_table.specs.declared.file.File.TheVariants as file;
 ghost use Rattle.gtfs_cli.specs.Values.{records_in, rows};
-ghost use Rattle.gtfs_cli.specs.ReadRows.{trip_stop_time, trip_stop_time_in};
+ghost use Rattle.gtfs_cli.specs.ReadRows.{HasTimes, trip_stop_time, trip_stop_time_in};
 
 use crate::feed::fault::FeedFault;
 use crate::feed::read::choice::pickup_type;
@@ -34,7 +34,8 @@ pub fn read_stop_times<'a>(
     alloc: Global,
     tables: &'a Tables,
 ) -> Result<Vec<StopTime<'a>>, FeedFault>
-    ensures { IfOk result (λ times. map trip_stop_time times.items ≡ map (trip_stop_time_in tables.now) (rows tables.now file.StopTimes)) }
+    ensures content { IfOk result (λ times. map trip_stop_time times.items ≡ map (trip_stop_time_in tables.now) (rows tables.now file.StopTimes)) }
+    ensures times { IfOk result (λ times. All HasTimes times.items) }
 {
     let columns = StopTimeColumns::of(tables);
     let mut stop_times = Vec::new(alloc);
@@ -76,7 +77,8 @@ impl StopTimeColumns {
         requires stop_sequence { self.stop_sequence ≡ column_of (records_in tables.now file.StopTimes) (codes "stop_sequence") }
         requires stop_headsign { self.stop_headsign ≡ column_of (records_in tables.now file.StopTimes) (codes "stop_headsign") }
         requires pickup_type { self.pickup_type ≡ column_of (records_in tables.now file.StopTimes) (codes "pickup_type") }
-        ensures { IfOk result (λ stop_time. trip_stop_time stop_time ≡ trip_stop_time_in tables.now row) }
+        ensures content { IfOk result (λ stop_time. trip_stop_time stop_time ≡ trip_stop_time_in tables.now row) }
+        ensures times { IfOk result HasTimes }
     {
         Ok(StopTime {
             trip_id: id(text_at(tables, File::StopTimes, row, self.trip_id))?,
