@@ -1,11 +1,13 @@
--- The rows of the files whose rows go by the id of something else: each typed row, and what the file says in its row.
-use Rattle.std.specs.Prelude.{ℕ, ◌<◌, ◌≤◌, List, Option, IfSome, option_map, ℤ, pos, negsuc, ◌≤ℤ◌}
-use Rattle.gtfs_table.specs.Tables.{Dataset}
+-- What the readers of files give: each typed row, and beside it what the file says in that row.
+use Rattle.std.specs.Prelude.{ℕ, ◌<◌, ◌≤◌, List, codes, Option, IfSome, option_map, ℤ, pos, negsuc, ◌≤ℤ◌}
+use Prim.Native.String.{String}
+use Rattle.gtfs_table.specs.Tables.{Dataset, column_of}
+use Rattle.gtfs_table.specs.declared.file.File.{File}
 use Rattle.gtfs_table.specs.declared.file.File.TheVariants as file
 use Rattle.gtfs_days.specs.declared.week.Week.{Week}
 use Rattle.gtfs_days.specs.declared.exception.Exception.{Exception}
 use Rattle.gtfs_cli.specs.Rows.{StopRow, Period}
-use Rattle.gtfs_cli.specs.Values.{text_at, text_in}
+use Rattle.gtfs_cli.specs.Values.{records_in, text_at, text_in}
 use Rattle.gtfs_cli.specs.Reading.{stop_row_in, period_in, week_in, exception_in}
 use Rattle.gtfs_cli.specs.FeedView.{stop_time_row, period_row}
 use Rattle.gtfs_cli.specs.declared.feed.rows.Trip.{Trip}
@@ -13,6 +15,10 @@ use Rattle.gtfs_cli.specs.declared.feed.rows.StopTime.{StopTime}
 use Rattle.gtfs_cli.specs.declared.feed.rows.Frequency.{Frequency}
 use Rattle.gtfs_cli.specs.declared.feed.read.calendar.CalendarWeek.{CalendarWeek}
 use Rattle.gtfs_cli.specs.declared.feed.read.calendar.CalendarDate.{CalendarDate}
+
+-- the place of a column of a file
+abbrev pub column_in : Dataset → File → String → Option ℕ
+column_in d x name = column_of (records_in d x) (codes name)
 
 -- the texts of a trip: its id, those of its route and of its service, and its headsign
 abbrev pub trip_texts : Trip → List ℕ × List ℕ × List ℕ × Option (List ℕ)
