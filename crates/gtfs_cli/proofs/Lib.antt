@@ -24,3 +24,4 @@ pub mod Services
 pub mod Assembled
 pub mod LoadedRows
 mod WorkedBoards
+pub mod TimeLemmas
