@@ -8,3 +8,4 @@ pub mod Sorted
 pub mod Services
 pub mod Assembled
 pub mod LoadedRows
+pub mod TimeLemmas

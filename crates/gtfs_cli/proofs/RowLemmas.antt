@@ -1,5 +1,5 @@
 -- The rows among the records up to some record, and those up to the next.
-use Rattle.std.proofs.Common.{◌≡◌, ◌+◌, ◌++◌, ◌∙◌, ℕ, Bool, true, false, List, [], ◌∷◌, arith, map, cond, ap, append-nil}
+use Rattle.std.proofs.Common.{◌≡◌, ◌+◌, ◌++◌, ℕ, Bool, true, false, List, [], ◌∷◌, arith, map, cond, append-nil}
 use Rattle.std.specs.Prelude.{filter}
 use Rattle.std.specs.List.{range_with_len}
 use Rattle.std.proofs.lemmas.List.{map-id, map-append}
@@ -18,4 +18,4 @@ rows_skipped f g p xs n before no_row = rw (more p n, no_row, append-nil) before
 pub rows_taken : {A B : Type 0} (f : A → B) (g : ℕ → B) (p : ℕ → Bool) (xs : List A) (x : A) (n : ℕ)
     → map f xs ≡ map g (filter p (range_with_len 2 n)) → p (n + 2) ≡ true → f x ≡ g (n + 2)
     → map f (xs ++ x ∷ []) ≡ map g (filter p (range_with_len 2 (n + 1)))
-rows_taken f g p xs x n before is_row same = rw (more p n, is_row, map-append, map-append, before, same)
+rows_taken f g p xs x n before is_row same = rw (more p n, is_row, map-append f xs (x ∷ []), map-append, before, same)

@@ -1,11 +1,13 @@
--- The rows of the files whose rows go by the id of something else: each typed row, and what the file says in its row.
-use Rattle.std.specs.Prelude.{ℕ, List, Option, option_map, ℤ, pos, negsuc, ◌≤ℤ◌}
-use Rattle.gtfs_table.specs.Tables.{Dataset}
+-- What the readers of files give: each typed row, and beside it what the file says in that row.
+use Rattle.std.specs.Prelude.{ℕ, ◌<◌, ◌≤◌, List, codes, Option, IfSome, option_map, ℤ, pos, negsuc, ◌≤ℤ◌}
+use Prim.Native.String.{String}
+use Rattle.gtfs_table.specs.Tables.{Dataset, column_of}
+use Rattle.gtfs_table.specs.declared.file.File.{File}
 use Rattle.gtfs_table.specs.declared.file.File.TheVariants as file
 use Rattle.gtfs_days.specs.declared.week.Week.{Week}
 use Rattle.gtfs_days.specs.declared.exception.Exception.{Exception}
 use Rattle.gtfs_cli.specs.Rows.{StopRow, Period}
-use Rattle.gtfs_cli.specs.Values.{text_at, text_in}
+use Rattle.gtfs_cli.specs.Values.{records_in, text_at, text_in}
 use Rattle.gtfs_cli.specs.Reading.{stop_row_in, period_in, week_in, exception_in}
 use Rattle.gtfs_cli.specs.FeedView.{stop_time_row, period_row}
 use Rattle.gtfs_cli.specs.declared.feed.rows.Trip.{Trip}
@@ -14,6 +16,10 @@ use Rattle.gtfs_cli.specs.declared.feed.rows.Frequency.{Frequency}
 use Rattle.gtfs_cli.specs.declared.feed.read.calendar.CalendarWeek.{CalendarWeek}
 use Rattle.gtfs_cli.specs.declared.feed.read.calendar.CalendarDate.{CalendarDate}
 
+-- the place of a column of a file
+abbrev pub column_in : Dataset → File → String → Option ℕ
+column_in d x name = column_of (records_in d x) (codes name)
+
 -- the texts of a trip: its id, those of its route and of its service, and its headsign
 abbrev pub trip_texts : Trip → List ℕ × List ℕ × List ℕ × Option (List ℕ)
 trip_texts t = (t.trip_id.now, t.route_id.now, t.service_id.now, option_map (λ x. x.now) t.trip_headsign)
@@ -21,12 +27,26 @@ trip_texts t = (t.trip_id.now, t.route_id.now, t.service_id.now, option_map (λ 
 abbrev pub trip_texts_in : Dataset → ℕ → List ℕ × List ℕ × List ℕ × Option (List ℕ)
 trip_texts_in d n = (text_at d file.Trips n "trip_id", text_at d file.Trips n "route_id", text_at d file.Trips n "service_id", text_in d file.Trips n "trip_headsign")
 
+-- a time that a file can hold, 0:00:00 to 999:59:59
+abbrev pub IsTime : ℕ → Type 0
+IsTime n = n ≤ 3_599_999
+
+abbrev pub IsTimeIfAny : Option ℕ → Type 0
+IsTimeIfAny time = IfSome time IsTime
+
+abbrev pub HasTimes : StopTime → Type 0
+HasTimes t = IsTimeIfAny t.arrival_time × IsTimeIfAny t.departure_time
+
 -- a stop time, and the id of its trip
 abbrev pub trip_stop_time : StopTime → List ℕ × StopRow
 trip_stop_time t = (t.trip_id.now, stop_time_row t)
 
 abbrev pub trip_stop_time_in : Dataset → ℕ → List ℕ × StopRow
 trip_stop_time_in d n = (text_at d file.StopTimes n "trip_id", stop_row_in d n)
+
+-- a period that is not empty, with a headway above 0
+abbrev pub IsPeriod : Frequency → Type 0
+IsPeriod p = (p.start_time < p.end_time) × IsTime p.end_time × (0 < p.headway_secs)
 
 -- a period, and the id of its trip
 abbrev pub trip_period : Frequency → List ℕ × Period

@@ -21,3 +21,6 @@ pub use stop_times::read_stop_times;
 pub use stops::read_stops;
 pub use trips::read_trips;
 pub use weeks::read_weeks;
+
+#[cfg(test)]
+mod tests;

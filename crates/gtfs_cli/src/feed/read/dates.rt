@@ -1,8 +1,7 @@
-ghost use Rattle.std.specs.Prelude.{◌≡◌, All, IfOk, codes, map};
-ghost use Rattle.gtfs_table.specs.Tables.{column_of};
+ghost use Rattle.std.specs.Prelude.{◌≡◌, All, IfOk, map};
 ghost use Rattle.gtfs_table.specs.declared.file.File.TheVariants as file;
-ghost use Rattle.gtfs_cli.specs.Values.{records_in, rows};
-ghost use Rattle.gtfs_cli.specs.ReadRows.{IsDay, service_exception, service_exception_in};
+ghost use Rattle.gtfs_cli.specs.Values.{rows};
+ghost use Rattle.gtfs_cli.specs.ReadRows.{IsDay, column_in, service_exception, service_exception_in};
 
 use crate::feed::fault::FeedFault;
 use crate::feed::read::calendar::CalendarDate;
@@ -43,9 +42,9 @@ pub fn read_dates<'a>(alloc: Global, tables: &'a Tables) -> Result<Vec<CalendarD
 
 impl DateColumns {
     fn of(tables: &Tables) -> DateColumns
-        ensures service_id { result.service_id ≡ column_of (records_in tables.now file.CalendarDates) (codes "service_id") }
-        ensures date { result.date ≡ column_of (records_in tables.now file.CalendarDates) (codes "date") }
-        ensures exception_type { result.exception_type ≡ column_of (records_in tables.now file.CalendarDates) (codes "exception_type") }
+        ensures service_id { result.service_id ≡ column_in tables.now file.CalendarDates "service_id" }
+        ensures date { result.date ≡ column_in tables.now file.CalendarDates "date" }
+        ensures exception_type { result.exception_type ≡ column_in tables.now file.CalendarDates "exception_type" }
     {
         DateColumns {
             service_id: tables.column(File::CalendarDates, "service_id"),
@@ -55,9 +54,9 @@ impl DateColumns {
     }
 
     fn date<'a>(self, tables: &'a Tables, row: usize) -> Result<CalendarDate<'a>, FeedFault>
-        requires service_id { self.service_id ≡ column_of (records_in tables.now file.CalendarDates) (codes "service_id") }
-        requires date { self.date ≡ column_of (records_in tables.now file.CalendarDates) (codes "date") }
-        requires exception_type { self.exception_type ≡ column_of (records_in tables.now file.CalendarDates) (codes "exception_type") }
+        requires service_id { self.service_id ≡ column_in tables.now file.CalendarDates "service_id" }
+        requires date { self.date ≡ column_in tables.now file.CalendarDates "date" }
+        requires exception_type { self.exception_type ≡ column_in tables.now file.CalendarDates "exception_type" }
         ensures content { IfOk result (λ date. service_exception date ≡ service_exception_in tables.now row) }
         ensures day { IfOk result (λ e. IsDay e.day) }
     {

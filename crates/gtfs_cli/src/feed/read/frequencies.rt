@@ -1,8 +1,7 @@
-ghost use Rattle.std.specs.Prelude.{◌≡◌, IfOk, codes, map};
-ghost use Rattle.gtfs_table.specs.Tables.{column_of};
+ghost use Rattle.std.specs.Prelude.{◌≡◌, All, IfOk, map};
 ghost use Rattle.gtfs_table.specs.declared.file.File.TheVariants as file;
-ghost use Rattle.gtfs_cli.specs.Values.{records_in, rows};
-ghost use Rattle.gtfs_cli.specs.ReadRows.{trip_period, trip_period_in};
+ghost use Rattle.gtfs_cli.specs.Values.{rows};
+ghost use Rattle.gtfs_cli.specs.ReadRows.{IsPeriod, column_in, trip_period, trip_period_in};
 
 use crate::feed::fault::FeedFault;
 use crate::feed::read::choice::is_one;
@@ -32,7 +31,8 @@ pub fn read_frequencies<'a>(
     alloc: Global,
     tables: &'a Tables,
 ) -> Result<Vec<Frequency<'a>>, FeedFault>
-    ensures { IfOk result (λ periods. map trip_period periods.items ≡ map (trip_period_in tables.now) (rows tables.now file.Frequencies)) }
+    ensures content { IfOk result (λ periods. map trip_period periods.items ≡ map (trip_period_in tables.now) (rows tables.now file.Frequencies)) }
+    ensures periods { IfOk result (λ periods. All IsPeriod periods.items) }
 {
     let columns = FrequencyColumns::of(tables);
     let mut frequencies = Vec::new(alloc);
@@ -47,11 +47,11 @@ pub fn read_frequencies<'a>(
 
 impl FrequencyColumns {
     fn of(tables: &Tables) -> FrequencyColumns
-        ensures trip_id { result.trip_id ≡ column_of (records_in tables.now file.Frequencies) (codes "trip_id") }
-        ensures start_time { result.start_time ≡ column_of (records_in tables.now file.Frequencies) (codes "start_time") }
-        ensures end_time { result.end_time ≡ column_of (records_in tables.now file.Frequencies) (codes "end_time") }
-        ensures headway_secs { result.headway_secs ≡ column_of (records_in tables.now file.Frequencies) (codes "headway_secs") }
-        ensures exact_times { result.exact_times ≡ column_of (records_in tables.now file.Frequencies) (codes "exact_times") }
+        ensures trip_id { result.trip_id ≡ column_in tables.now file.Frequencies "trip_id" }
+        ensures start_time { result.start_time ≡ column_in tables.now file.Frequencies "start_time" }
+        ensures end_time { result.end_time ≡ column_in tables.now file.Frequencies "end_time" }
+        ensures headway_secs { result.headway_secs ≡ column_in tables.now file.Frequencies "headway_secs" }
+        ensures exact_times { result.exact_times ≡ column_in tables.now file.Frequencies "exact_times" }
     {
         FrequencyColumns {
             trip_id: tables.column(File::Frequencies, "trip_id"),
@@ -63,12 +63,13 @@ impl FrequencyColumns {
     }
 
     fn frequency<'a>(self, tables: &'a Tables, row: usize) -> Result<Frequency<'a>, FeedFault>
-        requires trip_id { self.trip_id ≡ column_of (records_in tables.now file.Frequencies) (codes "trip_id") }
-        requires start_time { self.start_time ≡ column_of (records_in tables.now file.Frequencies) (codes "start_time") }
-        requires end_time { self.end_time ≡ column_of (records_in tables.now file.Frequencies) (codes "end_time") }
-        requires headway_secs { self.headway_secs ≡ column_of (records_in tables.now file.Frequencies) (codes "headway_secs") }
-        requires exact_times { self.exact_times ≡ column_of (records_in tables.now file.Frequencies) (codes "exact_times") }
-        ensures { IfOk result (λ period. trip_period period ≡ trip_period_in tables.now row) }
+        requires trip_id { self.trip_id ≡ column_in tables.now file.Frequencies "trip_id" }
+        requires start_time { self.start_time ≡ column_in tables.now file.Frequencies "start_time" }
+        requires end_time { self.end_time ≡ column_in tables.now file.Frequencies "end_time" }
+        requires headway_secs { self.headway_secs ≡ column_in tables.now file.Frequencies "headway_secs" }
+        requires exact_times { self.exact_times ≡ column_in tables.now file.Frequencies "exact_times" }
+        ensures content { IfOk result (λ period. trip_period period ≡ trip_period_in tables.now row) }
+        ensures period { IfOk result IsPeriod }
     {
         let frequency = Frequency {
             trip_id: id(text_at(tables, File::Frequencies, row, self.trip_id))?,

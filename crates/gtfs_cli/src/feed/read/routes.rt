@@ -1,7 +1,7 @@
-ghost use Rattle.std.specs.Prelude.{◌≡◌, IfOk, codes, map};
-ghost use Rattle.gtfs_table.specs.Tables.{column_of};
+ghost use Rattle.std.specs.Prelude.{◌≡◌, IfOk, map};
 ghost use Rattle.gtfs_table.specs.declared.file.File.TheVariants as file;
-ghost use Rattle.gtfs_cli.specs.Values.{records_in, rows};
+ghost use Rattle.gtfs_cli.specs.Values.{rows};
+ghost use Rattle.gtfs_cli.specs.ReadRows.{column_in};
 ghost use Rattle.gtfs_cli.specs.Reading.{route_in};
 ghost use Rattle.gtfs_cli.specs.FeedView.{route_row};
 
@@ -40,9 +40,9 @@ pub fn read_routes<'a>(alloc: Global, tables: &'a Tables) -> Result<Vec<Route<'a
 
 impl RouteColumns {
     fn of(tables: &Tables) -> RouteColumns
-        ensures route_id { result.route_id ≡ column_of (records_in tables.now file.Routes) (codes "route_id") }
-        ensures route_short_name { result.route_short_name ≡ column_of (records_in tables.now file.Routes) (codes "route_short_name") }
-        ensures route_long_name { result.route_long_name ≡ column_of (records_in tables.now file.Routes) (codes "route_long_name") }
+        ensures route_id { result.route_id ≡ column_in tables.now file.Routes "route_id" }
+        ensures route_short_name { result.route_short_name ≡ column_in tables.now file.Routes "route_short_name" }
+        ensures route_long_name { result.route_long_name ≡ column_in tables.now file.Routes "route_long_name" }
     {
         RouteColumns {
             route_id: tables.column(File::Routes, "route_id"),
@@ -52,9 +52,9 @@ impl RouteColumns {
     }
 
     fn route<'a>(self, tables: &'a Tables, row: usize) -> Result<Route<'a>, FeedFault>
-        requires route_id { self.route_id ≡ column_of (records_in tables.now file.Routes) (codes "route_id") }
-        requires route_short_name { self.route_short_name ≡ column_of (records_in tables.now file.Routes) (codes "route_short_name") }
-        requires route_long_name { self.route_long_name ≡ column_of (records_in tables.now file.Routes) (codes "route_long_name") }
+        requires route_id { self.route_id ≡ column_in tables.now file.Routes "route_id" }
+        requires route_short_name { self.route_short_name ≡ column_in tables.now file.Routes "route_short_name" }
+        requires route_long_name { self.route_long_name ≡ column_in tables.now file.Routes "route_long_name" }
         ensures { IfOk result (λ route. route_row route ≡ route_in tables.now row) }
     {
         Ok(Route {

@@ -1,8 +1,7 @@
-ghost use Rattle.std.specs.Prelude.{◌≡◌, IfOk, codes, map};
-ghost use Rattle.gtfs_table.specs.Tables.{column_of};
+ghost use Rattle.std.specs.Prelude.{◌≡◌, All, IfOk, map};
 ghost use Rattle.gtfs_table.specs.declared.file.File.TheVariants as file;
-ghost use Rattle.gtfs_cli.specs.Values.{records_in, rows};
-ghost use Rattle.gtfs_cli.specs.ReadRows.{trip_stop_time, trip_stop_time_in};
+ghost use Rattle.gtfs_cli.specs.Values.{rows};
+ghost use Rattle.gtfs_cli.specs.ReadRows.{HasTimes, column_in, trip_stop_time, trip_stop_time_in};
 
 use crate::feed::fault::FeedFault;
 use crate::feed::read::choice::pickup_type;
@@ -34,7 +33,8 @@ pub fn read_stop_times<'a>(
     alloc: Global,
     tables: &'a Tables,
 ) -> Result<Vec<StopTime<'a>>, FeedFault>
-    ensures { IfOk result (λ times. map trip_stop_time times.items ≡ map (trip_stop_time_in tables.now) (rows tables.now file.StopTimes)) }
+    ensures content { IfOk result (λ times. map trip_stop_time times.items ≡ map (trip_stop_time_in tables.now) (rows tables.now file.StopTimes)) }
+    ensures times { IfOk result (λ times. All HasTimes times.items) }
 {
     let columns = StopTimeColumns::of(tables);
     let mut stop_times = Vec::new(alloc);
@@ -49,13 +49,13 @@ pub fn read_stop_times<'a>(
 
 impl StopTimeColumns {
     fn of(tables: &Tables) -> StopTimeColumns
-        ensures trip_id { result.trip_id ≡ column_of (records_in tables.now file.StopTimes) (codes "trip_id") }
-        ensures arrival_time { result.arrival_time ≡ column_of (records_in tables.now file.StopTimes) (codes "arrival_time") }
-        ensures departure_time { result.departure_time ≡ column_of (records_in tables.now file.StopTimes) (codes "departure_time") }
-        ensures stop_id { result.stop_id ≡ column_of (records_in tables.now file.StopTimes) (codes "stop_id") }
-        ensures stop_sequence { result.stop_sequence ≡ column_of (records_in tables.now file.StopTimes) (codes "stop_sequence") }
-        ensures stop_headsign { result.stop_headsign ≡ column_of (records_in tables.now file.StopTimes) (codes "stop_headsign") }
-        ensures pickup_type { result.pickup_type ≡ column_of (records_in tables.now file.StopTimes) (codes "pickup_type") }
+        ensures trip_id { result.trip_id ≡ column_in tables.now file.StopTimes "trip_id" }
+        ensures arrival_time { result.arrival_time ≡ column_in tables.now file.StopTimes "arrival_time" }
+        ensures departure_time { result.departure_time ≡ column_in tables.now file.StopTimes "departure_time" }
+        ensures stop_id { result.stop_id ≡ column_in tables.now file.StopTimes "stop_id" }
+        ensures stop_sequence { result.stop_sequence ≡ column_in tables.now file.StopTimes "stop_sequence" }
+        ensures stop_headsign { result.stop_headsign ≡ column_in tables.now file.StopTimes "stop_headsign" }
+        ensures pickup_type { result.pickup_type ≡ column_in tables.now file.StopTimes "pickup_type" }
     {
         StopTimeColumns {
             trip_id: tables.column(File::StopTimes, "trip_id"),
@@ -69,14 +69,15 @@ impl StopTimeColumns {
     }
 
     fn stop_time<'a>(self, tables: &'a Tables, row: usize) -> Result<StopTime<'a>, FeedFault>
-        requires trip_id { self.trip_id ≡ column_of (records_in tables.now file.StopTimes) (codes "trip_id") }
-        requires arrival_time { self.arrival_time ≡ column_of (records_in tables.now file.StopTimes) (codes "arrival_time") }
-        requires departure_time { self.departure_time ≡ column_of (records_in tables.now file.StopTimes) (codes "departure_time") }
-        requires stop_id { self.stop_id ≡ column_of (records_in tables.now file.StopTimes) (codes "stop_id") }
-        requires stop_sequence { self.stop_sequence ≡ column_of (records_in tables.now file.StopTimes) (codes "stop_sequence") }
-        requires stop_headsign { self.stop_headsign ≡ column_of (records_in tables.now file.StopTimes) (codes "stop_headsign") }
-        requires pickup_type { self.pickup_type ≡ column_of (records_in tables.now file.StopTimes) (codes "pickup_type") }
-        ensures { IfOk result (λ stop_time. trip_stop_time stop_time ≡ trip_stop_time_in tables.now row) }
+        requires trip_id { self.trip_id ≡ column_in tables.now file.StopTimes "trip_id" }
+        requires arrival_time { self.arrival_time ≡ column_in tables.now file.StopTimes "arrival_time" }
+        requires departure_time { self.departure_time ≡ column_in tables.now file.StopTimes "departure_time" }
+        requires stop_id { self.stop_id ≡ column_in tables.now file.StopTimes "stop_id" }
+        requires stop_sequence { self.stop_sequence ≡ column_in tables.now file.StopTimes "stop_sequence" }
+        requires stop_headsign { self.stop_headsign ≡ column_in tables.now file.StopTimes "stop_headsign" }
+        requires pickup_type { self.pickup_type ≡ column_in tables.now file.StopTimes "pickup_type" }
+        ensures content { IfOk result (λ stop_time. trip_stop_time stop_time ≡ trip_stop_time_in tables.now row) }
+        ensures times { IfOk result HasTimes }
     {
         Ok(StopTime {
             trip_id: id(text_at(tables, File::StopTimes, row, self.trip_id))?,

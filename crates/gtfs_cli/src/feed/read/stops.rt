@@ -1,7 +1,7 @@
-ghost use Rattle.std.specs.Prelude.{◌≡◌, IfOk, codes, map};
-ghost use Rattle.gtfs_table.specs.Tables.{column_of};
+ghost use Rattle.std.specs.Prelude.{◌≡◌, IfOk, map};
 ghost use Rattle.gtfs_table.specs.declared.file.File.TheVariants as file;
-ghost use Rattle.gtfs_cli.specs.Values.{records_in, rows};
+ghost use Rattle.gtfs_cli.specs.Values.{rows};
+ghost use Rattle.gtfs_cli.specs.ReadRows.{column_in};
 ghost use Rattle.gtfs_cli.specs.Reading.{stop_in};
 ghost use Rattle.gtfs_cli.specs.FeedView.{stop_row};
 
@@ -43,9 +43,9 @@ pub fn read_stops<'a>(alloc: Global, tables: &'a Tables) -> Result<Vec<Stop<'a>>
 
 impl StopColumns {
     fn of(tables: &Tables) -> StopColumns
-        ensures stop_id { result.stop_id ≡ column_of (records_in tables.now file.Stops) (codes "stop_id") }
-        ensures location_type { result.location_type ≡ column_of (records_in tables.now file.Stops) (codes "location_type") }
-        ensures parent_station { result.parent_station ≡ column_of (records_in tables.now file.Stops) (codes "parent_station") }
+        ensures stop_id { result.stop_id ≡ column_in tables.now file.Stops "stop_id" }
+        ensures location_type { result.location_type ≡ column_in tables.now file.Stops "location_type" }
+        ensures parent_station { result.parent_station ≡ column_in tables.now file.Stops "parent_station" }
     {
         StopColumns {
             stop_id: tables.column(File::Stops, "stop_id"),
@@ -55,9 +55,9 @@ impl StopColumns {
     }
 
     fn stop<'a>(self, tables: &'a Tables, row: usize) -> Result<Stop<'a>, FeedFault>
-        requires stop_id { self.stop_id ≡ column_of (records_in tables.now file.Stops) (codes "stop_id") }
-        requires location_type { self.location_type ≡ column_of (records_in tables.now file.Stops) (codes "location_type") }
-        requires parent_station { self.parent_station ≡ column_of (records_in tables.now file.Stops) (codes "parent_station") }
+        requires stop_id { self.stop_id ≡ column_in tables.now file.Stops "stop_id" }
+        requires location_type { self.location_type ≡ column_in tables.now file.Stops "location_type" }
+        requires parent_station { self.parent_station ≡ column_in tables.now file.Stops "parent_station" }
         ensures { IfOk result (λ stop. stop_row stop ≡ stop_in tables.now row) }
     {
         Ok(Stop {

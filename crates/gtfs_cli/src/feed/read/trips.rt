@@ -1,8 +1,7 @@
-ghost use Rattle.std.specs.Prelude.{◌≡◌, IfOk, codes, map};
-ghost use Rattle.gtfs_table.specs.Tables.{column_of};
+ghost use Rattle.std.specs.Prelude.{◌≡◌, IfOk, map};
 ghost use Rattle.gtfs_table.specs.declared.file.File.TheVariants as file;
-ghost use Rattle.gtfs_cli.specs.Values.{records_in, rows};
-ghost use Rattle.gtfs_cli.specs.ReadRows.{trip_texts, trip_texts_in};
+ghost use Rattle.gtfs_cli.specs.Values.{rows};
+ghost use Rattle.gtfs_cli.specs.ReadRows.{column_in, trip_texts, trip_texts_in};
 
 use crate::feed::fault::FeedFault;
 use crate::feed::read::record::{is_row, text_at};
@@ -41,10 +40,10 @@ pub fn read_trips<'a>(alloc: Global, tables: &'a Tables) -> Result<Vec<Trip<'a>>
 
 impl TripColumns {
     fn of(tables: &Tables) -> TripColumns
-        ensures trip_id { result.trip_id ≡ column_of (records_in tables.now file.Trips) (codes "trip_id") }
-        ensures route_id { result.route_id ≡ column_of (records_in tables.now file.Trips) (codes "route_id") }
-        ensures service_id { result.service_id ≡ column_of (records_in tables.now file.Trips) (codes "service_id") }
-        ensures trip_headsign { result.trip_headsign ≡ column_of (records_in tables.now file.Trips) (codes "trip_headsign") }
+        ensures trip_id { result.trip_id ≡ column_in tables.now file.Trips "trip_id" }
+        ensures route_id { result.route_id ≡ column_in tables.now file.Trips "route_id" }
+        ensures service_id { result.service_id ≡ column_in tables.now file.Trips "service_id" }
+        ensures trip_headsign { result.trip_headsign ≡ column_in tables.now file.Trips "trip_headsign" }
     {
         TripColumns {
             trip_id: tables.column(File::Trips, "trip_id"),
@@ -55,10 +54,10 @@ impl TripColumns {
     }
 
     fn trip<'a>(self, tables: &'a Tables, row: usize) -> Result<Trip<'a>, FeedFault>
-        requires trip_id { self.trip_id ≡ column_of (records_in tables.now file.Trips) (codes "trip_id") }
-        requires route_id { self.route_id ≡ column_of (records_in tables.now file.Trips) (codes "route_id") }
-        requires service_id { self.service_id ≡ column_of (records_in tables.now file.Trips) (codes "service_id") }
-        requires trip_headsign { self.trip_headsign ≡ column_of (records_in tables.now file.Trips) (codes "trip_headsign") }
+        requires trip_id { self.trip_id ≡ column_in tables.now file.Trips "trip_id" }
+        requires route_id { self.route_id ≡ column_in tables.now file.Trips "route_id" }
+        requires service_id { self.service_id ≡ column_in tables.now file.Trips "service_id" }
+        requires trip_headsign { self.trip_headsign ≡ column_in tables.now file.Trips "trip_headsign" }
         ensures { IfOk result (λ trip. trip_texts trip ≡ trip_texts_in tables.now row) }
     {
         Ok(Trip {

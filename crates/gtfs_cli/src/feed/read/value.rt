@@ -1,7 +1,7 @@
-ghost use Rattle.std.specs.Prelude.{◌≡◌, IfOk, Ok, pos, unwrap_or};
+ghost use Rattle.std.specs.Prelude.{◌≡◌, ◌<◌, IfOk, Ok, pos, unwrap_or};
 ghost use Rattle.std.specs.Result.{result_ok};
 ghost use Rattle.gtfs_field.specs.Kinds.{count_of, date_of, time_of};
-ghost use Rattle.gtfs_cli.specs.ReadRows.{IsDay};
+ghost use Rattle.gtfs_cli.specs.ReadRows.{IsDay, IsTime, IsTimeIfAny};
 
 use crate::feed::fault::FeedFault;
 use gtfs_field::{read_count, read_date, read_time};
@@ -11,7 +11,8 @@ use gtfs_field::{read_count, read_date, read_time};
 /// # Errors
 /// `Unreadable` where the text is not empty and no time.
 pub(crate) fn optional_time(text: &str) -> Result<Option<u32>, FeedFault>
-    ensures { IfOk result (λ time. time ≡ result_ok (time_of text.now)) }
+    ensures value { IfOk result (λ time. time ≡ result_ok (time_of text.now)) }
+    ensures bound { IfOk result IsTimeIfAny }
 {
     if text.is_empty() {
         return Ok(None);
@@ -24,7 +25,8 @@ pub(crate) fn optional_time(text: &str) -> Result<Option<u32>, FeedFault>
 /// # Errors
 /// `Unreadable` for every text that is no time, the empty one too.
 pub(crate) fn time(text: &str) -> Result<u32, FeedFault>
-    ensures { IfOk result (λ time. time_of text.now ≡ Ok time) }
+    ensures value { IfOk result (λ time. time_of text.now ≡ Ok time) }
+    ensures bound { IfOk result IsTime }
 {
     match read_time(text) {
         Ok(time) => Ok(time.seconds()),
@@ -77,7 +79,8 @@ pub(crate) fn optional_count(text: &str) -> Result<u32, FeedFault>
 /// # Errors
 /// `Unreadable` for every text that is no count, the empty one too, and for 0.
 pub(crate) fn positive_count(text: &str) -> Result<u32, FeedFault>
-    ensures { IfOk result (λ n. n ≡ unwrap_or (result_ok (count_of text.now)) 0) }
+    ensures positive { IfOk result (λ n. 0 < n) }
+    ensures value { IfOk result (λ n. n ≡ unwrap_or (result_ok (count_of text.now)) 0) }
 {
     match count(text)? {
         0 => Err(FeedFault::Unreadable),

@@ -1,10 +1,10 @@
-ghost use Rattle.std.specs.Prelude.{◌≡◌, ◌==◌, ◌∷◌, [], All, IfOk, codes, map, unwrap_or};
+ghost use Rattle.std.specs.Prelude.{◌≡◌, ◌==◌, ◌∷◌, [], All, IfOk, map, unwrap_or};
 ghost use Rattle.std.specs.Result.{result_ok};
 ghost use Rattle.gtfs_field.specs.Kinds.{count_of};
-ghost use Rattle.gtfs_table.specs.Tables.{column_of, field_under, record_at};
+ghost use Rattle.gtfs_table.specs.Tables.{field_under, record_at};
 ghost use Rattle.gtfs_table.specs.declared.file.File.TheVariants as file;
 ghost use Rattle.gtfs_cli.specs.Values.{records_in, rows};
-ghost use Rattle.gtfs_cli.specs.ReadRows.{IsOrdered, service_week, service_week_in};
+ghost use Rattle.gtfs_cli.specs.ReadRows.{IsOrdered, column_in, service_week, service_week_in};
 
 use crate::feed::fault::FeedFault;
 use crate::feed::read::calendar::CalendarWeek;
@@ -46,10 +46,10 @@ pub fn read_weeks<'a>(alloc: Global, tables: &'a Tables) -> Result<Vec<CalendarW
 
 impl WeekColumns {
     fn of(tables: &Tables) -> WeekColumns
-        ensures service_id { result.service_id ≡ column_of (records_in tables.now file.Calendar) (codes "service_id") }
-        ensures days { result.days ≡ column_of (records_in tables.now file.Calendar) (codes "monday") ∷ column_of (records_in tables.now file.Calendar) (codes "tuesday") ∷ column_of (records_in tables.now file.Calendar) (codes "wednesday") ∷ column_of (records_in tables.now file.Calendar) (codes "thursday") ∷ column_of (records_in tables.now file.Calendar) (codes "friday") ∷ column_of (records_in tables.now file.Calendar) (codes "saturday") ∷ column_of (records_in tables.now file.Calendar) (codes "sunday") ∷ [] }
-        ensures start_date { result.start_date ≡ column_of (records_in tables.now file.Calendar) (codes "start_date") }
-        ensures end_date { result.end_date ≡ column_of (records_in tables.now file.Calendar) (codes "end_date") }
+        ensures service_id { result.service_id ≡ column_in tables.now file.Calendar "service_id" }
+        ensures days { result.days ≡ column_in tables.now file.Calendar "monday" ∷ column_in tables.now file.Calendar "tuesday" ∷ column_in tables.now file.Calendar "wednesday" ∷ column_in tables.now file.Calendar "thursday" ∷ column_in tables.now file.Calendar "friday" ∷ column_in tables.now file.Calendar "saturday" ∷ column_in tables.now file.Calendar "sunday" ∷ [] }
+        ensures start_date { result.start_date ≡ column_in tables.now file.Calendar "start_date" }
+        ensures end_date { result.end_date ≡ column_in tables.now file.Calendar "end_date" }
     {
         WeekColumns {
             service_id: tables.column(File::Calendar, "service_id"),
@@ -68,10 +68,10 @@ impl WeekColumns {
     }
 
     fn week<'a>(self, tables: &'a Tables, row: usize) -> Result<CalendarWeek<'a>, FeedFault>
-        requires service_id { self.service_id ≡ column_of (records_in tables.now file.Calendar) (codes "service_id") }
-        requires days { self.days ≡ column_of (records_in tables.now file.Calendar) (codes "monday") ∷ column_of (records_in tables.now file.Calendar) (codes "tuesday") ∷ column_of (records_in tables.now file.Calendar) (codes "wednesday") ∷ column_of (records_in tables.now file.Calendar) (codes "thursday") ∷ column_of (records_in tables.now file.Calendar) (codes "friday") ∷ column_of (records_in tables.now file.Calendar) (codes "saturday") ∷ column_of (records_in tables.now file.Calendar) (codes "sunday") ∷ [] }
-        requires start_date { self.start_date ≡ column_of (records_in tables.now file.Calendar) (codes "start_date") }
-        requires end_date { self.end_date ≡ column_of (records_in tables.now file.Calendar) (codes "end_date") }
+        requires service_id { self.service_id ≡ column_in tables.now file.Calendar "service_id" }
+        requires days { self.days ≡ column_in tables.now file.Calendar "monday" ∷ column_in tables.now file.Calendar "tuesday" ∷ column_in tables.now file.Calendar "wednesday" ∷ column_in tables.now file.Calendar "thursday" ∷ column_in tables.now file.Calendar "friday" ∷ column_in tables.now file.Calendar "saturday" ∷ column_in tables.now file.Calendar "sunday" ∷ [] }
+        requires start_date { self.start_date ≡ column_in tables.now file.Calendar "start_date" }
+        requires end_date { self.end_date ≡ column_in tables.now file.Calendar "end_date" }
         ensures content { IfOk result (λ week. service_week week ≡ service_week_in tables.now row) }
         ensures ordered { IfOk result IsOrdered }
     {
