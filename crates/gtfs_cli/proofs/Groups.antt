@@ -34,7 +34,7 @@ kept p (x ∷ xs) zero pass rest =
 kept p (x ∷ xs) (suc j) pass rest =
     let here : p x ≡ true = pass 0 x (omega arith) (omega arith) in
     subst (λ b. x ∷ take j xs ≡ cond b (x ∷ filter p xs) (filter p xs)) (sym here)
-        (ap (λ ys. x ∷ ys) (kept p xs j (λ k d a b. pass (suc k) d (omega arith) (omega arith)) (λ k d a b. rest (suc k) d (omega arith) (omega arith))))
+    (ap (λ ys. x ∷ ys) (kept p xs j (λ k d a b. pass (suc k) d (omega arith) (omega arith)) (λ k d a b. rest (suc k) d (omega arith) (omega arith))))
 
 pairs-drop : {X : Type 0} (R : X → X → Type 0) (xs : List X) (i : ℕ) → AllPairs R xs → AllPairs R (drop i xs)
 pairs-drop R xs zero up = up
@@ -125,8 +125,8 @@ module _ {X : Type 0} (group : X → List ℕ) (order : X → X → Ordering) wh
       let ties : (x : X) → is_eq (text_cmp (group x) g) ≡ p x = λ x. is_eq-slice_cmp (group x) g in
       let above : All (λ x. is_lt (text_cmp (group x) g) ≡ false) (drop i xs) = drop-within (λ x. is_lt (text_cmp (group x) g) ≡ false) xs i first.1 in
       kept p (drop i xs) j
-          (λ k d a b. sym (ties _) ∙ tied _ (above k d (omega arith)) (second.0 k d a b))
-          (λ k d a b. sym (ties _) ∙ above_not_tied _ (second.1 k d a b))
+      (λ k d a b. sym (ties _) ∙ tied _ (above k d (omega arith)) (second.0 k d a b))
+      (λ k d a b. sym (ties _) ∙ above_not_tied _ (second.1 k d a b))
       ∙ sym (skipped p xs i (λ k d a b. sym (ties _) ∙ below_not_tied _ (first.0 k d a b)))
 
   -- and they ascend by the other order

@@ -118,7 +118,7 @@ module _ (d : Dataset) (weeks ws : List CalendarWeek) (dates ds : List CalendarD
       let first = names_alike (λ w. w.service_id.now) week_of (λ n. text_at d file.Calendar n "service_id") (week_in d) weeks (rows d file.Calendar) c.weeks_read in
       let second = names_alike (λ e. e.service_id.now) exception_row (λ n. text_at d file.CalendarDates n "service_id") (exception_in d) dates (rows d file.CalendarDates) c.dates_read in
       subst (λ (ns : List (List ℕ)). SameElements ns (names_of ws ds)) (λ i. first i ++ second i)
-          (same-append _ _ _ _ (same-map (λ w. w.service_id.now) weeks ws c.weeks_moved) (same-map (λ e. e.service_id.now) dates ds c.dates_moved))
+      (same-append _ _ _ _ (same-map (λ w. w.service_id.now) weeks ws c.weeks_moved) (same-map (λ e. e.service_id.now) dates ds c.dates_moved))
 
   pub services_made : (services : List Held) → map service_row services ≡ map (service_of ws ds) (map (λ s. s.service_id.now) services) → Ascends service_cmp services
       → ((x : List ℕ) → list_any (bytes_eq x) (map (λ s. s.service_id.now) services) ≡ list_any (bytes_eq x) (names_of ws ds))

@@ -8,7 +8,10 @@ impl<'a> Feed<'a> {
     /// overlap.
     pub(super) fn fits_together(&self) -> bool {
         self.stops.iter().all(|stop| self.has_parent(stop))
-            && self.stop_times.iter().all(|time| self.has_stop(time.stop_id))
+            && self
+                .stop_times
+                .iter()
+                .all(|time| self.has_stop(time.stop_id))
             && self.trips_are_whole()
             && self.trips_are_there()
     }
@@ -45,7 +48,9 @@ impl<'a> Feed<'a> {
 
     // Whether each stop time and each period is one of a trip.
     fn trips_are_there(&self) -> bool {
-        self.stop_times.iter().all(|time| self.has_trip(time.trip_id))
+        self.stop_times
+            .iter()
+            .all(|time| self.has_trip(time.trip_id))
             && self
                 .frequencies
                 .iter()

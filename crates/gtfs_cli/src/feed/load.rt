@@ -75,10 +75,7 @@ fn load_routes<'a>(alloc: Global, tables: &'a Tables) -> Result<Vec<Route<'a>>, 
 }
 
 // The services of calendar.txt and calendar_dates.txt by id.
-fn load_services<'a>(
-    alloc: Global,
-    tables: &'a Tables,
-) -> Result<Vec<ServiceRow<'a>>, FeedFault>
+fn load_services<'a>(alloc: Global, tables: &'a Tables) -> Result<Vec<ServiceRow<'a>>, FeedFault>
     ensures rows { IfOk result (λ v. map service_row v.items
         ≡ by_key text_cmp (λ s. s.service_id) (map (service_in tables.now) (services_named tables.now))) }
     ensures ascends { IfOk result (λ v. Ascends service_cmp v.items) }

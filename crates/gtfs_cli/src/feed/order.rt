@@ -68,7 +68,9 @@ fn trip_order(a: &Trip, b: &Trip) -> Ordering
 }
 
 /// The rows of stop_times.txt by trip and sequence.
-pub(super) fn by_trip_and_sequence<'a>(mut times: Vec<StopTime<'a>>) -> Result<Vec<StopTime<'a>>, FeedFault>
+pub(super) fn by_trip_and_sequence<'a>(
+    mut times: Vec<StopTime<'a>>,
+) -> Result<Vec<StopTime<'a>>, FeedFault>
     ensures rows { IfOk result (λ v. IsPermutation times.entry.items v.items) }
     ensures ascends { IfOk result (λ v. Ascends stop_time_cmp v.items) }
 {
@@ -89,7 +91,9 @@ fn stop_time_order(a: &StopTime, b: &StopTime) -> Ordering
 }
 
 /// The rows of frequencies.txt by trip and start.
-pub(super) fn by_trip_and_start<'a>(mut periods: Vec<Frequency<'a>>) -> Result<Vec<Frequency<'a>>, FeedFault>
+pub(super) fn by_trip_and_start<'a>(
+    mut periods: Vec<Frequency<'a>>,
+) -> Result<Vec<Frequency<'a>>, FeedFault>
     ensures rows { IfOk result (λ v. IsPermutation periods.entry.items v.items) }
     ensures ascends { IfOk result (λ v. Ascends frequency_cmp v.items) }
 {
@@ -110,7 +114,9 @@ fn frequency_order(a: &Frequency, b: &Frequency) -> Ordering
 }
 
 /// The rows of calendar.txt by service.
-pub(super) fn by_service<'a>(mut weeks: Vec<CalendarWeek<'a>>) -> Result<Vec<CalendarWeek<'a>>, FeedFault>
+pub(super) fn by_service<'a>(
+    mut weeks: Vec<CalendarWeek<'a>>,
+) -> Result<Vec<CalendarWeek<'a>>, FeedFault>
     ensures rows { IfOk result (λ v. IsPermutation weeks.entry.items v.items) }
     ensures ascends { IfOk result (λ v. Ascends week_cmp v.items) }
 {
@@ -129,7 +135,9 @@ fn week_order(a: &CalendarWeek, b: &CalendarWeek) -> Ordering
 }
 
 /// The rows of calendar_dates.txt by service and day.
-pub(super) fn by_service_and_day<'a>(mut dates: Vec<CalendarDate<'a>>) -> Result<Vec<CalendarDate<'a>>, FeedFault>
+pub(super) fn by_service_and_day<'a>(
+    mut dates: Vec<CalendarDate<'a>>,
+) -> Result<Vec<CalendarDate<'a>>, FeedFault>
     ensures rows { IfOk result (λ v. IsPermutation dates.entry.items v.items) }
     ensures ascends { IfOk result (λ v. Ascends date_cmp v.items) }
 {
@@ -144,7 +152,5 @@ pub(super) fn by_service_and_day<'a>(mut dates: Vec<CalendarDate<'a>>) -> Result
 fn date_order(a: &CalendarDate, b: &CalendarDate) -> Ordering
     ensures { result ≡ date_cmp a.now b.now }
 {
-    a.service_id
-        .cmp(b.service_id)
-        .then(a.day.cmp(&b.day))
+    a.service_id.cmp(b.service_id).then(a.day.cmp(&b.day))
 }
