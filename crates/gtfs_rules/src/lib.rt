@@ -1,0 +1,6 @@
+//! The validator of a GTFS Schedule dataset.
+#![tactic(auto)]
+
+mod code;
+
+pub use code::Code;
