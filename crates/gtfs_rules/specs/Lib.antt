@@ -1,1 +1,17 @@
+pub mod Calendars
 pub mod Codes
+pub mod ColumnRules
+pub mod Columns
+pub mod FieldRules
+pub mod FileRules
+pub mod KeyRules
+pub mod PeriodRules
+pub mod PresenceRules
+pub mod Problems
+pub mod References
+pub mod Report
+pub mod Rows
+pub mod ServiceRules
+pub mod StopRules
+pub mod TripRules
+pub mod Values

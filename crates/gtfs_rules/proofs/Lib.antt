@@ -1,0 +1,4 @@
+mod WorkedCases
+mod WorkedCodes
+pub mod WorkedFeeds
+mod WorkedProblems
