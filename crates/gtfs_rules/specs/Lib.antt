@@ -7,6 +7,7 @@ pub mod FileRules
 pub mod KeyRules
 pub mod PeriodRules
 pub mod PresenceRules
+pub mod ProblemOrder
 pub mod Problems
 pub mod References
 pub mod Report
@@ -15,3 +16,4 @@ pub mod ServiceRules
 pub mod StopRules
 pub mod TripRules
 pub mod Values
+pub mod View

@@ -2,5 +2,9 @@
 #![tactic(auto)]
 
 mod code;
+mod file_name;
+mod problem;
 
 pub use code::Code;
+pub use file_name::FileName;
+pub use problem::Problem;
