@@ -1,3 +1,4 @@
+pub mod ReportLaws
 mod WorkedCases
 mod WorkedCodes
 pub mod WorkedFeeds

@@ -3,7 +3,6 @@ use Rattle.std.proofs.Common.{◌≡◌, ◌∷◌, [], codes, refl}
 use Rattle.std.specs.Fmt.{digits}
 use Rattle.jiff_core.specs.Calendar.{days_from_civil, day_count, days_of_years, days_of_months, weekday_number}
 use Rattle.gtfs_table.specs.Blanks.{without_first_blanks}
-use Rattle.gtfs_table.specs.Tables.{absent}
 use Rattle.gtfs_table.specs.declared.state.State.TheVariants as state
 use Rattle.gtfs_rules.proofs.WorkedFeeds.{file, small_feed, calendar_header, told, lines}
 

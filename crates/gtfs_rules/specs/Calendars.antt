@@ -40,8 +40,10 @@ week_in d n = record {
 
 -- a row of calendar_dates.txt: type 1 adds its day, type 2 removes it
 abbrev pub exception_in : Dataset → ℕ → ℤ × Exception
-exception_in d n = (number_in d file.CalendarDates n "date",
-    if int_eq (number_in d file.CalendarDates n "exception_type") (pos 1) then Added else Removed)
+exception_in d n = (
+  number_in d file.CalendarDates n "date",
+  if int_eq (number_in d file.CalendarDates n "exception_type") (pos 1) then Added else Removed,
+)
 
 -- the service of an id: its first calendar row, and its exceptions in the order of their rows
 abbrev pub service_in : Dataset → List ℕ → ServiceDates

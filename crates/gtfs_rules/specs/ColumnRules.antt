@@ -1,6 +1,6 @@
 -- Problems of headers: E03, E04 and W04.
 -- GTFS Schedule Reference, "File Requirements" (the first line names the fields) and "Presence".
-use Rattle.std.specs.Prelude.{ℕ, ◌==◌, ◌&&◌, not, Bool, true, false, nat_lt, List}
+use Rattle.std.specs.Prelude.{◌==◌, ◌&&◌, not, Bool, true, false, nat_lt}
 use Rattle.gtfs_rules.specs.Columns.{Empty, refused, nothing, means, Column, column_named}
 use Rattle.gtfs_rules.specs.Values.{is_empty, if_there}
 use Rattle.gtfs_rules.specs.Rows.{has_no_record, times_named, is_named, is_kept_column, Condition}

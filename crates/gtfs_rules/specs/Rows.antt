@@ -1,14 +1,14 @@
 -- What the rules read of a dataset: the rows of its files, and the values of columns where they are readable.
 -- GTFS Schedule Reference, "Dataset Files" and "File Requirements". Row 1 is the header of a file.
-use Rattle.std.specs.Prelude.{ℕ, ◌-◌, ◌==◌, ◌&&◌, not, Bool, nat_lt, nat_le, List, length, map, filter, bytes_eq, count_by, find, codes, Option, Some, None, is_some, option_and_then, ℤ}
+use Rattle.std.specs.Prelude.{ℕ, ◌-◌, ◌==◌, ◌&&◌, not, Bool, nat_lt, nat_le, List, length, map, filter, bytes_eq, count_by, find, codes, Option, is_some, option_and_then, ℤ}
 use Rattle.std.specs.List.{list_any, range_with_len}
 use Prim.Native.String.{String as Literal}
 use Rattle.gtfs_table.specs.Blanks.{cut}
 use Rattle.gtfs_table.specs.Tables.{Records, Dataset, table_of, record_at, value}
 use Rattle.gtfs_table.specs.declared.file.File.{File}
 use Rattle.gtfs_table.specs.declared.file.File.TheVariants as file
-use Rattle.gtfs_rules.specs.Columns.{Column, column_named}
-use Rattle.gtfs_rules.specs.Values.{Value, readable, meaning, is_empty, as_word, as_amount, if_there}
+use Rattle.gtfs_rules.specs.Columns.{column_named}
+use Rattle.gtfs_rules.specs.Values.{Value, readable, meaning, is_empty, as_word, as_amount}
 
 -- ---- files
 

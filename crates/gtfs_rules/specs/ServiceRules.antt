@@ -1,6 +1,6 @@
 -- Problems of services: E14 and W07.
 -- GTFS Schedule Reference, `start_date` and `end_date` of calendar.txt; calendar.txt and calendar_dates.txt.
-use Rattle.std.specs.Prelude.{ℕ, ◌==◌, ◌&&◌, ◌||◌, not, Bool, List, [], ◌∷◌, codes, is_none, is_some, int_lt, Option}
+use Rattle.std.specs.Prelude.{ℕ, ◌==◌, ◌&&◌, ◌||◌, not, Bool, List, [], ◌∷◌, codes, is_none, is_some, int_lt}
 use Rattle.std.specs.List.{list_any, list_all}
 use Rattle.gtfs_days.specs.Service.{is_active}
 use Rattle.gtfs_table.specs.Tables.{Dataset}

@@ -1,13 +1,13 @@
 -- Values: what the text of a column means by the column's kind.
 -- GTFS Schedule Reference, "Field Types". A text is the list of its bytes.
-use Rattle.std.specs.Prelude.{ℕ, ◌==◌, not, Bool, true, false, if◌then◌else◌, List, length, map, bytes_eq, Option, Some, None, ℤ, pos, Result, Ok, Err}
+use Rattle.std.specs.Prelude.{ℕ, ◌==◌, not, Bool, false, if◌then◌else◌, List, length, map, bytes_eq, Option, Some, None, ℤ, pos, Result, Ok, Err}
 use Rattle.std.specs.List.{list_any}
 use Rattle.std.specs.Result.{result_ok}
 use Rattle.std.specs.Ordering.{int_eq}
 use Rattle.gtfs_field.specs.declared.fault.FieldFault.{FieldFault}
 use Rattle.gtfs_field.specs.Kinds.{shaped, count_of, positive_of, choice_of, time_of, date_of, colour_of, coordinate_of}
 use Rattle.gtfs_table.specs.Blanks.{is_control}
-use Rattle.gtfs_rules.specs.Columns.{Kind, id, text, count, positive, choice, time, date, colour, coordinate, Empty, refused, nothing, means, Column}
+use Rattle.gtfs_rules.specs.Columns.{Kind, id, text, count, positive, choice, time, date, colour, coordinate, Empty, refused, nothing, means}
 
 -- a text, or a number: a count, a choice, seconds, a day's number, bits of a colour, units of a coordinate
 pub data Value : Type 0 where
