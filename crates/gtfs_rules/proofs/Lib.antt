@@ -1,3 +1,4 @@
+pub mod FoundFacts
 pub mod ReportLaws
 mod WorkedCases
 mod WorkedCodes

@@ -3,6 +3,7 @@
 
 mod code;
 mod file_name;
+mod found;
 mod problem;
 
 pub use code::Code;
