@@ -11,9 +11,11 @@ use Rattle.std.specs.declared.cmp.Ordering.{Ordering}
 use Rattle.std.specs.declared.cmp.Ordering.TheVariants.{Less}
 use Rattle.std.proofs.lemmas.Bool.{cases_Bool}
 use Rattle.gtfs_table.specs.Tables.{Dataset}
+use Rattle.gtfs_rules.specs.declared.problem.Problem.{Problem as LentProblem}
 use Rattle.gtfs_rules.specs.Codes.{is_error}
 use Rattle.gtfs_rules.specs.ProblemOrder.{problem_total, problem_anti}
 use Rattle.gtfs_rules.specs.Problems.{Problem, problem_cmp, is_problem, IsReport, Passes, passes}
+use Rattle.gtfs_rules.specs.View.{problem_of}
 
 -- ---- strictly sorted lists with the same members are one list
 
@@ -109,3 +111,19 @@ passes_only_if d ps r all p err = elim (cases_Bool (is_problem d p)) [
 pub passes_if : (d : Dataset) (ps : List Problem) → IsReport d ps → Passes d → passes ps ≡ true
 passes_if d ps r none = all_members problem_cmp problem_total problem_anti (λ q. not (is_error q.code)) ps
     (λ p one. silent (is_error p.code) (is_problem d p) (none p) (sym (r.members p) ∙ one))
+
+-- ---- the same over the problems that the code lends
+
+not_or : (a b : Bool) → (not a && not b) ≡ not (a || b)
+not_or true b = refl
+not_or false b = refl
+
+pub passes_lent : (xs : List LentProblem) → passes (map problem_of xs) ≡ not (list_any (λ p. is_error p.code) xs)
+passes_lent [] = refl
+passes_lent (x ∷ xs) = ap (λ b. not (is_error x.code) && b) (passes_lent xs) ∙ not_or (is_error x.code) (list_any (λ p. is_error p.code) xs)
+
+pub passes_without_error : (d : Dataset) (xs : List LentProblem) → IsReport d (map problem_of xs) → list_any (λ p. is_error p.code) xs ≡ false → Passes d
+passes_without_error d xs r none = passes_only_if d (map problem_of xs) r (passes_lent xs ∙ ap not none)
+
+pub fails_with_error : (d : Dataset) (xs : List LentProblem) → IsReport d (map problem_of xs) → list_any (λ p. is_error p.code) xs ≡ true → ¬ (Passes d)
+fails_with_error d xs r one all = cc (sym (passes_if d (map problem_of xs) r all) ∙ passes_lent xs ∙ ap not one)
