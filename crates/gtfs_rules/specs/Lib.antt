@@ -1,6 +1,7 @@
 pub mod Calendars
 pub mod Codes
 pub mod ColumnRules
+pub mod ColumnView
 pub mod Columns
 pub mod FieldRules
 pub mod FileRules

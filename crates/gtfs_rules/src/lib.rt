@@ -2,6 +2,7 @@
 #![tactic(auto)]
 
 mod code;
+mod columns;
 mod file_name;
 mod found;
 mod passed;
