@@ -4,13 +4,12 @@ use Rattle.gtfs_rules.specs.declared.columns.Empty.{Empty as CodeEmpty}
 use Rattle.gtfs_rules.specs.declared.columns.Empty.TheVariants as when_empty
 use Rattle.gtfs_rules.specs.declared.columns.Kind.{Kind as CodeKind}
 use Rattle.gtfs_rules.specs.declared.columns.Kind.TheVariants as kinds
-use Rattle.gtfs_rules.specs.Columns.{Kind, id, text, count, positive, choice, time, date, colour, coordinate, Empty, refused, nothing, means, Column}
+use Rattle.gtfs_rules.specs.Columns.{Kind, id, text, count, choice, time, date, colour, coordinate, Empty, refused, nothing, means, Column}
 
 abbrev pub kind_of : CodeKind → Kind
 kind_of kinds.Id = id
 kind_of kinds.Text = text
 kind_of kinds.Count = count
-kind_of kinds.Positive = positive
 kind_of (kinds.Choice ranges) = choice ranges.now
 kind_of kinds.Time = time
 kind_of kinds.Date = date

@@ -8,12 +8,11 @@ use Rattle.gtfs_field.specs.declared.coord.Axis.TheVariants.{Latitude, Longitude
 use Rattle.gtfs_table.specs.declared.file.File.{File}
 use Rattle.gtfs_table.specs.declared.file.File.TheVariants as file
 
--- the kind of a column: a choice is given by ranges of numbers, and `positive` is a count that is not 0
+-- the kind of a column; a choice is given by ranges of numbers
 pub data Kind : Type 0 where
   id : Kind
   text : Kind
   count : Kind
-  positive : Kind
   choice : List (ℕ × ℕ) → Kind
   time : Kind
   date : Kind
@@ -42,6 +41,10 @@ optional name kind = record { name = codes name; kind = kind; empty = nothing }
 -- a column whose empty value has a meaning
 abbrev pub defaulting : Literal → Kind → Literal → Column
 defaulting name kind meaning = record { name = codes name; kind = kind; empty = means (codes meaning) }
+
+-- a count that is not 0
+abbrev pub positive : Kind
+positive = choice ((1, 2_147_483_647) ∷ [])
 
 -- the numbers from 0 to n
 abbrev pub up_to : ℕ → Kind

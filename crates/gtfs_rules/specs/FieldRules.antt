@@ -5,7 +5,7 @@ use Rattle.gtfs_field.specs.declared.fault.FieldFault.{FieldFault}
 use Rattle.gtfs_field.specs.declared.fault.FieldFault.TheVariants.{Form, Range}
 use Rattle.gtfs_table.specs.Tables.{Dataset, record_at}
 use Rattle.gtfs_table.specs.declared.file.File.{File}
-use Rattle.gtfs_rules.specs.Columns.{Kind, id, text, count, positive, choice, time, date, colour, coordinate, Column, column_named}
+use Rattle.gtfs_rules.specs.Columns.{Kind, id, text, count, choice, time, date, colour, coordinate, Column, column_named}
 use Rattle.gtfs_rules.specs.Values.{Value, read_as, is_empty, has_control, if_there}
 use Rattle.gtfs_rules.specs.Rows.{records_in, is_row, is_named, text_in, Condition}
 use Rattle.gtfs_rules.specs.ColumnRules.{is_required}
@@ -14,7 +14,6 @@ abbrev pub is_id : Kind → Bool
 is_id id = true
 is_id text = false
 is_id count = false
-is_id positive = false
 is_id (choice ranges) = false
 is_id time = false
 is_id date = false
@@ -25,7 +24,6 @@ abbrev pub is_text : Kind → Bool
 is_text id = false
 is_text text = true
 is_text count = false
-is_text positive = false
 is_text (choice ranges) = false
 is_text time = false
 is_text date = false

@@ -1,4 +1,5 @@
 pub mod Calendars
+pub mod Cells
 pub mod Codes
 pub mod ColumnRules
 pub mod ColumnView

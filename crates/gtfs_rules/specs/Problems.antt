@@ -112,6 +112,10 @@ pub record IsReport (d : Dataset) (ps : List Problem) : Type 0 where
   pub ascending : IsStrictlySortedBy problem_cmp ps
   pub members : (p : Problem) → is_listed ps p ≡ is_problem d p
 
+-- no other list is a report of the dataset
+abbrev pub IsOnlyReport : Dataset → List Problem → Type 0
+IsOnlyReport d ps = (qs : List Problem) → IsReport d qs → qs ≡ ps
+
 -- a dataset passes where none of its problems is an error
 abbrev pub Passes : Dataset → Type 0
 Passes d = (p : Problem) → is_error p.code ≡ true → is_problem d p ≡ false

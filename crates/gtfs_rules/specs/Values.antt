@@ -5,9 +5,9 @@ use Rattle.std.specs.List.{list_any}
 use Rattle.std.specs.Result.{result_ok}
 use Rattle.std.specs.Ordering.{int_eq}
 use Rattle.gtfs_field.specs.declared.fault.FieldFault.{FieldFault}
-use Rattle.gtfs_field.specs.Kinds.{shaped, count_of, positive_of, choice_of, time_of, date_of, colour_of, coordinate_of}
+use Rattle.gtfs_field.specs.Kinds.{shaped, within, is_in_ranges, count_of, time_of, date_of, colour_of, coordinate_of}
 use Rattle.gtfs_table.specs.Blanks.{is_control}
-use Rattle.gtfs_rules.specs.Columns.{Kind, id, text, count, positive, choice, time, date, colour, coordinate, Empty, refused, nothing, means}
+use Rattle.gtfs_rules.specs.Columns.{Kind, id, text, count, choice, time, date, colour, coordinate, Empty, refused, nothing, means}
 
 -- a text, or a number: a count, a choice, seconds, a day's number, bits of a colour, units of a coordinate
 pub data Value : Type 0 where
@@ -29,13 +29,17 @@ abbrev pub measured : Result ℤ FieldFault → Result Value FieldFault
 measured (Ok x) = Ok (amount x)
 measured (Err e) = Err e
 
+-- a choice is a count that is one of the listed numbers
+abbrev pub one_of : List (ℕ × ℕ) → Result ℕ FieldFault → Result ℕ FieldFault
+one_of ranges (Ok n) = within (is_in_ranges ranges n) n
+one_of ranges (Err e) = Err e
+
 -- the value of a text of a kind, or why it has none
 abbrev pub read_as : Kind → List ℕ → Result Value FieldFault
 read_as id t = shaped (not (has_control t)) (Ok (word t))
 read_as text t = Ok (word (plain t))
 read_as count t = counted (count_of t)
-read_as positive t = counted (positive_of t)
-read_as (choice ranges) t = counted (choice_of ranges t)
+read_as (choice ranges) t = counted (one_of ranges (count_of t))
 read_as time t = counted (time_of t)
 read_as date t = measured (date_of t)
 read_as colour t = counted (colour_of t)

@@ -11,8 +11,6 @@ pub(crate) enum Kind {
     Id,
     Text,
     Count,
-    /// A count that is not 0.
-    Positive,
     /// A count in one of these ranges, each given by its first and its last number.
     Choice(&'static [(u32, u32)]),
     Time,
@@ -39,6 +37,9 @@ pub(crate) struct Column {
     pub(crate) kind: Kind,
     pub(crate) empty: Empty,
 }
+
+// A count that is not 0.
+const POSITIVE: Kind = Kind::Choice(&[(1, 2_147_483_647)]);
 
 // The basic types of routes and the extended ones.
 const ROUTE_TYPES: Kind = Kind::Choice(&[(0, 7), (11, 12), (100, 1799)]);
@@ -191,7 +192,7 @@ pub(crate) fn frequencies_columns() -> [Column; 5]
         Column::required("trip_id", Kind::Id),
         Column::required("start_time", Kind::Time),
         Column::required("end_time", Kind::Time),
-        Column::required("headway_secs", Kind::Positive),
+        Column::required("headway_secs", POSITIVE),
         Column::defaulting("exact_times", Kind::Choice(&[(0, 1)]), "0"),
     ]
 }

@@ -1,6 +1,7 @@
 //! The validator of a GTFS Schedule dataset.
 #![tactic(auto)]
 
+mod cell;
 mod code;
 mod columns;
 mod file_name;

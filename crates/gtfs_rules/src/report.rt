@@ -2,7 +2,7 @@ ghost use Rattle.std.specs.Prelude.{◌≡◌, map, IfOk, IfErr};
 ghost use Rattle.std.specs.List.{list_any};
 ghost use Rattle.gtfs_rules.specs.Codes.{is_error};
 ghost use Rattle.gtfs_rules.specs.Found.{ListsAll};
-ghost use Rattle.gtfs_rules.specs.Problems.{IsReport, Passes};
+ghost use Rattle.gtfs_rules.specs.Problems.{IsOnlyReport, IsReport, Passes};
 ghost use Rattle.gtfs_rules.specs.View.{problem_of};
 
 use crate::found::Found;
@@ -47,6 +47,7 @@ impl<'a> Report<'a> {
     pub fn problems(&self) -> &[Problem<'a>]
         ensures value { map problem_of result.now ≡ self.now.problems }
         ensures report { IsReport self.now.dataset (map problem_of result.now) }
+        ensures only { IsOnlyReport self.now.dataset (map problem_of result.now) }
     {
         self.problems.as_slice()
     }
