@@ -1,5 +1,8 @@
+pub mod CellFacts
+pub mod FieldFacts
 pub mod FoundFacts
 pub mod ReportLaws
+pub mod TellFacts
 mod WorkedCases
 mod WorkedCodes
 pub mod WorkedFeeds

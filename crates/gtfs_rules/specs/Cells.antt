@@ -6,7 +6,8 @@ use Rattle.gtfs_rules.specs.declared.code.Code.{Code}
 use Rattle.gtfs_rules.specs.declared.code.Code.TheVariants as code
 use Rattle.gtfs_rules.specs.Columns.{Kind, id, text, count, choice, time, date, colour, coordinate, Column}
 use Rattle.gtfs_rules.specs.ColumnRules.{is_required}
-use Rattle.gtfs_rules.specs.Values.{Value, read_as, is_empty, has_control}
+use Rattle.gtfs_rules.specs.Problems.{is_code}
+use Rattle.gtfs_rules.specs.Values.{read_as, is_empty, has_control, if_there}
 
 abbrev pub when : Bool → Code → Option Code
 when holds c = if holds then Some c else None
@@ -27,6 +28,10 @@ fault_code time t = code_of (read_as time t)
 fault_code date t = code_of (read_as date t)
 fault_code colour t = code_of (read_as colour t)
 fault_code (coordinate axis) t = code_of (read_as (coordinate axis) t)
+
+-- the code is the one that was found
+abbrev pub is_found : Option Code → Code → Bool
+is_found found c = if_there found (λ k. is_code c k)
 
 -- the problem of a field, whose column the header names or not
 abbrev pub cell_code : Bool → Column → List ℕ → Option Code
