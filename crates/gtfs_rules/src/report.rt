@@ -1,0 +1,79 @@
+ghost use Rattle.std.specs.Prelude.{◌≡◌, map, IfOk, IfErr};
+ghost use Rattle.std.specs.List.{list_any};
+ghost use Rattle.gtfs_rules.specs.Codes.{is_error};
+ghost use Rattle.gtfs_rules.specs.Found.{ListsAll};
+ghost use Rattle.gtfs_rules.specs.Problems.{IsOnlyReport, IsReport, Passes};
+ghost use Rattle.gtfs_rules.specs.View.{problem_of};
+
+use crate::found::Found;
+use crate::passed::Passed;
+use crate::problem::Problem;
+use gtfs_table::Tables;
+use std::marker::Model;
+
+/// The problems of a dataset, each once, in order; it lends the tables that were checked.
+#[derive(Drop)]
+pub struct Report<'a> {
+    tables: &'a Tables,
+    problems: Vec<Problem<'a>>,
+}
+
+impl<'a> Model for Report<'a> {
+    ghost use Rattle.std.specs.Prelude.{map};
+    ghost use Rattle.gtfs_rules.specs.Found.{Checked};
+    ghost use Rattle.gtfs_rules.specs.Problems.{IsReport};
+    ghost use Rattle.gtfs_rules.specs.View.{problem_of};
+
+    ghost Value = { Checked };
+
+    ghost view = { λ r. record { dataset = r.tables.now; problems = map problem_of r.problems.items } };
+
+    ghost invariant = { λ r. IsReport r.tables.now (map problem_of r.problems.items) };
+}
+
+impl<'a> Report<'a> {
+    // The report of the problems that were found, which are all that the tables have.
+    pub(crate) fn new(tables: &'a Tables, found: Found<'a>) -> Report<'a>
+        requires { ListsAll tables.now found }
+        ensures { result.dataset ≡ tables.now }
+    {
+        Report {
+            tables,
+            problems: found.into_sorted(),
+        }
+    }
+
+    /// The problems, strictly ascending: exactly those that the tables have.
+    pub fn problems(&self) -> &[Problem<'a>]
+        ensures value { map problem_of result.now ≡ self.now.problems }
+        ensures report { IsReport self.now.dataset (map problem_of result.now) }
+        ensures only { IsOnlyReport self.now.dataset (map problem_of result.now) }
+    {
+        self.problems.as_slice()
+    }
+
+    /// The tables as a feed that passes, exactly where no problem is an error; else the report again.
+    /// It takes no memory.
+    pub fn passed(self) -> Result<Passed<'a>, Report<'a>>
+        ensures passed { IfOk result (λ passed. passed ≡ self.entry.dataset) }
+        ensures passes { IfOk result (λ passed. Passes self.entry.dataset) }
+        ensures refused { IfErr result (λ report. report ≡ self.entry) }
+        ensures fails { IfErr result (λ report. ¬ (Passes self.entry.dataset)) }
+    {
+        if has_error(self.problems.as_slice()) {
+            return Err(self);
+        }
+        let Report {
+            tables,
+            problems: _,
+        } = self;
+        Ok(Passed::new(tables))
+    }
+}
+
+// Whether one of the problems is an error.
+fn has_error(problems: &[Problem<'_>]) -> bool
+    ensures { result ≡ list_any (λ p. is_error p.code) problems.now }
+{
+    problems.iter().any(|problem| problem.code.is_error())
+}
