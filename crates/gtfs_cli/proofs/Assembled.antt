@@ -1,18 +1,14 @@
 -- From rows in file order to the content of a dataset.
-use Rattle.std.proofs.Common.{◌≡◌, ℕ, zero, suc, ◌+◌, ◌<◌, Bool, true, false, cond, List, [], ◌∷◌, ◌++◌, length, map, filter, bytes_eq, Option, Some, None, option_map, Result, Ok, Err, IfOk, refl, sym, ◌∙◌, ap, subst, inl, inr, arith}
+use Rattle.std.proofs.Common.{◌≡◌, ℕ, Bool, true, false, cond, List, [], ◌∷◌, map, filter, bytes_eq, Result, Ok, Err, IfOk, refl, sym, ◌∙◌, ap}
 use Rattle.std.specs.FinMap as table
 use Rattle.std.specs.Cmp.{IsTotalOrder}
-use Rattle.std.specs.List.{All, AllPairs, Contains, find, list_any}
 use Rattle.std.specs.List.Sorted.{IsPermutation}
-use Rattle.std.specs.Ordering.{nat_cmp, int_cmp, on, then_cmp}
+use Rattle.std.specs.Ordering.{on, then_cmp}
 use Rattle.std.specs.declared.cmp.Ordering.{Ordering}
-use Rattle.std.specs.declared.cmp.Ordering.TheVariants.{Less}
-use Rattle.std.proofs.lemmas.Cmp.{int_cmp_total, nat_cmp_total, nat_list_cmp_total}
-use Rattle.std.proofs.lemmas.List.Elements.{Contains-append_left, Contains-append_right, Contains-append_cases}
 use Rattle.gtfs_cli.specs.FeedOrder.{Ascends}
 use Rattle.gtfs_cli.specs.Key.{text_cmp}
 use Rattle.gtfs_cli.specs.Reading.{by_key}
-use Rattle.gtfs_cli.proofs.SameElements.{SameElements, same-from_permutation, same-filter, same-map}
+use Rattle.gtfs_cli.proofs.SameElements.{SameElements, same-from_permutation, same-filter}
 use Rattle.gtfs_cli.proofs.ByKey.{by_key_map}
 use Rattle.gtfs_cli.proofs.Groups.{ascends-group}
 

@@ -1,5 +1,5 @@
 -- The rows of one group in a list that ascends by group: they stand in a row, and ascend.
-use Rattle.std.proofs.Common.{◌≡◌, ℕ, zero, suc, ◌+◌, ◌<◌, ◌≤◌, ◌&&◌, not, Bool, true, false, cond, bytes_eq, List, [], ◌∷◌, length, get_or, take, drop, refl, sym, ◌∙◌, ap, subst, ◌⊎◌, inl, inr, arith}
+use Rattle.std.proofs.Common.{◌≡◌, ℕ, zero, suc, ◌<◌, ◌≤◌, Bool, true, false, cond, bytes_eq, List, [], ◌∷◌, length, get_or, take, drop, refl, sym, ◌∙◌, ap, subst, inl, inr, arith}
 use Rattle.std.specs.Cmp.{tied_itself, upto}
 use Rattle.std.specs.List.{All, AllPairs, AllWithin, filter}
 use Rattle.std.specs.List.Sorted.{IsPartitionedBy, IsPartitionPoint}

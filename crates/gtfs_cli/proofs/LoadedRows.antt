@@ -1,9 +1,9 @@
 -- Services and trips as they are loaded, against those of a dataset.
-use Rattle.std.proofs.Common.{◌≡◌, ℕ, zero, suc, ◌+◌, ◌<◌, Bool, true, false, cond, List, [], ◌∷◌, ◌++◌, length, get_or, map, filter, bytes_eq, Option, Some, None, option_map, ℤ, refl, sym, ◌∙◌, ap, subst, inl, inr, arith}
+use Rattle.std.proofs.Common.{◌≡◌, ℕ, Bool, true, false, cond, List, [], ◌∷◌, ◌++◌, map, filter, bytes_eq, Option, Some, None, option_map, refl, sym, ◌∙◌, ap, subst, inl, inr}
 use Rattle.std.specs.FinMap as table
-use Rattle.std.specs.List.{AllPairs, Contains, find, list_any}
+use Rattle.std.specs.List.{Contains, find, list_any}
 use Rattle.std.specs.List.Sorted.{IsPermutation}
-use Rattle.std.specs.Ordering.{nat_cmp, int_cmp, is_eq, on}
+use Rattle.std.specs.Ordering.{nat_cmp, int_cmp, on}
 use Rattle.std.specs.declared.cmp.Ordering.TheVariants.{Less, Equal}
 use Rattle.std.proofs.lemmas.Cmp.{int_cmp_total, nat_list_cmp_total}
 use Rattle.std.proofs.lemmas.List.Elements.{Contains-append_left, Contains-append_right, Contains-append_cases}
@@ -12,14 +12,13 @@ use Rattle.std.proofs.lemmas.Slice.Eq.{bytes_eq-Decides}
 use Rattle.std.specs.Cmp.{tied_itself}
 use Rattle.gtfs_table.specs.Tables.{Dataset}
 use Rattle.gtfs_table.specs.declared.file.File.TheVariants as file
-use Rattle.gtfs_days.specs.declared.exception.Exception.{Exception}
 use Rattle.gtfs_cli.specs.CalendarRows.{date_cmp, dates_of, exception_row, names_of, service_of, week_cmp}
 use Rattle.gtfs_cli.specs.FeedOrder.{service_cmp, trip_cmp, Ascends}
 use Rattle.gtfs_cli.specs.FeedView.{frequencies_of, period_row, service_row, stop_time_row, stop_times_of, trip_row}
 use Rattle.gtfs_cli.specs.Key.{text_cmp}
 use Rattle.gtfs_cli.specs.ReadRows.{service_exception, service_exception_in, service_week, service_week_in, trip_texts, trip_texts_in, week_of}
 use Rattle.gtfs_cli.specs.Reading.{by_key, exception_in, first_of, period_in, rows_with, service_in, services_named, stop_row_in, trip_in, week_in}
-use Rattle.gtfs_cli.specs.Rows.{ServiceRow, TripRow}
+use Rattle.gtfs_cli.specs.Rows.{TripRow}
 use Rattle.gtfs_cli.specs.Values.{rows, text_at}
 use Rattle.gtfs_cli.specs.declared.feed.rows.Trip.{Trip}
 use Rattle.gtfs_cli.specs.declared.feed.rows.StopTime.{StopTime}

@@ -1,8 +1,7 @@
 -- What a binary search by id finds in rows that ascend by id.
-use Rattle.std.proofs.Common.{◌≡◌, ℕ, zero, suc, ◌+◌, ◌<◌, ◌≤◌, ◌||◌, Bool, true, false, cond, bytes_eq, List, [], ◌∷◌, length, get_or, map, Option, Some, None, option_map, is_some, Result, Ok, Err, is_ok, refl, sym, ◌∙◌, ap, subst, inl, inr, arith}
-use Rattle.std.specs.List.{All, AllPairs, HoldsAt, find, list_any}
+use Rattle.std.proofs.Common.{◌≡◌, ℕ, zero, suc, ◌+◌, ◌<◌, ◌||◌, Bool, true, false, cond, bytes_eq, List, [], ◌∷◌, length, get_or, map, Some, None, option_map, is_some, Result, Ok, Err, is_ok, refl, sym, ◌∙◌, ap, subst, inl, inr, arith}
+use Rattle.std.specs.List.{All, HoldsAt, find, list_any}
 use Rattle.std.specs.List.Sorted.{IsBinarySearchResult, IsNonDecreasingBy, IsPartitionPoint, IsSearchInRange, IsSortedBy}
-use Rattle.std.specs.declared.cmp.Ordering.{Ordering}
 use Rattle.std.specs.declared.cmp.Ordering.TheVariants.{Less, Equal, Greater}
 use Rattle.std.specs.Ordering.{is_eq, is_lt, on, ordering_index, ordering_reverse}
 use Rattle.std.specs.Cmp.{alike_right}

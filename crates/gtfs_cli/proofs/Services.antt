@@ -1,11 +1,11 @@
 -- The services of both calendar files.
-use Rattle.std.proofs.Common.{◌≡◌, ◌≢◌, ℕ, zero, suc, ◌+◌, ◌<◌, ◌≤◌, ◌||◌, Bool, true, false, List, [], ◌∷◌, ◌++◌, length, get_or, take, map, bytes_eq, Result, Ok, Err, IfOk, filter, option_map, ℤ, pos, ◌<ℤ◌, int_cmp, refl, sym, ◌∙◌, ap, subst, arith}
+use Rattle.std.proofs.Common.{◌≡◌, ℕ, zero, suc, ◌<◌, ◌≤◌, Bool, true, List, [], ◌∷◌, length, get_or, take, map, bytes_eq, Result, Ok, Err, IfOk, option_map, ℤ, pos, int_cmp, refl, sym, ◌∙◌, ap, subst, arith}
 use Rattle.std.specs.Cmp.{both_ways}
-use Rattle.std.specs.FinMap.{int_cmp-IsAntisymmetric, nat_cmp-IsAntisymmetric, slice_cmp-IsAntisymmetric}
-use Rattle.std.specs.List.{All, AllPairs, Contains, dedup, find, list_any}
+use Rattle.std.specs.FinMap.{int_cmp-IsAntisymmetric}
+use Rattle.std.specs.List.{AllPairs, Contains, dedup, find, list_any}
 use Rattle.std.specs.List.Sorted.{IsPermutation, IsSorted, IsStrictlySortedBy}
-use Rattle.std.specs.Ordering.{eq_by_cmp, is_eq, on}
-use Rattle.std.specs.declared.cmp.Ordering.TheVariants.{Less, Equal, Greater}
+use Rattle.std.specs.Ordering.{on}
+use Rattle.std.specs.declared.cmp.Ordering.TheVariants.{Less}
 use Rattle.std.specs.declared.cmp.Ordering.{Ordering}
 use denote.Ref.{Bor}
 use Rattle.std.specs.Cmp.Lexicographic.{on_texts_equal}
@@ -14,15 +14,13 @@ use Rattle.std.proofs.lemmas.Cmp.{int_cmp_total, nat_list_cmp_total, nat_list_eq
 use Rattle.std.proofs.lemmas.Int.{ints}
 use Rattle.std.proofs.lemmas.List.{get_or-map, length-map}
 use Rattle.std.proofs.lemmas.List.Kept.{Any-dedup, Contains-from_dedup, IsStrictlySortedBy-dedup}
-use Rattle.std.proofs.lemmas.List.Folds.{Any-from_list_any, list_any-from_Any}
 use Rattle.std.proofs.lemmas.Map.Keys.{Less-from_sorted}
 use Rattle.std.proofs.lemmas.Map.Text.{is_eq-slice_cmp}
 use Rattle.std.proofs.lemmas.Slice.Eq.{bytes_eq-Decides}
 use Rattle.gtfs_days.specs.Service.{IsByDay, NamesEachDayOnce, ServiceDates}
-use Rattle.gtfs_cli.specs.CalendarRows.{date_cmp, dates_of, exception_row, names_of, service_of}
+use Rattle.gtfs_cli.specs.CalendarRows.{date_cmp, dates_of, exception_row, service_of}
 use Rattle.gtfs_cli.specs.FeedView.{service_row}
 use Rattle.gtfs_cli.specs.ReadRows.{week_of}
-use Rattle.gtfs_cli.specs.Reading.{by_key}
 use Rattle.gtfs_cli.specs.declared.feed.rows.ServiceRow.{ServiceRow as Held}
 use Rattle.gtfs_cli.specs.declared.feed.read.calendar.CalendarWeek.{CalendarWeek}
 use Rattle.gtfs_cli.specs.declared.feed.read.calendar.CalendarDate.{CalendarDate}
@@ -31,7 +29,7 @@ use Rattle.gtfs_days.specs.declared.exception.Exception.{Exception}
 use Rattle.gtfs_cli.specs.FeedOrder.{service_cmp, Ascends}
 use Rattle.gtfs_cli.specs.Key.{text_cmp}
 use Rattle.gtfs_cli.proofs.SameElements.{SameElements, same-from_permutation, contains-map, contains-from_map, pairs-map}
-use Rattle.gtfs_cli.proofs.ByKey.{by_key_is, by_key_map}
+use Rattle.gtfs_cli.proofs.ByKey.{by_key_is}
 
 pub pairs-unmap : {A X : Type 0} (f : A → X) (R : X → X → Type 0) (xs : List A) → AllPairs R (map f xs) → AllPairs (λ x y. R (f x) (f y)) xs
 pairs-unmap f R xs up i j d h l =

@@ -1,5 +1,5 @@
 -- The content that the rows of a feed stand for.
-use Rattle.std.specs.Prelude.{ℕ, List, map, filter, bytes_eq, Option, option_map}
+use Rattle.std.specs.Prelude.{ℕ, List, map, filter, bytes_eq, option_map}
 use Rattle.gtfs_cli.specs.Rows as plain
 use Rattle.gtfs_cli.specs.Content.{Content}
 use Rattle.gtfs_cli.specs.declared.feed.content.Feed.TheInside.{Inside}

@@ -1,4 +1,3 @@
-use Rattle.std.proofs.Common.{rules, ◌≡◌, map}
 use Rattle.std.proofs.lemmas.List.Sorted.{All-permutation}
 use Rattle.gtfs_cli.specs.ReadRows.{IsDay, IsOrdered}
 use Rattle.gtfs_cli.proofs.SameElements.{same-from_permutation}

@@ -1,4 +1,4 @@
-use Rattle.std.proofs.Common.{rules, of_calls, ◌≡◌, ◌-◌, ◌≤◌, true, false, List, ℕ, take, drop, length, is_lt, nat_cmp}
+use Rattle.std.proofs.Common.{rules, of_calls, ◌≡◌, ◌-◌, true, false, List, ℕ, take, drop, length, is_lt, nat_cmp}
 use Rattle.std.specs.declared.cmp.Ordering.{Ordering}
 use Rattle.std.specs.Ordering.{is_le, on}
 use Rattle.std.specs.List.Sorted.{IsPartitionPoint}

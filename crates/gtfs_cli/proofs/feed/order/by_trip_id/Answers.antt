@@ -1,10 +1,9 @@
-use Rattle.std.proofs.Common.{rules, ◌≡◌}
+use Rattle.std.proofs.Common.{rules}
 use Rattle.std.specs.Cmp.{IsTotalOrder}
 use Rattle.std.specs.Ordering.{is_lt}
-use Rattle.std.proofs.lemmas.Cmp.{int_cmp_total, nat_cmp_total, nat_list_cmp_total, on_total, then_total}
+use Rattle.std.proofs.lemmas.Cmp.{nat_list_cmp_total, on_total}
 use Rattle.std.proofs.lemmas.List.Sorted.{answers_always}
 use Rattle.gtfs_cli.specs.FeedOrder.{trip_cmp}
-use Rattle.gtfs_cli.specs.declared.feed.rows.Trip.{Trip}
 use Rattle.gtfs_cli.proofs.Sorted.{ascends-from_answer}
 use Rattle.gtfs_cli.proofs.feed.order.by_trip_id.Goals as goal
 

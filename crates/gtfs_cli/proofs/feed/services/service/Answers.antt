@@ -1,5 +1,4 @@
-use Rattle.std.proofs.Common.{rules, ◌≡◌, ◌∙◌, sym, ap, map, bytes_eq}
-use Rattle.std.specs.List.{All}
+use Rattle.std.proofs.Common.{◌≡◌, ◌∙◌, ap, map, bytes_eq}
 use Rattle.std.proofs.lemmas.List.Elements.{All-filter}
 use Rattle.gtfs_cli.specs.CalendarRows.{dates_of, exception_row}
 use Rattle.gtfs_cli.specs.ReadRows.{IsDay}

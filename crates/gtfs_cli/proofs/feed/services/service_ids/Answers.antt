@@ -1,10 +1,8 @@
-use Rattle.std.proofs.Common.{rules, ◌≡◌, ◌∙◌, ◌++◌, sym, ap, map, List, ℕ, bytes_eq}
+use Rattle.std.proofs.Common.{◌≡◌, ◌∙◌, ◌++◌, sym, ap, map, bytes_eq}
 use Rattle.std.specs.List.{dedup, list_any}
 use Rattle.std.specs.List.Sorted.{IsPermutation, IsSorted}
 use Rattle.std.proofs.lemmas.List.Filters.{dedup_is}
 use Rattle.gtfs_cli.specs.CalendarRows.{names_of}
-use Rattle.gtfs_cli.specs.FeedOrder.{Ascends}
-use Rattle.gtfs_cli.specs.Key.{text_cmp}
 use Rattle.gtfs_cli.proofs.SameElements.{same-from_permutation, same-map}
 use Rattle.gtfs_cli.proofs.Services.{kept_ascend, kept_same, take-whole, text_equal, text_order, texts_alike}
 use Rattle.gtfs_cli.proofs.feed.services.service_ids.Goals as goal

@@ -1,4 +1,4 @@
-use Rattle.std.proofs.Common.{rules, ◌≡◌, ◌∙◌, ap, sym, map, take, bytes_eq}
+use Rattle.std.proofs.Common.{◌≡◌, ◌∙◌, ap, sym, map, take, bytes_eq}
 use Rattle.std.specs.List.{list_any}
 use Rattle.gtfs_cli.specs.CalendarRows.{service_of}
 use Rattle.gtfs_cli.specs.FeedView.{service_row}

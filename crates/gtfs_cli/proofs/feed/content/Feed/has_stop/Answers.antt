@@ -1,5 +1,5 @@
-use Rattle.std.proofs.Common.{rules, of_calls, ◌≡◌, ◌∙◌, sym, bytes_eq}
-use Rattle.std.specs.List.Sorted.{IsBinarySearchResult, IsSearchInRange}
+use Rattle.std.proofs.Common.{rules, of_calls, ◌∙◌, sym, bytes_eq}
+use Rattle.std.specs.List.Sorted.{IsBinarySearchResult}
 use Rattle.std.proofs.lemmas.Fn.{always_returns_same}
 use Rattle.gtfs_cli.specs.FeedView.{stop_row}
 use Rattle.gtfs_cli.specs.Key.{text_cmp}

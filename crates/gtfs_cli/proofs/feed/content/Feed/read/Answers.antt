@@ -1,4 +1,3 @@
-use Rattle.std.proofs.Common.{◌≡◌}
 use Rattle.gtfs_cli.proofs.LoadedRows.{trips_made}
 use Rattle.gtfs_cli.proofs.feed.content.Feed.read.Goals as goal
 

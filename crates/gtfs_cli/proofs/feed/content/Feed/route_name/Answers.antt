@@ -1,5 +1,5 @@
 use Rattle.std.proofs.Common.{rules, of_calls, ◌≡◌, ◌∙◌, ◌<◌, List, [], ℕ, Option, sym, ap, length, bytes_eq, option_map, unwrap_or}
-use Rattle.std.specs.List.{HoldsAt, find}
+use Rattle.std.specs.List.{HoldsAt}
 use Rattle.std.specs.List.Sorted.{IsNonDecreasingBy, IsPartitionPoint}
 use Rattle.std.specs.Option.{option_and_then, option_or}
 use Rattle.std.specs.Ordering.{ordering_index}
