@@ -16,3 +16,6 @@ pub mod GtfsWords
 mod WorkedWords
 mod Pieces
 mod WorkedLines
+mod InOrder
+mod Passing
+mod Opened
