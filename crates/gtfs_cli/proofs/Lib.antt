@@ -19,3 +19,6 @@ mod WorkedLines
 mod InOrder
 mod Passing
 mod Opened
+pub mod Services
+pub mod Assembled
+pub mod LoadedRows
