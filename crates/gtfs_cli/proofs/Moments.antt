@@ -89,3 +89,9 @@ service-sound (Ok e) d some = step (is_service_day e) refl some
 pub origins-small : {E : Type 0} (d : ℤ) (r : Result ℤ E) → is_service_day d ≡ true → IfOk r (λ x. IsWithin 93_599 ((d *ℤ pos 86_400) -ℤ x)) → IfOk r (λ x. unsigned_abs x < 10 ^ 12)
 origins-small d (Ok x) service near = origin-small d x service near
 origins-small d (Err e) service near = near
+
+pub ends-at : (s : Span) (x y from until : ℤ) → s.from ≡ x → s.until ≡ y → x ≡ from → y ≡ until → is_span s ≡ false → unsigned_abs x < 10 ^ 12 → unsigned_abs y < 10 ^ 12 → until <ℤ from
+ends-at s x y from until from_x until_y x_from y_until bad short_x short_y =
+    let P : ℤ → Type 0 = λ z. unsigned_abs z < 10 ^ 12 in
+    let before : s.until <ℤ s.from = ends-before s bad (subst P (sym from_x) short_x) (subst P (sym until_y) short_y) in
+    rw (← y_until, ← x_from, ← until_y, ← from_x) before
