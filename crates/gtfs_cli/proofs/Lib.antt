@@ -25,3 +25,6 @@ pub mod Assembled
 pub mod LoadedRows
 mod WorkedBoards
 pub mod TimeLemmas
+mod Moments
+mod Paths
+mod Endings
