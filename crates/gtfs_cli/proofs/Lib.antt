@@ -16,3 +16,9 @@ pub mod GtfsWords
 mod WorkedWords
 mod Pieces
 mod WorkedLines
+mod InOrder
+mod Passing
+mod Opened
+pub mod Services
+pub mod Assembled
+pub mod LoadedRows

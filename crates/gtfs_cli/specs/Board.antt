@@ -5,6 +5,8 @@ use Rattle.gtfs_cli.specs.Key.{Key}
 use Rattle.gtfs_cli.specs.Lines.{Listed}
 use Rattle.gtfs_cli.specs.Content.{Content}
 use Rattle.gtfs_cli.specs.Departures.{Origins, IsAscending, is_member, is_listed}
+use Rattle.gtfs_cli.specs.declared.board.fault.BoardFault.{BoardFault}
+use Rattle.gtfs_cli.specs.declared.board.fault.BoardFault.TheVariants.{OutOfMemory}
 use Rattle.gtfs_cli.specs.declared.board.span.Span.{Span}
 
 -- the departures that are still to come, and the keys that wait in memory
@@ -31,3 +33,6 @@ is_span s = int_le s.from s.until && is_writable s.from && is_writable s.until
 pub record IsOfBoard (f : Content) (origin : Origins) (s : List ℕ) (from until : ℤ) (after : Option Key) (xs : List Key) : Type 0 where
   pub ascending : IsAscending xs
   pub members : (k : Key) → is_member k xs ≡ true → is_listed f origin s from until after k ≡ true
+
+abbrev pub no_memory : BoardFault
+no_memory = OutOfMemory

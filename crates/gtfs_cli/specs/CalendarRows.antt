@@ -1,5 +1,5 @@
 -- The rows of both calendar files by service.
-use Rattle.std.specs.Prelude.{ℕ, List, map, filter, bytes_eq, option_map, ℤ}
+use Rattle.std.specs.Prelude.{ℕ, ◌++◌, List, map, filter, bytes_eq, option_map, ℤ}
 use Rattle.std.specs.declared.cmp.Ordering.{Ordering}
 use Rattle.std.specs.List.{find}
 use Rattle.std.specs.Ordering.{int_cmp, on, then_cmp}
@@ -33,3 +33,7 @@ service_of ws ds id = record {
     exceptions = map exception_row (dates_of id ds);
   };
 }
+
+-- the ids of services: those of both files
+abbrev pub names_of : List CalendarWeek → List CalendarDate → List (List ℕ)
+names_of ws ds = map (λ w. w.service_id.now) ws ++ map (λ e. e.service_id.now) ds

@@ -1,6 +1,6 @@
 -- The events of a stop: each run of a trip that passes a departure row at the stop's place, whatever the day.
 -- GTFS Schedule Reference, stop_times.txt and frequencies.txt.
-use Rattle.std.specs.Prelude.{◌≡◌, ℕ, List, true, Some, map, bytes_eq}
+use Rattle.std.specs.Prelude.{◌≡◌, ◌≤◌, ℕ, List, true, Some, map, bytes_eq}
 use Rattle.std.specs.Borrow.{Bor}
 use Rattle.std.specs.List.{list_any}
 use Rattle.gtfs_cli.specs.Rows.{StopRow, TripRow}
@@ -25,6 +25,7 @@ pub record IsEvent (f : Content) (s : List ℕ) (e : Event) : Type 0 where
   pub departs : is_departure_row trip row ≡ true
   pub in_place : is_in_place f s row.stop_id ≡ true
   pub at : e.at ≡ passes_at trip e.run row
+  pub in_time : e.at ≤ 3_599_999
   pub stop : e.stop.now ≡ row.stop_id
   pub route : e.route.now ≡ route_name f trip.route_id
   pub headsign : e.headsign.now ≡ headsign trip row

@@ -2,10 +2,13 @@
 
 mod content;
 mod fault;
+mod fit;
+mod load;
 mod lookups;
 mod order;
 mod read;
 mod rows;
+mod services;
 
 pub use content::Feed;
 pub use fault::FeedFault;

@@ -1,7 +1,30 @@
 //! The command line of the program `gtfs`, as a library.
+//!
+//! [`run`] reads the words of the command line and does what they ask for, over folders and outputs that its caller
+//! hands in, and answers the status with which the program is to end:
+//!
+//! - 0: done;
+//! - 1: the feed has errors, or no stop of that id;
+//! - 2: the words are not as the usage wants them, the value of an option is bad, or a board would end before it begins;
+//! - 3: a folder or a file is not there, cannot be read or is over the limit, a zone file is none, or the output failed;
+//! - 4: memory ran out.
+//!
+//! The one command so far is `gtfs board DIR --zone FILE --stop ID --from T --until T`: the departures at a stop, in the
+//! order of their keys, a line each. T is `@` and an instant in seconds since 1970-01-01T00:00:00Z, or a service day
+//! YYYYMMDD, which stands for its origin in the zone: noon less twelve hours. Trips with rows in frequencies.txt are left
+//! out. Where a command cannot be done, one line on the error output says why.
+//!
+//! ```text
+//! let mut folders = DiskFolders::new();
+//! let words = ["gtfs", "board", "feed", "--zone", "Berlin", "--stop", "S1", "--from", "20240401", "--until", "20240402"];
+//! let status = run(alloc, &words, &mut folders, &mut out, &mut err);
+//! ```
 #![tactic(auto)]
 
 mod board;
+mod commands;
 mod feed;
 mod runs;
 mod words;
+
+pub use commands::run;

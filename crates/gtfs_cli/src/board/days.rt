@@ -1,6 +1,6 @@
-ghost use Rattle.std.specs.Prelude.{◌≡◌, ◌≤ℤ◌, ◌+ℤ◌, pos, ℕ, List, true, IfSome, IfOk, OnOk};
+ghost use Rattle.std.specs.Prelude.{◌≡◌, ◌≤◌, ◌≤ℤ◌, ◌+ℤ◌, pos, ℕ, List, true, IfSome, IfOk, OnOk};
 ghost use Rattle.gtfs_days.specs.Service.{is_active, is_service_day, ServiceDates};
-ghost use Rattle.gtfs_days.specs.Zone.{zone_origin};
+ghost use Rattle.gtfs_days.specs.Zone.{zone_origin, IsInstant};
 ghost use Rattle.gtfs_cli.specs.Content.{Content};
 ghost use Rattle.gtfs_cli.specs.Events.{IsEvent};
 ghost use Rattle.gtfs_cli.specs.Board.{is_span};
@@ -31,7 +31,8 @@ pub(super) fn push_days<'a>(
     event: &Event<'a>,
     waiting: &mut Vec<Waiting<'a>>,
 ) -> Result<(), OutOfMemory>
-    requires { is_span span ≡ true }
+    requires span { is_span span ≡ true }
+    requires in_time { event.now.at ≤ 3_599_999 }
     ensures { OnOk result ((s : List ℕ) → IsEvent feed.now s event.now → AllFound feed.now (zone_origin zone.now) s span waiting.old.items
         → AllFound feed.now (zone_origin zone.now) s span waiting.new.items) }
 {
@@ -58,7 +59,8 @@ fn push_day<'a>(
     day: Day,
     waiting: &mut Vec<Waiting<'a>>,
 ) -> Result<(), OutOfMemory>
-    requires { is_service_day day ≡ true }
+    requires day { is_service_day day ≡ true }
+    requires in_time { event.now.at ≤ 3_599_999 }
     ensures { OnOk result ((f : Content) (s : List ℕ) (service : ServiceDates) → IsEvent f s event.now → IsServed f event.now service → is_active service day ≡ true
         → AllFound f (zone_origin zone.now) s span waiting.old.items → AllFound f (zone_origin zone.now) s span waiting.new.items) }
 {
@@ -79,6 +81,7 @@ fn instant_on(alloc: Global, zone: &Zone, event: &Event<'_>, day: Day) -> Result
 
 // The departure of an event on a day, at its instant.
 fn waiting_at<'a>(event: &Event<'a>, instant: i64, day: Day) -> Waiting<'a>
+    requires { IsInstant instant }
     ensures shown { shown_of result ≡ departure_on event.now instant day }
     ensures dated { IsDated result }
 {

@@ -1,3 +1,6 @@
+ghost use Rattle.std.specs.Prelude.{◌≡◌};
+ghost use Rattle.gtfs_cli.specs.Board.{no_memory};
+
 use gtfs_field::OutOfMemory;
 use thiserror::Error;
 
@@ -16,6 +19,8 @@ pub enum BoardFault {
 }
 
 impl From<OutOfMemory> for BoardFault {
+    ghost from_gives = { λ _ fault. fault ≡ no_memory };
+
     fn from(_refused: OutOfMemory) -> BoardFault {
         BoardFault::OutOfMemory
     }

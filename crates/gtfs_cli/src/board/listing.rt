@@ -1,5 +1,5 @@
-ghost use Rattle.std.specs.Prelude.{◌≡◌, ℕ, ◌∷◌, [], ◌↔◌, List, map, reverse, All, true, false, None, Ok, IfOk, OnErr, IsErrOf, MatchOption};
-ghost use Rattle.gtfs_days.specs.Zone.{zone_origin};
+ghost use Rattle.std.specs.Prelude.{◌≡◌, ℕ, ◌∷◌, [], ◌↔◌, List, map, reverse, All, true, false, None, Ok, IfOk, IfSome, OnErr, IsErrOf, MatchOption};
+ghost use Rattle.gtfs_days.specs.Zone.{zone_origin, IsInstant};
 ghost use Rattle.gtfs_cli.specs.Board.{is_stop, is_span, keys_of, IsOfBoard};
 ghost use Rattle.gtfs_cli.specs.Content.{Content};
 ghost use Rattle.gtfs_cli.specs.Departures.{IsAscending, Origins};
@@ -81,6 +81,7 @@ impl<'a> Board<'a> {
     /// None today: no memory is taken.
     pub fn next(&mut self) -> Result<Option<Departure<'a>>, OutOfMemory>
         ensures first { IfOk result (λ next. MatchOption next (self.old.rest ≡ []) (λ d. self.old.rest ≡ listed d ∷ self.new.rest)) }
+        ensures instants { IfOk result (λ next. IfSome next (λ d. IsInstant d.key.instant)) }
         ensures ends { (result ≡ Ok None) → self.new.rest ≡ [] }
         ensures kept { OnErr result (self.new ≡ self.old) }
         ensures queued { self.old.queue ≡ keys_of self.old.rest → self.new.queue ≡ keys_of self.new.rest }
@@ -95,7 +96,8 @@ impl<'a> Board<'a> {
 // The departure that waits.
 fn departure<'a>(waiting: Waiting<'a>) -> Departure<'a>
     requires { IsDated waiting }
-    ensures { listed result ≡ shown_of waiting.entry }
+    ensures shown { listed result ≡ shown_of waiting.entry }
+    ensures instant { IsInstant result.key.instant }
 {
     Departure {
         key: Key {

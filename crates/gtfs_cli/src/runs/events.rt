@@ -5,13 +5,16 @@ ghost use Rattle.gtfs_cli.specs.Departures.{is_in_place};
 ghost use Rattle.gtfs_cli.specs.Events.{IsEvent, IsPlace};
 ghost use Rattle.gtfs_cli.specs.FeedView.{stop_time_row};
 ghost use Rattle.gtfs_cli.specs.Rows.{TripRow};
-ghost use Rattle.gtfs_cli.specs.Trips.{leaves};
+ghost use Rattle.gtfs_cli.specs.Trips.{allows_boarding, leaves};
 
 use crate::board::Mark;
 use crate::feed::{Feed, PickupType, StopTime, Trip};
 use crate::runs::event::Event;
 use gtfs_field::OutOfMemory;
 use std::alloc::Global;
+
+// The latest time that a field of stop_times.txt can say: 999:59:59.
+const LATEST_TIME: u32 = 3_599_999;
 
 /// The events at the place of a stop: each run of a trip that passes a row there at which riders can board and after which the
 /// trip goes on. Trips with periods of frequencies.txt are left out.
@@ -66,16 +69,18 @@ fn event_at<'a>(feed: &Feed<'a>, number: usize, position: usize) -> Option<Event
 {
     let trip = feed.trip(number);
     let rows = feed.stop_times(number);
-    let [first, ..] = rows else { return None };
-    let row = rows.get(position)?;
+    if position >= rows.len().saturating_sub(1) {
+        return None;
+    }
+    let row = &rows[position];
     let at = departure(row)?;
-    if row.pickup_type == PickupType::None || position + 1 >= rows.len() {
+    if !allows_boarding(row.pickup_type) || at > LATEST_TIME {
         return None;
     }
     Some(Event {
         trip: trip.trip_id,
         service: trip.service_id,
-        run: departure(first).unwrap_or(0),
+        run: departure(&rows[0]).unwrap_or(0),
         sequence: row.stop_sequence,
         at,
         stop: row.stop_id,
@@ -83,6 +88,13 @@ fn event_at<'a>(feed: &Feed<'a>, number: usize, position: usize) -> Option<Event
         headsign: headsign(&trip, row),
         mark: Mark::Scheduled,
     })
+}
+
+// Whether riders can board.
+fn allows_boarding(pickup_type: PickupType) -> bool
+    ensures { result ≡ allows_boarding pickup_type }
+{
+    pickup_type != PickupType::None
 }
 
 // When a vehicle leaves: its departure time, or where there is none its arrival time.

@@ -1,0 +1,64 @@
+//! The commands of the program, and how each ends.
+mod board;
+mod messages;
+mod moments;
+mod paths;
+mod refusal;
+
+use crate::words::{Command, WordsFault, read_words};
+use gtfs_table::{Folders, Out, write_text};
+use refusal::Refusal;
+use std::alloc::Global;
+use std::convert::AsStr;
+
+/// Does what the words of a command line ask for, of which the first is the program's name, and answers the status with
+/// which the program is to end.
+///
+/// What the command prints goes to `out`, as does the help that was asked for. Where the status is not 0, `err` is told
+/// why: by `clap`'s text where it does not take the words, and else by one line that begins `gtfs: `. A failure of `err`
+/// changes nothing.
+///
+/// The words are judged first, then the values of the options in the order of the usage, then the folder, its feed, the
+/// zone file, the stop and the span.
+///
+/// - 0: done.
+/// - 1: the feed has errors, or no stop of that id.
+/// - 2: `clap` does not take the words, or the value of `--from` or `--until` is neither `@` and an instant nor a service
+///   day, or the board would end before it begins.
+/// - 3: the folder, the zone file or its folder is not there, cannot be read or holds a file over the limit, the zone file
+///   is none, or the output failed.
+/// - 4: memory ran out.
+pub fn run<S: AsStr, F: Folders, O: Out, E: Out>(
+    alloc: Global,
+    words: &[S],
+    folders: &mut F,
+    out: &mut O,
+    err: &mut E,
+) -> u8 {
+    match command(alloc, words, folders, out) {
+        Ok(()) => 0,
+        Err(refusal) => {
+            // Nobody is left who could be told that this failed.
+            let _ = refusal.write(err);
+            refusal.status()
+        }
+    }
+}
+
+// Does what the words ask for.
+fn command<'w, S: AsStr, F: Folders, O: Out>(
+    alloc: Global,
+    words: &'w [S],
+    folders: &mut F,
+    out: &mut O,
+) -> Result<(), Refusal<'w>> {
+    match read_words(alloc, words) {
+        Ok(Command::Board(given)) => board::print_board(alloc, &given, folders, out),
+        Err(WordsFault::Help(text)) => Ok(write_text(out, text.as_bytes())?),
+        Err(WordsFault::Refused(text)) => Err(Refusal::Words(text)),
+        Err(WordsFault::OutOfMemory) => Err(Refusal::OutOfMemory),
+    }
+}
+
+#[cfg(test)]
+mod tests;

@@ -1,0 +1,57 @@
+use gtfs_field::OutOfMemory;
+use gtfs_table::OutFault;
+
+/// Why a command was not done. Paths are as they stand in the words.
+#[derive(Debug, Drop)]
+pub(super) enum Refusal<'w> {
+    /// The words are not as the usage wants them: `clap`'s text.
+    Words(String),
+    /// The value of this option is bad.
+    BadValue(&'static str),
+    /// There is no such folder or file.
+    NotThere(&'w str),
+    /// The folder or the file cannot be read.
+    Unreadable(&'w str),
+    /// The file, or one of the folder's files, is over the limit.
+    OverLimit(&'w str),
+    /// What the folder holds is no feed, or one with errors.
+    HasErrors(&'w str),
+    /// The file is no zone file.
+    NoZone(&'w str),
+    /// The feed has no stop of the id.
+    UnknownStop,
+    /// The board would end before it begins.
+    UntilBeforeFrom,
+    /// The output did not take all that was to go out.
+    OutputFailed,
+    /// Memory ran out.
+    OutOfMemory,
+}
+
+impl From<OutOfMemory> for Refusal<'_> {
+    fn from(_refused: OutOfMemory) -> Self {
+        Refusal::OutOfMemory
+    }
+}
+
+impl From<OutFault> for Refusal<'_> {
+    fn from(_fault: OutFault) -> Self {
+        Refusal::OutputFailed
+    }
+}
+
+impl Refusal<'_> {
+    /// The status with which the program ends.
+    pub(super) fn status(&self) -> u8 {
+        match self {
+            Refusal::HasErrors(_) | Refusal::UnknownStop => 1,
+            Refusal::Words(_) | Refusal::BadValue(_) | Refusal::UntilBeforeFrom => 2,
+            Refusal::NotThere(_)
+            | Refusal::Unreadable(_)
+            | Refusal::OverLimit(_)
+            | Refusal::NoZone(_)
+            | Refusal::OutputFailed => 3,
+            Refusal::OutOfMemory => 4,
+        }
+    }
+}
