@@ -3,7 +3,7 @@
 //! output held back did not go out.
 #![tactic(auto)]
 
-ghost use Rattle.std.specs.Prelude.{◌≡◌, ◌≤◌, IfOk, IfErr, OnErr};
+ghost use Rattle.std.specs.Prelude.{◌≡◌, ◌≤◌, IfOk, IfErr, OnOk, OnErr};
 ghost use Rattle.gtfs_table.specs.Device.{counted};
 ghost use Rattle.gtfs.specs.declared.fault.Fault.TheVariants.{OutputFailed};
 
@@ -46,7 +46,8 @@ fn answer<R: Runtime + AllocGlobal, E: Out>(rt: &R, err: &mut E) -> Result<u8, F
 fn close<W: Write>(out: &mut WriteOut<W>, status: u8) -> Result<u8, Fault>
     ensures kept { IfOk result (λ given. given ≡ status) }
     ensures failed { IfErr result (λ fault. (fault ≡ OutputFailed) × (status ≤ 1)) }
-    ensures flushed { OnErr result (out.new.1 ≡ counted out.old.1) }
+    ensures sent { status ≤ 1 → OnOk result (out.new.1 ≡ out.old.1) }
+    ensures counted { OnErr result (out.new.1 ≡ counted out.old.1) }
 {
     match out.flush() {
         Err(_) if status <= 1 => Err(Fault::OutputFailed),
