@@ -22,3 +22,6 @@ mod Opened
 pub mod Services
 pub mod Assembled
 pub mod LoadedRows
+mod Moments
+mod Paths
+mod Endings

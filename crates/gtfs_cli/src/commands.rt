@@ -1,4 +1,8 @@
 //! The commands of the program, and how each ends.
+ghost use Rattle.std.specs.Prelude.{◌≡◌, ◌≤◌, map, IfErr};
+ghost use Rattle.gtfs_cli.specs.Running.{IsBadUsage, IsDeviceFault};
+ghost use Rattle.gtfs_cli.specs.Refusals.{IsCauseOf};
+
 mod board;
 mod messages;
 mod moments;
@@ -34,7 +38,16 @@ pub fn run<S: AsStr, F: Folders, O: Out, E: Out>(
     folders: &mut F,
     out: &mut O,
     err: &mut E,
-) -> u8 {
+) -> u8
+    ensures usage { result ≡ 2 → IsBadUsage (map S.text words.now) (F.held folders.old) }
+    ensures device { result ≡ 3 → IsDeviceFault (map S.text words.now) (F.held folders.old)
+        (record { folders = F.failure_count folders.old; output = O.failure_count out.old })
+        (record { folders = F.failure_count folders.new; output = O.failure_count out.new }) }
+    ensures statuses { result ≤ 4 }
+    ensures unchanged { F.held folders.new ≡ F.held folders.old }
+    ensures folders_grow { F.failure_count folders.old ≤ F.failure_count folders.new }
+    ensures output_grows { O.failure_count out.old ≤ O.failure_count out.new }
+{
     match command(alloc, words, folders, out) {
         Ok(()) => 0,
         Err(refusal) => {
@@ -51,7 +64,14 @@ fn command<'w, S: AsStr, F: Folders, O: Out>(
     words: &'w [S],
     folders: &mut F,
     out: &mut O,
-) -> Result<(), Refusal<'w>> {
+) -> Result<(), Refusal<'w>>
+    ensures refused { IfErr result (IsCauseOf (map S.text words.entry.now) (F.held folders.old)
+        (record { folders = F.failure_count folders.old; output = O.failure_count out.old })
+        (record { folders = F.failure_count folders.new; output = O.failure_count out.new })) }
+    ensures unchanged { F.held folders.new ≡ F.held folders.old }
+    ensures folders_grow { F.failure_count folders.old ≤ F.failure_count folders.new }
+    ensures output_grows { O.failure_count out.old ≤ O.failure_count out.new }
+{
     match read_words(alloc, words) {
         Ok(Command::Board(given)) => board::print_board(alloc, &given, folders, out),
         Err(WordsFault::Help(text)) => Ok(write_text(out, text.as_bytes())?),

@@ -1,3 +1,10 @@
+ghost use Rattle.std.specs.Prelude.{◌≡◌, ◌≤◌, IfOk, IfErr, Option};
+ghost use Rattle.gtfs_days.specs.Zone.{IsZoneOf};
+ghost use Rattle.gtfs_table.specs.Folder.{Store};
+ghost use Rattle.gtfs_cli.specs.Running.{Failures, HoldsBytes, HoldsZone};
+ghost use Rattle.gtfs_cli.specs.declared.words.BoardWords.{BoardWords as Given};
+ghost use Rattle.gtfs_cli.specs.Refusals.{AreOf, IsCause, IsFaultCause};
+
 use crate::board::{Board, BoardFault, Span, push_line};
 use crate::commands::moments::{Moment, read_moment};
 use crate::commands::paths::cut_path;
@@ -19,39 +26,60 @@ pub(super) fn print_board<'w, F: Folders, O: Out>(
     words: &BoardWords<'w>,
     folders: &mut F,
     out: &mut O,
-) -> Result<(), Refusal<'w>> {
-    let from = moment(words.from, "--from")?;
-    let until = moment(words.until, "--until")?;
-    let tables = read_tables(alloc, folders, words.dir)?;
+) -> Result<(), Refusal<'w>>
+    ensures refused { IfErr result (IsCause (F.held folders.old) words.now
+        (record { folders = F.failure_count folders.old; output = O.failure_count out.old })
+        (record { folders = F.failure_count folders.new; output = O.failure_count out.new })) }
+    ensures unchanged { F.held folders.new ≡ F.held folders.old }
+    ensures folders_grow { F.failure_count folders.old ≤ F.failure_count folders.new }
+    ensures output_grows { O.failure_count out.old ≤ O.failure_count out.new }
+{
+    let (from, until) = read_moments(words)?;
+    let tables = read_tables(alloc, folders, words)?;
     let feed = read_feed(alloc, &tables, words.dir)?;
-    let zone = read_zone(alloc, folders, words.zone)?;
-    let span = Span {
-        from: from.instant(alloc, &zone)?,
-        until: until.instant(alloc, &zone)?,
+    let zone = read_zone(alloc, folders, words)?;
+    let mut board = open(alloc, &feed, &zone, words, from, until)?;
+    print_lines(alloc, &zone, &mut board, out)
+}
+
+// When the board begins and when it ends.
+fn read_moments<'w>(words: &BoardWords<'w>) -> Result<(Moment, Moment), Refusal<'w>>
+    ensures read { IfOk result (λ moments. AreOf words.now moments.0 moments.1) }
+    ensures refused { IfErr result (λ refusal. (held : Option Store) (before after : Failures) → IsCause held words.now before after refusal) }
+{
+    let Some(from) = read_moment(words.from) else {
+        return Err(Refusal::BadValue("--from"));
     };
-    let board = open(alloc, &feed, &zone, words.stop, span)?;
-    print_lines(alloc, &zone, board, out)
+    let Some(until) = read_moment(words.until) else {
+        return Err(Refusal::BadValue("--until"));
+    };
+    Ok((from, until))
 }
 
-// The value of an option that says when.
-fn moment(text: &str, option: &'static str) -> Result<Moment, Refusal<'static>> {
-    read_moment(text).ok_or(Refusal::BadValue(option))
-}
-
-// The tables of a folder. An empty text names none.
+// The tables of the feed's folder. An empty text names none.
 fn read_tables<'w, F: Folders>(
     alloc: Global,
     folders: &mut F,
-    dir: &'w str,
-) -> Result<Tables, Refusal<'w>> {
-    if dir.is_empty() {
-        return Err(Refusal::NotThere(dir));
+    words: &BoardWords<'w>,
+) -> Result<Tables, Refusal<'w>>
+    ensures refused { IfErr result (λ refusal. (before after : Failures) → before.folders ≤ F.failure_count folders.old
+        → F.failure_count folders.new ≤ after.folders → IsCause (F.held folders.old) words.now before after refusal) }
+    ensures unchanged { F.held folders.new ≡ F.held folders.old }
+    ensures grows { F.failure_count folders.old ≤ F.failure_count folders.new }
+{
+    if words.dir.is_empty() {
+        return Err(Refusal::NotThere(words.dir));
     }
-    Tables::read(alloc, folders, dir).map_err(|fault| of_folder(fault, dir))
+    match Tables::read(alloc, folders, words.dir) {
+        Ok(tables) => Ok(tables),
+        Err(fault) => Err(of_folder(fault, words.dir)),
+    }
 }
 
 // What a fault of the folders means for the path that was asked for.
-fn of_folder(fault: FolderFault, path: &str) -> Refusal<'_> {
+fn of_folder(fault: FolderFault, path: &str) -> Refusal<'_>
+    ensures { (held : Option Store) (words : Given) (before after : Failures) → IsFaultCause held words before after fault → IsCause held words before after result }
+{
     match fault {
         FolderFault::NoFolder => Refusal::NotThere(path),
         FolderFault::Read | FolderFault::Write => Refusal::Unreadable(path),
@@ -64,7 +92,9 @@ fn read_feed<'w, 'a>(
     alloc: Global,
     tables: &'a Tables,
     dir: &'w str,
-) -> Result<Feed<'a>, Refusal<'w>> {
+) -> Result<Feed<'a>, Refusal<'w>>
+    ensures { IfErr result (λ refusal. (held : Option Store) (words : Given) (before after : Failures) → IsCause held words before after refusal) }
+{
     match Feed::read(alloc, tables) {
         Ok(feed) => Ok(feed),
         Err(FeedFault::Unreadable) => Err(Refusal::HasErrors(dir)),
@@ -72,24 +102,34 @@ fn read_feed<'w, 'a>(
     }
 }
 
-// The zone of a file. A path that ends in `/` names no file.
+// The zone of the zone file. A path that ends in `/` names no file.
 fn read_zone<'w, F: Folders>(
     alloc: Global,
     folders: &mut F,
-    path: &'w str,
-) -> Result<Zone, Refusal<'w>> {
-    let (folder, name) = cut_path(path);
+    words: &BoardWords<'w>,
+) -> Result<Zone, Refusal<'w>>
+    ensures read { IfOk result (HoldsZone (F.held folders.old) words.now.zone.now) }
+    ensures refused { IfErr result (λ refusal. (before after : Failures) → before.folders ≤ F.failure_count folders.old
+        → F.failure_count folders.new ≤ after.folders → IsCause (F.held folders.old) words.now before after refusal) }
+    ensures unchanged { F.held folders.new ≡ F.held folders.old }
+    ensures grows { F.failure_count folders.old ≤ F.failure_count folders.new }
+{
+    let (folder, name) = cut_path(words.zone);
     if name.is_empty() {
-        return Err(Refusal::Unreadable(path));
+        return Err(Refusal::Unreadable(words.zone));
     }
     match folders.read(alloc, folder, name) {
-        Ok(Some(bytes)) => zone_of(alloc, &bytes, path),
-        Ok(None) => Err(Refusal::NotThere(path)),
-        Err(fault) => Err(of_folder(fault, path)),
+        Ok(Some(bytes)) => zone_of(alloc, bytes.as_slice(), words.zone),
+        Ok(None) => Err(Refusal::NotThere(words.zone)),
+        Err(fault) => Err(of_folder(fault, words.zone)),
     }
 }
 
-fn zone_of<'w>(alloc: Global, bytes: &[u8], path: &'w str) -> Result<Zone, Refusal<'w>> {
+fn zone_of<'w>(alloc: Global, bytes: &[u8], path: &'w str) -> Result<Zone, Refusal<'w>>
+    ensures read { IfOk result (IsZoneOf bytes.now) }
+    ensures refused { IfErr result (λ refusal. (held : Option Store) (words : Given) (before after : Failures) → HoldsBytes held words.zone.now bytes.now
+        → IsCause held words before after refusal) }
+{
     match Zone::read(alloc, bytes) {
         Ok(zone) => Ok(zone),
         Err(ZoneFault::Unreadable) => Err(Refusal::NoZone(path)),
@@ -97,14 +137,24 @@ fn zone_of<'w>(alloc: Global, bytes: &[u8], path: &'w str) -> Result<Zone, Refus
     }
 }
 
-fn open<'a>(
+// The board of the stop from the one moment until the other.
+fn open<'w, 'a>(
     alloc: Global,
     feed: &Feed<'a>,
     zone: &Zone,
-    stop: &str,
-    span: Span,
-) -> Result<Board<'a>, Refusal<'static>> {
-    match Board::open(alloc, feed, zone, stop, span) {
+    words: &BoardWords<'w>,
+    from: Moment,
+    until: Moment,
+) -> Result<Board<'a>, Refusal<'w>>
+    requires { AreOf words.now from until }
+    ensures { IfErr result (λ refusal. (held : Option Store) (before after : Failures) → HoldsZone held words.now.zone.now zone.now
+        → IsCause held words.now before after refusal) }
+{
+    let span = Span {
+        from: from.instant(alloc, zone)?,
+        until: until.instant(alloc, zone)?,
+    };
+    match Board::open(alloc, feed, zone, words.stop, span) {
         Ok(board) => Ok(board),
         Err(BoardFault::UnknownStop) => Err(Refusal::UnknownStop),
         Err(BoardFault::BadSpan) => Err(Refusal::UntilBeforeFrom),
@@ -113,17 +163,26 @@ fn open<'a>(
 }
 
 // The lines of a board, each sent out whole before the next is made.
-fn print_lines<O: Out>(
+fn print_lines<'w, O: Out>(
     alloc: Global,
     zone: &Zone,
-    mut board: Board<'_>,
+    board: &mut Board<'_>,
     out: &mut O,
-) -> Result<(), Refusal<'static>> {
+) -> Result<(), Refusal<'w>>
+    ensures refused { IfErr result (λ refusal. (held : Option Store) (words : Given) (before after : Failures) → before.output ≤ O.failure_count out.old
+        → O.failure_count out.new ≤ after.output → IsCause held words before after refusal) }
+    ensures grows { O.failure_count out.old ≤ O.failure_count out.new }
+{
     let mut line = String::new(alloc);
-    while let Some(departure) = board.next()? {
-        line.clear();
-        push_line(alloc, &mut line, zone, &departure)?;
-        write_text(out, line.as_bytes())?;
+    'lines: loop {
+        match board.next() {
+            Ok(Some(departure)) => {
+                line.clear();
+                push_line(alloc, &mut line, zone, &departure)?;
+                write_text(out, line.as_bytes())?;
+            }
+            Ok(None) => return Ok(()),
+            Err(_) => return Err(Refusal::OutOfMemory),
+        }
     }
-    Ok(())
 }

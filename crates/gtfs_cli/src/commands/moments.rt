@@ -1,3 +1,9 @@
+ghost use Rattle.std.specs.Prelude.{◌≡◌, ◌<◌, ◌^◌, option_map, unsigned_abs, IfOk, IfSome};
+ghost use Rattle.gtfs_field.specs.Kinds.{date_of};
+ghost use Rattle.gtfs_days.specs.Zone.{zone_origin};
+ghost use Rattle.gtfs_cli.specs.Running.{after_at, instant_at, moment_of, service_day};
+ghost use Rattle.gtfs_cli.specs.Refusals.{IsSound};
+
 use gtfs_days::Zone;
 use gtfs_field::{Day, OutOfMemory, read_date, read_instant};
 use std::alloc::Global;
@@ -15,15 +21,27 @@ pub(super) enum Moment {
 }
 
 /// Reads the value of `--from` or `--until`: `@` and an instant, or a service day YYYYMMDD. None where the text is neither.
-pub(super) fn read_moment(text: &str) -> Option<Moment> {
-    match text.strip_prefix('@') {
+pub(super) fn read_moment(text: &str) -> Option<Moment>
+    ensures value { result ≡ moment_of text.now }
+    ensures sound { IfSome result IsSound }
+{
+    match after_at(text) {
         Some(instant) => Some(Moment::Instant(read_instant(instant).ok()?)),
         None => Some(Moment::ServiceDay(read_service_day(text)?)),
     }
 }
 
-// A date of a service day.
-fn read_service_day(text: &str) -> Option<Day> {
+// What follows an `@` at the beginning.
+fn after_at(text: &str) -> Option<&str>
+    ensures { option_map (λ t. t.now) result ≡ after_at text.now }
+{
+    text.strip_prefix('@')
+}
+
+// A date that is a service day.
+fn read_service_day(text: &str) -> Option<Day>
+    ensures { result ≡ service_day (date_of text.now) }
+{
     let day = read_date(text).ok()?;
     if day.number() > LAST_SERVICE_DAY {
         return None;
@@ -36,7 +54,11 @@ impl Moment {
     ///
     /// # Errors
     /// None today: no memory is taken.
-    pub(super) fn instant(self, alloc: Global, zone: &Zone) -> Result<i64, OutOfMemory> {
+    pub(super) fn instant(self, alloc: Global, zone: &Zone) -> Result<i64, OutOfMemory>
+        requires { IsSound self }
+        ensures value { IfOk result (λ x. x ≡ instant_at (zone_origin zone.now) self) }
+        ensures short { IfOk result (λ x. unsigned_abs x < 10 ^ 12) }
+    {
         match self {
             Moment::Instant(instant) => Ok(instant),
             Moment::ServiceDay(day) => zone.origin(alloc, day),

@@ -1,3 +1,6 @@
+ghost use Rattle.std.specs.Prelude.{◌≡◌};
+ghost use Rattle.gtfs_cli.specs.Refusals.{status_of};
+
 use gtfs_field::OutOfMemory;
 use gtfs_table::OutFault;
 
@@ -29,12 +32,22 @@ pub(super) enum Refusal<'w> {
 }
 
 impl From<OutOfMemory> for Refusal<'_> {
+    ghost use Rattle.std.specs.Prelude.{◌≡◌};
+    ghost use Rattle.gtfs_cli.specs.declared.commands.refusal.Refusal.TheVariants.{OutOfMemory as no_memory};
+
+    ghost from_gives = { λ _ refusal. refusal ≡ no_memory };
+
     fn from(_refused: OutOfMemory) -> Self {
         Refusal::OutOfMemory
     }
 }
 
 impl From<OutFault> for Refusal<'_> {
+    ghost use Rattle.std.specs.Prelude.{◌≡◌};
+    ghost use Rattle.gtfs_cli.specs.declared.commands.refusal.Refusal.TheVariants.{OutputFailed as failed};
+
+    ghost from_gives = { λ _ refusal. refusal ≡ failed };
+
     fn from(_fault: OutFault) -> Self {
         Refusal::OutputFailed
     }
@@ -42,7 +55,9 @@ impl From<OutFault> for Refusal<'_> {
 
 impl Refusal<'_> {
     /// The status with which the program ends.
-    pub(super) fn status(&self) -> u8 {
+    pub(super) fn status(&self) -> u8
+        ensures { result ≡ status_of self.now }
+    {
         match self {
             Refusal::HasErrors(_) | Refusal::UnknownStop => 1,
             Refusal::Words(_) | Refusal::BadValue(_) | Refusal::UntilBeforeFrom => 2,

@@ -1,0 +1,130 @@
+-- Refusals, when they come, and the status that each gives.
+use Rattle.std.proofs.Common.{◌≡◌, ℕ, zero, suc, ◌+◌, ◌<◌, ◌≤◌, ◌^◌, ◌⊎◌, inl, inr, Bool, true, false, ◌&&◌, not, List, [], ◌∷◌, length, Option, Some, None, Result, Ok, Err, refl, sym, ap, subst, ◌∙◌, arith, ℤ, pos, ◌<ℤ◌, ◌≤ℤ◌, ◌-ℤ◌, ◌*ℤ◌, unsigned_abs, int_le}
+use Rattle.std.specs.Prelude.{IfErr, IsErrAnd}
+use Rattle.gtfs_table.specs.Device.{Rises}
+use Rattle.gtfs_table.specs.Folder.{Store, RefusesRead}
+use Rattle.gtfs_table.specs.Reading.{RefusesDataset}
+use Rattle.gtfs_table.specs.declared.folders.FolderFault.{FolderFault}
+use Rattle.gtfs_table.specs.declared.folders.FolderFault.TheVariants as faults
+use Rattle.clap.specs.Words.{Text}
+use Rattle.gtfs_cli.specs.Running.{AsksFor, Failures, IsBadUsage, IsDeviceFault, IsFileOf, KeepsFromReading}
+use Rattle.gtfs_cli.specs.Refusals.{status_of, IsCause, IsCauseInWords, IsCauseOf, IsFaultCause}
+use Rattle.gtfs_cli.specs.declared.commands.refusal.Refusal.{Refusal}
+use Rattle.gtfs_cli.specs.declared.commands.refusal.Refusal.TheVariants.{Words, BadValue, NotThere, Unreadable, OverLimit, HasErrors, NoZone, UnknownStop, UntilBeforeFrom, OutputFailed, OutOfMemory}
+use Rattle.gtfs_cli.specs.declared.words.BoardWords.{BoardWords}
+
+-- a count that rose within a call rose over a longer one
+pub rises-longer : (b x y a : ℕ) → b ≤ x → Rises x y → y ≤ a → Rises b a
+rises-longer b x y a first rises last = omega arith
+
+-- ---- why tables and files are not read
+
+pub cause-tables : (held : Option Store) (words : BoardWords) (before after : Failures) (x y : ℕ) (fault : FolderFault) → before.folders ≤ x → y ≤ after.folders
+    → RefusesDataset fault held words.dir.now x y → IsFaultCause held words before after fault
+cause-tables held words before after x y faults.Read first last h = rises-longer before.folders x y after.folders first h last
+cause-tables held words before after x y faults.TooLarge first last h = inl h
+cause-tables held words before after x y faults.OutOfMemory first last h = h
+cause-tables held words before after x y faults.NoFolder first last h = inl (inr h)
+cause-tables held words before after x y faults.Write first last h = h
+
+pub cause-file : (held : Option Store) (words : BoardWords) (before after : Failures) (x y : ℕ) (folder name : List ℕ) (fault : FolderFault) → before.folders ≤ x → y ≤ after.folders
+    → IsFileOf words.zone.now folder name → RefusesRead fault held folder name x y → IsFaultCause held words before after fault
+cause-file held words before after x y folder name faults.Read first last of h = rises-longer before.folders x y after.folders first h last
+cause-file held words before after x y folder name faults.TooLarge first last of h = inr (record { folder = folder; name = name; file = of; fact = h })
+cause-file held words before after x y folder name faults.OutOfMemory first last of h = h
+cause-file held words before after x y folder name faults.NoFolder first last of h = inr (record { folder = folder; name = name; file = of; fact = inl h })
+cause-file held words before after x y folder name faults.Write first last of h = h
+
+-- ---- what statuses tell
+
+abbrev pub TellsUsage : List Text → Option Store → Refusal → Type 0
+TellsUsage texts held refusal = status_of refusal ≡ 2 → IsBadUsage texts held
+
+usage_by_words : (texts : List Text) (held : Option Store) (before after : Failures) (r : Refusal) → IsCauseInWords texts before after r → TellsUsage texts held r
+usage_by_words texts held before after (Words text) h e = inl h
+usage_by_words texts held before after (BadValue option) h e = absurd h
+usage_by_words texts held before after (NotThere path) h e = absurd h
+usage_by_words texts held before after (Unreadable path) h e = absurd h
+usage_by_words texts held before after (OverLimit path) h e = absurd h
+usage_by_words texts held before after (HasErrors path) h e = absurd h
+usage_by_words texts held before after (NoZone path) h e = absurd h
+usage_by_words texts held before after UnknownStop h e = absurd h
+usage_by_words texts held before after UntilBeforeFrom h e = absurd h
+usage_by_words texts held before after OutputFailed h e = absurd (omega (arith, e))
+usage_by_words texts held before after OutOfMemory h e = absurd (omega (arith, e))
+
+usage_by_board : (texts : List Text) (held : Option Store) (before after : Failures) (r : Refusal) → AsksFor texts (λ words. IsCause held words before after r) → TellsUsage texts held r
+usage_by_board texts held before after (Words text) h e = absurd h.fact
+usage_by_board texts held before after (BadValue option) h e = inr (record { words = h.words; asks = h.asks; fact = inl h.fact })
+usage_by_board texts held before after (NotThere path) h e = absurd (omega (arith, e))
+usage_by_board texts held before after (Unreadable path) h e = absurd (omega (arith, e))
+usage_by_board texts held before after (OverLimit path) h e = absurd (omega (arith, e))
+usage_by_board texts held before after (HasErrors path) h e = absurd (omega (arith, e))
+usage_by_board texts held before after (NoZone path) h e = absurd (omega (arith, e))
+usage_by_board texts held before after UnknownStop h e = absurd (omega (arith, e))
+usage_by_board texts held before after UntilBeforeFrom h e = inr (record { words = h.words; asks = h.asks; fact = inr h.fact })
+usage_by_board texts held before after OutputFailed h e = absurd (omega (arith, e))
+usage_by_board texts held before after OutOfMemory h e = absurd (omega (arith, e))
+
+pub usage-from : (texts : List Text) (held : Option Store) (before after : Failures) (r : Refusal) (status : ℕ) → status ≡ status_of r → IsCauseOf texts held before after r → status ≡ 2 → IsBadUsage texts held
+usage-from texts held before after r status is (inl h) e = usage_by_words texts held before after r h (sym is ∙ e)
+usage-from texts held before after r status is (inr h) e = usage_by_board texts held before after r h (sym is ∙ e)
+
+abbrev pub TellsDevice : List Text → Option Store → Failures → Failures → Refusal → Type 0
+TellsDevice texts held before after refusal = status_of refusal ≡ 3 → IsDeviceFault texts held before after
+
+device_by_words : (texts : List Text) (held : Option Store) (before after : Failures) (r : Refusal) → IsCauseInWords texts before after r → TellsDevice texts held before after r
+device_by_words texts held before after (Words text) h e = absurd (omega (arith, e))
+device_by_words texts held before after (BadValue option) h e = absurd h
+device_by_words texts held before after (NotThere path) h e = absurd h
+device_by_words texts held before after (Unreadable path) h e = absurd h
+device_by_words texts held before after (OverLimit path) h e = absurd h
+device_by_words texts held before after (HasErrors path) h e = absurd h
+device_by_words texts held before after (NoZone path) h e = absurd h
+device_by_words texts held before after UnknownStop h e = absurd h
+device_by_words texts held before after UntilBeforeFrom h e = absurd h
+device_by_words texts held before after OutputFailed h e = inl (inr h)
+device_by_words texts held before after OutOfMemory h e = absurd (omega (arith, e))
+
+-- the words ask for a board that something keeps them from
+kept : (texts : List Text) (held : Option Store) (before after : Failures) (r : Refusal) (h : AsksFor texts (λ words. IsCause held words before after r))
+    → KeepsFromReading held h.words → IsDeviceFault texts held before after
+kept texts held before after r h fact = inr (record { words = h.words; asks = h.asks; fact = fact })
+
+device_by_board : (texts : List Text) (held : Option Store) (before after : Failures) (r : Refusal) → AsksFor texts (λ words. IsCause held words before after r) → TellsDevice texts held before after r
+device_by_board texts held before after (Words text) h e = absurd h.fact
+device_by_board texts held before after (BadValue option) h e = absurd (omega (arith, e))
+device_by_board texts held before after (NotThere path) h e =
+    kept texts held before after (NotThere path) h (elim h.fact [ inl x ↦ inl x | inr x ↦ inr (inr (inl x)) ])
+device_by_board texts held before after (Unreadable path) h e =
+    elim h.fact [ inl x ↦ inl (inl x) | inr x ↦ kept texts held before after (Unreadable path) h (inr (inr (inr (inl x)))) ]
+device_by_board texts held before after (OverLimit path) h e =
+    kept texts held before after (OverLimit path) h (elim h.fact [ inl x ↦ inr (inl x) | inr x ↦ inr (inr (inr (inr (inl x)))) ])
+device_by_board texts held before after (HasErrors path) h e = absurd (omega (arith, e))
+device_by_board texts held before after (NoZone path) h e = kept texts held before after (NoZone path) h (inr (inr (inr (inr (inr h.fact)))))
+device_by_board texts held before after UnknownStop h e = absurd (omega (arith, e))
+device_by_board texts held before after UntilBeforeFrom h e = absurd (omega (arith, e))
+device_by_board texts held before after OutputFailed h e = inl (inr h.fact)
+device_by_board texts held before after OutOfMemory h e = absurd (omega (arith, e))
+
+pub device-from : (texts : List Text) (held : Option Store) (before after : Failures) (r : Refusal) (status : ℕ) → status ≡ status_of r → IsCauseOf texts held before after r → status ≡ 3 → IsDeviceFault texts held before after
+device-from texts held before after r status is (inl h) e = device_by_words texts held before after r h (sym is ∙ e)
+device-from texts held before after r status is (inr h) e = device_by_board texts held before after r h (sym is ∙ e)
+
+pub statuses-from : (r : Refusal) (status : ℕ) → status ≡ status_of r → status ≤ 4
+statuses-from (Words text) status is = omega (arith, is)
+statuses-from (BadValue option) status is = omega (arith, is)
+statuses-from (NotThere path) status is = omega (arith, is)
+statuses-from (Unreadable path) status is = omega (arith, is)
+statuses-from (OverLimit path) status is = omega (arith, is)
+statuses-from (HasErrors path) status is = omega (arith, is)
+statuses-from (NoZone path) status is = omega (arith, is)
+statuses-from UnknownStop status is = omega (arith, is)
+statuses-from UntilBeforeFrom status is = omega (arith, is)
+statuses-from OutputFailed status is = omega (arith, is)
+statuses-from OutOfMemory status is = omega (arith, is)
+
+-- a `?` passes its error on
+pub told-up : {A : Type 0} (r : Result A Refusal) (e : Refusal) (P : Refusal → Type 0) → IsErrAnd r (λ y. y ≡ e) → P e → IfErr r P
+told-up (Ok x) e P is h = absurd is
+told-up (Err y) e P is h = subst P (sym is) h
