@@ -1,0 +1,43 @@
+//! What the program itself has to say.
+ghost use Rattle.std.specs.Prelude.{◌≡◌};
+ghost use Rattle.gtfs.specs.declared.fault.Fault.TheVariants.{BadWords, OutputFailed, OutOfMemory};
+
+use thiserror::Error;
+
+/// Why the program could not answer the words, or not send its answer on.
+#[derive(Clone, Copy, Debug, PartialEq, Eq, Error)]
+pub enum Fault {
+    /// A word is not UTF-8.
+    #[error("bad words")]
+    BadWords,
+    /// The standard output did not take what was held back.
+    #[error("output failed")]
+    OutputFailed,
+    /// Memory was refused.
+    #[error("out of memory")]
+    OutOfMemory,
+}
+
+impl Fault {
+    /// The line for the error output.
+    pub fn line(self) -> &'static str {
+        match self {
+            Fault::BadWords => "gtfs: bad words\n",
+            Fault::OutputFailed => "gtfs: output failed\n",
+            Fault::OutOfMemory => "gtfs: out of memory\n",
+        }
+    }
+
+    /// The exit status.
+    pub fn status(self) -> u8
+        ensures words { self ≡ BadWords → result ≡ 2 }
+        ensures output { self ≡ OutputFailed → result ≡ 3 }
+        ensures memory { self ≡ OutOfMemory → result ≡ 4 }
+    {
+        match self {
+            Fault::BadWords => 2,
+            Fault::OutputFailed => 3,
+            Fault::OutOfMemory => 4,
+        }
+    }
+}

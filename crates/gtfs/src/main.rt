@@ -1,0 +1,62 @@
+//! The program `gtfs`: the library `gtfs_cli` over the words of the command line, the disk, the standard output
+//! and the error output. It says itself only what keeps it from calling that library, and that what the standard
+//! output held back did not go out.
+#![tactic(auto)]
+
+ghost use Rattle.std.specs.Prelude.{◌≡◌, ◌≤◌, IfOk, IfErr, OnOk, OnErr};
+ghost use Rattle.gtfs_table.specs.Device.{counted};
+ghost use Rattle.gtfs.specs.declared.fault.Fault.TheVariants.{OutputFailed};
+
+mod fault;
+mod words;
+
+use fault::Fault;
+use gtfs_cli::run;
+use gtfs_table::{DiskFolders, Out, WriteOut, write_text};
+use std::io;
+use std::io::{BufWriter, Write};
+use std::process::ExitCode;
+use std::rt::Runtime;
+use words::read_words;
+
+fn main(rt: HostRuntime) -> ExitCode {
+    let mut err = WriteOut::new(rt.stderr());
+    let status = match answer(&rt, &mut err) {
+        Ok(status) => status,
+        Err(fault) => tell(&mut err, fault),
+    };
+    // A refused write of an error line changes no status.
+    let _ = err.flush();
+    ExitCode::from(status)
+}
+
+/// Answers the words of the command line, and gives the status.
+fn answer<R: Runtime + AllocGlobal, E: Out>(rt: &R, err: &mut E) -> Result<u8, Fault> {
+    let alloc = rt.alloc();
+    let words = read_words(rt)?;
+    let writer = BufWriter::new(alloc, io::writer(rt)).map_err(|_| Fault::OutOfMemory)?;
+    let mut out = WriteOut::new(writer);
+    let mut disk = DiskFolders::new(rt);
+    let status = run(alloc, words.as_slice(), &mut disk, &mut out, err);
+    close(&mut out, status)
+}
+
+/// Sends on what the output holds back. Where that fails, a command that found nothing else wrong with its output
+/// (status 0 or 1) did not do what was asked.
+fn close<W: Write>(out: &mut WriteOut<W>, status: u8) -> Result<u8, Fault>
+    ensures kept { IfOk result (λ given. given ≡ status) }
+    ensures failed { IfErr result (λ fault. (fault ≡ OutputFailed) × (status ≤ 1)) }
+    ensures sent { status ≤ 1 → OnOk result (out.new.1 ≡ out.old.1) }
+    ensures counted { OnErr result (out.new.1 ≡ counted out.old.1) }
+{
+    match out.flush() {
+        Err(_) if status <= 1 => Err(Fault::OutputFailed),
+        _ => Ok(status),
+    }
+}
+
+/// Tells of a fault on the error output, and gives the status for it.
+fn tell<E: Out>(err: &mut E, fault: Fault) -> u8 {
+    let _ = write_text(err, fault.line().as_bytes());
+    fault.status()
+}

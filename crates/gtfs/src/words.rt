@@ -1,0 +1,17 @@
+//! The words of the command line.
+
+use crate::fault::Fault;
+use std::env;
+use std::io::ErrorKind;
+use std::rt::Env;
+
+/// The words of the command line, of which the first is the program's name.
+///
+/// Refused with BadWords where one of them is not UTF-8, and with OutOfMemory.
+pub fn read_words<R: Env + AllocGlobal>(rt: &R) -> Result<Vec<String>, Fault> {
+    match env::args(rt) {
+        Ok(words) => words.collect(rt.alloc()).map_err(|_| Fault::OutOfMemory),
+        Err(fault) if fault.kind() == ErrorKind::OutOfMemory => Err(Fault::OutOfMemory),
+        Err(_) => Err(Fault::BadWords),
+    }
+}
