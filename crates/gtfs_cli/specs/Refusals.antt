@@ -1,12 +1,12 @@
 -- Why a command was not done: each refusal, its status and when it comes.
 use Rattle.std.specs.Prelude.{◌≡◌, ◌⊎◌, ◌<◌, ◌^◌, ℕ, true, false, List, Option, Some, unsigned_abs, ⊤}
-use Rattle.clap.specs.Words.{Text, subcommand_of, takes}
+use Rattle.clap.specs.Words.{Text, takes}
 use Rattle.gtfs_days.specs.Service.{is_service_day}
 use Rattle.gtfs_table.specs.Device.{Rises}
 use Rattle.gtfs_table.specs.Folder.{Store}
 use Rattle.gtfs_table.specs.declared.folders.FolderFault.{FolderFault}
 use Rattle.gtfs_table.specs.declared.folders.FolderFault.TheVariants as faults
-use Rattle.gtfs_cli.specs.CommandLine.{gtfs_app, IsCommandOf}
+use Rattle.gtfs_cli.specs.CommandLine.{gtfs_app}
 use Rattle.gtfs_cli.specs.Running.{moment_of, AsksFor, EndsBeforeItBegins, Failures, HasBadValue, HoldsFile, HoldsKeptFile, HoldsNoZone, LacksFeed, LacksFile, NamesNoFile}
 use Rattle.gtfs_cli.specs.declared.commands.moments.Moment.{Moment}
 use Rattle.gtfs_cli.specs.declared.commands.moments.Moment.TheVariants.{Instant, ServiceDay}

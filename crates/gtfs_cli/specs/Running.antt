@@ -1,6 +1,6 @@
 -- How the program ends: what is the matter where it ends with status 2 (usage) or 3 (folders, files and output).
 -- What folders hold they tell or do not tell, as a disk does not; of what is not told the words below claim nothing.
-use Rattle.std.specs.Prelude.{◌≡◌, ◌≢◌, ◌<◌, ◌++◌, ◌⊎◌, ℕ, slice_index, ◌==◌, Bool, true, false, if◌then◌else◌, codes, length, List, [], ◌∷◌, Option, Some, None, option_map, Result, Ok, Err, ℤ, ◌<ℤ◌}
+use Rattle.std.specs.Prelude.{◌≡◌, ◌≢◌, ◌<◌, ◌++◌, ◌⊎◌, ℕ, slice_index, ◌==◌, false, if◌then◌else◌, codes, length, List, [], ◌∷◌, Option, Some, None, option_map, Result, Ok, Err, ℤ, ◌<ℤ◌}
 use Rattle.std.specs.Result.{result_ok}
 use Rattle.std.specs.Path.{slash}
 use Rattle.clap.specs.Words.{Text, subcommand_of, takes}

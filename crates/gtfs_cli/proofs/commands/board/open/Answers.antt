@@ -1,4 +1,4 @@
-use Rattle.std.proofs.Common.{◌≡◌, ℤ, ap, subst, sym, ◌∙◌, ◌<◌, ◌^◌, ◌<ℤ◌, rules, Err, to_z, of_z, to_z-of_z, FitsSigned, w64, unsigned_abs, false}
+use Rattle.std.proofs.Common.{◌≡◌, ap, rules, Err, to_z, of_z, to_z-of_z, FitsSigned, w64, false}
 use Rattle.gtfs_days.specs.Zone.{zone_origin}
 use Rattle.gtfs_cli.specs.Board.{is_span}
 use Rattle.gtfs_cli.specs.Running.{instant_at}

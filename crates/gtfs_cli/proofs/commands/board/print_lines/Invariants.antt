@@ -1,4 +1,4 @@
-use Rattle.std.proofs.Common.{ℕ, ◌≤◌, length}
+use Rattle.std.proofs.Common.{◌≤◌, length}
 use Rattle.gtfs_cli.proofs.commands.board.print_lines.Given as goal
 
 abbrev pub invariant-lines : goal.invariant-lines

@@ -1,4 +1,4 @@
-use Rattle.std.proofs.Common.{◌≡◌, ◌<◌, ◌^◌, ◌∙◌, sym, subst, rules, unsigned_abs, Some, Option, ℤ, to_z, of_z, to_z-of_z, FitsSigned, w64}
+use Rattle.std.proofs.Common.{◌≡◌, ◌<◌, ◌^◌, ◌∙◌, sym, subst, rules, unsigned_abs, ℤ, to_z, of_z, to_z-of_z, FitsSigned, w64}
 use Rattle.gtfs_field.specs.Kinds.{date_of}
 use Rattle.gtfs_cli.proofs.Moments.{read-small, service-sound}
 use Rattle.gtfs_cli.proofs.commands.moments.read_moment.Goals as goal
