@@ -1,5 +1,5 @@
 -- What is found in a list; an event of a stop, on a day of its service, is a departure of the stop's board.
-use Rattle.std.proofs.Common.{◌≡◌, ℕ, ℤ, pos, ◌+ℤ◌, ◌==◌, ◌&&◌, ◌||◌, Bool, true, false, cond, List, [], ◌∷◌, Option, Some, None, find, option_map, option_and_then, refl, sym, ap, subst, ◌∙◌, bytes_eq, rules}
+use Rattle.std.proofs.Common.{◌≡◌, ℕ, ℤ, pos, ◌+ℤ◌, ◌==◌, ◌&&◌, ◌||◌, Bool, true, false, cond, List, [], ◌∷◌, Option, Some, None, find, option_map, refl, sym, ap, subst, ◌∙◌, bytes_eq}
 use Rattle.std.specs.List.{list_any}
 use Rattle.std.specs.Ordering.{int_eq}
 use Rattle.std.proofs.lemmas.Cmp.{int_eq_equiv}
@@ -7,10 +7,10 @@ use Rattle.gtfs_days.specs.Service.{ServiceDates, is_active}
 use Rattle.gtfs_cli.specs.Lines.{Listed}
 use Rattle.gtfs_cli.specs.Rows.{ServiceRow, StopRow, TripRow}
 use Rattle.gtfs_cli.specs.Content.{Content}
-use Rattle.gtfs_cli.specs.Trips.{is_run, is_departure_row, passes_at}
+use Rattle.gtfs_cli.specs.Trips.{is_departure_row, passes_at}
 use Rattle.gtfs_cli.specs.Departures.{Origins, is_in_place, is_within, is_listed, departs_at, runs_on}
 use Rattle.gtfs_cli.specs.Events.{IsEvent}
-use Rattle.gtfs_cli.specs.Shown.{shown, trip_named, row_numbered, IsShown}
+use Rattle.gtfs_cli.specs.Shown.{IsShown}
 use Rattle.gtfs_cli.specs.Waits.{shown_of, IsDated}
 use Rattle.gtfs_cli.specs.Found.{IsFound, IsServed, departure_on}
 use Rattle.gtfs_cli.specs.declared.board.span.Span.{Span}
@@ -69,7 +69,12 @@ departs f origin s e d x service event found active instant =
 
 shows : (f : Content) (s : List ℕ) (e : Event) (d x : ℤ) → IsEvent f s e → IsShown f (departure_on e x d)
 shows f s e d x event = rw (event.of_trip, event.of_row) (λ i. Some (record {
-    key = (departure_on e x d).key; stop = sym event.stop i; route = sym event.route i; headsign = sym event.headsign i; mark = sym event.mark i }))
+  key = (departure_on e x d).key;
+  stop = sym event.stop i;
+  route = sym event.route i;
+  headsign = sym event.headsign i;
+  mark = sym event.mark i;
+}))
 
 pub event-found : (f : Content) (origin : Origins) (s : List ℕ) (span : Span) (e : Event) (d x : ℤ) (w : Waiting) (service : ServiceDates) → IsEvent f s e
     → IsServed f e service → is_active service d ≡ true

@@ -1,11 +1,11 @@
 -- What the words of `gtfs` ask for where `clap` takes them, and what is the matter where it does not.
-use Rattle.std.proofs.Common.{◌≡◌, ◌≢◌, ◌⊎◌, ◌∙◌, ◌&&◌, ◌||◌, Bool, true, false, not, List, [], ◌∷◌, Option, Some, None, is_some, refl, sym, ap, subst, inl, inr, codes}
-use Rattle.std.specs.Prelude.{find, option_map, if◌then◌else◌}
+use Rattle.std.proofs.Common.{◌≡◌, ◌⊎◌, ◌∙◌, ◌&&◌, Bool, true, false, List, [], ◌∷◌, Option, Some, None, is_some, refl, sym, subst, inl, inr, codes}
+use Rattle.std.specs.Prelude.{option_map, if◌then◌else◌}
 use Rattle.std.specs.Option.{option_map_or}
-use Rattle.clap.specs.Words.{App, Row, Text, HasMatchesOf, IsAmong, fault_of, is_simple_and_free, first_of, subcommand_of, subcommand_rows_of, takes}
+use Rattle.clap.specs.Words.{App, Row, Text, HasMatchesOf, IsAmong, fault_of, is_simple_and_free, subcommand_of, subcommand_rows_of, takes}
 use Rattle.clap.specs.Simple.{Shape, argument_words, built, built_leaf, entered, inherited, label_of, marked_built, names_of, rows_at, with_leaf_noted}
 use Rattle.clap.specs.Takes as take
-use Rattle.clap.specs.Walk.{answers_to, nothing_held, finished, rows_after, walk}
+use Rattle.clap.specs.Walk.{answers_to, nothing_held, rows_after, walk}
 use Rattle.clap.specs.declared.error.kind.ErrorKind.{ErrorKind}
 use Rattle.clap.specs.declared.error.kind.ErrorKind.TheVariants as kind
 use Rattle.clap.specs.declared.parser.matches.ArgMatches.{ArgMatches}
@@ -13,7 +13,7 @@ use Rattle.gtfs_cli.specs.CommandLine.{board_app, gtfs_app, no_memory, HasBoard,
 use Rattle.gtfs_cli.specs.declared.words.WordsFault.{WordsFault}
 use Rattle.gtfs_cli.specs.declared.words.WordsFault.TheVariants as fault
 use Rattle.gtfs_cli.proofs.HelpAlone.{alone, built_alone, only_help}
-use Rattle.gtfs_cli.proofs.TakenWords.{both, built_taken, is_bare}
+use Rattle.gtfs_cli.proofs.TakenWords.{both, built_taken}
 use Rattle.gtfs_cli.proofs.GivenTexts.{are_filled, given_text, level_command, level_filled, level_given}
 
 help_is_no_memory : kind.DisplayHelp ≡ kind.OutOfMemory → ⊥

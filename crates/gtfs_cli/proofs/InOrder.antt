@@ -1,5 +1,5 @@
 -- The rows of a feed by their places: what ascends by a key is found by it.
-use Rattle.std.proofs.Common.{◌≡◌, ℕ, zero, suc, ◌+◌, ◌<◌, ◌==◌, nat_lt, Bool, true, false, cond, bytes_eq, List, [], ◌∷◌, length, get_or, map, find, Option, Some, None, option_map, refl, sym, ◌∙◌, ap, subst, arith}
+use Rattle.std.proofs.Common.{◌≡◌, ℕ, zero, suc, ◌+◌, ◌<◌, ◌==◌, nat_lt, true, false, cond, bytes_eq, List, [], ◌∷◌, length, get_or, map, find, Some, option_map, sym, ◌∙◌, ap, subst, arith}
 use Rattle.std.specs.List.{AllPairs, list_any}
 use Rattle.std.specs.Cmp.{ranked, tied_itself}
 use Rattle.std.specs.Ordering.{nat_cmp, on}

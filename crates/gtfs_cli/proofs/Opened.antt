@@ -1,5 +1,5 @@
 -- What was found, in order, is of the board.
-use Rattle.std.proofs.Common.{◌≡◌, ℕ, zero, suc, ◌<◌, ◌||◌, Bool, true, false, List, [], ◌∷◌, length, map, reverse, get_or, None, refl, sym, ap, subst, ◌∙◌, All, arith}
+use Rattle.std.proofs.Common.{◌≡◌, ℕ, suc, ◌||◌, Bool, true, false, List, [], ◌∷◌, map, reverse, None, refl, sym, subst, All, arith}
 use Rattle.std.specs.Ordering.{is_eq}
 use Rattle.std.specs.declared.cmp.Ordering.{Ordering}
 use Rattle.std.specs.declared.cmp.Ordering.TheVariants.{Less, Equal, Greater}
@@ -12,7 +12,7 @@ use Rattle.gtfs_cli.specs.Board.{keys_of, IsOfBoard}
 use Rattle.gtfs_cli.specs.Departures.{Origins, IsAscending, is_member, is_listed}
 use Rattle.gtfs_cli.specs.Found.{AllFound, IsFound}
 use Rattle.gtfs_cli.specs.Shown.{IsShown}
-use Rattle.gtfs_cli.specs.Waits.{shown_of, AllDated, IsDated}
+use Rattle.gtfs_cli.specs.Waits.{shown_of, AllDated}
 use Rattle.gtfs_cli.specs.declared.board.span.Span.{Span}
 use Rattle.gtfs_cli.specs.declared.board.waiting.Waiting.{Waiting}
 use Rattle.gtfs_cli.proofs.KeyOrder.{key_cmp-IsAntisymmetric}

@@ -1,6 +1,5 @@
 -- Departures in the order of their keys, each once.
-use Rattle.std.proofs.Common.{◌≡◌, ℕ, Bool, List, [], ◌∷◌, map, reverse, refl, sym, ap, subst, ◌∙◌, All, IsPermutation}
-use Rattle.std.specs.Cmp.{IsTotalOrder}
+use Rattle.std.proofs.Common.{◌≡◌, Bool, List, [], ◌∷◌, map, refl, sym, ap, subst}
 use Rattle.std.specs.List.{AllByRecursion, dedup}
 use Rattle.std.specs.List.Sorted.{IsSorted, IsStrictlySortedBy}
 use Rattle.std.specs.Ordering.{on, eq_by_cmp}
@@ -8,8 +7,7 @@ use Rattle.std.specs.declared.cmp.Ordering.{Ordering}
 use Rattle.std.specs.declared.cmp.Ordering.TheVariants.{Less}
 use Rattle.std.proofs.lemmas.Cmp.{on_total}
 use Rattle.std.proofs.lemmas.List.Kept.{IsStrictlySortedBy-dedup}
-use Rattle.gtfs_cli.specs.Key.{Key, key_cmp}
-use Rattle.gtfs_cli.specs.Lines.{Listed}
+use Rattle.gtfs_cli.specs.Key.{key_cmp}
 use Rattle.gtfs_cli.specs.Board.{keys_of}
 use Rattle.gtfs_cli.specs.Departures.{IsAscending}
 use Rattle.gtfs_cli.specs.Waits.{key_of_waiting, shown_of}

@@ -1,5 +1,5 @@
 -- A trip without periods passes each of its rows once: at the row's own time.
-use Rattle.std.proofs.Common.{◌≡◌, ℕ, ◌+◌, ◌-◌, ◌<◌, ◌≤◌, ◌==◌, nat_lt, ◌&&◌, not, Bool, true, false, if◌then◌else◌, List, [], ◌∷◌, length, get_or, map, find, Option, Some, None, option_map, refl, sym, ◌∙◌, ap, subst, arith}
+use Rattle.std.proofs.Common.{◌≡◌, ℕ, ◌+◌, ◌<◌, ◌≤◌, ◌==◌, nat_lt, ◌&&◌, not, true, false, List, [], ◌∷◌, length, get_or, map, find, Some, option_map, refl, sym, ◌∙◌, ap, subst, arith}
 use Rattle.std.specs.Prelude.{unwrap_or, is_some}
 use Rattle.std.specs.List.{list_any}
 use Rattle.std.specs.Option.{option_or}
@@ -10,9 +10,9 @@ use Rattle.gtfs_cli.specs.declared.feed.rows.StopTime.{StopTime}
 use Rattle.gtfs_cli.specs.declared.runs.event.Event.{Event}
 use Rattle.gtfs_cli.specs.Rows.{Period, StopRow, TripRow}
 use Rattle.gtfs_cli.specs.Content.{Content}
-use Rattle.gtfs_cli.specs.Trips.{leaves, starts_run, first_leaves, trip_start, is_run, is_departure_row, allows_boarding, passes_at}
+use Rattle.gtfs_cli.specs.Trips.{leaves, starts_run, first_leaves, trip_start, is_run, allows_boarding}
 use Rattle.gtfs_cli.specs.Departures.{is_in_place}
-use Rattle.gtfs_cli.specs.Shown.{trip_named, route_name, headsign, mark_if, mark_of}
+use Rattle.gtfs_cli.specs.Shown.{trip_named, route_name, mark_if}
 use Rattle.gtfs_cli.specs.Events.{IsEvent}
 use Rattle.gtfs_cli.specs.FeedView.{stop_time_row}
 use Rattle.gtfs_cli.proofs.InOrder.{Rises, numbered-at, followed-at}

@@ -1,7 +1,7 @@
 -- Worked words: what they ask for, what is the matter with them, computed.
-use Rattle.std.specs.Prelude.{◌≡◌, List, [], ◌∷◌, Option, Some, None, option_map, codes, true, false}
+use Rattle.std.specs.Prelude.{◌≡◌, List, [], ◌∷◌, Option, Some, option_map, codes, true, false}
 use Rattle.std.proofs.Common.{refl}
-use Rattle.clap.specs.Words.{Row, Text, fault_of, first_of, subcommand_of, takes}
+use Rattle.clap.specs.Words.{Text, fault_of, first_of, subcommand_of, takes}
 use Rattle.clap.specs.declared.error.kind.ErrorKind.TheVariants as kind
 use Rattle.clap.proofs.OnLiterals.{clap_on_literals}
 use Rattle.gtfs_cli.specs.CommandLine.{gtfs_app}

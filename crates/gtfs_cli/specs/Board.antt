@@ -1,5 +1,5 @@
 -- What contracts see of a board, and when one can be opened.
-use Rattle.std.specs.Prelude.{◌≡◌, ℕ, ◌^◌, ◌&&◌, Bool, true, List, All, map, bytes_eq, unsigned_abs, nat_lt, ℤ, int_le, Option}
+use Rattle.std.specs.Prelude.{◌≡◌, ℕ, ◌^◌, ◌&&◌, Bool, true, List, map, bytes_eq, unsigned_abs, nat_lt, ℤ, int_le, Option}
 use Rattle.std.specs.List.{list_any}
 use Rattle.gtfs_cli.specs.Key.{Key}
 use Rattle.gtfs_cli.specs.Lines.{Listed}

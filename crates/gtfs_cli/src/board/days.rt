@@ -17,6 +17,7 @@ use std::alloc::Global;
 
 /// The first and the last service day: 1900-01-01 and 9998-12-31.
 const FIRST_SERVICE_DAY: i64 = -25_567;
+
 const LAST_SERVICE_DAY: i64 = 2_932_531;
 
 /// How far the origin of a day can lie from midnight UTC of its date, in seconds.

@@ -8,5 +8,4 @@ ghost use Rattle.gtfs_cli.specs.Key.{Key};
 pub fn boards_are_one()
     ensures { (f : Content) (origin : Origins) (stop : List ℕ) (from until : ℤ) (after : Option Key) (xs ys : List Key)
         → IsBoard f origin stop from until after xs → IsBoard f origin stop from until after ys → xs ≡ ys }
-{
-}
+{}

@@ -1,10 +1,9 @@
-use Rattle.std.proofs.Common.{◌≡◌, List, [], ◌∷◌, ◌++◌, true, sym, ap, ◌∙◌, subst, rules, All, to_z, of_z, to_z-of_z, FitsSigned, w64}
+use Rattle.std.proofs.Common.{◌≡◌, [], ◌∷◌, ◌++◌, true, sym, ap, ◌∙◌, subst, rules, All, to_z, of_z, to_z-of_z, FitsSigned, w64}
 use Rattle.std.proofs.lemmas.List.Elements.{All-push}
 use Rattle.gtfs_days.specs.Zone.{zone_origin, IsInstant}
 use Rattle.gtfs_cli.specs.Departures.{is_within}
 use Rattle.gtfs_cli.specs.Found.{IsFound, departure_on}
 use Rattle.gtfs_cli.specs.Waits.{shown_of}
-use Rattle.gtfs_cli.specs.declared.board.waiting.Waiting.{Waiting}
 use Rattle.gtfs_cli.proofs.DaysLeft.{instant-of_day}
 use Rattle.gtfs_cli.proofs.Found.{event-found}
 use Rattle.gtfs_cli.proofs.board.days.push_day.Goals as goal

@@ -1,4 +1,4 @@
-use Rattle.std.proofs.Common.{◌≡◌, ℕ, List, true, refl, sym, ap, ◌∙◌, rules}
+use Rattle.std.proofs.Common.{sym}
 use Rattle.gtfs_cli.proofs.DaysLeft.{active-at, fewer-after, next-active}
 use Rattle.gtfs_cli.proofs.board.days.push_days.Goals as goal
 

@@ -1,5 +1,4 @@
 use Rattle.std.proofs.Common.{rules}
-use Rattle.gtfs_cli.specs.Events.{IsEvent}
 use Rattle.gtfs_cli.proofs.board.listing.departures.Goals as goal
 
 pub loop-event-preserved : goal.loop-event-preserved

@@ -1,4 +1,4 @@
-use Rattle.std.proofs.Common.{◌≡◌, ◌+◌, ◌<◌, ◌≤◌, ℕ, List, [], None, Some, length, true, get_or, refl, sym, ap, ◌∙◌, subst, rules, arith}
+use Rattle.std.proofs.Common.{◌≡◌, ◌+◌, ◌<◌, ◌≤◌, List, [], None, length, true, get_or, refl, sym, ap, ◌∙◌, rules, arith}
 use Rattle.std.specs.Prelude.{unwrap_or}
 use Rattle.std.specs.Option.{option_or}
 use Rattle.std.proofs.lemmas.List.{get_or_default}
@@ -6,9 +6,9 @@ use Rattle.gtfs_cli.specs.declared.feed.rows.PickupType.TheVariants.{Regular}
 use Rattle.gtfs_cli.specs.declared.feed.rows.StopTime.{StopTime}
 use Rattle.gtfs_cli.specs.Rows.{TripRow}
 use Rattle.gtfs_cli.specs.Shown.{route_name}
-use Rattle.gtfs_cli.specs.Trips.{allows_boarding, leaves}
+use Rattle.gtfs_cli.specs.Trips.{allows_boarding}
 use Rattle.gtfs_cli.specs.FeedView.{stop_time_row}
-use Rattle.gtfs_cli.proofs.Passing.{SaysRow, event-of_row}
+use Rattle.gtfs_cli.proofs.Passing.{event-of_row}
 use Rattle.gtfs_cli.proofs.runs.events.event_at.Goals as goal
 
 -- what stands where there is no row, and where there is no trip

@@ -1,4 +1,4 @@
-use Rattle.std.proofs.Common.{rules, reverse}
+use Rattle.std.proofs.Common.{reverse}
 use Rattle.gtfs_days.specs.Zone.{zone_origin}
 use Rattle.gtfs_cli.proofs.Opened.{lists, shows, dates}
 use Rattle.gtfs_cli.proofs.board.listing.Board.open.Goals as goal

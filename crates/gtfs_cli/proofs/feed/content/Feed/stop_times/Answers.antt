@@ -1,4 +1,4 @@
-use Rattle.std.proofs.Common.{ℕ, List, sym, ap, subst, ◌∙◌}
+use Rattle.std.proofs.Common.{sym, ap, subst, ◌∙◌}
 use Rattle.gtfs_cli.specs.FeedView.{stop_times_of}
 use Rattle.std.specs.Ordering.{nat_cmp, on}
 use Rattle.gtfs_cli.specs.declared.feed.rows.StopTime.{StopTime}

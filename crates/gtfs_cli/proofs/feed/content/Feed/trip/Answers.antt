@@ -1,7 +1,6 @@
-use Rattle.std.proofs.Common.{◌≡◌, ◌<◌, get_or, length, bytes_eq, map, find, Some, subst, sym, ap, ◌∙◌, arith}
+use Rattle.std.proofs.Common.{◌≡◌, ◌<◌, get_or, length, Some, subst, sym, ap, ◌∙◌, arith}
 use Rattle.std.proofs.lemmas.List.{length-map}
 use Rattle.gtfs_cli.specs.Content.{Content}
-use Rattle.gtfs_cli.specs.Rows.{TripRow}
 use Rattle.gtfs_cli.specs.Shown.{trip_named}
 use Rattle.gtfs_cli.specs.FeedView.{trip_row}
 use Rattle.gtfs_cli.proofs.InOrder.{named-at}
