@@ -1,13 +1,17 @@
 -- The code of a field is right: of E06, E07, E08, E20 and W05 just the one that was found holds.
-use Rattle.std.proofs.Common.{◌≡◌, ℕ, List, true, false, Bool, refl}
+use Rattle.std.proofs.Common.{◌≡◌, ℕ, List, true, false, Bool, refl, inl, inr}
 use Rattle.std.specs.Prelude.{◌&&◌, not, Result, Ok, Err}
+use Rattle.std.proofs.lemmas.Bool.{cases_Bool}
 use Rattle.gtfs_field.specs.declared.fault.FieldFault.{FieldFault}
 use Rattle.gtfs_field.specs.declared.fault.FieldFault.TheVariants.{Form, Range}
+use Rattle.gtfs_rules.specs.declared.code.Code.{Code}
 use Rattle.gtfs_rules.specs.declared.code.Code.TheVariants as code
-use Rattle.gtfs_rules.specs.Cells.{code_of, fault_code, is_found, when}
-use Rattle.gtfs_rules.specs.Columns.{Kind, id, text, count, choice, time, date, colour, coordinate}
+use Rattle.gtfs_rules.specs.Cells.{cell_code, code_of, fault_code, is_found, when}
+use Rattle.gtfs_rules.specs.Columns.{Kind, id, text, count, choice, time, date, colour, coordinate, Column}
 use Rattle.gtfs_rules.specs.FieldRules.{is_id, is_text, is_form_fault, is_range_fault}
-use Rattle.gtfs_rules.specs.Values.{Value, read_as, has_control}
+use Rattle.gtfs_rules.specs.ColumnRules.{is_required}
+use Rattle.gtfs_rules.specs.Problems.{is_code}
+use Rattle.gtfs_rules.specs.Values.{Value, read_as, has_control, is_empty}
 
 -- ---- a text that is not empty
 
@@ -103,3 +107,32 @@ control_in_text_found time t = no_text_code (read_as time t)
 control_in_text_found date t = no_text_code (read_as date t)
 control_in_text_found colour t = no_text_code (read_as colour t)
 control_in_text_found (coordinate axis) t = no_text_code (read_as (coordinate axis) t)
+
+-- ---- no other code is found
+
+when_other : (b : Bool) (k c : Code) → is_code c k ≡ false → is_found (when b k) c ≡ false
+when_other true k c other = other
+when_other false k c other = refl
+
+module _ (c : Code) (form : is_code c code.E07 ≡ false) (range : is_code c code.E08 ≡ false) where
+  code_other : (r : Result Value FieldFault) → is_found (code_of r) c ≡ false
+  code_other (Ok v) = refl
+  code_other (Err Form) = form
+  code_other (Err Range) = range
+
+  pub fault_other : is_code c code.E20 ≡ false → is_code c code.W05 ≡ false → (kind : Kind) (t : List ℕ) → is_found (fault_code kind t) c ≡ false
+  fault_other in_id in_text id t = when_other (has_control t) code.E20 c in_id
+  fault_other in_id in_text text t = when_other (has_control t) code.W05 c in_text
+  fault_other in_id in_text count t = code_other (read_as count t)
+  fault_other in_id in_text (choice ranges) t = code_other (read_as (choice ranges) t)
+  fault_other in_id in_text time t = code_other (read_as time t)
+  fault_other in_id in_text date t = code_other (read_as date t)
+  fault_other in_id in_text colour t = code_other (read_as colour t)
+  fault_other in_id in_text (coordinate axis) t = code_other (read_as (coordinate axis) t)
+
+  pub cell_other : is_code c code.E06 ≡ false → is_code c code.E20 ≡ false → is_code c code.W05 ≡ false
+      → (named : Bool) (k : Column) (t : List ℕ) → is_found (cell_code named k t) c ≡ false
+  cell_other none in_id in_text named k t = elim (cases_Bool (is_empty t)) [
+    | inl empty ↦ rw empty (when_other (named && is_required k) code.E06 c none)
+    | inr filled ↦ rw filled (fault_other in_id in_text k.kind t)
+  ]

@@ -52,3 +52,13 @@ both_hold false false f = refl
 
 pub tells_all : (d : Dataset) (picks : Problem → Bool) (ps : List Problem) → ((p : Problem) → is_problem d p ≡ true → picks p ≡ true) → Tells d picks [] ps → ListsAll d ps
 tells_all d picks ps covered told p = told p ∙ both_hold (picks p) (is_problem d p) (covered p)
+
+-- three and four steps
+pub tells_three : (d : Dataset) (a b c : Problem → Bool) (ws xs ys zs : List Problem) → Tells d a ws xs → Tells d b xs ys → Tells d c ys zs
+    → Tells d (λ p. a p || b p || c p) ws zs
+tells_three d a b c ws xs ys zs first second third = tells_then d (λ p. a p || b p) c ws ys zs (tells_then d a b ws xs ys first second) third
+
+pub tells_four : (d : Dataset) (a b c e : Problem → Bool) (vs ws xs ys zs : List Problem) → Tells d a vs ws → Tells d b ws xs → Tells d c xs ys → Tells d e ys zs
+    → Tells d (λ p. a p || b p || c p || e p) vs zs
+tells_four d a b c e vs ws xs ys zs first second third fourth =
+    tells_then d (λ p. a p || b p || c p) e vs ys zs (tells_three d a b c vs ws xs ys first second third) fourth

@@ -24,16 +24,43 @@
 #![tactic(auto)]
 
 mod cell;
+mod checks;
 mod code;
 mod columns;
+mod feed_ids;
+mod field;
+mod fields;
 mod file_name;
+mod files;
+mod finder;
 mod found;
+mod headers;
+mod id_row;
+mod ids;
+mod keys;
 mod passed;
+mod periods;
+mod presence;
 mod problem;
+mod references;
 mod report;
+mod row;
+mod rule;
+mod services;
+mod single_keys;
+mod spans;
+mod stop_kinds;
+mod times;
+mod trips;
+mod values;
+mod zones;
 
+pub use checks::check;
 pub use code::Code;
 pub use file_name::FileName;
 pub use passed::Passed;
 pub use problem::Problem;
 pub use report::Report;
+
+#[cfg(test)]
+mod tests;

@@ -1,0 +1,50 @@
+-- The steps look at every problem that a dataset can have.
+use Rattle.std.proofs.Common.{◌≡◌, ℕ, List, true, refl}
+use Rattle.gtfs_table.specs.Tables.{Dataset}
+use Rattle.gtfs_table.specs.declared.file.File.TheVariants as file
+use Rattle.gtfs_rules.specs.declared.code.Code.{Code}
+use Rattle.gtfs_rules.specs.declared.code.Code.TheVariants as code
+use Rattle.gtfs_rules.specs.Parts.{every}
+use Rattle.gtfs_rules.specs.Problems.{FileName, kept, other, Problem, holds, is_problem}
+
+picked : (d : Dataset) (c : Code) (f : FileName) (n : ℕ) (name : List ℕ) → holds c d f n name ≡ true → every (record { file = f; row = n; code = c; column = name }) ≡ true
+picked d code.E01 f n name h = refl
+picked d code.E02 f n name h = refl
+picked d code.E03 f n name h = refl
+picked d code.E04 f n name h = refl
+picked d code.E05 f n name h = refl
+picked d code.E06 f n name h = refl
+picked d code.E07 f n name h = refl
+picked d code.E08 f n name h = refl
+picked d code.E09 (kept file.Agency) n name h = refl
+picked d code.E09 (kept file.Stops) n name h = refl
+picked d code.E09 (kept file.Routes) n name h = refl
+picked d code.E09 (kept file.Trips) n name h = refl
+picked d code.E09 (kept file.StopTimes) n name h = refl
+picked d code.E09 (kept file.Calendar) n name h = refl
+picked d code.E09 (kept file.CalendarDates) n name h = refl
+picked d code.E09 (kept file.Frequencies) n name h = refl
+picked d code.E09 (kept file.Transfers) n name h = refl
+picked d code.E09 (other x) n name h = cc h
+picked d code.E10 f n name h = refl
+picked d code.E11 f n name h = refl
+picked d code.E12 f n name h = refl
+picked d code.E13 f n name h = refl
+picked d code.E14 f n name h = refl
+picked d code.E15 f n name h = refl
+picked d code.E16 f n name h = refl
+picked d code.E17 f n name h = refl
+picked d code.E18 f n name h = refl
+picked d code.E19 f n name h = refl
+picked d code.E20 f n name h = refl
+picked d code.W01 f n name h = refl
+picked d code.W02 f n name h = refl
+picked d code.W03 f n name h = refl
+picked d code.W04 f n name h = refl
+picked d code.W05 f n name h = refl
+picked d code.W06 f n name h = refl
+picked d code.W07 f n name h = refl
+picked d code.W08 f n name h = refl
+
+pub all_picked : (d : Dataset) (p : Problem) → is_problem d p ≡ true → every p ≡ true
+all_picked d p h = picked d p.code p.file p.row p.column h

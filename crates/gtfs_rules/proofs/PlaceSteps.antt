@@ -1,0 +1,78 @@
+-- Steps that tell problems of one code, one column after the other.
+use Rattle.std.proofs.Common.{◌≡◌, ◌∷◌, [], ◌++◌, ℕ, List, true, false, Bool, refl, sym, ap, ◌∙◌, inl, inr}
+use Rattle.std.specs.Prelude.{◌&&◌, ◌||◌, bytes_eq}
+use Rattle.std.specs.List.{list_any}
+use Rattle.std.proofs.lemmas.Bool.{cases_Bool}
+use Rattle.std.proofs.lemmas.List.Folds.{list_any-append}
+use Rattle.gtfs_table.specs.Tables.{Dataset}
+use Rattle.gtfs_table.specs.declared.file.File.{File}
+use Rattle.gtfs_rules.specs.declared.code.Code.{Code}
+use Rattle.gtfs_rules.specs.declared.code.Code.TheVariants as code
+use Rattle.gtfs_rules.specs.Found.{Tells}
+use Rattle.gtfs_rules.specs.Picks.{at_column, is_kept, of_codes}
+use Rattle.gtfs_rules.specs.PlacePicks.{at_places}
+use Rattle.gtfs_rules.specs.Problems.{FileName, kept, other, Problem, holds, holds_in, is_code, is_problem}
+use Rattle.gtfs_rules.specs.Rows.{is_file}
+use Rattle.gtfs_rules.proofs.BoolFacts.{same_test, and_parts, and_both, or_left, or_right}
+use Rattle.gtfs_rules.proofs.PlaceFacts.{code_is}
+use Rattle.gtfs_rules.proofs.TellFacts.{tells_alike, tells_then}
+
+alone : (a : Bool) → (a || false) ≡ a
+alone true = refl
+alone false = refl
+
+-- at one column
+pub tells_last : (d : Dataset) (c : Code) (x : File) (name : List ℕ) (xs ys : List Problem) → Tells d (at_column c x name) xs ys → Tells d (at_places c ((x, name) ∷ [])) xs ys
+tells_last d c x name xs ys = tells_alike d (at_column c x name) (at_places c ((x, name) ∷ [])) xs ys (λ p. ap (λ b. b && is_problem d p) (sym (alone (at_column c x name p))))
+
+-- at one column, and then at others
+pub tells_first : (d : Dataset) (c : Code) (x : File) (name : List ℕ) (places : List (File × List ℕ)) (xs ys zs : List Problem)
+    → Tells d (at_column c x name) xs ys → Tells d (at_places c places) ys zs → Tells d (at_places c ((x, name) ∷ places)) xs zs
+tells_first d c x name places = tells_then d (at_column c x name) (at_places c places)
+
+-- at some columns, and then at others
+pub tells_both : (d : Dataset) (c : Code) (here there : List (File × List ℕ)) (xs ys zs : List Problem)
+    → Tells d (at_places c here) xs ys → Tells d (at_places c there) ys zs → Tells d (at_places c (here ++ there)) xs zs
+tells_both d c here there xs ys zs first second =
+    tells_alike d (λ p. at_places c here p || at_places c there p) (at_places c (here ++ there)) xs zs
+    (λ p. ap (λ b. b && is_problem d p) (sym (list_any-append (λ (place : File × List ℕ). at_column c place.0 place.1 p) here there)))
+    (tells_then d (at_places c here) (at_places c there) xs ys zs first second)
+
+-- ---- where the code can hold at these columns alone
+
+pub any_alike : {X : Type 0} (f g : X → Bool) (xs : List X) → ((x : X) → f x ≡ true → g x ≡ true) → list_any f xs ≡ true → list_any g xs ≡ true
+any_alike f g [] alike e = e
+any_alike f g (x ∷ xs) alike e = elim (cases_Bool (f x)) [
+  | inl here ↦ or_left (g x) (list_any g xs) (alike x here)
+  | inr there ↦ or_right (g x) (list_any g xs) (any_alike f g xs alike (rw there at e))
+]
+
+any_part : {X : Type 0} (f : X → Bool) (g : Bool) (xs : List X) → ((x : X) → f x ≡ true → g ≡ true) → list_any f xs ≡ true → g ≡ true
+any_part f g [] part e = cc e
+any_part f g (x ∷ xs) part e = elim (cases_Bool (f x)) [
+  | inl here ↦ part x here
+  | inr there ↦ any_part f g xs part (rw there at e)
+]
+
+-- a file's column is one of these
+abbrev pub is_place : List (File × List ℕ) → File → List ℕ → Bool
+is_place places x name = list_any (λ place. is_file place.0 x && bytes_eq name place.1) places
+
+module _ (d : Dataset) (c : Code) (places : List (File × List ℕ)) (not_other : is_code c code.W03 ≡ false)
+    (only : (x : File) (n : ℕ) (name : List ℕ) → holds_in c d x n name ≡ true → is_place places x name ≡ true) where
+  told_place : (f : FileName) (k : Code) (n : ℕ) (name : List ℕ) → is_code k c ≡ true → holds k d f n name ≡ true
+      → list_any (λ place. is_code k c && is_kept place.0 f && bytes_eq name place.1) places ≡ true
+  told_place (kept x) k n name same e = any_alike (λ place. is_file place.0 x && bytes_eq name place.1) (λ place. is_code k c && is_file place.0 x && bytes_eq name place.1) places
+      (λ place here. let parts = and_parts (is_file place.0 x) (bytes_eq name place.1) here in
+      and_both (is_code k c && is_file place.0 x) (bytes_eq name place.1) (and_both (is_code k c) (is_file place.0 x) same parts.0) parts.1)
+      (only x n name (ap (λ j. holds_in j d x n name) (sym (code_is k c same)) ∙ e))
+  told_place (other t) k n name same e =
+      cc (sym not_other ∙ ap (λ j. is_code j code.W03) (sym (code_is k c same)) ∙ (and_parts (is_code k code.W03) _ e).0)
+
+  pub tells_places : (xs ys : List Problem) → Tells d (at_places c places) xs ys → Tells d (of_codes (c ∷ [])) xs ys
+  tells_places xs ys = tells_alike d (at_places c places) (of_codes (c ∷ [])) xs ys (λ p. same_test (at_places c places p && is_problem d p) (of_codes (c ∷ []) p && is_problem d p)
+      (λ e. let parts = and_parts (at_places c places p) (is_problem d p) e in
+      and_both (of_codes (c ∷ []) p) (is_problem d p) (or_left (is_code p.code c) false (any_part (λ place. at_column c place.0 place.1 p) (is_code p.code c) places
+      (λ place here. (and_parts (is_code p.code c) (is_kept place.0 p.file) (and_parts (is_code p.code c && is_kept place.0 p.file) (bytes_eq p.column place.1) here).0).0) parts.0)) parts.1)
+      (λ e. let parts = and_parts (of_codes (c ∷ []) p) (is_problem d p) e in
+      and_both (at_places c places p) (is_problem d p) (told_place p.file p.code p.row p.column (sym (alone (is_code p.code c)) ∙ parts.0) parts.1) parts.1))

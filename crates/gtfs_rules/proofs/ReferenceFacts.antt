@@ -1,0 +1,36 @@
+-- References that name no row: what a row's rule says, and where they are told.
+use Rattle.std.proofs.Common.{◌≡◌, ◌++◌, ℕ, List, true, Bool, sym, ap, ◌∙◌}
+use Rattle.std.specs.Prelude.{◌&&◌, not, bytes_eq, is_some}
+use Rattle.std.specs.List.{list_any}
+use Rattle.gtfs_table.specs.Tables.{Dataset}
+use Rattle.gtfs_table.specs.declared.file.File.{File}
+use Rattle.gtfs_rules.specs.Ids.{IdColumn}
+use Rattle.gtfs_rules.specs.KeyRules.{is_known, unknown_reference}
+use Rattle.gtfs_rules.specs.References.{Reference, references}
+use Rattle.gtfs_rules.specs.ReferencePicks.{agency_names, route_names, service_names, stop_names, trip_names}
+use Rattle.gtfs_rules.specs.Rows.{is_file, is_row, records_in, text_in, value_in}
+use Rattle.gtfs_rules.specs.UnknownIds.{is_unknown}
+use Rattle.gtfs_rules.proofs.BoolFacts.{and_parts, and_both}
+use Rattle.gtfs_rules.proofs.PlaceFacts.{text_is, text_itself}
+use Rattle.gtfs_rules.proofs.PlaceSteps.{any_alike, is_place}
+
+-- the rule reads the ids and the text that are asked for
+pub read_alike : (told row : Bool) (i j : IdColumn) (t u : List ℕ) → told ≡ (row && is_unknown i t) → j ≡ i → u ≡ t → told ≡ (row && is_unknown j u)
+read_alike told row i j t u rule ids text = rule ∙ (λ k. row && is_unknown (sym ids k) (sym text k))
+
+-- each column that names rows, in their order
+abbrev pub all_names : List (File × List ℕ)
+all_names = stop_names ++ (agency_names ++ (route_names ++ (service_names ++ trip_names)))
+
+text_turned : (a b : List ℕ) → bytes_eq a b ≡ true → bytes_eq b a ≡ true
+text_turned a b e = ap (λ t. bytes_eq t a) (sym (text_is a b e)) ∙ text_itself a
+
+-- a reference is told at its column
+pub told_at_names : (d : Dataset) (x : File) (n : ℕ) (name : List ℕ) → unknown_reference d x n name ≡ true → is_place all_names x name ≡ true
+told_at_names d x n name e =
+    let known : Reference → Bool = λ r. is_known d r.targets (text_in d x n name) in
+    let there = is_row (records_in d x) n && is_some (value_in d x n name) in
+    any_alike (λ r. is_file r.file x && bytes_eq r.column name && not (known r)) (λ r. is_file r.file x && bytes_eq name r.column) references
+    (λ r here. let place = and_parts (is_file r.file x) (bytes_eq r.column name) (and_parts (is_file r.file x && bytes_eq r.column name) (not (known r)) here).0 in
+    and_both (is_file r.file x) (bytes_eq name r.column) place.0 (text_turned r.column name place.1))
+    (and_parts there (list_any (λ r. is_file r.file x && bytes_eq r.column name && not (known r)) references) e).1

@@ -1,0 +1,14 @@
+-- What rules read of a text by its kind, where it is readable: a number or a word.
+use Rattle.std.specs.Prelude.{ℕ, List, Option, option_and_then, ℤ}
+use Rattle.gtfs_rules.specs.Columns.{Kind, choice, means}
+use Rattle.gtfs_rules.specs.Values.{readable, meaning, as_amount, as_word}
+
+abbrev pub amount_of : Kind → List ℕ → Option ℤ
+amount_of kind t = option_and_then as_amount (readable kind t)
+
+abbrev pub word_of : Kind → List ℕ → Option (List ℕ)
+word_of kind t = option_and_then as_word (readable kind t)
+
+-- the number of a choice whose empty value has a meaning
+abbrev pub choice_of : List (ℕ × ℕ) → List ℕ → List ℕ → Option ℤ
+choice_of ranges empty t = amount_of (choice ranges) (meaning (means empty) t)

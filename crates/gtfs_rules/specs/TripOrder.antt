@@ -1,0 +1,64 @@
+-- The rows of trips in their order: by trip id, sequence and row. What a row breaks by its place among them.
+use Rattle.std.specs.Prelude.{◌&&◌, ◌||◌, not, Bool, true, false, if◌then◌else◌, List, [], ◌∷◌, bytes_eq, Option, None, ℤ, int_lt, IsPermutation}
+use Rattle.std.specs.List.Sorted.{IsStrictlySortedBy}
+use Rattle.std.specs.Option.{option_or}
+use Rattle.std.specs.Ordering.{int_cmp, int_eq, nat_cmp, on, then_cmp}
+use Rattle.std.specs.declared.cmp.Ordering.{Ordering}
+use Rattle.gtfs_table.specs.Folder.{text_cmp}
+use Rattle.gtfs_table.specs.Tables.{Dataset}
+use Rattle.gtfs_rules.specs.Values.{if_both}
+use Rattle.gtfs_rules.specs.TripRows.{TripRow, trip_rows_in}
+
+abbrev pub same_trip : TripRow → TripRow → Bool
+same_trip a b = bytes_eq a.trip_id b.trip_id
+
+-- both rows have one trip and one sequence
+abbrev pub same_place : TripRow → TripRow → Bool
+same_place a b = same_trip a b && int_eq a.sequence b.sequence
+
+abbrev pub row_cmp : TripRow → TripRow → Ordering
+row_cmp = then_cmp (on (λ r. r.trip_id) text_cmp) (then_cmp (on (λ r. r.sequence) int_cmp) (on (λ r. r.row) nat_cmp))
+
+-- the rows of a dataset, each once and in their order
+pub record InOrder (d : Dataset) (rows : List TripRow) : Type 0 where
+  pub moved : IsPermutation (trip_rows_in d) rows
+  pub ascending : IsStrictlySortedBy row_cmp rows
+
+-- ---- a row and the rows before it, of which the last comes first
+
+-- the row before is of the same trip
+abbrev pub follows : List TripRow → TripRow → Bool
+follows [] e = false
+follows (b ∷ before) e = same_trip e b
+
+-- the row before has the same trip and sequence
+abbrev pub repeats : List TripRow → TripRow → Bool
+repeats [] e = false
+repeats (b ∷ before) e = same_place e b
+
+-- when the last row was left that is of the first one's trip and has a time
+abbrev pub last_left : List TripRow → Option ℤ
+last_left [] = None
+last_left (b ∷ before) = option_or b.departure (if follows before b then last_left before else None)
+
+-- when the row's trip was left last
+abbrev pub left_before : List TripRow → TripRow → Option ℤ
+left_before before e = if follows before e then last_left before else None
+
+-- ---- rows from one on
+
+-- no later row of the first one's trip has a greater sequence
+abbrev pub ends : List TripRow → Bool
+ends [] = true
+ends (e ∷ []) = true
+ends (e ∷ a ∷ after) = not (same_trip e a) || (int_eq e.sequence a.sequence && ends (a ∷ after))
+
+-- ---- the rules
+
+-- a row without times that is its trip's first, or the first of its trip's greatest sequence
+abbrev pub is_untimed_end : List TripRow → TripRow → Bool → Bool
+is_untimed_end before e ends_trip = e.is_untimed && (not (follows before e) || (not (repeats before e) && ends_trip))
+
+-- one row is reached before another one is left
+abbrev pub is_left_later : Option ℤ → Option ℤ → Bool
+is_left_later left arrival = if_both arrival left int_lt

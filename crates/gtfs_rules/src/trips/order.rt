@@ -1,0 +1,168 @@
+ghost use Rattle.std.specs.Prelude.{◌≡◌, ◌∷◌, ◌||◌, [], map, reverse, codes, pos, option_map, OnOk};
+ghost use Rattle.gtfs_table.specs.Tables.{Dataset};
+ghost use Rattle.gtfs_table.specs.declared.file.File.TheVariants as file;
+ghost use Rattle.gtfs_rules.specs.declared.code.Code.TheVariants as code;
+ghost use Rattle.gtfs_rules.specs.declared.file_name.FileName.TheVariants as file_name;
+ghost use Rattle.gtfs_rules.specs.Found.{Tells};
+ghost use Rattle.gtfs_rules.specs.Picks.{at_column, in_file, of_codes};
+ghost use Rattle.gtfs_rules.specs.TripOrder.{ends, follows, is_left_later, is_untimed_end, last_left as last_left_of, left_before, repeats, row_cmp, InOrder};
+ghost use Rattle.gtfs_rules.specs.TripRows.{trip_row, trip_rows_in};
+
+use crate::code::Code;
+use crate::file_name::FileName;
+use crate::found::Found;
+use crate::problem::Problem;
+use crate::trips::row::TripRow;
+use gtfs_field::OutOfMemory;
+use gtfs_table::{File, Tables};
+use std::cmp::Ordering;
+
+// Tells what the order of stop times breaks: a sequence of a trip that comes twice, a first or last row without times,
+// and a time that goes back.
+pub(crate) fn tell_order<'a>(
+    tables: &'a Tables,
+    rows: Vec<TripRow<'a>>,
+    found: &mut Found<'a>,
+) -> Result<(), OutOfMemory>
+    requires { map trip_row rows.items ≡ trip_rows_in tables.now }
+    ensures { OnOk result (Tells tables.now (λ p. in_file code.E09 file.StopTimes p || of_codes (code.E15 ∷ code.E17 ∷ []) p) found.old found.new) }
+{
+    let rows = in_order(rows);
+    tell_repeats(&rows, found)?;
+    tell_untimed_ends(&rows, found)?;
+    tell_times_back(&rows, found)
+}
+
+// The rows by trip, sequence and row. Where they stand in this order already one pass finds it so.
+fn in_order(mut rows: Vec<TripRow<'_>>) -> Vec<TripRow<'_>>
+    ensures { (d : Dataset) → map trip_row rows.entry.items ≡ trip_rows_in d → InOrder d (map trip_row result.items) }
+{
+    rows.sort_unstable_by(|a, b| order(a, b));
+    rows
+}
+
+fn order(a: &TripRow, b: &TripRow) -> Ordering
+    ensures { result ≡ row_cmp (trip_row a.now) (trip_row b.now) }
+{
+    a.trip_id
+        .cmp(b.trip_id)
+        .then(a.stop_sequence.cmp(&b.stop_sequence))
+        .then(a.row.cmp(&b.row))
+}
+
+// Rows whose trip and sequence an earlier row has.
+fn tell_repeats<'a>(rows: &[TripRow<'a>], found: &mut Found<'a>) -> Result<(), OutOfMemory>
+    ensures { OnOk result ((d : Dataset) → InOrder d (map trip_row rows.now)
+        → Tells d (at_column code.E09 file.StopTimes (codes "stop_sequence")) found.old found.new) }
+{
+    for at in 0..rows.len() {
+        let row = &rows[at];
+        let problem = problem(row, Code::E09, "stop_sequence");
+        found.tell(problem, repeats(&rows[..at], row))?;
+    }
+    Ok(())
+}
+
+// The first and the last row of a trip where it has no time.
+fn tell_untimed_ends<'a>(rows: &[TripRow<'a>], found: &mut Found<'a>) -> Result<(), OutOfMemory>
+    ensures { OnOk result ((d : Dataset) → InOrder d (map trip_row rows.now)
+        → Tells d (at_column code.E15 file.StopTimes (codes "arrival_time")) found.old found.new) }
+{
+    let mut ends_trip = true;
+    for at in (0..rows.len()).rev() {
+        let row = &rows[at];
+        ends_trip = ends(row, &rows[at + 1..], ends_trip);
+        let problem = problem(row, Code::E15, "arrival_time");
+        found.tell(problem, is_untimed_end(&rows[..at], row, ends_trip))?;
+    }
+    Ok(())
+}
+
+// Rows that are reached before the row with a time before them is left.
+fn tell_times_back<'a>(rows: &[TripRow<'a>], found: &mut Found<'a>) -> Result<(), OutOfMemory>
+    ensures { OnOk result ((d : Dataset) → InOrder d (map trip_row rows.now)
+        → Tells d (at_column code.E17 file.StopTimes (codes "arrival_time")) found.old found.new) }
+{
+    let mut last_left = None;
+    for at in 0..rows.len() {
+        let row = &rows[at];
+        let left = left_before(&rows[..at], row, last_left);
+        let problem = problem(row, Code::E17, "arrival_time");
+        found.tell(problem, is_left_later(left, row.arrival))?;
+        last_left = row.departure.or(left);
+    }
+    Ok(())
+}
+
+fn problem<'a>(row: &TripRow<'a>, code: Code, column: &'static str) -> Problem<'a>
+    ensures { result ≡ record { file = file_name.Kept file.StopTimes; row = row.now.row; code = code; column = column.entry } }
+{
+    Problem {
+        file: FileName::Kept(File::StopTimes),
+        row: row.row,
+        code,
+        column,
+    }
+}
+
+// Whether the row before is of the same trip.
+fn follows(before: &[TripRow], row: &TripRow) -> bool
+    ensures { result ≡ follows (reverse (map trip_row before.now)) (trip_row row.now) }
+{
+    match before.last() {
+        Some(last) => row.trip_id == last.trip_id,
+        None => false,
+    }
+}
+
+// Whether the row before has the same trip and sequence.
+fn repeats(before: &[TripRow], row: &TripRow) -> bool
+    ensures { result ≡ repeats (reverse (map trip_row before.now)) (trip_row row.now) }
+{
+    match before.last() {
+        Some(last) => row.trip_id == last.trip_id && row.stop_sequence == last.stop_sequence,
+        None => false,
+    }
+}
+
+// Whether no row after is of the same trip and has a greater sequence, where that is known of the next row.
+fn ends(row: &TripRow, after: &[TripRow], next_ends: bool) -> bool
+    requires { next_ends ≡ ends (map trip_row after.now) }
+    ensures { result ≡ ends (trip_row row.now ∷ map trip_row after.now) }
+{
+    match after.first() {
+        Some(next) => {
+            row.trip_id != next.trip_id || (row.stop_sequence == next.stop_sequence && next_ends)
+        }
+        None => true,
+    }
+}
+
+// Whether a row without times is the first of its trip, or of the rows with its trip's greatest sequence.
+fn is_untimed_end(before: &[TripRow], row: &TripRow, ends_trip: bool) -> bool
+    ensures { result ≡ is_untimed_end (reverse (map trip_row before.now)) (trip_row row.now) ends_trip }
+{
+    row.is_untimed && (!follows(before, row) || (!repeats(before, row) && ends_trip))
+}
+
+// When the row's trip was left last, where that is known of the row before.
+fn left_before(before: &[TripRow], row: &TripRow, last_left: Option<u32>) -> Option<u32>
+    requires { option_map pos last_left ≡ last_left_of (reverse (map trip_row before.now)) }
+    ensures { option_map pos result ≡ left_before (reverse (map trip_row before.now)) (trip_row row.now) }
+{
+    if follows(before, row) {
+        last_left
+    } else {
+        None
+    }
+}
+
+// Whether a time at which a row is left comes after that at which another one is reached.
+fn is_left_later(left: Option<u32>, arrival: Option<u32>) -> bool
+    ensures { result ≡ is_left_later (option_map pos left) (option_map pos arrival) }
+{
+    match (left, arrival) {
+        (Some(left), Some(arrival)) => arrival < left,
+        _ => false,
+    }
+}

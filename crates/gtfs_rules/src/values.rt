@@ -1,0 +1,60 @@
+ghost use Rattle.std.specs.Prelude.{◌≡◌, option_map};
+ghost use Rattle.gtfs_rules.specs.Columns.{choice, count, date, id, time};
+ghost use Rattle.gtfs_rules.specs.Reads.{amount_of, choice_of, word_of};
+
+use crate::cell::{has_control, read_choice};
+use gtfs_field::{read_count, read_date, read_time};
+
+// The seconds of a readable time.
+pub(crate) fn time(text: &str) -> Option<i64>
+    ensures { result ≡ amount_of time text.now }
+{
+    let clock = read_time(text).ok()?;
+    Some(i64::from(clock.seconds()))
+}
+
+// The number of the day of a readable date.
+pub(crate) fn date(text: &str) -> Option<i64>
+    ensures { result ≡ amount_of date text.now }
+{
+    let day = read_date(text).ok()?;
+    Some(i64::from(day.number()))
+}
+
+// The number of a readable count.
+pub(crate) fn count(text: &str) -> Option<i64>
+    ensures { result ≡ amount_of count text.now }
+{
+    let number = read_count(text).ok()?;
+    Some(i64::from(number))
+}
+
+// The number of a readable choice.
+pub(crate) fn choice(ranges: &[(u32, u32)], text: &str) -> Option<i64>
+    ensures { result ≡ amount_of (choice ranges.now) text.now }
+{
+    let number = read_choice(ranges, text).ok()?;
+    Some(i64::from(number))
+}
+
+// The number of a readable choice, where an empty text stands for another.
+pub(crate) fn choice_or(ranges: &[(u32, u32)], empty: &str, text: &str) -> Option<i64>
+    ensures { result ≡ choice_of ranges.now empty.now text.now }
+{
+    if text.is_empty() {
+        choice(ranges, empty)
+    } else {
+        choice(ranges, text)
+    }
+}
+
+// A readable id.
+pub(crate) fn id(text: &str) -> Option<&str>
+    ensures { option_map (λ t. t.now) result ≡ word_of id text.now }
+{
+    if text.is_empty() || has_control(text) {
+        None
+    } else {
+        Some(text)
+    }
+}
