@@ -7,8 +7,9 @@ use Rattle.gtfs_table.specs.Reading.{RefusesDataset}
 use Rattle.gtfs_table.specs.declared.folders.FolderFault.{FolderFault}
 use Rattle.gtfs_table.specs.declared.folders.FolderFault.TheVariants as faults
 use Rattle.clap.specs.Words.{Text}
-use Rattle.gtfs_cli.specs.Running.{AsksFor, Failures, IsBadUsage, IsDeviceFault, IsFileOf, KeepsFromReading}
-use Rattle.gtfs_cli.specs.Refusals.{status_of, IsCause, IsCauseInWords, IsCauseOf, IsFaultCause}
+use Rattle.gtfs_cli.specs.Checking.{IsSendingCause}
+use Rattle.gtfs_cli.specs.Running.{AsksCheck, AsksFor, Failures, IsBadUsage, IsDeviceFault, IsFileOf, KeepsFromReading}
+use Rattle.gtfs_cli.specs.Refusals.{status_of, IsCause, IsCauseInWords, IsCauseOf, IsCheckCause, IsFaultCause}
 use Rattle.gtfs_cli.specs.declared.commands.refusal.Refusal.{Refusal}
 use Rattle.gtfs_cli.specs.declared.commands.refusal.Refusal.TheVariants.{Words, BadValue, NotThere, Unreadable, OverLimit, HasErrors, NoZone, UnknownStop, UntilBeforeFrom, OutputFailed, OutOfMemory}
 use Rattle.gtfs_cli.specs.declared.words.BoardWords.{BoardWords}
@@ -19,13 +20,48 @@ rises-longer b x y a first rises last = omega arith
 
 -- ---- why tables and files are not read
 
-pub cause-tables : (held : Option Store) (words : BoardWords) (before after : Failures) (x y : ℕ) (fault : FolderFault) → before.folders ≤ x → y ≤ after.folders
-    → RefusesDataset fault held words.dir.now x y → IsFaultCause held words before after fault
-cause-tables held words before after x y faults.Read first last h = rises-longer before.folders x y after.folders first h last
-cause-tables held words before after x y faults.TooLarge first last h = inl h
-cause-tables held words before after x y faults.OutOfMemory first last h = h
-cause-tables held words before after x y faults.NoFolder first last h = inl (inr h)
-cause-tables held words before after x y faults.Write first last h = h
+pub refuses-longer : (held : Option Store) (dir : List ℕ) (before after : Failures) (x y : ℕ) (fault : FolderFault) → before.folders ≤ x → y ≤ after.folders
+    → RefusesDataset fault held dir x y → RefusesDataset fault held dir before.folders after.folders
+refuses-longer held dir before after x y faults.Read first last h = rises-longer before.folders x y after.folders first h last
+refuses-longer held dir before after x y faults.TooLarge first last h = h
+refuses-longer held dir before after x y faults.OutOfMemory first last h = h
+refuses-longer held dir before after x y faults.NoFolder first last h = h
+refuses-longer held dir before after x y faults.Write first last h = h
+
+-- what keeps a folder from being checked keeps it from its board
+pub board-cause : (held : Option Store) (words : BoardWords) (before after : Failures) (r : Refusal) → IsCheckCause held words.dir.now before after r
+    → IsCause held words before after r
+board-cause held words before after (Words text) h = h
+board-cause held words before after (BadValue option) h = absurd h
+board-cause held words before after (NotThere path) h = inl h
+board-cause held words before after (Unreadable path) h = inl h
+board-cause held words before after (OverLimit path) h = inl h
+board-cause held words before after (HasErrors path) h = absurd h
+board-cause held words before after (NoZone path) h = absurd h
+board-cause held words before after UnknownStop h = absurd h
+board-cause held words before after UntilBeforeFrom h = absurd h
+board-cause held words before after OutputFailed h = h
+board-cause held words before after OutOfMemory h = h
+
+-- lines that were not sent out keep a folder from being checked
+sending-cause : (held : Option Store) (dir : List ℕ) (before after : Failures) (x y : ℕ) (r : Refusal) → before.output ≤ x → y ≤ after.output
+    → IsSendingCause x y r → IsCheckCause held dir before after r
+sending-cause held dir before after x y (Words text) first last h = h
+sending-cause held dir before after x y (BadValue option) first last h = h
+sending-cause held dir before after x y (NotThere path) first last h = absurd h
+sending-cause held dir before after x y (Unreadable path) first last h = absurd h
+sending-cause held dir before after x y (OverLimit path) first last h = absurd h
+sending-cause held dir before after x y (HasErrors path) first last h = h
+sending-cause held dir before after x y (NoZone path) first last h = h
+sending-cause held dir before after x y UnknownStop first last h = h
+sending-cause held dir before after x y UntilBeforeFrom first last h = h
+sending-cause held dir before after x y OutputFailed first last h = rises-longer before.output x y after.output first h last
+sending-cause held dir before after x y OutOfMemory first last h = h
+
+pub lines-cause : {A : Type 0} (held : Option Store) (dir : List ℕ) (before after : Failures) (x y : ℕ) (r : Result A Refusal) → before.output ≤ x → y ≤ after.output
+    → IfErr r (IsSendingCause x y) → IfErr r (IsCheckCause held dir before after)
+lines-cause held dir before after x y (Ok a) first last h = h
+lines-cause held dir before after x y (Err r) first last h = sending-cause held dir before after x y r first last h
 
 pub cause-file : (held : Option Store) (words : BoardWords) (before after : Failures) (x y : ℕ) (folder name : List ℕ) (fault : FolderFault) → before.folders ≤ x → y ≤ after.folders
     → IsFileOf words.zone.now folder name → RefusesRead fault held folder name x y → IsFaultCause held words before after fault
@@ -53,6 +89,19 @@ usage_by_words texts held before after UntilBeforeFrom h e = absurd h
 usage_by_words texts held before after OutputFailed h e = absurd (omega (arith, e))
 usage_by_words texts held before after OutOfMemory h e = absurd (omega (arith, e))
 
+usage_by_check : (texts : List Text) (held : Option Store) (before after : Failures) (r : Refusal) → AsksCheck texts (λ dir. IsCheckCause held dir before after r) → TellsUsage texts held r
+usage_by_check texts held before after (Words text) h e = absurd h.fact
+usage_by_check texts held before after (BadValue option) h e = absurd h.fact
+usage_by_check texts held before after (NotThere path) h e = absurd (omega (arith, e))
+usage_by_check texts held before after (Unreadable path) h e = absurd (omega (arith, e))
+usage_by_check texts held before after (OverLimit path) h e = absurd (omega (arith, e))
+usage_by_check texts held before after (HasErrors path) h e = absurd h.fact
+usage_by_check texts held before after (NoZone path) h e = absurd h.fact
+usage_by_check texts held before after UnknownStop h e = absurd h.fact
+usage_by_check texts held before after UntilBeforeFrom h e = absurd h.fact
+usage_by_check texts held before after OutputFailed h e = absurd (omega (arith, e))
+usage_by_check texts held before after OutOfMemory h e = absurd (omega (arith, e))
+
 usage_by_board : (texts : List Text) (held : Option Store) (before after : Failures) (r : Refusal) → AsksFor texts (λ words. IsCause held words before after r) → TellsUsage texts held r
 usage_by_board texts held before after (Words text) h e = absurd h.fact
 usage_by_board texts held before after (BadValue option) h e = inr (record { words = h.words; asks = h.asks; fact = inl h.fact })
@@ -68,7 +117,8 @@ usage_by_board texts held before after OutOfMemory h e = absurd (omega (arith, e
 
 pub usage-from : (texts : List Text) (held : Option Store) (before after : Failures) (r : Refusal) (status : ℕ) → status ≡ status_of r → IsCauseOf texts held before after r → status ≡ 2 → IsBadUsage texts held
 usage-from texts held before after r status is (inl h) e = usage_by_words texts held before after r h (sym is ∙ e)
-usage-from texts held before after r status is (inr h) e = usage_by_board texts held before after r h (sym is ∙ e)
+usage-from texts held before after r status is (inr (inl h)) e = usage_by_check texts held before after r h (sym is ∙ e)
+usage-from texts held before after r status is (inr (inr h)) e = usage_by_board texts held before after r h (sym is ∙ e)
 
 abbrev pub TellsDevice : List Text → Option Store → Failures → Failures → Refusal → Type 0
 TellsDevice texts held before after refusal = status_of refusal ≡ 3 → IsDeviceFault texts held before after
@@ -86,10 +136,23 @@ device_by_words texts held before after UntilBeforeFrom h e = absurd h
 device_by_words texts held before after OutputFailed h e = inl (inr h)
 device_by_words texts held before after OutOfMemory h e = absurd (omega (arith, e))
 
+device_by_check : (texts : List Text) (held : Option Store) (before after : Failures) (r : Refusal) → AsksCheck texts (λ dir. IsCheckCause held dir before after r) → TellsDevice texts held before after r
+device_by_check texts held before after (Words text) h e = absurd h.fact
+device_by_check texts held before after (BadValue option) h e = absurd h.fact
+device_by_check texts held before after (NotThere path) h e = inr (inl (record { dir = h.dir; asks = h.asks; fact = inl h.fact }))
+device_by_check texts held before after (Unreadable path) h e = inl (inl h.fact)
+device_by_check texts held before after (OverLimit path) h e = inr (inl (record { dir = h.dir; asks = h.asks; fact = inr h.fact }))
+device_by_check texts held before after (HasErrors path) h e = absurd h.fact
+device_by_check texts held before after (NoZone path) h e = absurd h.fact
+device_by_check texts held before after UnknownStop h e = absurd h.fact
+device_by_check texts held before after UntilBeforeFrom h e = absurd h.fact
+device_by_check texts held before after OutputFailed h e = inl (inr h.fact)
+device_by_check texts held before after OutOfMemory h e = absurd (omega (arith, e))
+
 -- the words ask for a board that something keeps them from
 kept : (texts : List Text) (held : Option Store) (before after : Failures) (r : Refusal) (h : AsksFor texts (λ words. IsCause held words before after r))
     → KeepsFromReading held h.words → IsDeviceFault texts held before after
-kept texts held before after r h fact = inr (record { words = h.words; asks = h.asks; fact = fact })
+kept texts held before after r h fact = inr (inr (record { words = h.words; asks = h.asks; fact = fact }))
 
 device_by_board : (texts : List Text) (held : Option Store) (before after : Failures) (r : Refusal) → AsksFor texts (λ words. IsCause held words before after r) → TellsDevice texts held before after r
 device_by_board texts held before after (Words text) h e = absurd h.fact
@@ -109,7 +172,8 @@ device_by_board texts held before after OutOfMemory h e = absurd (omega (arith, 
 
 pub device-from : (texts : List Text) (held : Option Store) (before after : Failures) (r : Refusal) (status : ℕ) → status ≡ status_of r → IsCauseOf texts held before after r → status ≡ 3 → IsDeviceFault texts held before after
 device-from texts held before after r status is (inl h) e = device_by_words texts held before after r h (sym is ∙ e)
-device-from texts held before after r status is (inr h) e = device_by_board texts held before after r h (sym is ∙ e)
+device-from texts held before after r status is (inr (inl h)) e = device_by_check texts held before after r h (sym is ∙ e)
+device-from texts held before after r status is (inr (inr h)) e = device_by_board texts held before after r h (sym is ∙ e)
 
 pub statuses-from : (r : Refusal) (status : ℕ) → status ≡ status_of r → status ≤ 4
 statuses-from (Words text) status is = omega (arith, is)

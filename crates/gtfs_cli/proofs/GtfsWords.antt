@@ -9,7 +9,7 @@ use Rattle.clap.specs.Walk.{answers_to, nothing_held, rows_after, walk}
 use Rattle.clap.specs.declared.error.kind.ErrorKind.{ErrorKind}
 use Rattle.clap.specs.declared.error.kind.ErrorKind.TheVariants as kind
 use Rattle.clap.specs.declared.parser.matches.ArgMatches.{ArgMatches}
-use Rattle.gtfs_cli.specs.CommandLine.{board_app, gtfs_app, no_memory, HasBoard, IsFaultOf, IsToldOf, IsWhole}
+use Rattle.gtfs_cli.specs.CommandLine.{board_app, check_app, gtfs_app, no_memory, HasBoard, HasCheck, IsFaultOf, IsToldOf, IsWhole}
 use Rattle.gtfs_cli.specs.declared.words.WordsFault.{WordsFault}
 use Rattle.gtfs_cli.specs.declared.words.WordsFault.TheVariants as fault
 use Rattle.gtfs_cli.proofs.HelpAlone.{alone, built_alone, only_help}
@@ -23,13 +23,20 @@ help_is_no_memory e = cc
 pub taken : (words : List Text) → fault_of gtfs_app words ≡ [] → takes gtfs_app words ≡ true
 taken words e = built_taken (built gtfs_app) nothing_held (argument_words gtfs_app words) refl refl e
 
+abbrev check_built : Shape
+check_built = built_leaf (inherited (with_leaf_noted (marked_built gtfs_app.top)) check_app.top)
+
 abbrev board_built : Shape
 board_built = built_leaf (inherited (with_leaf_noted (marked_built gtfs_app.top)) board_app.top)
 
-is_only : (built gtfs_app).subs ≡ board_built ∷ []
-is_only = refl
+are_two : (built gtfs_app).subs ≡ check_built ∷ board_built ∷ []
+are_two = refl
 
--- where nothing required is wanting, each id of `board` has a text
+-- where nothing required is wanting, the id of `check` has a text
+has_check : (rows : List Row) → are_filled rows ≡ true → (take.is_given (codes "DIR") rows && true) ≡ true → HasCheck rows
+has_check rows filled all = given_text (codes "DIR") rows filled (both (take.is_given (codes "DIR") rows) true all).0
+
+-- and each id of `board`
 has_board : (rows : List Row) → are_filled rows ≡ true
     → (take.is_given (codes "DIR") rows && (take.is_given (codes "zone") rows && (take.is_given (codes "stop") rows
     && (take.is_given (codes "from") rows && (take.is_given (codes "until") rows && true))))) ≡ true
@@ -55,15 +62,20 @@ has_board rows filled all =
 entered_whole : (stop : Option (Text × List Text)) → take.entered_passes (built gtfs_app) stop ≡ true → is_some (entered (built gtfs_app) stop) ≡ true
     → IsWhole (entered (built gtfs_app) stop)
 entered_whole None passes has = cc
-entered_whole (Some p) passes has = go (answers_to p.0 (label_of board_built)) passes has
+entered_whole (Some p) passes has = go (answers_to p.0 (label_of check_built)) (answers_to p.0 (label_of board_built)) passes has
   where
-    go : (answers : Bool)
-        → option_map_or (λ s. take.level_passes s [] nothing_held p.1 false) (if answers then Some board_built else None) true ≡ true
-        → is_some (option_map (λ s. rows_at s p.1) (if answers then Some board_built else None)) ≡ true
-        → IsWhole (option_map (λ s. rows_at s p.1) (if answers then Some board_built else None))
-    go false passes has = cc
-    go true passes has =
-        (refl, has_board (rows_after board_built.rules [] p.1) (level_filled board_built [] p.1 false refl passes) (level_given board_built [] p.1 passes))
+    named : Bool → Bool → Option Shape
+    named checks boards = if checks then Some check_built else (if boards then Some board_built else None)
+
+    go : (checks boards : Bool)
+        → option_map_or (λ s. take.level_passes s [] nothing_held p.1 false) (named checks boards) true ≡ true
+        → is_some (option_map (λ s. rows_at s p.1) (named checks boards)) ≡ true
+        → IsWhole (option_map (λ s. rows_at s p.1) (named checks boards))
+    go true boards passes has =
+        inl (refl, has_check (rows_after check_built.rules [] p.1) (level_filled check_built [] p.1 false refl passes) (level_given check_built [] p.1 passes))
+    go false true passes has =
+        inr (refl, has_board (rows_after board_built.rules [] p.1) (level_filled board_built [] p.1 false refl passes) (level_given board_built [] p.1 passes))
+    go false false passes has = cc
 
 -- words that are taken name a command and give all that it needs
 pub whole : (words : List Text) → takes gtfs_app words ≡ true → IsWhole (subcommand_of gtfs_app words)

@@ -28,3 +28,7 @@ pub mod TimeLemmas
 mod Moments
 mod Paths
 mod Endings
+pub mod PlainNames
+pub mod Counted
+pub mod Reported
+mod WorkedReports

@@ -41,6 +41,50 @@ board_until : given board_words (codes "until") ≡ Some (Some (codes "@5"))
 unfolding clap_on_literals
 board_until = refl
 
+-- a check
+abbrev check_words : List Text
+check_words = codes "gtfs" ∷ codes "check" ∷ codes "f1" ∷ []
+
+check_taken : takes gtfs_app check_words ≡ true
+unfolding clap_on_literals
+check_taken = refl
+
+check_named : option_map (λ found. found.0) (subcommand_of gtfs_app check_words) ≡ Some (codes "check")
+unfolding clap_on_literals
+check_named = refl
+
+check_dir : given check_words (codes "DIR") ≡ Some (Some (codes "f1"))
+unfolding clap_on_literals
+check_dir = refl
+
+-- a check of no folder
+abbrev check_of_none : List Text
+check_of_none = codes "gtfs" ∷ codes "check" ∷ []
+
+folder_missing : fault_of gtfs_app check_of_none ≡ kind.MissingRequiredArgument ∷ []
+unfolding clap_on_literals
+folder_missing = refl
+
+folder_not_taken : takes gtfs_app check_of_none ≡ false
+unfolding clap_on_literals
+folder_not_taken = refl
+
+-- a check of two folders
+abbrev check_of_two : List Text
+check_of_two = codes "gtfs" ∷ codes "check" ∷ codes "a" ∷ codes "b" ∷ []
+
+second_refused : fault_of gtfs_app check_of_two ≡ kind.UnknownArgument ∷ []
+unfolding clap_on_literals
+second_refused = refl
+
+-- an option of the other command
+abbrev check_with_stop : List Text
+check_with_stop = codes "gtfs" ∷ codes "check" ∷ codes "f1" ∷ codes "--stop=S1" ∷ []
+
+check_stop_refused : fault_of gtfs_app check_with_stop ≡ kind.UnknownArgument ∷ []
+unfolding clap_on_literals
+check_stop_refused = refl
+
 -- an option is missing
 abbrev without_until : List Text
 without_until = codes "gtfs" ∷ codes "board" ∷ codes "feed" ∷ codes "--zone" ∷ codes "Z" ∷ codes "--stop=S1" ∷ codes "--from" ∷ codes "20240401" ∷ []

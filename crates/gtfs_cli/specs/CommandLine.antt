@@ -1,5 +1,5 @@
 -- The command line of the program `gtfs`, as `clap` sees it, and what its words ask for.
-use Rattle.std.specs.Prelude.{◌≡◌, ◌≢◌, List, [], ◌∷◌, Option, Some, None, IsSome, codes, true, false}
+use Rattle.std.specs.Prelude.{◌≡◌, ◌≢◌, ◌⊎◌, List, [], ◌∷◌, Option, Some, None, IsSome, codes, true, false}
 use Rattle.clap.specs.Words.{App, Row, Rule, Text, fault_of, first_of, new_app, new_rule, takes, with_rule, with_subcommand}
 use Rattle.clap.specs.declared.builder.ArgAction.TheVariants.{Set}
 use Rattle.clap.specs.declared.error.kind.ErrorKind.{ErrorKind}
@@ -7,7 +7,7 @@ use Rattle.clap.specs.declared.error.kind.ErrorKind.TheVariants.{DisplayHelp}
 use Rattle.clap.specs.declared.error.kind.ErrorKind.TheVariants as kinds
 use Rattle.gtfs_cli.specs.declared.words.BoardWords.{BoardWords}
 use Rattle.gtfs_cli.specs.declared.words.Command.{Command}
-use Rattle.gtfs_cli.specs.declared.words.Command.TheVariants.{Board}
+use Rattle.gtfs_cli.specs.declared.words.Command.TheVariants.{Board, Check}
 use Rattle.gtfs_cli.specs.declared.words.WordsFault.{WordsFault}
 use Rattle.gtfs_cli.specs.declared.words.WordsFault.TheVariants.{Refused, Help, OutOfMemory}
 
@@ -18,6 +18,10 @@ word_rule id = record (new_rule id) { action = Some Set; required = true }
 -- a text that must be given, as `--id text` or `--id=text`; help has one name for the text
 abbrev pub option_rule : Text → Rule
 option_rule id = record (word_rule id) { long = Some id; value_names = 1 }
+
+-- `check DIR`
+abbrev pub check_app : App
+check_app = with_rule (new_app (codes "check")) (word_rule (codes "DIR"))
 
 -- `board DIR --zone FILE --stop ID --from T --until T`
 abbrev pub board_app : App
@@ -35,7 +39,11 @@ gtfs_top = record (new_app (codes "gtfs")) {
 }
 
 abbrev pub gtfs_app : App
-gtfs_app = with_subcommand gtfs_top board_app.top
+gtfs_app = with_subcommand (with_subcommand gtfs_top check_app.top) board_app.top
+
+-- this is the text that was given for the folder
+abbrev pub IsCheckOf : List Row → Text → Type 0
+IsCheckOf given dir = first_of (codes "DIR") given ≡ Some dir
 
 -- each field is the text that was given for it
 pub record IsBoardOf (given : List Row) (words : BoardWords) : Type 0 where
@@ -48,7 +56,12 @@ pub record IsBoardOf (given : List Row) (words : BoardWords) : Type 0 where
 -- the subcommand with what was given for each of its ids is this command
 abbrev pub IsCommandOf : Option (Text × List Row) → Command → Type 0
 IsCommandOf None command = ⊥
+IsCommandOf (Some found) (Check dir) = (found.0 ≡ codes "check") × IsCheckOf found.1 dir.now
 IsCommandOf (Some found) (Board words) = (found.0 ≡ codes "board") × IsBoardOf found.1 words
+
+-- a text was given for the id of `check`
+abbrev pub HasCheck : List Row → Type 0
+HasCheck given = IsSome (first_of (codes "DIR") given)
 
 -- a text was given for each id of `board`
 pub record HasBoard (given : List Row) : Type 0 where
@@ -61,7 +74,7 @@ pub record HasBoard (given : List Row) : Type 0 where
 -- a command is named, and all that it needs is given
 abbrev pub IsWhole : Option (Text × List Row) → Type 0
 IsWhole None = ⊥
-IsWhole (Some found) = (found.0 ≡ codes "board") × HasBoard found.1
+IsWhole (Some found) = ((found.0 ≡ codes "check") × HasCheck found.1) ⊎ ((found.0 ≡ codes "board") × HasBoard found.1)
 
 abbrev pub no_memory : WordsFault
 no_memory = OutOfMemory

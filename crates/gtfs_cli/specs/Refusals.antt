@@ -7,7 +7,7 @@ use Rattle.gtfs_table.specs.Folder.{Store}
 use Rattle.gtfs_table.specs.declared.folders.FolderFault.{FolderFault}
 use Rattle.gtfs_table.specs.declared.folders.FolderFault.TheVariants as faults
 use Rattle.gtfs_cli.specs.CommandLine.{gtfs_app}
-use Rattle.gtfs_cli.specs.Running.{moment_of, AsksFor, EndsBeforeItBegins, Failures, HasBadValue, HoldsFile, HoldsKeptFile, HoldsNoZone, LacksFeed, LacksFile, NamesNoFile}
+use Rattle.gtfs_cli.specs.Running.{moment_of, AsksCheck, AsksFor, EndsBeforeItBegins, Failures, HasBadValue, HoldsFile, HoldsKeptFile, HoldsNoZone, LacksFeed, LacksFile, NamesNoFile}
 use Rattle.gtfs_cli.specs.declared.commands.moments.Moment.{Moment}
 use Rattle.gtfs_cli.specs.declared.commands.moments.Moment.TheVariants.{Instant, ServiceDay}
 use Rattle.gtfs_cli.specs.declared.commands.refusal.Refusal.{Refusal}
@@ -41,6 +41,20 @@ IsCause held words before after UntilBeforeFrom = EndsBeforeItBegins held words
 IsCause held words before after OutputFailed = Rises before.output after.output
 IsCause held words before after OutOfMemory = ⊤
 
+-- when a refusal comes where the folder is to be checked
+abbrev pub IsCheckCause : Option Store → List ℕ → Failures → Failures → Refusal → Type 0
+IsCheckCause held dir before after (Words text) = ⊥
+IsCheckCause held dir before after (BadValue option) = ⊥
+IsCheckCause held dir before after (NotThere path) = LacksFeed held dir
+IsCheckCause held dir before after (Unreadable path) = Rises before.folders after.folders
+IsCheckCause held dir before after (OverLimit path) = HoldsKeptFile held dir
+IsCheckCause held dir before after (HasErrors path) = ⊥
+IsCheckCause held dir before after (NoZone path) = ⊥
+IsCheckCause held dir before after UnknownStop = ⊥
+IsCheckCause held dir before after UntilBeforeFrom = ⊥
+IsCheckCause held dir before after OutputFailed = Rises before.output after.output
+IsCheckCause held dir before after OutOfMemory = ⊤
+
 -- the same of the words alone
 abbrev pub IsCauseInWords : List Text → Failures → Failures → Refusal → Type 0
 IsCauseInWords texts before after (Words text) = takes gtfs_app texts ≡ false
@@ -58,7 +72,8 @@ IsCauseInWords texts before after OutOfMemory = ⊤
 -- when a refusal comes
 abbrev pub IsCauseOf : List Text → Option Store → Failures → Failures → Refusal → Type 0
 IsCauseOf texts held before after refusal =
-    IsCauseInWords texts before after refusal ⊎ AsksFor texts (λ words. IsCause held words before after refusal)
+    IsCauseInWords texts before after refusal
+    ⊎ (AsksCheck texts (λ dir. IsCheckCause held dir before after refusal) ⊎ AsksFor texts (λ words. IsCause held words before after refusal))
 
 -- when a fault of the folders comes, by what it is told as
 abbrev pub IsFaultCause : Option Store → BoardWords → Failures → Failures → FolderFault → Type 0

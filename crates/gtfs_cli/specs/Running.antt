@@ -1,6 +1,7 @@
 -- How the program ends: what is the matter where it ends with status 2 (usage) or 3 (folders, files and output).
 -- What folders hold they tell or do not tell, as a disk does not; of what is not told the words below claim nothing.
 use Rattle.std.specs.Prelude.{◌≡◌, ◌≢◌, ◌<◌, ◌++◌, ◌⊎◌, ℕ, slice_index, ◌==◌, false, if◌then◌else◌, codes, length, List, [], ◌∷◌, Option, Some, None, option_map, Result, Ok, Err, ℤ, ◌<ℤ◌}
+use Rattle.std.specs.Borrow.{Bor}
 use Rattle.std.specs.Result.{result_ok}
 use Rattle.std.specs.Path.{slash}
 use Rattle.clap.specs.Words.{Text, subcommand_of, takes}
@@ -18,7 +19,7 @@ use Rattle.gtfs_cli.specs.Departures.{Origins}
 use Rattle.gtfs_cli.specs.declared.commands.moments.Moment.{Moment}
 use Rattle.gtfs_cli.specs.declared.commands.moments.Moment.TheVariants.{Instant, ServiceDay}
 use Rattle.gtfs_cli.specs.declared.words.BoardWords.{BoardWords}
-use Rattle.gtfs_cli.specs.declared.words.Command.TheVariants.{Board}
+use Rattle.gtfs_cli.specs.declared.words.Command.TheVariants.{Board, Check}
 
 -- ---- the values of `--from` and `--until`
 
@@ -118,6 +119,12 @@ pub record EndsBeforeItBegins (held : Option Store) (words : BoardWords) : Type 
   pub until_says : moment_of words.until.now ≡ Some until
   pub before : instant_at (zone_origin zone) until <ℤ instant_at (zone_origin zone) from
 
+-- the words ask for the check of the feed in a folder, and this is so of the folder
+pub record AsksCheck (texts : List Text) (Fact : Text → Type 0) : Type 0 where
+  pub dir : Bor Text
+  pub asks : IsCommandOf (subcommand_of gtfs_app texts) (Check dir)
+  pub fact : Fact dir.now
+
 -- the words ask for a board, and this is so of them
 pub record AsksFor (texts : List Text) (Fact : BoardWords → Type 0) : Type 0 where
   pub words : BoardWords
@@ -130,7 +137,11 @@ IsBadUsage texts held = (takes gtfs_app texts ≡ false) ⊎ AsksFor texts (λ w
 
 -- ---- status 3
 
--- what can be the matter with folders that did not fail
+-- what can be the matter with folders that did not fail, for a check
+abbrev pub KeepsFromChecking : Option Store → Text → Type 0
+KeepsFromChecking held dir = LacksFeed held dir ⊎ HoldsKeptFile held dir
+
+-- and for a board
 abbrev pub KeepsFromReading : Option Store → BoardWords → Type 0
 KeepsFromReading held words =
     LacksFeed held words.dir.now ⊎ (HoldsKeptFile held words.dir.now ⊎ (LacksFile held words.zone.now
@@ -141,7 +152,8 @@ pub record Failures : Type 0 where
   pub folders : ℕ
   pub output : ℕ
 
--- the folders or the output failed, or what the folders hold keeps the words from their board
+-- the folders or the output failed, or what the folders hold keeps the words from their check or their board
 abbrev pub IsDeviceFault : List Text → Option Store → Failures → Failures → Type 0
 IsDeviceFault texts held before after =
-    (Rises before.folders after.folders ⊎ Rises before.output after.output) ⊎ AsksFor texts (KeepsFromReading held)
+    (Rises before.folders after.folders ⊎ Rises before.output after.output)
+    ⊎ (AsksCheck texts (KeepsFromChecking held) ⊎ AsksFor texts (KeepsFromReading held))

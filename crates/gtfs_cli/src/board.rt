@@ -17,4 +17,5 @@ pub(crate) use key::{Key, push_key};
 pub use law::boards_are_one;
 pub(crate) use line::push_line;
 pub(crate) use listing::Board;
+pub(crate) use pieces::push_piece;
 pub(crate) use span::Span;

@@ -4,6 +4,8 @@ ghost use Rattle.gtfs_cli.specs.Running.{IsBadUsage, IsDeviceFault};
 ghost use Rattle.gtfs_cli.specs.Refusals.{IsCauseOf};
 
 mod board;
+mod check;
+mod folder;
 mod messages;
 mod moments;
 mod paths;
@@ -49,7 +51,7 @@ pub fn run<S: AsStr, F: Folders, O: Out, E: Out>(
     ensures output_grows { O.failure_count out.old ≤ O.failure_count out.new }
 {
     match command(alloc, words, folders, out) {
-        Ok(()) => 0,
+        Ok(has_errors) => u8::from(has_errors),
         Err(refusal) => {
             // Nobody is left who could be told that this failed.
             let _ = refusal.write(err);
@@ -58,13 +60,13 @@ pub fn run<S: AsStr, F: Folders, O: Out, E: Out>(
     }
 }
 
-// Does what the words ask for.
+// Does what the words ask for, and answers whether a check found an error.
 fn command<'w, S: AsStr, F: Folders, O: Out>(
     alloc: Global,
     words: &'w [S],
     folders: &mut F,
     out: &mut O,
-) -> Result<(), Refusal<'w>>
+) -> Result<bool, Refusal<'w>>
     ensures refused { IfErr result (IsCauseOf (map S.text words.entry.now) (F.held folders.old)
         (record { folders = F.failure_count folders.old; output = O.failure_count out.old })
         (record { folders = F.failure_count folders.new; output = O.failure_count out.new })) }
@@ -73,8 +75,14 @@ fn command<'w, S: AsStr, F: Folders, O: Out>(
     ensures output_grows { O.failure_count out.old ≤ O.failure_count out.new }
 {
     match read_words(alloc, words) {
-        Ok(Command::Board(given)) => board::print_board(alloc, &given, folders, out),
-        Err(WordsFault::Help(text)) => Ok(write_text(out, text.as_bytes())?),
+        Ok(Command::Check(dir)) => check::print_report(alloc, dir, folders, out),
+        Ok(Command::Board(given)) => {
+            board::print_board(alloc, &given, folders, out).map(|()| false)
+        }
+        Err(WordsFault::Help(text)) => {
+            write_text(out, text.as_bytes())?;
+            Ok(false)
+        }
         Err(WordsFault::Refused(text)) => Err(Refusal::Words(text)),
         Err(WordsFault::OutOfMemory) => Err(Refusal::OutOfMemory),
     }

@@ -9,10 +9,13 @@
 //! - 3: a folder or a file is not there, cannot be read or is over the limit, a zone file is none, or the output failed;
 //! - 4: memory ran out.
 //!
-//! The one command so far is `gtfs board DIR --zone FILE --stop ID --from T --until T`: the departures at a stop, in the
-//! order of their keys, a line each. T is `@` and an instant in seconds since 1970-01-01T00:00:00Z, or a service day
-//! YYYYMMDD, which stands for its origin in the zone: noon less twelve hours. Trips with rows in frequencies.txt are left
-//! out. Where a command cannot be done, one line on the error output says why.
+//! `gtfs check DIR` prints what is wrong with the feed in a folder.
+//!
+//! `gtfs board DIR --zone FILE --stop ID --from T --until T` prints the departures at a stop, in the order of their keys, a
+//! line each. T is `@` and an instant in seconds since 1970-01-01T00:00:00Z, or a service day YYYYMMDD, which stands for its
+//! origin in the zone: noon less twelve hours. Trips with rows in frequencies.txt are left out.
+//!
+//! Where a command cannot be done, one line on the error output says why.
 //!
 //! ```text
 //! let mut folders = DiskFolders::new();
@@ -24,6 +27,7 @@
 mod board;
 mod commands;
 mod feed;
+mod report;
 mod runs;
 mod words;
 

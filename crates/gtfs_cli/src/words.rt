@@ -13,6 +13,8 @@ use std::convert::AsStr;
 /// What the words ask for. The texts are the words' own and not yet judged.
 #[derive(Clone, Copy, Debug, PartialEq, Eq)]
 pub(crate) enum Command<'w> {
+    /// `gtfs check`: what is wrong with the feed in this folder.
+    Check(&'w str),
     /// `gtfs board`: the departures at a stop.
     Board(BoardWords<'w>),
 }
@@ -92,6 +94,9 @@ fn command_of<'w>(matches: &ArgMatches<'w>) -> Option<Command<'w>>
     ensures value { IfSome result (IsCommandOf (subcommand_rows_of matches.now)) }
     ensures given { IsWhole (subcommand_rows_of matches.now) → IsSome result }
 {
+    if let Some(given) = matches.subcommand_matches("check") {
+        return Some(Command::Check(given_text(given, "DIR")?));
+    }
     let given = matches.subcommand_matches("board")?;
     Some(Command::Board(board_words(given)?))
 }

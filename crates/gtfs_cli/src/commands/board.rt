@@ -3,16 +3,17 @@ ghost use Rattle.gtfs_days.specs.Zone.{IsZoneOf};
 ghost use Rattle.gtfs_table.specs.Folder.{Store};
 ghost use Rattle.gtfs_cli.specs.Running.{Failures, HoldsBytes, HoldsZone};
 ghost use Rattle.gtfs_cli.specs.declared.words.BoardWords.{BoardWords as Given};
-ghost use Rattle.gtfs_cli.specs.Refusals.{AreOf, IsCause, IsFaultCause};
+ghost use Rattle.gtfs_cli.specs.Refusals.{AreOf, IsCause};
 
 use crate::board::{Board, BoardFault, Span, push_line};
+use crate::commands::folder::{of_folder, read_tables};
 use crate::commands::moments::{Moment, read_moment};
 use crate::commands::paths::cut_path;
 use crate::commands::refusal::Refusal;
 use crate::feed::{Feed, FeedFault};
 use crate::words::BoardWords;
 use gtfs_days::{Zone, ZoneFault};
-use gtfs_table::{FolderFault, Folders, Out, Tables, write_text};
+use gtfs_table::{Folders, Out, Tables, write_text};
 use std::alloc::Global;
 
 /// Prints the board that the words ask for.
@@ -35,7 +36,7 @@ pub(super) fn print_board<'w, F: Folders, O: Out>(
     ensures output_grows { O.failure_count out.old ≤ O.failure_count out.new }
 {
     let (from, until) = read_moments(words)?;
-    let tables = read_tables(alloc, folders, words)?;
+    let tables = read_tables(alloc, folders, words.dir)?;
     let feed = read_feed(alloc, &tables, words.dir)?;
     let zone = read_zone(alloc, folders, words)?;
     let mut board = open(alloc, &feed, &zone, words, from, until)?;
@@ -54,38 +55,6 @@ fn read_moments<'w>(words: &BoardWords<'w>) -> Result<(Moment, Moment), Refusal<
         return Err(Refusal::BadValue("--until"));
     };
     Ok((from, until))
-}
-
-// The tables of the feed's folder. An empty text names none.
-fn read_tables<'w, F: Folders>(
-    alloc: Global,
-    folders: &mut F,
-    words: &BoardWords<'w>,
-) -> Result<Tables, Refusal<'w>>
-    ensures refused { IfErr result (λ refusal. (before after : Failures) → before.folders ≤ F.failure_count folders.old
-        → F.failure_count folders.new ≤ after.folders → IsCause (F.held folders.old) words.now before after refusal) }
-    ensures unchanged { F.held folders.new ≡ F.held folders.old }
-    ensures grows { F.failure_count folders.old ≤ F.failure_count folders.new }
-{
-    if words.dir.is_empty() {
-        return Err(Refusal::NotThere(words.dir));
-    }
-    match Tables::read(alloc, folders, words.dir) {
-        Ok(tables) => Ok(tables),
-        Err(fault) => Err(of_folder(fault, words.dir)),
-    }
-}
-
-// What a fault of the folders means for the path that was asked for.
-fn of_folder(fault: FolderFault, path: &str) -> Refusal<'_>
-    ensures { (held : Option Store) (words : Given) (before after : Failures) → IsFaultCause held words before after fault → IsCause held words before after result }
-{
-    match fault {
-        FolderFault::NoFolder => Refusal::NotThere(path),
-        FolderFault::Read | FolderFault::Write => Refusal::Unreadable(path),
-        FolderFault::TooLarge => Refusal::OverLimit(path),
-        FolderFault::OutOfMemory => Refusal::OutOfMemory,
-    }
 }
 
 fn read_feed<'w, 'a>(

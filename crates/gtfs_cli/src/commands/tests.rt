@@ -1,9 +1,10 @@
 use super::*;
-use fixtures::{folders_with, put_utc};
+use fixtures::{folders_failing_at, folders_with, put_utc};
 use gtfs_table::{MemoryFolders, MemoryOut};
 use std::process::Abort;
 use std::test::Fail;
 
+mod checks;
 mod fixtures;
 mod refusals;
 

@@ -1,13 +1,19 @@
 //! The command line as `clap` is told of it. A command is a function here, and a line in `gtfs`.
 ghost use Rattle.std.specs.Prelude.{◌≡◌, IfOk, false};
 ghost use Rattle.clap.specs.Words.{app_of, rule_of, with_rule};
-ghost use Rattle.gtfs_cli.specs.CommandLine.{board_app, gtfs_app, gtfs_top, option_rule, word_rule};
+ghost use Rattle.gtfs_cli.specs.CommandLine.{board_app, check_app, gtfs_app, gtfs_top, option_rule, word_rule};
 
 use clap::{Arg, ArgAction, Command};
 use std::alloc::{AllocError, Global};
 
-// How each command is called, a line each.
+// How each command is called.
+const CHECK: &str = "gtfs check DIR";
+
 const BOARD: &str = "gtfs board DIR --zone FILE --stop ID --from T --until T";
+
+// How all are called, a line each. Help has `Usage: ` before the first, and the others stand below it.
+const COMMANDS: &str = "gtfs check DIR\n       \
+    gtfs board DIR --zone FILE --stop ID --from T --until T";
 
 // What help says of each text that is given.
 const DIR: &str = "The folder of the feed";
@@ -29,17 +35,27 @@ const TIMES: &str = "T is an instant or a service date:\n  \
 pub(super) fn gtfs<'w>(alloc: Global) -> Result<Command<'w>, AllocError>
     ensures { IfOk result (λ c. app_of c ≡ gtfs_app) }
 {
-    top(alloc).subcommand(board(alloc)?)
+    let checking = top(alloc).subcommand(check(alloc)?)?;
+    checking.subcommand(board(alloc)?)
 }
 
 fn top<'w>(alloc: Global) -> Command<'w>
     ensures { app_of result ≡ gtfs_top }
 {
     Command::new(alloc, "gtfs")
-        .about("Departure boards from GTFS Schedule feeds")
-        .override_usage(BOARD)
+        .about("Checks of GTFS Schedule feeds, and departure boards from them")
+        .override_usage(COMMANDS)
         .subcommand_required(true)
         .disable_help_subcommand(true)
+}
+
+fn check<'w>(alloc: Global) -> Result<Command<'w>, AllocError>
+    ensures { IfOk result (λ c. app_of c ≡ check_app) }
+{
+    let check = Command::new(alloc, "check")
+        .about("Print what is wrong with a feed")
+        .override_usage(CHECK);
+    with_word(check, alloc, "DIR", DIR)
 }
 
 fn board<'w>(alloc: Global) -> Result<Command<'w>, AllocError>

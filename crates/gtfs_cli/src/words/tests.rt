@@ -42,12 +42,19 @@ fn a_board_in_the_order_of_the_usage(rt: HostRuntime) -> Result<(), Fail> {
         "--until",
         "@1711958401",
     ];
-    let Command::Board(board) = read_words(rt.alloc(), &words)?;
-    assert_eq!(rt; board.dir, "feed");
-    assert_eq!(rt; board.zone, "Berlin");
-    assert_eq!(rt; board.stop, "S1");
-    assert_eq!(rt; board.from, "20240401");
-    assert_eq!(rt; board.until, "@1711958401");
+    assert_eq!(rt; read_words(rt.alloc(), &words)?, Command::Board(BOARD));
+    Ok(())
+}
+
+#[test]
+fn a_check_of_a_folder(rt: HostRuntime) -> Result<(), Fail> {
+    let words = ["gtfs", "check", "f1"];
+    assert_eq!(rt; read_words(rt.alloc(), &words)?, Command::Check("f1"));
+    let after_dashes = ["gtfs", "check", "--", "-d"];
+    assert_eq!(rt;
+        read_words(rt.alloc(), &after_dashes)?,
+        Command::Check("-d")
+    );
     Ok(())
 }
 
@@ -130,11 +137,20 @@ fn what_must_be_given(rt: HostRuntime) {
 
 #[test]
 fn what_is_refused(rt: HostRuntime) {
-    let cases: [(&[&str], &str); 8] = [
+    let cases: [(&[&str], &str); 11] = [
         (&[], "requires a subcommand"),
         (&["gtfs"], "requires a subcommand"),
         (&["gtfs", "fly"], "unrecognized subcommand 'fly'"),
         (&["gtfs", "help"], "unrecognized subcommand 'help'"),
+        (&["gtfs", "check"], "<DIR>"),
+        (
+            &["gtfs", "check", "a", "b"],
+            "unexpected argument 'b' found",
+        ),
+        (
+            &["gtfs", "check", "a", "--stop=A"],
+            "unexpected argument '--stop' found",
+        ),
         (
             &["gtfs", "board", "--stop=A", "--stop=A"],
             "'--stop <ID>' cannot be used multiple times",
@@ -177,5 +193,24 @@ fn help_names_the_options(rt: HostRuntime) {
                 "{option}"
             );
         }
+    }
+}
+
+#[test]
+fn help_has_a_line_for_each_command(rt: HostRuntime) {
+    let commands = "Usage: gtfs check DIR\n       gtfs board DIR --zone FILE";
+    let cases: [(&[&str], &str); 5] = [
+        (&["gtfs", "--help"], commands),
+        (&["gtfs", "-h"], "Print what is wrong with a feed"),
+        (&["gtfs", "check", "--help"], "Usage: gtfs check DIR\n\n"),
+        (&["gtfs", "check", "f1", "-h"], "The folder of the feed"),
+        (&["gtfs", "board", "--help"], "Usage: gtfs board DIR"),
+    ];
+    for (words, part) in cases {
+        assert_eq!(rt;
+            answer(rt.alloc(), words, part),
+            (Told::Help, true),
+            "{part}"
+        );
     }
 }

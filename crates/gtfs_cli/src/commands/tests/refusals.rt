@@ -182,7 +182,9 @@ fn help_goes_out_and_ends_well(rt: HostRuntime) -> Result<(), Fail> {
         run(rt.alloc(), &words, &mut folders, &mut out, &mut err),
         0
     );
-    assert!(rt; str::from_utf8(out.bytes())?.contains("gtfs board DIR"));
+    for usage in ["gtfs check DIR", "gtfs board DIR"] {
+        assert!(rt; str::from_utf8(out.bytes())?.contains(usage), "{usage}");
+    }
     assert!(rt; err.bytes().is_empty());
     let mut short = MemoryOut::new(rt.alloc(), 4)?;
     assert_eq!(rt;
@@ -196,7 +198,13 @@ fn help_goes_out_and_ends_well(rt: HostRuntime) -> Result<(), Fail> {
 #[test]
 fn words_that_are_not_as_the_usage_wants_them(rt: HostRuntime) -> Result<(), Fail> {
     let mut folders = folders_with(rt.alloc(), &[])?;
-    for words in [["gtfs", "--upside"], ["gtfs", "board"], ["gtfs", "fly"]] {
+    let cases = [
+        ["gtfs", "--upside"],
+        ["gtfs", "check"],
+        ["gtfs", "board"],
+        ["gtfs", "fly"],
+    ];
+    for words in cases {
         let mut out = MemoryOut::new(rt.alloc(), ROOM)?;
         let mut err = MemoryOut::new(rt.alloc(), ROOM)?;
         assert_eq!(rt;

@@ -2,7 +2,7 @@ use Rattle.std.proofs.Common.{ℕ, ◌≤◌, Option, subst, arith}
 use Rattle.gtfs_table.specs.Folder.{Store}
 use Rattle.gtfs_cli.specs.Running.{Failures, HoldsZone}
 use Rattle.gtfs_cli.specs.Refusals.{IsCause}
-use Rattle.gtfs_cli.proofs.Endings.{told-up}
+use Rattle.gtfs_cli.proofs.Endings.{board-cause, told-up}
 use Rattle.gtfs_cli.proofs.commands.board.print_board.Goals as goal
 
 same : (n : ℕ) → n ≤ n
@@ -23,7 +23,7 @@ returns-in_err-tables-clause-refused g c =
     let before : Failures = record { folders = x; output = g.O.Out.failure_count c.args.out.now } in
     let after : Failures = record { folders = y; output = g.O.Out.failure_count c.args.out.now } in
     told-up c.from_residual-in_err-tables.result c.in_err-tables.field-0.0 (IsCause held c.args.words.now before after) c.from_residual-in_err-tables.ensures.1
-    (c.in_err-tables.ensures.refused before after (same x) (same y))
+    (board-cause held c.args.words.now before after c.in_err-tables.field-0.0 (c.in_err-tables.ensures.refused before after (same x) (same y)))
 
 pub returns-in_err-feed-clause-refused : goal.returns-in_err-feed-clause-refused
 returns-in_err-feed-clause-refused g c =

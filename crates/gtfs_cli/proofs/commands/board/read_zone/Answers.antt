@@ -6,5 +6,5 @@ returns-in-Err-clause-refused g c = λ before after first last.
     let held = g.F.Folders.held c.args.folders.now in
     let x = g.F.Folders.failure_count c.args.folders.now in
     let y = g.F.Folders.failure_count c.read.new.self in
-    c.of_folder.ensures held c.args.words.now before after
+    c.of_folder.ensures.board held c.args.words.now before after
     (cause-file held c.args.words.now before after x y c.cut_path.result.0.now c.cut_path.result.1.now c.in-Err.fault first last c.cut_path.ensures c.in-Err.ensures.refused)

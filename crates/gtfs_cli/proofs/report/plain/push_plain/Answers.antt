@@ -1,0 +1,22 @@
+use Rattle.std.proofs.Common.{◌∙◌, ap, sym, ◌++◌, append_assoc, arith, string_bytes}
+use Rattle.std.specs.Prelude.{encode_utf8}
+use Rattle.gtfs_rules.specs.Values.{plain}
+use Rattle.gtfs_cli.proofs.PlainNames.{length-past, plain-past}
+use Rattle.gtfs_cli.proofs.report.plain.push_plain.Goals as goal
+
+pub loop-character-preserved : goal.loop-character-preserved
+loop-character-preserved c =
+    let name = c.loop-character.character-iterator.rest.now in
+    let later = c.next.new.self.rest.now in
+    let before = string_bytes c.loop-character.text in
+    let after = string_bytes c.push.new.self in
+    let d = c.shown.result in
+    let bytes = rw c.unwrap.ensures at c.push.ensures.bytes in
+    let len = rw c.unwrap.ensures at c.push.ensures.len in
+    let rest = plain-past name later c.in-Some.character d c.in-Some.ensures.steps.0 c.shown.ensures in
+    let rest_len = length-past name later c.in-Some.character d c.in-Some.ensures.steps.0 c.shown.ensures in
+    record {
+      grown = ap (λ t. t ++ plain later) bytes ∙ append_assoc before (encode_utf8 d) (plain later) ∙ ap (λ t. before ++ t) (sym rest) ∙ c.loop-character.invariant.grown;
+      len = omega (arith, len, rest_len, c.loop-character.invariant.len);
+      capacity = omega (arith, c.push.ensures.capacity, c.loop-character.invariant.capacity);
+    }

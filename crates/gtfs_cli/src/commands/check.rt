@@ -1,0 +1,100 @@
+ghost use Rattle.std.specs.Prelude.{◌≡◌, ◌≤◌, map, count_by, length, IfOk, IfErr, OnOk};
+ghost use Rattle.std.specs.Io.KnownBytes.{Appends};
+ghost use Rattle.gtfs_rules.specs.Codes.{is_error};
+ghost use Rattle.gtfs_rules.specs.Report.{problem_line};
+ghost use Rattle.gtfs_rules.specs.View.{problem_of};
+ghost use Rattle.gtfs_cli.specs.Checking.{counts_text, IsReportOf, IsSendingCause, Prints};
+ghost use Rattle.gtfs_cli.specs.Refusals.{IsCheckCause};
+
+use crate::commands::folder::read_tables;
+use crate::commands::refusal::Refusal;
+use crate::report::{push_counts, push_problem};
+use gtfs_rules::{Problem, check};
+use gtfs_table::{Folders, Out, write_text};
+use std::alloc::Global;
+
+/// Prints the report of the feed in a folder: a line for each of its problems, and one with their counts. Answers whether
+/// one of them is an error.
+///
+/// # Errors
+/// `NotThere`, `Unreadable` and `OverLimit` of the folder, `OutputFailed` at any line, and `OutOfMemory` at any point.
+pub(super) fn print_report<'w, F: Folders, O: Out>(
+    alloc: Global,
+    dir: &'w str,
+    folders: &mut F,
+    out: &mut O,
+) -> Result<bool, Refusal<'w>>
+    ensures printed { IfOk result (IsReportOf (F.held folders.old) dir.now (O.told out.old) (O.told out.new)) }
+    ensures refused { IfErr result (IsCheckCause (F.held folders.old) dir.now
+        (record { folders = F.failure_count folders.old; output = O.failure_count out.old })
+        (record { folders = F.failure_count folders.new; output = O.failure_count out.new })) }
+    ensures unchanged { F.held folders.new ≡ F.held folders.old }
+    ensures folders_grow { F.failure_count folders.old ≤ F.failure_count folders.new }
+    ensures output_grows { O.failure_count out.old ≤ O.failure_count out.new }
+{
+    let tables = read_tables(alloc, folders, dir)?;
+    let report = check(alloc, &tables)?;
+    print_problems(alloc, report.problems(), out)
+}
+
+// Prints the problems of a report, each line sent out whole before the next is made, and their counts. Answers whether
+// one of them is an error.
+fn print_problems<'w, O: Out>(
+    alloc: Global,
+    problems: &[Problem<'_>],
+    out: &mut O,
+) -> Result<bool, Refusal<'w>>
+    ensures printed { IfOk result (Prints (O.told out.old) (O.told out.new) (map problem_of problems.now)) }
+    ensures refused { IfErr result (IsSendingCause (O.failure_count out.old) (O.failure_count out.new)) }
+    ensures grows { O.failure_count out.old ≤ O.failure_count out.new }
+{
+    let mut line = String::new(alloc);
+    for problem in problems {
+        print_problem(&mut line, problem, out)?;
+    }
+    let errors = errors_among(problems);
+    print_counts(&mut line, errors, problems.len() - errors, out)?;
+    Ok(errors > 0)
+}
+
+// Sends the line of a problem out. It is made in a text that was used before.
+fn print_problem<'w, O: Out>(
+    line: &mut String,
+    problem: &Problem<'_>,
+    out: &mut O,
+) -> Result<(), Refusal<'w>>
+    ensures sent { OnOk result (Appends (O.told out.old) (O.told out.new) (problem_line (problem_of problem.now))) }
+    ensures refused { IfErr result (IsSendingCause (O.failure_count out.old) (O.failure_count out.new)) }
+    ensures grows { O.failure_count out.old ≤ O.failure_count out.new }
+{
+    line.clear();
+    push_problem(line, problem)?;
+    Ok(write_text(out, line.as_bytes())?)
+}
+
+// Sends the line of the counts out, in the same way.
+fn print_counts<'w, O: Out>(
+    line: &mut String,
+    errors: usize,
+    warnings: usize,
+    out: &mut O,
+) -> Result<(), Refusal<'w>>
+    ensures sent { OnOk result (Appends (O.told out.old) (O.told out.new) (counts_text errors warnings)) }
+    ensures refused { IfErr result (IsSendingCause (O.failure_count out.old) (O.failure_count out.new)) }
+    ensures grows { O.failure_count out.old ≤ O.failure_count out.new }
+{
+    line.clear();
+    push_counts(line, errors, warnings)?;
+    Ok(write_text(out, line.as_bytes())?)
+}
+
+// How many of the problems are errors.
+fn errors_among(problems: &[Problem<'_>]) -> usize
+    ensures value { result ≡ count_by (λ p. is_error p.code) (map problem_of problems.now) }
+    ensures within { result ≤ length problems.now }
+{
+    problems
+        .iter()
+        .filter(|problem| problem.code.is_error())
+        .count()
+}
