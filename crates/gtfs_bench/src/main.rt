@@ -1,6 +1,7 @@
 //! Measures the crates of this repository over a feed on disk. `bench/run` runs it, and reads what it prints.
 #![tactic(auto)]
 
+mod check;
 mod count;
 mod memory;
 mod shelf;
@@ -13,7 +14,9 @@ use std::rt::Runtime;
 
 const USAGE: &str = "usage: gtfs_bench WORD DIR
   tables DIR         the time to read the tables of the feed in DIR, and that of a bare csv loop
-  tables-memory DIR  the memory that reading these tables takes";
+  tables-memory DIR  the memory that reading these tables takes
+  check DIR          the time to check the tables of the feed in DIR, and that of a bare csv loop
+  check-memory DIR   the memory that reading and checking these tables takes";
 
 fn main(rt: HostRuntime) -> ExitCode {
     match run(&rt) {
@@ -38,6 +41,8 @@ fn measure<R: Runtime + AllocGlobal>(rt: &R, word: &str, dir: &str) -> Result<()
     match word {
         "tables" => speed::measure(rt, dir),
         "tables-memory" => memory::measure(rt, dir),
+        "check" => check::measure(rt, dir),
+        "check-memory" => check::measure_memory(rt, dir),
         _ => bail!("no such measurement: {word}"),
     }
 }

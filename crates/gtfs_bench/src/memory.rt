@@ -30,7 +30,7 @@ fn print_count<R: Print>(rt: &R, count: &Count) -> Result<()> {
 }
 
 /// Prints what Linux tells of this process's memory, as `before VmRSS: 812 kB`.
-fn print_status<R: Files + AllocGlobal + Print>(rt: &R, when: &str) -> Result<()> {
+pub fn print_status<R: Files + AllocGlobal + Print>(rt: &R, when: &str) -> Result<()> {
     let status = fs::read_to_string(rt, "/proc/self/status")?;
     for line in status.as_str().lines() {
         if line.starts_with("VmRSS:") || line.starts_with("VmHWM:") {

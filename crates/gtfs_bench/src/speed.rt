@@ -64,7 +64,7 @@ fn take_turn<R: Files + AllocGlobal + Clock>(
     Ok(looped)
 }
 
-fn count_all(alloc: Global, shelf: &Shelf) -> Result<Count, OutOfMemory> {
+pub fn count_all(alloc: Global, shelf: &Shelf) -> Result<Count, OutOfMemory> {
     let mut count = Count::NOTHING;
     for held in &shelf.files {
         if let Some(bytes) = &held.bytes {

@@ -1,0 +1,71 @@
+use crate::count::Count;
+use crate::memory::print_status;
+use crate::shelf::Shelf;
+use crate::speed::count_all;
+use anyhow::{Context, Result, ensure};
+use gtfs_rules::check;
+use gtfs_table::{DiskFolders, Tables};
+use std::rt::{Clock, Files};
+use std::time::{Duration, Instant};
+
+/// How often each is timed, in turn with the other. The least time counts.
+const TURNS: usize = 3;
+
+/// The least times, and how many problems were found.
+#[derive(Clone, Copy)]
+struct Measured {
+    bare: Duration,
+    check: Duration,
+    problems: usize,
+}
+
+/// Prints the time of a bare loop of `csv` over the bytes of a feed, and that of [`check`] over its tables.
+pub fn measure<R: Files + AllocGlobal + Clock + Print>(rt: &R, dir: &str) -> Result<()> {
+    let mut least = Measured {
+        bare: Duration::MAX,
+        check: Duration::MAX,
+        problems: 0,
+    };
+    for _ in 0..TURNS {
+        take_turn(rt, dir, &mut least)?;
+    }
+    let bare = least.bare.as_nanos();
+    let check = least.check.as_nanos();
+    let problems = least.problems;
+    println!(rt; "bare_ns={bare} check_ns={check} problems={problems}")?;
+    Ok(())
+}
+
+/// Times each once, over files that are in memory before.
+fn take_turn<R: Files + AllocGlobal + Clock>(
+    rt: &R,
+    dir: &str,
+    least: &mut Measured,
+) -> Result<()> {
+    let mut shelf = Shelf::load(rt, dir).context(format_args!("reading {dir}"))?;
+    let start = Instant::now(rt)?;
+    let looped = count_all(rt.alloc(), &shelf)?;
+    least.bare = least.bare.min(start.elapsed(rt)?);
+    ensure!(looped != Count::NOTHING, "no feed in {dir}");
+    let tables = Tables::read(rt.alloc(), &mut shelf, dir)?;
+    let start = Instant::now(rt)?;
+    let report = check(rt.alloc(), &tables)?;
+    least.check = least.check.min(start.elapsed(rt)?);
+    least.problems = report.problems().len();
+    Ok(())
+}
+
+/// Prints the memory of this process before the tables of a feed are read from the disk and after they were checked.
+pub fn measure_memory<R: Files + Alloc + AllocGlobal + Clone + Drop + Print>(
+    rt: &R,
+    dir: &str,
+) -> Result<()> {
+    print_status(rt, "before")?;
+    let mut disk = DiskFolders::new(rt);
+    let tables = Tables::read(rt.alloc(), &mut disk, dir).context(format_args!("reading {dir}"))?;
+    let report = check(rt.alloc(), &tables)?;
+    print_status(rt, "kept")?;
+    let problems = report.problems().len();
+    println!(rt; "problems={problems}")?;
+    Ok(())
+}
