@@ -82,28 +82,35 @@ impl Asked<'_> {
     }
 
     fn has_active_day(self, id: &str) -> bool {
-        let added = self.has_exception(id, 1, is_service_day);
+        let dates = self.tables.records(File::CalendarDates);
+        let is_added = |row| matches!(self.exception(id, 1, row), Some(day) if is_service_day(day));
+        if (2..=dates).any(is_added) {
+            return true;
+        }
         let Some(row) = row_with(self.tables, File::Calendar, "service_id", id) else {
-            return added;
+            return false;
         };
         let date = |column| amount_in(self.tables, File::Calendar, row, column).unwrap_or(0);
-        let covered = (date("start_date")..=date("end_date")).any(|day| {
-            is_service_day(day)
-                && runs_on(self.tables, row, day)
-                && !self.has_exception(id, 2, |removed| removed == day)
-        });
-        added || covered
+        (date("start_date")..=date("end_date")).any(|day| {
+            is_service_day(day) && runs_on(self.tables, row, day) && !self.is_removed(id, day)
+        })
     }
 
-    // Whether the service has an exception of this type whose day passes.
-    fn has_exception(self, id: &str, kind: i64, passes: impl Fn(i64) -> bool) -> bool {
-        let number = |row, column| amount_in(self.tables, File::CalendarDates, row, column);
-        (2..=self.tables.records(File::CalendarDates)).any(|row| {
-            is_row(self.tables, File::CalendarDates, row)
-                && word_in(self.tables, File::CalendarDates, row, "service_id") == Some(id)
-                && number(row, "exception_type") == Some(kind)
-                && number(row, "date").is_some_and(&passes)
-        })
+    fn is_removed(self, id: &str, day: i64) -> bool {
+        (2..=self.tables.records(File::CalendarDates)).any(|row| self.exception(id, 2, row)
+            == Some(day))
+    }
+
+    // The day of a row of calendar_dates.txt, where it is an exception of this service and type.
+    fn exception(self, id: &str, kind: i64, row: usize) -> Option<i64> {
+        let number = |column| amount_in(self.tables, File::CalendarDates, row, column);
+        let is_of_service = is_row(self.tables, File::CalendarDates, row)
+            && word_in(self.tables, File::CalendarDates, row, "service_id") == Some(id);
+        if is_of_service && number("exception_type") == Some(kind) {
+            number("date")
+        } else {
+            None
+        }
     }
 }
 

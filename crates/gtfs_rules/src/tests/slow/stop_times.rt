@@ -53,15 +53,25 @@ impl Asked<'_> {
         let Some(own) = order(self.tables, self.row) else {
             return false;
         };
-        let all_others = |passes: &dyn Fn((i64, usize)) -> bool| {
-            (2..=self.tables.records(File::StopTimes))
-                .filter(|row| self.is_of_same_trip(*row))
-                .filter_map(|row| order(self.tables, row))
-                .all(passes)
-        };
-        let is_first = all_others(&|other| other >= own);
-        let is_last = all_others(&|other| other.0 < own.0 || other.0 == own.0 && other.1 >= own.1);
+        let records = self.tables.records(File::StopTimes);
+        let is_first = (2..=records).all(|row| match self.order_in_trip(row) {
+            Some(other) => other >= own,
+            None => true,
+        });
+        let is_last = (2..=records).all(|row| match self.order_in_trip(row) {
+            Some(other) => other.0 < own.0 || other.0 == own.0 && other.1 >= own.1,
+            None => true,
+        });
         self.is_empty("arrival_time") && self.is_empty("departure_time") && (is_first || is_last)
+    }
+
+    // The place of a row of the same trip.
+    fn order_in_trip(self, row: usize) -> Option<(i64, usize)> {
+        if self.is_of_same_trip(row) {
+            order(self.tables, row)
+        } else {
+            None
+        }
     }
 
     fn is_of_same_trip(self, row: usize) -> bool {
