@@ -2,12 +2,14 @@
 //!
 //! - A [`Problem`] is a file, a row, a [`Code`] and a column. Row 0 stands for the file as a whole, row 1 is the
 //!   header, and an empty column is none. A [`FileName`] is one of the nine kept files or another name in the folder.
+//! - [`check`] finds every problem of a dataset's tables, in time that grows as n log n.
 //! - A [`Report`] holds the problems of a dataset, strictly ascending: exactly those that it has.
 //!   [`Report::passed`] gives the tables back as a [`Passed`] exactly where no problem is an error.
 //! - A [`Code`] is an error, whose name begins with `E`, or a warning, whose name begins with `W`.
 //!   [`Code::text`] says what is wrong in a few words.
 //!
 //! ```text
+//! let report = check(alloc, &tables)?;
 //! for problem in report.problems() {
 //!     // E07 stop_times.txt 3 arrival_time value unreadable
 //!     let Problem { file, row, code, column } = *problem;
