@@ -1,7 +1,7 @@
 -- A list cut at rising places.
 use Rattle.std.proofs.Common.{◌≡◌, ◌<◌, ◌≤◌, ◌+◌, ◌-◌, ◌∷◌, ◌++◌, ◌∙◌, [], ℕ, zero, suc, List, length, take, drop, get_or, refl, sym, ap, arith, length-append}
 use Rattle.std.proofs.Math.Seq.{drop-append_seam, take-length}
-use Rattle.std.proofs.lemmas.List.{take-append-le, drop-append-le, length-drop, length_push, take_all, get_or-take, get_or-drop, length-take}
+use Rattle.std.proofs.lemmas.List.{take-append-le, drop-append-le, length-drop, length_push, take_all}
 use Rattle.std.proofs.lemmas.List.Elements.{All-nil, All-cons, All-head, All-tail}
 use Rattle.std.specs.List.{All}
 use Rattle.csv.specs.Records.{Rising}
@@ -69,20 +69,6 @@ parts-more {X = X} s (e ∷ f ∷ starts) xs x r =
     let here = drop-append-le e xs (x ∷ []) low in
     rw (here, all) (ap (λ (p : List (List X)). take (f - e) (drop e xs) ∷ p) (parts-more e (f ∷ starts) xs x r.1))
 
--- an item of a part is one of the whole
-pub part-item : {X : Type 0} (starts : List ℕ) (xs : List X) (i n : ℕ) (d : X) → i < length starts
-    → n < get_or starts (i + 1) (length xs) - get_or starts i 0
-    → get_or (get_or (parts starts xs) i []) n d ≡ get_or xs (get_or starts i 0 + n) d
-part-item starts xs i n d h small =
-    rw (part-at starts xs i h, get_or-take _ (drop (get_or starts i 0) xs) n d small) (get_or-drop (get_or starts i 0) xs n d)
-
--- a part's length
-pub length-part : {X : Type 0} (s : ℕ) (starts : List ℕ) (xs : List X) (i : ℕ) → Rising s starts (length xs) → i < length starts
-    → length (get_or (parts starts xs) i []) ≡ get_or starts (i + 1) (length xs) - get_or starts i 0
-length-part s starts xs i r h =
-    let b = part-bounds s starts (length xs) i r h in
-    rw (part-at starts xs i h) (omega (arith, b, length-take (get_or starts (i + 1) (length xs) - get_or starts i 0) (drop (get_or starts i 0) xs), length-drop (get_or starts i 0) xs))
-
 -- no part is without an item, also after one more
 pub filled-more : {X : Type 0} (rs : List (List X)) (x : X) → All (λ (r : List X). 0 < length r) rs → All (λ (r : List X). 0 < length r) (add_to_last rs x)
 unfolding add_to_last
@@ -111,14 +97,11 @@ part-of starts xs rs i e h =
     let lt : i < length starts = omega (arith, count-parts starts xs rs e) in
     sym (part-at starts xs i lt) ∙ ap (λ (p : List (List _)). get_or p i []) e
 
-pub length-of : {X : Type 0} (starts : List ℕ) (xs : List X) (rs : List (List X)) (i : ℕ) → parts starts xs ≡ rs → Rising 0 starts (length xs) → i < length rs
-    → length (get_or rs i []) ≡ get_or starts (i + 1) (length xs) - get_or starts i 0
-length-of starts xs rs i e r h =
-    let lt : i < length starts = omega (arith, count-parts starts xs rs e) in
-    rw (← e) (length-part 0 starts xs i r lt)
-
-pub item-of : {X : Type 0} (starts : List ℕ) (xs : List X) (rs : List (List X)) (i n : ℕ) (d : X) → parts starts xs ≡ rs → i < length rs
-    → n < get_or starts (i + 1) (length xs) - get_or starts i 0 → get_or xs (get_or starts i 0 + n) d ≡ get_or (get_or rs i []) n d
-item-of starts xs rs i n d e h small =
-    let lt : i < length starts = omega (arith, count-parts starts xs rs e) in
-    rw (← e) (sym (part-item starts xs i n d lt small))
+-- the part of a row, from 1
+pub row-part : {X : Type 0} (starts : List ℕ) (xs : List X) (rs : List (List X)) (row : ℕ) → parts starts xs ≡ rs → Rising 0 starts (length xs) → 0 < row → row ≤ length starts
+    → (get_or starts (row - 1) 0 ≤ get_or starts (row - 1 + 1) (length xs)) × (get_or starts (row - 1 + 1) (length xs) ≤ length xs)
+    × (take (get_or starts (row - 1 + 1) (length xs) - get_or starts (row - 1) 0) (drop (get_or starts (row - 1) 0) xs) ≡ get_or rs (row - 1) [])
+row-part starts xs rs row e r low high =
+    let there : row - 1 < length rs = omega (arith, count-parts starts xs rs e) in
+    let b = bounds-of starts xs rs (row - 1) e r there in
+    (b.1, b.2, part-of starts xs rs (row - 1) e there)

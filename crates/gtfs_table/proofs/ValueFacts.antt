@@ -5,20 +5,25 @@ use Rattle.std.specs.List.{position_from}
 use Rattle.std.proofs.lemmas.Bool.{cases_Bool, ne_eqb}
 use Rattle.std.proofs.lemmas.List.{get_or_past}
 use Rattle.std.proofs.lemmas.Iterator.Adapters.{position_from-zero}
-use Rattle.gtfs_table.specs.Blanks.{cut, without_first_blanks}
+use Rattle.gtfs_table.specs.Blanks.{cut}
 use Rattle.gtfs_table.specs.Tables.{Records, record_at, field_cut, column_of}
 
-pub cut-none : cut [] ≡ []
-unfolding without_first_blanks
-cut-none = refl
-
 -- a row that is not there
-pub no-record : (rs : Records) (row n : ℕ) → (row ≡ 0) ⊎ (length rs < row) → [] ≡ field_cut (record_at rs row) n
-no-record rs row n (inl e) = rw e (sym cut-none)
-no-record rs row n (inr h) =
+pub no-record : (rs : Records) (row : ℕ) → (row ≡ 0) ⊎ (length rs < row) → [] ≡ record_at rs row
+no-record rs row (inl e) = rw e refl
+no-record rs row (inr h) =
     let some : (row == 0) ≡ false = ne_eqb row 0 (λ z. omega arith) in
     let none : get_or rs (row - 1) [] ≡ [] = get_or_past rs (row - 1) [] (omega arith) in
-    rw (some, none) (sym cut-none)
+    rw (some, none) refl
+
+-- a row that is there
+pub record-there : (rs : Records) (row : ℕ) → 0 < row → record_at rs row ≡ get_or rs (row - 1) []
+record-there rs row h = let some : (row == 0) ≡ false = ne_eqb row 0 (λ z. omega arith) in rw some refl
+
+pub next-record : (rs : Records) (i : ℕ) → record_at rs (i + 1) ≡ get_or rs i []
+next-record rs i =
+    let number : i + 1 - 1 ≡ i = omega arith in
+    record-there rs (i + 1) (omega arith) ∙ rw number refl
 
 -- the first place that passes
 from-at : {X : Type 0} (p : X → Bool) (k : ℕ) (xs : List X) (n : ℕ) (d : X) → position_from p k (take n xs) ≡ None → n < length xs → p (get_or xs n d) ≡ true

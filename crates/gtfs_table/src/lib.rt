@@ -10,6 +10,8 @@
 //!   and is UTF-8 ([`State`]).
 //! - [`Tables::value`] is the value of a column in a row, and [`Tables::column`] with [`Tables::field`]
 //!   the same for one column in many rows. Row 1 is the header.
+//! - [`Tables::record`] is one row ([`Record`]), for a caller that reads many of its fields: its place is
+//!   looked up once, and not once a field.
 //! - [`Tables::empty`], [`Tables::push_record`] and [`Tables::push_field`] make tables, and
 //!   [`Tables::write`] gives the text of one, which reads back.
 //!
@@ -44,6 +46,7 @@ mod output;
 mod places;
 mod read_within;
 mod reader;
+mod record;
 mod records;
 mod state;
 mod table;
@@ -58,6 +61,7 @@ pub use folders::{FolderFault, Folders};
 pub use memory_folders::MemoryFolders;
 pub use memory_out::MemoryOut;
 pub use output::{Failed, Out, OutFault, write_text};
+pub use record::Record;
 pub use state::State;
 pub use tables::Tables;
 pub use write_out::WriteOut;

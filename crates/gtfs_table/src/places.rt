@@ -45,8 +45,23 @@ impl Places {
         self.narrow.len() + self.wide.len()
     }
 
-    /// The place with this number, from 0.
-    pub(crate) fn get(&self, i: usize) -> usize
+    /// Where the part that begins at the place with this number begins and ends: it ends at the next place,
+    /// or else at `size`.
+    pub(crate) fn span(&self, i: usize, size: usize) -> (usize, usize)
+        requires { i < length self.now }
+        ensures start { result.0 ≡ slice_index self.now i }
+        ensures end { result.1 ≡ slice_index_or self.now (i + 1) size }
+    {
+        let narrow = self.narrow.as_slice();
+        if i + 1 < narrow.len() {
+            (narrow[i] as usize, narrow[i + 1] as usize)
+        } else {
+            (self.get(i), self.end_of(i, size))
+        }
+    }
+
+    // The place with this number, from 0.
+    fn get(&self, i: usize) -> usize
         requires { i < length self.now }
         ensures { result ≡ slice_index self.now i }
     {
@@ -58,8 +73,8 @@ impl Places {
         }
     }
 
-    /// Where the part that begins at the place with this number ends: at the next place, or else at `size`.
-    pub(crate) fn end_of(&self, i: usize, size: usize) -> usize
+    // The place after the one with this number, or else `size`.
+    fn end_of(&self, i: usize, size: usize) -> usize
         requires { i < length self.now }
         ensures { result ≡ slice_index_or self.now (i + 1) size }
     {

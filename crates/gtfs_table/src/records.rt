@@ -1,8 +1,10 @@
 ghost use Rattle.std.specs.Prelude.{All, ◌≡◌, ◌<◌, ◌++◌, ◌∷◌, [], length, IfOk, OnOk, OnErr, slice_index_or};
 ghost use Rattle.csv.specs.Records.{AllText, IsRecord, fields_of};
 ghost use Rattle.gtfs_table.specs.Parts.{add_to_last};
+ghost use Rattle.gtfs_table.specs.Tables.{record_at};
 
 use crate::places::Places;
+use crate::record::Record;
 use crate::texts::Texts;
 use csv::ByteRecord;
 use gtfs_field::OutOfMemory;
@@ -58,28 +60,15 @@ impl Records {
         self.starts.len()
     }
 
-    /// How many fields the record with this number has, from 0.
-    pub(crate) fn fields(&self, i: usize) -> usize
-        requires { i < length self.now }
-        ensures { result ≡ length (slice_index_or self.now i []) }
+    /// The record of a row, from 1: one with no field where there is no such row.
+    pub(crate) fn record(&self, row: usize) -> Record<'_>
+        ensures { result ≡ record_at self.now row }
     {
-        let start = self.starts.get(i);
-        let end = self.starts.end_of(i, self.fields.len());
-        end - start
-    }
-
-    /// A field of a record, both numbered from 0: the empty text where the record has no such field.
-    pub(crate) fn field(&self, i: usize, n: usize) -> &str
-        requires { i < length self.now }
-        ensures { result.now ≡ slice_index_or (slice_index_or self.now i []) n [] }
-    {
-        let start = self.starts.get(i);
-        let end = self.starts.end_of(i, self.fields.len());
-        if n < end - start {
-            self.fields.get(start + n)
-        } else {
-            ""
+        if row == 0 || row > self.starts.len() {
+            return Record::new(&self.fields, 0, 0);
         }
+        let (start, end) = self.starts.span(row - 1, self.fields.len());
+        Record::new(&self.fields, start, end)
     }
 
     /// Each record has a field, and each field is UTF-8: facts for callers.

@@ -2,9 +2,10 @@ ghost use Rattle.std.specs.Prelude.{◌≡◌, ◌<◌, length, option_map, IfOk
 ghost use Rattle.gtfs_table.specs.Tables.{absent, column_of, field_cut, record_at, with_field, with_record};
 ghost use Rattle.gtfs_table.specs.Written.{text_of_table, ReadsBack};
 
+use crate::record::Record;
 use crate::records::Records;
 use crate::state::State;
-use crate::{blanks, writer};
+use crate::writer;
 use gtfs_field::OutOfMemory;
 use std::alloc::Global;
 use std::marker::Model;
@@ -56,24 +57,11 @@ impl FileTable {
         self.records.len()
     }
 
-    /// How many fields the record of a row has, from 1: none where there is no such row.
-    pub(crate) fn fields(&self, row: usize) -> usize
-        ensures { result ≡ length (record_at self.now.records row) }
+    /// The record of a row, from 1: one with no field where there is no such row.
+    pub(crate) fn record(&self, row: usize) -> Record<'_>
+        ensures { result ≡ record_at self.now.records row }
     {
-        if row == 0 || row > self.records.len() {
-            return 0;
-        }
-        self.records.fields(row - 1)
-    }
-
-    /// A field of a row, cut of its blanks: the empty text where there is no such field.
-    pub(crate) fn field(&self, row: usize, n: usize) -> &str
-        ensures { result.now ≡ field_cut (record_at self.now.records row) n }
-    {
-        if row == 0 || row > self.records.len() {
-            return "";
-        }
-        blanks::cut(self.records.field(row - 1, n))
+        self.records.record(row)
     }
 
     /// The place of the first column of this name in the header.
@@ -83,8 +71,9 @@ impl FileTable {
         if name.is_empty() {
             return None;
         }
-        for n in 0..self.fields(1) {
-            if self.field(1, n) == name {
+        let header = self.record(1);
+        for n in 0..header.len() {
+            if header.field(n) == name {
                 return Some(n);
             }
         }

@@ -8,6 +8,7 @@ ghost use Rattle.gtfs_table.specs.Written.{text_of_table, ReadsBack};
 use crate::file::File;
 use crate::folders::{FolderFault, Folders};
 use crate::reader;
+use crate::record::Record;
 use crate::state::State;
 use crate::table::FileTable;
 use gtfs_field::{OutOfMemory, Text};
@@ -139,18 +140,26 @@ impl Tables {
         self.table(file).len()
     }
 
+    /// The record of a row, for a caller that reads many fields of it: one with no field where there is no
+    /// such row.
+    pub fn record(&self, file: File, row: usize) -> Record<'_>
+        ensures { result ≡ record_at (table_of self.now file).records row }
+    {
+        self.table(file).record(row)
+    }
+
     /// How many fields the record of a row has: none where there is no such row.
     pub fn fields(&self, file: File, row: usize) -> usize
         ensures { result ≡ length (record_at (table_of self.now file).records row) }
     {
-        self.table(file).fields(row)
+        self.record(file, row).len()
     }
 
     /// A field of a row, cut of its blanks: the empty text where there is no such field.
     pub fn field(&self, file: File, row: usize, n: usize) -> &str
         ensures { result.now ≡ field_cut (record_at (table_of self.now file).records row) n }
     {
-        self.table(file).field(row, n)
+        self.record(file, row).field(n)
     }
 
     /// The place of a column: that of the first field of the header which, cut of its blanks, is this

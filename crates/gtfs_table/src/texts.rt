@@ -60,8 +60,7 @@ impl Texts {
         ensures { result.now ≡ slice_index_or self.now i [] }
     {
         let bytes = self.bytes.as_slice();
-        let start = self.starts.get(i);
-        let end = self.starts.end_of(i, bytes.len());
+        let (start, end) = self.starts.span(i, bytes.len());
         unsafe { str::from_utf8_unchecked(&bytes[start..end]) }
     }
 

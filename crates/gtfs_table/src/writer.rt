@@ -3,6 +3,7 @@ ghost use Rattle.csv.specs.Records.{fields_of};
 ghost use Rattle.gtfs_table.specs.Written.{is_marked, text_of_records};
 ghost use Rattle.gtfs_table.specs.Tables.{table_of_bytes};
 
+use crate::record::Record;
 use crate::records::Records;
 use crate::state::State;
 use csv::{ByteRecord, WriterBuilder};
@@ -22,7 +23,7 @@ pub(crate) fn write_records(alloc: Global, records: &Records) -> Result<Vec<u8>,
         .from_writer(Vec::new(alloc));
     let mut row = ByteRecord::new(alloc);
     for i in 0..records.len() {
-        copy_record(records, i, &mut row)?;
+        copy_record(&records.record(i + 1), &mut row)?;
         if writer.write_byte_record(&row).is_err() {
             return Err(OutOfMemory);
         }
@@ -33,13 +34,12 @@ pub(crate) fn write_records(alloc: Global, records: &Records) -> Result<Vec<u8>,
     }
 }
 
-fn copy_record(records: &Records, i: usize, row: &mut ByteRecord) -> Result<(), OutOfMemory>
-    requires { i < length records.now }
-    ensures { OnOk result (fields_of row.new ≡ slice_index_or records.now i []) }
+fn copy_record(fields: &Record<'_>, row: &mut ByteRecord) -> Result<(), OutOfMemory>
+    ensures { OnOk result (fields_of row.new ≡ fields.now) }
 {
     row.clear();
-    for n in 0..records.fields(i) {
-        row.push_field(records.field(i, n).as_bytes())?;
+    for n in 0..fields.len() {
+        row.push_field(fields.raw(n).as_bytes())?;
     }
     Ok(())
 }

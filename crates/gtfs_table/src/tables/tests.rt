@@ -70,6 +70,50 @@ fn a_worn_file_has_six_records(rt: HostRuntime) -> Result<(), Fail> {
     Ok(())
 }
 
+// A field stays after its record is let go.
+fn arrival(tables: &Tables, row: usize) -> &str {
+    tables.record(File::StopTimes, row).field(1)
+}
+
+#[test]
+fn a_worn_file_has_short_records(rt: HostRuntime) -> Result<(), Fail> {
+    let tables = tables_of(rt.alloc(), WORN)?;
+    assert_eq!(rt; arrival(&tables, 2), "08:00:00");
+    let short = tables.record(File::StopTimes, 5);
+    assert_eq!(rt; short.len(), 4);
+    assert_eq!(rt; short.field(3), "S1");
+    assert_eq!(rt; short.field(4), "");
+    assert_eq!(rt; tables.record(File::StopTimes, 6).len(), 2);
+    assert_eq!(rt; arrival(&tables, 6), "27:00:00");
+    Ok(())
+}
+
+// Rows that are not there are among them, and a field past the last of each.
+#[test]
+fn a_record_has_the_fields_of_its_row(rt: HostRuntime) -> Result<(), Fail> {
+    let tables = tables_of(rt.alloc(), WORN)?;
+    for row in 0..8 {
+        let record = tables.record(File::StopTimes, row);
+        let count = tables.fields(File::StopTimes, row);
+        assert_eq!(rt; record.len(), count);
+        assert_eq!(rt; record.is_empty(), row == 0 || row == 7);
+        for n in 0..6 {
+            assert_eq!(rt; record.field(n), tables.field(File::StopTimes, row, n));
+        }
+    }
+    Ok(())
+}
+
+#[test]
+fn an_absent_file_has_no_record(rt: HostRuntime) {
+    let tables = Tables::empty(rt.alloc());
+    for row in 0..3 {
+        let record = tables.record(File::Stops, row);
+        assert_eq!(rt; record.len(), 0);
+        assert_eq!(rt; record.field(0), "");
+    }
+}
+
 const CASES: &[(&[u8], &str)] = &[
     (b"", ""),
     (b"\xEF\xBB\xBF\xEF\xBB\xBF", ""),

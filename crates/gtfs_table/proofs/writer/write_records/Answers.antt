@@ -5,6 +5,7 @@ use Rattle.csv.proofs.ReadFacts.{on-ok}
 use Rattle.csv.specs.Writing.{writer_setup}
 use Rattle.csv.specs.declared.writer.QuoteStyle.TheVariants as style
 use Rattle.gtfs_table.specs.Written.{text_of_records}
+use Rattle.gtfs_table.proofs.ValueFacts.{next-record}
 use Rattle.gtfs_table.proofs.WriteFacts.{reads-back, row-flexible, text-more}
 use Rattle.gtfs_table.proofs.writer.write_records.Goals as goal
 
@@ -27,12 +28,13 @@ loop-i-preserved c =
     let plain : (writer_setup c.loop-i.writer).style ≢ style.NonNumeric = rw (inv.setup) (λ e. cc e) in
     let appends = on-ok c.write_byte_record.result good wrote.bytes inv.fields inv.wrote plain in
     let old : c.loop-i.writer.wtr.inner.items ++ c.loop-i.writer.wtr.buf ≡ text_of_records (take c.loop-i.i c.args.records.now) = cc inv.text in
+    let copied = c.in_ok-copy_record.ensures ∙ c.record.ensures ∙ next-record c.args.records.now c.loop-i.i in
     let more = take_more c.args.records.now c.loop-i.i [] (omega (arith, c.loop-i-test.true, c.len-i-end.ensures)) in
     record {
       setup = on-ok c.write_byte_record.result good wrote.setup ∙ inv.setup;
       fields = on-ok c.write_byte_record.result good wrote.ended;
       wrote = on-ok c.write_byte_record.result good wrote.clean;
-      text = rw (more, text-more (take c.loop-i.i c.args.records.now) (get_or c.args.records.now c.loop-i.i []), appends, old, inv.setup, c.in_ok-copy_record.ensures, row-flexible (get_or c.args.records.now c.loop-i.i [])) refl;
+      text = rw (more, text-more (take c.loop-i.i c.args.records.now) (get_or c.args.records.now c.loop-i.i []), appends, old, inv.setup, copied, row-flexible (get_or c.args.records.now c.loop-i.i [])) refl;
     }
 
 pub returns-in-Ok-clause-reads_back : goal.returns-in-Ok-clause-reads_back

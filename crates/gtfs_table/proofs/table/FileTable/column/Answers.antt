@@ -7,7 +7,7 @@ use Rattle.gtfs_table.proofs.table.FileTable.column.Goals as goal
 pub returns-then-eq : goal.returns-then-eq
 returns-then-eq c =
     let some : (length c.args.name.now == 0) ≡ false = sym c.is_empty.ensures ∙ c.if-is_empty.false in
-    let within = rw (c.fields-n-end.ensures) at c.loop-n-test.true in
+    let within = rw (c.len-n-end.ensures, c.record-header.ensures) at c.loop-n-test.true in
     let here : bytes_eq (field_cut (record_at c.args.self.now.records 1) c.loop-n.n) c.args.name.now ≡ true =
-    rw (← c.field.ensures) (sym c.eq.ensures ∙ c.if-eq.true) in
+    rw (← c.record-header.ensures, ← c.field.ensures) (sym c.eq.ensures ∙ c.if-eq.true) in
     column-at c.args.self.now.records c.args.name.now c.loop-n.n some c.loop-n.invariant within here

@@ -1,0 +1,71 @@
+ghost use Rattle.std.specs.Prelude.{◌≡◌, ◌==◌, ◌≤◌, ◌-◌, [], length, take, drop, slice_index_or};
+ghost use Rattle.gtfs_table.specs.Tables.{field_cut};
+
+use crate::blanks;
+use crate::texts::Texts;
+use std::marker::Model;
+
+/// One record of a table, found once for the many fields that a caller reads of it.
+///
+/// Its fields are numbered from 0, and a field that was read stays valid after the record is let go.
+#[derive(Drop)]
+pub struct Record<'a> {
+    fields: &'a Texts,
+    start: usize,
+    end: usize,
+}
+
+impl<'a> Model for Record<'a> {
+    ghost use Rattle.std.specs.Prelude.{List, ℕ};
+
+    ghost Value = { List (List ℕ) };
+
+    ghost use Rattle.gtfs_table.specs.Storage.{record_in, IsRecordWithin};
+
+    ghost view = { record_in };
+
+    ghost invariant = { IsRecordWithin };
+}
+
+impl<'a> Record<'a> {
+    /// The record of these fields from the number `start` to `end`.
+    pub(crate) fn new(fields: &'a Texts, start: usize, end: usize) -> Record<'a>
+        requires start { start ≤ end }
+        requires end { end ≤ length fields.now }
+        ensures { result ≡ take (end - start) (drop start fields.now) }
+    {
+        Record { fields, start, end }
+    }
+
+    /// How many fields it has.
+    pub fn len(&self) -> usize
+        ensures { result ≡ length self.now }
+    {
+        self.end - self.start
+    }
+
+    /// Whether it has no field, as where there is no such row.
+    pub fn is_empty(&self) -> bool
+        ensures { result ≡ (length self.now == 0) }
+    {
+        self.start == self.end
+    }
+
+    /// A field, cut of its blanks: the empty text where there is no such field.
+    pub fn field(&self, n: usize) -> &'a str
+        ensures { result.now ≡ field_cut self.now n }
+    {
+        blanks::cut(self.raw(n))
+    }
+
+    /// A field as it stands in the table: the empty text where there is no such field.
+    pub(crate) fn raw(&self, n: usize) -> &'a str
+        ensures { result.now ≡ slice_index_or self.now n [] }
+    {
+        if n < self.end - self.start {
+            self.fields.get(self.start + n)
+        } else {
+            ""
+        }
+    }
+}
