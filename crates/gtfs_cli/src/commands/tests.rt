@@ -4,12 +4,17 @@ use gtfs_table::{MemoryFolders, MemoryOut};
 use std::process::Abort;
 use std::test::Fail;
 
+mod changes;
 mod checks;
+mod cuts;
 mod fixtures;
 mod refusals;
 
 // Room for all that is written in these tests but where an output is to fail.
 const ROOM: usize = 4_000;
+
+// The words that ask for a check of the feed in the folder f1.
+const CHECK: [&str; 3] = ["gtfs", "check", "f1"];
 
 // The words that ask for a board of the feed in the folder f1.
 fn asked<'w>(zone: &'w str, stop: &'w str, from: &'w str, until: &'w str) -> [&'w str; 11] {

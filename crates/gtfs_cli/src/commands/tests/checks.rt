@@ -10,8 +10,7 @@ fn assert_check(
     (status, lines): (u8, &str),
 ) -> Result<(), Fail> {
     let mut folders = folders_with(alloc, files)?;
-    let words = ["gtfs", "check", "f1"];
-    assert_ends(rt, alloc, &mut folders, &words, (status, lines, ""))
+    assert_ends(rt, alloc, &mut folders, &CHECK, (status, lines, ""))
 }
 
 #[test]
@@ -93,20 +92,26 @@ fn names_are_printed_without_control_characters(rt: HostRuntime) -> Result<(), F
     assert_check(&rt, rt.alloc(), &[("fare\trules.txt", "")], (0, lines))
 }
 
-#[test]
-fn a_folder_without_files_lacks_six(rt: HostRuntime) -> Result<(), Fail> {
-    let mut folders = MemoryFolders::new(rt.alloc(), 100, None);
-    folders.put("empty", "notes.md", b"")?;
-    let lines = "E01 agency.txt:0 - file missing\n\
+const SIX_MISSING: &str = "E01 agency.txt:0 - file missing\n\
 E01 stops.txt:0 - file missing\n\
 E01 routes.txt:0 - file missing\n\
 E01 trips.txt:0 - file missing\n\
 E01 stop_times.txt:0 - file missing\n\
-E01 calendar.txt:0 - file missing\n\
-W03 notes.md:0 - file not kept\n\
-errors 6 warnings 1\n";
+E01 calendar.txt:0 - file missing\n";
+
+#[test]
+fn a_folder_without_files_lacks_six(rt: HostRuntime) -> Result<(), Fail> {
+    let mut folders = MemoryFolders::new(rt.alloc(), 100, None);
+    folders.put_folder("empty")?;
     let words = ["gtfs", "check", "empty"];
-    assert_ends(&rt, rt.alloc(), &mut folders, &words, (1, lines, ""))
+    let lines = format!(in rt.alloc(); "{SIX_MISSING}errors 6 warnings 0\n")?;
+    let ended = (1, lines.as_str(), "");
+    assert_ends(&rt, rt.alloc(), &mut folders, &words, ended)?;
+    folders.put("empty", "notes.md", b"")?;
+    let other = "W03 notes.md:0 - file not kept\nerrors 6 warnings 1\n";
+    let lines = format!(in rt.alloc(); "{SIX_MISSING}{other}")?;
+    let ended = (1, lines.as_str(), "");
+    assert_ends(&rt, rt.alloc(), &mut folders, &words, ended)
 }
 
 #[test]
@@ -124,19 +129,49 @@ fn a_folder_that_is_not_there_or_fails_is_told(rt: HostRuntime) -> Result<(), Fa
         )?;
     }
     let mut failing = folders_failing_at(rt.alloc(), 1)?;
-    let words = ["gtfs", "check", "f1"];
     let told = "gtfs: f1 cannot be read\n";
-    assert_ends(&rt, rt.alloc(), &mut failing, &words, (3, "", told))
+    assert_ends(&rt, rt.alloc(), &mut failing, &CHECK, (3, "", told))
+}
+
+// A mark, lines that end in CR LF, a minute of 60, a stop that is a station, a short row, and a quote that nothing closes.
+const HOSTILE_TIMES: &[(&str, &str)] = &[
+    (
+        "stops.txt",
+        "stop_id,stop_name,stop_lat,stop_lon,location_type\n\
+S1,Mill,52.5,13.4,\nS2,Lake,52.6,13.5,\nS3,Hill,52.7,13.6,1\n",
+    ),
+    (
+        "stop_times.txt",
+        "\u{feff}trip_id,arrival_time,departure_time,stop_id,stop_sequence\r\n\
+T1, 08:00:00 ,08:00:00,S1,1\r\n\
+T1,24:60:00,24:10:00,S2,2\r\n\
+T1,25:00:00,25:00:00,S3,3\r\n\
+T1,26:00:00,26:00:00,S1\r\n\
+T1,\"27:00:00",
+    ),
+];
+
+#[test]
+fn a_hostile_file_is_told_row_by_row(rt: HostRuntime) -> Result<(), Fail> {
+    let lines = "E07 stop_times.txt:3 arrival_time value unreadable\n\
+E11 stop_times.txt:4 stop_id wrong kind of stop\n\
+E06 stop_times.txt:5 stop_sequence value empty\n\
+W01 stop_times.txt:5 - short row\n\
+E06 stop_times.txt:6 stop_id value empty\n\
+E06 stop_times.txt:6 stop_sequence value empty\n\
+W01 stop_times.txt:6 - short row\n\
+W08 stop_times.txt:6 departure_time one time of two\n\
+errors 5 warnings 3\n";
+    assert_check(&rt, rt.alloc(), HOSTILE_TIMES, (1, lines))
 }
 
 #[test]
 fn an_output_that_fails_ends_the_check(rt: HostRuntime) -> Result<(), Fail> {
-    let mut folders = folders_with(rt.alloc(), TWO_AGENCIES)?;
+    let mut folders = folders_with(rt.alloc(), HOSTILE_TIMES)?;
     let mut out = MemoryOut::new(rt.alloc(), 10)?;
     let mut err = MemoryOut::new(rt.alloc(), ROOM)?;
-    let words = ["gtfs", "check", "f1"];
-    let status = run(rt.alloc(), &words, &mut folders, &mut out, &mut err);
-    assert_eq!(rt; str::from_utf8(out.bytes())?, "E12 agency");
+    let status = run(rt.alloc(), &CHECK, &mut folders, &mut out, &mut err);
+    assert_eq!(rt; str::from_utf8(out.bytes())?, "E07 stop_t");
     assert_eq!(rt; str::from_utf8(err.bytes())?, "gtfs: output failed\n");
     assert_eq!(rt; status, 3);
     Ok(())

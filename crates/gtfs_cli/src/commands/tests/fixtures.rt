@@ -2,14 +2,15 @@
 ghost use Rattle.std.specs.Prelude.{◌<◌, ◌-◌, ◌^◌};
 
 use gtfs_field::OutOfMemory;
-use gtfs_table::MemoryFolders;
+use gtfs_table::{Folders, MemoryFolders};
 use std::alloc::Global;
+use std::test::Fail;
 
 // The most bytes of a file that is read.
 const LIMIT: u64 = 1_000;
 
 // A feed of three stops and one trip, which runs on 2024-04-01 alone.
-const FEED: &[(&str, &str)] = &[
+pub(super) const FEED: &[(&str, &str)] = &[
     (
         "agency.txt",
         "agency_name,agency_url,agency_timezone\nMetro,http://m.example,UTC\n",
@@ -39,6 +40,9 @@ C1,1,1,1,1,1,1,1,20240401,20240401\n",
     ),
 ];
 
+// What is changed in a file of the feed: the file, a text that stands in it, and what stands at its first place instead.
+pub(super) type Edit = (&'static str, &'static str, &'static str);
+
 // The feed in the folder f1, with these files in place of its own, and in the folder `.` the zone files z1 (UTC), z2 (an
 // hour ahead, two in summer) and z3 (from ten hours behind to fourteen ahead, so that 2011-12-30 is skipped).
 pub(super) fn folders_with(
@@ -49,6 +53,32 @@ pub(super) fn folders_with(
     fill(alloc, &mut folders)?;
     for (name, text) in files {
         folders.put("f1", name, text.as_bytes())?;
+    }
+    Ok(folders)
+}
+
+// The feed in the folder f1 without this file of its own.
+pub(super) fn folders_without(alloc: Global, file: &str) -> Result<MemoryFolders, OutOfMemory> {
+    let mut folders = MemoryFolders::new(alloc, LIMIT, None);
+    for (name, text) in FEED {
+        if *name != file {
+            folders.put("f1", name, text.as_bytes())?;
+        }
+    }
+    Ok(folders)
+}
+
+// The feed in the folder f1 with these changes, each made in what the one before it left. A file that the feed lacks
+// was empty before.
+pub(super) fn folders_edited(alloc: Global, edits: &[Edit]) -> Result<MemoryFolders, Fail> {
+    let mut folders = folders_with(alloc, &[])?;
+    for (file, old, new) in edits {
+        let held = folders.read(alloc, "f1", file)?.unwrap_or(Vec::new(alloc));
+        let (before, after) = str::from_utf8(&held)?
+            .split_once(*old)
+            .ok_or("no such text")?;
+        let edited = format!(in alloc; "{before}{new}{after}")?;
+        folders.put("f1", file, edited.as_bytes())?;
     }
     Ok(folders)
 }
