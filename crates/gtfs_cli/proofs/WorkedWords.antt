@@ -5,6 +5,7 @@ use Rattle.clap.specs.Words.{Text, fault_of, first_of, subcommand_of, takes}
 use Rattle.clap.specs.declared.error.kind.ErrorKind.TheVariants as kind
 use Rattle.clap.proofs.OnLiterals.{clap_on_literals}
 use Rattle.gtfs_cli.specs.CommandLine.{gtfs_app}
+use Rattle.gtfs_cli.specs.CheckRun.{AsksCheckOf}
 
 abbrev given : List Text → Text → Option (Option Text)
 given words id = option_map (λ found. first_of id found.1) (subcommand_of gtfs_app words)
@@ -56,6 +57,10 @@ check_named = refl
 check_dir : given check_words (codes "DIR") ≡ Some (Some (codes "f1"))
 unfolding clap_on_literals
 check_dir = refl
+
+check_asked : AsksCheckOf check_words (codes "f1")
+unfolding clap_on_literals
+check_asked = record { taken = refl; asks = (refl, refl) }
 
 -- a check of no folder
 abbrev check_of_none : List Text

@@ -1,7 +1,9 @@
 //! The commands of the program, and how each ends.
-ghost use Rattle.std.specs.Prelude.{◌≡◌, ◌≤◌, map, IfErr};
+ghost use Rattle.std.specs.Prelude.{◌≡◌, ◌≤◌, List, ℕ, map, IfOk, IfErr};
+ghost use Rattle.gtfs_cli.specs.Checking.{IsReportOf};
+ghost use Rattle.gtfs_cli.specs.CheckRun.{AsksCheckOf, IsCheckRun};
 ghost use Rattle.gtfs_cli.specs.Running.{IsBadUsage, IsDeviceFault};
-ghost use Rattle.gtfs_cli.specs.Refusals.{IsCauseOf};
+ghost use Rattle.gtfs_cli.specs.Refusals.{IsCauseOf, IsCheckCause};
 
 mod board;
 mod check;
@@ -45,6 +47,8 @@ pub fn run<S: AsStr, F: Folders, O: Out, E: Out>(
     ensures device { result ≡ 3 → IsDeviceFault (map S.text words.now) (F.held folders.old)
         (record { folders = F.failure_count folders.old; output = O.failure_count out.old })
         (record { folders = F.failure_count folders.new; output = O.failure_count out.new }) }
+    ensures checked { (dir : List ℕ) → AsksCheckOf (map S.text words.now) dir
+        → IsCheckRun (F.held folders.old) dir (O.told out.old) (O.told out.new) result }
     ensures statuses { result ≤ 4 }
     ensures unchanged { F.held folders.new ≡ F.held folders.old }
     ensures folders_grow { F.failure_count folders.old ≤ F.failure_count folders.new }
@@ -60,7 +64,8 @@ pub fn run<S: AsStr, F: Folders, O: Out, E: Out>(
     }
 }
 
-// Does what the words ask for, and answers whether a check found an error.
+// Does what the words ask for, and answers whether a check found an error. Of words that ask for a check, Ok says that its report
+// went out, and Err what kept it from that.
 fn command<'w, S: AsStr, F: Folders, O: Out>(
     alloc: Global,
     words: &'w [S],
@@ -68,6 +73,11 @@ fn command<'w, S: AsStr, F: Folders, O: Out>(
     out: &mut O,
 ) -> Result<bool, Refusal<'w>>
     ensures refused { IfErr result (IsCauseOf (map S.text words.entry.now) (F.held folders.old)
+        (record { folders = F.failure_count folders.old; output = O.failure_count out.old })
+        (record { folders = F.failure_count folders.new; output = O.failure_count out.new })) }
+    ensures checked { (dir : List ℕ) → AsksCheckOf (map S.text words.entry.now) dir
+        → IfOk result (IsReportOf (F.held folders.old) dir (O.told out.old) (O.told out.new)) }
+    ensures unchecked { (dir : List ℕ) → AsksCheckOf (map S.text words.entry.now) dir → IfErr result (IsCheckCause (F.held folders.old) dir
         (record { folders = F.failure_count folders.old; output = O.failure_count out.old })
         (record { folders = F.failure_count folders.new; output = O.failure_count out.new })) }
     ensures unchanged { F.held folders.new ≡ F.held folders.old }
