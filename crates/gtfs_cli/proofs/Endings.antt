@@ -33,9 +33,9 @@ pub board-cause : (held : Option Store) (words : BoardWords) (before after : Fai
     → IsCause held words before after r
 board-cause held words before after (Words text) h = h
 board-cause held words before after (BadValue option) h = absurd h
-board-cause held words before after (NotThere path) h = inl h
-board-cause held words before after (Unreadable path) h = inl h
-board-cause held words before after (OverLimit path) h = inl h
+board-cause held words before after (NotThere path) h = inl h.1
+board-cause held words before after (Unreadable path) h = inl h.1
+board-cause held words before after (OverLimit path) h = inl h.1
 board-cause held words before after (HasErrors path) h = absurd h
 board-cause held words before after (NoZone path) h = absurd h
 board-cause held words before after UnknownStop h = absurd h
@@ -139,9 +139,9 @@ device_by_words texts held before after OutOfMemory h e = absurd (omega (arith, 
 device_by_check : (texts : List Text) (held : Option Store) (before after : Failures) (r : Refusal) → AsksCheck texts (λ dir. IsCheckCause held dir before after r) → TellsDevice texts held before after r
 device_by_check texts held before after (Words text) h e = absurd h.fact
 device_by_check texts held before after (BadValue option) h e = absurd h.fact
-device_by_check texts held before after (NotThere path) h e = inr (inl (record { dir = h.dir; asks = h.asks; fact = inl h.fact }))
-device_by_check texts held before after (Unreadable path) h e = inl (inl h.fact)
-device_by_check texts held before after (OverLimit path) h e = inr (inl (record { dir = h.dir; asks = h.asks; fact = inr h.fact }))
+device_by_check texts held before after (NotThere path) h e = inr (inl (record { dir = h.dir; asks = h.asks; fact = inl h.fact.1 }))
+device_by_check texts held before after (Unreadable path) h e = inl (inl h.fact.1)
+device_by_check texts held before after (OverLimit path) h e = inr (inl (record { dir = h.dir; asks = h.asks; fact = inr h.fact.1 }))
 device_by_check texts held before after (HasErrors path) h e = absurd h.fact
 device_by_check texts held before after (NoZone path) h e = absurd h.fact
 device_by_check texts held before after UnknownStop h e = absurd h.fact

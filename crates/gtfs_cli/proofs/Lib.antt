@@ -31,4 +31,7 @@ mod Endings
 pub mod PlainNames
 pub mod Counted
 pub mod Reported
+mod Parts
+mod Begun
+mod ControlSplit
 mod WorkedReports

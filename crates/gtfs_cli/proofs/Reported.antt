@@ -17,10 +17,10 @@ use Rattle.gtfs_cli.specs.Checking.{counts_text, IsReportOf, Prints}
 use Rattle.gtfs_cli.specs.declared.commands.refusal.Refusal.{Refusal}
 use Rattle.gtfs_cli.proofs.Counted.{counts-line, error-counted}
 
-abbrev lines : List Lent → List ℕ
+abbrev pub lines : List Lent → List ℕ
 lines ps = flat_map problem_line (map problem_of ps)
 
-lines_more : (ps : List Lent) (i : ℕ) (p : Lent) → i < length ps → lines (take i ps) ++ problem_line (problem_of (get_or ps i p)) ≡ lines (take (i + 1) ps)
+pub lines_more : (ps : List Lent) (i : ℕ) (p : Lent) → i < length ps → lines (take i ps) ++ problem_line (problem_of (get_or ps i p)) ≡ lines (take (i + 1) ps)
 lines_more ps i p inside =
     let line = problem_line (problem_of (get_or ps i p)) in
     ap (λ t. lines (take i ps) ++ t) (sym (append-nil line))

@@ -41,13 +41,13 @@ IsCause held words before after UntilBeforeFrom = EndsBeforeItBegins held words
 IsCause held words before after OutputFailed = Rises before.output after.output
 IsCause held words before after OutOfMemory = ⊤
 
--- when a refusal comes where the folder is to be checked
+-- when a refusal comes where the folder is to be checked, and that it names that folder
 abbrev pub IsCheckCause : Option Store → List ℕ → Failures → Failures → Refusal → Type 0
 IsCheckCause held dir before after (Words text) = ⊥
 IsCheckCause held dir before after (BadValue option) = ⊥
-IsCheckCause held dir before after (NotThere path) = LacksFeed held dir
-IsCheckCause held dir before after (Unreadable path) = Rises before.folders after.folders
-IsCheckCause held dir before after (OverLimit path) = HoldsKeptFile held dir
+IsCheckCause held dir before after (NotThere path) = (path.now ≡ dir) × LacksFeed held dir
+IsCheckCause held dir before after (Unreadable path) = (path.now ≡ dir) × Rises before.folders after.folders
+IsCheckCause held dir before after (OverLimit path) = (path.now ≡ dir) × HoldsKeptFile held dir
 IsCheckCause held dir before after (HasErrors path) = ⊥
 IsCheckCause held dir before after (NoZone path) = ⊥
 IsCheckCause held dir before after UnknownStop = ⊥

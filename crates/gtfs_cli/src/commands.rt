@@ -1,7 +1,7 @@
 //! The commands of the program, and how each ends.
-ghost use Rattle.std.specs.Prelude.{◌≡◌, ◌≤◌, List, ℕ, map, IfOk, IfErr};
+ghost use Rattle.std.specs.Prelude.{◌≡◌, ◌≤◌, List, ℕ, map, IfOk, IfErr, OnErr};
 ghost use Rattle.gtfs_cli.specs.Checking.{IsReportOf};
-ghost use Rattle.gtfs_cli.specs.CheckRun.{AsksCheckOf, IsCheckRun};
+ghost use Rattle.gtfs_cli.specs.CheckRun.{AsksCheckOf, IsCheckRun, IsCheckTold, IsCutShort};
 ghost use Rattle.gtfs_cli.specs.Running.{IsBadUsage, IsDeviceFault};
 ghost use Rattle.gtfs_cli.specs.Refusals.{IsCauseOf, IsCheckCause};
 
@@ -49,6 +49,11 @@ pub fn run<S: AsStr, F: Folders, O: Out, E: Out>(
         (record { folders = F.failure_count folders.new; output = O.failure_count out.new }) }
     ensures checked { (dir : List ℕ) → AsksCheckOf (map S.text words.now) dir
         → IsCheckRun (F.held folders.old) dir (O.told out.old) (O.told out.new) result }
+    ensures told { (dir : List ℕ) → AsksCheckOf (map S.text words.now) dir → IsCheckTold (F.held folders.old) dir
+        (record { folders = F.failure_count folders.old; output = O.failure_count out.old })
+        (record { folders = F.failure_count folders.new; output = O.failure_count out.new })
+        (record { told = E.told err.old; failures = E.failure_count err.old })
+        (record { told = E.told err.new; failures = E.failure_count err.new }) result }
     ensures statuses { result ≤ 4 }
     ensures unchanged { F.held folders.new ≡ F.held folders.old }
     ensures folders_grow { F.failure_count folders.old ≤ F.failure_count folders.new }
@@ -77,6 +82,8 @@ fn command<'w, S: AsStr, F: Folders, O: Out>(
         (record { folders = F.failure_count folders.new; output = O.failure_count out.new })) }
     ensures checked { (dir : List ℕ) → AsksCheckOf (map S.text words.entry.now) dir
         → IfOk result (IsReportOf (F.held folders.old) dir (O.told out.old) (O.told out.new)) }
+    ensures cut_short { (dir : List ℕ) → AsksCheckOf (map S.text words.entry.now) dir
+        → OnErr result (IsCutShort (F.held folders.old) dir (O.told out.old) (O.told out.new)) }
     ensures unchecked { (dir : List ℕ) → AsksCheckOf (map S.text words.entry.now) dir → IfErr result (IsCheckCause (F.held folders.old) dir
         (record { folders = F.failure_count folders.old; output = O.failure_count out.old })
         (record { folders = F.failure_count folders.new; output = O.failure_count out.new })) }

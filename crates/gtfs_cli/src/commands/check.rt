@@ -1,9 +1,11 @@
-ghost use Rattle.std.specs.Prelude.{◌≡◌, ◌≤◌, map, count_by, length, IfOk, IfErr, OnOk};
+ghost use Rattle.std.specs.Prelude.{◌≡◌, ◌≤◌, map, count_by, length, IfOk, IfErr, OnOk, OnErr};
 ghost use Rattle.std.specs.Io.KnownBytes.{Appends};
 ghost use Rattle.gtfs_rules.specs.Codes.{is_error};
-ghost use Rattle.gtfs_rules.specs.Report.{problem_line};
+ghost use Rattle.gtfs_rules.specs.Report.{problem_line, report_text};
 ghost use Rattle.gtfs_rules.specs.View.{problem_of};
 ghost use Rattle.gtfs_cli.specs.Checking.{counts_text, IsReportOf, IsSendingCause, Prints};
+ghost use Rattle.gtfs_cli.specs.CheckRun.{IsCutShort};
+ghost use Rattle.gtfs_cli.specs.Sending.{SendsBeginning};
 ghost use Rattle.gtfs_cli.specs.Refusals.{IsCheckCause};
 
 use crate::commands::folder::read_tables;
@@ -25,6 +27,7 @@ pub(super) fn print_report<'w, F: Folders, O: Out>(
     out: &mut O,
 ) -> Result<bool, Refusal<'w>>
     ensures printed { IfOk result (IsReportOf (F.held folders.old) dir.now (O.told out.old) (O.told out.new)) }
+    ensures cut_short { OnErr result (IsCutShort (F.held folders.old) dir.now (O.told out.old) (O.told out.new)) }
     ensures refused { IfErr result (IsCheckCause (F.held folders.old) dir.now
         (record { folders = F.failure_count folders.old; output = O.failure_count out.old })
         (record { folders = F.failure_count folders.new; output = O.failure_count out.new })) }
@@ -45,6 +48,7 @@ fn print_problems<'w, O: Out>(
     out: &mut O,
 ) -> Result<bool, Refusal<'w>>
     ensures printed { IfOk result (Prints (O.told out.old) (O.told out.new) (map problem_of problems.now)) }
+    ensures cut_short { OnErr result (SendsBeginning (O.told out.old) (O.told out.new) (report_text (map problem_of problems.now))) }
     ensures refused { IfErr result (IsSendingCause (O.failure_count out.old) (O.failure_count out.new)) }
     ensures grows { O.failure_count out.old ≤ O.failure_count out.new }
 {
@@ -64,6 +68,7 @@ fn print_problem<'w, O: Out>(
     out: &mut O,
 ) -> Result<(), Refusal<'w>>
     ensures sent { OnOk result (Appends (O.told out.old) (O.told out.new) (problem_line (problem_of problem.now))) }
+    ensures cut_short { OnErr result (SendsBeginning (O.told out.old) (O.told out.new) (problem_line (problem_of problem.now))) }
     ensures refused { IfErr result (IsSendingCause (O.failure_count out.old) (O.failure_count out.new)) }
     ensures grows { O.failure_count out.old ≤ O.failure_count out.new }
 {
@@ -80,6 +85,7 @@ fn print_counts<'w, O: Out>(
     out: &mut O,
 ) -> Result<(), Refusal<'w>>
     ensures sent { OnOk result (Appends (O.told out.old) (O.told out.new) (counts_text errors warnings)) }
+    ensures cut_short { OnErr result (SendsBeginning (O.told out.old) (O.told out.new) (counts_text errors warnings)) }
     ensures refused { IfErr result (IsSendingCause (O.failure_count out.old) (O.failure_count out.new)) }
     ensures grows { O.failure_count out.old ≤ O.failure_count out.new }
 {

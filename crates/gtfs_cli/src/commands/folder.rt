@@ -1,4 +1,4 @@
-ghost use Rattle.std.specs.Prelude.{◌≡◌, ◌≤◌, ℕ, List, Option, IfOk, IfErr};
+ghost use Rattle.std.specs.Prelude.{◌≡◌, ◌≤◌, Option, IfOk, IfErr};
 ghost use Rattle.gtfs_table.specs.Folder.{Store};
 ghost use Rattle.gtfs_table.specs.Reading.{HoldsDataset, RefusesDataset};
 ghost use Rattle.gtfs_cli.specs.Running.{Failures};
@@ -36,8 +36,8 @@ pub(super) fn read_tables<'w, F: Folders>(
 /// What a fault of the folders means for the path that was asked for.
 pub(super) fn of_folder(fault: FolderFault, path: &str) -> Refusal<'_>
     ensures board { (held : Option Store) (words : Given) (before after : Failures) → IsFaultCause held words before after fault → IsCause held words before after result }
-    ensures check { (held : Option Store) (dir : List ℕ) (before after : Failures) → RefusesDataset fault held dir before.folders after.folders
-        → IsCheckCause held dir before after result }
+    ensures check { (held : Option Store) (before after : Failures) → RefusesDataset fault held path.now before.folders after.folders
+        → IsCheckCause held path.now before after result }
 {
     match fault {
         FolderFault::NoFolder => Refusal::NotThere(path),

@@ -1,9 +1,23 @@
+ghost use Rattle.std.specs.Prelude.{◌≡◌, ◌<◌, ◌≤◌, length, IfSome, OnOk, OnErr};
+ghost use Rattle.std.specs.Io.KnownBytes.{Appends};
+ghost use Rattle.std.specs.List.{position_from};
+ghost use Rattle.gtfs_table.specs.Blanks.{is_control};
+ghost use Rattle.gtfs_table.specs.Device.{Rises};
+ghost use Rattle.gtfs_rules.specs.Values.{plain};
+ghost use Rattle.gtfs_cli.specs.Messages.{line_of, message};
+ghost use Rattle.gtfs_cli.specs.Sending.{SendsBeginning};
+
 use crate::commands::refusal::Refusal;
 use gtfs_table::{Out, OutFault, write_text};
 
 impl Refusal<'_> {
     /// Writes what is told of the refusal: `clap`'s text, or a line that begins `gtfs: `. It takes no memory.
-    pub(super) fn write<E: Out>(&self, err: &mut E) -> Result<(), OutFault> {
+    pub(super) fn write<E: Out>(&self, err: &mut E) -> Result<(), OutFault>
+        ensures whole { OnOk result (Appends (E.told err.old) (E.told err.new) (message self.now)) }
+        ensures cut_short { OnErr result (SendsBeginning (E.told err.old) (E.told err.new) (message self.now)) }
+        ensures counted { OnErr result (Rises (E.failure_count err.old) (E.failure_count err.new)) }
+        ensures grows { E.failure_count err.old ≤ E.failure_count err.new }
+    {
         match self {
             Refusal::Words(text) => write_text(err, text.as_bytes()),
             Refusal::BadValue(option) => write_line(err, "bad value of ", option),
@@ -21,7 +35,12 @@ impl Refusal<'_> {
 }
 
 // A line of two texts.
-fn write_line<E: Out>(err: &mut E, first: &str, second: &str) -> Result<(), OutFault> {
+fn write_line<E: Out>(err: &mut E, first: &str, second: &str) -> Result<(), OutFault>
+    ensures whole { OnOk result (Appends (E.told err.old) (E.told err.new) (line_of first.now second.now)) }
+    ensures cut_short { OnErr result (SendsBeginning (E.told err.old) (E.told err.new) (line_of first.now second.now)) }
+    ensures counted { OnErr result (Rises (E.failure_count err.old) (E.failure_count err.new)) }
+    ensures grows { E.failure_count err.old ≤ E.failure_count err.new }
+{
     write_text(err, b"gtfs: ")?;
     write_shown(err, first.as_bytes())?;
     write_shown(err, second.as_bytes())?;
@@ -29,12 +48,25 @@ fn write_line<E: Out>(err: &mut E, first: &str, second: &str) -> Result<(), OutF
 }
 
 // A text with a space in place of each control character, so that it cannot end the line or move the cursor.
-fn write_shown<E: Out>(err: &mut E, text: &[u8]) -> Result<(), OutFault> {
+fn write_shown<E: Out>(err: &mut E, text: &[u8]) -> Result<(), OutFault>
+    ensures whole { OnOk result (Appends (E.told err.old) (E.told err.new) (plain text.now)) }
+    ensures cut_short { OnErr result (SendsBeginning (E.told err.old) (E.told err.new) (plain text.now)) }
+    ensures counted { OnErr result (Rises (E.failure_count err.old) (E.failure_count err.new)) }
+    ensures grows { E.failure_count err.old ≤ E.failure_count err.new }
+{
     let mut rest = text;
-    while let Some(at) = rest.iter().position(|byte| byte.is_ascii_control()) {
+    while let Some(at) = first_control(rest) {
         write_text(err, &rest[..at])?;
         write_text(err, b" ")?;
         rest = &rest[at + 1..];
     }
     write_text(err, rest)
+}
+
+// Where the first control character stands.
+fn first_control(text: &[u8]) -> Option<usize>
+    ensures place { result ≡ position_from is_control 0 text.now }
+    ensures within { IfSome result (λ at. at < length text.now) }
+{
+    text.iter().position(|byte| byte.is_ascii_control())
 }

@@ -1,0 +1,78 @@
+-- Texts that go out part by part, and calls that send them.
+use Rattle.std.proofs.Common.{◌≡◌, ◌∙◌, ap, sym, subst, refl, ℕ, List, [], ◌++◌, append-nil, append_assoc, take, drop, take-append-drop, Option, Result, Ok, Err}
+use Rattle.std.specs.Prelude.{IfErr, OnOk, OnErr}
+use Rattle.std.specs.Io.KnownBytes.{Appends}
+use Rattle.std.proofs.KnownBytes.{Appends-nil, Appends-trans}
+use Rattle.gtfs_table.specs.declared.output.OutFault.{OutFault}
+use Rattle.gtfs_cli.specs.Sending.{SendsBeginning}
+
+-- ---- beginnings
+
+-- nothing is a beginning of any text
+pub none-sent : (a : Option (List ℕ)) (text : List ℕ) → SendsBeginning a a text
+none-sent a text = record { sent = []; left = text; whole = refl; out = Appends-nil a }
+
+-- the first bytes of a text are a beginning of it
+pub some-sent : (a b : Option (List ℕ)) (text : List ℕ) (n : ℕ) → Appends a b (take n text) → SendsBeginning a b text
+some-sent a b text n out = record { sent = take n text; left = drop n text; whole = sym (take-append-drop n text); out = out }
+
+-- the same of a text that was made in place of what a line held
+pub line-begun : (a b : Option (List ℕ)) (text bytes line cleared : List ℕ) (n : ℕ) → bytes ≡ line → line ≡ cleared ++ text → cleared ≡ [] → Appends a b (take n bytes)
+    → SendsBeginning a b text
+line-begun a b text bytes line cleared n are made empty out =
+    let same : bytes ≡ text = are ∙ made ∙ ap (λ (t : List ℕ). t ++ text) empty in
+    some-sent a b text n (subst (λ (t : List ℕ). Appends a b (take n t)) same out)
+
+-- ---- parts
+
+-- so much of a text went out that these bytes are left
+pub record Leaves (before now : Option (List ℕ)) (text left : List ℕ) : Type 0 where
+  pub sent : List ℕ
+  pub whole : text ≡ sent ++ left
+  pub out : Appends before now sent
+
+pub all-left : (a : Option (List ℕ)) (text : List ℕ) → Leaves a a text text
+all-left a text = record { sent = []; whole = refl; out = Appends-nil a }
+
+pub one-sent : (a b c : Option (List ℕ)) (text left part rest : List ℕ) → Leaves a b text left → left ≡ part ++ rest → Appends b c part → Leaves a c text rest
+one-sent a b c text left part rest h is out = record {
+  sent = h.sent ++ part;
+  whole = h.whole ∙ ap (λ (t : List ℕ). h.sent ++ t) is ∙ sym (append_assoc h.sent part rest);
+  out = Appends-trans a b c h.sent part h.out out;
+}
+
+pub one-cut : (a b c : Option (List ℕ)) (text left part rest : List ℕ) → Leaves a b text left → left ≡ part ++ rest → SendsBeginning b c part → SendsBeginning a c text
+one-cut a b c text left part rest h is begun = record {
+  sent = h.sent ++ begun.sent;
+  left = begun.left ++ rest;
+  whole = h.whole ∙ ap (λ (t : List ℕ). h.sent ++ t) (is ∙ ap (λ (t : List ℕ). t ++ rest) begun.whole ∙ append_assoc begun.sent begun.left rest)
+  ∙ sym (append_assoc h.sent begun.sent (begun.left ++ rest));
+  out = Appends-trans a b c h.sent begun.sent h.out begun.out;
+}
+
+pub last-sent : (a b c : Option (List ℕ)) (text left : List ℕ) → Leaves a b text left → Appends b c left → Appends a c text
+last-sent a b c text left h out = subst (λ (t : List ℕ). Appends a c t) (sym h.whole) (Appends-trans a b c h.sent left h.out out)
+
+pub last-cut : (a b c : Option (List ℕ)) (text left : List ℕ) → Leaves a b text left → SendsBeginning b c left → SendsBeginning a c text
+last-cut a b c text left h begun = one-cut a b c text left left [] h (sym (append-nil left)) begun
+
+-- ---- calls that may fail
+
+-- what holds, holds on an error
+pub on-error : {A B : Type 0} (r : Result A B) (P : Type 0) → P → OnErr r P
+on-error (Ok x) P h = tt
+on-error (Err e) P h = h
+
+-- of a text that did not go out whole the first bytes did
+pub first-sent : {A : Type 0} (r : Result A OutFault) (a b : Option (List ℕ)) (text : List ℕ) → IfErr r (λ fault. Appends a b (take fault.written text))
+    → OnErr r (SendsBeginning a b text)
+first-sent (Ok x) a b text h = tt
+first-sent (Err fault) a b text h = some-sent a b text fault.written h
+
+pub ok-then : {A B : Type 0} (r : Result A B) (P Q : Type 0) → (P → Q) → OnOk r P → OnOk r Q
+ok-then (Ok x) P Q f h = f h
+ok-then (Err e) P Q f h = tt
+
+pub err-then : {A B : Type 0} (r : Result A B) (P Q : Type 0) → (P → Q) → OnErr r P → OnErr r Q
+err-then (Ok x) P Q f h = tt
+err-then (Err e) P Q f h = f h

@@ -1,0 +1,23 @@
+-- What the error output is told of each refusal.
+use Rattle.std.specs.Prelude.{ℕ, List, [], ◌++◌, codes, string_bytes}
+use Rattle.gtfs_rules.specs.Values.{plain}
+use Rattle.gtfs_cli.specs.declared.commands.refusal.Refusal.{Refusal}
+use Rattle.gtfs_cli.specs.declared.commands.refusal.Refusal.TheVariants.{Words, BadValue, NotThere, Unreadable, OverLimit, HasErrors, NoZone, UnknownStop, UntilBeforeFrom, OutputFailed, OutOfMemory}
+
+-- a line of two texts, in which each control character is a space
+abbrev pub line_of : List ℕ → List ℕ → List ℕ
+line_of first second = codes "gtfs: " ++ (plain first ++ (plain second ++ codes "\n"))
+
+-- `clap`'s text for words that it does not take, and else a line
+abbrev pub message : Refusal → List ℕ
+message (Words text) = string_bytes text
+message (BadValue option) = line_of (codes "bad value of ") option.now
+message (NotThere path) = line_of path.now (codes " is not there")
+message (Unreadable path) = line_of path.now (codes " cannot be read")
+message (OverLimit path) = line_of path.now (codes " holds a file over the limit")
+message (HasErrors path) = line_of path.now (codes " has errors")
+message (NoZone path) = line_of path.now (codes " is no zone file")
+message UnknownStop = line_of (codes "unknown stop") []
+message UntilBeforeFrom = line_of (codes "until lies before from") []
+message OutputFailed = line_of (codes "output failed") []
+message OutOfMemory = line_of (codes "out of memory") []
