@@ -46,7 +46,7 @@ one-cut a b c text left part rest h is begun = record {
   sent = h.sent ++ begun.sent;
   left = begun.left ++ rest;
   whole = h.whole ∙ ap (λ (t : List ℕ). h.sent ++ t) (is ∙ ap (λ (t : List ℕ). t ++ rest) begun.whole ∙ append_assoc begun.sent begun.left rest)
-  ∙ sym (append_assoc h.sent begun.sent (begun.left ++ rest));
+      ∙ sym (append_assoc h.sent begun.sent (begun.left ++ rest));
   out = Appends-trans a b c h.sent begun.sent h.out begun.out;
 }
 

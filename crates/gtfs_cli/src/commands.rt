@@ -36,6 +36,8 @@ use std::convert::AsStr;
 /// - 3: the folder, the zone file or its folder is not there, cannot be read or holds a file over the limit, the zone file
 ///   is none, or the output failed.
 /// - 4: memory ran out.
+///
+/// A check ends with 0 or 1 only where its whole report went out, and else with what went out of it before.
 pub fn run<S: AsStr, F: Folders, O: Out, E: Out>(
     alloc: Global,
     words: &[S],
@@ -69,8 +71,7 @@ pub fn run<S: AsStr, F: Folders, O: Out, E: Out>(
     }
 }
 
-// Does what the words ask for, and answers whether a check found an error. Of words that ask for a check, Ok says that its report
-// went out, and Err what kept it from that.
+// Does what the words ask for, and answers whether a check found an error.
 fn command<'w, S: AsStr, F: Folders, O: Out>(
     alloc: Global,
     words: &'w [S],

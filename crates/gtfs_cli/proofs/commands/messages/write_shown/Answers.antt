@@ -1,4 +1,4 @@
-use Rattle.std.proofs.Common.{◌+◌, ◌∷◌, ◌++◌, List, [], ℕ, refl, subst, sym, take, drop, arith}
+use Rattle.std.proofs.Common.{◌+◌, ◌∷◌, List, [], ℕ, refl, subst, sym, take, drop, arith}
 use Rattle.std.specs.Io.KnownBytes.{Appends}
 use Rattle.std.proofs.lemmas.List.{take_rest}
 use Rattle.gtfs_rules.specs.Values.{plain}
