@@ -1,16 +1,10 @@
 -- How many rows of stop_times.txt name a trip, row by row.
-use Rattle.std.proofs.Common.{◌≡◌, ◌+◌, ℕ, zero, suc, Bool, true, false, List, append-nil, add-one, length, length-append, refl, ap, inl, inr, Option, Some, None}
-use Rattle.std.specs.Prelude.{filter, if◌then◌else◌, bytes_eq}
-use Rattle.std.specs.List.{range_with_len}
-use Rattle.std.proofs.lemmas.Bool.{cases_Bool}
+use Rattle.std.proofs.Common.{◌≡◌, ◌+◌, ◌++◌, ◌∷◌, [], ℕ, zero, suc, Bool, true, false, List, append-nil, add-one, length-append, refl, sym, arith, inl, inr, Option, Some, None}
+use Rattle.std.specs.Prelude.{if◌then◌else◌, bytes_eq, nat_lt, not}
+use Rattle.std.proofs.lemmas.Bool.{cases_Bool, le-ltb}
 use Rattle.std.proofs.lemmas.List.Elements.{filter-append}
-use Rattle.gtfs_table.specs.Tables.{Dataset}
-use Rattle.gtfs_table.specs.declared.file.File.TheVariants as file
-use Rattle.gtfs_rules.specs.Rows.{is_row, records_in, word_in}
-use Rattle.gtfs_rules.specs.Sightings.{seen_again}
-use Rattle.gtfs_rules.specs.TripRules.{is_row_of}
-use Rattle.gtfs_rules.specs.Values.{is_word}
-use Rattle.gtfs_rules.proofs.TripRowFacts.{next_record}
+use Rattle.gtfs_rules.specs.Sightings.{is_twice, seen_again}
+use Rattle.gtfs_rules.specs.TripNotes.{TripNote, times_noted}
 
 -- a trip that this many rows name
 abbrev pub seen_times : ℕ → Option Bool
@@ -23,26 +17,16 @@ once_more zero = refl
 once_more (suc zero) = refl
 once_more (suc (suc n)) = rw add-one refl
 
-module _ (d : Dataset) (trip : List ℕ) where
-  -- how many of the first n records after the header are rows of the trip
-  abbrev pub rows_among : ℕ → ℕ
-  rows_among n = length (filter (is_row_of d trip) (filter (is_row (records_in d file.StopTimes)) (range_with_len 2 n)))
+-- one more note
+pub one_noted : (trip : List ℕ) (notes : List TripNote) (note : TripNote) (o : Option Bool) → o ≡ seen_times (times_noted notes trip)
+    → (if bytes_eq trip note.trip_id then seen_again o else o) ≡ seen_times (times_noted (notes ++ note ∷ []) trip)
+one_noted trip notes note o before = elim (cases_Bool (bytes_eq trip note.trip_id)) [
+  | inl this ↦ rw (filter-append (λ (n : TripNote). bytes_eq trip n.trip_id), this, length-append, before) (once_more (times_noted notes trip))
+  | inr other ↦ rw (filter-append (λ (n : TripNote). bytes_eq trip n.trip_id), other, append-nil) before
+]
 
-  -- a record that is no row
-  pub none_skipped : (n : ℕ) (o : Option Bool) → o ≡ seen_times (rows_among n) → is_row (records_in d file.StopTimes) (n + 2) ≡ false → o ≡ seen_times (rows_among (n + 1))
-  none_skipped n o before no_row = rw (next_record (is_row (records_in d file.StopTimes)) n, no_row, append-nil) before
-
-  -- a row that names no trip
-  pub none_named : (n : ℕ) (o : Option Bool) → o ≡ seen_times (rows_among n) → is_row (records_in d file.StopTimes) (n + 2) ≡ true
-      → word_in d file.StopTimes (n + 2) "trip_id" ≡ None → o ≡ seen_times (rows_among (n + 1))
-  none_named n o before row none = let other : is_row_of d trip (n + 2) ≡ false = ap (λ w. is_word w trip) none in
-      rw (next_record (is_row (records_in d file.StopTimes)) n, row, filter-append (is_row_of d trip), other, append-nil) before
-
-  -- a row that names a trip
-  pub one_named : (n : ℕ) (o : Option Bool) (id : List ℕ) → o ≡ seen_times (rows_among n) → is_row (records_in d file.StopTimes) (n + 2) ≡ true
-      → word_in d file.StopTimes (n + 2) "trip_id" ≡ Some id → (if bytes_eq trip id then seen_again o else o) ≡ seen_times (rows_among (n + 1))
-  one_named n o id before row named = let same : is_row_of d trip (n + 2) ≡ bytes_eq trip id = ap (λ w. is_word w trip) named in
-      elim (cases_Bool (bytes_eq trip id)) [
-        | inl this ↦ rw (next_record (is_row (records_in d file.StopTimes)) n, row, filter-append (is_row_of d trip), same, this, length-append, before) (once_more (rows_among n))
-        | inr other ↦ rw (next_record (is_row (records_in d file.StopTimes)) n, row, filter-append (is_row_of d trip), same, other, append-nil) before
-      ]
+-- a trip that was not seen twice is one that fewer than two rows name
+pub not_twice : (n : ℕ) → not (is_twice (seen_times n)) ≡ nat_lt n 2
+not_twice zero = refl
+not_twice (suc zero) = refl
+not_twice (suc (suc n)) = sym (le-ltb (suc (suc n)) 2 (omega arith))

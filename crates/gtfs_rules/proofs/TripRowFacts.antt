@@ -1,39 +1,42 @@
 -- The rows of trips as they are read, row by row.
-use Rattle.std.proofs.Common.{◌≡◌, ◌+◌, ◌++◌, ◌∙◌, ℕ, Bool, true, false, List, [], ◌∷◌, arith, map, cond, append-nil, refl, ap, inl, inr, Option, Some, None, ℤ}
-use Rattle.std.specs.Prelude.{◌&&◌, codes, filter, if◌then◌else◌, is_some, pos}
+use Rattle.std.proofs.Common.{◌≡◌, ◌+◌, ◌++◌, ◌∙◌, ℕ, suc, Bool, true, false, List, [], ◌∷◌, arith, map, length, cond, append-nil, refl, ap, inl, inr, Option, Some, None, option_map, ℤ}
+use Rattle.std.specs.Prelude.{◌&&◌, bytes_eq, codes, filter, if◌then◌else◌, is_some, pos}
 use Rattle.std.specs.List.{cons_option, filter_map, range_with_len}
 use Rattle.std.specs.Option.{unwrap_or}
 use Rattle.std.proofs.lemmas.Bool.{cases_Bool}
-use Rattle.std.proofs.lemmas.List.{map-id, map-append}
+use Rattle.std.proofs.lemmas.List.{map-id}
 use Rattle.std.proofs.lemmas.List.Elements.{filter_map-append}
 use Rattle.std.proofs.lemmas.List.FromFn.{filter_of_map_range_with_len_more}
 use Rattle.gtfs_table.specs.Tables.{Dataset}
 use Rattle.gtfs_table.specs.declared.file.File.TheVariants as file
-use Rattle.gtfs_rules.specs.Rows.{rows, text_in, word_in}
-use Rattle.gtfs_rules.specs.TripRows.{TripRow, has_trip_row, trip_row_in, trip_rows_in}
-use Rattle.gtfs_rules.specs.TripRules.{sequence_in}
-use Rattle.gtfs_rules.specs.TripTexts.{row_of_texts, row_of_values}
+use Rattle.gtfs_rules.specs.declared.trips.row.TripRow.{TripRow as CodeTripRow}
+use Rattle.gtfs_rules.specs.Rows.{rows, is_empty_in, text_in, word_in}
+use Rattle.gtfs_rules.specs.TripNotes.{TripNote, has_trip_id, note_of, row_of_note, rows_of_notes, times_noted, trip_note_in, trip_notes_in}
+use Rattle.gtfs_rules.specs.TripRows.{TripRow, has_trip_row, trip_row, trip_row_in, trip_rows_in}
+use Rattle.gtfs_rules.specs.TripRules.{arrival_in, departure_in, is_row_of, sequence_in}
+use Rattle.gtfs_rules.specs.TripTexts.{note_of_texts, note_of_values}
+use Rattle.gtfs_rules.specs.Values.{is_word}
 
 -- the rows among the records up to some record, and those up to the next
 pub next_record : (p : ℕ → Bool) (n : ℕ) → filter p (range_with_len 2 (n + 1)) ≡ filter p (range_with_len 2 n) ++ cond (p (n + 2)) ((n + 2) ∷ []) []
 next_record p n = simp map-id at (filter_of_map_range_with_len_more p (λ x. x) 2 n (n + 2) (omega arith))
 
--- ---- lists of what a reader gives of each row
+-- ---- a list of what a reader gives of each row
 
-module _ {A B : Type 0} (f : A → B) (read : ℕ → Option B) (p : ℕ → Bool) where
-  abbrev Read : List A → ℕ → Type 0
-  Read xs n = map f xs ≡ filter_map read (filter p (range_with_len 2 n))
+module _ {B : Type 0} (read : ℕ → Option B) (p : ℕ → Bool) where
+  abbrev Read : List B → ℕ → Type 0
+  Read xs n = xs ≡ filter_map read (filter p (range_with_len 2 n))
 
   -- a record that is no row
-  pub read_skipped : (xs : List A) (n : ℕ) → Read xs n → p (n + 2) ≡ false → Read xs (n + 1)
+  pub read_skipped : (xs : List B) (n : ℕ) → Read xs n → p (n + 2) ≡ false → Read xs (n + 1)
   read_skipped xs n before no_row = rw (next_record p n, no_row, append-nil) before
 
   -- a row of which there is nothing to read
-  pub read_none : (xs : List A) (n : ℕ) → Read xs n → p (n + 2) ≡ true → read (n + 2) ≡ None → Read xs (n + 1)
+  pub read_none : (xs : List B) (n : ℕ) → Read xs n → p (n + 2) ≡ true → read (n + 2) ≡ None → Read xs (n + 1)
   read_none xs n before row none = rw (next_record p n, row, filter_map-append read, none, append-nil) before
 
-  pub read_one : (xs : List A) (x : A) (n : ℕ) → Read xs n → p (n + 2) ≡ true → read (n + 2) ≡ Some (f x) → Read (xs ++ x ∷ []) (n + 1)
-  read_one xs x n before row one = rw (next_record p n, row, filter_map-append read, one, map-append f xs (x ∷ []), before) refl
+  pub read_one : (xs : List B) (x : B) (n : ℕ) → Read xs n → p (n + 2) ≡ true → read (n + 2) ≡ Some x → Read (xs ++ x ∷ []) (n + 1)
+  read_one xs x n before row one = rw (next_record p n, row, filter_map-append read, one, before) refl
 
 kept : {B : Type 0} (read : ℕ → Option B) (has : ℕ → Bool) (value : ℕ → B) → ((n : ℕ) → read n ≡ (if has n then Some (value n) else None))
     → (ns : List ℕ) → filter_map read ns ≡ map value (filter has ns)
@@ -43,27 +46,86 @@ kept read has value same (n ∷ ns) = ap (λ o. cons_option o (filter_map read n
   | inr missing ↦ rw (missing, kept read has value same ns) refl
 ]
 
--- ---- the rows of trips
+-- ---- what the rows say of their trips
 
-abbrev pub row_read : Dataset → ℕ → Option TripRow
-row_read d n = row_of_texts (text_in d file.StopTimes n (codes "trip_id")) (text_in d file.StopTimes n (codes "stop_sequence"))
+abbrev pub note_read : Dataset → ℕ → Option TripNote
+note_read d n = note_of_texts (text_in d file.StopTimes n (codes "trip_id")) (text_in d file.StopTimes n (codes "stop_sequence"))
     (text_in d file.StopTimes n (codes "arrival_time")) (text_in d file.StopTimes n (codes "departure_time")) n
 
 of_values : (id : Option (List ℕ)) (place : Option ℤ) (a b : List ℕ) (n : ℕ)
-    → row_of_values id place a b n ≡ (if is_some id && is_some place then row_of_values (Some (unwrap_or id [])) (Some (unwrap_or place (pos 0))) a b n else None)
+    → note_of_values id place a b n ≡ (if is_some id then note_of_values (Some (unwrap_or id [])) place a b n else None)
 of_values None place a b n = refl
-of_values (Some id) None a b n = refl
-of_values (Some id) (Some place) a b n = refl
+of_values (Some id) place a b n = refl
 
-row_is : (d : Dataset) (n : ℕ) → row_read d n ≡ (if has_trip_row d n then Some (trip_row_in d n) else None)
-row_is d n = of_values (word_in d file.StopTimes n "trip_id") (sequence_in d n)
+note_is : (d : Dataset) (n : ℕ) → note_read d n ≡ (if has_trip_id d n then Some (trip_note_in d n) else None)
+note_is d n = of_values (word_in d file.StopTimes n "trip_id") (sequence_in d n)
     (text_in d file.StopTimes n (codes "arrival_time")) (text_in d file.StopTimes n (codes "departure_time")) n
 
-pub trip_rows_read : (d : Dataset) → filter_map (row_read d) (rows d file.StopTimes) ≡ trip_rows_in d
-trip_rows_read d = kept (row_read d) (has_trip_row d) (trip_row_in d) (row_is d) (rows d file.StopTimes)
+pub trip_notes_read : (d : Dataset) → filter_map (note_read d) (rows d file.StopTimes) ≡ trip_notes_in d
+trip_notes_read d = kept (note_read d) (has_trip_id d) (trip_note_in d) (note_is d) (rows d file.StopTimes)
 
 -- the texts of a row by columns that were found once
-pub row_alike : (d : Dataset) (n : ℕ) (id place arrives departs : List ℕ) → id ≡ text_in d file.StopTimes n (codes "trip_id")
+pub note_alike : (d : Dataset) (n : ℕ) (id place arrives departs : List ℕ) → id ≡ text_in d file.StopTimes n (codes "trip_id")
     → place ≡ text_in d file.StopTimes n (codes "stop_sequence") → arrives ≡ text_in d file.StopTimes n (codes "arrival_time")
-    → departs ≡ text_in d file.StopTimes n (codes "departure_time") → row_of_texts id place arrives departs n ≡ row_read d n
-row_alike d n id place arrives departs e f g h = λ i. row_of_texts (e i) (f i) (g i) (h i) n
+    → departs ≡ text_in d file.StopTimes n (codes "departure_time") → note_of_texts id place arrives departs n ≡ note_read d n
+note_alike d n id place arrives departs e f g h = λ i. note_of_texts (e i) (f i) (g i) (h i) n
+
+-- ---- of these the rows that have a sequence
+
+of_kept : {A B : Type 0} (f : ℕ → A) (has : ℕ → Bool) (read : A → Option B) (ns : List ℕ)
+    → filter_map read (map f (filter has ns)) ≡ filter_map (λ n. if has n then read (f n) else None) ns
+of_kept f has read [] = refl
+of_kept f has read (n ∷ ns) = elim (cases_Bool (has n)) [
+  | inl there ↦ rw (there, of_kept f has read ns) refl
+  | inr missing ↦ rw (missing, of_kept f has read ns) refl
+]
+
+of_place : (b : Bool) (place : Option ℤ) (row : ℤ → TripRow)
+    → (if b then option_map row place else None) ≡ (if b && is_some place then Some (row (unwrap_or place (pos 0))) else None)
+of_place true None row = refl
+of_place true (Some s) row = refl
+of_place false place row = refl
+
+pub placed_rows : (d : Dataset) → rows_of_notes (trip_notes_in d) ≡ trip_rows_in d
+placed_rows d = of_kept (trip_note_in d) (has_trip_id d) row_of_note (rows d file.StopTimes)
+    ∙ kept (λ n. if has_trip_id d n then row_of_note (trip_note_in d n) else None) (has_trip_row d) (trip_row_in d)
+    (λ n. of_place (has_trip_id d n) (sequence_in d n) (λ place. record {
+      trip_id = unwrap_or (word_in d file.StopTimes n "trip_id") [];
+      sequence = place;
+      row = n;
+      arrival = arrival_in d n;
+      departure = departure_in d n;
+      is_untimed = is_empty_in d file.StopTimes n "arrival_time" && is_empty_in d file.StopTimes n "departure_time";
+    })) (rows d file.StopTimes)
+
+-- the rows as they are kept
+pub rows_kept : (rs : List CodeTripRow) → map trip_row (filter (λ r. r.has_sequence) rs) ≡ rows_of_notes (map note_of rs)
+rows_kept [] = refl
+rows_kept (r ∷ rs) = elim (cases_Bool r.has_sequence) [
+  | inl has ↦ rw (has, rows_kept rs) refl
+  | inr none ↦ rw (none, rows_kept rs) refl
+]
+
+-- ---- how often a trip is named
+
+word_there : (w : Option (List ℕ)) (trip : List ℕ) → is_some w ≡ true → is_word w trip ≡ bytes_eq trip (unwrap_or w [])
+word_there None trip e = cc e
+word_there (Some id) trip e = refl
+
+word_missing : (w : Option (List ℕ)) (trip : List ℕ) → is_some w ≡ false → is_word w trip ≡ false
+word_missing None trip e = refl
+word_missing (Some id) trip e = cc e
+
+as_many : {X Y : Type 0} (b : Bool) (x : X) (xs : List X) (y : Y) (ys : List Y) → length xs ≡ length ys → length (cond b (x ∷ xs) xs) ≡ length (cond b (y ∷ ys) ys)
+as_many true x xs y ys e = ap suc e
+as_many false x xs y ys e = e
+
+named : (d : Dataset) (trip : List ℕ) (ns : List ℕ) → times_noted (map (trip_note_in d) (filter (has_trip_id d) ns)) trip ≡ length (filter (is_row_of d trip) ns)
+named d trip [] = refl
+named d trip (n ∷ ns) = elim (cases_Bool (has_trip_id d n)) [
+  | inl has ↦ rw (has, word_there (word_in d file.StopTimes n "trip_id") trip has) (as_many _ (trip_note_in d n) _ n _ (named d trip ns))
+  | inr none ↦ rw (none, word_missing (word_in d file.StopTimes n "trip_id") trip none) (named d trip ns)
+]
+
+pub named_rows : (d : Dataset) (trip : List ℕ) → times_noted (trip_notes_in d) trip ≡ length (filter (is_row_of d trip) (rows d file.StopTimes))
+named_rows d trip = named d trip (rows d file.StopTimes)

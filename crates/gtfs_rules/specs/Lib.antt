@@ -40,6 +40,7 @@ pub mod SingleKeys
 pub mod SpanView
 pub mod StopKinds
 pub mod StopRules
+pub mod TripNotes
 pub mod TripOrder
 pub mod TripRows
 pub mod TripRules

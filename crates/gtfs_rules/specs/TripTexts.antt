@@ -4,7 +4,7 @@ use Rattle.std.specs.Option.{option_or}
 use Rattle.gtfs_field.specs.Kinds.{time_of}
 use Rattle.gtfs_field.specs.declared.fault.FieldFault.{FieldFault}
 use Rattle.gtfs_rules.specs.Columns.{id, count, time}
-use Rattle.gtfs_rules.specs.TripRows.{TripRow}
+use Rattle.gtfs_rules.specs.TripNotes.{TripNote}
 use Rattle.gtfs_rules.specs.Values.{readable, is_empty, as_word, as_amount}
 
 -- the id that a text is
@@ -42,18 +42,17 @@ first_time (Ok a) (Ok b) = option_map pos (option_or a b)
 first_time (Ok a) (Err e) = None
 first_time (Err e) r = None
 
--- the record of a row with this id, this sequence and these two times, where it has an id and a sequence
-abbrev pub row_of_values : Option (List ℕ) → Option ℤ → List ℕ → List ℕ → ℕ → Option TripRow
-row_of_values trip_id sequence arrival departure n =
-    option_and_then (λ id. option_map (λ place. record {
-      trip_id = id;
-      sequence = place;
-      row = n;
-      arrival = time_of_texts arrival departure;
-      departure = time_of_texts departure arrival;
-      is_untimed = is_empty arrival && is_empty departure;
-    }) sequence) trip_id
+-- what a row with this id, this sequence and these two times says, where it has an id
+abbrev pub note_of_values : Option (List ℕ) → Option ℤ → List ℕ → List ℕ → ℕ → Option TripNote
+note_of_values trip_id sequence arrival departure n = option_map (λ id. record {
+  trip_id = id;
+  sequence = sequence;
+  row = n;
+  arrival = time_of_texts arrival departure;
+  departure = time_of_texts departure arrival;
+  is_untimed = is_empty arrival && is_empty departure;
+}) trip_id
 
-abbrev pub row_of_texts : List ℕ → List ℕ → List ℕ → List ℕ → ℕ → Option TripRow
-row_of_texts trip_id sequence arrival departure n =
-    row_of_values (id_in_text trip_id) (count_in_text sequence) arrival departure n
+abbrev pub note_of_texts : List ℕ → List ℕ → List ℕ → List ℕ → ℕ → Option TripNote
+note_of_texts trip_id sequence arrival departure n =
+    note_of_values (id_in_text trip_id) (count_in_text sequence) arrival departure n

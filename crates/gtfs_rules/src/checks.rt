@@ -1,4 +1,5 @@
 ghost use Rattle.std.specs.Prelude.{◌≡◌, IfOk, OnOk};
+ghost use Rattle.gtfs_rules.specs.FeedIds.{AreIdsOf};
 ghost use Rattle.gtfs_rules.specs.Found.{Tells};
 ghost use Rattle.gtfs_rules.specs.Parts.{in_files_and_fields, in_keys_and_references, in_rows_alone, in_trips_and_services};
 ghost use Rattle.gtfs_rules.specs.Problems.{IsReport};
@@ -8,6 +9,7 @@ use crate::fields::tell_fields;
 use crate::files::tell_files;
 use crate::found::Found;
 use crate::headers::tell_headers;
+use crate::ids::Ids;
 use crate::keys::tell_composite_keys;
 use crate::periods::tell_overlaps;
 use crate::presence::tell_presence;
@@ -20,7 +22,7 @@ use crate::stop_kinds::tell_stop_kinds;
 use crate::times::tell_times;
 use crate::trips::counts::tell_counts;
 use crate::trips::order::tell_order;
-use crate::trips::rows::trip_rows;
+use crate::trips::rows::trip_notes;
 use crate::zones::tell_zones;
 use gtfs_field::OutOfMemory;
 use gtfs_table::Tables;
@@ -37,11 +39,12 @@ pub fn check<'a>(alloc: Global, tables: &'a Tables) -> Result<Report<'a>, OutOfM
     ensures dataset { IfOk result (λ report. report.dataset ≡ tables.now) }
     ensures report { IfOk result (λ report. IsReport tables.now report.problems) }
 {
+    let ids = FeedIds::new(alloc, tables)?;
     let mut found = Found::new(alloc);
     tell_files_and_fields(alloc, tables, &mut found)?;
     tell_rows_alone(tables, &mut found)?;
-    tell_keys_and_references(alloc, tables, &mut found)?;
-    tell_trips_and_services(alloc, tables, &mut found)?;
+    tell_keys_and_references(alloc, tables, &ids, &mut found)?;
+    tell_trips_and_services(alloc, tables, &ids.trips, &mut found)?;
     Ok(Report::new(tables, found))
 }
 
@@ -72,14 +75,15 @@ fn tell_rows_alone<'a>(tables: &'a Tables, found: &mut Found<'a>) -> Result<(), 
 fn tell_keys_and_references<'a>(
     alloc: Global,
     tables: &'a Tables,
+    ids: &FeedIds<'a>,
     found: &mut Found<'a>,
 ) -> Result<(), OutOfMemory>
+    requires { AreIdsOf tables.now ids.now }
     ensures { OnOk result (Tells tables.now in_keys_and_references found.old found.new) }
 {
-    let ids = FeedIds::new(alloc, tables)?;
-    tell_single_keys(tables, &ids, found)?;
+    tell_single_keys(tables, ids, found)?;
     tell_composite_keys(alloc, tables, found)?;
-    tell_references(tables, &ids, found)?;
+    tell_references(tables, ids, found)?;
     tell_stop_kinds(alloc, tables, &ids.stops, found)
 }
 
@@ -87,12 +91,14 @@ fn tell_keys_and_references<'a>(
 fn tell_trips_and_services<'a>(
     alloc: Global,
     tables: &'a Tables,
+    trips: &Ids<'a>,
     found: &mut Found<'a>,
 ) -> Result<(), OutOfMemory>
     ensures { OnOk result (Tells tables.now in_trips_and_services found.old found.new) }
 {
-    tell_counts(alloc, tables, found)?;
-    tell_order(tables, trip_rows(alloc, tables)?, found)?;
+    let notes = trip_notes(alloc, tables, trips)?;
+    tell_counts(alloc, tables, &notes, found)?;
+    tell_order(tables, notes, found)?;
     tell_overlaps(alloc, tables, found)?;
     tell_services(alloc, tables, found)
 }

@@ -1,4 +1,5 @@
 pub(crate) mod counts;
+pub(crate) mod notes;
 pub(crate) mod order;
 pub(crate) mod row;
 pub(crate) mod rows;

@@ -1,20 +1,18 @@
-ghost use Rattle.std.specs.Prelude.{◌≡◌, ℕ, ◌∷◌, [], not, nat_lt, length, filter, List, IfOk, OnOk};
-ghost use Rattle.gtfs_table.specs.declared.file.File.TheVariants as file;
+ghost use Rattle.std.specs.Prelude.{◌≡◌, ◌∷◌, [], not, OnOk};
 ghost use Rattle.gtfs_rules.specs.declared.code.Code.TheVariants as code;
 ghost use Rattle.gtfs_rules.specs.FieldView.{field_text};
 ghost use Rattle.gtfs_rules.specs.Found.{Tells};
 ghost use Rattle.gtfs_rules.specs.Picks.{of_codes};
-ghost use Rattle.gtfs_rules.specs.Rows.{rows};
 ghost use Rattle.gtfs_rules.specs.Sightings.{is_twice, sighting};
-ghost use Rattle.gtfs_rules.specs.TripRules.{is_row_of};
+ghost use Rattle.gtfs_rules.specs.TripNotes.{trip_notes_in};
 ghost use Rattle.gtfs_rules.specs.TripTexts.{id_in_text};
 ghost use Rattle.gtfs_rules.specs.Values.{if_there};
 
 use crate::code::Code;
 use crate::field::Field;
 use crate::found::Found;
-use crate::row::is_row;
 use crate::rule::{Place, Rule, tell_rows};
+use crate::trips::notes::TripNotes;
 use crate::trips::seen::SeenTrips;
 use crate::trips::text::read_id;
 use gtfs_field::OutOfMemory;
@@ -25,8 +23,10 @@ use std::alloc::Global;
 pub(crate) fn tell_counts<'a>(
     alloc: Global,
     tables: &'a Tables,
+    notes: &TripNotes<'a>,
     found: &mut Found<'a>,
 ) -> Result<(), OutOfMemory>
+    requires { notes.now ≡ trip_notes_in tables.now }
     ensures { OnOk result (Tells tables.now (of_codes (code.W06 ∷ [])) found.old found.new) }
 {
     let place = Place {
@@ -36,27 +36,9 @@ pub(crate) fn tell_counts<'a>(
     };
     let mut rule = FewRows {
         trip_id: Field::new(tables, File::Trips, "trip_id"),
-        seen: seen_trips(alloc, tables)?,
+        seen: notes.seen(alloc)?,
     };
     tell_rows(tables, place, &mut rule, found)
-}
-
-// The trips that the rows of stop_times.txt name.
-fn seen_trips<'a>(alloc: Global, tables: &'a Tables) -> Result<SeenTrips<'a>, OutOfMemory>
-    ensures { IfOk result (λ seen. (trip : List ℕ) → not (is_twice (sighting seen.trips trip))
-        ≡ nat_lt (length (filter (is_row_of tables.now trip) (rows tables.now file.StopTimes))) 2) }
-{
-    let trip_id = Field::new(tables, File::StopTimes, "trip_id");
-    let mut seen = SeenTrips::new(alloc);
-    for n in 0..tables.records(File::StopTimes).saturating_sub(1) {
-        let row = n + 2;
-        if is_row(tables, File::StopTimes, row) {
-            if let Some(id) = read_id(trip_id.text(row)) {
-                seen.see(id)?;
-            }
-        }
-    }
-    Ok(seen)
 }
 
 // The rows of trips.txt whose trip was not seen twice.

@@ -5,6 +5,7 @@ ghost use Rattle.gtfs_rules.specs.declared.code.Code.TheVariants as code;
 ghost use Rattle.gtfs_rules.specs.declared.file_name.FileName.TheVariants as file_name;
 ghost use Rattle.gtfs_rules.specs.Found.{Tells};
 ghost use Rattle.gtfs_rules.specs.Picks.{at_column, in_file, of_codes};
+ghost use Rattle.gtfs_rules.specs.TripNotes.{trip_notes_in};
 ghost use Rattle.gtfs_rules.specs.TripOrder.{ends, follows, is_left_later, is_untimed_end, last_left as last_left_of, left_before, repeats, row_cmp, InOrder};
 ghost use Rattle.gtfs_rules.specs.TripRows.{trip_row, trip_rows_in};
 
@@ -12,6 +13,7 @@ use crate::code::Code;
 use crate::file_name::FileName;
 use crate::found::Found;
 use crate::problem::Problem;
+use crate::trips::notes::TripNotes;
 use crate::trips::row::TripRow;
 use gtfs_field::OutOfMemory;
 use gtfs_table::{File, Tables};
@@ -21,13 +23,13 @@ use std::cmp::Ordering;
 // and a time that goes back.
 pub(crate) fn tell_order<'a>(
     tables: &'a Tables,
-    rows: Vec<TripRow<'a>>,
+    notes: TripNotes<'a>,
     found: &mut Found<'a>,
 ) -> Result<(), OutOfMemory>
-    requires { map trip_row rows.items ≡ trip_rows_in tables.now }
+    requires { notes ≡ trip_notes_in tables.now }
     ensures { OnOk result (Tells tables.now (λ p. in_file code.E09 file.StopTimes p || of_codes (code.E15 ∷ code.E17 ∷ []) p) found.old found.new) }
 {
-    let rows = in_order(rows);
+    let rows = in_order(notes.into_rows());
     tell_repeats(&rows, found)?;
     tell_untimed_ends(&rows, found)?;
     tell_times_back(&rows, found)
@@ -51,7 +53,7 @@ fn order(a: &TripRow, b: &TripRow) -> Ordering
 }
 
 // Rows whose trip and sequence an earlier row has.
-fn tell_repeats<'a>(rows: &[TripRow<'a>], found: &mut Found<'a>) -> Result<(), OutOfMemory>
+fn tell_repeats<'a>(rows: &[TripRow], found: &mut Found<'a>) -> Result<(), OutOfMemory>
     ensures { OnOk result ((d : Dataset) → InOrder d (map trip_row rows.now)
         → Tells d (at_column code.E09 file.StopTimes (codes "stop_sequence")) found.old found.new) }
 {
@@ -64,7 +66,7 @@ fn tell_repeats<'a>(rows: &[TripRow<'a>], found: &mut Found<'a>) -> Result<(), O
 }
 
 // The first and the last row of a trip where it has no time.
-fn tell_untimed_ends<'a>(rows: &[TripRow<'a>], found: &mut Found<'a>) -> Result<(), OutOfMemory>
+fn tell_untimed_ends<'a>(rows: &[TripRow], found: &mut Found<'a>) -> Result<(), OutOfMemory>
     ensures { OnOk result ((d : Dataset) → InOrder d (map trip_row rows.now)
         → Tells d (at_column code.E15 file.StopTimes (codes "arrival_time")) found.old found.new) }
 {
@@ -79,7 +81,7 @@ fn tell_untimed_ends<'a>(rows: &[TripRow<'a>], found: &mut Found<'a>) -> Result<
 }
 
 // Rows that are reached before the row with a time before them is left.
-fn tell_times_back<'a>(rows: &[TripRow<'a>], found: &mut Found<'a>) -> Result<(), OutOfMemory>
+fn tell_times_back<'a>(rows: &[TripRow], found: &mut Found<'a>) -> Result<(), OutOfMemory>
     ensures { OnOk result ((d : Dataset) → InOrder d (map trip_row rows.now)
         → Tells d (at_column code.E17 file.StopTimes (codes "arrival_time")) found.old found.new) }
 {
@@ -94,7 +96,7 @@ fn tell_times_back<'a>(rows: &[TripRow<'a>], found: &mut Found<'a>) -> Result<()
     Ok(())
 }
 
-fn problem<'a>(row: &TripRow<'a>, code: Code, column: &'static str) -> Problem<'a>
+fn problem<'a>(row: &TripRow, code: Code, column: &'static str) -> Problem<'a>
     ensures { result ≡ record { file = file_name.Kept file.StopTimes; row = row.now.row; code = code; column = column.entry } }
 {
     Problem {

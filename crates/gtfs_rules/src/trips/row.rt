@@ -1,8 +1,9 @@
-// A row of stop_times.txt that has a trip id and a sequence, as the rules about trips read it.
+// A row of stop_times.txt that names a trip, as it is kept. Where it has no sequence that is 0.
 #[derive(Clone, Copy)]
 pub(crate) struct TripRow<'a> {
     pub(crate) trip_id: &'a str,
     pub(crate) stop_sequence: u32,
+    pub(crate) has_sequence: bool,
     pub(crate) row: usize,
     pub(crate) arrival: Option<u32>,
     pub(crate) departure: Option<u32>,

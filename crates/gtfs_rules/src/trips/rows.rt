@@ -1,13 +1,14 @@
-ghost use Rattle.std.specs.Prelude.{◌≡◌, ℕ, codes, map, IfOk, option_map};
+ghost use Rattle.std.specs.Prelude.{◌≡◌, ℕ, codes, IfOk, option_map};
 ghost use Rattle.gtfs_table.specs.declared.file.File.TheVariants as file;
 ghost use Rattle.gtfs_rules.specs.FieldView.{field_text};
 ghost use Rattle.gtfs_rules.specs.Rows.{text_in};
-ghost use Rattle.gtfs_rules.specs.TripRows.{trip_row, trip_rows_in};
-ghost use Rattle.gtfs_rules.specs.TripTexts.{row_of_texts};
+ghost use Rattle.gtfs_rules.specs.TripNotes.{trip_note, trip_notes_in};
+ghost use Rattle.gtfs_rules.specs.TripTexts.{note_of_texts};
 
 use crate::field::Field;
+use crate::ids::Ids;
 use crate::row::is_row;
-use crate::trips::row::TripRow;
+use crate::trips::notes::{TripNote, TripNotes};
 use crate::trips::text::{read_id, read_sequence, read_times};
 use gtfs_field::OutOfMemory;
 use gtfs_table::{File, Tables};
@@ -22,24 +23,25 @@ struct TripColumns<'a> {
     departure_time: Field<'a>,
 }
 
-// The rows of stop_times.txt that have a trip id and a sequence, in the file's order.
-pub(crate) fn trip_rows<'a>(
+// What the rows of stop_times.txt say of their trips, in the file's order.
+pub(crate) fn trip_notes<'a>(
     alloc: Global,
     tables: &'a Tables,
-) -> Result<Vec<TripRow<'a>>, OutOfMemory>
-    ensures { IfOk result (λ rows. map trip_row rows.items ≡ trip_rows_in tables.now) }
+    trips: &Ids<'a>,
+) -> Result<TripNotes<'a>, OutOfMemory>
+    ensures { IfOk result (λ notes. notes ≡ trip_notes_in tables.now) }
 {
     let columns = TripColumns::of(tables);
-    let mut trip_rows = Vec::new(alloc);
+    let mut notes = TripNotes::new(alloc, trips);
     for n in 0..tables.records(File::StopTimes).saturating_sub(1) {
         let row = n + 2;
         if is_row(tables, File::StopTimes, row) {
-            if let Some(trip_row) = columns.trip_row(row) {
-                trip_rows.push(trip_row)?;
+            if let Some(note) = columns.trip_note(row) {
+                notes.note(note)?;
             }
         }
     }
-    Ok(trip_rows)
+    Ok(notes)
 }
 
 impl<'a> TripColumns<'a> {
@@ -57,19 +59,18 @@ impl<'a> TripColumns<'a> {
         }
     }
 
-    fn trip_row(&self, row: usize) -> Option<TripRow<'a>>
-        ensures { option_map trip_row result ≡ row_of_texts (field_text self.now.trip_id row)
+    fn trip_note(&self, row: usize) -> Option<TripNote<'a>>
+        ensures { option_map trip_note result ≡ note_of_texts (field_text self.now.trip_id row)
             (field_text self.now.stop_sequence row) (field_text self.now.arrival_time row)
             (field_text self.now.departure_time row) row }
     {
         let trip_id = read_id(self.trip_id.text(row))?;
-        let stop_sequence = read_sequence(self.stop_sequence.text(row))?;
         let arrives = self.arrival_time.text(row);
         let departs = self.departure_time.text(row);
         let (arrival, departure) = read_times(arrives, departs);
-        Some(TripRow {
+        Some(TripNote {
             trip_id,
-            stop_sequence,
+            stop_sequence: read_sequence(self.stop_sequence.text(row)),
             row,
             arrival,
             departure,

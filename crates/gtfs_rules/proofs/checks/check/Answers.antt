@@ -6,8 +6,8 @@ use Rattle.gtfs_rules.proofs.CompleteFacts.{all_picked}
 use Rattle.gtfs_rules.proofs.TellFacts.{tells_all, tells_four}
 use Rattle.gtfs_rules.proofs.checks.check.Goals as goal
 
-pub new-requires : goal.new-requires
-new-requires c =
+pub new-requires-2 : goal.new-requires-2
+new-requires-2 c =
     let d = c.args.tables.now in
     let last = c.tell_trips_and_services.new.found in
     tells_all d every last (all_picked d)
