@@ -44,6 +44,7 @@ pub mod StopKindFacts
 pub mod TellFacts
 pub mod TimeFacts
 pub mod TripCountFacts
+pub mod TripNumberFacts
 pub mod TripPicks
 pub mod TripPlaces
 pub mod TripRestated

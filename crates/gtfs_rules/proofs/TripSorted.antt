@@ -1,23 +1,26 @@
 -- The rows of trips after a sort: each row once, in the order of trip, sequence and row.
-use Rattle.std.proofs.Common.{◌≡◌, ℕ, zero, suc, ◌-◌, length, ◌+◌, ◌<◌, ◌≤◌, true, false, Bool, cond, List, [], ◌∷◌, map, filter, refl, sym, ap, ◌∙◌, subst, inl, inr, arith}
-use Rattle.std.specs.Prelude.{◌==◌, IsPermutation}
-use Rattle.std.specs.Cmp.{Equal-is, IsTotalOrder, on_total}
+use Rattle.std.proofs.Common.{◌≡◌, ℕ, zero, suc, ◌-◌, length, ◌+◌, ◌<◌, ◌≤◌, true, false, Bool, cond, get_or, List, [], ◌∷◌, map, filter, refl, sym, ap, ◌∙◌, subst, inl, inr, arith}
+use Rattle.std.specs.Prelude.{◌==◌, pos, IsPermutation}
+use Rattle.std.specs.Cmp.{Equal-is, IsTotalOrder, nat_cmp_total, on_total, then_total, tied_itself}
+use Rattle.std.specs.Cmp.Lexicographic.{nat_list_cmp_total}
 use Rattle.std.specs.FinMap.{nat_cmp-IsAntisymmetric}
-use Rattle.std.specs.List.{dedup, dedup_from, range_with_len, sum_by}
+use Rattle.std.specs.List.{All, dedup, dedup_from, range_with_len, sum_by}
 use Rattle.std.specs.List.Sorted.{IsSorted, IsStrictlySortedBy}
-use Rattle.std.specs.Ordering.{eq_by_cmp, ordering_then}
+use Rattle.std.specs.Ordering.{eq_by_cmp, int_cmp, is_lt, nat_cmp, ordering_then}
 use Rattle.std.specs.declared.cmp.Ordering.{Ordering}
 use Rattle.std.specs.declared.cmp.Ordering.TheVariants.{Less, Equal, Greater}
 use Rattle.std.proofs.lemmas.Bool.{cases_Bool}
 use Rattle.std.proofs.lemmas.Bool.Decides.{nat_tests}
 use Rattle.std.proofs.lemmas.List.Kept.{IsStrictlySortedBy-dedup}
-use Rattle.std.proofs.lemmas.List.Sorted.{IsPermutation-map, sum_by-IsPermutation}
+use Rattle.std.proofs.lemmas.List.Sorted.{All-permutation, IsPermutation-map, sum_by-IsPermutation}
 use Rattle.std.proofs.lemmas.List.Sums.{sum_by-cons}
+use Rattle.std.proofs.lemmas.Cmp.{int_cmp_total}
+use Rattle.gtfs_table.specs.Folder.{text_cmp}
 use Rattle.gtfs_table.specs.Tables.{Dataset, Records}
 use Rattle.gtfs_table.specs.declared.file.File.TheVariants as file
 use Rattle.gtfs_rules.specs.Rows.{is_row, records_in}
 use Rattle.gtfs_rules.specs.declared.trips.row.TripRow.{TripRow as CodeTripRow}
-use Rattle.gtfs_rules.specs.TripOrder.{row_cmp, InOrder}
+use Rattle.gtfs_rules.specs.TripOrder.{kept_cmp, row_cmp, InOrder}
 use Rattle.gtfs_rules.specs.TripRows.{TripRow, has_trip_row, trip_row, trip_row_in, trip_rows_in}
 use Rattle.gtfs_rules.proofs.BoolFacts.{no_test}
 use Rattle.gtfs_rules.proofs.FoundFacts.{sorted_mapped}
@@ -78,56 +81,90 @@ once n d = once_in (records_in d file.StopTimes)
 
 -- ---- rows that come once and are sorted ascend
 
-abbrev lent_cmp : CodeTripRow → CodeTripRow → Ordering
-lent_cmp x y = row_cmp (trip_row x) (trip_row y)
+module _ (number : List ℕ → ℕ) where
+  abbrev lent_cmp : CodeTripRow → CodeTripRow → Ordering
+  lent_cmp x y = row_cmp number (trip_row x) (trip_row y)
 
-abbrev lent_here : ℕ → CodeTripRow → ℕ
-lent_here n x = is_here n x.row
+  abbrev lent_here : ℕ → CodeTripRow → ℕ
+  lent_here n x = is_here n x.row
 
-sum_lent : (n : ℕ) (xs : List CodeTripRow) → sum_by (lent_here n) xs ≡ sum_by (row_here n) (map trip_row xs)
-sum_lent n [] = refl
-sum_lent n (x ∷ xs) =
-    sum_by-cons (lent_here n) x xs ∙ ap (λ s. is_here n x.row + s) (sum_lent n xs) ∙ sym (sum_by-cons (row_here n) (trip_row x) (map trip_row xs))
+  sum_lent : (n : ℕ) (xs : List CodeTripRow) → sum_by (lent_here n) xs ≡ sum_by (row_here n) (map trip_row xs)
+  sum_lent n [] = refl
+  sum_lent n (x ∷ xs) =
+      sum_by-cons (lent_here n) x xs ∙ ap (λ s. is_here n x.row + s) (sum_lent n xs) ∙ sym (sum_by-cons (row_here n) (trip_row x) (map trip_row xs))
 
-then_second : (r s : Ordering) → ordering_then r s ≡ Equal → s ≡ Equal
-then_second Less s e = cc
-then_second Equal s e = e
-then_second Greater s e = cc
+  then_second : (r s : Ordering) → ordering_then r s ≡ Equal → s ≡ Equal
+  then_second Less s e = cc
+  then_second Equal s e = e
+  then_second Greater s e = cc
 
-tied_row : (x y : CodeTripRow) → eq_by_cmp lent_cmp y x ≡ true → y.row ≡ x.row
-tied_row x y tied = nat_cmp-IsAntisymmetric y.row x.row (then_second _ _ (then_second _ _ ((Equal-is (lent_cmp y x)).0 tied)))
+  tied_row : (x y : CodeTripRow) → eq_by_cmp lent_cmp y x ≡ true → y.row ≡ x.row
+  tied_row x y tied = nat_cmp-IsAntisymmetric y.row x.row (then_second _ _ (then_second _ _ ((Equal-is (lent_cmp y x)).0 tied)))
 
-abbrev EachOnce : List CodeTripRow → Type 0
-EachOnce xs = (n : ℕ) → sum_by (lent_here n) xs ≤ 1
+  abbrev EachOnce : List CodeTripRow → Type 0
+  EachOnce xs = (n : ℕ) → sum_by (lent_here n) xs ≤ 1
 
-later_once : (x : CodeTripRow) (xs : List CodeTripRow) → EachOnce (x ∷ xs) → EachOnce xs
-later_once x xs each n = omega (arith, each n, sum_by-cons (lent_here n) x xs)
+  later_once : (x : CodeTripRow) (xs : List CodeTripRow) → EachOnce (x ∷ xs) → EachOnce xs
+  later_once x xs each n = omega (arith, each n, sum_by-cons (lent_here n) x xs)
 
-kept_from : (x : CodeTripRow) (xs : List CodeTripRow) → EachOnce (x ∷ xs) → dedup_from (eq_by_cmp lent_cmp) x xs ≡ x ∷ xs
-kept_from x [] each = refl
-kept_from x (y ∷ ys) each =
-    let apart : eq_by_cmp lent_cmp y x ≡ false = no_test (eq_by_cmp lent_cmp y x) (λ tied. two (tied_row x y tied)) in
-    ap (λ b. cond b (dedup_from (eq_by_cmp lent_cmp) x ys) (x ∷ dedup_from (eq_by_cmp lent_cmp) y ys)) apart
-    ∙ ap (λ zs. x ∷ zs) (kept_from y ys (later_once x (y ∷ ys) each))
-  where
-    two : y.row ≡ x.row → false ≡ true
-    two same =
-        let first : is_here x.row x.row ≡ 1 = ap (λ b. cond b 1 0) (number_itself x.row) in
-        let second : is_here x.row y.row ≡ 1 = ap (is_here x.row) same ∙ first in
-        absurd (omega (arith, each x.row, first, second, sum_by-cons (lent_here x.row) x (y ∷ ys), sum_by-cons (lent_here x.row) y ys))
+  kept_from : (x : CodeTripRow) (xs : List CodeTripRow) → EachOnce (x ∷ xs) → dedup_from (eq_by_cmp lent_cmp) x xs ≡ x ∷ xs
+  kept_from x [] each = refl
+  kept_from x (y ∷ ys) each =
+      let apart : eq_by_cmp lent_cmp y x ≡ false = no_test (eq_by_cmp lent_cmp y x) (λ tied. two (tied_row x y tied)) in
+      ap (λ b. cond b (dedup_from (eq_by_cmp lent_cmp) x ys) (x ∷ dedup_from (eq_by_cmp lent_cmp) y ys)) apart
+      ∙ ap (λ zs. x ∷ zs) (kept_from y ys (later_once x (y ∷ ys) each))
+    where
+      two : y.row ≡ x.row → false ≡ true
+      two same =
+          let first : is_here x.row x.row ≡ 1 = ap (λ b. cond b 1 0) (number_itself x.row) in
+          let second : is_here x.row y.row ≡ 1 = ap (is_here x.row) same ∙ first in
+          absurd (omega (arith, each x.row, first, second, sum_by-cons (lent_here x.row) x (y ∷ ys), sum_by-cons (lent_here x.row) y ys))
 
-kept_all : (xs : List CodeTripRow) → EachOnce xs → dedup (eq_by_cmp lent_cmp) xs ≡ xs
-kept_all [] each = refl
-kept_all (x ∷ xs) each = kept_from x xs each
+  kept_all : (xs : List CodeTripRow) → EachOnce xs → dedup (eq_by_cmp lent_cmp) xs ≡ xs
+  kept_all [] each = refl
+  kept_all (x ∷ xs) each = kept_from x xs each
 
-lent_total : IsTotalOrder lent_cmp
-lent_total = on_total trip_row row_total
+  lent_total : IsTotalOrder lent_cmp
+  lent_total = on_total trip_row (row_total number)
 
-pub sorted_in_order : (d : Dataset) (old new : List CodeTripRow) → map trip_row old ≡ trip_rows_in d → IsPermutation old new → IsSorted lent_cmp new → InOrder d (map trip_row new)
-sorted_in_order d old new is swapped sorted = record {
-  moved = subst (λ (rs : List TripRow). IsPermutation rs (map trip_row new)) is (IsPermutation-map trip_row old new swapped);
-  ascending = sorted_mapped trip_row row_cmp new (subst (IsStrictlySortedBy lent_cmp) (kept_all new each) (IsStrictlySortedBy-dedup lent_total (λ x y. refl) new sorted));
-}
-  where
-    each : EachOnce new
-    each n = omega (arith, once n d, sum_by-IsPermutation (lent_here n) old new swapped, sum_lent n old ∙ ap (sum_by (row_here n)) is)
+  pub sorted_in_order : (d : Dataset) (old new : List CodeTripRow) → map trip_row old ≡ trip_rows_in d → IsPermutation old new → IsSorted lent_cmp new → InOrder d (map trip_row new)
+  sorted_in_order d old new is swapped sorted = record {
+    number = number;
+    moved = subst (λ (rs : List TripRow). IsPermutation rs (map trip_row new)) is (IsPermutation-map trip_row old new swapped);
+    ascending = sorted_mapped trip_row (row_cmp number) new (subst (IsStrictlySortedBy lent_cmp) (kept_all new each) (IsStrictlySortedBy-dedup lent_total (λ x y. refl) new sorted));
+  }
+    where
+      each : EachOnce new
+      each n = omega (arith, once n d, sum_by-IsPermutation (lent_here n) old new swapped, sum_lent n old ∙ ap (sum_by (row_here n)) is)
+
+  -- ---- rows that are sorted by the numbers of their trips
+
+  -- a row has the number of its trip
+  abbrev pub IsNumbered : CodeTripRow → Type 0
+  IsNumbered x = number x.trip_id.now ≡ x.trip
+
+  then_tied : (r s rest : Ordering) → (r ≡ Equal → s ≡ Equal) → ordering_then r rest ≡ ordering_then (ordering_then r s) rest
+  then_tied Less s rest same = refl
+  then_tied Equal s rest same = ap (λ t. ordering_then t rest) (sym (same refl))
+  then_tied Greater s rest same = refl
+
+  as_numbers : (x y : CodeTripRow) → IsNumbered x → IsNumbered y → (x.trip ≡ y.trip → x.trip_id.now ≡ y.trip_id.now) → kept_cmp x y ≡ lent_cmp x y
+  as_numbers x y e f one =
+      then_tied (nat_cmp x.trip y.trip) (text_cmp x.trip_id.now y.trip_id.now) (ordering_then (int_cmp (pos x.stop_sequence) (pos y.stop_sequence)) (nat_cmp x.row y.row))
+      (λ tied. ap (text_cmp x.trip_id.now) (sym (one (nat_cmp-IsAntisymmetric x.trip y.trip tied))) ∙ tied_itself nat_list_cmp_total x.trip_id.now)
+      ∙ (λ i. ordering_then (ordering_then (nat_cmp (sym e i) (sym f i)) (text_cmp x.trip_id.now y.trip_id.now)) (ordering_then (int_cmp (pos x.stop_sequence) (pos y.stop_sequence)) (nat_cmp x.row y.row)))
+
+  pub sorted_by_numbers : (name : ℕ → List ℕ) (xs : List CodeTripRow) → All IsNumbered xs → All (λ r. name r.trip ≡ r.trip_id.now) xs → IsSorted kept_cmp xs → IsSorted lent_cmp xs
+  sorted_by_numbers name xs each named sorted k d low h =
+      let below : k < length xs = omega (arith, h) in
+      ap is_lt (sym (as_numbers (get_or xs (k + 1) d) (get_or xs k d) (each (k + 1) d h) (each k d below)
+      (λ same. sym (named (k + 1) d h) ∙ ap name same ∙ named k d below))) ∙ sorted k d low h
+
+  pub numbered_in_order : (name : ℕ → List ℕ) (d : Dataset) (old new : List CodeTripRow) → map trip_row old ≡ trip_rows_in d → All IsNumbered old → All (λ r. name r.trip ≡ r.trip_id.now) old
+      → IsPermutation old new → IsSorted kept_cmp new → InOrder d (map trip_row new)
+  numbered_in_order name d old new is each named swapped sorted =
+      sorted_in_order d old new is swapped (sorted_by_numbers name new (All-permutation IsNumbered old new swapped each) (All-permutation (λ r. name r.trip ≡ r.trip_id.now) old new swapped named) sorted)
+
+pub kept_total : IsTotalOrder kept_cmp
+kept_total = then_total (on_total (λ (r : CodeTripRow). r.trip) nat_cmp_total)
+    (then_total (on_total (λ (r : CodeTripRow). pos r.stop_sequence) int_cmp_total) (on_total (λ (r : CodeTripRow). r.row) nat_cmp_total))

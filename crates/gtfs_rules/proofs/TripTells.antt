@@ -189,8 +189,8 @@ module _ (d : Dataset) (lent : List CodeTripRow) (o : InOrder d (map trip_row le
         sym (λ j. onto (reverse (take-map trip_row i lent j)) (get_or-map trip_row lent i z (trip_row z) below j ∷ drop-map trip_row (i + 1) lent j))
         ∙ onto_place (map trip_row lent) i (trip_row z) (omega (arith, length-map lent trip_row))
 
-    split : IsSplit row_cmp (rows_before lent i) e (rows_from lent (i + 1))
-    split = split_of row_cmp (rows_before lent i) e (rows_from lent (i + 1)) (subst (IsAscending row_cmp) (sym split_rows) (ascends_from_sorted row_cmp (map trip_row lent) o.ascending))
+    split : IsSplit (row_cmp o.number) (rows_before lent i) e (rows_from lent (i + 1))
+    split = split_of (row_cmp o.number) (rows_before lent i) e (rows_from lent (i + 1)) (subst (IsAscending (row_cmp o.number)) (sym split_rows) (ascends_from_sorted (row_cmp o.number) (map trip_row lent) o.ascending))
 
     pub is_row_here : IsRowOf d e
     is_row_here = subst (IsRowOf d) (get_or-map trip_row lent i z (trip_row z) below) (All-get_or (IsRowOf d) (map trip_row lent) i (trip_row z) (omega (arith, length-map lent trip_row)) (each_row d (map trip_row lent) o.moved))
@@ -199,7 +199,7 @@ module _ (d : Dataset) (lent : List CodeTripRow) (o : InOrder d (map trip_row le
     in_file_order t = ap (list_any t) split_rows ∙ sym (list_any-IsPermutation t (trip_rows_in d) (map trip_row lent) o.moved)
 
     pub repeats_here : repeats (rows_before lent i) e ≡ repeats_among (trip_rows_in d) e
-    repeats_here = sym (earlier_twin (rows_before lent i) e (rows_from lent (i + 1)) split) ∙ in_file_order (λ m. nat_lt m.row e.row && same_place e m)
+    repeats_here = sym (earlier_twin o.number (rows_before lent i) e (rows_from lent (i + 1)) split) ∙ in_file_order (λ m. nat_lt m.row e.row && same_place e m)
 
     neither : (a b : Bool) → (not a && b) ≡ not (a || not b)
     neither true b = refl
@@ -208,8 +208,8 @@ module _ (d : Dataset) (lent : List CodeTripRow) (o : InOrder d (map trip_row le
 
     ends_of : is_untimed_end (rows_before lent i) e (ends (e ∷ rows_from lent (i + 1))) ≡ ends_untimed (trip_rows_in d) e
     ends_of =
-        let first = sym (earlier_row (rows_before lent i) e (rows_from lent (i + 1)) split) ∙ in_file_order (λ m. same_trip e m && stands_first m e) in
-        let last = sym (later_row (rows_before lent i) e (rows_from lent (i + 1)) split) ∙ in_file_order (λ m. same_trip e m && (is_lower e m || is_earlier_twin m e)) in
+        let first = sym (earlier_row o.number (rows_before lent i) e (rows_from lent (i + 1)) split) ∙ in_file_order (λ m. same_trip e m && stands_first m e) in
+        let last = sym (later_row o.number (rows_before lent i) e (rows_from lent (i + 1)) split) ∙ in_file_order (λ m. same_trip e m && (is_lower e m || is_earlier_twin m e)) in
         λ j. e.is_untimed && (not (first j) || (neither (repeats (rows_before lent i) e) (ends (e ∷ rows_from lent (i + 1))) ∙ ap not last) j)
 
     pub ends_here : (answer : Bool) → answer ≡ ends (rows_from lent i) → is_untimed_end (rows_before lent i) e answer ≡ ends_untimed (trip_rows_in d) e
@@ -223,7 +223,7 @@ module _ (d : Dataset) (lent : List CodeTripRow) (o : InOrder d (map trip_row le
 
         late_here : (late : ℤ → Bool) → if_there (left_before (rows_before lent i) e) late ≡ list_any (is_left_late late (trip_rows_in d) e) (trip_rows_in d)
         late_here late =
-            sym (last_left_late late (rows_before lent i) e (rows_from lent (i + 1)) split)
+            sym (last_left_late late o.number (rows_before lent i) e (rows_from lent (i + 1)) split)
             ∙ (λ j. list_any (λ m. is_timed_in e m && ((stands_first m e && not (in_file_order (λ k. is_timed_in e k && (stands_first m k && stands_first k e)) j)) && if_there m.departure late)) here)
             ∙ in_file_order (is_left_late late (trip_rows_in d) e)
 

@@ -41,6 +41,7 @@ pub mod SpanView
 pub mod StopKinds
 pub mod StopRules
 pub mod TripNotes
+pub mod TripNumbers
 pub mod TripOrder
 pub mod TripRows
 pub mod TripRules

@@ -1,11 +1,12 @@
--- The rows of trips in their order: by trip id, sequence and row. What a row breaks by its place among them.
-use Rattle.std.specs.Prelude.{◌&&◌, ◌||◌, not, Bool, true, false, if◌then◌else◌, List, [], ◌∷◌, bytes_eq, Option, None, ℤ, int_lt, IsPermutation}
+-- The rows of trips in their order: by trip, sequence and row. What a row breaks by its place among them.
+use Rattle.std.specs.Prelude.{ℕ, ◌&&◌, ◌||◌, not, Bool, true, false, if◌then◌else◌, List, [], ◌∷◌, bytes_eq, Option, None, ℤ, pos, int_lt, IsPermutation}
 use Rattle.std.specs.List.Sorted.{IsStrictlySortedBy}
 use Rattle.std.specs.Option.{option_or}
 use Rattle.std.specs.Ordering.{int_cmp, int_eq, nat_cmp, on, then_cmp}
 use Rattle.std.specs.declared.cmp.Ordering.{Ordering}
 use Rattle.gtfs_table.specs.Folder.{text_cmp}
 use Rattle.gtfs_table.specs.Tables.{Dataset}
+use Rattle.gtfs_rules.specs.declared.trips.row.TripRow.{TripRow as CodeTripRow}
 use Rattle.gtfs_rules.specs.Values.{if_both}
 use Rattle.gtfs_rules.specs.TripRows.{TripRow, trip_rows_in}
 
@@ -16,13 +17,22 @@ same_trip a b = bytes_eq a.trip_id b.trip_id
 abbrev pub same_place : TripRow → TripRow → Bool
 same_place a b = same_trip a b && int_eq a.sequence b.sequence
 
-abbrev pub row_cmp : TripRow → TripRow → Ordering
-row_cmp = then_cmp (on (λ r. r.trip_id) text_cmp) (then_cmp (on (λ r. r.sequence) int_cmp) (on (λ r. r.row) nat_cmp))
+-- trips in the order of their numbers; trips of one number in the order of their ids
+abbrev pub trip_cmp : (List ℕ → ℕ) → List ℕ → List ℕ → Ordering
+trip_cmp number = then_cmp (on number nat_cmp) text_cmp
 
--- the rows of a dataset, each once and in their order
+abbrev pub row_cmp : (List ℕ → ℕ) → TripRow → TripRow → Ordering
+row_cmp number = then_cmp (on (λ r. r.trip_id) (trip_cmp number)) (then_cmp (on (λ r. r.sequence) int_cmp) (on (λ r. r.row) nat_cmp))
+
+-- rows as they are kept, by the numbers of their trips
+abbrev pub kept_cmp : CodeTripRow → CodeTripRow → Ordering
+kept_cmp = then_cmp (on (λ r. r.trip) nat_cmp) (then_cmp (on (λ r. pos r.stop_sequence) int_cmp) (on (λ r. r.row) nat_cmp))
+
+-- the rows of a dataset, each once and in their order, by some numbers of trips
 pub record InOrder (d : Dataset) (rows : List TripRow) : Type 0 where
+  pub number : List ℕ → ℕ
   pub moved : IsPermutation (trip_rows_in d) rows
-  pub ascending : IsStrictlySortedBy row_cmp rows
+  pub ascending : IsStrictlySortedBy (row_cmp number) rows
 
 -- ---- a row and the rows before it, of which the last comes first
 

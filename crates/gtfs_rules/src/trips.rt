@@ -1,5 +1,6 @@
 pub(crate) mod counts;
 pub(crate) mod notes;
+pub(crate) mod numbers;
 pub(crate) mod order;
 pub(crate) mod row;
 pub(crate) mod rows;

@@ -6,7 +6,8 @@ ghost use Rattle.gtfs_rules.specs.declared.file_name.FileName.TheVariants as fil
 ghost use Rattle.gtfs_rules.specs.Found.{Tells};
 ghost use Rattle.gtfs_rules.specs.Picks.{at_column, in_file, of_codes};
 ghost use Rattle.gtfs_rules.specs.TripNotes.{trip_notes_in};
-ghost use Rattle.gtfs_rules.specs.TripOrder.{ends, follows, is_left_later, is_untimed_end, last_left as last_left_of, left_before, repeats, row_cmp, InOrder};
+ghost use Rattle.gtfs_rules.specs.TripNumbers.{AreRowsNumbered};
+ghost use Rattle.gtfs_rules.specs.TripOrder.{ends, follows, is_left_later, is_untimed_end, last_left as last_left_of, left_before, kept_cmp, repeats, InOrder};
 ghost use Rattle.gtfs_rules.specs.TripRows.{trip_row, trip_rows_in};
 
 use crate::code::Code;
@@ -35,19 +36,19 @@ pub(crate) fn tell_order<'a>(
     tell_times_back(&rows, found)
 }
 
-// The rows by trip, sequence and row. Where they stand in this order already one pass finds it so.
+// The rows by trip, sequence and row. Where they stand in this order already, as they mostly do, one pass finds it so.
 fn in_order(mut rows: Vec<TripRow<'_>>) -> Vec<TripRow<'_>>
-    ensures { (d : Dataset) → map trip_row rows.entry.items ≡ trip_rows_in d → InOrder d (map trip_row result.items) }
+    ensures { (d : Dataset) → map trip_row rows.entry.items ≡ trip_rows_in d → AreRowsNumbered rows.entry.items → InOrder d (map trip_row result.items) }
 {
     rows.sort_unstable_by(|a, b| order(a, b));
     rows
 }
 
 fn order(a: &TripRow, b: &TripRow) -> Ordering
-    ensures { result ≡ row_cmp (trip_row a.now) (trip_row b.now) }
+    ensures { result ≡ kept_cmp a.now b.now }
 {
-    a.trip_id
-        .cmp(b.trip_id)
+    a.trip
+        .cmp(&b.trip)
         .then(a.stop_sequence.cmp(&b.stop_sequence))
         .then(a.row.cmp(&b.row))
 }

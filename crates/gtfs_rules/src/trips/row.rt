@@ -2,6 +2,8 @@
 #[derive(Clone, Copy)]
 pub(crate) struct TripRow<'a> {
     pub(crate) trip_id: &'a str,
+    // The number of its trip.
+    pub(crate) trip: usize,
     pub(crate) stop_sequence: u32,
     pub(crate) has_sequence: bool,
     pub(crate) row: usize,

@@ -15,7 +15,7 @@ on_ok (Err e) P Q f h = tt
 pub returns : goal.returns
 returns c =
     let d = c.args.tables.now in
-    let o : InOrder d (map trip_row c.in_order-rows.result.items) = c.in_order-rows.ensures d (c.into_rows.ensures ∙ ap rows_of_notes c.requires ∙ placed_rows d) in
+    let o : InOrder d (map trip_row c.in_order-rows.result.items) = c.in_order-rows.ensures d (c.into_rows.ensures.rows ∙ ap rows_of_notes c.requires ∙ placed_rows d) c.into_rows.ensures.numbered in
     let lent = λ (xs : List TripRow) (same : xs ≡ c.in_order-rows.result.items). subst (λ (ys : List TripRow). InOrder d (map trip_row ys)) (sym same) o in
     on_ok c.tell_times_back.result _ _
     (λ told. order_told d c.args.found.now _ _ c.tell_times_back.new.found
