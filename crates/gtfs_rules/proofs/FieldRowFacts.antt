@@ -54,7 +54,7 @@ row_between : (e r b : Bool) → r ≡ true → (e && b) ≡ ((e && r) && b)
 row_between true r b row = rw row refl
 row_between false r b row = refl
 
-empty_is : (name : List ℕ) → bytes_eq name [] ≡ is_empty name
+pub empty_is : (name : List ℕ) → bytes_eq name [] ≡ is_empty name
 empty_is [] = refl
 empty_is (b ∷ bs) = let filled : is_empty (b ∷ bs) ≡ false = grind (arith, nat_tests) in sym filled
 
@@ -195,7 +195,7 @@ module _ (d : Dataset) (x : File) (n : ℕ) where
     reordered false r true h = refl
     reordered false r false h = refl
 
-    here_told : (p : Problem) → (is_in_row x n p && (length_told p.column p.code || cell_told p.column p.code))
+    pub here_told : (p : Problem) → (is_in_row x n p && (length_told p.column p.code || cell_told p.column p.code))
         ≡ (at_row (in_file_of field_codes x) n p && is_problem d p)
     here_told p =
         and_under (is_in_row x n p) (length_told p.column p.code || cell_told p.column p.code) (of_codes field_codes p && is_problem d p)

@@ -1,10 +1,12 @@
+mod WorkedCases
+mod WorkedCodes
+mod WorkedProblems
 pub mod BoolFacts
 pub mod CellFacts
 pub mod CompleteFacts
 pub mod DayFacts
 pub mod EachFacts
 pub mod FieldFacts
-pub mod FieldFileFacts
 pub mod FieldRowFacts
 pub mod FileFacts
 pub mod FoundFacts
@@ -21,7 +23,6 @@ pub mod PlaceFacts
 pub mod PlaceSteps
 pub mod PlacedFacts
 pub mod PresenceFacts
-pub mod ReadFacts
 pub mod ReferenceFacts
 pub mod ReportLaws
 pub mod RestFacts
@@ -41,8 +42,10 @@ pub mod SpanSteps
 pub mod SplitLists
 pub mod StepFacts
 pub mod StopKindFacts
+pub mod StopTimeFacts
+pub mod StopTimeFields
+pub mod StopTimePasses
 pub mod TellFacts
-pub mod TimeFacts
 pub mod TripCountFacts
 pub mod TripNumberFacts
 pub mod TripPicks
@@ -53,8 +56,5 @@ pub mod TripRowOrder
 pub mod TripSorted
 pub mod TripTells
 pub mod TripTextFacts
-mod WorkedCases
-mod WorkedCodes
 pub mod WorkedFeeds
-mod WorkedProblems
 pub mod ZoneFacts

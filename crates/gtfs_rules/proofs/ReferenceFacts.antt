@@ -1,13 +1,16 @@
 -- References that name no row: what a row's rule says, and where they are told.
-use Rattle.std.proofs.Common.{◌≡◌, ◌++◌, ℕ, List, true, Bool, sym, ap, ◌∙◌}
+use Rattle.std.proofs.Common.{◌≡◌, ◌++◌, ◌∷◌, ℕ, List, codes, true, Bool, refl, sym, ap, ◌∙◌}
 use Rattle.std.specs.Prelude.{◌&&◌, not, bytes_eq, is_some}
 use Rattle.std.specs.List.{list_any}
 use Rattle.gtfs_table.specs.Tables.{Dataset}
 use Rattle.gtfs_table.specs.declared.file.File.{File}
+use Rattle.gtfs_table.specs.declared.file.File.TheVariants as file
 use Rattle.gtfs_rules.specs.Ids.{IdColumn}
 use Rattle.gtfs_rules.specs.KeyRules.{is_known, unknown_reference}
 use Rattle.gtfs_rules.specs.References.{Reference, references}
 use Rattle.gtfs_rules.specs.ReferencePicks.{agency_names, route_names, service_names, stop_names, trip_names}
+use Rattle.gtfs_rules.specs.Picks.{is_kept}
+use Rattle.gtfs_rules.specs.Problems.{FileName, kept, other}
 use Rattle.gtfs_rules.specs.Rows.{is_file, is_row, records_in, text_in, value_in}
 use Rattle.gtfs_rules.specs.UnknownIds.{is_unknown}
 use Rattle.gtfs_rules.proofs.BoolFacts.{and_parts, and_both}
@@ -20,7 +23,12 @@ read_alike told row i j t u rule ids text = rule ∙ (λ k. row && is_unknown (s
 
 -- each column that names rows, in their order
 abbrev pub all_names : List (File × List ℕ)
-all_names = stop_names ++ (agency_names ++ (route_names ++ (service_names ++ trip_names)))
+all_names = (file.Stops, codes "parent_station") ∷ (file.StopTimes, codes "stop_id") ∷ (file.Transfers, codes "from_stop_id") ∷ (file.Transfers, codes "to_stop_id")
+    ∷ (agency_names ++ (route_names ++ (service_names ++ ((file.StopTimes, codes "trip_id") ∷ trip_names))))
+
+-- those of all files but stop_times.txt
+abbrev pub other_names : List (File × List ℕ)
+other_names = stop_names ++ (agency_names ++ (route_names ++ (service_names ++ trip_names)))
 
 text_turned : (a b : List ℕ) → bytes_eq a b ≡ true → bytes_eq b a ≡ true
 text_turned a b e = ap (λ t. bytes_eq t a) (sym (text_is a b e)) ∙ text_itself a
@@ -34,3 +42,18 @@ told_at_names d x n name e =
     (λ r here. let place = and_parts (is_file r.file x) (bytes_eq r.column name) (and_parts (is_file r.file x && bytes_eq r.column name) (not (known r)) here).0 in
     and_both (is_file r.file x) (bytes_eq name r.column) place.0 (text_turned r.column name place.1))
     (and_parts there (list_any (λ r. is_file r.file x && bytes_eq r.column name && not (known r)) references) e).1
+
+-- ---- all files but stop_times.txt
+
+names_alike : (x : File) (name : List ℕ) → not (is_file file.StopTimes x) ≡ true → is_place all_names x name ≡ is_place other_names x name
+names_alike file.StopTimes name elsewhere = cc elsewhere
+names_alike x name elsewhere = refl
+
+pub told_at_others : (d : Dataset) (x : File) (n : ℕ) (name : List ℕ) → not (is_file file.StopTimes x) ≡ true → unknown_reference d x n name ≡ true
+    → is_place other_names x name ≡ true
+told_at_others d x n name elsewhere e = sym (names_alike x name elsewhere) ∙ told_at_names d x n name e
+
+pub others_apart : (f : FileName) → list_any (λ (place : File × List ℕ). is_kept place.0 f) other_names ≡ true → not (is_kept file.StopTimes f) ≡ true
+others_apart (kept file.StopTimes) e = cc e
+others_apart (kept x) e = refl
+others_apart (other t) e = cc e

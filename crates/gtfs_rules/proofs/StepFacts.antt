@@ -112,6 +112,15 @@ module _ (d : Dataset) (c : Code) (x : File) (columns : List Literal) (only : At
       (λ column here. and_both (in_file c x p) (bytes_eq p.column (codes column)) picked here)
       (only p.row p.column (sym (λ i. holds (code_is p.code c parts.0 i) d (file_is x p.file parts.1 i) p.row p.column) ∙ e))
 
+  -- picked at these columns or in the file: the same problems
+  pub column_alike : (p : Problem) → (at_columns c x columns p && is_problem d p) ≡ (in_file c x p && is_problem d p)
+  column_alike p = same_test (at_columns c x columns p && is_problem d p) (in_file c x p && is_problem d p)
+      (λ e. let parts = and_parts (at_columns c x columns p) (is_problem d p) e in
+      and_both (in_file c x p) (is_problem d p)
+      (any_part (λ column. at_column c x (codes column) p) (in_file c x p) columns (λ column here. (and_parts (in_file c x p) (bytes_eq p.column (codes column)) here).0) parts.0) parts.1)
+      (λ e. let parts = and_parts (in_file c x p) (is_problem d p) e in
+      and_both (at_columns c x columns p) (is_problem d p) (at_one p parts.0 parts.1) parts.1)
+
   pub tells_columns : (xs ys : List Problem) → Tells d (at_columns c x columns) xs ys → Tells d (in_file c x) xs ys
   tells_columns xs ys = tells_wider d (at_columns c x columns) (in_file c x) xs ys
       (λ p e. any_part (λ column. at_column c x (codes column) p) (in_file c x p) columns (λ column here. (and_parts (in_file c x p) (bytes_eq p.column (codes column)) here).0) e)

@@ -1,6 +1,7 @@
 -- The kinds of stops that rows name.
 use Rattle.std.proofs.Common.{◌≡◌, ◌==◌, ℕ, ◌+◌, ◌-◌, ◌<◌, ◌∷◌, [], ◌++◌, List, length, length-append, true, false, Bool, Option, Some, None, codes, refl, sym, ap, ◌∙◌, arith, inl, inr}
 use Rattle.std.specs.Prelude.{◌&&◌, ◌||◌, not, bytes_eq, option_and_then, ℤ}
+use Rattle.std.specs.List.{list_any}
 use Rattle.std.proofs.lemmas.Bool.{cases_lt}
 use Rattle.std.proofs.lemmas.Bool.Decides.{nat_tests}
 use Rattle.std.proofs.lemmas.List.{get_or_append_left, get_or_past, get_or_push}
@@ -10,6 +11,8 @@ use Rattle.gtfs_table.specs.declared.file.File.{File}
 use Rattle.gtfs_table.specs.declared.file.File.TheVariants as file
 use Rattle.gtfs_rules.specs.Columns.{id}
 use Rattle.gtfs_rules.specs.Ids.{IdColumn, ids_in}
+use Rattle.gtfs_rules.specs.Picks.{is_kept}
+use Rattle.gtfs_rules.specs.Problems.{FileName, kept, other}
 use Rattle.gtfs_rules.specs.Reads.{word_of}
 use Rattle.gtfs_rules.specs.Rows.{choice_in, is_file, file_place, records_in, row_with, text_in}
 use Rattle.gtfs_rules.specs.StopKinds.{AreStopTypes, is_other_parent, type_in_text, type_of, type_with}
@@ -118,3 +121,21 @@ told_at_kinds d x n name e =
     (λ t here. let place = and_parts (is_file x t.0) (bytes_eq name (codes t.1)) here in
     and_both (is_file t.0 x) (bytes_eq name (codes t.1)) (file_turned x t.0 place.0) place.1)
     (told_there kind_rules d x n name e)
+
+-- ---- all files but stop_times.txt
+
+abbrev pub other_kinds : List (File × List ℕ)
+other_kinds = (file.Stops, codes "parent_station") ∷ (file.Transfers, codes "from_stop_id") ∷ (file.Transfers, codes "to_stop_id") ∷ []
+
+kinds_there : (x : File) (name : List ℕ) → not (is_file file.StopTimes x) ≡ true → is_place kind_places x name ≡ is_place other_kinds x name
+kinds_there file.StopTimes name elsewhere = cc elsewhere
+kinds_there x name elsewhere = refl
+
+pub told_at_other_kinds : (d : Dataset) (x : File) (n : ℕ) (name : List ℕ) → not (is_file file.StopTimes x) ≡ true → wrong_kind_of_stop d x n name ≡ true
+    → is_place other_kinds x name ≡ true
+told_at_other_kinds d x n name elsewhere e = sym (kinds_there x name elsewhere) ∙ told_at_kinds d x n name e
+
+pub other_kinds_apart : (f : FileName) → list_any (λ (place : File × List ℕ). is_kept place.0 f) other_kinds ≡ true → not (is_kept file.StopTimes f) ≡ true
+other_kinds_apart (kept file.StopTimes) e = cc e
+other_kinds_apart (kept x) e = refl
+other_kinds_apart (other t) e = cc e

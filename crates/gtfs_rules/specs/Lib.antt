@@ -25,6 +25,7 @@ pub mod PresenceRules
 pub mod PresenceView
 pub mod ProblemOrder
 pub mod Problems
+pub mod Readings
 pub mod Reads
 pub mod ReferencePicks
 pub mod References
@@ -40,6 +41,8 @@ pub mod SingleKeys
 pub mod SpanView
 pub mod StopKinds
 pub mod StopRules
+pub mod StopTimePicks
+pub mod StopTimes
 pub mod TripNotes
 pub mod TripNumbers
 pub mod TripOrder

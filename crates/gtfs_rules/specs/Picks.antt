@@ -1,5 +1,5 @@
 -- Which problems a step looks at: those of some codes, files or columns.
-use Rattle.std.specs.Prelude.{ℕ, ◌&&◌, ◌||◌, Bool, false, List, bytes_eq}
+use Rattle.std.specs.Prelude.{ℕ, ◌&&◌, ◌||◌, Bool, false, not, List, bytes_eq}
 use Rattle.std.specs.List.{list_any}
 use Rattle.gtfs_table.specs.declared.file.File.{File}
 use Rattle.gtfs_table.specs.declared.file.File.TheVariants as file
@@ -33,3 +33,7 @@ in_single_keys p = in_file code.E09 file.Agency p || in_file code.E09 file.Stops
 -- E09 in a file whose key has several parts, but for stop_times.txt
 abbrev pub in_composite_keys : Problem → Bool
 in_composite_keys p = in_file code.E09 file.CalendarDates p || in_file code.E09 file.Frequencies p || in_file code.E09 file.Transfers p
+
+-- the problem is of this code and not in stop_times.txt
+abbrev pub elsewhere : Code → Problem → Bool
+elsewhere c p = is_code p.code c && not (is_kept file.StopTimes p.file)

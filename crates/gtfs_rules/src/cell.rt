@@ -31,7 +31,7 @@ pub(crate) fn is_required(column: &Column) -> bool
     }
 }
 
-fn fault_code(kind: Kind, text: &str) -> Option<Code>
+pub(crate) fn fault_code(kind: Kind, text: &str) -> Option<Code>
     ensures { result ≡ fault_code (kind_of kind) text.now }
 {
     match kind {

@@ -1,15 +1,15 @@
 ghost use Rattle.std.specs.Prelude.{◌≡◌, IfOk, OnOk};
 ghost use Rattle.gtfs_rules.specs.FeedIds.{AreIdsOf};
 ghost use Rattle.gtfs_rules.specs.Found.{Tells};
-ghost use Rattle.gtfs_rules.specs.Parts.{in_files_and_fields, in_keys_and_references, in_rows_alone, in_trips_and_services};
+ghost use Rattle.gtfs_rules.specs.Parts.{in_files_and_fields, in_keys_and_references, in_periods_and_services, in_rows_alone, in_trips};
 ghost use Rattle.gtfs_rules.specs.Problems.{IsReport};
+ghost use Rattle.gtfs_rules.specs.StopKinds.{AreStopTypes};
 
 use crate::feed_ids::FeedIds;
 use crate::fields::tell_fields;
 use crate::files::tell_files;
 use crate::found::Found;
 use crate::headers::tell_headers;
-use crate::ids::Ids;
 use crate::keys::tell_composite_keys;
 use crate::periods::tell_overlaps;
 use crate::presence::tell_presence;
@@ -18,11 +18,10 @@ use crate::report::Report;
 use crate::services::tell_services;
 use crate::single_keys::tell_single_keys;
 use crate::spans::tell_spans;
-use crate::stop_kinds::tell_stop_kinds;
-use crate::times::tell_times;
+use crate::stop_kinds::{stop_types, tell_stop_kinds};
+use crate::stop_times::tell_stop_times;
 use crate::trips::counts::tell_counts;
 use crate::trips::order::tell_order;
-use crate::trips::rows::trip_notes;
 use crate::zones::tell_zones;
 use gtfs_field::OutOfMemory;
 use gtfs_table::Tables;
@@ -40,11 +39,13 @@ pub fn check<'a>(alloc: Global, tables: &'a Tables) -> Result<Report<'a>, OutOfM
     ensures report { IfOk result (λ report. IsReport tables.now report.problems) }
 {
     let ids = FeedIds::new(alloc, tables)?;
+    let types = stop_types(alloc, tables)?;
     let mut found = Found::new(alloc);
     tell_files_and_fields(alloc, tables, &mut found)?;
     tell_rows_alone(tables, &mut found)?;
-    tell_keys_and_references(alloc, tables, &ids, &mut found)?;
-    tell_trips_and_services(alloc, tables, &ids.trips, &mut found)?;
+    tell_keys_and_references(alloc, tables, &ids, types.as_slice(), &mut found)?;
+    tell_trips(alloc, tables, &ids, types.as_slice(), &mut found)?;
+    tell_periods_and_services(alloc, tables, &mut found)?;
     Ok(Report::new(tables, found))
 }
 
@@ -67,8 +68,7 @@ fn tell_rows_alone<'a>(tables: &'a Tables, found: &mut Found<'a>) -> Result<(), 
 {
     tell_presence(tables, found)?;
     tell_zones(tables, found)?;
-    tell_spans(tables, found)?;
-    tell_times(tables, found)
+    tell_spans(tables, found)
 }
 
 // What is wrong with the keys of rows, and with the rows that they name.
@@ -76,29 +76,44 @@ fn tell_keys_and_references<'a>(
     alloc: Global,
     tables: &'a Tables,
     ids: &FeedIds<'a>,
+    types: &[Option<i64>],
     found: &mut Found<'a>,
 ) -> Result<(), OutOfMemory>
-    requires { AreIdsOf tables.now ids.now }
+    requires ids { AreIdsOf tables.now ids.now }
+    requires types { AreStopTypes tables.now types.now }
     ensures { OnOk result (Tells tables.now in_keys_and_references found.old found.new) }
 {
     tell_single_keys(tables, ids, found)?;
     tell_composite_keys(alloc, tables, found)?;
     tell_references(tables, ids, found)?;
-    tell_stop_kinds(alloc, tables, &ids.stops, found)
+    tell_stop_kinds(tables, &ids.stops, types, found)
 }
 
-// What is wrong with trips, their periods and their services.
-fn tell_trips_and_services<'a>(
+// What is wrong with stop times and with the trips that they name.
+fn tell_trips<'a>(
     alloc: Global,
     tables: &'a Tables,
-    trips: &Ids<'a>,
+    ids: &FeedIds<'a>,
+    types: &[Option<i64>],
     found: &mut Found<'a>,
 ) -> Result<(), OutOfMemory>
-    ensures { OnOk result (Tells tables.now in_trips_and_services found.old found.new) }
+    requires ids { AreIdsOf tables.now ids.now }
+    requires types { AreStopTypes tables.now types.now }
+    ensures { OnOk result (Tells tables.now in_trips found.old found.new) }
 {
-    let notes = trip_notes(alloc, tables, trips)?;
+    let notes = tell_stop_times(alloc, tables, ids, types, found)?;
     tell_counts(alloc, tables, &notes, found)?;
-    tell_order(tables, notes, found)?;
+    tell_order(tables, notes, found)
+}
+
+// What is wrong with the periods of trips and with services.
+fn tell_periods_and_services<'a>(
+    alloc: Global,
+    tables: &'a Tables,
+    found: &mut Found<'a>,
+) -> Result<(), OutOfMemory>
+    ensures { OnOk result (Tells tables.now in_periods_and_services found.old found.new) }
+{
     tell_overlaps(alloc, tables, found)?;
     tell_services(alloc, tables, found)
 }

@@ -3,14 +3,14 @@ ghost use Rattle.gtfs_rules.specs.Columns.{columns_of};
 ghost use Rattle.gtfs_rules.specs.ColumnView.{column_of};
 ghost use Rattle.gtfs_rules.specs.FieldCodes.{field_codes, in_file_of, is_found_at, is_in_row, length_code, placed, placed_of, row_tells, IsHeader};
 ghost use Rattle.gtfs_rules.specs.Found.{Adds, Tells};
-ghost use Rattle.gtfs_rules.specs.Picks.{of_codes};
+ghost use Rattle.gtfs_rules.specs.Parts.{in_fields};
 ghost use Rattle.gtfs_rules.specs.Rows.{records_in};
 
 use crate::cell::cell_code;
 use crate::code::Code;
 use crate::columns::{
     Column, agency_columns, calendar_columns, calendar_dates_columns, frequencies_columns,
-    routes_columns, stop_times_columns, stops_columns, transfers_columns, trips_columns,
+    routes_columns, stops_columns, transfers_columns, trips_columns,
 };
 use crate::file_name::FileName;
 use crate::found::Found;
@@ -20,19 +20,19 @@ use gtfs_field::OutOfMemory;
 use gtfs_table::{File, Tables};
 use std::alloc::Global;
 
-// Tells what is wrong with single fields and with the lengths of rows, in one pass over each file.
+// Tells what is wrong with single fields and with the lengths of rows, in one pass over each file but for
+// stop_times.txt.
 pub(crate) fn tell_fields<'a>(
     alloc: Global,
     tables: &'a Tables,
     found: &mut Found<'a>,
 ) -> Result<(), OutOfMemory>
-    ensures { OnOk result (Tells tables.now (of_codes field_codes) found.old found.new) }
+    ensures { OnOk result (Tells tables.now in_fields found.old found.new) }
 {
     tell_file(alloc, tables, File::Agency, &agency_columns(), found)?;
     tell_file(alloc, tables, File::Stops, &stops_columns(), found)?;
     tell_file(alloc, tables, File::Routes, &routes_columns(), found)?;
     tell_file(alloc, tables, File::Trips, &trips_columns(), found)?;
-    tell_file(alloc, tables, File::StopTimes, &stop_times_columns(), found)?;
     tell_file(alloc, tables, File::Calendar, &calendar_columns(), found)?;
     tell_file(
         alloc,
@@ -109,10 +109,10 @@ impl<'a> Header<'a> {
     fn tell_row(&self, row: usize, found: &mut Found<'a>) -> Result<(), OutOfMemory>
         ensures { OnOk result (Adds (λ p. is_in_row self.now.file row p && row_tells self.now row p) found.old found.new) }
     {
-        let count = self.tables.fields(self.file, row);
-        self.tell(row, "", length_code(self.width, count), found)?;
+        let record = self.tables.record(self.file, row);
+        self.tell(row, "", length_code(self.width, record.len()), found)?;
         for placed in &self.columns {
-            let text = self.tables.field(self.file, row, placed.place);
+            let text = record.field(placed.place);
             let code = cell_code(true, &placed.column, text);
             self.tell(row, placed.column.name, code, found)?;
         }
@@ -164,7 +164,7 @@ fn placed_columns(
 }
 
 // What is wrong with a row of so many fields, if anything.
-fn length_code(width: usize, count: usize) -> Option<Code>
+pub(crate) fn length_code(width: usize, count: usize) -> Option<Code>
     ensures { result ≡ length_code width count }
 {
     if count < width {

@@ -1,18 +1,23 @@
-ghost use Rattle.std.specs.Prelude.{◌≡◌};
+ghost use Rattle.std.specs.Prelude.{◌≡◌, IfSome, Some};
 ghost use Rattle.gtfs_rules.specs.Ids.{first_row_with};
 
 use crate::ids::Ids;
 
+// An odd number whose multiples are spread evenly: 2^64 divided by the golden ratio.
+const SPREAD: u64 = 0x9E37_79B9_7F4A_7C15;
+
 // Finds the first rows of ids that are asked for one after the other.
 //
-// Rows that stand together often name one row, and rows in turn. So before a search is made, the id of
-// the last answer is tried, and the one that followed it before, or else the next in the order of ids.
+// Rows that stand together often name one row, and rows in turn; and in a large file most ids were asked for
+// before. So before a search is made, three places are tried: that of the last answer, that where an id with
+// the same last bytes was found, and the next in the order of ids. What they hold is compared with the id, so
+// that no choice of ids can make an answer wrong, or cost more than the search.
 #[derive(Drop)]
 pub(crate) struct Finder<'a> {
     pub(crate) ids: &'a Ids<'a>,
     last: usize,
-    // By place, the place that was found after it: 0 where none was.
-    followers: Vec<usize>,
+    // By slot, the place that was found for an id of this slot: none where there is no slot yet.
+    places: Vec<usize>,
 }
 
 impl<'a> Finder<'a> {
@@ -22,7 +27,7 @@ impl<'a> Finder<'a> {
         Finder {
             ids,
             last: 0,
-            followers: ids.no_places(),
+            places: ids.no_places(),
         }
     }
 
@@ -34,40 +39,61 @@ impl<'a> Finder<'a> {
         if let Some(row) = self.ids.row_at(self.last, id) {
             return Some(row);
         }
-        let next = self.guess();
-        if let Some(row) = self.ids.row_at(next, id) {
-            self.last = next;
+        let slot = self.slot(id);
+        if let Some(row) = self.try_place(self.place_of(slot), id) {
             return Some(row);
         }
-        match self.ids.find(id) {
-            Some((place, row)) => {
-                self.follow(place);
-                Some(row)
-            }
-            None => None,
+        if let Some(row) = self.try_place(self.last.saturating_add(1), id) {
+            return Some(row);
         }
+        let (place, row) = self.ids.find(id)?;
+        self.remember(slot, place);
+        Some(row)
     }
 
-    // The place that is likely to follow the last one.
-    fn guess(&self) -> usize {
-        match self.followers.get(self.last) {
-            Some(place) if *place > 0 => *place,
-            _ => self.last.saturating_add(1),
-        }
+    // The first row with this id, where the id has this place in the order of ids.
+    fn try_place(&mut self, place: usize, id: &str) -> Option<usize>
+        ensures answer { IfSome result (λ row. Some row ≡ first_row_with self.old.ids.now id.now) }
+        ensures same { self.new.ids.now ≡ self.old.ids.now }
+    {
+        let row = self.ids.row_at(place, id)?;
+        self.last = place;
+        Some(row)
     }
 
-    // Remembers the place that followed. Where memory runs out there are fewer guesses, and the same answers.
-    fn follow(&mut self, place: usize)
+    // The place that was found for an id of this slot.
+    fn place_of(&self, slot: usize) -> usize {
+        self.places.get(slot).copied().unwrap_or(0)
+    }
+
+    // The slot of an id, by its last bytes.
+    fn slot(&self, id: &str) -> usize {
+        let mixed = last_bytes(id.as_bytes()).wrapping_mul(SPREAD) >> 32;
+        mixed as usize & self.places.len().saturating_sub(1)
+    }
+
+    // Remembers the place of an id. Where memory runs out there are fewer guesses, and the same answers.
+    fn remember(&mut self, slot: usize, place: usize)
         ensures { self.new.ids.now ≡ self.old.ids.now }
     {
-        if self.followers.is_empty()
-            && let Ok(followers) = self.ids.places()
+        if self.places.is_empty()
+            && let Ok(places) = self.ids.places()
         {
-            self.followers = followers;
+            self.places = places;
         }
-        if let Some(follower) = self.followers.get_mut(self.last) {
-            *follower = place;
+        if let Some(found) = self.places.get_mut(slot) {
+            *found = place;
         }
         self.last = place;
+    }
+}
+
+// The last eight bytes as one number, or all where there are fewer.
+fn last_bytes(bytes: &[u8]) -> u64 {
+    match bytes {
+        [.., a, b, c, d, e, f, g, h] => u64::from_le_bytes([*a, *b, *c, *d, *e, *f, *g, *h]),
+        _ => bytes
+            .iter()
+            .fold(0, |number: u64, byte| number << 8 | u64::from(*byte)),
     }
 }

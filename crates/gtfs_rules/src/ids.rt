@@ -71,10 +71,11 @@ impl<'a> Ids<'a> {
         }
     }
 
-    // A place for each id, all of them 0.
+    // Eight places and more for each id, all of them 0: as many as a power of two.
     pub(crate) fn places(&self) -> Result<Vec<usize>, OutOfMemory> {
         let mut places = Vec::new(self.alloc);
-        places.resize(self.rows.len(), 0)?;
+        let count = self.rows.len().saturating_mul(8);
+        places.resize(count.checked_next_power_of_two().unwrap_or(0), 0)?;
         Ok(places)
     }
 

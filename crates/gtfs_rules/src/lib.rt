@@ -52,7 +52,7 @@ mod services;
 mod single_keys;
 mod spans;
 mod stop_kinds;
-mod times;
+mod stop_times;
 mod trips;
 mod values;
 mod zones;

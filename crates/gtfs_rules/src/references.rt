@@ -1,10 +1,10 @@
-ghost use Rattle.std.specs.Prelude.{◌≡◌, ◌&&◌, ◌∷◌, [], ℕ, codes, OnOk};
+ghost use Rattle.std.specs.Prelude.{◌≡◌, ◌&&◌, ℕ, codes, OnOk};
 ghost use Rattle.gtfs_rules.specs.FeedIds.{AreIdsOf};
 ghost use Rattle.gtfs_rules.specs.FieldView.{field_text};
 ghost use Rattle.gtfs_rules.specs.Found.{Tells};
 ghost use Rattle.gtfs_rules.specs.Ids.{ids_in};
 ghost use Rattle.gtfs_rules.specs.KeyRules.{unknown_reference};
-ghost use Rattle.gtfs_rules.specs.Picks.{at_column, of_codes};
+ghost use Rattle.gtfs_rules.specs.Picks.{at_column, elsewhere};
 ghost use Rattle.gtfs_rules.specs.PlacePicks.{at_places};
 ghost use Rattle.gtfs_rules.specs.ReferencePicks.{route_names, service_names, stop_names, trip_names};
 ghost use Rattle.gtfs_rules.specs.Rows.{is_row as row_of, records_in, text_in};
@@ -67,14 +67,14 @@ pub(crate) fn is_id(text: &str) -> bool
     !text.is_empty() && !has_control(text)
 }
 
-// Tells each id that names no row.
+// Tells each id that names no row, but for those of stop_times.txt.
 pub(crate) fn tell_references<'a>(
     tables: &'a Tables,
     ids: &FeedIds<'a>,
     found: &mut Found<'a>,
 ) -> Result<(), OutOfMemory>
     requires { AreIdsOf tables.now ids.now }
-    ensures { OnOk result (Tells tables.now (of_codes (Code.E10 ∷ [])) found.old found.new) }
+    ensures { OnOk result (Tells tables.now (elsewhere Code.E10) found.old found.new) }
 {
     tell_unknown_stops(tables, &ids.stops, found)?;
     tell_unknown(tables, File::Routes, "agency_id", &ids.agencies, found)?;
@@ -92,7 +92,6 @@ fn tell_unknown_stops<'a>(
     ensures { OnOk result (Tells tables.now (at_places Code.E10 stop_names) found.old found.new) }
 {
     tell_unknown(tables, File::Stops, "parent_station", stops, found)?;
-    tell_unknown(tables, File::StopTimes, "stop_id", stops, found)?;
     tell_unknown(tables, File::Transfers, "from_stop_id", stops, found)?;
     tell_unknown(tables, File::Transfers, "to_stop_id", stops, found)
 }
@@ -118,7 +117,6 @@ fn tell_unknown_trips<'a>(
     requires { trips.now ≡ ids_in tables.now File.Trips (codes "trip_id") }
     ensures { OnOk result (Tells tables.now (at_places Code.E10 trip_names) found.old found.new) }
 {
-    tell_unknown(tables, File::StopTimes, "trip_id", trips, found)?;
     tell_unknown(tables, File::Frequencies, "trip_id", trips, found)?;
     tell_unknown(tables, File::Transfers, "from_trip_id", trips, found)?;
     tell_unknown(tables, File::Transfers, "to_trip_id", trips, found)

@@ -1,7 +1,7 @@
 ghost use Rattle.std.specs.Prelude.{◌≡◌, ◌&&◌, ◌∷◌, [], ℕ, not, codes, IfOk, OnOk};
 ghost use Rattle.gtfs_rules.specs.Found.{Tells};
 ghost use Rattle.gtfs_rules.specs.Ids.{ids_in};
-ghost use Rattle.gtfs_rules.specs.Picks.{at_column, of_codes};
+ghost use Rattle.gtfs_rules.specs.Picks.{at_column, elsewhere};
 ghost use Rattle.gtfs_rules.specs.Rows.{is_row as row_of, records_in, text_in};
 ghost use Rattle.gtfs_rules.specs.StopKinds.{is_other_parent, named_type, type_in_text, type_of, type_with, AreStopTypes};
 ghost use Rattle.gtfs_rules.specs.StopRules.{wrong_kind_of_stop};
@@ -92,14 +92,14 @@ fn is_other_parent(own: i64, parent: i64) -> bool
         || (is_one_of(&[4], own) && !is_one_of(&[0], parent))
 }
 
-fn is_one_of(wanted: &[u32], number: i64) -> bool
+pub(crate) fn is_one_of(wanted: &[u32], number: i64) -> bool
     ensures { result ≡ is_one_of wanted.now number }
 {
     wanted.iter().any(|one| number == i64::from(*one))
 }
 
 // The location type of a row of stops.txt: where there is no row there is no text.
-fn type_of(types: &[Option<i64>], row: usize) -> Option<i64>
+pub(crate) fn type_of(types: &[Option<i64>], row: usize) -> Option<i64>
     ensures { result ≡ type_of types.now row }
 {
     match types.get(row) {
@@ -116,7 +116,7 @@ fn read_type(text: &str) -> Option<i64>
 }
 
 // The location type of each record of stops.txt, by its row.
-fn stop_types(alloc: Global, tables: &Tables) -> Result<Vec<Option<i64>>, OutOfMemory>
+pub(crate) fn stop_types(alloc: Global, tables: &Tables) -> Result<Vec<Option<i64>>, OutOfMemory>
     ensures { IfOk result (λ types. AreStopTypes tables.now types.items) }
 {
     let field = Field::new(tables, File::Stops, "location_type");
@@ -128,21 +128,8 @@ fn stop_types(alloc: Global, tables: &Tables) -> Result<Vec<Option<i64>>, OutOfM
     Ok(types)
 }
 
-// Tells each row that names a stop of a kind that it may not name.
+// Tells each row that names a stop of a kind that it may not name, but for rows of stop_times.txt.
 pub(crate) fn tell_stop_kinds<'a>(
-    alloc: Global,
-    tables: &'a Tables,
-    stops: &Ids<'a>,
-    found: &mut Found<'a>,
-) -> Result<(), OutOfMemory>
-    requires { stops.now ≡ ids_in tables.now File.Stops (codes "stop_id") }
-    ensures { OnOk result (Tells tables.now (of_codes (Code.E11 ∷ [])) found.old found.new) }
-{
-    let types = stop_types(alloc, tables)?;
-    tell_kinds(tables, stops, types.as_slice(), found)
-}
-
-fn tell_kinds<'a>(
     tables: &'a Tables,
     stops: &Ids<'a>,
     types: &[Option<i64>],
@@ -150,36 +137,11 @@ fn tell_kinds<'a>(
 ) -> Result<(), OutOfMemory>
     requires ids { stops.now ≡ ids_in tables.now File.Stops (codes "stop_id") }
     requires types { AreStopTypes tables.now types.now }
-    ensures { OnOk result (Tells tables.now (of_codes (Code.E11 ∷ [])) found.old found.new) }
+    ensures { OnOk result (Tells tables.now (elsewhere Code.E11) found.old found.new) }
 {
-    tell_named(
-        tables,
-        File::StopTimes,
-        "stop_id",
-        stops,
-        types,
-        &[0],
-        found,
-    )?;
     tell_parents(tables, stops, types, found)?;
-    tell_named(
-        tables,
-        File::Transfers,
-        "from_stop_id",
-        stops,
-        types,
-        &[0, 1],
-        found,
-    )?;
-    tell_named(
-        tables,
-        File::Transfers,
-        "to_stop_id",
-        stops,
-        types,
-        &[0, 1],
-        found,
-    )
+    tell_ends(tables, "from_stop_id", stops, types, found)?;
+    tell_ends(tables, "to_stop_id", stops, types, found)
 }
 
 fn tell_parents<'a>(
@@ -206,30 +168,31 @@ fn tell_parents<'a>(
     tell_rows(tables, place, &mut rule, found)
 }
 
-// Tells the rows whose column names a stop of none of the wanted types.
-fn tell_named<'a>(
+// Tells the transfers whose column names what is neither a stop or platform nor a station.
+fn tell_ends<'a>(
     tables: &'a Tables,
-    file: File,
     column: &'static str,
     stops: &Ids<'a>,
     types: &[Option<i64>],
-    wanted: &'static [u32],
     found: &mut Found<'a>,
 ) -> Result<(), OutOfMemory>
-    requires { (n : ℕ) → wrong_kind_of_stop tables.now file n column.now ≡ (row_of (records_in tables.now file) n
-        && if_there (type_with types.now stops.now (text_in tables.now file n column.now)) (λ t. not (is_one_of wanted.now t))) }
-    ensures { OnOk result (Tells tables.now (at_column Code.E11 file column.now) found.old found.new) }
+    requires { (n : ℕ) → wrong_kind_of_stop tables.now File.Transfers n column.now ≡ (row_of (records_in tables.now File.Transfers) n
+        && if_there (type_with types.now stops.now (text_in tables.now File.Transfers n column.now)) (λ t. not (is_one_of (0 ∷ 1 ∷ []) t))) }
+    ensures { OnOk result (Tells tables.now (at_column Code.E11 File.Transfers column.now) found.old found.new) }
 {
     let place = Place {
         code: Code::E11,
-        file,
+        file: File::Transfers,
         column,
     };
     let stop = NamedStop {
-        field: Field::new(tables, file, column),
+        field: Field::new(tables, place.file, column),
         stops: Finder::new(stops),
         types,
     };
-    let mut rule = NamesOther { stop, wanted };
+    let mut rule = NamesOther {
+        stop,
+        wanted: &[0, 1],
+    };
     tell_rows(tables, place, &mut rule, found)
 }

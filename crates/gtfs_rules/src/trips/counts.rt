@@ -14,7 +14,7 @@ use crate::found::Found;
 use crate::rule::{Place, Rule, tell_rows};
 use crate::trips::notes::TripNotes;
 use crate::trips::seen::SeenTrips;
-use crate::trips::text::read_id;
+use crate::values;
 use gtfs_field::OutOfMemory;
 use gtfs_table::{File, Tables};
 use std::alloc::Global;
@@ -52,7 +52,7 @@ impl Rule for FewRows<'_> {
     ghost breaks = { λ rule n. if_there (id_in_text (field_text rule.trip_id n)) (λ trip. not (is_twice (sighting rule.seen.trips trip))) };
 
     fn breaks(&mut self, row: usize) -> bool {
-        match read_id(self.trip_id.text(row)) {
+        match values::id(self.trip_id.text(row)) {
             Some(trip_id) => !self.seen.is_twice(trip_id),
             None => false,
         }

@@ -1,18 +1,17 @@
+use Rattle.std.specs.Prelude.{◌||◌}
 use Rattle.std.proofs.lemmas.Result.{on_ok_weaker}
 use Rattle.gtfs_table.specs.declared.file.File.TheVariants as file
-use Rattle.gtfs_rules.proofs.FieldFileFacts.{ToldFiles, files_done, files_more, files_start}
+use Rattle.gtfs_rules.specs.FieldCodes.{field_codes, in_file_of}
+use Rattle.gtfs_rules.proofs.TellFacts.{tells_four, tells_then}
 use Rattle.gtfs_rules.proofs.fields.tell_fields.Goals as goal
 
 pub returns : goal.returns
 returns c =
     let d = c.args.tables.now in
-    let old = c.args.found.now in
-    let agency : ToldFiles d old 1 c.tell_file.new.found = files_more d old file.Agency _ _ (files_start d old) c.in_ok-tell_file.ensures in
-    let stops : ToldFiles d old 2 c.tell_file-2.new.found = files_more d old file.Stops _ _ agency c.in_ok-tell_file-2.ensures in
-    let routes : ToldFiles d old 3 c.tell_file-3.new.found = files_more d old file.Routes _ _ stops c.in_ok-tell_file-3.ensures in
-    let trips : ToldFiles d old 4 c.tell_file-4.new.found = files_more d old file.Trips _ _ routes c.in_ok-tell_file-4.ensures in
-    let stop_times : ToldFiles d old 5 c.tell_file-5.new.found = files_more d old file.StopTimes _ _ trips c.in_ok-tell_file-5.ensures in
-    let calendar : ToldFiles d old 6 c.tell_file-6.new.found = files_more d old file.Calendar _ _ stop_times c.in_ok-tell_file-6.ensures in
-    let dates : ToldFiles d old 7 c.tell_file-7.new.found = files_more d old file.CalendarDates _ _ calendar c.in_ok-tell_file-7.ensures in
-    let frequencies : ToldFiles d old 8 c.tell_file-8.new.found = files_more d old file.Frequencies _ _ dates c.in_ok-tell_file-8.ensures in
-    on_ok_weaker c.tell_file-9.result (λ told. files_done d old _ (files_more d old file.Transfers _ _ frequencies told)) c.tell_file-9.ensures
+    let first = tells_four d (in_file_of field_codes file.Agency) (in_file_of field_codes file.Stops) (in_file_of field_codes file.Routes)
+    (in_file_of field_codes file.Trips) _ _ _ _ _ c.in_ok-tell_file.ensures c.in_ok-tell_file-2.ensures c.in_ok-tell_file-3.ensures c.in_ok-tell_file-4.ensures in
+    let middle = tells_four d
+    (λ p. in_file_of field_codes file.Agency p || in_file_of field_codes file.Stops p || in_file_of field_codes file.Routes p || in_file_of field_codes file.Trips p)
+    (in_file_of field_codes file.Calendar) (in_file_of field_codes file.CalendarDates) (in_file_of field_codes file.Frequencies) _ _ _ _ _
+    first c.in_ok-tell_file-5.ensures c.in_ok-tell_file-6.ensures c.in_ok-tell_file-7.ensures in
+    on_ok_weaker c.tell_file-8.result (tells_then d _ (in_file_of field_codes file.Transfers) _ _ _ middle) c.tell_file-8.ensures

@@ -8,7 +8,6 @@ use Rattle.gtfs_rules.proofs.references.tell_unknown_stops.Goals as goal
 
 pub returns : goal.returns
 returns c = on_ok_weaker _ (λ last.
-    tells_first c.args.tables.now code.E10 file.Stops (codes "parent_station") (drop 1 stop_names) c.args.found.now c.tell_unknown.new.found c.tell_unknown-4.new.found c.in_ok-tell_unknown.ensures
-    (tells_first c.args.tables.now code.E10 file.StopTimes (codes "stop_id") (drop 2 stop_names) c.tell_unknown.new.found c.tell_unknown-2.new.found c.tell_unknown-4.new.found c.in_ok-tell_unknown-2.ensures
-    (tells_first c.args.tables.now code.E10 file.Transfers (codes "from_stop_id") (drop 3 stop_names) c.tell_unknown-2.new.found c.tell_unknown-3.new.found c.tell_unknown-4.new.found c.in_ok-tell_unknown-3.ensures
-    (tells_last c.args.tables.now code.E10 file.Transfers (codes "to_stop_id") c.tell_unknown-3.new.found c.tell_unknown-4.new.found last)))) c.tell_unknown-4.ensures
+    tells_first c.args.tables.now code.E10 file.Stops (codes "parent_station") (drop 1 stop_names) c.args.found.now c.tell_unknown.new.found c.tell_unknown-3.new.found c.in_ok-tell_unknown.ensures
+    (tells_first c.args.tables.now code.E10 file.Transfers (codes "from_stop_id") (drop 2 stop_names) c.tell_unknown.new.found c.tell_unknown-2.new.found c.tell_unknown-3.new.found c.in_ok-tell_unknown-2.ensures
+    (tells_last c.args.tables.now code.E10 file.Transfers (codes "to_stop_id") c.tell_unknown-2.new.found c.tell_unknown-3.new.found last))) c.tell_unknown-3.ensures

@@ -1,11 +1,9 @@
 use Rattle.std.proofs.Common.{◌≡◌, not, false, take}
 use Rattle.std.specs.List.{list_any}
 use Rattle.gtfs_table.specs.Blanks.{cut}
-use Rattle.gtfs_table.specs.Tables.{record_at}
-use Rattle.gtfs_rules.specs.Rows.{records_in}
 use Rattle.gtfs_rules.specs.Values.{is_empty}
 use Rattle.gtfs_rules.proofs.row.has_value.Given as goal
 
 -- the fields so far are blank
 abbrev pub invariant-loop-n : goal.invariant-loop-n
-invariant-loop-n l = list_any (λ field. not (is_empty (cut field))) (take l.n (record_at (records_in l.tables l.file) l.row)) ≡ false
+invariant-loop-n l = list_any (λ field. not (is_empty (cut field))) (take l.n l.record) ≡ false

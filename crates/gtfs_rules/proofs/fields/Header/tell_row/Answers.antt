@@ -9,7 +9,7 @@ loop-placed-init c =
     let fields = fields_of header c.args.row in
     let of_length = is_found_at (length_code header.width (length fields)) [] in
     told_start (is_in_row header.file c.args.row) of_length (is_found_in fields) c.deref-placed-items.result.now _ _
-    (rw (← c.fields-count.ensures, ← c.length_code.ensures) c.in_ok-tell.ensures)
+    (rw (← c.record-record.ensures, ← c.len.ensures, ← c.length_code.ensures) c.in_ok-tell.ensures)
 
 pub loop-placed-preserved : goal.loop-placed-preserved
 loop-placed-preserved c =
@@ -17,4 +17,4 @@ loop-placed-preserved c =
     let fields = fields_of header c.args.row in
     let of_length = is_found_at (length_code header.width (length fields)) [] in
     told_more (is_in_row header.file c.args.row) of_length (is_found_in fields) c.deref-placed-items.result.now c.loop-placed.placed-index _ _ _ _
-    c.loop-placed-test.true c.loop-placed.invariant (rw (c.cell_code-code.ensures, c.field-text.ensures) at c.in_ok-tell-2.ensures)
+    c.loop-placed-test.true c.loop-placed.invariant (rw (c.cell_code-code.ensures, c.field-text.ensures, c.record-record.ensures) at c.in_ok-tell-2.ensures)

@@ -1,0 +1,136 @@
+ghost use Rattle.std.specs.Prelude.{◌≡◌, ℕ, option_map};
+ghost use Rattle.gtfs_table.specs.Tables.{Dataset};
+ghost use Rattle.gtfs_table.specs.Tables.{field_under};
+ghost use Rattle.gtfs_rules.specs.ColumnView.{kind_of};
+ghost use Rattle.gtfs_rules.specs.Readings.{fault_of};
+ghost use Rattle.gtfs_rules.specs.StopTimes.{text_at, AreStopTimeColumns, IsStopTime};
+ghost use Rattle.gtfs_rules.specs.TripNotes.{trip_note};
+ghost use Rattle.gtfs_rules.specs.TripTexts.{note_of_texts};
+
+use crate::cell::fault_code;
+use crate::code::Code;
+use crate::columns::Kind;
+use crate::trips::notes::TripNote;
+use crate::stop_times::reading::{Reading, read_id, read_number, read_seconds};
+use gtfs_table::{File, Record, Tables};
+
+// The places of the kept columns of stop_times.txt, each found once, and how many fields a row has to have.
+#[derive(Clone, Copy)]
+pub(crate) struct StopTimeColumns<'a> {
+    pub(crate) tables: &'a Tables,
+    pub(crate) width: usize,
+    pub(crate) trip_id: Option<usize>,
+    pub(crate) arrival_time: Option<usize>,
+    pub(crate) departure_time: Option<usize>,
+    pub(crate) stop_id: Option<usize>,
+    pub(crate) stop_sequence: Option<usize>,
+    pub(crate) stop_headsign: Option<usize>,
+    pub(crate) pickup_type: Option<usize>,
+    pub(crate) drop_off_type: Option<usize>,
+    pub(crate) timepoint: Option<usize>,
+}
+
+// A row of stop_times.txt, each field of which was cut and read once.
+#[derive(Clone, Copy)]
+pub(crate) struct StopTime<'a> {
+    pub(crate) row: usize,
+    // How many fields the row has.
+    pub(crate) fields: usize,
+    pub(crate) trip_id: Reading<&'a str>,
+    pub(crate) arrival_time: Reading<u32>,
+    pub(crate) departure_time: Reading<u32>,
+    pub(crate) stop_id: Reading<&'a str>,
+    pub(crate) stop_sequence: Reading<u32>,
+    // What is wrong with these fields.
+    pub(crate) stop_headsign: Option<Code>,
+    pub(crate) pickup_type: Option<Code>,
+    pub(crate) drop_off_type: Option<Code>,
+    pub(crate) timepoint: Option<Code>,
+}
+
+impl<'a> StopTime<'a> {
+    // What the row says of its trip, where it names one.
+    pub(crate) fn trip_note(&self) -> Option<TripNote<'a>>
+        ensures { (d : Dataset) (n : ℕ) → IsStopTime d n self.now → option_map trip_note result
+            ≡ note_of_texts (text_at d n "trip_id") (text_at d n "stop_sequence") (text_at d n "arrival_time") (text_at d n "departure_time") n }
+    {
+        let arrival = &self.arrival_time;
+        let departure = &self.departure_time;
+        Some(TripNote {
+            trip_id: self.trip_id.value()?,
+            stop_sequence: self.stop_sequence.value(),
+            row: self.row,
+            arrival: arrival.or(departure),
+            departure: departure.or(arrival),
+            is_untimed: arrival.is_empty() && departure.is_empty(),
+        })
+    }
+}
+
+impl<'a> StopTimeColumns<'a> {
+    pub(crate) fn of(tables: &'a Tables) -> StopTimeColumns<'a>
+        ensures { AreStopTimeColumns tables.now result }
+    {
+        StopTimeColumns {
+            tables,
+            width: tables.fields(File::StopTimes, 1),
+            trip_id: tables.column(File::StopTimes, "trip_id"),
+            arrival_time: tables.column(File::StopTimes, "arrival_time"),
+            departure_time: tables.column(File::StopTimes, "departure_time"),
+            stop_id: tables.column(File::StopTimes, "stop_id"),
+            stop_sequence: tables.column(File::StopTimes, "stop_sequence"),
+            stop_headsign: tables.column(File::StopTimes, "stop_headsign"),
+            pickup_type: tables.column(File::StopTimes, "pickup_type"),
+            drop_off_type: tables.column(File::StopTimes, "drop_off_type"),
+            timepoint: tables.column(File::StopTimes, "timepoint"),
+        }
+    }
+
+    // What a row says.
+    pub(crate) fn stop_time(&self, row: usize) -> StopTime<'a>
+        requires { AreStopTimeColumns self.now.tables.now self.now }
+        ensures { IsStopTime self.now.tables.now row result }
+    {
+        let record = self.tables.record(File::StopTimes, row);
+        StopTime {
+            row,
+            fields: record.len(),
+            trip_id: read_id(text(&record, self.trip_id)),
+            arrival_time: read_seconds(text(&record, self.arrival_time)),
+            departure_time: read_seconds(text(&record, self.departure_time)),
+            stop_id: read_id(text(&record, self.stop_id)),
+            stop_sequence: read_number(text(&record, self.stop_sequence)),
+            stop_headsign: fault_in_text(Kind::Text, text(&record, self.stop_headsign)),
+            pickup_type: fault_in_text(BOARDING, text(&record, self.pickup_type)),
+            drop_off_type: fault_in_text(BOARDING, text(&record, self.drop_off_type)),
+            timepoint: fault_in_text(TIMEPOINT, text(&record, self.timepoint)),
+        }
+    }
+}
+
+// The text of a record under a column, cut of its blanks: empty where there is none.
+fn text<'a>(record: &Record<'a>, place: Option<usize>) -> &'a str
+    ensures { result.now ≡ field_under record.now place }
+{
+    match place {
+        Some(n) => record.field(n),
+        None => "",
+    }
+}
+
+// How passengers board or get off.
+const BOARDING: Kind = Kind::Choice(&[(0, 3)]);
+
+// Whether the times of a row are exact.
+const TIMEPOINT: Kind = Kind::Choice(&[(0, 1)]);
+
+// What is wrong with a text of a kind, if it is not empty.
+fn fault_in_text(kind: Kind, text: &str) -> Option<Code>
+    ensures { result ≡ fault_of (kind_of kind) text.now }
+{
+    if text.is_empty() {
+        None
+    } else {
+        fault_code(kind, text)
+    }
+}
