@@ -55,6 +55,5 @@ pub mod TripRowFacts
 pub mod TripRowOrder
 pub mod TripSorted
 pub mod TripTells
-pub mod TripTextFacts
 pub mod WorkedFeeds
 pub mod ZoneFacts

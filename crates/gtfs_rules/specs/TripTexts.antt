@@ -1,8 +1,6 @@
 -- What the texts of a row say to the rules about trips.
-use Rattle.std.specs.Prelude.{ℕ, ◌&&◌, ◌||◌, Bool, if◌then◌else◌, List, Option, Some, None, is_some, option_and_then, option_map, ℤ, pos, Result, Ok, Err}
+use Rattle.std.specs.Prelude.{ℕ, ◌&&◌, ◌||◌, Bool, if◌then◌else◌, List, Option, None, is_some, option_and_then, option_map, ℤ}
 use Rattle.std.specs.Option.{option_or}
-use Rattle.gtfs_field.specs.Kinds.{time_of}
-use Rattle.gtfs_field.specs.declared.fault.FieldFault.{FieldFault}
 use Rattle.gtfs_rules.specs.Columns.{id, count, time}
 use Rattle.gtfs_rules.specs.TripNotes.{TripNote}
 use Rattle.gtfs_rules.specs.Values.{readable, is_empty, as_word, as_amount}
@@ -27,20 +25,6 @@ is_clear_text t = is_some (readable time t) || is_empty t
 abbrev pub time_of_texts : List ℕ → List ℕ → Option ℤ
 time_of_texts first second = if is_clear_text first && is_clear_text second
     then option_or (time_in_text first) (time_in_text second) else None
-
-abbrev pub some_time : Result ℕ FieldFault → Result (Option ℕ) FieldFault
-some_time (Ok seconds) = Ok (Some seconds)
-some_time (Err fault) = Err fault
-
--- a time that may be missing
-abbrev pub time_if_any : List ℕ → Result (Option ℕ) FieldFault
-time_if_any t = if is_empty t then Ok None else some_time (time_of t)
-
--- one time, and else the other, of two that are readable
-abbrev pub first_time : Result (Option ℕ) FieldFault → Result (Option ℕ) FieldFault → Option ℤ
-first_time (Ok a) (Ok b) = option_map pos (option_or a b)
-first_time (Ok a) (Err e) = None
-first_time (Err e) r = None
 
 -- what a row with this id, this sequence and these two times says, where it has an id
 abbrev pub note_of_values : Option (List ℕ) → Option ℤ → List ℕ → List ℕ → ℕ → Option TripNote
