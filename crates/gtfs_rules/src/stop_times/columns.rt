@@ -10,8 +10,8 @@ ghost use Rattle.gtfs_rules.specs.TripTexts.{note_of_texts};
 use crate::cell::fault_code;
 use crate::code::Code;
 use crate::columns::Kind;
-use crate::trips::notes::TripNote;
 use crate::stop_times::reading::{Reading, read_id, read_number, read_seconds};
+use crate::trips::notes::TripNote;
 use gtfs_table::{File, Record, Tables};
 
 // The places of the kept columns of stop_times.txt, each found once, and how many fields a row has to have.

@@ -26,29 +26,29 @@ loop-n-preserved c =
     let next : n + 1 + 2 ≡ n + 2 + 1 = omega arith in
     elim c.if-is_row.branch [
       | then-is_row+in_ok-tell_row+in-Some+in_ok-note w ↦
-        let s = w.stop_time-stop_time.result in
-        let here = w.stop_time-stop_time.ensures.row in
-        let row = sym c.is_row.ensures ∙ w.if-is_row.true in
-        let says : IsStopTime d (n + 2) s = rw c.of-columns.ensures.tables at w.stop_time-stop_time.ensures in
-        let is : IsRow d s = record { row = rw here row; says = subst (λ m. IsStopTime d m s) (sym here) says } in record {
-          named = rw w.named-is (w.in_ok-tell_row.ensures.same d c.loop-n.invariant.named);
-          told = rw (w.found-is, next) (rows_more d file.StopTimes in_rows silent (n + 2) _ _ _ c.loop-n.invariant.told
-              (rw here at (w.in_ok-tell_row.ensures.told d c.of-columns.ensures c.loop-n.invariant.named is)));
-          notes = rw (w.notes-is, w.in_ok-note.ensures)
-              (read_one (note_read d) p _ _ n c.loop-n.invariant.notes row (sym (w.in-Some.ensures d (n + 2) says)));
-        }
+          let s = w.stop_time-stop_time.result in
+          let here = w.stop_time-stop_time.ensures.row in
+          let row = sym c.is_row.ensures ∙ w.if-is_row.true in
+          let says : IsStopTime d (n + 2) s = rw c.of-columns.ensures.tables at w.stop_time-stop_time.ensures in
+          let is : IsRow d s = record { row = rw here row; says = subst (λ m. IsStopTime d m s) (sym here) says } in record {
+            named = rw w.named-is (w.in_ok-tell_row.ensures.same d c.loop-n.invariant.named);
+            told = rw (w.found-is, next) (rows_more d file.StopTimes in_rows silent (n + 2) _ _ _ c.loop-n.invariant.told
+                (rw here at (w.in_ok-tell_row.ensures.told d c.of-columns.ensures c.loop-n.invariant.named is)));
+            notes = rw (w.notes-is, w.in_ok-note.ensures)
+                (read_one (note_read d) p _ _ n c.loop-n.invariant.notes row (sym (w.in-Some.ensures d (n + 2) says)));
+          }
       | then-is_row+in_ok-tell_row+in_default w ↦
-        let s = w.stop_time-stop_time.result in
-        let here = w.stop_time-stop_time.ensures.row in
-        let row = sym c.is_row.ensures ∙ w.if-is_row.true in
-        let says : IsStopTime d (n + 2) s = rw c.of-columns.ensures.tables at w.stop_time-stop_time.ensures in
-        let is : IsRow d s = record { row = rw here row; says = subst (λ m. IsStopTime d m s) (sym here) says } in record {
-          named = rw w.named-is (w.in_ok-tell_row.ensures.same d c.loop-n.invariant.named);
-          told = rw (w.found-is, next) (rows_more d file.StopTimes in_rows silent (n + 2) _ _ _ c.loop-n.invariant.told
-              (rw here at (w.in_ok-tell_row.ensures.told d c.of-columns.ensures c.loop-n.invariant.named is)));
-          notes = rw w.notes-is
-              (read_none (note_read d) p _ n c.loop-n.invariant.notes row (sym (w.in_default.ensures d (n + 2) says)));
-        }
+          let s = w.stop_time-stop_time.result in
+          let here = w.stop_time-stop_time.ensures.row in
+          let row = sym c.is_row.ensures ∙ w.if-is_row.true in
+          let says : IsStopTime d (n + 2) s = rw c.of-columns.ensures.tables at w.stop_time-stop_time.ensures in
+          let is : IsRow d s = record { row = rw here row; says = subst (λ m. IsStopTime d m s) (sym here) says } in record {
+            named = rw w.named-is (w.in_ok-tell_row.ensures.same d c.loop-n.invariant.named);
+            told = rw (w.found-is, next) (rows_more d file.StopTimes in_rows silent (n + 2) _ _ _ c.loop-n.invariant.told
+                (rw here at (w.in_ok-tell_row.ensures.told d c.of-columns.ensures c.loop-n.invariant.named is)));
+            notes = rw w.notes-is
+                (read_none (note_read d) p _ n c.loop-n.invariant.notes row (sym (w.in_default.ensures d (n + 2) says)));
+          }
       | else-is_row w ↦ record {
         named = rw w.named-is c.loop-n.invariant.named;
         told = rw (w.found-is, next) (rows_more d file.StopTimes in_rows silent (n + 2) _ _ _ c.loop-n.invariant.told
