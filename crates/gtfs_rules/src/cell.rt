@@ -31,6 +31,7 @@ pub(crate) fn is_required(column: &Column) -> bool
     }
 }
 
+#[inline(always)]
 pub(crate) fn fault_code(kind: Kind, text: &str) -> Option<Code>
     ensures { result ≡ fault_code (kind_of kind) text.now }
 {
@@ -47,6 +48,7 @@ pub(crate) fn fault_code(kind: Kind, text: &str) -> Option<Code>
 }
 
 // Whether a text holds a character of code 0 to 31, or 127.
+#[inline(always)]
 pub(crate) fn has_control(text: &str) -> bool
     ensures { result ≡ has_control text.now }
 {
@@ -56,6 +58,7 @@ pub(crate) fn has_control(text: &str) -> bool
 }
 
 // A choice: a count that is one of the listed numbers.
+#[inline(always)]
 pub(crate) fn read_choice(ranges: &[(u32, u32)], text: &str) -> Result<u32, FieldFault>
     ensures { result ≡ one_of ranges.now (count_of text.now) }
 {

@@ -52,6 +52,7 @@ impl<'a> Finder<'a> {
     }
 
     // The first row with this id, where the id has this place in the order of ids.
+    #[inline(always)]
     fn try_place(&mut self, place: usize, id: &str) -> Option<usize>
         ensures answer { IfSome result (λ row. Some row ≡ first_row_with self.old.ids.now id.now) }
         ensures same { self.new.ids.now ≡ self.old.ids.now }
@@ -62,11 +63,13 @@ impl<'a> Finder<'a> {
     }
 
     // The place that was found for an id of this slot.
+    #[inline(always)]
     fn place_of(&self, slot: usize) -> usize {
         self.places.get(slot).copied().unwrap_or(0)
     }
 
     // The slot of an id, by its last bytes.
+    #[inline(always)]
     fn slot(&self, id: &str) -> usize {
         let mixed = last_bytes(id.as_bytes()).wrapping_mul(SPREAD) >> 32;
         mixed as usize & self.places.len().saturating_sub(1)
@@ -89,6 +92,7 @@ impl<'a> Finder<'a> {
 }
 
 // The last eight bytes as one number, or all where there are fewer.
+#[inline(always)]
 fn last_bytes(bytes: &[u8]) -> u64 {
     match bytes {
         [.., a, b, c, d, e, f, g, h] => u64::from_le_bytes([*a, *b, *c, *d, *e, *f, *g, *h]),

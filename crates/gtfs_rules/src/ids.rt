@@ -85,6 +85,7 @@ impl<'a> Ids<'a> {
     }
 
     // The first row with this id, where the id has this place in the order of ids.
+    #[inline(always)]
     pub(crate) fn row_at(&self, place: usize, id: &str) -> Option<usize>
         ensures { IfSome result (λ row. Some row ≡ first_row_with self.now id.now) }
     {

@@ -20,7 +20,7 @@ use crate::feed_ids::FeedIds;
 use crate::file_name::FileName;
 use crate::found::Found;
 use crate::problem::Problem;
-use crate::row::is_row;
+use crate::row::row_record;
 use crate::stop_times::columns::{StopTime, StopTimeColumns};
 use crate::stop_times::fields::tell_fields;
 use crate::stop_times::named::NamedRows;
@@ -50,8 +50,8 @@ pub(crate) fn tell_stop_times<'a>(
     let mut notes = TripNotes::new(alloc, &ids.trips);
     for n in 0..tables.records(File::StopTimes).saturating_sub(1) {
         let row = n + 2;
-        if is_row(tables, File::StopTimes, row) {
-            let stop_time = columns.stop_time(row);
+        if let Some(record) = row_record(tables, File::StopTimes, row) {
+            let stop_time = columns.stop_time(row, &record);
             tell_row(&columns, &mut named, &stop_time, found)?;
             if let Some(note) = stop_time.trip_note() {
                 notes.note(note)?;

@@ -1,8 +1,10 @@
 ghost use Rattle.std.specs.Prelude.{◌≡◌, ℕ, option_map};
 ghost use Rattle.gtfs_table.specs.Tables.{Dataset};
-ghost use Rattle.gtfs_table.specs.Tables.{field_under};
+ghost use Rattle.gtfs_table.specs.Tables.{field_under, record_at};
+ghost use Rattle.gtfs_table.specs.declared.file.File.TheVariants as file;
 ghost use Rattle.gtfs_rules.specs.ColumnView.{kind_of};
 ghost use Rattle.gtfs_rules.specs.Readings.{fault_of};
+ghost use Rattle.gtfs_rules.specs.Rows.{records_in};
 ghost use Rattle.gtfs_rules.specs.StopTimes.{text_at, AreStopTimeColumns, IsStopTime};
 ghost use Rattle.gtfs_rules.specs.TripNotes.{trip_note};
 ghost use Rattle.gtfs_rules.specs.TripTexts.{note_of_texts};
@@ -87,30 +89,32 @@ impl<'a> StopTimeColumns<'a> {
     }
 
     // What a row says.
-    pub(crate) fn stop_time(&self, row: usize) -> StopTime<'a>
-        requires { AreStopTimeColumns self.now.tables.now self.now }
+    #[inline(always)]
+    pub(crate) fn stop_time(&self, row: usize, record: &Record<'a>) -> StopTime<'a>
+        requires columns { AreStopTimeColumns self.now.tables.now self.now }
+        requires fields { «record».now ≡ record_at (records_in self.now.tables.now file.StopTimes) row }
         ensures { IsStopTime self.now.tables.now row result }
     {
-        let record = self.tables.record(File::StopTimes, row);
         StopTime {
             row,
             fields: record.len(),
-            trip_id: read_id(text(&record, self.trip_id)),
-            arrival_time: read_seconds(text(&record, self.arrival_time)),
-            departure_time: read_seconds(text(&record, self.departure_time)),
-            stop_id: read_id(text(&record, self.stop_id)),
-            stop_sequence: read_number(text(&record, self.stop_sequence)),
-            stop_headsign: fault_in_text(Kind::Text, text(&record, self.stop_headsign)),
-            pickup_type: fault_in_text(BOARDING, text(&record, self.pickup_type)),
-            drop_off_type: fault_in_text(BOARDING, text(&record, self.drop_off_type)),
-            timepoint: fault_in_text(TIMEPOINT, text(&record, self.timepoint)),
+            trip_id: read_id(text(record, self.trip_id)),
+            arrival_time: read_seconds(text(record, self.arrival_time)),
+            departure_time: read_seconds(text(record, self.departure_time)),
+            stop_id: read_id(text(record, self.stop_id)),
+            stop_sequence: read_number(text(record, self.stop_sequence)),
+            stop_headsign: fault_in_text(Kind::Text, text(record, self.stop_headsign)),
+            pickup_type: fault_in_text(BOARDING, text(record, self.pickup_type)),
+            drop_off_type: fault_in_text(BOARDING, text(record, self.drop_off_type)),
+            timepoint: fault_in_text(TIMEPOINT, text(record, self.timepoint)),
         }
     }
 }
 
 // The text of a record under a column, cut of its blanks: empty where there is none.
+#[inline(always)]
 fn text<'a>(record: &Record<'a>, place: Option<usize>) -> &'a str
-    ensures { result.now ≡ field_under record.now place }
+    ensures { result.now ≡ field_under «record».now place }
 {
     match place {
         Some(n) => record.field(n),
@@ -125,6 +129,7 @@ const BOARDING: Kind = Kind::Choice(&[(0, 3)]);
 const TIMEPOINT: Kind = Kind::Choice(&[(0, 1)]);
 
 // What is wrong with a text of a kind, if it is not empty.
+#[inline(always)]
 fn fault_in_text(kind: Kind, text: &str) -> Option<Code>
     ensures { result ≡ fault_of (kind_of kind) text.now }
 {

@@ -62,6 +62,7 @@ impl<'a, 't> NamedRows<'a, 't> {
 }
 
 // The first row with the id, if there is an id.
+#[inline(always)]
 fn first_row(rows: &mut Finder<'_>, id: Option<&str>) -> Option<usize>
     ensures answer { result ≡ option_and_then (first_row_with rows.old.ids.now) (text_of id.entry) }
     ensures same { rows.new.ids.now ≡ rows.old.ids.now }
@@ -80,6 +81,7 @@ fn is_lost(id: Option<&str>, row: Option<usize>) -> bool
 }
 
 // Whether the stop is of another type than that of stops and platforms.
+#[inline(always)]
 fn is_no_platform(types: &[Option<i64>], stop: Option<usize>) -> bool
     ensures { result ≡ if_there (option_and_then (type_of types.now) stop) (λ t. not (is_one_of (0 ∷ []) t)) }
 {

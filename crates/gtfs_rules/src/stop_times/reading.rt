@@ -61,6 +61,7 @@ impl<V: Copy> Reading<V> {
     }
 }
 
+#[inline(always)]
 pub(crate) fn read_id(text: &str) -> Reading<&str>
     ensures empty { is_blank result ≡ is_empty text.now }
     ensures fault { fault_in result ≡ fault_of id text.now }
@@ -75,6 +76,7 @@ pub(crate) fn read_id(text: &str) -> Reading<&str>
     }
 }
 
+#[inline(always)]
 pub(crate) fn read_seconds(text: &str) -> Reading<u32>
     ensures empty { is_blank result ≡ is_empty text.now }
     ensures fault { fault_in result ≡ fault_of time text.now }
@@ -90,6 +92,7 @@ pub(crate) fn read_seconds(text: &str) -> Reading<u32>
     }
 }
 
+#[inline(always)]
 pub(crate) fn read_number(text: &str) -> Reading<u32>
     ensures empty { is_blank result ≡ is_empty text.now }
     ensures fault { fault_in result ≡ fault_of count text.now }
