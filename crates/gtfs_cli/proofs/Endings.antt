@@ -43,26 +43,6 @@ board-cause held words before after UntilBeforeFrom h = absurd h
 board-cause held words before after OutputFailed h = h
 board-cause held words before after OutOfMemory h = h
 
--- lines that were not sent out keep a folder from being checked
-sending-cause : (held : Option Store) (dir : List ℕ) (before after : Failures) (x y : ℕ) (r : Refusal) → before.output ≤ x → y ≤ after.output
-    → IsSendingCause x y r → IsCheckCause held dir before after r
-sending-cause held dir before after x y (Words text) first last h = h
-sending-cause held dir before after x y (BadValue option) first last h = h
-sending-cause held dir before after x y (NotThere path) first last h = absurd h
-sending-cause held dir before after x y (Unreadable path) first last h = absurd h
-sending-cause held dir before after x y (OverLimit path) first last h = absurd h
-sending-cause held dir before after x y (HasErrors path) first last h = h
-sending-cause held dir before after x y (NoZone path) first last h = h
-sending-cause held dir before after x y UnknownStop first last h = h
-sending-cause held dir before after x y UntilBeforeFrom first last h = h
-sending-cause held dir before after x y OutputFailed first last h = rises-longer before.output x y after.output first h last
-sending-cause held dir before after x y OutOfMemory first last h = h
-
-pub lines-cause : {A : Type 0} (held : Option Store) (dir : List ℕ) (before after : Failures) (x y : ℕ) (r : Result A Refusal) → before.output ≤ x → y ≤ after.output
-    → IfErr r (IsSendingCause x y) → IfErr r (IsCheckCause held dir before after)
-lines-cause held dir before after x y (Ok a) first last h = h
-lines-cause held dir before after x y (Err r) first last h = sending-cause held dir before after x y r first last h
-
 pub cause-file : (held : Option Store) (words : BoardWords) (before after : Failures) (x y : ℕ) (folder name : List ℕ) (fault : FolderFault) → before.folders ≤ x → y ≤ after.folders
     → IsFileOf words.zone.now folder name → RefusesRead fault held folder name x y → IsFaultCause held words before after fault
 cause-file held words before after x y folder name faults.Read first last of h = rises-longer before.folders x y after.folders first h last

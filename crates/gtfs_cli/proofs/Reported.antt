@@ -46,14 +46,3 @@ all-sent a b c ps i errors end is within first then =
       text = Appends-trans a b c (flat_map problem_line qs) (counts_line qs) sent counted;
       answer = error-counted qs errors is;
     }
-
-pub report-of : (held : Option Store) (dir : List ℕ) (before after : Option (List ℕ)) (d e : Dataset) (ps : List Problem) (r : Result Bool Refusal)
-    → HoldsDataset held dir d → e ≡ d → IsReport e ps → IfOk r (Prints before after ps) → IfOk r (IsReportOf held dir before after)
-report-of held dir before after d e ps (Ok failed) holds same is_report prints = record {
-  dataset = d;
-  problems = ps;
-  holds = holds;
-  is_report = subst (λ (x : Dataset). IsReport x ps) same is_report;
-  prints = prints;
-}
-report-of held dir before after d e ps (Err refusal) holds same is_report prints = prints

@@ -1,8 +1,7 @@
 -- Steps that tell problems of one code, one column after the other.
-use Rattle.std.proofs.Common.{◌≡◌, ◌∷◌, [], ◌++◌, ℕ, List, true, false, Bool, refl, sym, ap, ◌∙◌, inl, inr}
+use Rattle.std.proofs.Common.{◌≡◌, ◌∷◌, [], ◌++◌, ℕ, List, true, false, Bool, refl, sym, ap, ◌∙◌}
 use Rattle.std.specs.Prelude.{◌&&◌, ◌||◌, not, bytes_eq}
 use Rattle.std.specs.List.{list_any}
-use Rattle.std.proofs.lemmas.Bool.{cases_Bool}
 use Rattle.std.proofs.lemmas.List.Folds.{list_any-append}
 use Rattle.gtfs_table.specs.Tables.{Dataset}
 use Rattle.gtfs_table.specs.declared.file.File.{File}
@@ -14,8 +13,9 @@ use Rattle.gtfs_rules.specs.Picks.{at_column, elsewhere, is_kept}
 use Rattle.gtfs_rules.specs.PlacePicks.{at_places}
 use Rattle.gtfs_rules.specs.Problems.{FileName, kept, other, Problem, holds, holds_in, is_code, is_problem}
 use Rattle.gtfs_rules.specs.Rows.{is_file}
-use Rattle.gtfs_rules.proofs.BoolFacts.{same_test, and_parts, and_both, or_left, or_right}
+use Rattle.gtfs_rules.proofs.BoolFacts.{same_test, and_parts, and_both}
 use Rattle.gtfs_rules.proofs.PlaceFacts.{code_is}
+use Rattle.gtfs_rules.proofs.StepFacts.{any_part, any_within}
 use Rattle.gtfs_rules.proofs.TellFacts.{tells_alike, tells_then}
 
 alone : (a : Bool) → (a || false) ≡ a
@@ -41,20 +41,6 @@ tells_both d c here there xs ys zs first second =
 
 -- ---- where the code can hold at these columns alone, but for stop_times.txt
 
-pub any_alike : {X : Type 0} (f g : X → Bool) (xs : List X) → ((x : X) → f x ≡ true → g x ≡ true) → list_any f xs ≡ true → list_any g xs ≡ true
-any_alike f g [] alike e = e
-any_alike f g (x ∷ xs) alike e = elim (cases_Bool (f x)) [
-  | inl here ↦ or_left (g x) (list_any g xs) (alike x here)
-  | inr there ↦ or_right (g x) (list_any g xs) (any_alike f g xs alike (rw there at e))
-]
-
-any_part : {X : Type 0} (f : X → Bool) (g : Bool) (xs : List X) → ((x : X) → f x ≡ true → g ≡ true) → list_any f xs ≡ true → g ≡ true
-any_part f g [] part e = cc e
-any_part f g (x ∷ xs) part e = elim (cases_Bool (f x)) [
-  | inl here ↦ part x here
-  | inr there ↦ any_part f g xs part (rw there at e)
-]
-
 -- a file's column is one of these
 abbrev pub is_place : List (File × List ℕ) → File → List ℕ → Bool
 is_place places x name = list_any (λ place. is_file place.0 x && bytes_eq name place.1) places
@@ -64,7 +50,7 @@ module _ (d : Dataset) (c : Code) (places : List (File × List ℕ)) (not_other 
     (only : (x : File) (n : ℕ) (name : List ℕ) → not (is_file file.StopTimes x) ≡ true → holds_in c d x n name ≡ true → is_place places x name ≡ true) where
   told_elsewhere : (f : FileName) (k : Code) (n : ℕ) (name : List ℕ) → is_code k c ≡ true → not (is_kept file.StopTimes f) ≡ true → holds k d f n name ≡ true
       → list_any (λ place. is_code k c && is_kept place.0 f && bytes_eq name place.1) places ≡ true
-  told_elsewhere (kept x) k n name same away e = any_alike (λ place. is_file place.0 x && bytes_eq name place.1) (λ place. is_code k c && is_file place.0 x && bytes_eq name place.1) places
+  told_elsewhere (kept x) k n name same away e = any_within (λ place. is_file place.0 x && bytes_eq name place.1) (λ place. is_code k c && is_file place.0 x && bytes_eq name place.1) places
       (λ place here. let parts = and_parts (is_file place.0 x) (bytes_eq name place.1) here in
       and_both (is_code k c && is_file place.0 x) (bytes_eq name place.1) (and_both (is_code k c) (is_file place.0 x) same parts.0) parts.1)
       (only x n name away (ap (λ j. holds_in j d x n name) (sym (code_is k c same)) ∙ e))
@@ -79,7 +65,7 @@ module _ (d : Dataset) (c : Code) (places : List (File × List ℕ)) (not_other 
       (λ e. let parts = and_parts (at_places c places p) (is_problem d p) e in
       and_both (elsewhere c p) (is_problem d p) (and_both (is_code p.code c) (not (is_kept file.StopTimes p.file))
       (any_part (λ place. at_column c place.0 place.1 p) (is_code p.code c) places (λ place here. (code_there p place here).0) parts.0)
-      (apart p.file (any_alike (λ place. at_column c place.0 place.1 p) (λ place. is_kept place.0 p.file) places (λ place here. (code_there p place here).1) parts.0))) parts.1)
+      (apart p.file (any_within (λ place. at_column c place.0 place.1 p) (λ place. is_kept place.0 p.file) places (λ place here. (code_there p place here).1) parts.0))) parts.1)
       (λ e. let parts = and_parts (elsewhere c p) (is_problem d p) e in
       let picked = and_parts (is_code p.code c) (not (is_kept file.StopTimes p.file)) parts.0 in
       and_both (at_places c places p) (is_problem d p) (told_elsewhere p.file p.code p.row p.column picked.0 picked.1 parts.1) parts.1))

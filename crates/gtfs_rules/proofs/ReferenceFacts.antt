@@ -15,7 +15,8 @@ use Rattle.gtfs_rules.specs.Rows.{is_file, is_row, records_in, text_in, value_in
 use Rattle.gtfs_rules.specs.UnknownIds.{is_unknown}
 use Rattle.gtfs_rules.proofs.BoolFacts.{and_parts, and_both}
 use Rattle.gtfs_rules.proofs.PlaceFacts.{text_is, text_itself}
-use Rattle.gtfs_rules.proofs.PlaceSteps.{any_alike, is_place}
+use Rattle.gtfs_rules.proofs.PlaceSteps.{is_place}
+use Rattle.gtfs_rules.proofs.StepFacts.{any_within}
 
 -- the rule reads the ids and the text that are asked for
 pub read_alike : (told row : Bool) (i j : IdColumn) (t u : List ℕ) → told ≡ (row && is_unknown i t) → j ≡ i → u ≡ t → told ≡ (row && is_unknown j u)
@@ -38,7 +39,7 @@ pub told_at_names : (d : Dataset) (x : File) (n : ℕ) (name : List ℕ) → unk
 told_at_names d x n name e =
     let known : Reference → Bool = λ r. is_known d r.targets (text_in d x n name) in
     let there = is_row (records_in d x) n && is_some (value_in d x n name) in
-    any_alike (λ r. is_file r.file x && bytes_eq r.column name && not (known r)) (λ r. is_file r.file x && bytes_eq name r.column) references
+    any_within (λ r. is_file r.file x && bytes_eq r.column name && not (known r)) (λ r. is_file r.file x && bytes_eq name r.column) references
     (λ r here. let place = and_parts (is_file r.file x) (bytes_eq r.column name) (and_parts (is_file r.file x && bytes_eq r.column name) (not (known r)) here).0 in
     and_both (is_file r.file x) (bytes_eq name r.column) place.0 (text_turned r.column name place.1))
     (and_parts there (list_any (λ r. is_file r.file x && bytes_eq r.column name && not (known r)) references) e).1

@@ -26,19 +26,20 @@ tells_wider d narrow wide xs ys inside no_more = tells_alike d narrow wide xs ys
     (λ e. let parts = and_parts (narrow p) (is_problem d p) e in and_both (wide p) (is_problem d p) (inside p parts.0) parts.1)
     (λ e. let parts = and_parts (wide p) (is_problem d p) e in and_both (narrow p) (is_problem d p) (no_more p parts.0 parts.1) parts.1))
 
--- a step for each of a list, one after the other
-any_part : {X : Type 0} (f : X → Bool) (g : Bool) (xs : List X) → ((x : X) → f x ≡ true → g ≡ true) → list_any f xs ≡ true → g ≡ true
+-- ---- a test that some element passes
+
+pub any_part : {X : Type 0} (f : X → Bool) (g : Bool) (xs : List X) → ((x : X) → f x ≡ true → g ≡ true) → list_any f xs ≡ true → g ≡ true
 any_part f g [] part e = cc e
 any_part f g (x ∷ xs) part e = elim (cases_Bool (f x)) [
   | inl here ↦ part x here
   | inr there ↦ any_part f g xs part (rw there at e)
 ]
 
-any_alike : {X : Type 0} (f g : X → Bool) (xs : List X) → ((x : X) → f x ≡ true → g x ≡ true) → list_any f xs ≡ true → list_any g xs ≡ true
-any_alike f g [] alike e = e
-any_alike f g (x ∷ xs) alike e = elim (cases_Bool (f x)) [
+pub any_within : {X : Type 0} (f g : X → Bool) (xs : List X) → ((x : X) → f x ≡ true → g x ≡ true) → list_any f xs ≡ true → list_any g xs ≡ true
+any_within f g [] alike e = e
+any_within f g (x ∷ xs) alike e = elim (cases_Bool (f x)) [
   | inl here ↦ or_left (g x) (list_any g xs) (alike x here)
-  | inr there ↦ or_right (g x) (list_any g xs) (any_alike f g xs alike (rw there at e))
+  | inr there ↦ or_right (g x) (list_any g xs) (any_within f g xs alike (rw there at e))
 ]
 
 -- ---- codes
@@ -77,7 +78,7 @@ file_then d c x files = tells_then d (in_file c x) (in_files c files)
 
 module _ (d : Dataset) (c : Code) (files : List File) (of_files : is_code c code.W03 ≡ false) (only : InFiles d c files) where
   in_one : (f : FileName) (k : Code) (n : ℕ) (name : List ℕ) → is_code k c ≡ true → holds k d f n name ≡ true → list_any (λ x. is_code k c && is_kept x f) files ≡ true
-  in_one (kept x) k n name same e = any_alike (is_file x) (λ y. is_code k c && is_file y x) files
+  in_one (kept x) k n name same e = any_within (is_file x) (λ y. is_code k c && is_file y x) files
       (λ y here. and_both (is_code k c) (is_file y x) same (is_file_turned x y here))
       (only x n name (ap (λ j. holds_in j d x n name) (sym (code_is k c same)) ∙ e))
   in_one (other t) k n name same e =
@@ -108,7 +109,7 @@ module _ (d : Dataset) (c : Code) (x : File) (columns : List Literal) (only : At
   at_one : (p : Problem) → in_file c x p ≡ true → is_problem d p ≡ true → at_columns c x columns p ≡ true
   at_one p picked e =
       let parts = and_parts (is_code p.code c) (is_kept x p.file) picked in
-      any_alike (λ column. bytes_eq p.column (codes column)) (λ column. at_column c x (codes column) p) columns
+      any_within (λ column. bytes_eq p.column (codes column)) (λ column. at_column c x (codes column) p) columns
       (λ column here. and_both (in_file c x p) (bytes_eq p.column (codes column)) picked here)
       (only p.row p.column (sym (λ i. holds (code_is p.code c parts.0 i) d (file_is x p.file parts.1 i) p.row p.column) ∙ e))
 
@@ -149,7 +150,7 @@ told_there (t ∷ rules) d x n name e = elim (cases_Bool (told_at t.0 t.1 t.2 d 
 -- its file is that of one of the rules
 pub told_files : (rules : List Told) (d : Dataset) (x : File) (n : ℕ) (name : List ℕ) → condition_of rules d x n name ≡ true
     → list_any (λ t. is_file x t.0) rules ≡ true
-told_files rules d x n name e = any_alike (λ t. is_file x t.0 && bytes_eq name (codes t.1)) (λ t. is_file x t.0) rules
+told_files rules d x n name e = any_within (λ t. is_file x t.0 && bytes_eq name (codes t.1)) (λ t. is_file x t.0) rules
     (λ t here. (and_parts (is_file x t.0) (bytes_eq name (codes t.1)) here).0) (told_there rules d x n name e)
 
 -- of all rules the one that is told at this column decides

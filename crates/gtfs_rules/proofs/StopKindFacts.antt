@@ -20,7 +20,8 @@ use Rattle.gtfs_rules.specs.StopRules.{has_parent_of_other_type, names_none_of, 
 use Rattle.gtfs_rules.specs.Values.{if_there, is_one_of}
 use Rattle.gtfs_rules.proofs.BoolFacts.{and_parts, and_both}
 use Rattle.gtfs_rules.proofs.PlaceFacts.{number_itself, same_number}
-use Rattle.gtfs_rules.proofs.PlaceSteps.{any_alike, is_place}
+use Rattle.gtfs_rules.proofs.PlaceSteps.{is_place}
+use Rattle.gtfs_rules.proofs.StepFacts.{any_within}
 use Rattle.gtfs_rules.proofs.StepFacts.{Told, told_there}
 
 -- ---- the types of all stops
@@ -117,7 +118,7 @@ file_turned x y e = ap (λ n. n == file_place x) (sym (same_number (file_place x
 
 pub told_at_kinds : (d : Dataset) (x : File) (n : ℕ) (name : List ℕ) → wrong_kind_of_stop d x n name ≡ true → is_place kind_places x name ≡ true
 told_at_kinds d x n name e =
-    any_alike (λ (t : Told). is_file x t.0 && bytes_eq name (codes t.1)) (λ (t : Told). is_file t.0 x && bytes_eq name (codes t.1)) kind_rules
+    any_within (λ (t : Told). is_file x t.0 && bytes_eq name (codes t.1)) (λ (t : Told). is_file t.0 x && bytes_eq name (codes t.1)) kind_rules
     (λ t here. let place = and_parts (is_file x t.0) (bytes_eq name (codes t.1)) here in
     and_both (is_file t.0 x) (bytes_eq name (codes t.1)) (file_turned x t.0 place.0) place.1)
     (told_there kind_rules d x n name e)

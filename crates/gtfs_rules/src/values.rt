@@ -1,9 +1,9 @@
 ghost use Rattle.std.specs.Prelude.{◌≡◌, option_map};
-ghost use Rattle.gtfs_rules.specs.Columns.{choice, count, date, id, time};
+ghost use Rattle.gtfs_rules.specs.Columns.{choice, date, id, time};
 ghost use Rattle.gtfs_rules.specs.Reads.{amount_of, choice_of, word_of};
 
 use crate::cell::{has_control, read_choice};
-use gtfs_field::{read_count, read_date, read_time};
+use gtfs_field::{read_date, read_time};
 
 // The seconds of a readable time.
 pub(crate) fn time(text: &str) -> Option<i64>
@@ -19,14 +19,6 @@ pub(crate) fn date(text: &str) -> Option<i64>
 {
     let day = read_date(text).ok()?;
     Some(i64::from(day.number()))
-}
-
-// The number of a readable count.
-pub(crate) fn count(text: &str) -> Option<i64>
-    ensures { result ≡ amount_of count text.now }
-{
-    let number = read_count(text).ok()?;
-    Some(i64::from(number))
 }
 
 // The number of a readable choice.
