@@ -7,7 +7,6 @@ use Rattle.gtfs_table.specs.Reading.{RefusesDataset}
 use Rattle.gtfs_table.specs.declared.folders.FolderFault.{FolderFault}
 use Rattle.gtfs_table.specs.declared.folders.FolderFault.TheVariants as faults
 use Rattle.clap.specs.Words.{Text}
-use Rattle.gtfs_cli.specs.Checking.{IsSendingCause}
 use Rattle.gtfs_cli.specs.Running.{AsksCheck, AsksFor, Failures, IsBadUsage, IsDeviceFault, IsFileOf, KeepsFromReading}
 use Rattle.gtfs_cli.specs.Refusals.{status_of, IsCause, IsCauseInWords, IsCauseOf, IsCheckCause, IsFaultCause}
 use Rattle.gtfs_cli.specs.declared.commands.refusal.Refusal.{Refusal}

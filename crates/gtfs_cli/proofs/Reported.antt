@@ -1,20 +1,16 @@
 -- What was printed is the report of the dataset that the folder holds.
-use Rattle.std.proofs.Common.{◌≡◌, ◌∙◌, ap, sym, subst, ℕ, ◌+◌, ◌-◌, ◌<◌, ◌≤◌, nat_lt, Bool, List, [], ◌∷◌, ◌++◌, append-nil, length, map, take, get_or, Option, Result, Ok, Err, arith}
-use Rattle.std.specs.Prelude.{IfOk, count_by, flat_map}
+use Rattle.std.proofs.Common.{◌≡◌, ◌∙◌, ap, sym, subst, ℕ, ◌+◌, ◌-◌, ◌<◌, ◌≤◌, nat_lt, List, [], ◌∷◌, ◌++◌, append-nil, length, map, take, get_or, Option, arith}
+use Rattle.std.specs.Prelude.{count_by, flat_map}
 use Rattle.std.specs.Io.KnownBytes.{Appends}
 use Rattle.std.proofs.KnownBytes.{Appends-trans}
 use Rattle.std.proofs.lemmas.List.{length-map, map_more, take_all}
 use Rattle.std.proofs.lemmas.List.Concat.{flat_map-append}
-use Rattle.gtfs_table.specs.Folder.{Store}
-use Rattle.gtfs_table.specs.Reading.{HoldsDataset}
-use Rattle.gtfs_table.specs.Tables.{Dataset}
 use Rattle.gtfs_rules.specs.Codes.{is_error}
-use Rattle.gtfs_rules.specs.Problems.{Problem, IsReport}
+use Rattle.gtfs_rules.specs.Problems.{Problem}
 use Rattle.gtfs_rules.specs.Report.{counts_line, problem_line}
 use Rattle.gtfs_rules.specs.View.{problem_of}
 use Rattle.gtfs_rules.specs.declared.problem.Problem.{Problem as Lent}
-use Rattle.gtfs_cli.specs.Checking.{counts_text, IsReportOf, Prints}
-use Rattle.gtfs_cli.specs.declared.commands.refusal.Refusal.{Refusal}
+use Rattle.gtfs_cli.specs.Checking.{counts_text, Prints}
 use Rattle.gtfs_cli.proofs.Counted.{counts-line, error-counted}
 
 abbrev pub lines : List Lent → List ℕ
