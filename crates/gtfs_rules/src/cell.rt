@@ -52,9 +52,12 @@ pub(crate) fn fault_code(kind: Kind, text: &str) -> Option<Code>
 pub(crate) fn has_control(text: &str) -> bool
     ensures { result ≡ has_control text.now }
 {
-    text.as_bytes()
-        .iter()
-        .any(|byte| *byte < 32 || *byte == 127)
+    for byte in text.as_bytes() {
+        if *byte < 32 || *byte == 127 {
+            return true;
+        }
+    }
+    false
 }
 
 // A choice: a count that is one of the listed numbers.
