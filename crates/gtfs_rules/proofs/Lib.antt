@@ -32,7 +32,6 @@ pub mod ServiceFacts
 pub mod ServiceIds
 pub mod ServiceTexts
 pub mod ServiceTold
-pub mod SightingFacts
 pub mod SingleKeyFacts
 pub mod SoundRows
 pub mod SoundServices
@@ -47,6 +46,7 @@ pub mod StopTimeFields
 pub mod StopTimePasses
 pub mod TellFacts
 pub mod TripCountFacts
+pub mod TripKept
 pub mod TripNumberFacts
 pub mod TripPicks
 pub mod TripPlaces

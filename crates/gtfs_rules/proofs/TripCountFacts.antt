@@ -1,32 +1,122 @@
--- How many rows of stop_times.txt name a trip, row by row.
-use Rattle.std.proofs.Common.{◌≡◌, ◌+◌, ◌++◌, ◌∷◌, [], ℕ, zero, suc, Bool, true, false, List, append-nil, add-one, length-append, refl, sym, arith, inl, inr, Option, Some, None}
-use Rattle.std.specs.Prelude.{if◌then◌else◌, bytes_eq, nat_lt, not}
-use Rattle.std.proofs.lemmas.Bool.{cases_Bool, le-ltb}
-use Rattle.std.proofs.lemmas.List.Elements.{filter-append}
-use Rattle.gtfs_rules.specs.Sightings.{is_twice, seen_again}
-use Rattle.gtfs_rules.specs.TripNotes.{TripNote, times_noted}
+-- How many rows of stop_times.txt name a trip, counted by the numbers of trips.
+use Rattle.std.proofs.Common.{◌≡◌, ◌≢◌, ◌+◌, ◌<◌, ◌≤◌, ◌∙◌, ◌∷◌, [], ℕ, Bool, true, false, List, cond, filter, length, map, get_or, replicate, set, take, refl, sym, ap, arith, inl, inr, Bor, Option, Some, None, option_map}
+use Rattle.std.specs.Prelude.{◌&&◌, ◌==◌, bytes_eq, codes, nat_lt, not}
+use Rattle.std.specs.BTreeMap.{BTreeMap}
+use Rattle.std.specs.List.{All}
+use Rattle.std.specs.Option.{unwrap_or}
+use Rattle.std.proofs.lemmas.Bool.{cases_Bool, cases_lt}
+use Rattle.std.proofs.lemmas.List.{get_or_default, get_or_past, get_or-replicate, get_or-set_other, get_or-set_same, length-replicate, length-take-le}
+use Rattle.std.proofs.lemmas.List.Elements.{All-tail}
+use Rattle.std.proofs.lemmas.List.Filters.{length-filter_both, length-filter_more}
+use Rattle.gtfs_table.specs.Tables.{Dataset}
+use Rattle.gtfs_table.specs.declared.file.File.TheVariants as file
+use Rattle.gtfs_rules.specs.declared.code.Code.TheVariants as code
+use Rattle.gtfs_rules.specs.declared.trips.row.TripRow.{TripRow}
+use Rattle.gtfs_rules.specs.Problems.{holds_in}
+use Rattle.gtfs_rules.specs.Rows.{is_row, records_in, text_in}
+use Rattle.gtfs_rules.specs.TripCounts.{AreCounts, count_of}
+use Rattle.gtfs_rules.specs.TripNotes.{note_of, times_noted, trip_notes_in}
+use Rattle.gtfs_rules.specs.TripNumbers.{AreNumbered, name_at, number_in}
+use Rattle.gtfs_rules.specs.TripTexts.{id_in_text}
+use Rattle.gtfs_rules.specs.Values.{if_there}
+use Rattle.gtfs_rules.proofs.BoolFacts.{same_test}
+use Rattle.gtfs_rules.proofs.PlaceFacts.{number_itself, same_number, text_is, text_itself}
+use Rattle.gtfs_rules.proofs.TripRowFacts.{as_many, named_rows}
 
--- a trip that this many rows name
-abbrev pub seen_times : ℕ → Option Bool
-seen_times zero = None
-seen_times (suc zero) = Some false
-seen_times (suc (suc n)) = Some true
+-- ---- counts by number, row by row
 
-once_more : (n : ℕ) → seen_again (seen_times n) ≡ seen_times (n + 1)
-once_more zero = refl
-once_more (suc zero) = refl
-once_more (suc (suc n)) = rw add-one refl
+-- each row's number is one of these
+pub within : (rows : List TripRow) (numbers all : ℕ) → numbers ≤ all → All (λ (r : TripRow). r.trip < numbers) rows → All (λ (r : TripRow). r.trip < all) rows
+within rows numbers all fits each k d below = omega (arith, each k d below, fits)
 
--- one more note
-pub one_noted : (trip : List ℕ) (notes : List TripNote) (note : TripNote) (o : Option Bool) → o ≡ seen_times (times_noted notes trip)
-    → (if bytes_eq trip note.trip_id then seen_again o else o) ≡ seen_times (times_noted (notes ++ note ∷ []) trip)
-one_noted trip notes note o before = elim (cases_Bool (bytes_eq trip note.trip_id)) [
-  | inl this ↦ rw (filter-append (λ (n : TripNote). bytes_eq trip n.trip_id), this, length-append, before) (once_more (times_noted notes trip))
-  | inr other ↦ rw (filter-append (λ (n : TripNote). bytes_eq trip n.trip_id), other, append-nil) before
+-- no rows, and as many counts of them as there are numbers
+pub counts_start : (numbers : ℕ) → AreCounts (replicate numbers 0) []
+counts_start numbers n = elim (cases_lt n numbers) [
+  | inl inside ↦ get_or-replicate numbers n 0 0 inside
+  | inr past ↦ get_or_past (replicate numbers 0) n 0 (omega (arith, past, length-replicate {A = ℕ} numbers 0))
 ]
 
--- a trip that was not seen twice is one that fewer than two rows name
-pub not_twice : (n : ℕ) → not (is_twice (seen_times n)) ≡ nat_lt n 2
-not_twice zero = refl
-not_twice (suc zero) = refl
-not_twice (suc (suc n)) = sym (le-ltb (suc (suc n)) 2 (omega arith))
+-- no count is greater than the number of the rows
+pub count_fits : (counts : List ℕ) (rows : List TripRow) (at : ℕ) → at < length rows → AreCounts counts (take at rows) → (count n : ℕ) → n < length counts → count ≡ get_or counts n count
+    → count ≤ at
+count_fits counts rows at below counted count n inside is =
+    omega (
+      arith,
+      below,
+      is,
+      get_or_default counts n count 0 inside,
+      counted n,
+      length-filter_both (λ r. n == r.trip) (λ r. not (n == r.trip)) (λ r. refl) (take at rows),
+      length-take-le at rows (omega (arith, below)),
+    )
+
+module _ (counts : List ℕ) (rows : List TripRow) (at : ℕ) (z : TripRow) (below : at < length rows) (counted : AreCounts counts (take at rows)) where
+  abbrev trip : ℕ
+  trip = (get_or rows at z).trip
+
+  pub counts_more : trip < length counts → (count : ℕ) → count ≡ get_or counts trip count → AreCounts (set counts trip (count + 1)) (take (at + 1) rows)
+  counts_more inside count was n = elim (cases_Bool (n == trip)) [
+    | inl here ↦
+        let same : n ≡ trip = same_number n trip here in
+        ap (λ m. get_or (set counts trip (count + 1)) m 0) same ∙ get_or-set_same counts trip (count + 1) 0 inside
+        ∙ ap (λ m. m + 1) (was ∙ get_or_default counts trip count 0 inside ∙ ap (λ m. get_or counts m 0) (sym same) ∙ counted n)
+        ∙ ap (λ b. length (filter (λ r. n == r.trip) (take at rows)) + cond b 1 0) (sym here)
+        ∙ sym (length-filter_more (λ r. n == r.trip) rows at z below)
+    | inr other ↦
+        get_or-set_other counts trip n (count + 1) 0 (apart other)
+        ∙ counted n
+        ∙ sym (add_none _)
+        ∙ ap (λ b. length (filter (λ r. n == r.trip) (take at rows)) + cond b 1 0) (sym other)
+        ∙ sym (length-filter_more (λ r. n == r.trip) rows at z below)
+  ]
+    where
+      apart : (n == trip) ≡ false → n ≢ trip
+      apart other same = let clash : true ≡ false = sym (number_itself n) ∙ ap (λ m. n == m) same ∙ other in cc
+
+      add_none : (m : ℕ) → m + 0 ≡ m
+      add_none m = omega arith
+
+-- ---- rows that name a trip
+
+-- rows with a number
+abbrev is_of : Option ℕ → TripRow → Bool
+is_of None = λ r. false
+is_of (Some n) = λ r. n == r.trip
+
+none_of : (rows : List TripRow) → length (filter (is_of None) rows) ≡ 0
+none_of [] = refl
+none_of (r ∷ rows) = none_of rows
+
+module _ (numbers : BTreeMap (Bor (List ℕ)) ℕ) (names : List (Bor (List ℕ))) (trip : List ℕ) where
+  abbrev name : ℕ → List ℕ
+  name = name_at names
+
+  named : (o : Option ℕ) (rows : List TripRow) → All (λ r. is_of o r ≡ bytes_eq trip (name r.trip)) rows → length (filter (is_of o) rows) ≡ times_noted (map (note_of name) rows) trip
+  named o [] each = refl
+  named o (r ∷ rows) each =
+      ap (λ b. length (cond b (r ∷ filter (is_of o) rows) (filter (is_of o) rows))) (each 0 r (omega arith))
+      ∙ as_many (bytes_eq trip (name r.trip)) r (filter (is_of o) rows) (note_of name r) (filter (λ n. bytes_eq trip n.trip_id) (map (note_of name) rows))
+      (named o rows (All-tail (λ r. is_of o r ≡ bytes_eq trip (name r.trip)) r rows each))
+
+  module _ (rows : List TripRow) (are : AreNumbered numbers names rows) where
+    by_number : (o : Option ℕ) → number_in numbers trip ≡ o → (r : TripRow) → number_in numbers (name r.trip) ≡ Some r.trip → is_of o r ≡ bytes_eq trip (name r.trip)
+    by_number None is r has = same_test false (bytes_eq trip (name r.trip)) (λ e. cc e)
+        (λ e. let clash : None ≡ Some r.trip = sym is ∙ ap (number_in numbers) (text_is trip (name r.trip) e) ∙ has in cc)
+    by_number (Some n) is r has = same_test (n == r.trip) (bytes_eq trip (name r.trip))
+        (λ e. ap (λ t. bytes_eq t (name r.trip)) (sym (are.named trip n is).1 ∙ ap name (same_number n r.trip e)) ∙ text_itself (name r.trip))
+        (λ e. let one : n ≡ r.trip = ap (λ o. unwrap_or o 0) (sym is ∙ ap (number_in numbers) (text_is trip (name r.trip) e) ∙ has) in ap (λ m. n == m) (sym one) ∙ number_itself n)
+
+    pub trip_counted : (counts : List ℕ) → AreCounts counts rows → count_of numbers counts trip ≡ times_noted (map (note_of name) rows) trip
+    trip_counted counts counted = of_number (number_in numbers trip) refl ∙ named (number_in numbers trip) rows (λ k d below. by_number (number_in numbers trip) refl (get_or rows k d) (are.numbered k d below))
+      where
+        of_number : (o : Option ℕ) → number_in numbers trip ≡ o → unwrap_or (option_map (λ n. get_or counts n 0) o) 0 ≡ length (filter (is_of o) rows)
+        of_number None is = sym (none_of rows)
+        of_number (Some n) is = counted n
+
+-- ---- trips that few rows name
+
+pub few_rows : (d : Dataset) (numbers : BTreeMap (Bor (List ℕ)) ℕ) (counts : List ℕ) (text : ℕ → List ℕ) → ((n : ℕ) → text n ≡ text_in d file.Trips n (codes "trip_id"))
+    → ((trip : List ℕ) → count_of numbers counts trip ≡ times_noted (trip_notes_in d) trip)
+    → (n : ℕ) → holds_in code.W06 d file.Trips n (codes "trip_id") ≡ (is_row (records_in d file.Trips) n && if_there (id_in_text (text n)) (λ trip. nat_lt (count_of numbers counts trip) 2))
+few_rows d numbers counts text same counted n =
+    λ i. is_row (records_in d file.Trips) n && if_there (id_in_text (sym (same n) i)) (λ trip. nat_lt (sym (counted trip ∙ named_rows d trip) i) 2)

@@ -1,6 +1,6 @@
 -- Numbers that are given to trips one after the other.
 use Rattle.std.proofs.Common.{◌≡◌, ◌-◌, ◌<◌, ◌∙◌, ◌++◌, ◌∷◌, [], ℕ, List, map, filter, length, length-append, get_or, true, false, Bool, cond, Bor, Some, None, refl, sym, ap, arith, inl, inr}
-use Rattle.std.specs.Prelude.{bytes_eq, not}
+use Rattle.std.specs.Prelude.{bytes_eq, not, option_map, pos}
 use Rattle.std.specs.BTreeMap.{BTreeMap, is_at, IsEmpty, IsUnchanged}
 use Rattle.std.specs.Cmp.Lexicographic.{slice_cmp}
 use Rattle.std.specs.List.{All, slice_get}
@@ -10,11 +10,12 @@ use Rattle.std.specs.Option.{unwrap_or}
 use Rattle.std.proofs.lemmas.Bool.{cases_Bool}
 use Rattle.std.proofs.Math.ListN.{get_or-append}
 use Rattle.std.proofs.Math.Seq.{get_or-append_seam}
-use Rattle.std.proofs.lemmas.List.{length-map, map-append}
-use Rattle.std.proofs.lemmas.List.Elements.{All-filter, All-push}
+use Rattle.std.proofs.lemmas.List.{get_or-map, length-map, map-append}
+use Rattle.std.proofs.lemmas.List.Elements.{All-filter, All-push, All-tail}
 use Rattle.std.proofs.lemmas.Option.{get_or_from_slice_get, slice_get_within}
 use Rattle.gtfs_rules.specs.declared.trips.row.TripRow.{TripRow}
-use Rattle.gtfs_rules.specs.TripNumbers.{AreNamed, AreNumbered, AreRowsNumbered, IsNumberAmong, Keeps, name_at, number_in}
+use Rattle.gtfs_rules.specs.TripNotes.{note_of, sequence_of}
+use Rattle.gtfs_rules.specs.TripNumbers.{AllNumbered, AreNamed, AreNumbered, HaveNumbers, IsNumbered, IsNumberAmong, Keeps, name_at, number_in}
 use Rattle.gtfs_rules.proofs.PlaceFacts.{text_is}
 
 -- a trip more that has no number yet
@@ -59,26 +60,41 @@ unchanged old new same id = ap (lookup (is_at (λ (key : Bor (List ℕ)). slice_
 
 -- ---- rows with the numbers of their trips
 
-pub rows_stay : (old new : BTreeMap (Bor (List ℕ)) ℕ) (rows : List TripRow) → Keeps old new
-    → All (λ r. number_in old r.trip_id.now ≡ Some r.trip) rows → All (λ r. number_in new r.trip_id.now ≡ Some r.trip) rows
-rows_stay old new rows keeps each k d below = keeps _ _ (each k d below)
+-- a function that another one equals at each element
+map_alike : {X Y : Type 0} (f g : X → Y) (xs : List X) → All (λ x. f x ≡ g x) xs → map f xs ≡ map g xs
+map_alike f g [] same = refl
+map_alike f g (x ∷ xs) same = λ i. same 0 x (omega arith) i ∷ map_alike f g xs (All-tail (λ x. f x ≡ g x) x xs same) i
 
-pub kept_numbers : (numbers : BTreeMap (Bor (List ℕ)) ℕ) (names : List (Bor (List ℕ))) (rows : List TripRow) (p : TripRow → Bool) → AreNumbered numbers names rows → AreRowsNumbered (filter p rows)
-kept_numbers numbers names rows p are = record {
-  number = λ id. unwrap_or (number_in numbers id) 0;
-  name = name_at names;
-  numbered = All-filter p (λ r. unwrap_or (number_in numbers r.trip_id.now) 0 ≡ r.trip) rows (λ k d below. ap (λ o. unwrap_or o 0) (are.numbered k d below));
-  named = All-filter p (λ r. name_at names r.trip ≡ r.trip_id.now) rows (λ k d below. (are.named _ _ (are.numbered k d below)).1);
-}
+module _ (old new : BTreeMap (Bor (List ℕ)) ℕ) (names more : List (Bor (List ℕ))) (rows : List TripRow) (each : HaveNumbers old names rows) (keeps : Keeps old new) (named : AreNamed new more) where
+  -- each row's trip keeps its name
+  names_stay : All (λ r. name_at more r.trip ≡ name_at names r.trip) rows
+  names_stay k d below = (named _ _ (keeps _ _ (each k d below))).1
 
-pub still_numbered : (old new : BTreeMap (Bor (List ℕ)) ℕ) (names more : List (Bor (List ℕ))) (rows : List TripRow) → AreNumbered old names rows → Keeps old new → AreNamed new more → AreNumbered new more rows
-still_numbered old new names more rows are keeps named = record { named = named; numbered = rows_stay old new rows keeps are.numbered }
+  pub rows_stay : HaveNumbers new more rows
+  rows_stay k d below = ap (number_in new) (names_stay k d below) ∙ keeps _ _ (each k d below)
 
-pub one_numbered : (numbers : BTreeMap (Bor (List ℕ)) ℕ) (names : List (Bor (List ℕ))) (rows : List TripRow) (row : TripRow) → AreNumbered numbers names rows
-    → number_in numbers row.trip_id.now ≡ Some row.trip → AreNumbered numbers names (rows ++ row ∷ [])
-one_numbered numbers names rows row are here = record {
-  named = are.named;
-  numbered = All-push (λ (r : TripRow). number_in numbers r.trip_id.now ≡ Some r.trip) rows row are.numbered here;
+  pub notes_stay : map (note_of (name_at more)) rows ≡ map (note_of (name_at names)) rows
+  notes_stay = map_alike (note_of (name_at more)) (note_of (name_at names)) rows (λ k d below. of_name (get_or rows k d) (names_stay k d below))
+    where
+      of_name : (r : TripRow) → name_at more r.trip ≡ name_at names r.trip → note_of (name_at more) r ≡ note_of (name_at names) r
+      of_name r same = λ i. record {
+        trip_id = same i;
+        sequence = sequence_of r;
+        row = r.row;
+        arrival = option_map pos r.arrival;
+        departure = option_map pos r.departure;
+        is_untimed = r.is_untimed;
+      }
+
+pub kept_numbers : (numbers : BTreeMap (Bor (List ℕ)) ℕ) (names : List (Bor (List ℕ))) (rows : List TripRow) (p : TripRow → Bool) → AreNumbered numbers names rows
+    → AllNumbered (λ id. unwrap_or (number_in numbers id) 0) (name_at names) (filter p rows)
+kept_numbers numbers names rows p are = All-filter p (IsNumbered (λ id. unwrap_or (number_in numbers id) 0) (name_at names)) rows (λ k d below. ap (λ o. unwrap_or o 0) (are.numbered k d below))
+
+pub one_numbered : (numbers : BTreeMap (Bor (List ℕ)) ℕ) (names : List (Bor (List ℕ))) (rows : List TripRow) (row : TripRow) (id : List ℕ) → AreNamed numbers names → HaveNumbers numbers names rows
+    → number_in numbers id ≡ Some row.trip → AreNumbered numbers names (rows ++ row ∷ [])
+one_numbered numbers names rows row id named each here = record {
+  named = named;
+  numbered = All-push (λ (r : TripRow). number_in numbers (name_at names r.trip) ≡ Some r.trip) rows row each (ap (number_in numbers) (named _ _ here).1 ∙ here);
 }
 
 pub none_numbered : (numbers : BTreeMap (Bor (List ℕ)) ℕ) (names : List (Bor (List ℕ))) → IsEmpty numbers → AreNumbered numbers names []
@@ -88,11 +104,13 @@ none_numbered numbers names empty = record {
 }
 
 -- the last row has the number
-pub last_among : (rows : List TripRow) (row : TripRow) (id : List ℕ) → slice_get rows (length rows - 1) ≡ Some row → false ≡ not (bytes_eq row.trip_id.now id) → IsNumberAmong rows id row.trip
-last_among rows row id last same numbers each =
+pub last_among : (rows : List TripRow) (names : List (Bor (List ℕ))) (row : TripRow) (name : Bor (List ℕ)) (id : List ℕ) → slice_get rows (length rows - 1) ≡ Some row → row.trip < length names → get_or names row.trip name ≡ name
+    → false ≡ not (bytes_eq name.now id) → IsNumberAmong rows names id row.trip
+last_among rows names row name id last below there same numbers each =
     let here : get_or rows (length rows - 1) row ≡ row = get_or_from_slice_get rows (length rows - 1) row row last in
-    ap (number_in numbers) (sym (text_is row.trip_id.now id (not_not (bytes_eq row.trip_id.now id) same)))
-    ∙ ap (λ (r : TripRow). number_in numbers r.trip_id.now) (sym here)
+    let named : name_at names row.trip ≡ name.now =
+    get_or-map (λ (t : Bor (List ℕ)). t.now) names row.trip name [] below ∙ ap (λ (t : Bor (List ℕ)). t.now) there in
+    ap (number_in numbers) (sym (text_is name.now id (not_not (bytes_eq name.now id) same)) ∙ sym named ∙ ap (λ (r : TripRow). name_at names r.trip) (sym here))
     ∙ each (length rows - 1) row (slice_get_within rows (length rows - 1) row last) ∙ ap (λ (r : TripRow). Some r.trip) here
   where
     not_not : (b : Bool) → false ≡ not b → b ≡ true

@@ -99,11 +99,11 @@ placed_rows d = of_kept (trip_note_in d) (has_trip_id d) row_of_note (rows d fil
     })) (rows d file.StopTimes)
 
 -- the rows as they are kept
-pub rows_kept : (rs : List CodeTripRow) → map trip_row (filter (λ r. r.has_sequence) rs) ≡ rows_of_notes (map note_of rs)
-rows_kept [] = refl
-rows_kept (r ∷ rs) = elim (cases_Bool r.has_sequence) [
-  | inl has ↦ rw (has, rows_kept rs) refl
-  | inr none ↦ rw (none, rows_kept rs) refl
+pub rows_kept : (name : ℕ → List ℕ) (rs : List CodeTripRow) → map (trip_row name) (filter (λ r. r.has_sequence) rs) ≡ rows_of_notes (map (note_of name) rs)
+rows_kept name [] = refl
+rows_kept name (r ∷ rs) = elim (cases_Bool r.has_sequence) [
+  | inl has ↦ rw (has, rows_kept name rs) refl
+  | inr none ↦ rw (none, rows_kept name rs) refl
 ]
 
 -- ---- how often a trip is named
@@ -116,7 +116,7 @@ word_missing : (w : Option (List ℕ)) (trip : List ℕ) → is_some w ≡ false
 word_missing None trip e = refl
 word_missing (Some id) trip e = cc e
 
-as_many : {X Y : Type 0} (b : Bool) (x : X) (xs : List X) (y : Y) (ys : List Y) → length xs ≡ length ys → length (cond b (x ∷ xs) xs) ≡ length (cond b (y ∷ ys) ys)
+pub as_many : {X Y : Type 0} (b : Bool) (x : X) (xs : List X) (y : Y) (ys : List Y) → length xs ≡ length ys → length (cond b (x ∷ xs) xs) ≡ length (cond b (y ∷ ys) ys)
 as_many true x xs y ys e = ap suc e
 as_many false x xs y ys e = e
 

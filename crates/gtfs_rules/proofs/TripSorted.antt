@@ -4,7 +4,7 @@ use Rattle.std.specs.Prelude.{◌==◌, pos, IsPermutation}
 use Rattle.std.specs.Cmp.{Equal-is, IsTotalOrder, nat_cmp_total, on_total, then_total, tied_itself}
 use Rattle.std.specs.Cmp.Lexicographic.{nat_list_cmp_total}
 use Rattle.std.specs.FinMap.{nat_cmp-IsAntisymmetric}
-use Rattle.std.specs.List.{All, dedup, dedup_from, range_with_len, sum_by}
+use Rattle.std.specs.List.{dedup, dedup_from, range_with_len, sum_by}
 use Rattle.std.specs.List.Sorted.{IsSorted, IsStrictlySortedBy}
 use Rattle.std.specs.Ordering.{eq_by_cmp, int_cmp, is_lt, nat_cmp, ordering_then}
 use Rattle.std.specs.declared.cmp.Ordering.{Ordering}
@@ -20,7 +20,8 @@ use Rattle.gtfs_table.specs.Tables.{Dataset, Records}
 use Rattle.gtfs_table.specs.declared.file.File.TheVariants as file
 use Rattle.gtfs_rules.specs.Rows.{is_row, records_in}
 use Rattle.gtfs_rules.specs.declared.trips.row.TripRow.{TripRow as CodeTripRow}
-use Rattle.gtfs_rules.specs.TripOrder.{kept_cmp, row_cmp, InOrder}
+use Rattle.gtfs_rules.specs.TripNumbers.{AllNumbered, IsNumbered}
+use Rattle.gtfs_rules.specs.TripOrder.{kept_cmp, row_cmp, AreInOrder, InOrder}
 use Rattle.gtfs_rules.specs.TripRows.{TripRow, has_trip_row, trip_row, trip_row_in, trip_rows_in}
 use Rattle.gtfs_rules.proofs.BoolFacts.{no_test}
 use Rattle.gtfs_rules.proofs.FoundFacts.{sorted_mapped}
@@ -81,17 +82,17 @@ once n d = once_in (records_in d file.StopTimes)
 
 -- ---- rows that come once and are sorted ascend
 
-module _ (number : List ℕ → ℕ) where
+module _ (number : List ℕ → ℕ) (name : ℕ → List ℕ) where
   abbrev lent_cmp : CodeTripRow → CodeTripRow → Ordering
-  lent_cmp x y = row_cmp number (trip_row x) (trip_row y)
+  lent_cmp x y = row_cmp number (trip_row name x) (trip_row name y)
 
   abbrev lent_here : ℕ → CodeTripRow → ℕ
   lent_here n x = is_here n x.row
 
-  sum_lent : (n : ℕ) (xs : List CodeTripRow) → sum_by (lent_here n) xs ≡ sum_by (row_here n) (map trip_row xs)
+  sum_lent : (n : ℕ) (xs : List CodeTripRow) → sum_by (lent_here n) xs ≡ sum_by (row_here n) (map (trip_row name) xs)
   sum_lent n [] = refl
   sum_lent n (x ∷ xs) =
-      sum_by-cons (lent_here n) x xs ∙ ap (λ s. is_here n x.row + s) (sum_lent n xs) ∙ sym (sum_by-cons (row_here n) (trip_row x) (map trip_row xs))
+      sum_by-cons (lent_here n) x xs ∙ ap (λ s. is_here n x.row + s) (sum_lent n xs) ∙ sym (sum_by-cons (row_here n) (trip_row name x) (map (trip_row name) xs))
 
   then_second : (r s : Ordering) → ordering_then r s ≡ Equal → s ≡ Equal
   then_second Less s e = cc
@@ -125,13 +126,13 @@ module _ (number : List ℕ → ℕ) where
   kept_all (x ∷ xs) each = kept_from x xs each
 
   lent_total : IsTotalOrder lent_cmp
-  lent_total = on_total trip_row (row_total number)
+  lent_total = on_total (trip_row name) (row_total number)
 
-  pub sorted_in_order : (d : Dataset) (old new : List CodeTripRow) → map trip_row old ≡ trip_rows_in d → IsPermutation old new → IsSorted lent_cmp new → InOrder d (map trip_row new)
+  pub sorted_in_order : (d : Dataset) (old new : List CodeTripRow) → map (trip_row name) old ≡ trip_rows_in d → IsPermutation old new → IsSorted lent_cmp new → InOrder d (map (trip_row name) new)
   sorted_in_order d old new is swapped sorted = record {
     number = number;
-    moved = subst (λ (rs : List TripRow). IsPermutation rs (map trip_row new)) is (IsPermutation-map trip_row old new swapped);
-    ascending = sorted_mapped trip_row (row_cmp number) new (subst (IsStrictlySortedBy lent_cmp) (kept_all new each) (IsStrictlySortedBy-dedup lent_total (λ x y. refl) new sorted));
+    moved = subst (λ (rs : List TripRow). IsPermutation rs (map (trip_row name) new)) is (IsPermutation-map (trip_row name) old new swapped);
+    ascending = sorted_mapped (trip_row name) (row_cmp number) new (subst (IsStrictlySortedBy lent_cmp) (kept_all new each) (IsStrictlySortedBy-dedup lent_total (λ x y. refl) new sorted));
   }
     where
       each : EachOnce new
@@ -139,31 +140,32 @@ module _ (number : List ℕ → ℕ) where
 
   -- ---- rows that are sorted by the numbers of their trips
 
-  -- a row has the number of its trip
-  abbrev pub IsNumbered : CodeTripRow → Type 0
-  IsNumbered x = number x.trip_id.now ≡ x.trip
-
   then_tied : (r s rest : Ordering) → (r ≡ Equal → s ≡ Equal) → ordering_then r rest ≡ ordering_then (ordering_then r s) rest
   then_tied Less s rest same = refl
   then_tied Equal s rest same = ap (λ t. ordering_then t rest) (sym (same refl))
   then_tied Greater s rest same = refl
 
-  as_numbers : (x y : CodeTripRow) → IsNumbered x → IsNumbered y → (x.trip ≡ y.trip → x.trip_id.now ≡ y.trip_id.now) → kept_cmp x y ≡ lent_cmp x y
-  as_numbers x y e f one =
-      then_tied (nat_cmp x.trip y.trip) (text_cmp x.trip_id.now y.trip_id.now) (ordering_then (int_cmp (pos x.stop_sequence) (pos y.stop_sequence)) (nat_cmp x.row y.row))
-      (λ tied. ap (text_cmp x.trip_id.now) (sym (one (nat_cmp-IsAntisymmetric x.trip y.trip tied))) ∙ tied_itself nat_list_cmp_total x.trip_id.now)
-      ∙ (λ i. ordering_then (ordering_then (nat_cmp (sym e i) (sym f i)) (text_cmp x.trip_id.now y.trip_id.now)) (ordering_then (int_cmp (pos x.stop_sequence) (pos y.stop_sequence)) (nat_cmp x.row y.row)))
+  as_numbers : (x y : CodeTripRow) → IsNumbered number name x → IsNumbered number name y → kept_cmp x y ≡ lent_cmp x y
+  as_numbers x y e f =
+      then_tied (nat_cmp x.trip y.trip) (text_cmp (name x.trip) (name y.trip)) (ordering_then (int_cmp (pos x.stop_sequence) (pos y.stop_sequence)) (nat_cmp x.row y.row))
+      (λ tied. ap (λ n. text_cmp (name x.trip) (name n)) (sym (nat_cmp-IsAntisymmetric x.trip y.trip tied)) ∙ tied_itself nat_list_cmp_total (name x.trip))
+      ∙ (λ i. ordering_then (ordering_then (nat_cmp (sym e i) (sym f i)) (text_cmp (name x.trip) (name y.trip))) (ordering_then (int_cmp (pos x.stop_sequence) (pos y.stop_sequence)) (nat_cmp x.row y.row)))
 
-  pub sorted_by_numbers : (name : ℕ → List ℕ) (xs : List CodeTripRow) → All IsNumbered xs → All (λ r. name r.trip ≡ r.trip_id.now) xs → IsSorted kept_cmp xs → IsSorted lent_cmp xs
-  sorted_by_numbers name xs each named sorted k d low h =
+  pub sorted_by_numbers : (xs : List CodeTripRow) → AllNumbered number name xs → IsSorted kept_cmp xs → IsSorted lent_cmp xs
+  sorted_by_numbers xs each sorted k d low h =
       let below : k < length xs = omega (arith, h) in
-      ap is_lt (sym (as_numbers (get_or xs (k + 1) d) (get_or xs k d) (each (k + 1) d h) (each k d below)
-      (λ same. sym (named (k + 1) d h) ∙ ap name same ∙ named k d below))) ∙ sorted k d low h
+      ap is_lt (sym (as_numbers (get_or xs (k + 1) d) (get_or xs k d) (each (k + 1) d h) (each k d below))) ∙ sorted k d low h
 
-  pub numbered_in_order : (name : ℕ → List ℕ) (d : Dataset) (old new : List CodeTripRow) → map trip_row old ≡ trip_rows_in d → All IsNumbered old → All (λ r. name r.trip ≡ r.trip_id.now) old
-      → IsPermutation old new → IsSorted kept_cmp new → InOrder d (map trip_row new)
-  numbered_in_order name d old new is each named swapped sorted =
-      sorted_in_order d old new is swapped (sorted_by_numbers name new (All-permutation IsNumbered old new swapped each) (All-permutation (λ r. name r.trip ≡ r.trip_id.now) old new swapped named) sorted)
+  pub numbered_in_order : (d : Dataset) (old new : List CodeTripRow) → map (trip_row name) old ≡ trip_rows_in d → AllNumbered number name old
+      → IsPermutation old new → IsSorted kept_cmp new → AreInOrder d new
+  numbered_in_order d old new is each swapped sorted =
+      let numbered = All-permutation (IsNumbered number name) old new swapped each in
+      record {
+        number = number;
+        name = name;
+        numbered = numbered;
+        order = sorted_in_order d old new is swapped (sorted_by_numbers new numbered sorted);
+      }
 
 pub kept_total : IsTotalOrder kept_cmp
 kept_total = then_total (on_total (λ (r : CodeTripRow). r.trip) nat_cmp_total)

@@ -152,101 +152,101 @@ module _ (d : Dataset) (c : Code) (name : List ℕ) (rule : List TripRow → Tri
 
 -- ---- the rules at a place of the rows in order
 
-abbrev pub rows_before : List CodeTripRow → ℕ → List TripRow
-rows_before lent i = reverse (map trip_row (take i lent))
+abbrev pub rows_before : (ℕ → List ℕ) → List CodeTripRow → ℕ → List TripRow
+rows_before name lent i = reverse (map (trip_row name) (take i lent))
 
-abbrev pub rows_from : List CodeTripRow → ℕ → List TripRow
-rows_from lent i = map trip_row (drop i lent)
+abbrev pub rows_from : (ℕ → List ℕ) → List CodeTripRow → ℕ → List TripRow
+rows_from name lent i = map (trip_row name) (drop i lent)
 
 map_or : (a b : Option ℕ) → option_map pos (option_or a b) ≡ option_or (option_map pos a) (option_map pos b)
 map_or None b = refl
 map_or (Some x) b = refl
 
-module _ (lent : List CodeTripRow) (i : ℕ) (z : CodeTripRow) (below : i < length lent) where
-  rows_before_more : rows_before lent (i + 1) ≡ trip_row (get_or lent i z) ∷ rows_before lent i
-  rows_before_more = ap reverse (map_more trip_row lent i z below) ∙ reverse-append (map trip_row (take i lent)) (trip_row (get_or lent i z) ∷ [])
+module _ (name : ℕ → List ℕ) (lent : List CodeTripRow) (i : ℕ) (z : CodeTripRow) (below : i < length lent) where
+  rows_before_more : rows_before name lent (i + 1) ≡ trip_row name (get_or lent i z) ∷ rows_before name lent i
+  rows_before_more = ap reverse (map_more (trip_row name) lent i z below) ∙ reverse-append (map (trip_row name) (take i lent)) (trip_row name (get_or lent i z) ∷ [])
 
-  pub rows_from_here : rows_from lent i ≡ trip_row (get_or lent i z) ∷ rows_from lent (i + 1)
-  rows_from_here = ap (map trip_row) (drop_more lent i z below)
+  pub rows_from_here : rows_from name lent i ≡ trip_row name (get_or lent i z) ∷ rows_from name lent (i + 1)
+  rows_from_here = ap (map (trip_row name)) (drop_more lent i z below)
 
   -- what a slice after the row holds
-  pub ends_more : (answer : Bool) → answer ≡ ends (trip_row (get_or lent i z) ∷ map trip_row (take (length lent - (i + 1)) (drop (i + 1) lent))) → answer ≡ ends (rows_from lent i)
-  ends_more answer is = is ∙ ap (λ rest. ends (trip_row (get_or lent i z) ∷ map trip_row rest)) (take_rest lent (i + 1)) ∙ ap ends (sym rows_from_here)
+  pub ends_more : (answer : Bool) → answer ≡ ends (trip_row name (get_or lent i z) ∷ map (trip_row name) (take (length lent - (i + 1)) (drop (i + 1) lent))) → answer ≡ ends (rows_from name lent i)
+  ends_more answer is = is ∙ ap (λ rest. ends (trip_row name (get_or lent i z) ∷ map (trip_row name) rest)) (take_rest lent (i + 1)) ∙ ap ends (sym rows_from_here)
 
   -- when a trip was left last, one row later
-  pub left_more : (left next : Option ℕ) → option_map pos left ≡ left_before (rows_before lent i) (trip_row (get_or lent i z)) → next ≡ option_or (get_or lent i z).departure left
-      → option_map pos next ≡ last_left (rows_before lent (i + 1))
+  pub left_more : (left next : Option ℕ) → option_map pos left ≡ left_before (rows_before name lent i) (trip_row name (get_or lent i z)) → next ≡ option_or (get_or lent i z).departure left
+      → option_map pos next ≡ last_left (rows_before name lent (i + 1))
   left_more left next before now =
       ap (option_map pos) now ∙ map_or (get_or lent i z).departure left ∙ ap (option_or (option_map pos (get_or lent i z).departure)) before ∙ ap last_left (sym rows_before_more)
 
-module _ (d : Dataset) (lent : List CodeTripRow) (o : InOrder d (map trip_row lent)) where
+module _ (d : Dataset) (name : ℕ → List ℕ) (lent : List CodeTripRow) (o : InOrder d (map (trip_row name) lent)) where
   module _ (i : ℕ) (z : CodeTripRow) (below : i < length lent) where
     abbrev e : TripRow
-    e = trip_row (get_or lent i z)
+    e = trip_row name (get_or lent i z)
 
-    split_rows : onto (rows_before lent i) (e ∷ rows_from lent (i + 1)) ≡ map trip_row lent
+    split_rows : onto (rows_before name lent i) (e ∷ rows_from name lent (i + 1)) ≡ map (trip_row name) lent
     split_rows =
-        sym (λ j. onto (reverse (take-map trip_row i lent j)) (get_or-map trip_row lent i z (trip_row z) below j ∷ drop-map trip_row (i + 1) lent j))
-        ∙ onto_place (map trip_row lent) i (trip_row z) (omega (arith, length-map lent trip_row))
+        sym (λ j. onto (reverse (take-map (trip_row name) i lent j)) (get_or-map (trip_row name) lent i z (trip_row name z) below j ∷ drop-map (trip_row name) (i + 1) lent j))
+        ∙ onto_place (map (trip_row name) lent) i (trip_row name z) (omega (arith, length-map lent (trip_row name)))
 
-    split : IsSplit (row_cmp o.number) (rows_before lent i) e (rows_from lent (i + 1))
-    split = split_of (row_cmp o.number) (rows_before lent i) e (rows_from lent (i + 1)) (subst (IsAscending (row_cmp o.number)) (sym split_rows) (ascends_from_sorted (row_cmp o.number) (map trip_row lent) o.ascending))
+    split : IsSplit (row_cmp o.number) (rows_before name lent i) e (rows_from name lent (i + 1))
+    split = split_of (row_cmp o.number) (rows_before name lent i) e (rows_from name lent (i + 1)) (subst (IsAscending (row_cmp o.number)) (sym split_rows) (ascends_from_sorted (row_cmp o.number) (map (trip_row name) lent) o.ascending))
 
     pub is_row_here : IsRowOf d e
-    is_row_here = subst (IsRowOf d) (get_or-map trip_row lent i z (trip_row z) below) (All-get_or (IsRowOf d) (map trip_row lent) i (trip_row z) (omega (arith, length-map lent trip_row)) (each_row d (map trip_row lent) o.moved))
+    is_row_here = subst (IsRowOf d) (get_or-map (trip_row name) lent i z (trip_row name z) below) (All-get_or (IsRowOf d) (map (trip_row name) lent) i (trip_row name z) (omega (arith, length-map lent (trip_row name))) (each_row d (map (trip_row name) lent) o.moved))
 
-    in_file_order : (t : TripRow → Bool) → list_any t (onto (rows_before lent i) (e ∷ rows_from lent (i + 1))) ≡ list_any t (trip_rows_in d)
-    in_file_order t = ap (list_any t) split_rows ∙ sym (list_any-IsPermutation t (trip_rows_in d) (map trip_row lent) o.moved)
+    in_file_order : (t : TripRow → Bool) → list_any t (onto (rows_before name lent i) (e ∷ rows_from name lent (i + 1))) ≡ list_any t (trip_rows_in d)
+    in_file_order t = ap (list_any t) split_rows ∙ sym (list_any-IsPermutation t (trip_rows_in d) (map (trip_row name) lent) o.moved)
 
-    pub repeats_here : repeats (rows_before lent i) e ≡ repeats_among (trip_rows_in d) e
-    repeats_here = sym (earlier_twin o.number (rows_before lent i) e (rows_from lent (i + 1)) split) ∙ in_file_order (λ m. nat_lt m.row e.row && same_place e m)
+    pub repeats_here : repeats (rows_before name lent i) e ≡ repeats_among (trip_rows_in d) e
+    repeats_here = sym (earlier_twin o.number (rows_before name lent i) e (rows_from name lent (i + 1)) split) ∙ in_file_order (λ m. nat_lt m.row e.row && same_place e m)
 
     neither : (a b : Bool) → (not a && b) ≡ not (a || not b)
     neither true b = refl
     neither false true = refl
     neither false false = refl
 
-    ends_of : is_untimed_end (rows_before lent i) e (ends (e ∷ rows_from lent (i + 1))) ≡ ends_untimed (trip_rows_in d) e
+    ends_of : is_untimed_end (rows_before name lent i) e (ends (e ∷ rows_from name lent (i + 1))) ≡ ends_untimed (trip_rows_in d) e
     ends_of =
-        let first = sym (earlier_row o.number (rows_before lent i) e (rows_from lent (i + 1)) split) ∙ in_file_order (λ m. same_trip e m && stands_first m e) in
-        let last = sym (later_row o.number (rows_before lent i) e (rows_from lent (i + 1)) split) ∙ in_file_order (λ m. same_trip e m && (is_lower e m || is_earlier_twin m e)) in
-        λ j. e.is_untimed && (not (first j) || (neither (repeats (rows_before lent i) e) (ends (e ∷ rows_from lent (i + 1))) ∙ ap not last) j)
+        let first = sym (earlier_row o.number (rows_before name lent i) e (rows_from name lent (i + 1)) split) ∙ in_file_order (λ m. same_trip e m && stands_first m e) in
+        let last = sym (later_row o.number (rows_before name lent i) e (rows_from name lent (i + 1)) split) ∙ in_file_order (λ m. same_trip e m && (is_lower e m || is_earlier_twin m e)) in
+        λ j. e.is_untimed && (not (first j) || (neither (repeats (rows_before name lent i) e) (ends (e ∷ rows_from name lent (i + 1))) ∙ ap not last) j)
 
-    pub ends_here : (answer : Bool) → answer ≡ ends (rows_from lent i) → is_untimed_end (rows_before lent i) e answer ≡ ends_untimed (trip_rows_in d) e
-    ends_here answer is = ap (is_untimed_end (rows_before lent i) e) (is ∙ ap ends (rows_from_here lent i z below)) ∙ ends_of
+    pub ends_here : (answer : Bool) → answer ≡ ends (rows_from name lent i) → is_untimed_end (rows_before name lent i) e answer ≡ ends_untimed (trip_rows_in d) e
+    ends_here answer is = ap (is_untimed_end (rows_before name lent i) e) (is ∙ ap ends (rows_from_here name lent i z below)) ∙ ends_of
 
-    pub back_here : (left : Option ℤ) → left ≡ left_before (rows_before lent i) e → is_left_later left e.arrival ≡ goes_back_among (trip_rows_in d) e
+    pub back_here : (left : Option ℤ) → left ≡ left_before (rows_before name lent i) e → is_left_later left e.arrival ≡ goes_back_among (trip_rows_in d) e
     back_here left is = ap (λ l. is_left_later l e.arrival) is ∙ (λ j. if_there e.arrival (λ arrives. late_here (int_lt arrives) j))
       where
         here : List TripRow
-        here = onto (rows_before lent i) (e ∷ rows_from lent (i + 1))
+        here = onto (rows_before name lent i) (e ∷ rows_from name lent (i + 1))
 
-        late_here : (late : ℤ → Bool) → if_there (left_before (rows_before lent i) e) late ≡ list_any (is_left_late late (trip_rows_in d) e) (trip_rows_in d)
+        late_here : (late : ℤ → Bool) → if_there (left_before (rows_before name lent i) e) late ≡ list_any (is_left_late late (trip_rows_in d) e) (trip_rows_in d)
         late_here late =
-            sym (last_left_late late o.number (rows_before lent i) e (rows_from lent (i + 1)) split)
+            sym (last_left_late late o.number (rows_before name lent i) e (rows_from name lent (i + 1)) split)
             ∙ (λ j. list_any (λ m. is_timed_in e m && ((stands_first m e && not (in_file_order (λ k. is_timed_in e k && (stands_first m k && stands_first k e)) j)) && if_there m.departure late)) here)
             ∙ in_file_order (is_left_late late (trip_rows_in d) e)
 
-  pub before_end : (i : ℕ) → length lent ≤ i → IsPermutation (trip_rows_in d) (rows_before lent i)
+  pub before_end : (i : ℕ) → length lent ≤ i → IsPermutation (trip_rows_in d) (rows_before name lent i)
   before_end i past =
-      subst (λ (ls : List CodeTripRow). IsPermutation (trip_rows_in d) (reverse (map trip_row ls))) (sym (take_all i lent past))
-      (IsPermutation-trans (trip_rows_in d) (map trip_row lent) (reverse (map trip_row lent)) o.moved (IsPermutation-reverse (map trip_row lent)))
+      subst (λ (ls : List CodeTripRow). IsPermutation (trip_rows_in d) (reverse (map (trip_row name) ls))) (sym (take_all i lent past))
+      (IsPermutation-trans (trip_rows_in d) (map (trip_row name) lent) (reverse (map (trip_row name) lent)) o.moved (IsPermutation-reverse (map (trip_row name) lent)))
 
-module _ (d : Dataset) (lent : List CodeTripRow) (o : InOrder d (map trip_row lent)) (c : Code) (name : List ℕ) (rule : List TripRow → TripRow → Bool) (r : TellsRule d c name rule)
+module _ (d : Dataset) (name : ℕ → List ℕ) (lent : List CodeTripRow) (o : InOrder d (map (trip_row name) lent)) (c : Code) (column : List ℕ) (rule : List TripRow → TripRow → Bool) (r : TellsRule d c column rule)
     (i : ℕ) (z : CodeTripRow) (below : i < length lent) (q : LentProblem) (test : Bool) (old mid new : List Problem)
-    (here : problem_of q ≡ problem_at c file.StopTimes name (get_or lent i z).row) (asked : test ≡ rule (trip_rows_in d) (trip_row (get_or lent i z)))
+    (here : problem_of q ≡ problem_at c file.StopTimes column (get_or lent i z).row) (asked : test ≡ rule (trip_rows_in d) (trip_row name (get_or lent i z)))
     (adds : Adds (λ p. is_same (problem_of q) p && test) mid new) where
-  told_here : (xs : List TripRow) → Tells d (seen c name xs) old mid → Tells d (seen c name (trip_row (get_or lent i z) ∷ xs)) old new
+  told_here : (xs : List TripRow) → Tells d (seen c column xs) old mid → Tells d (seen c column (trip_row name (get_or lent i z) ∷ xs)) old new
   told_here xs told =
-      seen_more d c name rule r (trip_row (get_or lent i z)) xs test old mid new (is_row_here d lent o i z below) asked told
+      seen_more d c column rule r (trip_row name (get_or lent i z)) xs test old mid new (is_row_here d name lent o i z below) asked told
       (λ p. adds p ∙ ap (λ q. is_listed mid p || (is_same q p && test)) here)
 
   -- at the next row, and at the row before
-  pub told_forward : Tells d (seen c name (rows_before lent i)) old mid → Tells d (seen c name (rows_before lent (i + 1))) old new
-  told_forward told = subst (λ (xs : List TripRow). Tells d (seen c name xs) old new) (sym (rows_before_more lent i z below)) (told_here (rows_before lent i) told)
+  pub told_forward : Tells d (seen c column (rows_before name lent i)) old mid → Tells d (seen c column (rows_before name lent (i + 1))) old new
+  told_forward told = subst (λ (xs : List TripRow). Tells d (seen c column xs) old new) (sym (rows_before_more name lent i z below)) (told_here (rows_before name lent i) told)
 
-  pub told_backward : Tells d (seen c name (rows_from lent (i + 1))) old mid → Tells d (seen c name (rows_from lent i)) old new
-  told_backward told = subst (λ (xs : List TripRow). Tells d (seen c name xs) old new) (sym (rows_from_here lent i z below)) (told_here (rows_from lent (i + 1)) told)
+  pub told_backward : Tells d (seen c column (rows_from name lent (i + 1))) old mid → Tells d (seen c column (rows_from name lent i)) old new
+  told_backward told = subst (λ (xs : List TripRow). Tells d (seen c column xs) old new) (sym (rows_from_here name lent i z below)) (told_here (rows_from name lent (i + 1)) told)
 
 -- ---- the three rules
 

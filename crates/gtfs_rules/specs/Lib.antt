@@ -36,13 +36,13 @@ pub mod ServiceFields
 pub mod ServiceRows
 pub mod ServiceRules
 pub mod ServiceView
-pub mod Sightings
 pub mod SingleKeys
 pub mod SpanView
 pub mod StopKinds
 pub mod StopRules
 pub mod StopTimePicks
 pub mod StopTimes
+pub mod TripCounts
 pub mod TripNotes
 pub mod TripNumbers
 pub mod TripOrder

@@ -73,9 +73,9 @@ rows_of_notes = filter_map row_of_note
 abbrev pub sequence_of : CodeTripRow → Option ℤ
 sequence_of r = if r.has_sequence then Some (pos r.stop_sequence) else None
 
-abbrev pub note_of : CodeTripRow → TripNote
-note_of r = record {
-  trip_id = r.trip_id.now;
+abbrev pub note_of : (ℕ → List ℕ) → CodeTripRow → TripNote
+note_of name r = record {
+  trip_id = name r.trip;
   sequence = sequence_of r;
   row = r.row;
   arrival = option_map pos r.arrival;

@@ -5,7 +5,8 @@ use Rattle.std.specs.BTreeMap.{BTreeMap, get_by}
 use Rattle.std.specs.Cmp.Lexicographic.{slice_cmp}
 use Rattle.std.specs.List.{All}
 use Rattle.std.specs.Ordering.{nat_cmp}
-use Rattle.gtfs_rules.specs.declared.trips.row.TripRow.{TripRow}
+use Rattle.gtfs_rules.specs.declared.trips.row.TripRow.{TripRow as CodeTripRow}
+use Rattle.gtfs_rules.specs.TripRows.{TripRow, trip_row}
 
 abbrev pub number_in : BTreeMap (Bor (List ℕ)) ℕ → List ℕ → Option ℕ
 number_in numbers id = get_by (λ key. slice_cmp nat_cmp id key.now) numbers
@@ -22,18 +23,31 @@ AreNamed numbers names = (id : List ℕ) (n : ℕ) → number_in numbers id ≡ 
 abbrev pub Keeps : BTreeMap (Bor (List ℕ)) ℕ → BTreeMap (Bor (List ℕ)) ℕ → Type 0
 Keeps old new = (id : List ℕ) (n : ℕ) → number_in old id ≡ Some n → number_in new id ≡ Some n
 
--- the number that rows have with a trip, where they have the numbers of their trips
-abbrev pub IsNumberAmong : List TripRow → List ℕ → ℕ → Type 0
-IsNumberAmong rows id n = (numbers : BTreeMap (Bor (List ℕ)) ℕ) → All (λ r. number_in numbers r.trip_id.now ≡ Some r.trip) rows → number_in numbers id ≡ Some n
+-- each row has its trip's number
+abbrev pub HaveNumbers : BTreeMap (Bor (List ℕ)) ℕ → List (Bor (List ℕ)) → List CodeTripRow → Type 0
+HaveNumbers numbers names rows = All (λ r. number_in numbers (name_at names r.trip) ≡ Some r.trip) rows
 
--- the rows of a trip have one number, and each other trip another one
-pub record AreRowsNumbered (rows : List TripRow) : Type 0 where
+-- the number that rows have with a trip, where they have the numbers of their trips
+abbrev pub IsNumberAmong : List CodeTripRow → List (Bor (List ℕ)) → List ℕ → ℕ → Type 0
+IsNumberAmong rows names id n = (numbers : BTreeMap (Bor (List ℕ)) ℕ) → HaveNumbers numbers names rows → number_in numbers id ≡ Some n
+
+-- each number is that of one trip, and each row has its trip's number
+pub record AreNumbered (numbers : BTreeMap (Bor (List ℕ)) ℕ) (names : List (Bor (List ℕ))) (rows : List CodeTripRow) : Type 0 where
+  pub named : AreNamed numbers names
+  pub numbered : HaveNumbers numbers names rows
+
+-- ---- rows whose trips have some numbers
+
+-- no other trip has the number of the row's trip
+abbrev pub IsNumbered : (List ℕ → ℕ) → (ℕ → List ℕ) → CodeTripRow → Type 0
+IsNumbered number name r = number (name r.trip) ≡ r.trip
+
+abbrev pub AllNumbered : (List ℕ → ℕ) → (ℕ → List ℕ) → List CodeTripRow → Type 0
+AllNumbered number name = All (IsNumbered number name)
+
+-- these rows, as they are kept
+pub record AreRowsNumbered (rows : List TripRow) (kept : List CodeTripRow) : Type 0 where
   pub number : List ℕ → ℕ
   pub name : ℕ → List ℕ
-  pub numbered : All (λ r. number r.trip_id.now ≡ r.trip) rows
-  pub named : All (λ r. name r.trip ≡ r.trip_id.now) rows
-
--- each row has its trip's number
-pub record AreNumbered (numbers : BTreeMap (Bor (List ℕ)) ℕ) (names : List (Bor (List ℕ))) (rows : List TripRow) : Type 0 where
-  pub named : AreNamed numbers names
-  pub numbered : All (λ r. number_in numbers r.trip_id.now ≡ Some r.trip) rows
+  pub numbered : AllNumbered number name kept
+  pub same : map (trip_row name) kept ≡ rows

@@ -1,5 +1,5 @@
 -- The rows of trips in their order: by trip, sequence and row. What a row breaks by its place among them.
-use Rattle.std.specs.Prelude.{ℕ, ◌&&◌, ◌||◌, not, Bool, true, false, if◌then◌else◌, List, [], ◌∷◌, bytes_eq, Option, None, ℤ, pos, int_lt, IsPermutation}
+use Rattle.std.specs.Prelude.{ℕ, ◌&&◌, ◌||◌, not, Bool, true, false, if◌then◌else◌, List, [], ◌∷◌, bytes_eq, Option, None, ℤ, pos, int_lt, map, IsPermutation}
 use Rattle.std.specs.List.Sorted.{IsStrictlySortedBy}
 use Rattle.std.specs.Option.{option_or}
 use Rattle.std.specs.Ordering.{int_cmp, int_eq, nat_cmp, on, then_cmp}
@@ -8,7 +8,8 @@ use Rattle.gtfs_table.specs.Folder.{text_cmp}
 use Rattle.gtfs_table.specs.Tables.{Dataset}
 use Rattle.gtfs_rules.specs.declared.trips.row.TripRow.{TripRow as CodeTripRow}
 use Rattle.gtfs_rules.specs.Values.{if_both}
-use Rattle.gtfs_rules.specs.TripRows.{TripRow, trip_rows_in}
+use Rattle.gtfs_rules.specs.TripNumbers.{AllNumbered}
+use Rattle.gtfs_rules.specs.TripRows.{TripRow, trip_row, trip_rows_in}
 
 abbrev pub same_trip : TripRow → TripRow → Bool
 same_trip a b = bytes_eq a.trip_id b.trip_id
@@ -33,6 +34,13 @@ pub record InOrder (d : Dataset) (rows : List TripRow) : Type 0 where
   pub number : List ℕ → ℕ
   pub moved : IsPermutation (trip_rows_in d) rows
   pub ascending : IsStrictlySortedBy (row_cmp number) rows
+
+-- rows as they are kept, which stand in this order
+pub record AreInOrder (d : Dataset) (kept : List CodeTripRow) : Type 0 where
+  pub number : List ℕ → ℕ
+  pub name : ℕ → List ℕ
+  pub numbered : AllNumbered number name kept
+  pub order : InOrder d (map (trip_row name) kept)
 
 -- ---- a row and the rows before it, of which the last comes first
 

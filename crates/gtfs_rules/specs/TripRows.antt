@@ -16,10 +16,10 @@ pub record TripRow : Type 0 where
   -- both times are empty
   pub is_untimed : Bool
 
--- a row of the code
-abbrev pub trip_row : CodeTripRow → TripRow
-trip_row r = record {
-  trip_id = r.trip_id.now;
+-- a row of the code, whose trip is known by its number
+abbrev pub trip_row : (ℕ → List ℕ) → CodeTripRow → TripRow
+trip_row name r = record {
+  trip_id = name r.trip;
   sequence = pos r.stop_sequence;
   row = r.row;
   arrival = option_map pos r.arrival;

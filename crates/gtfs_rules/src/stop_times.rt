@@ -47,7 +47,7 @@ pub(crate) fn tell_stop_times<'a>(
 {
     let columns = StopTimeColumns::of(tables);
     let mut named = NamedRows::new(&*ids, types);
-    let mut notes = TripNotes::new(alloc, &ids.trips);
+    let mut notes = TripNotes::new(alloc);
     for n in 0..tables.records(File::StopTimes).saturating_sub(1) {
         let row = n + 2;
         if let Some(record) = row_record(tables, File::StopTimes, row) {

@@ -3,4 +3,4 @@ pub(crate) mod notes;
 pub(crate) mod numbers;
 pub(crate) mod order;
 pub(crate) mod row;
-pub(crate) mod seen;
+pub(crate) mod row_counts;

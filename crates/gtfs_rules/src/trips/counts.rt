@@ -1,19 +1,20 @@
-ghost use Rattle.std.specs.Prelude.{◌≡◌, ◌∷◌, [], not, OnOk};
+ghost use Rattle.std.specs.Prelude.{◌≡◌, ◌∷◌, [], nat_lt, OnOk};
 ghost use Rattle.gtfs_rules.specs.declared.code.Code.TheVariants as code;
-ghost use Rattle.gtfs_rules.specs.FieldView.{field_text};
 ghost use Rattle.gtfs_rules.specs.Found.{Tells};
 ghost use Rattle.gtfs_rules.specs.Picks.{of_codes};
-ghost use Rattle.gtfs_rules.specs.Sightings.{is_twice, sighting};
+ghost use Rattle.gtfs_rules.specs.TripCounts.{count_of};
 ghost use Rattle.gtfs_rules.specs.TripNotes.{trip_notes_in};
 ghost use Rattle.gtfs_rules.specs.TripTexts.{id_in_text};
 ghost use Rattle.gtfs_rules.specs.Values.{if_there};
 
 use crate::code::Code;
 use crate::field::Field;
+use crate::file_name::FileName;
 use crate::found::Found;
-use crate::rule::{Place, Rule, tell_rows};
+use crate::problem::Problem;
+use crate::row::is_row;
 use crate::trips::notes::TripNotes;
-use crate::trips::seen::SeenTrips;
+use crate::trips::row_counts::RowCounts;
 use crate::values;
 use gtfs_field::OutOfMemory;
 use gtfs_table::{File, Tables};
@@ -29,32 +30,29 @@ pub(crate) fn tell_counts<'a>(
     requires { notes.now ≡ trip_notes_in tables.now }
     ensures { OnOk result (Tells tables.now (of_codes (code.W06 ∷ [])) found.old found.new) }
 {
-    let place = Place {
-        code: Code::W06,
-        file: File::Trips,
-        column: "trip_id",
-    };
-    let mut rule = FewRows {
-        trip_id: Field::new(tables, File::Trips, "trip_id"),
-        seen: notes.seen(alloc)?,
-    };
-    tell_rows(tables, place, &mut rule, found)
-}
-
-// The rows of trips.txt whose trip was not seen twice.
-#[derive(Drop)]
-struct FewRows<'a> {
-    trip_id: Field<'a>,
-    seen: SeenTrips<'a>,
-}
-
-impl Rule for FewRows<'_> {
-    ghost breaks = { λ rule n. if_there (id_in_text (field_text rule.trip_id n)) (λ trip. not (is_twice (sighting rule.seen.trips trip))) };
-
-    fn breaks(&mut self, row: usize) -> bool {
-        match values::id(self.trip_id.text(row)) {
-            Some(trip_id) => !self.seen.is_twice(trip_id),
-            None => false,
+    let trip_id = Field::new(tables, File::Trips, "trip_id");
+    let counts = notes.counts(alloc)?;
+    for n in 0..tables.records(File::Trips).saturating_sub(1) {
+        let row = n + 2;
+        if is_row(tables, File::Trips, row) {
+            let problem = Problem {
+                file: FileName::Kept(File::Trips),
+                row,
+                code: Code::W06,
+                column: "trip_id",
+            };
+            found.tell(problem, has_few_rows(&counts, trip_id.text(row)))?;
         }
+    }
+    Ok(())
+}
+
+// Whether a text is the id of a trip that fewer than two rows of stop_times.txt name.
+fn has_few_rows(counts: &RowCounts<'_, '_>, text: &str) -> bool
+    ensures { result ≡ if_there (id_in_text text.now) (λ trip. nat_lt (count_of counts.now.numbers.now counts.now.counts.items trip) 2) }
+{
+    match values::id(text) {
+        Some(trip_id) => counts.are_few(trip_id),
+        None => false,
     }
 }

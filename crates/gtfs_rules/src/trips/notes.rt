@@ -1,10 +1,9 @@
-ghost use Rattle.std.specs.Prelude.{◌≡◌, [], map, nat_lt, not, List, ℕ, IfOk};
-ghost use Rattle.gtfs_rules.specs.Sightings.{is_twice, sighting};
+ghost use Rattle.std.specs.Prelude.{◌≡◌, [], List, ℕ, IfOk};
+ghost use Rattle.gtfs_rules.specs.TripCounts.{count_of};
 
-use crate::ids::Ids;
 use crate::trips::numbers::trip_number;
 use crate::trips::row::TripRow;
-use crate::trips::seen::SeenTrips;
+use crate::trips::row_counts::{RowCounts, count_rows};
 use gtfs_field::OutOfMemory;
 use std::alloc::Global;
 use std::collections::BTreeMap;
@@ -27,19 +26,17 @@ impl<'a> TripNote<'a> {
     ghost use Rattle.gtfs_rules.specs.TripNotes.{note_of, trip_note};
 
     // The row as it is kept, its trip by its number.
-    fn to_row(self, trip: usize) -> TripRow<'a>
-        ensures note { note_of result ≡ trip_note self.entry }
-        ensures trip_id { result.trip_id.now ≡ self.entry.trip_id.now }
+    fn to_row(self, trip: usize) -> TripRow
+        ensures note { (name : ℕ → List ℕ) → name trip ≡ self.entry.trip_id.now → note_of name result ≡ trip_note self.entry }
         ensures trip { result.trip ≡ trip }
     {
         TripRow {
-            trip_id: self.trip_id,
             trip,
-            stop_sequence: self.stop_sequence.unwrap_or(0),
-            has_sequence: self.stop_sequence.is_some(),
             row: self.row,
             arrival: self.arrival,
             departure: self.departure,
+            stop_sequence: self.stop_sequence.unwrap_or(0),
+            has_sequence: self.stop_sequence.is_some(),
             is_untimed: self.is_untimed,
         }
     }
@@ -48,7 +45,7 @@ impl<'a> TripNote<'a> {
 // What the rows of stop_times.txt say of their trips.
 #[derive(Drop)]
 pub(crate) struct TripNotes<'a> {
-    rows: Vec<TripRow<'a>>,
+    rows: Vec<TripRow>,
     // The trips by their numbers, and their numbers. The first row that names a trip gives it its number, so that rows that
     // stand together are in order.
     names: Vec<&'a str>,
@@ -58,11 +55,11 @@ pub(crate) struct TripNotes<'a> {
 impl<'a> Model for TripNotes<'a> {
     ghost use Rattle.std.specs.Prelude.{List, map};
     ghost use Rattle.gtfs_rules.specs.TripNotes.{TripNote, note_of};
-    ghost use Rattle.gtfs_rules.specs.TripNumbers.{AreNumbered};
+    ghost use Rattle.gtfs_rules.specs.TripNumbers.{AreNumbered, name_at};
 
     ghost Value = { List TripNote };
 
-    ghost view = { λ n. map note_of n.rows.items };
+    ghost view = { λ n. map (note_of (name_at n.names.items)) n.rows.items };
 
     ghost invariant = { λ n. AreNumbered n.numbers n.names.items n.rows.items };
 }
@@ -71,10 +68,9 @@ impl<'a> TripNotes<'a> {
     ghost use Rattle.std.specs.Prelude.{◌∷◌, ◌++◌, filter, OnOk};
     ghost use Rattle.gtfs_rules.specs.TripNotes.{rows_of_notes, times_noted, trip_note};
     ghost use Rattle.gtfs_rules.specs.TripNumbers.{AreRowsNumbered};
-    ghost use Rattle.gtfs_rules.specs.TripRows.{trip_row};
 
-    // No notes. Trips get their numbers as rows name them, so that the ids of trips.txt are not asked.
-    pub(crate) fn new(alloc: Global, _trips: &Ids<'a>) -> TripNotes<'a>
+    // No notes.
+    pub(crate) fn new(alloc: Global) -> TripNotes<'a>
         ensures { result ≡ [] }
     {
         TripNotes {
@@ -94,22 +90,19 @@ impl<'a> TripNotes<'a> {
         Ok(())
     }
 
-    // The trips that the rows name.
-    pub(crate) fn seen(&self, alloc: Global) -> Result<SeenTrips<'a>, OutOfMemory>
-        ensures { IfOk result (λ seen. (trip : List ℕ) → not (is_twice (sighting seen.trips trip))
-            ≡ nat_lt (times_noted self.now trip) 2) }
+    // How many rows name each trip.
+    pub(crate) fn counts<'n>(&'n self, alloc: Global) -> Result<RowCounts<'a, 'n>, OutOfMemory>
+        ensures { IfOk result (λ rows. (trip : List ℕ) → count_of rows.numbers.now rows.counts.items trip ≡ times_noted self.now trip) }
     {
-        let mut seen = SeenTrips::new(alloc);
-        for at in 0..self.rows.len() {
-            seen.see(self.rows[at].trip_id)?;
-        }
-        Ok(seen)
+        Ok(RowCounts {
+            numbers: &self.numbers,
+            counts: count_rows(alloc, &self.rows, self.names.len())?,
+        })
     }
 
     // The rows that have a sequence, in the file's order.
-    pub(crate) fn into_rows(self) -> Vec<TripRow<'a>>
-        ensures rows { map trip_row result.items ≡ rows_of_notes self.entry }
-        ensures numbered { AreRowsNumbered result.items }
+    pub(crate) fn into_rows(self) -> Vec<TripRow>
+        ensures { AreRowsNumbered (rows_of_notes self.entry) result.items }
     {
         let TripNotes { mut rows, .. } = self;
         rows.retain(|row| row.has_sequence);

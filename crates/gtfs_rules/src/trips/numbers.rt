@@ -7,16 +7,17 @@ use std::collections::BTreeMap;
 
 // The number of a trip that a row names after these rows.
 pub(crate) fn trip_number<'a>(
-    rows: &[TripRow<'a>],
+    rows: &[TripRow],
     numbers: &mut BTreeMap<&'a str, usize>,
     names: &mut Vec<&'a str>,
     id: &'a str,
 ) -> Result<usize, OutOfMemory>
     requires { AreNumbered numbers.old names.old.items rows.now }
-    ensures numbered { AreNumbered numbers.new names.new.items rows.now }
+    ensures named { AreNamed numbers.new names.new.items }
+    ensures keeps { Keeps numbers.old numbers.new }
     ensures number { IfOk result (λ n. number_in numbers.new id.now ≡ Some n) }
 {
-    match last_number(rows, id) {
+    match last_number(rows, names, id) {
         Some(number) => Ok(number),
         None => number_of(numbers, names, id),
     }
@@ -43,11 +44,12 @@ fn number_of<'a>(
 }
 
 // The number of a trip, where the last row names it.
-fn last_number(rows: &[TripRow], id: &str) -> Option<usize>
-    ensures { IfSome result (IsNumberAmong rows.now id.now) }
+fn last_number(rows: &[TripRow], names: &[&str], id: &str) -> Option<usize>
+    ensures { IfSome result (IsNumberAmong rows.now names.now id.now) }
 {
     let last = rows.last()?;
-    if last.trip_id != id {
+    let name = names.get(last.trip)?;
+    if *name != id {
         return None;
     }
     Some(last.trip)

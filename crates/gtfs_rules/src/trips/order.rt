@@ -1,4 +1,4 @@
-ghost use Rattle.std.specs.Prelude.{◌≡◌, ◌∷◌, ◌||◌, [], map, reverse, codes, pos, option_map, OnOk};
+ghost use Rattle.std.specs.Prelude.{◌≡◌, ◌∷◌, ◌||◌, [], List, ℕ, map, reverse, codes, pos, option_map, OnOk};
 ghost use Rattle.gtfs_table.specs.Tables.{Dataset};
 ghost use Rattle.gtfs_table.specs.declared.file.File.TheVariants as file;
 ghost use Rattle.gtfs_rules.specs.declared.code.Code.TheVariants as code;
@@ -6,8 +6,8 @@ ghost use Rattle.gtfs_rules.specs.declared.file_name.FileName.TheVariants as fil
 ghost use Rattle.gtfs_rules.specs.Found.{Tells};
 ghost use Rattle.gtfs_rules.specs.Picks.{at_column, in_file, of_codes};
 ghost use Rattle.gtfs_rules.specs.TripNotes.{trip_notes_in};
-ghost use Rattle.gtfs_rules.specs.TripNumbers.{AreRowsNumbered};
-ghost use Rattle.gtfs_rules.specs.TripOrder.{ends, follows, is_left_later, is_untimed_end, last_left as last_left_of, left_before, kept_cmp, repeats, InOrder};
+ghost use Rattle.gtfs_rules.specs.TripNumbers.{AllNumbered, AreRowsNumbered, IsNumbered};
+ghost use Rattle.gtfs_rules.specs.TripOrder.{ends, follows, is_left_later, is_untimed_end, last_left as last_left_of, left_before, kept_cmp, repeats, AreInOrder};
 ghost use Rattle.gtfs_rules.specs.TripRows.{trip_row, trip_rows_in};
 
 use crate::code::Code;
@@ -37,8 +37,8 @@ pub(crate) fn tell_order<'a>(
 }
 
 // The rows by trip, sequence and row. Where they stand in this order already, as they mostly do, one pass finds it so.
-fn in_order(mut rows: Vec<TripRow<'_>>) -> Vec<TripRow<'_>>
-    ensures { (d : Dataset) → map trip_row rows.entry.items ≡ trip_rows_in d → AreRowsNumbered rows.entry.items → InOrder d (map trip_row result.items) }
+fn in_order(mut rows: Vec<TripRow>) -> Vec<TripRow>
+    ensures { (d : Dataset) → AreRowsNumbered (trip_rows_in d) rows.items → AreInOrder d result.items }
 {
     rows.sort_unstable_by(|a, b| order(a, b));
     rows
@@ -55,7 +55,7 @@ fn order(a: &TripRow, b: &TripRow) -> Ordering
 
 // Rows whose trip and sequence an earlier row has.
 fn tell_repeats<'a>(rows: &[TripRow], found: &mut Found<'a>) -> Result<(), OutOfMemory>
-    ensures { OnOk result ((d : Dataset) → InOrder d (map trip_row rows.now)
+    ensures { OnOk result ((d : Dataset) → AreInOrder d rows.now
         → Tells d (at_column code.E09 file.StopTimes (codes "stop_sequence")) found.old found.new) }
 {
     for at in 0..rows.len() {
@@ -68,7 +68,7 @@ fn tell_repeats<'a>(rows: &[TripRow], found: &mut Found<'a>) -> Result<(), OutOf
 
 // The first and the last row of a trip where it has no time.
 fn tell_untimed_ends<'a>(rows: &[TripRow], found: &mut Found<'a>) -> Result<(), OutOfMemory>
-    ensures { OnOk result ((d : Dataset) → InOrder d (map trip_row rows.now)
+    ensures { OnOk result ((d : Dataset) → AreInOrder d rows.now
         → Tells d (at_column code.E15 file.StopTimes (codes "arrival_time")) found.old found.new) }
 {
     let mut ends_trip = true;
@@ -83,7 +83,7 @@ fn tell_untimed_ends<'a>(rows: &[TripRow], found: &mut Found<'a>) -> Result<(), 
 
 // Rows that are reached before the row with a time before them is left.
 fn tell_times_back<'a>(rows: &[TripRow], found: &mut Found<'a>) -> Result<(), OutOfMemory>
-    ensures { OnOk result ((d : Dataset) → InOrder d (map trip_row rows.now)
+    ensures { OnOk result ((d : Dataset) → AreInOrder d rows.now
         → Tells d (at_column code.E17 file.StopTimes (codes "arrival_time")) found.old found.new) }
 {
     let mut last_left = None;
@@ -110,32 +110,34 @@ fn problem<'a>(row: &TripRow, code: Code, column: &'static str) -> Problem<'a>
 
 // Whether the row before is of the same trip.
 fn follows(before: &[TripRow], row: &TripRow) -> bool
-    ensures { result ≡ follows (reverse (map trip_row before.now)) (trip_row row.now) }
+    ensures { (number : List ℕ → ℕ) (name : ℕ → List ℕ) → AllNumbered number name before.now → IsNumbered number name row.now
+        → result ≡ follows (reverse (map (trip_row name) before.now)) (trip_row name row.now) }
 {
     match before.last() {
-        Some(last) => row.trip_id == last.trip_id,
+        Some(last) => row.trip == last.trip,
         None => false,
     }
 }
 
 // Whether the row before has the same trip and sequence.
 fn repeats(before: &[TripRow], row: &TripRow) -> bool
-    ensures { result ≡ repeats (reverse (map trip_row before.now)) (trip_row row.now) }
+    ensures { (number : List ℕ → ℕ) (name : ℕ → List ℕ) → AllNumbered number name before.now → IsNumbered number name row.now
+        → result ≡ repeats (reverse (map (trip_row name) before.now)) (trip_row name row.now) }
 {
     match before.last() {
-        Some(last) => row.trip_id == last.trip_id && row.stop_sequence == last.stop_sequence,
+        Some(last) => row.trip == last.trip && row.stop_sequence == last.stop_sequence,
         None => false,
     }
 }
 
 // Whether no row after is of the same trip and has a greater sequence, where that is known of the next row.
 fn ends(row: &TripRow, after: &[TripRow], next_ends: bool) -> bool
-    requires { next_ends ≡ ends (map trip_row after.now) }
-    ensures { result ≡ ends (trip_row row.now ∷ map trip_row after.now) }
+    ensures { (number : List ℕ → ℕ) (name : ℕ → List ℕ) → IsNumbered number name row.now → AllNumbered number name after.now
+        → next_ends ≡ ends (map (trip_row name) after.now) → result ≡ ends (trip_row name row.now ∷ map (trip_row name) after.now) }
 {
     match after.first() {
         Some(next) => {
-            row.trip_id != next.trip_id || (row.stop_sequence == next.stop_sequence && next_ends)
+            row.trip != next.trip || (row.stop_sequence == next.stop_sequence && next_ends)
         }
         None => true,
     }
@@ -143,15 +145,17 @@ fn ends(row: &TripRow, after: &[TripRow], next_ends: bool) -> bool
 
 // Whether a row without times is the first of its trip, or of the rows with its trip's greatest sequence.
 fn is_untimed_end(before: &[TripRow], row: &TripRow, ends_trip: bool) -> bool
-    ensures { result ≡ is_untimed_end (reverse (map trip_row before.now)) (trip_row row.now) ends_trip }
+    ensures { (number : List ℕ → ℕ) (name : ℕ → List ℕ) → AllNumbered number name before.now → IsNumbered number name row.now
+        → result ≡ is_untimed_end (reverse (map (trip_row name) before.now)) (trip_row name row.now) ends_trip }
 {
     row.is_untimed && (!follows(before, row) || (!repeats(before, row) && ends_trip))
 }
 
 // When the row's trip was left last, where that is known of the row before.
 fn left_before(before: &[TripRow], row: &TripRow, last_left: Option<u32>) -> Option<u32>
-    requires { option_map pos last_left ≡ last_left_of (reverse (map trip_row before.now)) }
-    ensures { option_map pos result ≡ left_before (reverse (map trip_row before.now)) (trip_row row.now) }
+    ensures { (number : List ℕ → ℕ) (name : ℕ → List ℕ) → AllNumbered number name before.now → IsNumbered number name row.now
+        → option_map pos last_left ≡ last_left_of (reverse (map (trip_row name) before.now))
+        → option_map pos result ≡ left_before (reverse (map (trip_row name) before.now)) (trip_row name row.now) }
 {
     if follows(before, row) {
         last_left

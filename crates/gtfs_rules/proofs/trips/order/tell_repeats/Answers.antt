@@ -1,5 +1,7 @@
 use Rattle.std.proofs.Common.{◌∙◌, ap}
 use Rattle.std.specs.Prelude.{codes}
+use Rattle.std.proofs.lemmas.List.Elements.{All-take}
+use Rattle.gtfs_rules.specs.TripNumbers.{IsNumbered}
 use Rattle.gtfs_rules.specs.View.{problem_of}
 use Rattle.gtfs_rules.specs.declared.code.Code.TheVariants as code
 use Rattle.gtfs_rules.proofs.TripRestated.{repeats_among}
@@ -11,10 +13,12 @@ loop-at-init c = λ d o. seen_none d code.E09 (codes "stop_sequence") c.args.fou
 
 pub loop-at-preserved : goal.loop-at-preserved
 loop-at-preserved c = λ d o.
-    told_forward d c.args.rows.now o code.E09 (codes "stop_sequence") repeats_among (repeats_told d) c.loop-at.at _ c.loop-at-test.true c.problem-problem.result c.repeats.result _ _ _
-    (ap problem_of c.problem-problem.ensures) (c.repeats.ensures ∙ repeats_here d c.args.rows.now o c.loop-at.at _ c.loop-at-test.true) c.in_ok-tell.ensures (c.loop-at.invariant d o)
+    told_forward d o.name c.args.rows.now o.order code.E09 (codes "stop_sequence") repeats_among (repeats_told d) c.loop-at.at _ c.loop-at-test.true c.problem-problem.result c.repeats.result _ _ _
+    (ap problem_of c.problem-problem.ensures)
+    (c.repeats.ensures o.number o.name (All-take (IsNumbered o.number o.name) c.loop-at.at c.args.rows.now o.numbered) (o.numbered c.loop-at.at _ c.loop-at-test.true)
+    ∙ repeats_here d o.name c.args.rows.now o.order c.loop-at.at _ c.loop-at-test.true) c.in_ok-tell.ensures (c.loop-at.invariant d o)
 
 pub returns : goal.returns
 returns c = λ d o.
-    seen_all d code.E09 (codes "stop_sequence") repeats_among (repeats_told d) (rows_before c.args.rows.now c.loop-at.at) c.args.found.now c.loop-at.found
-    (before_end d c.args.rows.now o c.loop-at.at c.loop-at-test.false) (c.loop-at.invariant d o)
+    seen_all d code.E09 (codes "stop_sequence") repeats_among (repeats_told d) (rows_before o.name c.args.rows.now c.loop-at.at) c.args.found.now c.loop-at.found
+    (before_end d o.name c.args.rows.now o.order c.loop-at.at c.loop-at-test.false) (c.loop-at.invariant d o)

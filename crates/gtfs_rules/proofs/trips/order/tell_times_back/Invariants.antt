@@ -1,16 +1,16 @@
-use Rattle.std.proofs.Common.{◌≡◌, map, option_map}
+use Rattle.std.proofs.Common.{◌≡◌, ℕ, List, option_map}
 use Rattle.std.specs.Prelude.{codes, pos}
 use Rattle.gtfs_table.specs.Tables.{Dataset}
 use Rattle.gtfs_rules.specs.declared.code.Code.TheVariants as code
 use Rattle.gtfs_rules.specs.Found.{Tells}
-use Rattle.gtfs_rules.specs.TripOrder.{last_left, InOrder}
-use Rattle.gtfs_rules.specs.TripRows.{trip_row}
+use Rattle.gtfs_rules.specs.TripNumbers.{AllNumbered}
+use Rattle.gtfs_rules.specs.TripOrder.{last_left, AreInOrder}
 use Rattle.gtfs_rules.proofs.TripTells.{rows_before, seen}
 use Rattle.gtfs_rules.proofs.trips.order.tell_times_back.Given as goal
 
 -- the rows so far, and when the last of them left its trip
 abbrev pub invariant-loop-at : goal.invariant-loop-at
 invariant-loop-at l = record {
-  told : (d : Dataset) → InOrder d (map trip_row l.rows) → Tells d (seen code.E17 (codes "arrival_time") (rows_before l.rows l.at)) l.fn.found l.found;
-  left : option_map pos l.last_left ≡ last_left (rows_before l.rows l.at);
+  told : (d : Dataset) (o : AreInOrder d l.rows) → Tells d (seen code.E17 (codes "arrival_time") (rows_before o.name l.rows l.at)) l.fn.found l.found;
+  left : (number : List ℕ → ℕ) (name : ℕ → List ℕ) → AllNumbered number name l.rows → option_map pos l.last_left ≡ last_left (rows_before name l.rows l.at);
 }

@@ -1,16 +1,16 @@
-use Rattle.std.proofs.Common.{◌≡◌, map}
+use Rattle.std.proofs.Common.{◌≡◌, ℕ, List}
 use Rattle.std.specs.Prelude.{codes}
 use Rattle.gtfs_table.specs.Tables.{Dataset}
 use Rattle.gtfs_rules.specs.declared.code.Code.TheVariants as code
 use Rattle.gtfs_rules.specs.Found.{Tells}
-use Rattle.gtfs_rules.specs.TripOrder.{ends, InOrder}
-use Rattle.gtfs_rules.specs.TripRows.{trip_row}
+use Rattle.gtfs_rules.specs.TripNumbers.{AllNumbered}
+use Rattle.gtfs_rules.specs.TripOrder.{ends, AreInOrder}
 use Rattle.gtfs_rules.proofs.TripTells.{rows_from, seen}
 use Rattle.gtfs_rules.proofs.trips.order.tell_untimed_ends.Given as goal
 
 -- the rows so far, and whether no later row of the trip of the first of them has a greater sequence
 abbrev pub invariant-loop-at : goal.invariant-loop-at
 invariant-loop-at l = record {
-  told : (d : Dataset) → InOrder d (map trip_row l.rows) → Tells d (seen code.E15 (codes "arrival_time") (rows_from l.rows l.at)) l.fn.found l.found;
-  ends_trip : l.ends_trip ≡ ends (rows_from l.rows l.at);
+  told : (d : Dataset) (o : AreInOrder d l.rows) → Tells d (seen code.E15 (codes "arrival_time") (rows_from o.name l.rows l.at)) l.fn.found l.found;
+  ends_trip : (number : List ℕ → ℕ) (name : ℕ → List ℕ) → AllNumbered number name l.rows → l.ends_trip ≡ ends (rows_from name l.rows l.at);
 }
