@@ -91,13 +91,18 @@ impl<'a> Finder<'a> {
     }
 }
 
-// The last eight bytes as one number, or all where there are fewer.
+// The last eight bytes as one number. Of fewer the first and the last four, and of fewer than four all.
 #[inline(always)]
 fn last_bytes(bytes: &[u8]) -> u64 {
-    match bytes {
-        [.., a, b, c, d, e, f, g, h] => u64::from_le_bytes([*a, *b, *c, *d, *e, *f, *g, *h]),
-        _ => bytes
-            .iter()
-            .fold(0, |number: u64, byte| number << 8 | u64::from(*byte)),
+    if let [.., a, b, c, d, e, f, g, h] = bytes {
+        return u64::from_le_bytes([*a, *b, *c, *d, *e, *f, *g, *h]);
     }
+    if let [a, b, c, d, ..] = bytes
+        && let [.., e, f, g, h] = bytes
+    {
+        return u64::from_le_bytes([*a, *b, *c, *d, *e, *f, *g, *h]);
+    }
+    bytes
+        .iter()
+        .fold(0, |number: u64, byte| number << 8 | u64::from(*byte))
 }
