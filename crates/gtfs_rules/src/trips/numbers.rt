@@ -1,4 +1,4 @@
-ghost use Rattle.std.specs.Prelude.{◌≡◌, Some, IfOk, IfSome};
+ghost use Rattle.std.specs.Prelude.{◌≡◌, true, None, Some, IfOk, IfSome};
 ghost use Rattle.gtfs_rules.specs.TripNumbers.{number_in, AreNamed, AreNumbered, IsNumberAmong, Keeps};
 
 use crate::trips::row::TripRow;
@@ -34,13 +34,34 @@ fn number_of<'a>(
     ensures keeps { Keeps numbers.old numbers.new }
     ensures number { IfOk result (λ n. number_in numbers.new id.now ≡ Some n) }
 {
-    if let Some(number) = numbers.get(id) {
-        return Ok(*number);
+    if let Some(number) = known_number(numbers, id) {
+        return Ok(number);
     }
     let number = names.len();
     names.push(id)?;
     numbers.insert(id, number)?;
     Ok(number)
+}
+
+// The number of a trip, if it has one.
+fn known_number(numbers: &BTreeMap<&str, usize>, id: &str) -> Option<usize>
+    ensures { result ≡ number_in numbers.now id.now }
+{
+    if is_beyond(numbers, id) {
+        return None;
+    }
+    numbers.get(id).copied()
+}
+
+// Whether an id comes after all that have a number, as where trips stand in the order of their ids. Such an
+// id is new, and need not be looked for.
+fn is_beyond(numbers: &BTreeMap<&str, usize>, id: &str) -> bool
+    ensures { result ≡ true → number_in numbers.now id.now ≡ None }
+{
+    match numbers.last_key_value() {
+        Some((last, _)) => *last < id,
+        None => false,
+    }
 }
 
 // The number of a trip, where the last row names it.

@@ -13,11 +13,11 @@ returns-in_err-insert-clause-named c = rw c.in_ok-push.ensures.items (λ id n ha
 pub returns-clause-named : goal.returns-clause-named
 returns-clause-named c =
     let next : c.len-number.result ≡ length c.args.names.now.items = omega (arith, c.len-number.ensures, c.args.names.now.ok.0) in
-    rw c.in_ok-push.ensures.items (now_named c.args.numbers.now c.insert.new.self c.args.names.now.items c.args.id c.len-number.result next (sym c.in_default.ensures.value)
+    rw c.in_ok-push.ensures.items (now_named c.args.numbers.now c.insert.new.self c.args.names.now.items c.args.id c.len-number.result next (sym c.in_default.ensures)
     (btree_map_updates_str c.args.id.now c.args.numbers.now c.insert.new.self _ c.in_ok-insert.ensures.updates) c.requires)
 
 pub returns-clause-keeps : goal.returns-clause-keeps
 returns-clause-keeps c =
     let next : c.len-number.result ≡ length c.args.names.now.items = omega (arith, c.len-number.ensures, c.args.names.now.ok.0) in
-    number_stays c.args.numbers.now c.insert.new.self c.args.names.now.items c.args.id c.len-number.result next (sym c.in_default.ensures.value)
+    number_stays c.args.numbers.now c.insert.new.self c.args.names.now.items c.args.id c.len-number.result next (sym c.in_default.ensures)
     (btree_map_updates_str c.args.id.now c.args.numbers.now c.insert.new.self _ c.in_ok-insert.ensures.updates)
