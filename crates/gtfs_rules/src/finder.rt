@@ -91,16 +91,17 @@ impl<'a> Finder<'a> {
     }
 }
 
-// The last eight bytes as one number. Of fewer the first and the last four, and of fewer than four all.
+// The last eight bytes as one number, the last one lowest, where it moves the slot most. Of fewer bytes the first and
+// the last four, and of fewer than four all.
 #[inline(always)]
 fn last_bytes(bytes: &[u8]) -> u64 {
     if let [.., a, b, c, d, e, f, g, h] = bytes {
-        return u64::from_le_bytes([*a, *b, *c, *d, *e, *f, *g, *h]);
+        return u64::from_be_bytes([*a, *b, *c, *d, *e, *f, *g, *h]);
     }
     if let [a, b, c, d, ..] = bytes
         && let [.., e, f, g, h] = bytes
     {
-        return u64::from_le_bytes([*a, *b, *c, *d, *e, *f, *g, *h]);
+        return u64::from_be_bytes([*a, *b, *c, *d, *e, *f, *g, *h]);
     }
     bytes
         .iter()
