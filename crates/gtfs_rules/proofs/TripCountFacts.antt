@@ -1,80 +1,93 @@
 -- How many rows of stop_times.txt name a trip, counted by the numbers of trips.
-use Rattle.std.proofs.Common.{◌≡◌, ◌≢◌, ◌+◌, ◌<◌, ◌≤◌, ◌∙◌, ◌∷◌, [], ℕ, Bool, true, false, List, cond, filter, length, map, get_or, replicate, set, take, refl, sym, ap, arith, inl, inr, Bor, Option, Some, None, option_map}
+use Rattle.std.proofs.Common.{◌≡◌, ◌≢◌, ◌+◌, ◌<◌, ◌≤◌, ◌∙◌, ◌++◌, ◌∷◌, [], ℕ, Bool, true, false, List, cond, filter, length, length-append, map, get_or, set, refl, sym, ap, arith, inl, inr, Bor, Option, Some, None, option_map}
 use Rattle.std.specs.Prelude.{◌&&◌, ◌==◌, bytes_eq, codes, nat_lt, not}
 use Rattle.std.specs.BTreeMap.{BTreeMap}
 use Rattle.std.specs.List.{All}
 use Rattle.std.specs.Option.{unwrap_or}
-use Rattle.std.proofs.lemmas.Bool.{cases_Bool, cases_lt}
-use Rattle.std.proofs.lemmas.List.{get_or_default, get_or_past, get_or-replicate, get_or-set_other, get_or-set_same, length-replicate, length-take-le}
-use Rattle.std.proofs.lemmas.List.Elements.{All-tail}
-use Rattle.std.proofs.lemmas.List.Filters.{length-filter_both, length-filter_more}
+use Rattle.std.proofs.lemmas.Bool.{cases_Bool}
+use Rattle.std.proofs.lemmas.List.{get_or_default, get_or-set_other, get_or-set_same}
+use Rattle.std.proofs.lemmas.List.Elements.{All-push, All-tail, filter-append}
+use Rattle.std.proofs.lemmas.List.Filters.{length-filter_both}
 use Rattle.gtfs_table.specs.Tables.{Dataset}
 use Rattle.gtfs_table.specs.declared.file.File.TheVariants as file
 use Rattle.gtfs_rules.specs.declared.code.Code.TheVariants as code
 use Rattle.gtfs_rules.specs.declared.trips.row.TripRow.{TripRow}
 use Rattle.gtfs_rules.specs.Problems.{holds_in}
 use Rattle.gtfs_rules.specs.Rows.{is_row, records_in, text_in}
-use Rattle.gtfs_rules.specs.TripCounts.{AreCounts, count_of}
+use Rattle.gtfs_rules.specs.TripCounts.{AreCounts, AreKept, count_of}
 use Rattle.gtfs_rules.specs.TripNotes.{note_of, times_noted, trip_notes_in}
-use Rattle.gtfs_rules.specs.TripNumbers.{AreNumbered, name_at, number_in}
+use Rattle.gtfs_rules.specs.TripNumbers.{AreNamed, AreNumbered, Keeps, name_at, number_in}
 use Rattle.gtfs_rules.specs.TripTexts.{id_in_text}
 use Rattle.gtfs_rules.specs.Values.{if_there}
-use Rattle.gtfs_rules.proofs.BoolFacts.{same_test}
+use Rattle.gtfs_rules.proofs.BoolFacts.{and_parts, same_test}
 use Rattle.gtfs_rules.proofs.PlaceFacts.{number_itself, same_number, text_is, text_itself}
+use Rattle.gtfs_rules.proofs.TripNumberFacts.{one_numbered, rows_stay}
 use Rattle.gtfs_rules.proofs.TripRowFacts.{as_many, named_rows}
 
--- ---- counts by number, row by row
+-- ---- what is kept, row by row
 
--- each row's number is one of these
-pub within : (rows : List TripRow) (numbers all : ℕ) → numbers ≤ all → All (λ (r : TripRow). r.trip < numbers) rows → All (λ (r : TripRow). r.trip < all) rows
-within rows numbers all fits each k d below = omega (arith, each k d below, fits)
+one_more : (n : ℕ) (rows : List TripRow) (row : TripRow) → length (filter (λ r. n == r.trip) (rows ++ row ∷ [])) ≡ length (filter (λ r. n == r.trip) rows) + cond (n == row.trip) 1 0
+one_more n rows row =
+    ap length (filter-append (λ (r : TripRow). n == r.trip) rows (row ∷ []))
+    ∙ length-append (filter (λ r. n == r.trip) rows) (filter (λ r. n == r.trip) (row ∷ []))
+    ∙ ap (λ m. length (filter (λ r. n == r.trip) rows) + m) (if_one (n == row.trip))
+  where
+    if_one : (b : Bool) → length (cond b (row ∷ []) []) ≡ cond b 1 0
+    if_one true = refl
+    if_one false = refl
 
--- no rows, and as many counts of them as there are numbers
-pub counts_start : (numbers : ℕ) → AreCounts (replicate numbers 0) []
-counts_start numbers n = elim (cases_lt n numbers) [
-  | inl inside ↦ get_or-replicate numbers n 0 0 inside
-  | inr past ↦ get_or_past (replicate numbers 0) n 0 (omega (arith, past, length-replicate {A = ℕ} numbers 0))
-]
-
--- no count is greater than the number of the rows
-pub count_fits : (counts : List ℕ) (rows : List TripRow) (at : ℕ) → at < length rows → AreCounts counts (take at rows) → (count n : ℕ) → n < length counts → count ≡ get_or counts n count
-    → count ≤ at
-count_fits counts rows at below counted count n inside is =
-    omega (
-      arith,
-      below,
-      is,
-      get_or_default counts n count 0 inside,
-      counted n,
-      length-filter_both (λ r. n == r.trip) (λ r. not (n == r.trip)) (λ r. refl) (take at rows),
-      length-take-le at rows (omega (arith, below)),
-    )
-
-module _ (counts : List ℕ) (rows : List TripRow) (at : ℕ) (z : TripRow) (below : at < length rows) (counted : AreCounts counts (take at rows)) where
-  abbrev trip : ℕ
-  trip = (get_or rows at z).trip
-
-  pub counts_more : trip < length counts → (count : ℕ) → count ≡ get_or counts trip count → AreCounts (set counts trip (count + 1)) (take (at + 1) rows)
-  counts_more inside count was n = elim (cases_Bool (n == trip)) [
+module _ (counts : List ℕ) (rows : List TripRow) (counted : AreCounts counts rows) where
+  counts_more : (row : TripRow) → row.trip < length counts → (count : ℕ) → count ≡ get_or counts row.trip count → AreCounts (set counts row.trip (count + 1)) (rows ++ row ∷ [])
+  counts_more row inside count was n = elim (cases_Bool (n == row.trip)) [
     | inl here ↦
-        let same : n ≡ trip = same_number n trip here in
-        ap (λ m. get_or (set counts trip (count + 1)) m 0) same ∙ get_or-set_same counts trip (count + 1) 0 inside
-        ∙ ap (λ m. m + 1) (was ∙ get_or_default counts trip count 0 inside ∙ ap (λ m. get_or counts m 0) (sym same) ∙ counted n)
-        ∙ ap (λ b. length (filter (λ r. n == r.trip) (take at rows)) + cond b 1 0) (sym here)
-        ∙ sym (length-filter_more (λ r. n == r.trip) rows at z below)
+        let same : n ≡ row.trip = same_number n row.trip here in
+        ap (λ m. get_or (set counts row.trip (count + 1)) m 0) same ∙ get_or-set_same counts row.trip (count + 1) 0 inside
+        ∙ ap (λ m. m + 1) (was ∙ get_or_default counts row.trip count 0 inside ∙ ap (λ m. get_or counts m 0) (sym same) ∙ counted n)
+        ∙ ap (λ b. length (filter (λ r. n == r.trip) rows) + cond b 1 0) (sym here)
+        ∙ sym (one_more n rows row)
     | inr other ↦
-        get_or-set_other counts trip n (count + 1) 0 (apart other)
+        get_or-set_other counts row.trip n (count + 1) 0 (apart other)
         ∙ counted n
         ∙ sym (add_none _)
-        ∙ ap (λ b. length (filter (λ r. n == r.trip) (take at rows)) + cond b 1 0) (sym other)
-        ∙ sym (length-filter_more (λ r. n == r.trip) rows at z below)
+        ∙ ap (λ b. length (filter (λ r. n == r.trip) rows) + cond b 1 0) (sym other)
+        ∙ sym (one_more n rows row)
   ]
     where
-      apart : (n == trip) ≡ false → n ≢ trip
+      apart : (n == row.trip) ≡ false → n ≢ row.trip
       apart other same = let clash : true ≡ false = sym (number_itself n) ∙ ap (λ m. n == m) same ∙ other in cc
 
       add_none : (m : ℕ) → m + 0 ≡ m
       add_none m = omega arith
+
+  -- no count is greater than the number of the rows
+  pub count_fits : (count n : ℕ) → n < length counts → count ≡ get_or counts n count → count ≤ length rows
+  count_fits count n inside is =
+      omega (arith, is, get_or_default counts n count 0 inside, counted n, length-filter_both (λ r. n == r.trip) (λ r. not (n == r.trip)) (λ r. refl) rows)
+
+-- after a trip was given its number
+pub still_kept : (old new : BTreeMap (Bor (List ℕ)) ℕ) (names more : List (Bor (List ℕ))) (counts wide : List ℕ) (are_placed : Bool) (rows : List TripRow) → AreKept old names counts are_placed rows
+    → Keeps old new → AreNamed new more → ((n : ℕ) → get_or wide n 0 ≡ get_or counts n 0) → AreKept new more wide are_placed rows
+still_kept old new names more counts wide are_placed rows kept keeps named same = record {
+  numbered = record { named = named; numbered = rows_stay old new names more rows kept.numbered.numbered keeps named };
+  counted = λ n. same n ∙ kept.counted n;
+  placed = kept.placed;
+}
+
+-- one row more
+pub one_kept : (numbers : BTreeMap (Bor (List ℕ)) ℕ) (names : List (Bor (List ℕ))) (counts : List ℕ) (are_placed : Bool) (rows : List TripRow) (row : TripRow) (id : List ℕ) (count : ℕ) (are : Bool)
+    → are ≡ (are_placed && row.has_sequence) → AreKept numbers names counts are_placed rows → number_in numbers id ≡ Some row.trip → row.trip < length counts → count ≡ get_or counts row.trip count
+    → AreKept numbers names (set counts row.trip (count + 1)) are (rows ++ row ∷ [])
+one_kept numbers names counts are_placed rows row id count are both kept here inside was = record {
+  numbered = one_numbered numbers names rows row id kept.numbered.named kept.numbered.numbered here;
+  counted = counts_more counts rows kept.counted row inside count was;
+  placed = λ all. let parts = and_parts are_placed row.has_sequence (sym both ∙ all) in All-push (λ (r : TripRow). r.has_sequence ≡ true) rows row (kept.placed parts.0) parts.1;
+}
+
+-- rows that all pass
+pub all_pass : (p : TripRow → Bool) (rows : List TripRow) → All (λ r. p r ≡ true) rows → filter p rows ≡ rows
+all_pass p [] each = refl
+all_pass p (r ∷ rows) each =
+    ap (λ b. cond b (r ∷ filter p rows) (filter p rows)) (each 0 r (omega arith)) ∙ ap (λ rs. r ∷ rs) (all_pass p rows (All-tail (λ r. p r ≡ true) r rows each))
 
 -- ---- rows that name a trip
 

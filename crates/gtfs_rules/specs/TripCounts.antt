@@ -1,10 +1,11 @@
--- How many rows of stop_times.txt name a trip, by the numbers of trips.
-use Rattle.std.specs.Prelude.{◌≡◌, ◌==◌, ℕ, List, filter, get_or, length, option_map}
+-- What is kept of the rows of stop_times.txt: how many name a trip, by the numbers of trips, and whether each has a sequence.
+use Rattle.std.specs.Prelude.{◌≡◌, ◌==◌, ℕ, Bool, true, List, filter, get_or, length, option_map}
 use Rattle.std.specs.Borrow.{Bor}
 use Rattle.std.specs.BTreeMap.{BTreeMap}
+use Rattle.std.specs.List.{All}
 use Rattle.std.specs.Option.{unwrap_or}
 use Rattle.gtfs_rules.specs.declared.trips.row.TripRow.{TripRow as CodeTripRow}
-use Rattle.gtfs_rules.specs.TripNumbers.{number_in}
+use Rattle.gtfs_rules.specs.TripNumbers.{number_in, AreNumbered}
 
 -- of each number how many rows have it
 abbrev pub AreCounts : List ℕ → List CodeTripRow → Type 0
@@ -13,3 +14,12 @@ AreCounts counts rows = (n : ℕ) → get_or counts n 0 ≡ length (filter (λ r
 -- how many rows name a trip; a trip without a number has none
 abbrev pub count_of : BTreeMap (Bor (List ℕ)) ℕ → List ℕ → List ℕ → ℕ
 count_of numbers counts trip = unwrap_or (option_map (λ n. get_or counts n 0) (number_in numbers trip)) 0
+
+-- each row has a sequence, where this says so
+abbrev pub ArePlaced : Bool → List CodeTripRow → Type 0
+ArePlaced are rows = are ≡ true → All (λ r. r.has_sequence ≡ true) rows
+
+pub record AreKept (numbers : BTreeMap (Bor (List ℕ)) ℕ) (names : List (Bor (List ℕ))) (counts : List ℕ) (are_placed : Bool) (rows : List CodeTripRow) : Type 0 where
+  pub numbered : AreNumbered numbers names rows
+  pub counted : AreCounts counts rows
+  pub placed : ArePlaced are_placed rows

@@ -102,7 +102,7 @@ fn tell_trips<'a>(
     ensures { OnOk result (Tells tables.now in_trips found.old found.new) }
 {
     let notes = tell_stop_times(alloc, tables, ids, types, found)?;
-    tell_counts(alloc, tables, &notes, found)?;
+    tell_counts(tables, &notes, found)?;
     tell_order(tables, notes, found)
 }
 

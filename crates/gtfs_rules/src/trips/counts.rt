@@ -18,11 +18,9 @@ use crate::trips::row_counts::RowCounts;
 use crate::values;
 use gtfs_field::OutOfMemory;
 use gtfs_table::{File, Tables};
-use std::alloc::Global;
 
 // Tells each row of trips.txt whose trip has fewer than two rows in stop_times.txt.
 pub(crate) fn tell_counts<'a>(
-    alloc: Global,
     tables: &'a Tables,
     notes: &TripNotes<'a>,
     found: &mut Found<'a>,
@@ -31,7 +29,7 @@ pub(crate) fn tell_counts<'a>(
     ensures { OnOk result (Tells tables.now (of_codes (code.W06 ∷ [])) found.old found.new) }
 {
     let trip_id = Field::new(tables, File::Trips, "trip_id");
-    let counts = notes.counts(alloc)?;
+    let counts = notes.counts();
     for n in 0..tables.records(File::Trips).saturating_sub(1) {
         let row = n + 2;
         if is_row(tables, File::Trips, row) {
@@ -49,7 +47,7 @@ pub(crate) fn tell_counts<'a>(
 
 // Whether a text is the id of a trip that fewer than two rows of stop_times.txt name.
 fn has_few_rows(counts: &RowCounts<'_, '_>, text: &str) -> bool
-    ensures { result ≡ if_there (id_in_text text.now) (λ trip. nat_lt (count_of counts.now.numbers.now counts.now.counts.items trip) 2) }
+    ensures { result ≡ if_there (id_in_text text.now) (λ trip. nat_lt (count_of counts.now.numbers.now counts.now.counts.now trip) 2) }
 {
     match values::id(text) {
         Some(trip_id) => counts.are_few(trip_id),

@@ -1,9 +1,9 @@
-ghost use Rattle.std.specs.Prelude.{◌≡◌, [], List, ℕ, IfOk};
+ghost use Rattle.std.specs.Prelude.{◌≡◌, [], List, ℕ};
 ghost use Rattle.gtfs_rules.specs.TripCounts.{count_of};
 
 use crate::trips::numbers::trip_number;
 use crate::trips::row::TripRow;
-use crate::trips::row_counts::{RowCounts, count_rows};
+use crate::trips::row_counts::{RowCounts, make_room};
 use gtfs_field::OutOfMemory;
 use std::alloc::Global;
 use std::collections::BTreeMap;
@@ -46,22 +46,27 @@ impl<'a> TripNote<'a> {
 #[derive(Drop)]
 pub(crate) struct TripNotes<'a> {
     rows: Vec<TripRow>,
+    // Whether each row has a sequence.
+    are_placed: bool,
     // The trips by their numbers, and their numbers. The first row that names a trip gives it its number, so that rows that
     // stand together are in order.
     names: Vec<&'a str>,
     numbers: BTreeMap<&'a str, usize>,
+    // How many rows have each number.
+    counts: Vec<usize>,
 }
 
 impl<'a> Model for TripNotes<'a> {
     ghost use Rattle.std.specs.Prelude.{List, map};
+    ghost use Rattle.gtfs_rules.specs.TripCounts.{AreKept};
     ghost use Rattle.gtfs_rules.specs.TripNotes.{TripNote, note_of};
-    ghost use Rattle.gtfs_rules.specs.TripNumbers.{AreNumbered, name_at};
+    ghost use Rattle.gtfs_rules.specs.TripNumbers.{name_at};
 
     ghost Value = { List TripNote };
 
     ghost view = { λ n. map (note_of (name_at n.names.items)) n.rows.items };
 
-    ghost invariant = { λ n. AreNumbered n.numbers n.names.items n.rows.items };
+    ghost invariant = { λ n. AreKept n.numbers n.names.items n.counts.items n.are_placed n.rows.items };
 }
 
 impl<'a> TripNotes<'a> {
@@ -75,8 +80,10 @@ impl<'a> TripNotes<'a> {
     {
         TripNotes {
             rows: Vec::new(alloc),
+            are_placed: true,
             names: Vec::new(alloc),
             numbers: BTreeMap::new(alloc),
+            counts: Vec::new(alloc),
         }
     }
 
@@ -86,26 +93,36 @@ impl<'a> TripNotes<'a> {
     {
         let id = note.trip_id;
         let trip = trip_number(&self.rows, &mut self.numbers, &mut self.names, id)?;
-        self.rows.push(note.to_row(trip))?;
+        make_room(&mut self.counts, self.names.len())?;
+        let row = note.to_row(trip);
+        self.rows.push(row)?;
+        self.counts[trip] += 1;
+        self.are_placed = self.are_placed && row.has_sequence;
         Ok(())
     }
 
     // How many rows name each trip.
-    pub(crate) fn counts<'n>(&'n self, alloc: Global) -> Result<RowCounts<'a, 'n>, OutOfMemory>
-        ensures { IfOk result (λ rows. (trip : List ℕ) → count_of rows.numbers.now rows.counts.items trip ≡ times_noted self.now trip) }
+    pub(crate) fn counts<'n>(&'n self) -> RowCounts<'a, 'n>
+        ensures { (trip : List ℕ) → count_of result.numbers.now result.counts.now trip ≡ times_noted self.now trip }
     {
-        Ok(RowCounts {
+        RowCounts {
             numbers: &self.numbers,
-            counts: count_rows(alloc, &self.rows, self.names.len())?,
-        })
+            counts: &self.counts,
+        }
     }
 
     // The rows that have a sequence, in the file's order.
     pub(crate) fn into_rows(self) -> Vec<TripRow>
         ensures { AreRowsNumbered (rows_of_notes self.entry) result.items }
     {
-        let TripNotes { mut rows, .. } = self;
-        rows.retain(|row| row.has_sequence);
+        let TripNotes {
+            mut rows,
+            are_placed,
+            ..
+        } = self;
+        if !are_placed {
+            rows.retain(|row| row.has_sequence);
+        }
         rows
     }
 }

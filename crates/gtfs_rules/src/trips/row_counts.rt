@@ -1,24 +1,21 @@
-ghost use Rattle.std.specs.Prelude.{◌≡◌, ◌<◌, nat_lt, IfOk};
-ghost use Rattle.std.specs.List.{All};
-ghost use Rattle.gtfs_rules.specs.TripCounts.{count_of, AreCounts};
+ghost use Rattle.std.specs.Prelude.{◌≡◌, ◌≤◌, ℕ, length, get_or, nat_lt, OnOk};
+ghost use Rattle.gtfs_rules.specs.TripCounts.{count_of};
 
-use crate::trips::row::TripRow;
 use gtfs_field::OutOfMemory;
-use std::alloc::Global;
 use std::collections::BTreeMap;
 
 // How many rows of stop_times.txt name each trip.
-#[derive(Drop)]
+#[derive(Clone, Copy)]
 pub(crate) struct RowCounts<'a, 'n> {
     pub(crate) numbers: &'n BTreeMap<&'a str, usize>,
     // By the numbers of the trips.
-    pub(crate) counts: Vec<usize>,
+    pub(crate) counts: &'n [usize],
 }
 
 impl RowCounts<'_, '_> {
     // Whether fewer than two rows name a trip.
     pub(crate) fn are_few(&self, trip_id: &str) -> bool
-        ensures { result ≡ nat_lt (count_of self.now.numbers.now self.now.counts.items trip_id.now) 2 }
+        ensures { result ≡ nat_lt (count_of self.now.numbers.now self.now.counts.now trip_id.now) 2 }
     {
         match self.numbers.get(trip_id) {
             Some(number) => self.counts.get(*number).copied().unwrap_or(0) < 2,
@@ -27,18 +24,13 @@ impl RowCounts<'_, '_> {
     }
 }
 
-// How many rows have each of this many numbers.
-pub(crate) fn count_rows(
-    alloc: Global,
-    rows: &[TripRow],
-    numbers: usize,
-) -> Result<Vec<usize>, OutOfMemory>
-    requires { All (λ r. r.trip < numbers) rows.now }
-    ensures { IfOk result (λ counts. AreCounts counts.items rows.now) }
+// Makes room for the counts of this many numbers.
+pub(crate) fn make_room(counts: &mut Vec<usize>, numbers: usize) -> Result<(), OutOfMemory>
+    ensures same { (n : ℕ) → get_or counts.new.items n 0 ≡ get_or counts.old.items n 0 }
+    ensures room { OnOk result (numbers ≤ length counts.new.items) }
 {
-    let mut counts = vec![in alloc; 0; numbers]?;
-    for at in 0..rows.len() {
-        counts[rows[at].trip] += 1;
+    if counts.len() < numbers {
+        counts.resize(numbers, 0)?;
     }
-    Ok(counts)
+    Ok(())
 }

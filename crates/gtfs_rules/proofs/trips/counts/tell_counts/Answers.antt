@@ -16,16 +16,16 @@ use Rattle.gtfs_rules.proofs.trips.counts.tell_counts.Goals as goal
 pub loop-n-init : goal.loop-n-init
 loop-n-init c =
     let d = c.args.tables.now in
-    let counts = c.in_ok-counts.counts in
+    let counts = c.counts-counts.result in
     rows_start d file.Trips _ (silent_column d code.W06 file.Trips (codes "trip_id") _
-    (few_rows d counts.numbers.now counts.counts.items (field_text c.new-trip_id.result) c.new-trip_id.ensures (λ trip. c.in_ok-counts.ensures trip ∙ ap (λ notes. times_noted notes trip) c.requires))) _
+    (few_rows d counts.numbers.now counts.counts.now (field_text c.new-trip_id.result) c.new-trip_id.ensures (λ trip. c.counts-counts.ensures trip ∙ ap (λ notes. times_noted notes trip) c.requires))) _
 
 pub loop-n-preserved : goal.loop-n-preserved
 loop-n-preserved c =
     let d = c.args.tables.now in
-    let counts = c.in_ok-counts.counts in
+    let counts = c.counts-counts.result in
     let picks = at_column code.W06 file.Trips (codes "trip_id") in
-    let rule = few_rows d counts.numbers.now counts.counts.items (field_text c.new-trip_id.result) c.new-trip_id.ensures (λ trip. c.in_ok-counts.ensures trip ∙ ap (λ notes. times_noted notes trip) c.requires) in
+    let rule = few_rows d counts.numbers.now counts.counts.now (field_text c.new-trip_id.result) c.new-trip_id.ensures (λ trip. c.counts-counts.ensures trip ∙ ap (λ notes. times_noted notes trip) c.requires) in
     let next : c.loop-n.n + 1 + 2 ≡ c.loop-n.n + 2 + 1 = omega arith in
     let silent = silent_column d code.W06 file.Trips (codes "trip_id") _ rule in
     elim c.if-is_row.branch [
@@ -41,9 +41,9 @@ loop-n-preserved c =
 pub returns : goal.returns
 returns c =
     let d = c.args.tables.now in
-    let counts = c.in_ok-counts.counts in
+    let counts = c.counts-counts.result in
     let picks = at_column code.W06 file.Trips (codes "trip_id") in
-    let rule = few_rows d counts.numbers.now counts.counts.items (field_text c.new-trip_id.result) c.new-trip_id.ensures (λ trip. c.in_ok-counts.ensures trip ∙ ap (λ notes. times_noted notes trip) c.requires) in
+    let rule = few_rows d counts.numbers.now counts.counts.now (field_text c.new-trip_id.result) c.new-trip_id.ensures (λ trip. c.counts-counts.ensures trip ∙ ap (λ notes. times_noted notes trip) c.requires) in
     tells_rule d code.W06 file.Trips "trip_id" has_few_rows refl (λ y n name. refl) _ _
     (rows_done d file.Trips picks (silent_column d code.W06 file.Trips (codes "trip_id") _ rule) (c.loop-n.n + 2) _ _
     (row_past d file.Trips (c.loop-n.n + 2) (rw (← c.records.ensures) (omega (arith, c.loop-n-test.false, c.saturating_sub-n-end.ensures)))) c.loop-n.invariant)

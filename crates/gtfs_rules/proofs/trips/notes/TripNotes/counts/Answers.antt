@@ -5,5 +5,5 @@ use Rattle.gtfs_rules.proofs.trips.notes.TripNotes.counts.Goals as goal
 
 pub returns : goal.returns
 returns c = λ trip.
-    trip_counted c.self.inside.numbers c.self.inside.names.items trip c.self.inside.rows.items c.self.invariant c.in_ok-count_rows.field-0.items (rw c.deref.ensures.value at c.in_ok-count_rows.ensures)
+    trip_counted c.self.inside.numbers c.self.inside.names.items trip c.self.inside.rows.items c.self.invariant.numbered c.deref.result.now (rw c.deref.ensures.value c.self.invariant.counted)
     ∙ ap (λ notes. times_noted notes trip) c.self.view_is
