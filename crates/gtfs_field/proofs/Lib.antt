@@ -6,6 +6,7 @@ mod Dates
 mod Fractions
 mod Numerals
 mod Texts
+mod TimePlaces
 mod Times
 mod Wides
 mod WorkedTexts

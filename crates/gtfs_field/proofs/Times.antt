@@ -14,8 +14,11 @@ pair_at t i = get_or t i 0 ∷ get_or t (i + 1) 0 ∷ []
 abbrev pub hours_at : List ℕ → Option ℕ
 hours_at hours = if is_number hours && nat_le (length hours) 3 then Some (number hours) else None
 
+abbrev pub sixtieth_of : List ℕ → Option ℕ
+sixtieth_of ds = if is_sixtieth ds then Some (number ds) else None
+
 abbrev pub sixtieth_at : List ℕ → ℕ → Option ℕ
-sixtieth_at t i = if is_sixtieth (pair_at t i) then Some (number (pair_at t i)) else None
+sixtieth_at t i = sixtieth_of (pair_at t i)
 
 pub time_from-not : (hours rest : List ℕ) → has_time_shape hours rest ≡ false → None ≡ result_ok (time_from hours rest)
 time_from-not hours rest without = sym (ap result_ok (shaped-false _ _ without))
@@ -26,6 +29,20 @@ length-not n other = grind (arith, nat_tests)
 pub time_from-length : (hours rest : List ℕ) → length rest ≢ 5 → None ≡ result_ok (time_from hours rest)
 time_from-length hours rest other =
     time_from-not hours rest (and_left _ _ (and_left _ _ (and_left _ _ (and_right _ _ (length-not (length rest) other)))))
+
+pub time_from-hours : (hours rest : List ℕ) → None ≡ hours_at hours → None ≡ result_ok (time_from hours rest)
+time_from-hours hours rest none =
+    time_from-not hours rest (and_left _ _ (and_left _ _ (and_left _ _ (and_left _ _ (test-none _ _ none)))))
+
+pub time_from-middle : (hours rest : List ℕ) → get_or rest 2 0 ≢ 58 → None ≡ result_ok (time_from hours rest)
+time_from-middle hours rest other =
+    let no-colon : is_colon (get_or rest 2 0) ≡ false = grind (arith, nat_tests) in
+    time_from-not hours rest (and_left _ _ (and_left _ _ (and_right _ _ no-colon)))
+
+pub time_from-minutes : (hours rest : List ℕ) → length rest ≡ 5 → None ≡ sixtieth_at rest 0 → None ≡ result_ok (time_from hours rest)
+time_from-minutes hours (m1 ∷ m2 ∷ colon ∷ s1 ∷ s2 ∷ []) five none =
+    time_from-not hours (m1 ∷ m2 ∷ colon ∷ s1 ∷ s2 ∷ []) (and_left _ _ (and_right _ _ (test-none _ _ none)))
+time_from-minutes hours rest five none = absurd (omega arith)
 
 pub time_from-seconds : (hours rest : List ℕ) → length rest ≡ 5 → None ≡ sixtieth_at rest 3 → None ≡ result_ok (time_from hours rest)
 time_from-seconds hours (m1 ∷ m2 ∷ colon ∷ s1 ∷ s2 ∷ []) five none =

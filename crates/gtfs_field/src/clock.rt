@@ -1,12 +1,13 @@
-ghost use Rattle.std.specs.Prelude.{◌≡◌, ◌≤◌, ◌<◌, ◌&&◌, ◌∷◌, [], if◌then◌else◌, length, drop, nat_le, Some, None, IfSome, ℕ, ◌+◌, ◌/◌, ◌%◌, ◌++◌, Ok, OnOk, OnErr, string_bytes};
+ghost use Rattle.std.specs.Prelude.{◌≡◌, ◌≤◌, ◌<◌, ◌&&◌, ◌∷◌, [], if◌then◌else◌, length, drop, nat_le, Some, None, IfSome, ℕ, ◌+◌, ◌-◌, ◌/◌, ◌%◌, ◌++◌, Ok, OnOk, OnErr, string_bytes};
 ghost use Rattle.std.specs.Result.{result_ok};
+ghost use Rattle.std.specs.Char.{is_ascii_digit};
 ghost use Rattle.gtfs_field.specs.Digits.{is_number, number, wide};
-ghost use Rattle.gtfs_field.specs.Kinds.{time_of, time_from, is_sixtieth};
+ghost use Rattle.gtfs_field.specs.Kinds.{time_of, is_sixtieth};
 ghost use Rattle.gtfs_field.specs.Canonical.{time_text, hours_text};
 
 use crate::OutOfMemory;
 use crate::ascii::{push_ascii, write_wide};
-use crate::digits::{number_of, two_digits};
+use crate::digits::two_digits;
 use crate::fault::FieldFault;
 use std::alloc::Global;
 use std::marker::Model;
@@ -112,16 +113,7 @@ fn seconds_of(text: &str) -> Option<u32>
     ensures value { result ≡ result_ok (time_of text.now) }
     ensures bound { IfSome result (λ n. n ≤ 3_599_999) }
 {
-    let (hours, rest) = text.split_once(':')?;
-    seconds_from(hours.as_bytes(), rest.as_bytes())
-}
-
-/// The seconds of a time, from what stands before its first colon and after it.
-fn seconds_from(hours: &[u8], rest: &[u8]) -> Option<u32>
-    ensures value { result ≡ result_ok (time_from hours.now rest.now) }
-    ensures bound { IfSome result (λ n. n ≤ 3_599_999) }
-{
-    let [m1, m2, b':', s1, s2] = rest else {
+    let [hours @ .., b':', m1, m2, b':', s1, s2] = text.as_bytes() else {
         return None;
     };
     let hours = hours_of(hours)?;
@@ -135,9 +127,23 @@ fn hours_of(text: &[u8]) -> Option<u32>
     ensures value { result ≡ (if is_number text.now && nat_le (length text.now) 3 then Some (number text.now) else None) }
     ensures bound { IfSome result (λ n. n < 1000) }
 {
-    match number_of(text) {
-        Some(hours) if text.len() <= 3 => Some(hours as u32),
+    match text {
+        [ones] => digit(*ones),
+        [tens, ones] => two_digits(*tens, *ones),
+        [hundreds, tens, ones] => Some(100 * digit(*hundreds)? + two_digits(*tens, *ones)?),
         _ => None,
+    }
+}
+
+/// The number that a digit writes.
+fn digit(byte: u8) -> Option<u32>
+    ensures value { result ≡ (if is_ascii_digit byte then Some (byte - 48) else None) }
+    ensures bound { IfSome result (λ n. n < 10) }
+{
+    if byte.is_ascii_digit() {
+        Some(u32::from(byte - b'0'))
+    } else {
+        None
     }
 }
 

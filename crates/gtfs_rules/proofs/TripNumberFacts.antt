@@ -1,7 +1,7 @@
 -- Numbers that are given to trips one after the other.
 use Rattle.std.proofs.Common.{◌≡◌, ◌-◌, ◌<◌, ◌∙◌, ◌++◌, ◌∷◌, [], ℕ, List, map, filter, length, length-append, get_or, true, false, Bool, cond, Bor, Some, None, refl, sym, ap, arith, inl, inr}
 use Rattle.std.specs.Prelude.{bytes_eq, not, option_map, pos}
-use Rattle.std.specs.BTreeMap.{BTreeMap, is_at, IsEmpty, IsUnchanged}
+use Rattle.std.specs.BTreeMap.{BTreeMap, is_at, IsUnchanged}
 use Rattle.std.specs.Cmp.Lexicographic.{slice_cmp}
 use Rattle.std.specs.List.{All, slice_get}
 use Rattle.std.specs.Map.{lookup, update}
@@ -95,12 +95,6 @@ pub one_numbered : (numbers : BTreeMap (Bor (List ℕ)) ℕ) (names : List (Bor 
 one_numbered numbers names rows row id named each here = record {
   named = named;
   numbered = All-push (λ (r : TripRow). number_in numbers (name_at names r.trip) ≡ Some r.trip) rows row each (ap (number_in numbers) (named _ _ here).1 ∙ here);
-}
-
-pub none_numbered : (numbers : BTreeMap (Bor (List ℕ)) ℕ) (names : List (Bor (List ℕ))) → IsEmpty numbers → AreNumbered numbers names []
-none_numbered numbers names empty = record {
-  named = λ id n has. let clash : None ≡ Some n = sym (ap (lookup (is_at (λ (key : Bor (List ℕ)). slice_cmp nat_cmp id key.now))) empty) ∙ has in cc;
-  numbered = λ k d below. absurd (omega (arith, below));
 }
 
 -- the last row has the number

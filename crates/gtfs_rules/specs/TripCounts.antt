@@ -19,6 +19,7 @@ count_of numbers counts trip = unwrap_or (option_map (λ n. get_or counts n 0) (
 abbrev pub ArePlaced : Bool → List CodeTripRow → Type 0
 ArePlaced are rows = are ≡ true → All (λ r. r.has_sequence ≡ true) rows
 
+-- what is kept beside the rows is right of them
 pub record AreKept (numbers : BTreeMap (Bor (List ℕ)) ℕ) (names : List (Bor (List ℕ))) (counts : List ℕ) (are_placed : Bool) (rows : List CodeTripRow) : Type 0 where
   pub numbered : AreNumbered numbers names rows
   pub counted : AreCounts counts rows
