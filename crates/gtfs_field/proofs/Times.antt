@@ -1,11 +1,14 @@
 -- Times from what stands before the first colon and after it.
-use Rattle.std.proofs.Common.{◌≡◌, ◌≢◌, ℕ, ◌+◌, ◌*◌, ◌&&◌, ◌==◌, true, false, Option, Some, None, if◌then◌else◌, nat_le, List, [], ◌∷◌, length, get_or, arith, refl, sym, ap}
+use Rattle.std.proofs.Common.{◌≡◌, ◌≢◌, ℕ, ◌+◌, ◌-◌, ◌*◌, ◌&&◌, ◌==◌, true, false, Option, Some, None, if◌then◌else◌, nat_le, List, [], ◌∷◌, length, get_or, arith, refl, sym, ap}
 use Rattle.std.specs.Result.{result_ok}
+use Rattle.std.specs.Char.{is_ascii_digit}
+use Rattle.std.specs.Str.{all_ascii_digits}
 use Rattle.std.proofs.lemmas.Bool.{and_left, and_right, and_from}
 use Rattle.std.proofs.lemmas.Bool.Decides.{nat_tests}
-use Rattle.gtfs_field.specs.Digits.{is_number, number}
+use Rattle.gtfs_field.specs.Digits.{is_number, is_wide, number}
 use Rattle.gtfs_field.specs.Kinds.{time_from, has_time_shape, is_sixtieth, is_colon}
-use Rattle.gtfs_field.proofs.Choices.{test-some, test-none, shaped-true, shaped-false}
+use Rattle.gtfs_field.proofs.Numerals.{digit_value-digit}
+use Rattle.gtfs_field.proofs.Choices.{test-some, test-none, some-test, none-test, shaped-true, shaped-false}
 
 -- the two bytes at a place of a text
 abbrev pub pair_at : List ℕ → ℕ → List ℕ
@@ -19,6 +22,22 @@ sixtieth_of ds = if is_sixtieth ds then Some (number ds) else None
 
 abbrev pub sixtieth_at : List ℕ → ℕ → Option ℕ
 sixtieth_at t i = sixtieth_of (pair_at t i)
+
+-- three digits of hours
+pub hours_at-pair : (t : List ℕ) (n : ℕ) → length t ≡ 3 → None ≡ (if is_wide 2 (pair_at t 1) then Some n else None) → None ≡ hours_at t
+hours_at-pair (a ∷ b ∷ c ∷ []) n three none =
+    none-test _ _ (and_left (is_number (a ∷ b ∷ c ∷ [])) _ (and_right (is_ascii_digit a) (all_ascii_digits (b ∷ c ∷ [])) (test-none _ n none)))
+hours_at-pair t n three none = absurd (omega arith)
+
+pub hours_at-three : (t : List ℕ) (h n : ℕ) → length t ≡ 3 → Some h ≡ (if is_ascii_digit (get_or t 0 0) then Some (get_or t 0 0 - 48) else None)
+    → Some n ≡ (if is_wide 2 (pair_at t 1) then Some (number (pair_at t 1)) else None) → Some (100 * h + n) ≡ hours_at t
+hours_at-three (a ∷ b ∷ c ∷ []) h n three first last =
+    let one = test-some _ _ _ first in
+    let two = test-some _ _ _ last in
+    let digit = digit_value-digit a one.0 in
+    let value : 100 * h + n ≡ number (a ∷ b ∷ c ∷ []) = omega (arith, one.1, two.1, digit) in
+    some-test _ _ _ (and_from (is_number (a ∷ b ∷ c ∷ [])) _ (and_from (is_ascii_digit a) (all_ascii_digits (b ∷ c ∷ [])) one.0 two.0) refl) value
+hours_at-three t h n three first last = absurd (omega arith)
 
 pub time_from-not : (hours rest : List ℕ) → has_time_shape hours rest ≡ false → None ≡ result_ok (time_from hours rest)
 time_from-not hours rest without = sym (ap result_ok (shaped-false _ _ without))
