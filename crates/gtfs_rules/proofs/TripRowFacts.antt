@@ -64,12 +64,6 @@ note_is d n = of_values (word_in d file.StopTimes n "trip_id") (sequence_in d n)
 pub trip_notes_read : (d : Dataset) → filter_map (note_read d) (rows d file.StopTimes) ≡ trip_notes_in d
 trip_notes_read d = kept (note_read d) (has_trip_id d) (trip_note_in d) (note_is d) (rows d file.StopTimes)
 
--- the texts of a row by columns that were found once
-pub note_alike : (d : Dataset) (n : ℕ) (id place arrives departs : List ℕ) → id ≡ text_in d file.StopTimes n (codes "trip_id")
-    → place ≡ text_in d file.StopTimes n (codes "stop_sequence") → arrives ≡ text_in d file.StopTimes n (codes "arrival_time")
-    → departs ≡ text_in d file.StopTimes n (codes "departure_time") → note_of_texts id place arrives departs n ≡ note_read d n
-note_alike d n id place arrives departs e f g h = λ i. note_of_texts (e i) (f i) (g i) (h i) n
-
 -- ---- of these the rows that have a sequence
 
 of_kept : {A B : Type 0} (f : ℕ → A) (has : ℕ → Bool) (read : A → Option B) (ns : List ℕ)
