@@ -14,9 +14,10 @@ use Rattle.gtfs_field.specs.declared.fault.FieldFault.{FieldFault}
 use Rattle.gtfs_field.specs.Kinds.{time_of}
 use Rattle.gtfs_table.specs.Tables.{Dataset}
 use Rattle.gtfs_table.specs.declared.file.File.TheVariants as file
-use Rattle.gtfs_rules.specs.Columns.{time}
+use Rattle.gtfs_rules.specs.Columns.{id, time}
 use Rattle.gtfs_rules.specs.PeriodRules.{overlaps_earlier, share_second}
-use Rattle.gtfs_rules.specs.PeriodView.{Period, id_of, meets_one, met_among, period_in, period_of, rows_to, seconds_of}
+use Rattle.gtfs_rules.specs.PeriodView.{Period, meets_one, met_among, period_in, period_of, rows_to}
+use Rattle.gtfs_rules.specs.Reads.{seconds_of, word_of}
 use Rattle.gtfs_rules.specs.Rows.{is_row, records_in, rows, text_in, word_in}
 use Rattle.gtfs_rules.specs.Values.{as_amount, counted, if_both, if_there, is_empty, is_word, readable}
 use Rattle.gtfs_rules.proofs.EachFacts.{any_alike}
@@ -165,8 +166,8 @@ module _ (d : Dataset) (n : ℕ) where
   rule_by_period = (λ i. if_there (word_in d file.Frequencies n "trip_id") (λ trip. list_any (λ m. nat_lt m n && is_word (word_in d file.Frequencies m "trip_id") trip
       && if_both (time_amount (text_at m "start_time") i) (time_amount (text_at m "end_time") i)
       (λ x y. if_both (time_amount (text_at n "start_time") i) (time_amount (text_at n "end_time") i) (share_second x y))) (rows d file.Frequencies)))
-      ∙ by_period (λ m. nat_lt m n) (λ m. id_of (text_at m "trip_id")) (λ m. seconds_of (text_at m "start_time")) (λ m. seconds_of (text_at m "end_time")) (rows d file.Frequencies)
-      (id_of (text_at n "trip_id")) (seconds_of (text_at n "start_time")) (seconds_of (text_at n "end_time"))
+      ∙ by_period (λ m. nat_lt m n) (λ m. word_of id (text_at m "trip_id")) (λ m. seconds_of (text_at m "start_time")) (λ m. seconds_of (text_at m "end_time")) (rows d file.Frequencies)
+      (word_of id (text_at n "trip_id")) (seconds_of (text_at n "start_time")) (seconds_of (text_at n "end_time"))
 
 pub rule_asked : (d : Dataset) (n : ℕ) → n < length (records_in d file.Frequencies) - 1
     → if_there (period_in d (n + 2)) (λ p. met_among d (rows_to d n) p.0 p.1 p.2) ≡ overlaps_earlier d (n + 2)

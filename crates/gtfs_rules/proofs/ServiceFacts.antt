@@ -11,11 +11,12 @@ use Rattle.gtfs_rules.specs.declared.services.source.Source.{Source}
 use Rattle.gtfs_rules.specs.declared.services.source.Source.TheVariants as source
 use Rattle.gtfs_rules.specs.Calendars.{exception_in, first_service_row, week_in}
 use Rattle.gtfs_rules.specs.Problems.{holds_in}
+use Rattle.gtfs_rules.specs.Reads.{is_id}
 use Rattle.gtfs_rules.specs.Rows.{is_row, records_in, rows}
 use Rattle.gtfs_rules.specs.ServiceRows.{calendars_in, exception_in_texts, id_in, week_in_texts}
 use Rattle.gtfs_rules.specs.ServiceRules.{has_sound_rows, is_told_row, never_runs}
 use Rattle.gtfs_rules.specs.ServiceRules.{is_never_active as breaks_rule}
-use Rattle.gtfs_rules.specs.ServiceView.{are_idle, file_of, first_of, is_id, is_never_active, is_sound_and_idle, is_told, of_source, told_row, Calendars}
+use Rattle.gtfs_rules.specs.ServiceView.{are_idle, file_of, first_of, is_never_active, is_sound_and_idle, is_told, of_source, told_row, Calendars}
 use Rattle.gtfs_rules.specs.Values.{if_there}
 use Rattle.gtfs_rules.proofs.ServiceTexts.{id_word}
 use Rattle.gtfs_rules.proofs.SoundRows.{and_false, and_true, find_first, or_false}

@@ -14,16 +14,17 @@ use Rattle.gtfs_table.specs.Tables.{Dataset}
 use Rattle.gtfs_table.specs.declared.file.File.TheVariants as file
 use Rattle.gtfs_rules.specs.Calendars.{exception_in, week_in}
 use Rattle.gtfs_rules.specs.Columns.{id, choice, date, columns_of}
+use Rattle.gtfs_rules.specs.Reads.{is_id}
 use Rattle.gtfs_rules.specs.Rows.{value_in}
 use Rattle.gtfs_rules.specs.ServiceRows.{date_text, exception_in_texts, week_in_texts, week_text}
-use Rattle.gtfs_rules.specs.ServiceView.{exception_type_of, is_id}
+use Rattle.gtfs_rules.specs.ServiceView.{exception_type_of}
 use Rattle.gtfs_rules.specs.Values.{word, amount, as_amount, as_word, counted, has_control, is_empty, measured, one_of, readable}
 use Rattle.gtfs_rules.proofs.BoolFacts.{and_parts}
 
 -- ---- ids
 
 word_at : (empty control : Bool) (t : List ℕ)
-    → option_and_then as_word (if empty then None else result_ok (shaped (not control) (Ok (word t)))) ≡ (if not empty && not control then Some t else None)
+    → let read = if empty then None else result_ok (shaped (not control) (Ok (word t))) in option_and_then as_word read ≡ (if is_some read then Some t else None)
 word_at true true t = refl
 word_at true false t = refl
 word_at false true t = refl

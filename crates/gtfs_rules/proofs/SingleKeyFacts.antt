@@ -19,7 +19,7 @@ use Rattle.gtfs_rules.specs.Problems.{Problem, holds, is_code, is_problem}
 use Rattle.gtfs_rules.specs.References.{told_column}
 use Rattle.gtfs_rules.specs.Rows.{is_row, records_in, rows, text_in}
 use Rattle.gtfs_rules.specs.SingleKeys.{is_repeated}
-use Rattle.gtfs_rules.specs.UnknownIds.{is_id}
+use Rattle.gtfs_rules.specs.Reads.{is_id}
 use Rattle.gtfs_rules.specs.Values.{Value, word, value_eq, has_control, if_both, if_there, is_empty, readable}
 use Rattle.gtfs_rules.proofs.BoolFacts.{same_test, no_test, and_parts, and_both}
 use Rattle.gtfs_rules.proofs.PlaceFacts.{code_is, file_is, text_is, text_itself}

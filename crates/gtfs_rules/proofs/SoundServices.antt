@@ -17,10 +17,11 @@ use Rattle.gtfs_rules.specs.declared.services.source.Source.TheVariants as sourc
 use Rattle.gtfs_rules.specs.Calendars.{exception_in, first_service_row, service_rows, week_in}
 use Rattle.gtfs_rules.specs.Columns.{id}
 use Rattle.gtfs_rules.specs.KeyRules.{all_there, same_key}
+use Rattle.gtfs_rules.specs.Reads.{is_id}
 use Rattle.gtfs_rules.specs.Rows.{amount_in, is_row, records_in, rows, value_in, word_in}
 use Rattle.gtfs_rules.specs.ServiceRows.{date_text, exception_in_texts, id_in, week_in_texts, week_text}
 use Rattle.gtfs_rules.specs.ServiceRules.{ends_before_start, has_sound_rows, is_sound_row}
-use Rattle.gtfs_rules.specs.ServiceView.{each_day_once, exceptions_of_rows, file_of, is_id, week_of_rows}
+use Rattle.gtfs_rules.specs.ServiceView.{each_day_once, exceptions_of_rows, file_of, week_of_rows}
 use Rattle.gtfs_rules.specs.Values.{Value, word, amount, as_word, if_both, if_there, is_word, readable, value_eq}
 use Rattle.gtfs_rules.proofs.BoolFacts.{and_parts, same_test}
 use Rattle.gtfs_rules.proofs.PlaceFacts.{text_is, text_itself}

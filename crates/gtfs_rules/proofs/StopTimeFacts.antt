@@ -18,13 +18,13 @@ use Rattle.gtfs_rules.specs.Picks.{at_column}
 use Rattle.gtfs_rules.specs.PlacePicks.{at_places}
 use Rattle.gtfs_rules.specs.Problems.{Problem, holds_in, is_problem}
 use Rattle.gtfs_rules.specs.Readings.{is_blank, text_of, value_in}
-use Rattle.gtfs_rules.specs.Reads.{amount_of}
+use Rattle.gtfs_rules.specs.Reads.{amount_of, is_id}
 use Rattle.gtfs_rules.specs.Rows.{is_row, records_in}
 use Rattle.gtfs_rules.specs.StopKinds.{type_of, type_with}
 use Rattle.gtfs_rules.specs.StopTimePicks.{at_row, departures_in_rows, in_names, in_times, names_in_rows, stops_in_rows, times_in_rows}
 use Rattle.gtfs_rules.specs.StopTimes.{text_at, AreNamedRows, IsRow, TellsOfRow}
 use Rattle.gtfs_rules.specs.TripRules.{lacks_time, leaves_early}
-use Rattle.gtfs_rules.specs.UnknownIds.{is_id, is_unknown}
+use Rattle.gtfs_rules.specs.UnknownIds.{is_unknown}
 use Rattle.gtfs_rules.specs.Values.{word, amount, as_amount, as_word, has_control, if_both, if_there, is_empty, is_one_of, readable}
 use Rattle.gtfs_rules.proofs.PlaceFacts.{problem_at}
 use Rattle.gtfs_rules.proofs.RuleFacts.{row_told}

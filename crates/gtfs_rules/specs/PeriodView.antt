@@ -1,30 +1,23 @@
 -- What the columns of frequencies.txt that were found once say: the trip, the start and the end of a row's period.
 use Rattle.std.specs.Prelude.{ℕ, ◌&&◌, Bool, List, Option, option_and_then, option_map, bytes_eq, codes, filter}
 use Rattle.std.specs.List.{list_any, range_with_len}
-use Rattle.std.specs.Result.{result_ok}
-use Rattle.gtfs_field.specs.Kinds.{time_of}
 use Rattle.gtfs_table.specs.Tables.{Dataset}
 use Rattle.gtfs_table.specs.declared.file.File.TheVariants as file
 use Rattle.gtfs_rules.specs.Columns.{id}
 use Rattle.gtfs_rules.specs.FieldView.{field_text}
+use Rattle.gtfs_rules.specs.Reads.{seconds_of, word_of}
 use Rattle.gtfs_rules.specs.Rows.{is_row, records_in, text_in}
 use Rattle.gtfs_rules.specs.SpanView.{shares}
-use Rattle.gtfs_rules.specs.Values.{as_word, if_there, readable}
+use Rattle.gtfs_rules.specs.Values.{if_there}
 use Rattle.gtfs_rules.specs.declared.periods.columns.PeriodColumns.{PeriodColumns}
 
 -- a trip, and the seconds from the origin at which a period starts and ends
 abbrev pub Period : Type 0
 Period = List ℕ × ℕ × ℕ
 
-abbrev pub id_of : List ℕ → Option (List ℕ)
-id_of t = option_and_then as_word (readable id t)
-
-abbrev pub seconds_of : List ℕ → Option ℕ
-seconds_of t = result_ok (time_of t)
-
 -- the period of three texts, where all of them are readable
 abbrev pub period_of : List ℕ → List ℕ → List ℕ → Option Period
-period_of trip start end = option_and_then (λ t. option_and_then (λ s. option_map (λ e. (t, s, e)) (seconds_of end)) (seconds_of start)) (id_of trip)
+period_of trip start end = option_and_then (λ t. option_and_then (λ s. option_map (λ e. (t, s, e)) (seconds_of end)) (seconds_of start)) (word_of id trip)
 
 abbrev pub period_in : Dataset → ℕ → Option Period
 period_in d n = period_of (text_in d file.Frequencies n (codes "trip_id")) (text_in d file.Frequencies n (codes "start_time")) (text_in d file.Frequencies n (codes "end_time"))

@@ -14,13 +14,10 @@ use Rattle.gtfs_rules.specs.declared.services.source.Source.{Source}
 use Rattle.gtfs_rules.specs.declared.services.source.Source.TheVariants as source
 use Rattle.gtfs_rules.specs.Calendars.{days_named}
 use Rattle.gtfs_rules.specs.KeyRules.{all_there}
-use Rattle.gtfs_rules.specs.Values.{if_there, is_empty, has_control, one_of}
+use Rattle.gtfs_rules.specs.Reads.{is_id}
+use Rattle.gtfs_rules.specs.Values.{if_there, one_of}
 
 -- ---- rows
-
--- a service id that is readable
-abbrev pub is_id : List ℕ → Bool
-is_id t = not (is_empty t) && not (has_control t)
 
 -- a weekday of a calendar row: whether the service runs on it
 abbrev pub weekday_of : List ℕ → Option Bool

@@ -1,7 +1,7 @@
 -- Rows whose key is one id.
 use Rattle.std.specs.Prelude.{ℕ, ◌&&◌, Bool, nat_lt, List}
 use Rattle.gtfs_rules.specs.Ids.{IdColumn, first_row_with}
-use Rattle.gtfs_rules.specs.UnknownIds.{is_id}
+use Rattle.gtfs_rules.specs.Reads.{is_id}
 use Rattle.gtfs_rules.specs.Values.{if_there}
 
 -- an earlier row has the id of this row

@@ -1,12 +1,7 @@
 -- When an id names no row.
 use Rattle.std.specs.Prelude.{ℕ, ◌&&◌, ◌||◌, not, Bool, List, is_some}
-use Rattle.gtfs_rules.specs.Columns.{id}
 use Rattle.gtfs_rules.specs.Ids.{IdColumn, first_row_with}
-use Rattle.gtfs_rules.specs.Values.{readable}
-
--- the text is readable as an id
-abbrev pub is_id : List ℕ → Bool
-is_id t = is_some (readable id t)
+use Rattle.gtfs_rules.specs.Reads.{is_id}
 
 -- no row of the column has the id
 abbrev pub is_unknown : IdColumn → List ℕ → Bool

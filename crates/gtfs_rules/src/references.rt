@@ -8,9 +8,8 @@ ghost use Rattle.gtfs_rules.specs.Picks.{at_column, elsewhere};
 ghost use Rattle.gtfs_rules.specs.PlacePicks.{at_places};
 ghost use Rattle.gtfs_rules.specs.ReferencePicks.{route_names, service_names, stop_names, trip_names};
 ghost use Rattle.gtfs_rules.specs.Rows.{is_row as row_of, records_in, text_in};
-ghost use Rattle.gtfs_rules.specs.UnknownIds.{is_id as id_of, is_unknown, is_unknown_in_both};
+ghost use Rattle.gtfs_rules.specs.UnknownIds.{is_unknown, is_unknown_in_both};
 
-use crate::cell::has_control;
 use crate::code::Code;
 use crate::feed_ids::FeedIds;
 use crate::field::Field;
@@ -18,6 +17,7 @@ use crate::finder::Finder;
 use crate::found::Found;
 use crate::ids::Ids;
 use crate::rule::{Place, Rule, tell_rows};
+use crate::values;
 use gtfs_field::OutOfMemory;
 use gtfs_table::{File, Tables};
 
@@ -33,7 +33,7 @@ impl Rule for UnknownId<'_> {
 
     fn breaks(&mut self, row: usize) -> bool {
         let id = self.field.text(row);
-        is_id(id) && self.ids.first_row(id).is_none()
+        values::is_id(id) && self.ids.first_row(id).is_none()
     }
 }
 
@@ -50,7 +50,7 @@ impl Rule for UnknownService<'_> {
 
     fn breaks(&mut self, row: usize) -> bool {
         let id = self.field.text(row);
-        if !is_id(id) {
+        if !values::is_id(id) {
             return false;
         }
         if self.calendar.first_row(id).is_some() {
@@ -58,13 +58,6 @@ impl Rule for UnknownService<'_> {
         }
         self.calendar_dates.first_row(id).is_none()
     }
-}
-
-// Whether a text is readable as an id.
-pub(crate) fn is_id(text: &str) -> bool
-    ensures { result ≡ id_of text.now }
-{
-    !text.is_empty() && !has_control(text)
 }
 
 // Tells each id that names no row, but for those of stop_times.txt.

@@ -5,7 +5,7 @@ ghost use Rattle.gtfs_rules.specs.Problems.{holds_in};
 ghost use Rattle.gtfs_rules.specs.Rows.{is_row as row_of, records_in};
 ghost use Rattle.gtfs_rules.specs.ServiceFields.{calendars_of};
 ghost use Rattle.gtfs_rules.specs.ServiceRows.{calendars_in};
-ghost use Rattle.gtfs_rules.specs.ServiceView.{are_idle, file_of, first_of, is_id, is_told, told_row};
+ghost use Rattle.gtfs_rules.specs.ServiceView.{are_idle, file_of, first_of, is_told, told_row};
 ghost use Rattle.gtfs_rules.specs.declared.code.Code.TheVariants as code;
 
 mod by_id;
@@ -15,7 +15,6 @@ mod source;
 mod weekdays;
 mod weeks;
 
-use crate::cell::has_control;
 use crate::code::Code;
 use crate::field::Field;
 use crate::file_name::FileName;
@@ -27,6 +26,7 @@ use crate::services::dates::Dates;
 use crate::services::idle::is_never_active;
 use crate::services::source::Source;
 use crate::services::weeks::Weeks;
+use crate::values;
 use gtfs_field::OutOfMemory;
 use gtfs_table::{File, Tables};
 use std::alloc::Global;
@@ -77,7 +77,7 @@ impl<'a> Services<'a> {
         ensures { IfOk result (λ told. told ≡ is_told (calendars_of self.now) source row) }
     {
         let id = self.id(source, row);
-        if !is_id(id) {
+        if !values::is_id(id) {
             return Ok(false);
         }
         let weeks = self.week_rows.of(id);
@@ -143,13 +143,6 @@ fn tell_source<'a>(
         }
     }
     Ok(())
-}
-
-// Whether a text is a readable service id.
-fn is_id(text: &str) -> bool
-    ensures { result ≡ is_id text.now }
-{
-    !text.is_empty() && !has_control(text)
 }
 
 // The row at which a service with these rows is told.

@@ -14,8 +14,8 @@ use crate::field::Field;
 use crate::finder::Finder;
 use crate::found::Found;
 use crate::ids::Ids;
-use crate::references::is_id;
 use crate::rule::{Place, Rule, tell_rows};
+use crate::values;
 use gtfs_field::OutOfMemory;
 use gtfs_table::{File, Tables};
 
@@ -31,7 +31,7 @@ impl Rule for RepeatedId<'_> {
 
     fn breaks(&mut self, row: usize) -> bool {
         let id = self.field.text(row);
-        if !is_id(id) {
+        if !values::is_id(id) {
             return false;
         }
         match self.ids.first_row(id) {

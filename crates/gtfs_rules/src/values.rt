@@ -1,16 +1,23 @@
 ghost use Rattle.std.specs.Prelude.{◌≡◌, option_map};
 ghost use Rattle.gtfs_rules.specs.Columns.{choice, date, id, time};
-ghost use Rattle.gtfs_rules.specs.Reads.{amount_of, choice_of, word_of};
+ghost use Rattle.gtfs_rules.specs.Reads.{amount_of, choice_of, is_id, seconds_of, word_of};
 
 use crate::cell::{has_control, read_choice};
 use gtfs_field::{read_date, read_time};
 
 // The seconds of a readable time.
+pub(crate) fn seconds(text: &str) -> Option<u32>
+    ensures { result ≡ seconds_of text.now }
+{
+    let clock = read_time(text).ok()?;
+    Some(clock.seconds())
+}
+
+// The seconds of a readable time, as a number to compare with others.
 pub(crate) fn time(text: &str) -> Option<i64>
     ensures { result ≡ amount_of time text.now }
 {
-    let clock = read_time(text).ok()?;
-    Some(i64::from(clock.seconds()))
+    Some(i64::from(seconds(text)?))
 }
 
 // The number of the day of a readable date.
@@ -44,9 +51,12 @@ pub(crate) fn choice_or(ranges: &[(u32, u32)], empty: &str, text: &str) -> Optio
 pub(crate) fn id(text: &str) -> Option<&str>
     ensures { option_map (λ t. t.now) result ≡ word_of id text.now }
 {
-    if text.is_empty() || has_control(text) {
-        None
-    } else {
-        Some(text)
-    }
+    is_id(text).then_some(text)
+}
+
+// Whether a text is a readable id.
+pub(crate) fn is_id(text: &str) -> bool
+    ensures { result ≡ is_id text.now }
+{
+    !text.is_empty() && !has_control(text)
 }
