@@ -10,7 +10,7 @@ pub enum Fault {
     /// A word is not UTF-8.
     #[error("bad words")]
     BadWords,
-    /// The standard output did not take what was held back.
+    /// The buffer of the standard output could not be flushed.
     #[error("output failed")]
     OutputFailed,
     /// Memory was refused.

@@ -1,6 +1,6 @@
 //! The program `gtfs`: the library `gtfs_cli` over the words of the command line, the disk, the standard output
-//! and the error output. It says itself only what keeps it from calling that library, and that what the standard
-//! output held back did not go out.
+//! and the error output. Two things it reports itself: what keeps it from calling that library, and a buffer of the
+//! standard output that could not be flushed.
 #![tactic(auto)]
 
 ghost use Rattle.std.specs.Prelude.{◌≡◌, ◌≤◌, IfOk, IfErr, OnOk, OnErr};
@@ -25,7 +25,7 @@ fn main(rt: HostRuntime) -> ExitCode {
         Ok(status) => status,
         Err(fault) => tell(&mut err, fault),
     };
-    // A refused write of an error line changes no status.
+    // A failing error output does not change the status.
     let _ = err.flush();
     ExitCode::from(status)
 }
@@ -41,7 +41,7 @@ fn answer<R: Runtime + AllocGlobal, E: Out>(rt: &R, err: &mut E) -> Result<u8, F
     close(&mut out, status)
 }
 
-/// Sends on what the output holds back. Where that fails, a command that found nothing else wrong with its output
+/// Flushes the buffer of the output. Where that fails, a command that found nothing else wrong with its output
 /// (status 0 or 1) did not do what was asked.
 fn close<W: Write>(out: &mut WriteOut<W>, status: u8) -> Result<u8, Fault>
     ensures kept { IfOk result (λ given. given ≡ status) }

@@ -4,11 +4,11 @@ use Rattle.std.specs.Prelude.{count_by, flat_map}
 use Rattle.std.specs.Io.KnownBytes.{Appends}
 use Rattle.std.proofs.lemmas.List.{length-map, map-append, take_all}
 use Rattle.std.proofs.lemmas.List.Concat.{flat_map-append}
-use Rattle.gtfs_rules.specs.Codes.{is_error}
-use Rattle.gtfs_rules.specs.Problems.{Problem}
+use Rattle.gtfs_columns.specs.Codes.{is_error}
+use Rattle.gtfs_columns.specs.Problems.{Problem}
 use Rattle.gtfs_rules.specs.Report.{counts_line, problem_line, report_text}
-use Rattle.gtfs_rules.specs.View.{problem_of}
-use Rattle.gtfs_rules.specs.declared.problem.Problem.{Problem as Lent}
+use Rattle.gtfs_columns.specs.View.{problem_of}
+use Rattle.gtfs_columns.specs.declared.problem.Problem.{Problem as Lent}
 use Rattle.gtfs_cli.specs.Checking.{counts_text}
 use Rattle.gtfs_cli.specs.Sending.{SendsBeginning}
 use Rattle.gtfs_cli.proofs.Counted.{counts-line}

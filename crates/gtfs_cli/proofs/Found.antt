@@ -5,7 +5,7 @@ use Rattle.std.specs.Ordering.{int_eq}
 use Rattle.std.proofs.lemmas.Cmp.{int_eq_equiv}
 use Rattle.gtfs_days.specs.Service.{ServiceDates, is_active}
 use Rattle.gtfs_cli.specs.Lines.{Listed}
-use Rattle.gtfs_cli.specs.Rows.{ServiceRow, StopRow, TripRow}
+use Rattle.gtfs_cli.specs.Rows.{ServiceRow, StopTimeRow, TripRow}
 use Rattle.gtfs_cli.specs.Content.{Content}
 use Rattle.gtfs_cli.specs.Trips.{is_departure_row, passes_at}
 use Rattle.gtfs_cli.specs.Departures.{Origins, is_in_place, is_within, is_listed, departs_at, runs_on}
@@ -59,11 +59,11 @@ departs : (f : Content) (origin : Origins) (s : List ℕ) (e : Event) (d x : ℤ
     → x ≡ origin d +ℤ pos e.at → departs_at f origin s (departure_on e x d).key ≡ true
 departs f origin s e d x service event found active instant =
     let named : bytes_eq event.trip.trip_id e.trip.now ≡ true = found-holds (λ (t : TripRow). bytes_eq t.trip_id e.trip.now) f.trips event.trip event.of_trip in
-    let numbered : (event.row.stop_sequence == e.sequence) ≡ true = found-holds (λ (r : StopRow). r.stop_sequence == e.sequence) event.trip.stop_rows event.row event.of_row in
+    let numbered : (event.row.stop_sequence == e.sequence) ≡ true = found-holds (λ (r : StopTimeRow). r.stop_sequence == e.sequence) event.trip.stop_rows event.row event.of_row in
     let on_time : int_eq x (origin d +ℤ pos (passes_at event.trip e.run event.row)) ≡ true
     = rw (← event.at, instant) (int_eq_equiv.refl (origin d +ℤ pos e.at)) in
-    let row = found-any (λ (r : StopRow). r.stop_sequence == e.sequence)
-    (λ (row : StopRow). (row.stop_sequence == e.sequence) && is_departure_row event.trip row && is_in_place f s row.stop_id && int_eq x (origin d +ℤ pos (passes_at event.trip e.run row)))
+    let row = found-any (λ (r : StopTimeRow). r.stop_sequence == e.sequence)
+    (λ (row : StopTimeRow). (row.stop_sequence == e.sequence) && is_departure_row event.trip row && is_in_place f s row.stop_id && int_eq x (origin d +ℤ pos (passes_at event.trip e.run row)))
     event.trip.stop_rows event.row event.of_row (rw (numbered, event.departs, event.in_place, on_time) refl) in
     found-any (λ (t : TripRow). bytes_eq t.trip_id e.trip.now) _ f.trips event.trip event.of_trip (rw (named, runs f event.trip d service found active, event.runs, row) refl)
 

@@ -1,4 +1,4 @@
--- The rows of a feed by their places: what ascends by a key is found by it.
+-- The rows of a feed by their indices: what ascends by a key is found by it.
 use Rattle.std.proofs.Common.{◌≡◌, ℕ, zero, suc, ◌+◌, ◌<◌, ◌==◌, nat_lt, true, false, cond, bytes_eq, List, [], ◌∷◌, length, get_or, map, find, Some, option_map, sym, ◌∙◌, ap, subst, arith}
 use Rattle.std.specs.List.{AllPairs, list_any}
 use Rattle.std.specs.Cmp.{ranked, tied_itself}
@@ -9,7 +9,7 @@ use Rattle.std.proofs.lemmas.Bool.Decides.{nat_tests}
 use Rattle.std.proofs.lemmas.List.{get_or-map, get_or_default}
 use Rattle.std.proofs.lemmas.List.Folds.{list_any_at}
 use Rattle.gtfs_cli.specs.Key.{text_cmp}
-use Rattle.gtfs_cli.specs.Rows.{StopRow, TripRow}
+use Rattle.gtfs_cli.specs.Rows.{StopTimeRow, TripRow}
 use Rattle.gtfs_cli.specs.FeedOrder.{Ascends, trip_cmp}
 use Rattle.gtfs_cli.specs.FeedView.{stop_time_row, trip_row}
 use Rattle.gtfs_cli.specs.declared.feed.rows.Frequency.{Frequency}
@@ -18,7 +18,7 @@ use Rattle.gtfs_cli.specs.declared.feed.rows.Trip.{Trip}
 use Rattle.gtfs_cli.proofs.SameElements.{pairs-head, pairs-tail}
 use Rattle.gtfs_cli.proofs.Searched.{find-map, list_any-map, found_row}
 
--- the trip of a place is the one of its id
+-- the trip of an index is the one of its id
 pub named-at : (ts : List StopTime) (fs : List Frequency) (trips : List Trip) (i : ℕ) (x : Trip) → Ascends trip_cmp trips → i < length trips → x ≡ get_or trips i x → (d : TripRow)
     → find (λ t. bytes_eq t.trip_id x.trip_id.now) (map (trip_row ts fs) trips) ≡ Some (get_or (map (trip_row ts fs) trips) i d)
 named-at ts fs trips i x up h is d =
@@ -35,7 +35,7 @@ Rises ts = AllPairs (λ t u. t.stop_sequence < u.stop_sequence) ts
 pub rises-from_order : (ts : List StopTime) → Ascends (on (λ t. t.stop_sequence) nat_cmp) ts → Rises ts
 rises-from_order ts up i j d h l = ranked _ _ Less (sym (up i j d h l))
 
--- the row of a place is the one of its sequence
+-- the row of an index is the one of its sequence
 pub numbered-at : (ts : List StopTime) (i : ℕ) (x : StopTime) → Rises ts → i < length ts → x ≡ get_or ts i x → find (λ t. t.stop_sequence == x.stop_sequence) ts ≡ Some x
 numbered-at [] i x up h is = absurd (omega arith)
 numbered-at (t ∷ ts) zero x up h is =
@@ -52,5 +52,5 @@ pub followed-at : (ts : List StopTime) (i : ℕ) (x : StopTime) → Rises ts →
 followed-at ts i x up h is =
     let below : x.stop_sequence < (get_or ts (i + 1) x).stop_sequence = subst (λ (y : StopTime). y.stop_sequence < (get_or ts (i + 1) x).stop_sequence) (sym is) (up i (i + 1) x (omega arith) h) in
     let test : nat_lt x.stop_sequence (get_or ts (i + 1) x).stop_sequence ≡ true = grind (arith, nat_tests) in
-    list_any-map (λ (other : StopRow). nat_lt x.stop_sequence other.stop_sequence) stop_time_row ts
+    list_any-map (λ (other : StopTimeRow). nat_lt x.stop_sequence other.stop_sequence) stop_time_row ts
     ∙ list_any_at (λ (other : StopTime). nat_lt x.stop_sequence other.stop_sequence) ts (i + 1) x h test

@@ -1,7 +1,6 @@
 mod DaysLeft
 mod Found
 mod KeyOrder
-pub mod RowLemmas
 pub mod SameElements
 pub mod ByKey
 pub mod Groups
@@ -13,9 +12,7 @@ mod TakenWords
 mod GivenTexts
 mod HelpAlone
 pub mod GtfsWords
-mod WorkedWords
 mod Pieces
-mod WorkedLines
 mod InOrder
 mod Passing
 mod Opened
@@ -23,7 +20,6 @@ mod OneBoard
 pub mod Services
 pub mod Assembled
 pub mod LoadedRows
-mod WorkedBoards
 pub mod TimeLemmas
 mod Moments
 mod Paths
@@ -34,4 +30,3 @@ pub mod Reported
 mod Parts
 mod Begun
 mod ControlSplit
-mod WorkedReports

@@ -14,12 +14,13 @@ use Rattle.gtfs_table.specs.Tables.{Dataset}
 use Rattle.gtfs_table.specs.declared.file.File.TheVariants as file
 use Rattle.gtfs_cli.specs.CalendarRows.{date_cmp, dates_of, exception_row, names_of, service_of, week_cmp}
 use Rattle.gtfs_cli.specs.FeedOrder.{service_cmp, trip_cmp, Ascends}
-use Rattle.gtfs_cli.specs.FeedView.{frequencies_of, period_row, service_row, stop_time_row, stop_times_of, trip_row}
+use Rattle.gtfs_cli.specs.FeedView.{frequencies_of, frequency_row, service_row, stop_time_row, stop_times_of, trip_row}
 use Rattle.gtfs_cli.specs.Key.{text_cmp}
 use Rattle.gtfs_cli.specs.ReadRows.{service_exception, service_exception_in, service_week, service_week_in, trip_texts, trip_texts_in, week_of}
-use Rattle.gtfs_cli.specs.Reading.{by_key, exception_in, first_of, period_in, rows_with, service_in, services_named, stop_row_in, trip_in, week_in}
+use Rattle.gtfs_cli.specs.Reading.{by_key, exception_in, first_of, frequency_in, rows_with, service_in, services_named, stop_row_in, trip_in, week_in}
 use Rattle.gtfs_cli.specs.Rows.{TripRow}
-use Rattle.gtfs_cli.specs.Values.{rows, text_at}
+use Rattle.gtfs_table.specs.Rows.{rows}
+use Rattle.gtfs_cli.specs.Values.{text_at}
 use Rattle.gtfs_cli.specs.declared.feed.rows.Trip.{Trip}
 use Rattle.gtfs_cli.specs.declared.feed.rows.StopTime.{StopTime}
 use Rattle.gtfs_cli.specs.declared.feed.rows.Frequency.{Frequency}
@@ -132,7 +133,7 @@ module _ (d : Dataset) (weeks ws : List CalendarWeek) (dates ds : List CalendarD
 
 module _ (d : Dataset) (ts : List StopTime) (fs : List Frequency)
     (times : (trip : List ℕ) → map stop_time_row (stop_times_of trip ts) ≡ by_key nat_cmp (λ r. r.stop_sequence) (map (stop_row_in d) (rows_with d file.StopTimes "trip_id" trip)))
-    (periods : (trip : List ℕ) → map period_row (frequencies_of trip fs) ≡ by_key nat_cmp (λ p. p.start_time) (map (period_in d) (rows_with d file.Frequencies "trip_id" trip))) where
+    (frequencies : (trip : List ℕ) → map frequency_row (frequencies_of trip fs) ≡ by_key nat_cmp (λ p. p.start_time) (map (frequency_in d) (rows_with d file.Frequencies "trip_id" trip))) where
   abbrev made_of : List ℕ × List ℕ × List ℕ × Option (List ℕ) → TripRow
   made_of q = record {
     route_id = q.1;
@@ -140,7 +141,7 @@ module _ (d : Dataset) (ts : List StopTime) (fs : List Frequency)
     trip_id = q.0;
     trip_headsign = q.3;
     stop_rows = map stop_time_row (stop_times_of q.0 ts);
-    frequencies = map period_row (frequencies_of q.0 fs);
+    frequencies = map frequency_row (frequencies_of q.0 fs);
   }
 
   held_alike : (trips : List Trip) → map (trip_row ts fs) trips ≡ map made_of (map trip_texts trips)
@@ -155,7 +156,7 @@ module _ (d : Dataset) (ts : List StopTime) (fs : List Frequency)
     trip_id = text_at d file.Trips n "trip_id";
     trip_headsign = (trip_texts_in d n).3;
     stop_rows = times (text_at d file.Trips n "trip_id") i;
-    frequencies = periods (text_at d file.Trips n "trip_id") i;
+    frequencies = frequencies (text_at d file.Trips n "trip_id") i;
   } ∷ read_alike ns i
 
   pub trips_made : (given trips : List Trip) → map trip_texts given ≡ map (trip_texts_in d) (rows d file.Trips) → IsPermutation given trips → Ascends trip_cmp trips

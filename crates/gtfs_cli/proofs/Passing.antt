@@ -1,4 +1,4 @@
--- A trip without periods passes each of its rows once: at the row's own time.
+-- A trip without frequencies passes each of its rows once: at the row's own time.
 use Rattle.std.proofs.Common.{◌≡◌, ℕ, ◌+◌, ◌<◌, ◌≤◌, ◌==◌, nat_lt, ◌&&◌, not, true, false, List, [], ◌∷◌, length, get_or, map, find, Some, option_map, refl, sym, ◌∙◌, ap, subst, arith}
 use Rattle.std.specs.Prelude.{unwrap_or, is_some}
 use Rattle.std.specs.List.{list_any}
@@ -8,7 +8,7 @@ use Rattle.std.proofs.lemmas.List.{length-map}
 use Rattle.gtfs_cli.specs.declared.board.departure.Mark.TheVariants as mark
 use Rattle.gtfs_cli.specs.declared.feed.rows.StopTime.{StopTime}
 use Rattle.gtfs_cli.specs.declared.runs.event.Event.{Event}
-use Rattle.gtfs_cli.specs.Rows.{Period, StopRow, TripRow}
+use Rattle.gtfs_cli.specs.Rows.{FrequencyRow, StopTimeRow, TripRow}
 use Rattle.gtfs_cli.specs.Content.{Content}
 use Rattle.gtfs_cli.specs.Trips.{leaves, starts_run, first_leaves, trip_start, is_run, allows_boarding}
 use Rattle.gtfs_cli.specs.Departures.{is_in_place}
@@ -23,7 +23,7 @@ pub record SaysRow (f : Content) (t : TripRow) (rows : List StopTime) (i : ℕ) 
   pub named : trip_named f e.trip.now ≡ Some t
   pub are : map stop_time_row rows ≡ t.stop_rows
   pub rises : Rises rows
-  pub no_period : t.frequencies ≡ []
+  pub no_frequency : t.frequencies ≡ []
   pub followed : i + 1 < length rows
   pub row_is : x ≡ get_or rows i x
   pub first_is : first ≡ get_or rows 0 first
@@ -51,15 +51,15 @@ runs-once t run none some start =
 pub event-of_row : (f : Content) (t : TripRow) (rows : List StopTime) (i : ℕ) (x first : StopTime) (e : Event) (s : List ℕ) → SaysRow f t rows i x first e → is_in_place f s e.stop.now ≡ true → IsEvent f s e
 event-of_row f t rows i x first e s says place =
     let some : length t.stop_rows ≡ length rows = ap length (sym says.are) ∙ length-map rows stop_time_row in
-    let start : trip_start t ≡ e.run = ap (λ (rs : List StopRow). unwrap_or (first_leaves rs) 0) (sym says.are) ∙ start-of rows first (omega (arith, says.followed)) says.first_is ∙ sym says.run in
+    let start : trip_start t ≡ e.run = ap (λ (rs : List StopTimeRow). unwrap_or (first_leaves rs) 0) (sym says.are) ∙ start-of rows first (omega (arith, says.followed)) says.first_is ∙ sym says.run in
     let here = numbered-at rows i x says.rises (omega (arith, says.followed)) says.row_is in
-    let found : find (λ (r : StopRow). r.stop_sequence == e.sequence) t.stop_rows ≡ Some (stop_time_row x)
-    = ap (λ (rs : List StopRow). find (λ (r : StopRow). r.stop_sequence == e.sequence) rs) (sym says.are)
-    ∙ ap (λ n. find (λ (r : StopRow). r.stop_sequence == n) (map stop_time_row rows)) says.sequence
-    ∙ find-map (λ (r : StopRow). r.stop_sequence == x.stop_sequence) stop_time_row rows ∙ ap (option_map stop_time_row) here in
+    let found : find (λ (r : StopTimeRow). r.stop_sequence == e.sequence) t.stop_rows ≡ Some (stop_time_row x)
+    = ap (λ (rs : List StopTimeRow). find (λ (r : StopTimeRow). r.stop_sequence == e.sequence) rs) (sym says.are)
+    ∙ ap (λ n. find (λ (r : StopTimeRow). r.stop_sequence == n) (map stop_time_row rows)) says.sequence
+    ∙ find-map (λ (r : StopTimeRow). r.stop_sequence == x.stop_sequence) stop_time_row rows ∙ ap (option_map stop_time_row) here in
     let timed : is_some (leaves (stop_time_row x)) ≡ true = ap is_some says.leaves_at in
-    let not_last : list_any (λ (other : StopRow). nat_lt x.stop_sequence other.stop_sequence) t.stop_rows ≡ true
-    = ap (λ (rs : List StopRow). list_any (λ (other : StopRow). nat_lt x.stop_sequence other.stop_sequence) rs) (sym says.are) ∙ followed-at rows i x says.rises says.followed says.row_is in
+    let not_last : list_any (λ (other : StopTimeRow). nat_lt x.stop_sequence other.stop_sequence) t.stop_rows ≡ true
+    = ap (λ (rs : List StopTimeRow). list_any (λ (other : StopTimeRow). nat_lt x.stop_sequence other.stop_sequence) rs) (sym says.are) ∙ followed-at rows i x says.rises says.followed says.row_is in
     let passes : unwrap_or (leaves (stop_time_row x)) 0 ≡ e.at = ap (λ o. unwrap_or o 0) says.leaves_at in
     record {
       trip = t;
@@ -67,7 +67,7 @@ event-of_row f t rows i x first e s says place =
       of_trip = says.named;
       of_row = found;
       service = says.service;
-      runs = runs-once t e.run says.no_period (omega (arith, some, says.followed)) (sym start);
+      runs = runs-once t e.run says.no_frequency (omega (arith, some, says.followed)) (sym start);
       departs = rw (timed, not_last, says.boards) refl;
       in_place = subst (λ id. is_in_place f s id ≡ true) says.stop place;
       at = omega (arith, start, passes);
@@ -75,5 +75,5 @@ event-of_row f t rows i x first e s says place =
       stop = says.stop;
       route = says.route;
       headsign = says.shown;
-      mark = says.mark ∙ sym (ap (λ (ps : List Period). mark_if (list_any (λ (p : Period). starts_run p e.run && not p.exact_times) ps)) says.no_period);
+      mark = says.mark ∙ sym (ap (λ (ps : List FrequencyRow). mark_if (list_any (λ (p : FrequencyRow). starts_run p e.run && not p.exact_times) ps)) says.no_frequency);
     }

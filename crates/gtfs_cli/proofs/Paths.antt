@@ -6,7 +6,7 @@ use Rattle.std.proofs.lemmas.Str.Pattern.{NoCharPasses-char, drop_at_char}
 use Rattle.gtfs_cli.specs.Running.{IsFileOf, LacksSlash}
 
 pub cut-nowhere : (path : List ℕ) → RFindsChar 47 path None → IsFileOf path (codes ".") path
-cut-nowhere path none = record { last = λ i l. NoCharPasses-char 47 path i none (omega arith) l; place = inl (refl, refl) }
+cut-nowhere path none = record { last = λ i l. NoCharPasses-char 47 path i none (omega arith) l; cut = inl (refl, refl) }
 
 lacks : (path name : List ℕ) (i j : ℕ) → RFindsChar 47 path (Some (i, j)) → name ≡ drop j path → LacksSlash name
 lacks path name i j found name_is = subst LacksSlash (sym name_is) (λ k l. NoCharPasses-char 47 (drop j path) k found.0 (omega arith) l)
@@ -18,12 +18,12 @@ around path front name i j found front_is name_is =
 pub cut-inside : (path front name : List ℕ) (i j : ℕ) → RFindsChar 47 path (Some (i, j)) → front ≡ take i path → name ≡ drop j path → 0 < length front → IsFileOf path front name
 cut-inside path front name i j found front_is name_is some = record {
   last = lacks path name i j found name_is;
-  place = inr (inr (around path front name i j found front_is name_is, some));
+  cut = inr (inr (around path front name i j found front_is name_is, some));
 }
 
 pub cut-at_root : (path front name : List ℕ) (i j : ℕ) → RFindsChar 47 path (Some (i, j)) → front ≡ take i path → name ≡ drop j path → length front ≡ 0 → IsFileOf path (codes "/") name
 cut-at_root path [] name i j found front_is name_is none = record {
   last = lacks path name i j found name_is;
-  place = inr (inl (around path [] name i j found front_is name_is, refl));
+  cut = inr (inl (around path [] name i j found front_is name_is, refl));
 }
 cut-at_root path (b ∷ front) name i j found front_is name_is none = absurd (omega (arith, none))

@@ -5,11 +5,11 @@ use Rattle.std.specs.Io.KnownBytes.{Appends}
 use Rattle.std.proofs.KnownBytes.{Appends-trans}
 use Rattle.std.proofs.lemmas.List.{length-map, map_more, take_all}
 use Rattle.std.proofs.lemmas.List.Concat.{flat_map-append}
-use Rattle.gtfs_rules.specs.Codes.{is_error}
-use Rattle.gtfs_rules.specs.Problems.{Problem}
+use Rattle.gtfs_columns.specs.Codes.{is_error}
+use Rattle.gtfs_columns.specs.Problems.{Problem}
 use Rattle.gtfs_rules.specs.Report.{counts_line, problem_line}
-use Rattle.gtfs_rules.specs.View.{problem_of}
-use Rattle.gtfs_rules.specs.declared.problem.Problem.{Problem as Lent}
+use Rattle.gtfs_columns.specs.View.{problem_of}
+use Rattle.gtfs_columns.specs.declared.problem.Problem.{Problem as Lent}
 use Rattle.gtfs_cli.specs.Checking.{counts_text, Prints}
 use Rattle.gtfs_cli.proofs.Counted.{counts-line, error-counted}
 

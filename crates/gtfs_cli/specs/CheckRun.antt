@@ -5,7 +5,7 @@ use Rattle.clap.specs.Words.{Row, Text, subcommand_of, takes}
 use Rattle.gtfs_table.specs.Folder.{Store}
 use Rattle.gtfs_table.specs.Reading.{HoldsDataset}
 use Rattle.gtfs_table.specs.Tables.{Dataset}
-use Rattle.gtfs_rules.specs.Problems.{Problem, IsReport}
+use Rattle.gtfs_columns.specs.Problems.{Problem, IsReport}
 use Rattle.gtfs_rules.specs.Report.{report_text}
 use Rattle.gtfs_cli.specs.CommandLine.{gtfs_app, IsCheckOf}
 use Rattle.gtfs_cli.specs.Checking.{IsReportOf}

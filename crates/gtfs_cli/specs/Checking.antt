@@ -5,8 +5,8 @@ use Rattle.gtfs_table.specs.Device.{Rises}
 use Rattle.gtfs_table.specs.Folder.{Store}
 use Rattle.gtfs_table.specs.Reading.{HoldsDataset}
 use Rattle.gtfs_table.specs.Tables.{Dataset}
-use Rattle.gtfs_rules.specs.Codes.{code_name, code_text}
-use Rattle.gtfs_rules.specs.Problems.{Problem, name_bytes, passes, IsReport}
+use Rattle.gtfs_columns.specs.Codes.{code_name, code_text}
+use Rattle.gtfs_columns.specs.Problems.{Problem, name_bytes, passes, IsReport}
 use Rattle.gtfs_rules.specs.Report.{report_text}
 use Rattle.gtfs_cli.specs.declared.commands.refusal.Refusal.{Refusal}
 use Rattle.gtfs_cli.specs.declared.commands.refusal.Refusal.TheVariants.{Words, BadValue, NotThere, Unreadable, OverLimit, HasErrors, NoZone, UnknownStop, UntilBeforeFrom, OutputFailed, OutOfMemory}

@@ -11,7 +11,7 @@ use Rattle.gtfs_cli.specs.declared.words.Command.TheVariants.{Board, Check}
 use Rattle.gtfs_cli.specs.declared.words.WordsFault.{WordsFault}
 use Rattle.gtfs_cli.specs.declared.words.WordsFault.TheVariants.{Refused, Help, OutOfMemory}
 
--- a text that must stand at its place among the words
+-- a text that must be given, known by its position among the words
 abbrev pub word_rule : Text → Rule
 word_rule id = record (new_rule id) { action = Some Set; required = true }
 

@@ -8,19 +8,19 @@ use Rattle.gtfs_days.specs.Service.{is_active}
 use Rattle.gtfs_cli.specs.Trips.{is_run, is_departure_row, passes_at}
 use Rattle.gtfs_cli.specs.Key.{Key, key_cmp}
 use Rattle.gtfs_cli.specs.declared.feed.rows.LocationType.{LocationType}
-use Rattle.gtfs_cli.specs.declared.feed.rows.LocationType.TheVariants as place
-use Rattle.gtfs_cli.specs.Rows.{StopRow, TripRow}
+use Rattle.gtfs_cli.specs.declared.feed.rows.LocationType.TheVariants as location
+use Rattle.gtfs_cli.specs.Rows.{StopTimeRow, TripRow}
 
 -- where each service day begins in a zone: noon less twelve hours, in seconds of the epoch
 abbrev pub Origins : Type 0
 Origins = ℤ → ℤ
 
 abbrev pub is_plain_stop : LocationType → Bool
-is_plain_stop place.Stop = true
-is_plain_stop place.Station = false
-is_plain_stop place.Entrance = false
-is_plain_stop place.Node = false
-is_plain_stop place.BoardingArea = false
+is_plain_stop location.Stop = true
+is_plain_stop location.Station = false
+is_plain_stop location.Entrance = false
+is_plain_stop location.Node = false
+is_plain_stop location.BoardingArea = false
 
 abbrev pub is_text : Option (List ℕ) → List ℕ → Bool
 is_text None t = false
@@ -37,12 +37,12 @@ runs_on f t d = list_any (λ s. bytes_eq s.service_id t.service_id && is_active 
 
 -- the key names a departure from a row that the test passes: a trip, a day on which it runs, one of its runs and
 -- one of its departure rows, at the instant at which that run passes that row
-abbrev pub departs_from : Content → Origins → (StopRow → Bool) → Key → Bool
+abbrev pub departs_from : Content → Origins → (StopTimeRow → Bool) → Key → Bool
 departs_from f origin test k = list_any (λ t. bytes_eq t.trip_id k.trip && runs_on f t k.day && is_run t k.run
     && list_any (λ row. (row.stop_sequence == k.sequence) && is_departure_row t row && test row
     && int_eq k.instant (origin k.day +ℤ pos (passes_at t k.run row))) t.stop_rows) f.trips
 
-abbrev pub any_row : StopRow → Bool
+abbrev pub any_row : StopTimeRow → Bool
 any_row row = true
 
 -- the departures of a feed

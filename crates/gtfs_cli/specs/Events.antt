@@ -3,7 +3,7 @@
 use Rattle.std.specs.Prelude.{◌≡◌, ◌≤◌, ℕ, List, true, Some, map, bytes_eq}
 use Rattle.std.specs.Borrow.{Bor}
 use Rattle.std.specs.List.{list_any}
-use Rattle.gtfs_cli.specs.Rows.{StopRow, TripRow}
+use Rattle.gtfs_cli.specs.Rows.{StopTimeRow, TripRow}
 use Rattle.gtfs_cli.specs.Content.{Content}
 use Rattle.gtfs_cli.specs.Trips.{is_run, is_departure_row, passes_at}
 use Rattle.gtfs_cli.specs.Departures.{is_in_place}
@@ -17,7 +17,7 @@ IsPlace f s ids = (x : List ℕ) → list_any (bytes_eq x) (map (λ id. id.now) 
 -- a run of a trip passes a departure row at the place of the stop, this long after the origin of its day
 pub record IsEvent (f : Content) (s : List ℕ) (e : Event) : Type 0 where
   pub trip : TripRow
-  pub row : StopRow
+  pub row : StopTimeRow
   pub of_trip : trip_named f e.trip.now ≡ Some trip
   pub of_row : row_numbered trip e.sequence ≡ Some row
   pub service : e.service.now ≡ trip.service_id

@@ -19,7 +19,7 @@ route_row r = record { route_id = r.route_id.now; route_short_name = option_map 
 abbrev pub service_row : ServiceRow → plain.ServiceRow
 service_row s = record { service_id = s.service_id.now; service = s.service }
 
-abbrev pub stop_time_row : StopTime → plain.StopRow
+abbrev pub stop_time_row : StopTime → plain.StopTimeRow
 stop_time_row t = record {
   arrival_time = t.arrival_time;
   departure_time = t.departure_time;
@@ -29,10 +29,10 @@ stop_time_row t = record {
   pickup_type = t.pickup_type;
 }
 
-abbrev pub period_row : Frequency → plain.Period
-period_row f = record { start_time = f.start_time; end_time = f.end_time; headway_secs = f.headway_secs; exact_times = f.exact_times }
+abbrev pub frequency_row : Frequency → plain.FrequencyRow
+frequency_row f = record { start_time = f.start_time; end_time = f.end_time; headway_secs = f.headway_secs; exact_times = f.exact_times }
 
--- the stop times and the periods of a trip
+-- the stop times and the frequencies of a trip
 abbrev pub stop_times_of : List ℕ → List StopTime → List StopTime
 stop_times_of trip ts = filter (λ t. bytes_eq t.trip_id.now trip) ts
 
@@ -46,7 +46,7 @@ trip_row ts fs t = record {
   trip_id = t.trip_id.now;
   trip_headsign = option_map (λ x. x.now) t.trip_headsign;
   stop_rows = map stop_time_row (stop_times_of t.trip_id.now ts);
-  frequencies = map period_row (frequencies_of t.trip_id.now fs);
+  frequencies = map frequency_row (frequencies_of t.trip_id.now fs);
 }
 
 abbrev pub content : Inside → Content

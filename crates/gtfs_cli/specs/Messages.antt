@@ -1,6 +1,6 @@
 -- What the error output is told of each refusal.
 use Rattle.std.specs.Prelude.{ℕ, List, [], ◌++◌, codes, string_bytes}
-use Rattle.gtfs_rules.specs.Values.{plain}
+use Rattle.gtfs_columns.specs.Values.{plain}
 use Rattle.gtfs_cli.specs.declared.commands.refusal.Refusal.{Refusal}
 use Rattle.gtfs_cli.specs.declared.commands.refusal.Refusal.TheVariants.{Words, BadValue, NotThere, Unreadable, OverLimit, HasErrors, NoZone, UnknownStop, UntilBeforeFrom, OutputFailed, OutOfMemory}
 

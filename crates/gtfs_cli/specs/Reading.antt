@@ -12,11 +12,12 @@ use Rattle.gtfs_days.specs.declared.week.Week.{Week}
 use Rattle.gtfs_days.specs.declared.exception.Exception.{Exception}
 use Rattle.gtfs_days.specs.declared.exception.Exception.TheVariants.{Added, Removed}
 use Rattle.gtfs_cli.specs.Key.{text_cmp}
-use Rattle.gtfs_cli.specs.Rows.{Stop, Route, ServiceRow, StopRow, Period, TripRow}
+use Rattle.gtfs_cli.specs.Rows.{Stop, Route, ServiceRow, StopTimeRow, FrequencyRow, TripRow}
 use Rattle.gtfs_cli.specs.Content.{Content}
-use Rattle.gtfs_cli.specs.Values.{rows, text_at, text_in, time_in, time_at, count_at, date_at}
+use Rattle.gtfs_table.specs.Rows.{rows}
+use Rattle.gtfs_cli.specs.Values.{text_at, text_in, time_in, time_at, count_at, date_at}
 use Rattle.gtfs_cli.specs.declared.feed.rows.LocationType.{LocationType}
-use Rattle.gtfs_cli.specs.declared.feed.rows.LocationType.TheVariants as place
+use Rattle.gtfs_cli.specs.declared.feed.rows.LocationType.TheVariants as location
 use Rattle.gtfs_cli.specs.declared.feed.rows.PickupType.{PickupType}
 use Rattle.gtfs_cli.specs.declared.feed.rows.PickupType.TheVariants as pickup
 
@@ -27,7 +28,7 @@ by_key order key xs = table.values (table.from_entries {R = order} (map (λ x. (
 -- ---- choices by their numbers
 
 abbrev pub location_of : ℕ → LocationType
-location_of n = slice_index_or (place.Stop ∷ place.Station ∷ place.Entrance ∷ place.Node ∷ place.BoardingArea ∷ []) n place.Stop
+location_of n = slice_index_or (location.Stop ∷ location.Station ∷ location.Entrance ∷ location.Node ∷ location.BoardingArea ∷ []) n location.Stop
 
 abbrev pub pickup_of : ℕ → PickupType
 pickup_of n = slice_index_or (pickup.Regular ∷ pickup.None ∷ pickup.Phone ∷ pickup.Driver ∷ []) n pickup.Regular
@@ -52,7 +53,7 @@ route_in d n = record {
   route_long_name = text_in d file.Routes n "route_long_name";
 }
 
-abbrev pub stop_row_in : Dataset → ℕ → StopRow
+abbrev pub stop_row_in : Dataset → ℕ → StopTimeRow
 stop_row_in d n = record {
   arrival_time = time_in d file.StopTimes n "arrival_time";
   departure_time = time_in d file.StopTimes n "departure_time";
@@ -62,8 +63,8 @@ stop_row_in d n = record {
   pickup_type = pickup_of (count_at d file.StopTimes n "pickup_type");
 }
 
-abbrev pub period_in : Dataset → ℕ → Period
-period_in d n = record {
+abbrev pub frequency_in : Dataset → ℕ → FrequencyRow
+frequency_in d n = record {
   start_time = time_at d file.Frequencies n "start_time";
   end_time = time_at d file.Frequencies n "end_time";
   headway_secs = count_at d file.Frequencies n "headway_secs";
@@ -81,7 +82,7 @@ trip_in d n = record {
   trip_id = text_at d file.Trips n "trip_id";
   trip_headsign = text_in d file.Trips n "trip_headsign";
   stop_rows = by_key nat_cmp (λ r. r.stop_sequence) (map (stop_row_in d) (rows_with d file.StopTimes "trip_id" (text_at d file.Trips n "trip_id")));
-  frequencies = by_key nat_cmp (λ p. p.start_time) (map (period_in d) (rows_with d file.Frequencies "trip_id" (text_at d file.Trips n "trip_id")));
+  frequencies = by_key nat_cmp (λ p. p.start_time) (map (frequency_in d) (rows_with d file.Frequencies "trip_id" (text_at d file.Trips n "trip_id")));
 }
 
 -- ---- services

@@ -24,7 +24,7 @@ pub record ServiceRow : Type 0 where
   pub service : ServiceDates
 
 -- a row of stop_times.txt, without its trip
-pub record StopRow : Type 0 where
+pub record StopTimeRow : Type 0 where
   pub arrival_time : Option ℕ
   pub departure_time : Option ℕ
   pub stop_id : List ℕ
@@ -32,18 +32,18 @@ pub record StopRow : Type 0 where
   pub stop_headsign : Option (List ℕ)
   pub pickup_type : PickupType
 
--- a row of frequencies.txt, without its trip: a period, and the seconds between its runs
-pub record Period : Type 0 where
+-- a row of frequencies.txt, without its trip: a span of seconds, and the seconds between its runs
+pub record FrequencyRow : Type 0 where
   pub start_time : ℕ
   pub end_time : ℕ
   pub headway_secs : ℕ
   pub exact_times : Bool
 
--- a row of trips.txt, with its stop rows by sequence and its periods by start
+-- a row of trips.txt, with its stop rows by sequence and its frequencies by start
 pub record TripRow : Type 0 where
   pub route_id : List ℕ
   pub service_id : List ℕ
   pub trip_id : List ℕ
   pub trip_headsign : Option (List ℕ)
-  pub stop_rows : List StopRow
-  pub frequencies : List Period
+  pub stop_rows : List StopTimeRow
+  pub frequencies : List FrequencyRow

@@ -1,5 +1,5 @@
 -- How the program ends: what is the matter where it ends with status 2 (usage) or 3 (folders, files and output).
--- What folders hold they tell or do not tell, as a disk does not; of what is not told the words below claim nothing.
+-- These definitions say nothing about folders whose contents are unknown, such as those of a disk.
 use Rattle.std.specs.Prelude.{◌≡◌, ◌≢◌, ◌<◌, ◌++◌, ◌⊎◌, ℕ, slice_index, ◌==◌, false, if◌then◌else◌, codes, length, List, [], ◌∷◌, Option, Some, None, option_map, Result, Ok, Err, ℤ, ◌<ℤ◌}
 use Rattle.std.specs.Borrow.{Bor}
 use Rattle.std.specs.Result.{result_ok}
@@ -60,7 +60,7 @@ LacksSlash text = (i : ℕ) → i < length text → slice_index text i ≢ slash
 -- where there is no slash, and `/` where nothing stands before it
 pub record IsFileOf (path folder name : List ℕ) : Type 0 where
   pub last : LacksSlash name
-  pub place : ((path ≡ name) × (folder ≡ codes ".")) ⊎ (((path ≡ slash ∷ name) × (folder ≡ codes "/")) ⊎ ((path ≡ folder ++ slash ∷ name) × (0 < length folder)))
+  pub cut : ((path ≡ name) × (folder ≡ codes ".")) ⊎ (((path ≡ slash ∷ name) × (folder ≡ codes "/")) ⊎ ((path ≡ folder ++ slash ∷ name) × (0 < length folder)))
 
 -- this is so of the folder and the name that a path stands for
 pub record OfFile (path : List ℕ) (Fact : List ℕ → List ℕ → Type 0) : Type 0 where

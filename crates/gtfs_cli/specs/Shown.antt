@@ -7,7 +7,7 @@ use Rattle.gtfs_cli.specs.declared.board.departure.Mark.{Mark}
 use Rattle.gtfs_cli.specs.declared.board.departure.Mark.TheVariants as mark
 use Rattle.gtfs_cli.specs.Key.{Key}
 use Rattle.gtfs_cli.specs.Lines.{Listed}
-use Rattle.gtfs_cli.specs.Rows.{StopRow, TripRow}
+use Rattle.gtfs_cli.specs.Rows.{StopTimeRow, TripRow}
 use Rattle.gtfs_cli.specs.Content.{Content}
 use Rattle.gtfs_cli.specs.Trips.{starts_run}
 
@@ -16,14 +16,14 @@ abbrev pub route_name : Content → List ℕ → List ℕ
 route_name f id = unwrap_or (option_and_then (λ r. option_or r.route_short_name r.route_long_name) (find (λ r. bytes_eq r.route_id id) f.routes)) []
 
 -- the headsign of the stop row, or where it has none that of the trip
-abbrev pub headsign : TripRow → StopRow → List ℕ
+abbrev pub headsign : TripRow → StopTimeRow → List ℕ
 headsign t row = unwrap_or (option_or row.stop_headsign t.trip_headsign) []
 
 abbrev pub mark_if : Bool → Mark
 mark_if true = mark.Frequency
 mark_if false = mark.Scheduled
 
--- a run of a period without exact times is marked
+-- a run of a frequency without exact times is marked
 abbrev pub mark_of : TripRow → ℕ → Mark
 mark_of t run = mark_if (list_any (λ p. starts_run p run && not p.exact_times) t.frequencies)
 
@@ -31,7 +31,7 @@ mark_of t run = mark_if (list_any (λ p. starts_run p run && not p.exact_times) 
 abbrev pub trip_named : Content → List ℕ → Option TripRow
 trip_named f id = find (λ t. bytes_eq t.trip_id id) f.trips
 
-abbrev pub row_numbered : TripRow → ℕ → Option StopRow
+abbrev pub row_numbered : TripRow → ℕ → Option StopTimeRow
 row_numbered t sequence = find (λ row. row.stop_sequence == sequence) t.stop_rows
 
 -- what is shown of the departure with this key

@@ -105,6 +105,3 @@ fn command<'w, S: AsStr, F: Folders, O: Out>(
         Err(WordsFault::OutOfMemory) => Err(Refusal::OutOfMemory),
     }
 }
-
-#[cfg(test)]
-mod tests;

@@ -9,8 +9,6 @@ mod order;
 mod read;
 mod rows;
 mod services;
-#[cfg(test)]
-mod tests;
 
 pub use content::Feed;
 pub use fault::FeedFault;

@@ -10,38 +10,38 @@ use clap::error::{Error, ErrorKind};
 use std::alloc::{AllocError, Global};
 use std::convert::AsStr;
 
-/// What the words ask for. The texts are the words' own and not yet judged.
-#[derive(Clone, Copy, Debug, PartialEq, Eq)]
+// What the words ask for. The texts are the words' own and not yet judged.
+#[derive(Clone, Copy)]
 pub(crate) enum Command<'w> {
-    /// `gtfs check`: what is wrong with the feed in this folder.
+    // `gtfs check`: what is wrong with the feed in this folder.
     Check(&'w str),
-    /// `gtfs board`: the departures at a stop.
+    // `gtfs board`: the departures at a stop.
     Board(BoardWords<'w>),
 }
 
-/// What was given to `gtfs board`, each a text as it stands in the words.
-#[derive(Clone, Copy, Debug, PartialEq, Eq)]
+// What was given to `gtfs board`, each a text as it stands in the words.
+#[derive(Clone, Copy)]
 pub(crate) struct BoardWords<'w> {
-    /// The folder of the feed.
+    // The folder of the feed.
     pub(crate) dir: &'w str,
-    /// The file of the time zone.
+    // The file of the time zone.
     pub(crate) zone: &'w str,
-    /// The `stop_id` of the stop.
+    // The `stop_id` of the stop.
     pub(crate) stop: &'w str,
-    /// Where the board begins.
+    // Where the board begins.
     pub(crate) from: &'w str,
-    /// Where the board ends.
+    // Where the board ends.
     pub(crate) until: &'w str,
 }
 
-/// Why the words name no command.
-#[derive(Debug, Drop)]
+// Why the words name no command.
+#[derive(Drop)]
 pub(crate) enum WordsFault {
-    /// The words are not as the usage wants them: `clap`'s text, for the error output.
+    // The words are not as the usage wants them: `clap`'s text, for the error output.
     Refused(String),
-    /// Help was asked for: `clap`'s text, for the output.
+    // Help was asked for: `clap`'s text, for the output.
     Help(String),
-    /// Memory ran out.
+    // Memory ran out.
     OutOfMemory,
 }
 
@@ -53,12 +53,9 @@ impl From<AllocError> for WordsFault {
     }
 }
 
-/// Reads the words of the command line, of which the first is the program's name.
-///
-/// # Errors
-/// `Help` where the words ask for help before anything is wrong with them, `Refused` where
-/// something is wrong first, `OutOfMemory` where memory ran out. Words that `clap` takes only ever
-/// fail for want of memory.
+// Reads the words of the command line, of which the first is the program's name.
+// Errors: `Help` where the words ask for help before anything is wrong with them, `Refused` where something is wrong
+// first, `OutOfMemory` where memory ran out. Words that `clap` takes only ever fail for want of memory.
 pub(crate) fn read_words<'w, S: AsStr>(
     alloc: Global,
     words: &'w [S],
@@ -120,6 +117,3 @@ fn given_text<'w>(given: &ArgMatches<'w>, id: &str) -> Option<&'w str>
 {
     given.get_str(id)
 }
-
-#[cfg(test)]
-mod tests;

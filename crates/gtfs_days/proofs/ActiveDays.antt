@@ -267,8 +267,8 @@ parted es from up i j z h l below = elim (cases_lt i j) [
 ]
 
 split_at : (es : List Row) (from : ℤ) (i : ℕ) → IsByDay es → (IsPartitionedBy (λ e. int_lt e.0 from) es → IsPartitionPoint (λ e. int_lt e.0 from ≡ true) (λ e. int_lt e.0 from ≡ false) es i) → IsSplit es from i
-split_at es from i up place =
-    let sides = place (parted es from up) in
+split_at es from i up parted_at =
+    let sides = parted_at (parted es from up) in
     record {
       before = λ k z h l. lt_from (get_or es k z).0 from (sides.0 k z (omega arith) h);
       after = λ k z l.
@@ -289,8 +289,8 @@ pub record IsRest (week : Option Week) (es : List Row) (from : ℤ) (rest : List
   pub same : (e : ℤ) → from ≤ℤ e → is_active (dates week es) e ≡ is_active (dates week rest) e
 
 pub rest_from : (week : Option Week) (es : List Row) (from : ℤ) (i : ℕ) → IsByDay es → (IsPartitionedBy (λ e. int_lt e.0 from) es → IsPartitionPoint (λ e. int_lt e.0 from ≡ true) (λ e. int_lt e.0 from ≡ false) es i) → IsRest week es from (drop i es)
-rest_from week es from i up place =
-    let split = split_at es from i up place in
+rest_from week es from i up parted_at =
+    let split = split_at es from i up parted_at in
     record {
       by_day = by_day_drop es i up;
       from_on = split.after;

@@ -107,8 +107,8 @@ searchable d es up i j x h l = elim (cases_lt i j) [
 
 -- where a binary search by day found none, there is none
 pub missing_exception : (kind : Exception → Bool) (d : ℤ) (es : List Row) (i : ℕ) → IsByDay es → (IsNonDecreasingBy (λ e. ordering_index (int_cmp e.0 d)) es → IsPartitionPoint (λ e. int_cmp e.0 d ≡ Less) (λ e. int_cmp e.0 d ≡ Greater) es i) → list_any (λ e. int_eq e.0 d && kind e.1) es ≡ false
-missing_exception kind d es i up place =
-    let sides = place (searchable d es up) in
+missing_exception kind d es i up searched =
+    let sides = searched (searchable d es up) in
     no_exception kind d es (λ k x h same. elim (cases_lt k i) [
       | inl before ↦ let less = lt_from (get_or es k x).0 d (sides.0 k x (omega arith) before) in omega (arith, ints)
       | inr after ↦ let more = greater_from (get_or es k x).0 d (sides.1 k x after h) in omega (arith, ints)

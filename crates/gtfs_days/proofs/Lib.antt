@@ -3,4 +3,3 @@ pub mod Footers
 pub mod Clocks
 pub mod ActiveDays
 pub mod Weekdays
-mod WorkedDays

@@ -129,10 +129,10 @@ impl Service {
         ensures same { (e : ℤ) → day ≤ℤ e → is_active self.now e ≡ is_active (with_exceptions self.now result.now) e }
     {
         let from = day.number();
-        let place = self
+        let first = self
             .exceptions
             .partition_point(|exception| exception.0.number() < from);
-        &self.exceptions[place..]
+        &self.exceptions[first..]
     }
 
     // The first active day from `from` on, if these are the exceptions. Between two exceptions the
@@ -202,6 +202,3 @@ fn service_day(day: i32) -> Option<i32>
         None
     }
 }
-
-#[cfg(test)]
-mod tests;

@@ -69,7 +69,7 @@ impl Zone {
     /// GTFS Schedule Reference, "Field Types", Time. The day is one from 1900-01-01 to 9998-12-31.
     ///
     /// # Errors
-    /// None: no memory is taken today.
+    /// None: it takes no memory.
     pub fn origin(&self, _alloc: Global, day: Day) -> Result<i64, OutOfMemory>
         requires { is_service_day day ≡ true }
         ensures answers { IsOk result }
@@ -95,7 +95,7 @@ impl Zone {
     ///
     /// # Errors
     /// `OutOfRange` where the number is no instant of `jiff`, which has those from -377,705,023,201
-    /// to 253,402,207,200. `OutOfMemory` never: no memory is taken today.
+    /// to 253,402,207,200. `OutOfMemory` never, since it takes no memory.
     pub fn civil(&self, _alloc: Global, instant: i64) -> Result<Civil, CivilFault>
         ensures succeeds { IsOk result ↔ IsInstant instant }
         ensures value { IfOk result (IsCivil self.now instant) }
@@ -158,6 +158,3 @@ fn shown(clock: civil::DateTime, offset: Offset) -> Civil
         offset: offset.seconds(),
     }
 }
-
-#[cfg(test)]
-mod tests;

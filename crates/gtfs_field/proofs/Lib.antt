@@ -6,8 +6,7 @@ mod Dates
 mod Fractions
 mod Numerals
 mod Texts
-mod TimePlaces
+mod TimeColons
 mod Times
 mod Wides
-mod WorkedTexts
 mod Zeros

@@ -10,7 +10,7 @@ use Rattle.gtfs_field.specs.Kinds.{time_from, has_time_shape, is_sixtieth, is_co
 use Rattle.gtfs_field.proofs.Numerals.{digit_value-digit}
 use Rattle.gtfs_field.proofs.Choices.{test-some, test-none, some-test, none-test, shaped-true, shaped-false}
 
--- the two bytes at a place of a text
+-- the two bytes at an index of a text
 abbrev pub pair_at : List ℕ → ℕ → List ℕ
 pair_at t i = get_or t i 0 ∷ get_or t (i + 1) 0 ∷ []
 

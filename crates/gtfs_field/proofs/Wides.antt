@@ -48,8 +48,8 @@ wide-one : (k n : ℕ) → n < 10 → wide (suc k) n ≡ replicate (suc k - leng
 wide-one k n one =
     let none : n / 10 ≡ 0 = omega arith in
     let same : n % 10 ≡ n = omega arith in
-    let places : suc k - 1 ≡ k = omega arith in
-    rw (none, wide-zeros k, same, decimal_digit n one, places) refl
+    let width_is : suc k - 1 ≡ k = omega arith in
+    rw (none, wide-zeros k, same, decimal_digit n one, width_is) refl
 
 -- the digits of a number with zeros in front
 pub wide-decimal : (k n : ℕ) → n < 10 ^ suc k → n < 2 ^ 64 → wide (suc k) n ≡ replicate (suc k - length (decimal n)) 48 ++ decimal n
@@ -67,8 +67,8 @@ wide-decimal (suc k) n small fits = elim (cases_lt n 10) [
 -- digits written over zeros
 pub wide-written : (front back zeroed new : List ℕ) (width n start end : ℕ) → 0 < width → n < 10 ^ width → n < 2 ^ 64 → length front + width ≡ end → zeroed ≡ front ++ (replicate width 48 ++ back) → start + length (decimal n) ≡ end
     → drop start new ≡ decimal n ++ drop end zeroed → take start new ≡ take start zeroed → new ≡ front ++ (wide width n ++ back)
-wide-written front back zeroed new zero n start end some-width small fits places zeros starts written before = absurd (omega arith)
-wide-written front back zeroed new (suc k) n start end some-width small fits places zeros starts written before =
+wide-written front back zeroed new zero n start end some-width small fits width_is zeros starts written before = absurd (omega arith)
+wide-written front back zeroed new (suc k) n start end some-width small fits width_is zeros starts written before =
     let zeroes : List ℕ = replicate (suc k) 48 in
     let m = suc k - length (decimal n) in
     let short : length (decimal n) ≤ suc k = length-decimal-le (suc k) n (omega arith) small fits in
@@ -78,7 +78,7 @@ wide-written front back zeroed new (suc k) n start end some-width small fits pla
     let head : take start zeroed ≡ front ++ replicate m 48 =
     rw (zeros, at, take-append-add front (zeroes ++ back) m, take-append-le m zeroes back some, take-replicate {X = ℕ} m (suc k) 48 (omega arith)) refl in
     let tail : drop end zeroed ≡ back =
-    rw (zeros, ← places, ← count, drop-append-add front (zeroes ++ back) (length zeroes)) (drop-append_seam zeroes back) in
+    rw (zeros, ← width_is, ← count, drop-append-add front (zeroes ++ back) (length zeroes)) (drop-append_seam zeroes back) in
     let whole : take start new ++ drop start new ≡ (front ++ replicate m 48) ++ (decimal n ++ back) = rw (written, before, head, tail) refl in
     let regroup : (front ++ replicate m 48) ++ (decimal n ++ back) ≡ front ++ ((replicate m 48 ++ decimal n) ++ back) = simp append_assoc in
     sym (take-append-drop start new) ∙ whole ∙ regroup ∙ ap (λ w. front ++ (w ++ back)) (sym (wide-decimal k n small fits))
@@ -88,9 +88,9 @@ pub zeroed-field : (bytes filled : List ℕ) (width end : ℕ) → width ≤ end
     → put_mid (end - width) (end - (end - width)) bytes filled ≡ take (end - width) bytes ++ (replicate width 48 ++ drop end bytes)
 zeroed-field bytes filled width end within inside zeros =
     let start = end - width in
-    let places : length (take (end - start) (drop start bytes)) ≡ width = simp (length-take, length-drop) (omega arith) in
+    let width_is : length (take (end - start) (drop start bytes)) ≡ width = simp (length-take, length-drop) (omega arith) in
     let past : drop (end - start) (drop start bytes) ≡ drop end bytes = drop-drop (end - start) start bytes ∙ ap (λ m. drop m bytes) (let e : start + (end - start) ≡ end = omega arith in e) in
-    rw (zeros, places, past) refl
+    rw (zeros, width_is, past) refl
 
 pub length-zeroed : (bytes : List ℕ) (width end : ℕ) → width ≤ end → end ≤ length bytes → length (take (end - width) bytes ++ (replicate width 48 ++ drop end bytes)) ≡ length bytes
 length-zeroed bytes width end within inside =

@@ -85,15 +85,15 @@ trailing (d ∷ t) =
           let zeros : t ≡ replicate (length t) 48 = trailing t ∙ no-front rest _ _ none (omega arith) in
           rw gone (rw zero-digit (ap (λ r. 48 ∷ r) zeros ∙ ap (λ n. replicate n 48) (let e : suc (length t) ≡ suc (length t) - 0 = omega arith in e)))
       | inr stays ↦
-          let places : suc (length t) - suc (length rest) ≡ length t - length rest = omega arith in
-          rw stays (rw places (ap (λ r. d ∷ r) (trailing t)))
+          let positions : suc (length t) - suc (length rest) ≡ length t - length rest = omega arith in
+          rw stays (rw positions (ap (λ r. d ∷ r) (trailing t)))
     ]
 
 zeros-value : (n k : ℕ) → digits_value_after 10 n (replicate k 48) ≡ n * 10 ^ k
 zeros-value n zero = omega arith
 zeros-value n (suc k) = zeros-value (n * 10 + 0) k ∙ (rw (pow-suc 10 k) (omega arith))
 
--- the digits that are left, at their places
+-- the digits that are left, at their positions
 pub number-without : (t : List ℕ) → number t ≡ number (without_last_zeros t) * 10 ^ (length t - length (without_last_zeros t))
 number-without t =
     let rest = without_last_zeros t in

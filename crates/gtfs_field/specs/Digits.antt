@@ -7,7 +7,7 @@ use Rattle.std.specs.Str.Parse.{digits_value}
 abbrev pub is_number : List ℕ → Bool
 is_number ds = not (length ds == 0) && all_ascii_digits ds
 
--- the number that decimal digits write, each by its place
+-- the number that decimal digits write, each by its position
 abbrev pub number : List ℕ → ℕ
 number ds = digits_value 10 ds
 

@@ -17,7 +17,7 @@ pub(crate) fn push_ascii(text: &mut String, bytes: &[u8]) -> Result<(), OutOfMem
     text.push_str(str::from_utf8(bytes).unwrap())
 }
 
-/// Writes a number into the `width` places that end at `end`, with zeros in front.
+/// Writes a number into the `width` bytes that end at `end`, with zeros in front.
 pub(crate) fn write_wide(number: u64, width: usize, end: usize, bytes: &mut [u8])
     requires small { number < 10 ^ width }
     requires within { (0 < width) × (width ≤ end) × (end ≤ length bytes.old) }

@@ -28,8 +28,6 @@ mod digits;
 mod fault;
 mod instant;
 mod list;
-#[cfg(test)]
-mod tests;
 mod text;
 
 pub use clock::{Clock, push_time, read_time};

@@ -21,48 +21,14 @@
 //! }
 //! ```
 //!
-//! When a problem holds stands in `specs/`, a file for each topic: files, columns, fields, keys and references, presence,
-//! stops, trips, periods and services. The columns, keys and references of the nine files stand there as data.
+//! The words of the contracts stand on one page, `specs/Words.antt`, which names where each is defined.
 #![tactic(auto)]
 
-mod cell;
 mod checks;
-mod code;
-mod columns;
-mod feed_ids;
-mod field;
-mod fields;
-mod file_name;
-mod files;
-mod finder;
-mod found;
-mod headers;
-mod id_row;
-mod ids;
-mod keys;
 mod passed;
-mod periods;
-mod presence;
-mod problem;
-mod references;
 mod report;
-mod row;
-mod rule;
-mod services;
-mod single_keys;
-mod spans;
-mod stop_kinds;
-mod stop_times;
-mod trips;
-mod values;
-mod zones;
 
 pub use checks::check;
-pub use code::Code;
-pub use file_name::FileName;
+pub use gtfs_columns::{Code, FileName, Problem};
 pub use passed::Passed;
-pub use problem::Problem;
 pub use report::Report;
-
-#[cfg(test)]
-mod tests;

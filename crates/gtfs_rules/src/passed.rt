@@ -1,5 +1,5 @@
 ghost use Rattle.std.specs.Prelude.{◌≡◌};
-ghost use Rattle.gtfs_rules.specs.Problems.{Passes};
+ghost use Rattle.gtfs_columns.specs.Problems.{Passes};
 
 use gtfs_table::Tables;
 use std::marker::Model;
@@ -12,7 +12,7 @@ pub struct Passed<'a> {
 
 impl<'a> Model for Passed<'a> {
     ghost use Rattle.gtfs_table.specs.Tables.{Dataset};
-    ghost use Rattle.gtfs_rules.specs.Problems.{Passes};
+    ghost use Rattle.gtfs_columns.specs.Problems.{Passes};
 
     ghost Value = { Dataset };
 

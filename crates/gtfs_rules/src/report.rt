@@ -1,13 +1,12 @@
 ghost use Rattle.std.specs.Prelude.{◌≡◌, map, IfOk, IfErr};
 ghost use Rattle.std.specs.List.{list_any};
-ghost use Rattle.gtfs_rules.specs.Codes.{is_error};
-ghost use Rattle.gtfs_rules.specs.Found.{ListsAll};
-ghost use Rattle.gtfs_rules.specs.Problems.{IsOnlyReport, IsReport, Passes};
-ghost use Rattle.gtfs_rules.specs.View.{problem_of};
+ghost use Rattle.gtfs_columns.specs.Codes.{is_error};
+ghost use Rattle.gtfs_columns.specs.steps.Found.{ListsAll};
+ghost use Rattle.gtfs_columns.specs.Problems.{IsOnlyReport, IsReport, Passes};
+ghost use Rattle.gtfs_columns.specs.View.{problem_of};
 
-use crate::found::Found;
 use crate::passed::Passed;
-use crate::problem::Problem;
+use gtfs_columns::{Found, Problem};
 use gtfs_table::Tables;
 use std::marker::Model;
 
@@ -20,9 +19,9 @@ pub struct Report<'a> {
 
 impl<'a> Model for Report<'a> {
     ghost use Rattle.std.specs.Prelude.{map};
-    ghost use Rattle.gtfs_rules.specs.Found.{Checked};
-    ghost use Rattle.gtfs_rules.specs.Problems.{IsReport};
-    ghost use Rattle.gtfs_rules.specs.View.{problem_of};
+    ghost use Rattle.gtfs_columns.specs.steps.Found.{Checked};
+    ghost use Rattle.gtfs_columns.specs.Problems.{IsReport};
+    ghost use Rattle.gtfs_columns.specs.View.{problem_of};
 
     ghost Value = { Checked };
 

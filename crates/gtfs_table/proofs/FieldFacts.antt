@@ -19,9 +19,9 @@ concat-more : (fs : List (List ℕ)) (f : List ℕ) → concat (fs ++ f ∷ []) 
 concat-more [] f = append-nil f
 concat-more (x ∷ fs) f = rw (concat-more fs f) (sym (append_assoc x (concat fs) f))
 
--- the places of the first fields, and their size
-abbrev pub PlacesAdded : ℕ → List ℕ → List (List ℕ) → List ℕ → ℕ → Type 0
-PlacesAdded first old fields starts size = (starts ≡ old ++ starts_of first fields) × (size ≡ length (concat fields))
+-- the offsets of the first fields, and their size
+abbrev pub OffsetsAdded : ℕ → List ℕ → List (List ℕ) → List ℕ → ℕ → Type 0
+OffsetsAdded first old fields starts size = (starts ≡ old ++ starts_of first fields) × (size ≡ length (concat fields))
 
 first-there : (fields : List (List ℕ)) (i : ℕ) (f : List ℕ) → Some f ≡ field_at fields i → i < length fields
 unfolding field_at
@@ -35,17 +35,17 @@ one-more fields i f at =
     let here : get_or fields i [] ≡ f = field-get fields i f (sym at) in
     rw (take_more fields i [] lt, here) refl
 
-pub places-more : (first : ℕ) (old : List ℕ) (fields : List (List ℕ)) (i : ℕ) (f starts new_starts : List ℕ) (size : ℕ) → PlacesAdded first old (take i fields) starts size
-    → Some f ≡ field_at fields i → new_starts ≡ starts ++ (first + size) ∷ [] → PlacesAdded first old (take (i + 1) fields) new_starts (size + length f)
-places-more first old fields i f starts new_starts size h at s =
+pub offsets-more : (first : ℕ) (old : List ℕ) (fields : List (List ℕ)) (i : ℕ) (f starts new_starts : List ℕ) (size : ℕ) → OffsetsAdded first old (take i fields) starts size
+    → Some f ≡ field_at fields i → new_starts ≡ starts ++ (first + size) ∷ [] → OffsetsAdded first old (take (i + 1) fields) new_starts (size + length f)
+offsets-more first old fields i f starts new_starts size h at s =
     let more = one-more fields i f at in (
       rw (more, starts-more first (take i fields) f, s, h.0, h.1) (append_assoc old (starts_of first (take i fields)) _),
       rw (more, concat-more (take i fields) f, h.1) (sym (length-append (concat (take i fields)) f)),
     )
 
-pub places-none : (first : ℕ) (old : List ℕ) (fields : List (List ℕ)) → PlacesAdded first old (take 0 fields) old 0
+pub offsets-none : (first : ℕ) (old : List ℕ) (fields : List (List ℕ)) → OffsetsAdded first old (take 0 fields) old 0
 unfolding starts_of
-places-none first old fields = (sym (append-nil old), refl)
+offsets-none first old fields = (sym (append-nil old), refl)
 
 at-end : (fields : List (List ℕ)) (i : ℕ) → None ≡ field_at fields i → length fields ≤ i
 unfolding field_at
@@ -53,9 +53,9 @@ at-end [] i e = omega arith
 at-end (x ∷ fs) zero e = absurd (cc e)
 at-end (x ∷ fs) (suc i) e = let h = at-end fs i e in omega arith
 
-pub places-all : (first : ℕ) (old : List ℕ) (fields : List (List ℕ)) (i : ℕ) (starts : List ℕ) (size : ℕ) → PlacesAdded first old (take i fields) starts size
-    → None ≡ field_at fields i → PlacesAdded first old fields starts size
-places-all first old fields i starts size h e =
+pub offsets-all : (first : ℕ) (old : List ℕ) (fields : List (List ℕ)) (i : ℕ) (starts : List ℕ) (size : ℕ) → OffsetsAdded first old (take i fields) starts size
+    → None ≡ field_at fields i → OffsetsAdded first old fields starts size
+offsets-all first old fields i starts size h e =
     let all = take_all i fields (at-end fields i e) in
     rw all at h
 
@@ -79,8 +79,8 @@ unfolding cut_from last_end Rising
 concat-cut s [] bytes r = let e : s - s ≡ 0 = omega arith in rw e refl
 concat-cut s (e ∷ ends) bytes r =
     let up = last-low e ends (length bytes) r.1 in
-    let place : s + (e - s) ≡ e = omega (arith, r.0) in
-    let there : drop (e - s) (drop s bytes) ≡ drop e bytes = drop-drop (e - s) s bytes ∙ rw place refl in
+    let end : s + (e - s) ≡ e = omega (arith, r.0) in
+    let there : drop (e - s) (drop s bytes) ≡ drop e bytes = drop-drop (e - s) s bytes ∙ rw end refl in
     let n : (e - s) + (last_end e ends - e) ≡ last_end e ends - s = omega (arith, r.0, up) in
     let rest = concat-cut e ends bytes r.1 in
     rw (rest, ← there) (take-both (e - s) (last_end e ends - e) (drop s bytes) ∙ rw n refl)

@@ -9,9 +9,9 @@ pub mod MarkFacts
 mod NameLemmas
 pub mod PartFacts
 pub mod ReadSteps
+pub mod RowFacts
 mod SentLemmas
 pub mod StoreFacts
 pub mod Utf8Fields
 pub mod ValueFacts
-mod WorkedTables
 pub mod WriteFacts

@@ -1,4 +1,4 @@
--- What one more text, field or record leaves of the places and of what they cut.
+-- What one more text, field or record leaves of the offsets and of what they cut.
 use Rattle.std.specs.Prelude.{Result, OnOk, if◌then◌else◌}
 use Rattle.std.specs.Result.{is_ok}
 use Rattle.std.proofs.Common.{◌≡◌, ◌<◌, ◌≤◌, ◌∷◌, ◌++◌, ◌∙◌, [], ℕ, List, Ok, Err, length, refl, arith, length-append}
@@ -10,7 +10,7 @@ use Rattle.csv.proofs.RecordFacts.{rising-more, rising-end, text-more}
 use Rattle.gtfs_table.specs.Parts.{parts, add_to_last}
 use Rattle.gtfs_table.proofs.PartFacts.{parts-push, parts-more, filled-more}
 
--- the places, and what they cut, after a push of a part
+-- the offsets, and what they cut, after a push of a part
 pub rising-push : (starts : List ℕ) (size more : ℕ) → Rising 0 starts size → size ≤ more → Rising 0 (starts ++ size ∷ []) more
 rising-push starts size more r h = rising-more 0 (starts ++ size ∷ []) size more (rising-end 0 starts size r) h
 

@@ -25,7 +25,7 @@ next-record rs i =
     let number : i + 1 - 1 ≡ i = omega arith in
     record-there rs (i + 1) (omega arith) ∙ rw number refl
 
--- the first place that passes
+-- the index of the first that passes
 from-at : {X : Type 0} (p : X → Bool) (k : ℕ) (xs : List X) (n : ℕ) (d : X) → position_from p k (take n xs) ≡ None → n < length xs → p (get_or xs n d) ≡ true
     → position_from p k xs ≡ Some (k + n)
 from-at p k [] n d before h here = absurd (omega arith)

@@ -1,6 +1,6 @@
 -- Folders of files: what they hold, and what their calls answer.
 -- GTFS Schedule Reference, "Dataset Files": a dataset lies in one folder, each file under its own name.
--- A device may tell nothing of what it holds (None); then the words below that speak of it claim nothing.
+-- The contents of a device may be unknown (None); then the words below that speak of them say nothing.
 use Rattle.std.specs.Prelude.{ℕ, IsTrue, is_some, List, Option, Some, None, option_map, unwrap_or, IsSorted, ◌≡◌, ◌≢◌, ⊤}
 use Rattle.std.specs.Cmp.Lexicographic.{slice_cmp}
 use Rattle.std.specs.Ordering.{nat_cmp}

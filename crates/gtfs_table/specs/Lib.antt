@@ -7,6 +7,7 @@ pub mod Folder
 pub mod Held
 pub mod Parts
 pub mod Reading
+pub mod Rows
 pub mod Storage
 pub mod Tables
 pub mod Written

@@ -1,7 +1,7 @@
--- A list cut at places.
+-- A list cut at offsets.
 use Rattle.std.specs.Prelude.{ℕ, ◌+◌, ◌-◌, ◌++◌, List, [], ◌∷◌, take, drop, length, slice_index_or}
 
--- each part goes from its place to the next one, and the last part to the end
+-- each part goes from its offset to the next one, and the last part to the end
 unfoldable pub parts : {X : Type 0} → List ℕ → List X → List (List X)
 parts [] xs = []
 parts (start ∷ rest) xs = take (slice_index_or rest 0 (length xs) - start) (drop start xs) ∷ parts rest xs
@@ -12,7 +12,7 @@ add_to_last [] x = []
 add_to_last (xs ∷ []) x = (xs ++ x ∷ []) ∷ []
 add_to_last (xs ∷ ys ∷ rest) x = xs ∷ add_to_last (ys ∷ rest) x
 
--- where these lists begin if they stand one after the other from a place on
+-- where these lists begin if they stand one after the other from an offset on
 unfoldable pub starts_of : {X : Type 0} → ℕ → List (List X) → List ℕ
 starts_of start [] = []
 starts_of start (xs ∷ rest) = start ∷ starts_of (start + length xs) rest

@@ -19,6 +19,10 @@ kept_files = file.Agency ∷ file.Stops ∷ file.Routes ∷ file.Trips ∷ file.
 abbrev pub is_kept : List ℕ → Bool
 is_kept name = list_any (λ x. bytes_eq (file_name x) name) kept_files
 
+-- the names that are none of the kept files
+abbrev pub other_names : List (List ℕ) → List (List ℕ)
+other_names names = filter (λ name. not (is_kept name)) names
+
 -- the table of a folder's file
 abbrev pub table_in : Files → File → Table
 table_in files x = table_of_bytes (map.get files (file_name x))
@@ -35,7 +39,7 @@ dataset_of files = record {
   calendar_dates = table_in files file.CalendarDates;
   frequencies = table_in files file.Frequencies;
   transfers = table_in files file.Transfers;
-  others = filter (λ name. not (is_kept name)) (map.keys files);
+  others = other_names (map.keys files);
 }
 
 -- ---- what a device answers, told is what it holds

@@ -6,23 +6,23 @@ use Rattle.gtfs_table.specs.declared.texts.Texts.TheInside as texts
 use Rattle.gtfs_table.specs.declared.record.Record.TheInside as one
 use Rattle.gtfs_table.specs.declared.records.Records.TheInside as records
 
--- texts one after the other, each from its place on
+-- texts one after the other, each from its offset on
 abbrev pub texts_of : texts.Inside → List (List ℕ)
 texts_of t = parts t.starts t.bytes.items
 
--- the places rise, and each text is UTF-8
+-- the offsets rise, and each text is UTF-8
 pub record IsTextStore (t : texts.Inside) : Type 0 where
   pub rising : Rising 0 t.starts (length t.bytes.items)
   pub utf8 : AllText (texts_of t)
 
--- records one after the other, each from its place among the fields on
-abbrev pub records_in : records.Inside → List (List (List ℕ))
-records_in r = parts r.starts r.fields
+-- records one after the other, each from its offset among the fields on
+abbrev pub records_stored : records.Inside → List (List (List ℕ))
+records_stored r = parts r.starts r.fields
 
--- the places rise, and no record is without a field
+-- the offsets rise, and no record is without a field
 pub record IsRecordStore (r : records.Inside) : Type 0 where
   pub rising : Rising 0 r.starts (length r.fields)
-  pub filled : All (λ fields. 0 < length fields) (records_in r)
+  pub filled : All (λ fields. 0 < length fields) (records_stored r)
 
 -- one record: the fields of a store from a number to another
 abbrev pub record_in : one.Inside → List (List ℕ)

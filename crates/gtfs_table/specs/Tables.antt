@@ -13,7 +13,7 @@ use Rattle.gtfs_table.specs.declared.state.State.TheVariants as state
 
 -- ---- records and values
 
--- the bytes of a file without each byte order mark at its start
+-- the bytes of a file without its leading byte order marks
 unfoldable pub without_marks : List ℕ → List ℕ
 without_marks [] = []
 without_marks (a ∷ []) = a ∷ []
@@ -39,7 +39,7 @@ abbrev pub field_under : List (List ℕ) → Option ℕ → List ℕ
 field_under fields None = []
 field_under fields (Some n) = field_cut fields n
 
--- the place of the first header column of a name; the empty name is no column
+-- the index of the first header column of a name; the empty name is no column
 abbrev pub column_of : Records → List ℕ → Option ℕ
 column_of rs name = if length name == 0 then None else position (λ column. bytes_eq (cut column) name) (record_at rs 1)
 

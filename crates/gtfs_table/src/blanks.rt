@@ -1,7 +1,7 @@
 ghost use Rattle.std.specs.Prelude.{◌≡◌, reverse};
 ghost use Rattle.gtfs_table.specs.Blanks.{cut, is_blank as blank_of, without_first_blanks};
 
-/// The text without the blanks at its ends: a blank is a space or a control character (codes 0 to 31, and 127).
+// The text without the blanks at its ends: a blank is a space or a control character (codes 0 to 31, and 127).
 pub(crate) fn cut(text: &str) -> &str
     ensures { result.now ≡ cut text.now }
 {

@@ -12,13 +12,13 @@ use std::io::ErrorKind;
 use std::marker::Model;
 use std::rt::Files;
 
-/// The greatest length in bytes of a file that is read.
+// The greatest length in bytes of a file that is read.
 const FILE_LIMIT: u64 = 1_073_741_824;
 
-/// The most entries of a folder that is listed.
+// The most entries of a folder that is listed.
 const ENTRY_LIMIT: usize = 1_000_000;
 
-/// The folders of a file system, by their paths. It tells nothing of what it holds.
+/// The folders of a file system, by their paths. Contracts say nothing of what they hold.
 ///
 /// A folder or file is not there where no entry has its name. Where there is one and it is of another type
 /// than wanted, or its name is no UTF-8, or a folder has more than 1,000,000 entries, the call fails with
@@ -41,14 +41,19 @@ impl<'a, R: Files + Alloc + Clone + Drop> Model for DiskFolders<'a, R> {
 }
 
 impl<'a, R: Files + Alloc + Clone + Drop> DiskFolders<'a, R> {
-    /// The folders of this runtime's file system. It takes no memory.
+    /// The folders of this runtime's file system, with the limits of [`DiskFolders`]. It takes no memory.
     pub fn new(rt: &'a R) -> DiskFolders<'a, R>
         ensures { result ≡ record { limit = FILE_LIMIT; entries = ENTRY_LIMIT; failures = 0 } }
     {
         DiskFolders::with_limits(rt, FILE_LIMIT, ENTRY_LIMIT)
     }
 
-    fn with_limits(rt: &'a R, limit: u64, entries: usize) -> DiskFolders<'a, R>
+    /// The folders of this runtime's file system, of which files of up to `limit` bytes are read and folders
+    /// of up to `entries` entries are listed. It takes no memory.
+    ///
+    /// For feeds from strangers: a longer file is refused with TooLarge, and a larger folder with Read,
+    /// before more memory is taken.
+    pub fn with_limits(rt: &'a R, limit: u64, entries: usize) -> DiskFolders<'a, R>
         ensures { result ≡ record { limit = limit; entries = entries; failures = 0 } }
     {
         DiskFolders {
@@ -83,7 +88,8 @@ impl<'a, R: Files + Alloc + Clone + Drop> Folders for DiskFolders<'a, R> {
             (λ names. Lists (told self.old) dir.now (map string_bytes names.items)) }
         ensures ordered { IfOk result (λ names. IsByBytes (map string_bytes names.items)) }
         ensures refused { IfErr result
-            (λ fault. RefusesNames fault (told self.old) dir.now self.old.failures self.new.failures) }
+            (λ fault. RefusesNames fault (told self.old) dir.now
+            self.old.failures self.new.failures) }
         ensures unchanged { told self.new ≡ told self.old }
         ensures grows { self.old.failures ≤ self.new.failures }
 
@@ -101,7 +107,8 @@ impl<'a, R: Files + Alloc + Clone + Drop> Folders for DiskFolders<'a, R> {
     /// Reads the file from the system. It counts a failure exactly where it answers Read.
     fn read(&mut self, alloc: Global, dir: &str, name: &str) -> Result<Option<Vec<u8>>, FolderFault>
         ensures finds { IfOk result
-            (λ file. Finds (told self.old) dir.now name.now (option_map (λ bytes. bytes.items) file)) }
+            (λ file. Finds (told self.old) dir.now name.now
+            (option_map (λ bytes. bytes.items) file)) }
         ensures refused { IfErr result
             (λ fault. RefusesRead fault (told self.old) dir.now name.now
             self.old.failures self.new.failures) }
@@ -151,7 +158,7 @@ impl<'a, R: Files + Alloc + Clone + Drop> Folders for DiskFolders<'a, R> {
     }
 }
 
-/// The names of a folder's entries, in byte order.
+// The names of a folder's entries, in byte order.
 fn list<R: Files + Alloc + Clone + Drop>(
     rt: &R,
     alloc: Global,
@@ -166,6 +173,23 @@ fn list<R: Files + Alloc + Clone + Drop>(
         return Err(FolderFault::NoFolder);
     }
     let mut names = Vec::new(alloc);
+    push_names(rt, alloc, dir, entries, &mut names)?;
+    names.sort_unstable();
+    Ok(names)
+}
+
+// Adds the names of a folder's entries, as the file system lists them, up to as many names as `entries`.
+fn push_names<R: Files + Alloc + Clone + Drop>(
+    rt: &R,
+    alloc: Global,
+    dir: &str,
+    entries: usize,
+    names: &mut Vec<String>,
+) -> Result<(), FolderFault>
+    requires { vec_len names.old ≤ entries }
+    ensures few { OnOk result (vec_len names.new ≤ entries) }
+    ensures refused { IfErr result RefusesList }
+{
     let listing = fs::read_dir(rt, dir).map_err(|fault| list_fault(rt, dir, fault.kind()))?;
     for entry in listing {
         let entry = entry.map_err(|fault| list_fault(rt, dir, fault.kind()))?;
@@ -174,8 +198,7 @@ fn list<R: Files + Alloc + Clone + Drop>(
         }
         names.push(String::from_str(alloc, entry.file_name())?)?;
     }
-    names.sort_unstable();
-    Ok(names)
+    Ok(())
 }
 
 fn list_fault<R: Files>(rt: &R, dir: &str, kind: ErrorKind) -> FolderFault
@@ -188,7 +211,7 @@ fn list_fault<R: Files>(rt: &R, dir: &str, kind: ErrorKind) -> FolderFault
     }
 }
 
-/// Whether no entry has this path; a link that leads nowhere is one.
+// Whether no entry has this path; a link that leads nowhere is one.
 fn is_absent<R: Files>(rt: &R, path: &str) -> bool {
     match fs::symlink_metadata(rt, path.trim_end_matches('/')) {
         Ok(_) => false,
@@ -196,7 +219,7 @@ fn is_absent<R: Files>(rt: &R, path: &str) -> bool {
     }
 }
 
-/// A folder's file, or None where the folder has no entry of that name.
+// A folder's file, or None where the folder has no entry of that name.
 fn read_file<R: Files>(
     rt: &R,
     alloc: Global,
@@ -223,8 +246,8 @@ fn read_file<R: Files>(
     }
 }
 
-/// What it means that the file of this path could not be opened: the folder has none, is not there itself,
-/// or something else stands in the way.
+// What it means that the file of this path could not be opened: the folder has none, is not there itself,
+// or something else stands in the way.
 fn without_file<R: Files>(
     rt: &R,
     dir: &str,
@@ -246,7 +269,7 @@ fn without_file<R: Files>(
     }
 }
 
-/// How many bytes to make room for, as far as the file system tells it.
+// How many bytes to make room for, as far as the file system tells it.
 fn size_hint<F: OpenFile>(file: &F, limit: u64) -> usize {
     match file.metadata() {
         Ok(found) => found.len().min(limit) as usize,
@@ -254,7 +277,7 @@ fn size_hint<F: OpenFile>(file: &F, limit: u64) -> usize {
     }
 }
 
-/// Makes all levels of the folder that are missing, and the file. Memory is taken before anything is made.
+// Makes all levels of the folder that are missing, and the file. Memory is taken before anything is made.
 fn write_file<R: Files>(
     rt: &R,
     alloc: Global,
@@ -280,6 +303,3 @@ fn path_of(alloc: Global, dir: &str, name: &str) -> Result<String, OutOfMemory> 
     path.push_str(name)?;
     Ok(path)
 }
-
-#[cfg(test)]
-mod tests;

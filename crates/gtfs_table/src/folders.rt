@@ -51,8 +51,8 @@ impl<T: Drop> From<AllocFailed<T>> for FolderFault {
 /// folder under a name, and is a list of bytes.
 ///
 /// A device counts its failures. It answers Read and Write only where that count rose in the very call;
-/// a count at 2^64 - 1 stays there and counts as risen. What a device holds it may tell or not tell, as a
-/// disk does not: the clauses on what it holds claim nothing then.
+/// a count at 2^64 - 1 stays there and counts as risen. The contents of a device may be unknown, as
+/// those of a disk are: the clauses on its contents say nothing then.
 pub trait Folders {
     ghost held: { Self → Option Store };
 
@@ -77,7 +77,8 @@ pub trait Folders {
     /// where there is no such folder, and with OutOfMemory.
     fn read(&mut self, alloc: Global, dir: &str, name: &str) -> Result<Option<Vec<u8>>, FolderFault>
         ensures finds { IfOk result
-            (λ file. Finds (held self.old) dir.now name.now (option_map (λ bytes. bytes.items) file)) }
+            (λ file. Finds (held self.old) dir.now name.now
+            (option_map (λ bytes. bytes.items) file)) }
         ensures refused { IfErr result
             (λ fault. RefusesRead fault (held self.old) dir.now name.now
             (failure_count self.old) (failure_count self.new)) }
@@ -107,6 +108,3 @@ pub trait Folders {
     fn failures(&self) -> u64
         ensures { result ≡ failure_count self.now };
 }
-
-#[cfg(test)]
-mod tests;

@@ -10,7 +10,9 @@
 //!   and is UTF-8 ([`State`]).
 //! - [`Tables::value`] is the value of a column in a row, and [`Tables::column`] with [`Tables::field`]
 //!   the same for one column in many rows. Row 1 is the header.
-//! - [`Tables::record`] is one row ([`Record`]), for a caller that reads many of its fields: its place is
+//! - [`Tables::rows`] hands out the rows of a file ([`Rows`]): the records after the header of which not
+//!   all fields are blank, each with its number. [`Tables::row`] is one of them by its number.
+//! - [`Tables::record`] is any record ([`Record`]), for a caller that reads many of its fields: it is
 //!   looked up once, and not once a field.
 //! - [`Tables::empty`], [`Tables::push_record`] and [`Tables::push_field`] make tables, and
 //!   [`Tables::write`] gives the text of one, which reads back.
@@ -42,12 +44,13 @@ mod memory_files;
 mod memory_folders;
 mod memory_out;
 mod memory_store;
+mod offsets;
 mod output;
-mod places;
 mod read_within;
 mod reader;
 mod record;
 mod records;
+mod rows;
 mod state;
 mod table;
 mod tables;
@@ -62,6 +65,7 @@ pub use memory_folders::MemoryFolders;
 pub use memory_out::MemoryOut;
 pub use output::{Failed, Out, OutFault, write_text};
 pub use record::Record;
+pub use rows::Rows;
 pub use state::State;
 pub use tables::Tables;
 pub use write_out::WriteOut;

@@ -7,7 +7,7 @@ use std::alloc::Global;
 use std::collections::BTreeMap;
 use std::marker::Model;
 
-/// The files of one folder in memory, by their names.
+// The files of one folder in memory, by their names.
 #[derive(Debug, Drop)]
 pub(crate) struct MemoryFiles {
     files: BTreeMap<String, List<u8>>,
@@ -25,7 +25,7 @@ impl Model for MemoryFiles {
 }
 
 impl MemoryFiles {
-    /// A folder with no file. It takes no memory.
+    // A folder with no file. It takes no memory.
     pub(crate) fn new(alloc: Global) -> MemoryFiles
         ensures { result ≡ finite.empty }
     {
@@ -34,7 +34,7 @@ impl MemoryFiles {
         }
     }
 
-    /// The bytes of the file with this name, if there is one.
+    // The bytes of the file with this name, if there is one.
     pub(crate) fn get(&self, name: &str) -> Option<&[u8]>
         ensures { option_copied result ≡ finite.get self.now name.now }
     {
@@ -44,7 +44,7 @@ impl MemoryFiles {
         }
     }
 
-    /// Makes these bytes the whole of a file. A refusal leaves the folder as it was.
+    // Makes these bytes the whole of a file. A refusal leaves the folder as it was.
     pub(crate) fn put(&mut self, name: String, bytes: List<u8>) -> Result<(), OutOfMemory>
         ensures ok { OnOk result (self.new ≡ finite.insert self.old (string_bytes name) bytes) }
         ensures err { OnErr result (self.new ≡ self.old) }
@@ -53,7 +53,7 @@ impl MemoryFiles {
         Ok(())
     }
 
-    /// The names of the files, in byte order.
+    // The names of the files, in byte order.
     pub(crate) fn names(&self, alloc: Global) -> Result<Vec<String>, OutOfMemory>
         ensures all { IfOk result (λ names. map string_bytes names.items ≡ finite.keys self.now) }
         ensures ordered { IfOk result (λ names. IsByBytes (map string_bytes names.items)) }

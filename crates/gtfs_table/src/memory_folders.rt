@@ -140,7 +140,8 @@ impl Folders for MemoryFolders {
         ensures grows { self.old.failures ≤ self.new.failures }
 
         ensures answers { MatchResult result
-            (λ file. read_answer self.old dir.now name.now ≡ Ok (option_map (λ bytes. bytes.items) file))
+            (λ file. read_answer self.old dir.now name.now
+            ≡ Ok (option_map (λ bytes. bytes.items) file))
             (λ fault. Refuses fault (read_answer self.old dir.now name.now)) }
         ensures counted { self.new ≡ after_call self.old }
     {
@@ -162,8 +163,8 @@ impl Folders for MemoryFolders {
         ensures written { OnOk result
             (Writes (Some self.old.store) (Some self.new.store) dir.now name.now bytes.now) }
         ensures refused { IfErr result
-            (λ fault. RefusesWrite fault (Some self.old.store) (Some self.new.store) dir.now name.now
-            self.old.failures self.new.failures) }
+            (λ fault. RefusesWrite fault (Some self.old.store) (Some self.new.store)
+            dir.now name.now self.old.failures self.new.failures) }
         ensures grows { self.old.failures ≤ self.new.failures }
 
         ensures failing { IsErrOf result FolderFault.Write ↔ IsTrue (is_failing self.old) }
@@ -185,6 +186,3 @@ impl Folders for MemoryFolders {
         self.failures
     }
 }
-
-#[cfg(test)]
-mod tests;

@@ -22,7 +22,11 @@ impl Model for MemoryOut {
 
     ghost Value = { Sent };
 
-    ghost view = { λ out. record { text = out.text.items; left = out.left; failures = out.failures } };
+    ghost view = { λ out. record {
+      text = out.text.items;
+      left = out.left;
+      failures = out.failures;
+    } };
 
     ghost invariant = { λ out. vec_len out.text + out.left ≤ vec_capacity out.text };
 }
@@ -91,6 +95,3 @@ impl Out for MemoryOut {
         self.failures
     }
 }
-
-#[cfg(test)]
-mod tests;

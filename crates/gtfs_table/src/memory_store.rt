@@ -11,7 +11,7 @@ use std::alloc::Global;
 use std::collections::BTreeMap;
 use std::marker::Model;
 
-/// Folders in memory, by their names.
+// Folders in memory, by their names.
 #[derive(Debug, Drop)]
 pub(crate) struct MemoryStore {
     folders: BTreeMap<String, MemoryFiles>,
@@ -29,7 +29,7 @@ impl Model for MemoryStore {
 }
 
 impl MemoryStore {
-    /// No folder. It takes no memory.
+    // No folder. It takes no memory.
     pub(crate) fn new(alloc: Global) -> MemoryStore
         ensures { result ≡ finite.empty }
     {
@@ -44,7 +44,7 @@ impl MemoryStore {
         self.folders.get(dir)
     }
 
-    /// The names of a folder's files, in byte order.
+    // The names of a folder's files, in byte order.
     pub(crate) fn names(&self, alloc: Global, dir: &str) -> Result<Vec<String>, FolderFault>
         ensures answers { MatchResult result
             (λ names. names_in self.now dir.now ≡ Some (map string_bytes names.items))
@@ -57,7 +57,7 @@ impl MemoryStore {
         }
     }
 
-    /// A folder's file, where it is not longer than the limit.
+    // A folder's file, where it is not longer than the limit.
     pub(crate) fn read(
         &self,
         alloc: Global,
@@ -66,7 +66,8 @@ impl MemoryStore {
         limit: u64,
     ) -> Result<Option<Vec<u8>>, FolderFault>
         ensures { MatchResult result
-            (λ file. file_answer limit (file_in self.now dir.now name.now) ≡ Ok (option_map (λ bytes. bytes.items) file))
+            (λ file. file_answer limit (file_in self.now dir.now name.now)
+            ≡ Ok (option_map (λ bytes. bytes.items) file))
             (λ fault. Refuses fault (file_answer limit (file_in self.now dir.now name.now))) }
     {
         match self.files(dir) {
@@ -75,7 +76,7 @@ impl MemoryStore {
         }
     }
 
-    /// Adds a folder, empty, where it is absent. A refusal leaves all as it was.
+    // Adds a folder, empty, where it is absent. A refusal leaves all as it was.
     pub(crate) fn put_folder(&mut self, alloc: Global, dir: &str) -> Result<(), OutOfMemory>
         ensures ok { OnOk result (self.new ≡ put_folder self.old dir.now) }
         ensures err { OnErr result (self.new ≡ self.old) }
@@ -86,8 +87,8 @@ impl MemoryStore {
         }
     }
 
-    /// Makes these bytes the whole of a folder's file, and makes the folder where it is absent. A refusal
-    /// leaves all as it was.
+    // Makes these bytes the whole of a folder's file, and makes the folder where it is absent. A refusal
+    // leaves all as it was.
     pub(crate) fn put(
         &mut self,
         alloc: Global,
@@ -122,7 +123,8 @@ impl MemoryStore {
 
 fn read_file(alloc: Global, file: Option<&[u8]>, limit: u64) -> Result<Option<Vec<u8>>, FolderFault>
     ensures { MatchResult result
-        (λ read. within_limit limit (option_copied file.entry) ≡ Ok (option_map (λ bytes. bytes.items) read))
+        (λ read. within_limit limit (option_copied file.entry)
+        ≡ Ok (option_map (λ bytes. bytes.items) read))
         (λ fault. Refuses fault (within_limit limit (option_copied file.entry))) }
 {
     match file {

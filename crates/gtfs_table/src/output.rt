@@ -19,8 +19,8 @@ pub struct OutFault {
 
 /// An output, which takes text in pieces of its own size and counts its failures.
 ///
-/// A count of failures at 2^64 - 1 stays there and counts as risen. What went out an output may tell or
-/// not tell, as a terminal does not: the clauses on what went out claim nothing then.
+/// A count of failures at 2^64 - 1 stays there and counts as risen. What went out may be unknown,
+/// as of a terminal: the clauses on what went out say nothing then.
 pub trait Out {
     ghost told: { Self → Option (List ℕ) };
 
@@ -30,7 +30,8 @@ pub trait Out {
     ///
     /// Refused with Failed: then nothing of the text went out.
     fn write(&mut self, text: &[u8]) -> Result<usize, Failed>
-        ensures taken { IfOk result (λ n. Appends (told self.old) (told self.new) (take n text.now)) }
+        ensures taken { IfOk result
+            (λ n. Appends (told self.old) (told self.new) (take n text.now)) }
         ensures within { IfOk result (λ n. n ≤ length text.now) }
         ensures moves { IfOk result (λ n. 0 < length text.now → 0 < n) }
         ensures nothing { OnErr result (Keeps (told self.old) (told self.new)) }
@@ -62,6 +63,3 @@ pub fn write_text<O: Out>(out: &mut O, text: &[u8]) -> Result<(), OutFault>
     }
     Ok(())
 }
-
-#[cfg(test)]
-mod tests;

@@ -5,21 +5,22 @@ use crate::folders::FolderFault;
 use std::alloc::Global;
 use std::io::{ErrorKind, Read};
 
-/// How many bytes are asked for at once.
+// How many bytes are asked for at once.
 const CHUNK: usize = 65_536;
 
-/// All that a reader has left, where that is no more than the limit.
-///
-/// It takes at most one byte more than the limit, and makes at most two reads more than that many: where
-/// the reader has not ended by then, and at a fault of the reader, it answers Read.
-/// Room for `size` bytes is made at once.
+// All that a reader has left, where that is no more than the limit.
+//
+// It takes at most one byte more than the limit, and makes at most two reads more than that many: where
+// the reader has not ended by then, and at a fault of the reader, it answers Read.
+// Room for `size` bytes is made at once.
 pub(crate) fn read_within<F: Read>(
     alloc: Global,
     file: &mut F,
     limit: u64,
     size: usize,
 ) -> Result<Vec<u8>, FolderFault>
-    ensures whole { IfOk result (λ bytes. IfSome (F.remaining file.old) (λ left. bytes.items ≡ left)) }
+    ensures whole { IfOk result
+        (λ bytes. IfSome (F.remaining file.old) (λ left. bytes.items ≡ left)) }
     ensures within { IfOk result (λ bytes. vec_len bytes ≤ limit) }
     ensures large { IsErrOf result FolderFault.TooLarge
         → IfSome (F.remaining file.old) (λ left. limit < length left) }
@@ -45,6 +46,3 @@ pub(crate) fn read_within<F: Read>(
     }
     Err(FolderFault::Read)
 }
-
-#[cfg(test)]
-mod tests;

@@ -1,4 +1,4 @@
-ghost use Rattle.std.specs.Prelude.{◌≡◌, Some, IfOk};
+ghost use Rattle.std.specs.Prelude.{◌≡◌, [], Some, IfOk, OnOk};
 ghost use Rattle.csv.specs.Reading.{default_config, records as records_of_text, strip_bom};
 ghost use Rattle.gtfs_table.specs.Tables.{table_of_bytes, without_marks};
 
@@ -9,7 +9,7 @@ use csv::{ByteRecord, ReaderBuilder};
 use gtfs_field::OutOfMemory;
 use std::alloc::Global;
 
-/// The table of a file that has these bytes.
+// The table of a file that has these bytes.
 pub(crate) fn read_table(alloc: Global, bytes: &[u8]) -> Result<FileTable, OutOfMemory>
     ensures { IfOk result (λ table. table ≡ table_of_bytes (Some bytes.now)) }
 {
@@ -38,21 +38,31 @@ fn cut_marks(bytes: &[u8]) -> &[u8]
     left
 }
 
-// A text in memory gives `csv` no error but want of memory.
+// The records of a text.
 fn read_records(alloc: Global, text: &str) -> Result<Records, OutOfMemory>
     requires { strip_bom text.now ≡ text.now }
     ensures { IfOk result (λ records. records ≡ records_of_text default_config text.now) }
+{
+    let mut records = Records::with_room(alloc, text.len())?;
+    read_all(alloc, text, &mut records)?;
+    Ok(records)
+}
+
+// A text in memory gives `csv` no error but want of memory.
+fn read_all(alloc: Global, text: &str, records: &mut Records) -> Result<(), OutOfMemory>
+    requires marks { strip_bom text.now ≡ text.now }
+    requires none { records.old ≡ [] }
+    ensures { OnOk result (records.new ≡ records_of_text default_config text.now) }
 {
     let mut reader = ReaderBuilder::new()
         .has_headers(false)
         .flexible(true)
         .from_reader(alloc, text.as_bytes());
     let mut row = ByteRecord::new(alloc);
-    let mut records = Records::with_room(alloc, text.len())?;
     loop {
         match reader.read_byte_record(&mut row) {
             Ok(true) => records.push_row(&row)?,
-            Ok(false) => return Ok(records),
+            Ok(false) => return Ok(()),
             Err(_) => return Err(OutOfMemory),
         }
     }

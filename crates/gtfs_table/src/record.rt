@@ -1,5 +1,8 @@
-ghost use Rattle.std.specs.Prelude.{◌≡◌, ◌==◌, ◌≤◌, ◌-◌, [], length, take, drop, slice_index_or};
-ghost use Rattle.gtfs_table.specs.Tables.{field_cut};
+ghost use Rattle.std.specs.Prelude.{◌≡◌, ◌==◌, ◌≤◌, ◌-◌, not, [], length, take, drop, slice_index_or};
+ghost use Rattle.std.specs.List.{list_any};
+ghost use Rattle.gtfs_table.specs.Blanks.{cut};
+ghost use Rattle.gtfs_table.specs.Rows.{is_empty};
+ghost use Rattle.gtfs_table.specs.Tables.{field_cut, field_under};
 
 use crate::blanks;
 use crate::texts::Texts;
@@ -28,7 +31,7 @@ impl<'a> Model for Record<'a> {
 }
 
 impl<'a> Record<'a> {
-    /// The record of these fields from the number `start` to `end`.
+    // The record of these fields from the number `start` to `end`.
     pub(crate) fn new(fields: &'a Texts, start: usize, end: usize) -> Record<'a>
         requires start { start ≤ end }
         requires end { end ≤ length fields.now }
@@ -51,6 +54,19 @@ impl<'a> Record<'a> {
         self.start == self.end
     }
 
+    /// Whether it has a field that is not blank, as a row has.
+    #[inline]
+    pub fn has_value(&self) -> bool
+        ensures { result ≡ list_any (λ field. not (is_empty (cut field))) self.now }
+    {
+        for n in 0..self.len() {
+            if !self.field(n).is_empty() {
+                return true;
+            }
+        }
+        false
+    }
+
     /// A field, cut of its blanks: the empty text where there is no such field.
     pub fn field(&self, n: usize) -> &'a str
         ensures { result.now ≡ field_cut self.now n }
@@ -58,7 +74,19 @@ impl<'a> Record<'a> {
         blanks::cut(self.raw(n))
     }
 
-    /// A field as it stands in the table: the empty text where there is no such field.
+    /// The value of a column by its index, as [`Tables::column`](crate::Tables::column) gives it: the field
+    /// there, cut of its blanks, and the empty text where the record has none or the file no such column.
+    #[inline]
+    pub fn value(&self, column: Option<usize>) -> &'a str
+        ensures { result.now ≡ field_under self.now column }
+    {
+        match column {
+            Some(n) => self.field(n),
+            None => "",
+        }
+    }
+
+    // A field as it stands in the table: the empty text where there is no such field.
     pub(crate) fn raw(&self, n: usize) -> &'a str
         ensures { result.now ≡ slice_index_or self.now n [] }
     {

@@ -3,7 +3,7 @@ ghost use Rattle.csv.specs.Records.{AllText, IsRecord, fields_of};
 ghost use Rattle.gtfs_table.specs.Parts.{add_to_last};
 ghost use Rattle.gtfs_table.specs.Tables.{record_at};
 
-use crate::places::Places;
+use crate::offsets::Offsets;
 use crate::record::Record;
 use crate::texts::Texts;
 use csv::ByteRecord;
@@ -14,11 +14,11 @@ use std::marker::Model;
 // Few files have shorter fields, the commas counted.
 const BYTES_OF_A_FIELD: usize = 4;
 
-/// The records of a file, whose fields lie in one buffer.
+// The records of a file, whose fields lie in one buffer.
 #[derive(Drop)]
 pub(crate) struct Records {
     fields: Texts,
-    starts: Places,
+    starts: Offsets,
 }
 
 impl Model for Records {
@@ -26,9 +26,9 @@ impl Model for Records {
 
     ghost Value = { List (List (List ℕ)) };
 
-    ghost use Rattle.gtfs_table.specs.Storage.{records_in, IsRecordStore};
+    ghost use Rattle.gtfs_table.specs.Storage.{records_stored, IsRecordStore};
 
-    ghost view = { records_in };
+    ghost view = { records_stored };
 
     ghost invariant = { IsRecordStore };
 }
@@ -39,18 +39,18 @@ impl Records {
     {
         Records {
             fields: Texts::new(alloc),
-            starts: Places::new(alloc),
+            starts: Offsets::new(alloc),
         }
     }
 
-    /// No record yet, and room for about as many fields as a file of this size has. Room that is not used
-    /// is asked for and not touched.
+    // No record yet, and room for about as many fields as a file of this size has. Room that is not used
+    // is asked for and not touched.
     pub(crate) fn with_room(alloc: Global, size: usize) -> Result<Records, OutOfMemory>
         ensures { IfOk result (λ records. records ≡ []) }
     {
         Ok(Records {
             fields: Texts::with_room(alloc, size / BYTES_OF_A_FIELD, size)?,
-            starts: Places::new(alloc),
+            starts: Offsets::new(alloc),
         })
     }
 
@@ -60,7 +60,7 @@ impl Records {
         self.starts.len()
     }
 
-    /// The record of a row, from 1: one with no field where there is no such row.
+    // The record of a row, from 1: one with no field where there is no such row.
     pub(crate) fn record(&self, row: usize) -> Record<'_>
         ensures { result ≡ record_at self.now row }
     {
@@ -71,7 +71,7 @@ impl Records {
         Record::new(&self.fields, start, end)
     }
 
-    /// Each record has a field, and each field is UTF-8: facts for callers.
+    // Each record has a field, and each field is UTF-8: facts for callers.
     pub(crate) fn are_filled_with_text(&self)
         ensures filled { All (λ fields. 0 < length fields) self.now }
         ensures text { All AllText self.now }
@@ -79,7 +79,7 @@ impl Records {
         self.fields.are_utf8();
     }
 
-    /// Adds a record of one field. A refusal leaves the records as they were.
+    // Adds a record of one field. A refusal leaves the records as they were.
     pub(crate) fn push_record(&mut self, field: &str) -> Result<(), OutOfMemory>
         ensures ok { OnOk result (self.new ≡ self.old ++ (field.now ∷ []) ∷ []) }
         ensures err { OnErr result (self.new ≡ self.old) }
@@ -93,7 +93,7 @@ impl Records {
         pushed
     }
 
-    /// Adds a record that `csv` read. A refusal leaves the records as they were.
+    // Adds a record that `csv` read. A refusal leaves the records as they were.
     pub(crate) fn push_row(&mut self, row: &ByteRecord) -> Result<(), OutOfMemory>
         requires text { AllText (fields_of row.now) }
         requires filled { 0 < length (fields_of row.now) }
@@ -110,7 +110,7 @@ impl Records {
         pushed
     }
 
-    /// Adds a field to the last record. A refusal leaves the records as they were.
+    // Adds a field to the last record. A refusal leaves the records as they were.
     pub(crate) fn push_field(&mut self, field: &str) -> Result<(), OutOfMemory>
         requires { 0 < length self.old }
         ensures ok { OnOk result (self.new ≡ add_to_last self.old field.now) }

@@ -1,16 +1,18 @@
 ghost use Rattle.std.specs.Prelude.{◌≡◌, ◌<◌, length, option_map, IfOk, OnOk, OnErr};
+ghost use Rattle.gtfs_table.specs.Rows.{rows_past};
 ghost use Rattle.gtfs_table.specs.Tables.{absent, column_of, field_cut, record_at, with_field, with_record};
 ghost use Rattle.gtfs_table.specs.Written.{text_of_table, ReadsBack};
 
 use crate::record::Record;
 use crate::records::Records;
+use crate::rows::Rows;
 use crate::state::State;
 use crate::writer;
 use gtfs_field::OutOfMemory;
 use std::alloc::Global;
 use std::marker::Model;
 
-/// What is known of one kept file, and its records.
+// What is known of one kept file, and its records.
 pub(crate) struct FileTable {
     pub(crate) state: State,
     pub(crate) records: Records,
@@ -35,7 +37,7 @@ impl Drop for FileTable {
 }
 
 impl FileTable {
-    /// The table of a file that is not there.
+    // The table of a file that is not there.
     pub(crate) fn absent(alloc: Global) -> FileTable
         ensures { result ≡ absent }
     {
@@ -57,14 +59,21 @@ impl FileTable {
         self.records.len()
     }
 
-    /// The record of a row, from 1: one with no field where there is no such row.
+    // The record of a row, from 1: one with no field where there is no such row.
     pub(crate) fn record(&self, row: usize) -> Record<'_>
         ensures { result ≡ record_at self.now.records row }
     {
         self.records.record(row)
     }
 
-    /// The place of the first column of this name in the header.
+    // The rows: the records after the header that are not blank.
+    pub(crate) fn rows(&self) -> Rows<'_>
+        ensures { result ≡ rows_past self.now.records 1 }
+    {
+        Rows::past(&self.records, 1)
+    }
+
+    // The index of the first column of this name in the header.
     pub(crate) fn column(&self, name: &str) -> Option<usize>
         ensures { result ≡ column_of self.now.records name.now }
     {
@@ -97,10 +106,12 @@ impl FileTable {
         self.records.push_field(field)
     }
 
-    /// The text of the records as `csv` writes it: none where the file is absent.
+    // The text of the records as `csv` writes it: none where the file is absent.
     pub(crate) fn write(&self, alloc: Global) -> Result<Option<Vec<u8>>, OutOfMemory>
-        ensures text { IfOk result (λ text. option_map (λ bytes. bytes.items) text ≡ text_of_table self.now) }
-        ensures reads_back { IfOk result (λ text. ReadsBack self.now (option_map (λ bytes. bytes.items) text)) }
+        ensures text { IfOk result
+            (λ text. option_map (λ bytes. bytes.items) text ≡ text_of_table self.now) }
+        ensures reads_back { IfOk result
+            (λ text. ReadsBack self.now (option_map (λ bytes. bytes.items) text)) }
     {
         match self.state {
             State::Absent => Ok(None),

@@ -1,7 +1,8 @@
-ghost use Rattle.std.specs.Prelude.{◌≡◌, ◌<◌, ◌≤◌, not, filter, length, map, option_map, string_bytes, IfOk, IfErr, OnOk, OnErr};
+ghost use Rattle.std.specs.Prelude.{◌≡◌, ◌<◌, ◌≤◌, is_some, length, map, option_map, string_bytes, IfOk, IfErr, IfSome, OnOk, OnErr};
 ghost use Rattle.gtfs_table.specs.Files.{file_name};
 ghost use Rattle.gtfs_table.specs.Folder.{IsByBytes, RefusesRead};
-ghost use Rattle.gtfs_table.specs.Reading.{is_kept, kept_files, HoldsDataset, HoldsTable, RefusesDataset, SetsTables};
+ghost use Rattle.gtfs_table.specs.Reading.{is_kept, kept_files, other_names as names_kept_out, HoldsDataset, HoldsTable, RefusesDataset, SetsTables};
+ghost use Rattle.gtfs_table.specs.Rows.{is_row as row_of, numbered, records_in, rows as row_numbers};
 ghost use Rattle.gtfs_table.specs.Tables.{column_of, empty_dataset, field_cut, record_at, table_of, value, with_field, with_record, with_table};
 ghost use Rattle.gtfs_table.specs.Written.{text_of_table, ReadsBack};
 
@@ -9,6 +10,7 @@ use crate::file::File;
 use crate::folders::{FolderFault, Folders};
 use crate::reader;
 use crate::record::Record;
+use crate::rows::Rows;
 use crate::state::State;
 use crate::table::FileTable;
 use gtfs_field::{OutOfMemory, Text};
@@ -103,8 +105,7 @@ impl Tables {
     /// Reads a folder: first its names, and then each kept file in the order of [`File::ALL`], whichever
     /// names there were. The first fault ends it.
     ///
-    /// Every byte order mark at the very start of a file is cut, and what follows has to be UTF-8. Its
-    /// records are those that `csv` reads by default, with no header handling, of any lengths.
+    /// Leading byte order marks are dropped, and what follows has to be UTF-8. The records of a file are those that `csv` reads by default, with no header handling, of any lengths.
     ///
     /// Refused with [`FolderFault::Read`], with [`FolderFault::TooLarge`] where a kept file is longer than
     /// the device's limit, with [`FolderFault::NoFolder`] and with [`FolderFault::OutOfMemory`].
@@ -140,8 +141,41 @@ impl Tables {
         self.table(file).len()
     }
 
-    /// The record of a row, for a caller that reads many fields of it: one with no field where there is no
-    /// such row.
+    /// The rows of a file in its order, each with its number and its record: the records after the header,
+    /// which is row 1, that have a field that is not blank.
+    pub fn rows(&self, file: File) -> Rows<'_>
+        ensures { result ≡ map (numbered (records_in self.now file)) (row_numbers self.now file) }
+    {
+        self.table(file).rows()
+    }
+
+    /// The record of the row with this number: none where the record is the header or is blank, or where
+    /// there is none.
+    #[inline]
+    pub fn row(&self, file: File, n: usize) -> Option<Record<'_>>
+        ensures there { is_some result ≡ row_of (records_in self.now file) n }
+        ensures fields { IfSome result (λ r. r ≡ record_at (records_in self.now file) n) }
+    {
+        if n <= 1 || n > self.records(file) {
+            return None;
+        }
+        let record = self.record(file, n);
+        if record.has_value() {
+            Some(record)
+        } else {
+            None
+        }
+    }
+
+    /// Whether there is a row with this number: a record after the header with a field that is not blank.
+    pub fn is_row(&self, file: File, n: usize) -> bool
+        ensures { result ≡ row_of (records_in self.now file) n }
+    {
+        self.row(file, n).is_some()
+    }
+
+    /// A record by its number, for a caller that reads many fields of it: one with no field where there is
+    /// no such record.
     pub fn record(&self, file: File, row: usize) -> Record<'_>
         ensures { result ≡ record_at (table_of self.now file).records row }
     {
@@ -162,7 +196,7 @@ impl Tables {
         self.record(file, row).field(n)
     }
 
-    /// The place of a column: that of the first field of the header which, cut of its blanks, is this
+    /// The index of a column: that of the first field of the header which, cut of its blanks, is this
     /// name. The empty name is no column.
     ///
     /// A column is looked up once, and its fields are then read by [`Tables::field`] row after row.
@@ -194,7 +228,8 @@ impl Tables {
     /// Adds a record of this one field to a file, which then counts as there and as UTF-8. A refusal
     /// leaves all as it was.
     pub fn push_record(&mut self, file: File, field: &str) -> Result<(), OutOfMemory>
-        ensures ok { OnOk result (self.new ≡ with_table self.old file (with_record (table_of self.old file) field.now)) }
+        ensures ok { OnOk result
+            (self.new ≡ with_table self.old file (with_record (table_of self.old file) field.now)) }
         ensures err { OnErr result (self.new ≡ self.old) }
     {
         match file {
@@ -213,7 +248,8 @@ impl Tables {
     /// Adds a field to the last record of a file, which has to have one. A refusal leaves all as it was.
     pub fn push_field(&mut self, file: File, field: &str) -> Result<(), OutOfMemory>
         requires { 0 < length (table_of self.old file).records }
-        ensures ok { OnOk result (self.new ≡ with_table self.old file (with_field (table_of self.old file) field.now)) }
+        ensures ok { OnOk result
+            (self.new ≡ with_table self.old file (with_field (table_of self.old file) field.now)) }
         ensures err { OnErr result (self.new ≡ self.old) }
     {
         match file {
@@ -236,8 +272,10 @@ impl Tables {
     /// begin with a byte order mark, which a reader would cut. A record of one empty field is written as
     /// two quotes, and so is read back too.
     pub fn write(&self, alloc: Global, file: File) -> Result<Option<Vec<u8>>, OutOfMemory>
-        ensures text { IfOk result (λ text. option_map (λ bytes. bytes.items) text ≡ text_of_table (table_of self.now file)) }
-        ensures reads_back { IfOk result (λ text. ReadsBack (table_of self.now file) (option_map (λ bytes. bytes.items) text)) }
+        ensures text { IfOk result (λ text. option_map (λ bytes. bytes.items) text
+            ≡ text_of_table (table_of self.now file)) }
+        ensures reads_back { IfOk result (λ text. ReadsBack (table_of self.now file)
+            (option_map (λ bytes. bytes.items) text)) }
     {
         self.table(file).write(alloc)
     }
@@ -248,7 +286,8 @@ impl Tables {
         folders: &mut F,
         dir: &str,
     ) -> Result<(), FolderFault>
-        ensures sets { OnOk result (SetsTables (F.held folders.old) dir.now kept_files self.old self.new) }
+        ensures sets { OnOk result
+            (SetsTables (F.held folders.old) dir.now kept_files self.old self.new) }
         ensures refused { IfErr result
             (λ fault. RefusesDataset fault (F.held folders.old) dir.now
             (F.failure_count folders.old) (F.failure_count folders.new)) }
@@ -316,7 +355,7 @@ fn read_file<F: Folders>(
 }
 
 fn other_names(alloc: Global, names: Vec<String>) -> Result<Vec<Text>, OutOfMemory>
-    ensures { IfOk result (λ others. others.items ≡ filter (λ name. not (is_kept name)) (map string_bytes names.items)) }
+    ensures { IfOk result (λ others. others.items ≡ names_kept_out (map string_bytes names.items)) }
 {
     let mut others = Vec::new(alloc);
     for name in names {
@@ -332,6 +371,3 @@ fn is_kept(name: &str) -> bool
 {
     File::ALL.iter().any(|file| file.name() == name)
 }
-
-#[cfg(test)]
-mod tests;

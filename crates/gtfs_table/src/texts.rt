@@ -3,17 +3,17 @@ ghost use Rattle.std.specs.List.{concat};
 ghost use Rattle.csv.specs.Records.{AllText, IsRecord, fields_of};
 ghost use Rattle.gtfs_table.specs.Parts.{starts_of};
 
-use crate::places::Places;
+use crate::offsets::Offsets;
 use csv::ByteRecord;
 use gtfs_field::OutOfMemory;
 use std::alloc::Global;
 use std::marker::Model;
 
-/// A list of texts that lie in one buffer, so that none has an allocation of its own.
+// A list of texts that lie in one buffer, so that none has an allocation of its own.
 #[derive(Drop)]
 pub(crate) struct Texts {
     bytes: Vec<u8>,
-    starts: Places,
+    starts: Offsets,
 }
 
 impl Model for Texts {
@@ -34,17 +34,17 @@ impl Texts {
     {
         Texts {
             bytes: Vec::new(alloc),
-            starts: Places::new(alloc),
+            starts: Offsets::new(alloc),
         }
     }
 
-    /// No text yet, and room for this many texts that come to this many bytes.
+    // No text yet, and room for this many texts that come to this many bytes.
     pub(crate) fn with_room(alloc: Global, count: usize, size: usize) -> Result<Texts, OutOfMemory>
         ensures { IfOk result (λ texts. texts ≡ []) }
     {
         Ok(Texts {
             bytes: Vec::with_capacity(alloc, size)?,
-            starts: Places::with_room(alloc, count)?,
+            starts: Offsets::with_room(alloc, count)?,
         })
     }
 
@@ -54,7 +54,7 @@ impl Texts {
         self.starts.len()
     }
 
-    /// The text with this number, from 0.
+    // The text with this number, from 0.
     pub(crate) fn get(&self, i: usize) -> &str
         requires { i < length self.now }
         ensures { result.now ≡ slice_index_or self.now i [] }
@@ -64,14 +64,14 @@ impl Texts {
         unsafe { str::from_utf8_unchecked(&bytes[start..end]) }
     }
 
-    /// Each text is UTF-8: a fact for callers.
+    // Each text is UTF-8: a fact for callers.
     pub(crate) fn are_utf8(&self)
         ensures { AllText self.now }
     {
         let _ = &self.bytes;
     }
 
-    /// Adds a text at the end. A refusal leaves the list as it was.
+    // Adds a text at the end. A refusal leaves the list as it was.
     pub(crate) fn push(&mut self, text: &str) -> Result<(), OutOfMemory>
         ensures ok { OnOk result (self.new ≡ self.old ++ text.now ∷ []) }
         ensures err { OnErr result (self.new ≡ self.old) }
@@ -83,7 +83,7 @@ impl Texts {
         Ok(())
     }
 
-    /// Adds the fields of a record that `csv` read. A refusal leaves the list as it was.
+    // Adds the fields of a record that `csv` read. A refusal leaves the list as it was.
     pub(crate) fn append(&mut self, row: &ByteRecord) -> Result<(), OutOfMemory>
         requires text { AllText (fields_of row.now) }
         requires whole { IsRecord row.now }
@@ -99,14 +99,15 @@ impl Texts {
     }
 }
 
-// The bytes of all fields are copied at once. A refusal may leave more places than there were.
+// The bytes of all fields are copied at once. A refusal may leave more offsets than there were.
 fn append_fields(
     bytes: &mut Vec<u8>,
-    starts: &mut Places,
+    starts: &mut Offsets,
     row: &ByteRecord,
 ) -> Result<(), OutOfMemory>
     requires { IsRecord row.now }
-    ensures starts { OnOk result (starts.new ≡ starts.old ++ starts_of (length bytes.old.items) (fields_of row.now)) }
+    ensures starts { OnOk result
+        (starts.new ≡ starts.old ++ starts_of (length bytes.old.items) (fields_of row.now)) }
     ensures bytes { OnOk result (bytes.new.items ≡ bytes.old.items ++ concat (fields_of row.now)) }
     ensures front { OnErr result (take (length starts.old) starts.new ≡ starts.old) }
     ensures kept { OnErr result (bytes.new.items ≡ bytes.old.items) }

@@ -32,7 +32,7 @@ impl<W: Write> WriteOut<W> {
         }
     }
 
-    /// Sends on what the writer holds back.
+    /// Flushes the writer.
     ///
     /// Refused with Failed, which counts as a failure.
     pub fn flush(&mut self) -> Result<(), Failed>
@@ -86,7 +86,7 @@ impl<W: Write> Out for WriteOut<W> {
     }
 }
 
-/// One write that no signal interrupts: how much the writer took, or None where it failed.
+// One write that no signal interrupts: how much the writer took, or None where it failed.
 fn write_some<W: Write>(writer: &mut W, text: &[u8]) -> Option<usize>
     ensures taken { MatchOption result
         (Keeps (W.contents writer.old) (W.contents writer.new))

@@ -10,7 +10,7 @@ use csv::{ByteRecord, WriterBuilder};
 use gtfs_field::OutOfMemory;
 use std::alloc::Global;
 
-/// The text of records as `csv` writes it by default, but that records may differ in length.
+// The text of records as `csv` writes it by default, but that records may differ in length.
 pub(crate) fn write_records(alloc: Global, records: &Records) -> Result<Vec<u8>, OutOfMemory>
     ensures text { IfOk result (λ text. text.items ≡ text_of_records records.now) }
     ensures reads_back { IfOk result

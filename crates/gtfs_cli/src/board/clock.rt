@@ -5,7 +5,7 @@ ghost use Rattle.gtfs_cli.specs.Lines.{clock_text, offset_text, year_text};
 use crate::board::pieces::{push_four_digits, push_piece, push_two_digits};
 use gtfs_days::Civil;
 
-/// Appends what stands before a clock, and its text `YYYY-MM-DD HH:MM:SS+HH:MM`.
+// Appends what stands before a clock, and its text `YYYY-MM-DD HH:MM:SS+HH:MM`.
 pub(crate) fn push_clock(text: &mut String, before: &str, civil: Civil)
     requires { string_len text.old + (length before.now + 29) ≤ string_capacity text.old }
     ensures appended { string_bytes text.new ≡ string_bytes text.old ++ (before.now ++ clock_text civil) }
@@ -21,7 +21,7 @@ pub(crate) fn push_clock(text: &mut String, before: &str, civil: Civil)
     push_offset(text, civil.offset);
 }
 
-/// Appends what stands before a year, and its four digits, with `-` where it is below 0.
+// Appends what stands before a year, and its four digits, with `-` where it is below 0.
 fn push_year(text: &mut String, before: &str, year: i16)
     requires { string_len text.old + (length before.now + 5) ≤ string_capacity text.old }
     ensures appended { string_bytes text.new ≡ string_bytes text.old ++ (before.now ++ year_text year) }
@@ -32,7 +32,7 @@ fn push_year(text: &mut String, before: &str, year: i16)
     push_four_digits(text, "", u32::from(year.unsigned_abs()));
 }
 
-/// Appends how many seconds a clock is ahead of UTC: `+HH:MM` or `-HH:MM`, and `:SS` where there are seconds.
+// Appends how many seconds a clock is ahead of UTC: `+HH:MM` or `-HH:MM`, and `:SS` where there are seconds.
 fn push_offset(text: &mut String, offset: i32)
     requires { string_len text.old + 9 ≤ string_capacity text.old }
     ensures appended { string_bytes text.new ≡ string_bytes text.old ++ offset_text offset }

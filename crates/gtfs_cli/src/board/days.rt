@@ -15,15 +15,15 @@ use gtfs_days::{Service, Zone};
 use gtfs_field::{Day, OutOfMemory};
 use std::alloc::Global;
 
-/// The first and the last service day: 1900-01-01 and 9998-12-31.
+// The first and the last service day: 1900-01-01 and 9998-12-31.
 const FIRST_SERVICE_DAY: i64 = -25_567;
 
 const LAST_SERVICE_DAY: i64 = 2_932_531;
 
-/// How far the origin of a day can lie from midnight UTC of its date, in seconds.
+// How far the origin of a day can lie from midnight UTC of its date, in seconds.
 const FARTHEST: i64 = 93_599;
 
-/// Adds the departures of an event on all days of its service that fall into the span.
+// Adds the departures of an event on all days of its service that fall into the span.
 pub(super) fn push_days<'a>(
     alloc: Global,
     feed: &Feed<'_>,

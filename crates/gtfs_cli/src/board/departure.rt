@@ -3,17 +3,17 @@ ghost use Rattle.gtfs_cli.specs.Lines.{mark_text};
 
 use crate::board::key::Key;
 
-/// How the line of a departure is marked.
-#[derive(Clone, Copy, Debug, PartialEq, Eq)]
+// How the line of a departure is marked.
+#[derive(Clone, Copy)]
 pub enum Mark {
-    /// `s`: the run keeps a timetable.
+    // `s`: the run keeps a timetable.
     Scheduled,
-    /// `f`: the run is one of a period of frequencies.txt whose `exact_times` is 0, so its times are not exact.
+    // `f`: the run is one of a row of frequencies.txt whose `exact_times` is 0, so its times are not exact.
     Frequency,
 }
 
 impl Mark {
-    /// The mark's letter.
+    // The mark's letter.
     pub(crate) fn text(self) -> &'static str
         ensures value { result.now ≡ mark_text self }
         ensures len { length result.now ≡ 1 }
@@ -25,15 +25,15 @@ impl Mark {
     }
 }
 
-/// A departure as a board lists it. The feed lends its texts.
-#[derive(Clone, Copy, Debug, PartialEq, Eq)]
+// A departure as a board lists it. The feed lends its texts.
+#[derive(Clone, Copy)]
 pub struct Departure<'a> {
     pub key: Key<'a>,
-    /// `stop_id` of the stop from which it leaves, which may be a platform of the board's station.
+    // `stop_id` of the stop from which it leaves, which may be a platform of the board's station.
     pub stop: &'a str,
-    /// `route_short_name`, or where that is empty `route_long_name`.
+    // `route_short_name`, or where that is empty `route_long_name`.
     pub route: &'a str,
-    /// `stop_headsign`, or where that is empty `trip_headsign`; empty where both are.
+    // `stop_headsign`, or where that is empty `trip_headsign`; empty where both are.
     pub headsign: &'a str,
     pub mark: Mark,
 }

@@ -2,19 +2,15 @@ ghost use Rattle.std.specs.Prelude.{◌≡◌};
 ghost use Rattle.gtfs_cli.specs.Board.{no_memory};
 
 use gtfs_field::OutOfMemory;
-use thiserror::Error;
 
-/// Why a board was not opened.
-#[derive(Clone, Copy, Debug, PartialEq, Eq, Error)]
+// Why a board was not opened.
+#[derive(Clone, Copy)]
 pub enum BoardFault {
-    /// The feed has no stop of this id.
-    #[error("unknown stop")]
+    // The feed has no stop of this id.
     UnknownStop = 1,
-    /// The span ends before it begins, or one of its instants has more than twelve digits.
-    #[error("bad span")]
+    // The span ends before it begins, or one of its instants has more than twelve digits.
     BadSpan = 2,
-    /// Memory ran out.
-    #[error("out of memory")]
+    // Memory ran out.
     OutOfMemory = 3,
 }
 

@@ -17,20 +17,20 @@ use jiff_core::civil::Date;
 use std::alloc::Global;
 use std::cmp::Ordering;
 
-/// The key of a departure, by which boards are ordered: no two departures of a feed have the same.
-///
-/// Keys compare by instant, then by the trip's id byte by byte, then by run, sequence and day.
-#[derive(Clone, Copy, Debug, PartialEq, Eq)]
+// The key of a departure, by which boards are ordered: no two departures of a feed have the same.
+//
+// Keys compare by instant, then by the trip's id byte by byte, then by run, sequence and day.
+#[derive(Clone, Copy, PartialEq, Eq)]
 pub struct Key<'a> {
-    /// When the vehicle departs, in seconds since 1970-01-01T00:00:00Z.
+    // When the vehicle departs, in seconds since 1970-01-01T00:00:00Z.
     pub instant: i64,
-    /// `trip_id` of trips.txt.
+    // `trip_id` of trips.txt.
     pub trip: &'a str,
-    /// The second of the service day at which the trip's run starts.
+    // The second of the service day at which the trip's run starts.
     pub run: u32,
-    /// `stop_sequence` of the row of stop_times.txt.
+    // `stop_sequence` of the row of stop_times.txt.
     pub sequence: u32,
-    /// The service day, which is not always the date on the clock.
+    // The service day, which is not always the date on the clock.
     pub day: Day,
 }
 
@@ -63,14 +63,12 @@ impl PartialOrd for Key<'_> {
     }
 }
 
-/// How many bytes of a key's text are not the trip's id, at most: the instant has 20, run and sequence 10 each, the
-/// day 8, and one stands before each part.
+// How many bytes of a key's text are not the trip's id, at most: the instant has 20, run and sequence 10 each, the
+// day 8, and one stands before each part.
 pub(crate) const KEY_ROOM: usize = 53;
 
-/// Appends the text of a key: `@<instant>/<trip id>/<run>/<sequence>/<YYYYMMDD>`, numbers with no zero in front.
-///
-/// # Errors
-/// `OutOfMemory` where the text cannot grow; it is then as it was.
+// Appends the text of a key: `@<instant>/<trip id>/<run>/<sequence>/<YYYYMMDD>`, numbers with no zero in front.
+// Errors: `OutOfMemory` where the text cannot grow; it is then as it was.
 pub fn push_key(_alloc: Global, text: &mut String, key: &Key<'_>) -> Result<(), OutOfMemory>
     ensures appended { OnOk result (string_bytes text.new ≡ string_bytes text.old ++ key_text (key_of key.now)) }
     ensures unchanged { OnErr result (string_bytes text.new ≡ string_bytes text.old) }
@@ -80,7 +78,7 @@ pub fn push_key(_alloc: Global, text: &mut String, key: &Key<'_>) -> Result<(), 
     Ok(())
 }
 
-/// Appends the text of a key, for which there is room.
+// Appends the text of a key, for which there is room.
 pub(crate) fn write_key(text: &mut String, key: &Key<'_>)
     requires { string_len text.old + (53 + length key.now.trip.now) ≤ string_capacity text.old }
     ensures appended { string_bytes text.new ≡ string_bytes text.old ++ key_text (key_of key.now) }
@@ -94,7 +92,7 @@ pub(crate) fn write_key(text: &mut String, key: &Key<'_>)
     push_day(text, "/", key.day);
 }
 
-/// Appends what stands before a day, and its text YYYYMMDD.
+// Appends what stands before a day, and its text YYYYMMDD.
 fn push_day(text: &mut String, before: &str, day: Day)
     requires { string_len text.old + (length before.now + 8) ≤ string_capacity text.old }
     ensures appended { string_bytes text.new ≡ string_bytes text.old ++ (before.now ++ date_text day) }
@@ -107,12 +105,9 @@ fn push_day(text: &mut String, before: &str, day: Day)
     push_two_digits(text, "", u32::from(date.day));
 }
 
-/// The date of a day.
+// The date of a day.
 fn date_of(day: Day) -> Date
     ensures { result ≡ date_of_day day }
 {
     Date::from_unix_epoch_day(i64::from(day.number())).unwrap()
 }
-
-#[cfg(test)]
-mod tests;

@@ -22,10 +22,10 @@ use gtfs_field::{Day, OutOfMemory};
 use std::alloc::Global;
 use std::marker::Model;
 
-/// The departures from a stop over a span of instants, in the order of their keys.
-///
-/// The feed that it was opened on lends its texts.
-#[derive(Debug, Drop)]
+// The departures from a stop over a span of instants, in the order of their keys.
+//
+// The feed that it was opened on lends its texts.
+#[derive(Drop)]
 pub struct Board<'a> {
     // The next departure stands at the end.
     queue: Vec<Waiting<'a>>,
@@ -44,12 +44,10 @@ impl<'a> Model for Board<'a> {
 }
 
 impl<'a> Board<'a> {
-    /// Opens the board of a stop: the departures of its place whose instant lies in the span. The place of a station is the
-    /// station and its stops and platforms.
-    ///
-    /// # Errors
-    /// `UnknownStop` where the feed has no stop of this id, judged first; `BadSpan` where the span ends before it begins or
-    /// one of its instants has more than twelve digits; `OutOfMemory`.
+    // Opens the board of a stop: the departures of its place whose instant lies in the span. The place of a station is the
+    // station and its stops and platforms.
+    // Errors: `UnknownStop` where the feed has no stop of this id, judged first; `BadSpan` where the span ends before
+    // it begins or one of its instants has more than twelve digits; `OutOfMemory`.
     pub fn open(
         alloc: Global,
         feed: &Feed<'a>,
@@ -75,10 +73,8 @@ impl<'a> Board<'a> {
         })
     }
 
-    /// Takes the next departure away: none where there is none left, and from then on always.
-    ///
-    /// # Errors
-    /// None today: no memory is taken.
+    // Takes the next departure away: none where there is none left, and from then on always.
+    // It takes no memory, so it never fails.
     pub fn next(&mut self) -> Result<Option<Departure<'a>>, OutOfMemory>
         ensures first { IfOk result (λ next. MatchOption next (self.old.rest ≡ []) (λ d. self.old.rest ≡ listed d ∷ self.new.rest)) }
         ensures instants { IfOk result (λ next. IfSome next (λ d. IsInstant d.key.instant)) }

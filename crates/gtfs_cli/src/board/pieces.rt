@@ -4,7 +4,7 @@ ghost use Rattle.std.specs.String.{string_capacity};
 ghost use Rattle.std.specs.Str.{IsAscii};
 ghost use Rattle.gtfs_field.specs.Digits.{wide};
 
-/// Appends what stands before a piece, and the piece.
+// Appends what stands before a piece, and the piece.
 pub(crate) fn push_piece(text: &mut String, before: &str, piece: &str)
     requires { string_len text.old + (length before.now + length piece.now) ≤ string_capacity text.old }
     ensures appended { string_bytes text.new ≡ string_bytes text.old ++ (before.now ++ piece.now) }
@@ -15,7 +15,7 @@ pub(crate) fn push_piece(text: &mut String, before: &str, piece: &str)
     text.push_str(piece).unwrap();
 }
 
-/// Appends what stands before a number, and its last two digits.
+// Appends what stands before a number, and its last two digits.
 pub(crate) fn push_two_digits(text: &mut String, before: &str, number: u32)
     requires { string_len text.old + (length before.now + 2) ≤ string_capacity text.old }
     ensures appended { string_bytes text.new ≡ string_bytes text.old ++ (before.now ++ wide 2 number) }
@@ -26,7 +26,7 @@ pub(crate) fn push_two_digits(text: &mut String, before: &str, number: u32)
     push_piece(text, before, ascii(&digits));
 }
 
-/// Appends what stands before a number, and its last four digits.
+// Appends what stands before a number, and its last four digits.
 pub(crate) fn push_four_digits(text: &mut String, before: &str, number: u32)
     requires { string_len text.old + (length before.now + 4) ≤ string_capacity text.old }
     ensures appended { string_bytes text.new ≡ string_bytes text.old ++ (before.now ++ wide 4 number) }
@@ -42,14 +42,14 @@ pub(crate) fn push_four_digits(text: &mut String, before: &str, number: u32)
     push_piece(text, before, ascii(&digits));
 }
 
-/// The last digit of a number.
+// The last digit of a number.
 fn digit(number: u32) -> u8
     ensures { result ≡ 48 + number % 10 }
 {
     b'0' + (number % 10) as u8
 }
 
-/// The text of ASCII bytes.
+// The text of ASCII bytes.
 fn ascii(bytes: &[u8]) -> &str
     requires { IsAscii bytes.now }
     ensures { result.now ≡ bytes.now }

@@ -10,14 +10,14 @@ ghost use Rattle.gtfs_cli.specs.declared.board.waiting.Waiting.{Waiting};
 use crate::board::departure::Mark;
 use std::cmp::Ordering;
 
-/// A departure that waits on a board. Departures wait in the order of their keys, and two with the same key are one.
-#[derive(Clone, Copy, Debug)]
+// A departure that waits on a board. Departures wait in the order of their keys, and two with the same key are one.
+#[derive(Clone, Copy)]
 pub struct Waiting<'a> {
     pub instant: i64,
     pub trip: &'a str,
     pub run: u32,
     pub sequence: u32,
-    /// The number of the service day.
+    // The number of the service day.
     pub day: i32,
     pub stop: &'a str,
     pub route: &'a str,

@@ -16,12 +16,10 @@ use gtfs_days::{Zone, ZoneFault};
 use gtfs_table::{Folders, Out, Tables, write_text};
 use std::alloc::Global;
 
-/// Prints the board that the words ask for.
-///
-/// # Errors
-/// In the order in which they are judged: `BadValue`; `NotThere`, `Unreadable`, `OverLimit` and `HasErrors` of the feed's
-/// folder; the first three and `NoZone` of the zone file; `UnknownStop`; `UntilBeforeFrom`; `OutputFailed` at any line.
-/// `OutOfMemory` at any point.
+// Prints the board that the words ask for.
+// Errors: In the order in which they are judged: `BadValue`; `NotThere`, `Unreadable`, `OverLimit` and `HasErrors` of
+// the feed's folder; the first three and `NoZone` of the zone file; `UnknownStop`; `UntilBeforeFrom`; `OutputFailed` at
+// any line. `OutOfMemory` at any point.
 pub(super) fn print_board<'w, F: Folders, O: Out>(
     alloc: Global,
     words: &BoardWords<'w>,

@@ -1,8 +1,8 @@
 ghost use Rattle.std.specs.Prelude.{◌≡◌, ◌≤◌, map, count_by, length, IfOk, IfErr, OnOk, OnErr};
 ghost use Rattle.std.specs.Io.KnownBytes.{Appends};
-ghost use Rattle.gtfs_rules.specs.Codes.{is_error};
+ghost use Rattle.gtfs_columns.specs.Codes.{is_error};
 ghost use Rattle.gtfs_rules.specs.Report.{problem_line, report_text};
-ghost use Rattle.gtfs_rules.specs.View.{problem_of};
+ghost use Rattle.gtfs_columns.specs.View.{problem_of};
 ghost use Rattle.gtfs_cli.specs.Checking.{counts_text, IsReportOf, IsSendingCause, Prints};
 ghost use Rattle.gtfs_cli.specs.CheckRun.{IsCutShort};
 ghost use Rattle.gtfs_cli.specs.Sending.{SendsBeginning};
@@ -15,11 +15,10 @@ use gtfs_rules::{Problem, check};
 use gtfs_table::{Folders, Out, write_text};
 use std::alloc::Global;
 
-/// Prints the report of the feed in a folder: a line for each of its problems, and one with their counts. Answers whether
-/// one of them is an error.
-///
-/// # Errors
-/// `NotThere`, `Unreadable` and `OverLimit` of the folder, `OutputFailed` at any line, and `OutOfMemory` at any point.
+// Prints the report of the feed in a folder: a line for each of its problems, and one with their counts. Answers whether
+// one of them is an error.
+// Errors: `NotThere`, `Unreadable` and `OverLimit` of the folder, `OutputFailed` at any line, and `OutOfMemory` at any
+// point.
 pub(super) fn print_report<'w, F: Folders, O: Out>(
     alloc: Global,
     dir: &'w str,

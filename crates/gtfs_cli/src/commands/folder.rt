@@ -9,10 +9,8 @@ use crate::commands::refusal::Refusal;
 use gtfs_table::{FolderFault, Folders, Tables};
 use std::alloc::Global;
 
-/// The tables of a folder. An empty text names none.
-///
-/// # Errors
-/// `NotThere`, `Unreadable`, `OverLimit` and `OutOfMemory`.
+// The tables of a folder. An empty text names none.
+// Errors: `NotThere`, `Unreadable`, `OverLimit` and `OutOfMemory`.
 pub(super) fn read_tables<'w, F: Folders>(
     alloc: Global,
     folders: &mut F,
@@ -33,7 +31,7 @@ pub(super) fn read_tables<'w, F: Folders>(
     }
 }
 
-/// What a fault of the folders means for the path that was asked for.
+// What a fault of the folders means for the path that was asked for.
 pub(super) fn of_folder(fault: FolderFault, path: &str) -> Refusal<'_>
     ensures board { (held : Option Store) (words : Given) (before after : Failures) → IsFaultCause held words before after fault → IsCause held words before after result }
     ensures check { (held : Option Store) (before after : Failures) → RefusesDataset fault held path.now before.folders after.folders

@@ -3,7 +3,7 @@ ghost use Rattle.std.specs.Io.KnownBytes.{Appends};
 ghost use Rattle.std.specs.List.{position_from};
 ghost use Rattle.gtfs_table.specs.Blanks.{is_control};
 ghost use Rattle.gtfs_table.specs.Device.{Rises};
-ghost use Rattle.gtfs_rules.specs.Values.{plain};
+ghost use Rattle.gtfs_columns.specs.Values.{plain};
 ghost use Rattle.gtfs_cli.specs.Messages.{line_of, message};
 ghost use Rattle.gtfs_cli.specs.Sending.{SendsBeginning};
 
@@ -11,7 +11,7 @@ use crate::commands::refusal::Refusal;
 use gtfs_table::{Out, OutFault, write_text};
 
 impl Refusal<'_> {
-    /// Writes what is told of the refusal: `clap`'s text, or a line that begins `gtfs: `. It takes no memory.
+    // Writes what is told of the refusal: `clap`'s text, or a line that begins `gtfs: `. It takes no memory.
     pub(super) fn write<E: Out>(&self, err: &mut E) -> Result<(), OutFault>
         ensures whole { OnOk result (Appends (E.told err.old) (E.told err.new) (message self.now)) }
         ensures cut_short { OnErr result (SendsBeginning (E.told err.old) (E.told err.new) (message self.now)) }
@@ -65,7 +65,7 @@ fn write_shown<E: Out>(err: &mut E, text: &[u8]) -> Result<(), OutFault>
 
 // Where the first control character stands.
 fn first_control(text: &[u8]) -> Option<usize>
-    ensures place { result ≡ position_from is_control 0 text.now }
+    ensures index { result ≡ position_from is_control 0 text.now }
     ensures within { IfSome result (λ at. at < length text.now) }
 {
     text.iter().position(|byte| byte.is_ascii_control())

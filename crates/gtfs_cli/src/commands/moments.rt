@@ -8,19 +8,19 @@ use gtfs_days::Zone;
 use gtfs_field::{Day, OutOfMemory, read_date, read_instant};
 use std::alloc::Global;
 
-/// The last service day, 9998-12-31, by its number.
+// The last service day, 9998-12-31, by its number.
 const LAST_SERVICE_DAY: i32 = 2_932_531;
 
-/// When a board begins or ends.
-#[derive(Clone, Copy, Debug, PartialEq, Eq)]
+// When a board begins or ends.
+#[derive(Clone, Copy)]
 pub(super) enum Moment {
-    /// An instant, in seconds since 1970-01-01T00:00:00Z, of at most twelve digits.
+    // An instant, in seconds since 1970-01-01T00:00:00Z, of at most twelve digits.
     Instant(i64),
-    /// A service day, from 1900-01-01 to 9998-12-31, which stands for its origin in the zone.
+    // A service day, from 1900-01-01 to 9998-12-31, which stands for its origin in the zone.
     ServiceDay(Day),
 }
 
-/// Reads the value of `--from` or `--until`: `@` and an instant, or a service day YYYYMMDD. None where the text is neither.
+// Reads the value of `--from` or `--until`: `@` and an instant, or a service day YYYYMMDD. None where the text is neither.
 pub(super) fn read_moment(text: &str) -> Option<Moment>
     ensures value { result ≡ moment_of text.now }
     ensures sound { IfSome result IsSound }
@@ -50,10 +50,8 @@ fn read_service_day(text: &str) -> Option<Day>
 }
 
 impl Moment {
-    /// The instant that is meant in the zone.
-    ///
-    /// # Errors
-    /// None today: no memory is taken.
+    // The instant that is meant in the zone.
+    // It takes no memory, so it never fails.
     pub(super) fn instant(self, alloc: Global, zone: &Zone) -> Result<i64, OutOfMemory>
         requires { IsSound self }
         ensures value { IfOk result (λ x. x ≡ instant_at (zone_origin zone.now) self) }

@@ -4,30 +4,30 @@ ghost use Rattle.gtfs_cli.specs.Refusals.{status_of};
 use gtfs_field::OutOfMemory;
 use gtfs_table::OutFault;
 
-/// Why a command was not done. Paths are as they stand in the words.
-#[derive(Debug, Drop)]
+// Why a command was not done. Paths are as they stand in the words.
+#[derive(Drop)]
 pub(super) enum Refusal<'w> {
-    /// The words are not as the usage wants them: `clap`'s text.
+    // The words are not as the usage wants them: `clap`'s text.
     Words(String),
-    /// The value of this option is bad.
+    // The value of this option is bad.
     BadValue(&'static str),
-    /// There is no such folder or file.
+    // There is no such folder or file.
     NotThere(&'w str),
-    /// The folder or the file cannot be read.
+    // The folder or the file cannot be read.
     Unreadable(&'w str),
-    /// The file, or one of the folder's files, is over the limit.
+    // The file, or one of the folder's files, is over the limit.
     OverLimit(&'w str),
-    /// What the folder holds is no feed, or one with errors.
+    // What the folder holds is no feed, or one with errors.
     HasErrors(&'w str),
-    /// The file is no zone file.
+    // The file is no zone file.
     NoZone(&'w str),
-    /// The feed has no stop of the id.
+    // The feed has no stop of the id.
     UnknownStop,
-    /// The board would end before it begins.
+    // The board would end before it begins.
     UntilBeforeFrom,
-    /// The output did not take all that was to go out.
+    // The output did not take all that was to go out.
     OutputFailed,
-    /// Memory ran out.
+    // Memory ran out.
     OutOfMemory,
 }
 
@@ -54,7 +54,7 @@ impl From<OutFault> for Refusal<'_> {
 }
 
 impl Refusal<'_> {
-    /// The status with which the program ends.
+    // The status with which the program ends.
     pub(super) fn status(&self) -> u8
         ensures { result ≡ status_of self.now }
     {

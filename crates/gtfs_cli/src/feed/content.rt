@@ -1,8 +1,8 @@
 use crate::feed::rows::{Frequency, Route, ServiceRow, Stop, StopTime, Trip};
 use std::marker::Model;
 
-/// The rows of a feed by their keys: stops, routes, services and trips by id, stop times by trip and sequence, and periods
-/// by trip and start, each ascending. Texts are lent by the tables that the feed was read from.
+// The rows of a feed by their keys: stops, routes, services and trips by id, stop times by trip and sequence, and frequencies
+// by trip and start, each ascending. Texts are lent by the tables that the feed was read from.
 pub struct Feed<'a> {
     pub(super) stops: Vec<Stop<'a>>,
     pub(super) routes: Vec<Route<'a>>,

@@ -1,15 +1,12 @@
 use gtfs_field::OutOfMemory;
 use std::alloc::AllocFailed;
-use thiserror::Error;
 
-/// Why the tables of a dataset were not taken as a feed.
-#[derive(Clone, Copy, Debug, PartialEq, Eq, Error)]
+// Why the tables of a dataset were not taken as a feed.
+#[derive(Clone, Copy)]
 pub enum FeedFault {
-    /// A row cannot be taken: a value that it needs is missing or cannot be read.
-    #[error("cannot be read as a feed")]
+    // A row cannot be taken: a value that it needs is missing or cannot be read.
     Unreadable,
-    /// Memory was refused.
-    #[error("out of memory")]
+    // Memory was refused.
     OutOfMemory,
 }
 

@@ -4,8 +4,8 @@ use crate::feed::rows::{Frequency, Stop, StopTime, Trip};
 // What a board relies on between the rows of different files. No clause speaks of it: a feed that passes is as its tables
 // say, and one that does not is refused.
 impl<'a> Feed<'a> {
-    /// Whether each id names a row that is there, each trip has a time at both its ends, and no two periods of a trip
-    /// overlap.
+    // Whether each id names a row that is there, each trip has a time at both its ends, and no two frequencies of a trip
+    // overlap.
     pub(super) fn fits_together(&self) -> bool {
         self.stops.iter().all(|stop| self.has_parent(stop))
             && self
@@ -46,7 +46,7 @@ impl<'a> Feed<'a> {
             .is_ok()
     }
 
-    // Whether each stop time and each period is one of a trip.
+    // Whether each stop time and each frequency is one of a trip.
     fn trips_are_there(&self) -> bool {
         self.stop_times
             .iter()
@@ -54,7 +54,7 @@ impl<'a> Feed<'a> {
             && self
                 .frequencies
                 .iter()
-                .all(|period| self.has_trip(period.trip_id))
+                .all(|frequency| self.has_trip(frequency.trip_id))
     }
 
     fn has_trip(&self, id: &str) -> bool {
@@ -77,7 +77,7 @@ fn is_timed(time: &StopTime) -> bool {
     time.arrival_time.is_some() || time.departure_time.is_some()
 }
 
-// Whether no period, of one trip and ascending by start, starts before the one before it has ended.
-fn are_apart(periods: &[Frequency]) -> bool {
-    periods.is_sorted_by(|one, next| one.end_time <= next.start_time)
+// Whether no frequency, of one trip and ascending by start, starts before the one before it has ended.
+fn are_apart(frequencies: &[Frequency]) -> bool {
+    frequencies.is_sorted_by(|one, next| one.end_time <= next.start_time)
 }

@@ -2,10 +2,10 @@ ghost use Rattle.std.specs.Prelude.{◌≡◌, ℕ, List, IfOk, filter, map};
 ghost use Rattle.std.specs.Ordering.{nat_cmp};
 ghost use Rattle.gtfs_table.specs.declared.file.File.TheVariants as file;
 ghost use Rattle.gtfs_cli.specs.FeedOrder.{frequency_cmp, route_cmp, service_cmp, stop_cmp, stop_time_cmp, trip_cmp, Ascends};
-ghost use Rattle.gtfs_cli.specs.FeedView.{frequencies_of, period_row, route_row, service_row, stop_row, stop_time_row, stop_times_of};
+ghost use Rattle.gtfs_cli.specs.FeedView.{frequencies_of, frequency_row, route_row, service_row, stop_row, stop_time_row, stop_times_of};
 ghost use Rattle.gtfs_cli.specs.Key.{text_cmp};
-ghost use Rattle.gtfs_cli.specs.Reading.{by_key, content_of, period_in, route_in, rows_with, service_in, services_named, stop_in, stop_row_in};
-ghost use Rattle.gtfs_cli.specs.Values.{rows};
+ghost use Rattle.gtfs_cli.specs.Reading.{by_key, content_of, frequency_in, route_in, rows_with, service_in, services_named, stop_in, stop_row_in};
+ghost use Rattle.gtfs_table.specs.Rows.{rows};
 
 use crate::feed::content::Feed;
 use crate::feed::fault::FeedFault;
@@ -22,15 +22,13 @@ use gtfs_table::Tables;
 use std::alloc::Global;
 
 impl<'a> Feed<'a> {
-    /// The feed that the tables of a dataset say: its rows by their keys.
-    ///
-    /// GTFS Schedule Reference, the fields of stops.txt, routes.txt, calendar.txt, calendar_dates.txt, trips.txt,
-    /// stop_times.txt and frequencies.txt.
-    ///
-    /// # Errors
-    /// `Unreadable` where a field cannot be read, where two rows have one key, and where the rows do not fit one another:
-    /// an id that no row has, a trip whose first or last stop time has no time, and periods of a trip that overlap.
-    /// `OutOfMemory` where memory ran out.
+    // The feed that the tables of a dataset say: its rows by their keys.
+    //
+    // GTFS Schedule Reference, the fields of stops.txt, routes.txt, calendar.txt, calendar_dates.txt, trips.txt,
+    // stop_times.txt and frequencies.txt.
+    // Errors: `Unreadable` where a field cannot be read, where two rows have one key, and where the rows do not fit one
+    // another: an id that no row has, a trip whose first or last stop time has no time, and frequencies of a trip that
+    // overlap. `OutOfMemory` where memory ran out.
     pub fn read(alloc: Global, tables: &'a Tables) -> Result<Feed<'a>, FeedFault>
         ensures { IfOk result (λ feed. feed ≡ content_of tables.now) }
     {
@@ -96,8 +94,8 @@ fn load_stop_times<'a>(alloc: Global, tables: &'a Tables) -> Result<Vec<StopTime
 
 // The rows of frequencies.txt by trip and start.
 fn load_frequencies<'a>(alloc: Global, tables: &'a Tables) -> Result<Vec<Frequency<'a>>, FeedFault>
-    ensures rows { IfOk result (λ v. (trip : List ℕ) → map period_row (frequencies_of trip v.items)
-        ≡ by_key nat_cmp (λ p. p.start_time) (map (period_in tables.now) (rows_with tables.now file.Frequencies "trip_id" trip))) }
+    ensures rows { IfOk result (λ v. (trip : List ℕ) → map frequency_row (frequencies_of trip v.items)
+        ≡ by_key nat_cmp (λ p. p.start_time) (map (frequency_in tables.now) (rows_with tables.now file.Frequencies "trip_id" trip))) }
     ensures ascends { IfOk result (λ v. Ascends frequency_cmp v.items) }
 {
     by_trip_and_start(read_frequencies(alloc, tables)?)

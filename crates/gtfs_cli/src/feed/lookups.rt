@@ -3,7 +3,7 @@ ghost use Rattle.std.specs.List.{find, list_any, AllPairs};
 ghost use Rattle.std.specs.Option.{option_and_then, option_or};
 ghost use Rattle.gtfs_cli.specs.Departures.{is_in_place, is_plain_stop, is_text};
 ghost use Rattle.gtfs_cli.specs.FeedOrder.{frequency_cmp, stop_time_cmp, Ascends};
-ghost use Rattle.gtfs_cli.specs.FeedView.{frequencies_of, period_row, stop_time_row, stop_times_of};
+ghost use Rattle.gtfs_cli.specs.FeedView.{frequencies_of, frequency_row, stop_time_row, stop_times_of};
 ghost use Rattle.gtfs_cli.specs.Rows.{TripRow as Row};
 ghost use Rattle.gtfs_cli.specs.Shown.{trip_named};
 
@@ -14,7 +14,7 @@ use gtfs_field::OutOfMemory;
 use std::alloc::Global;
 
 impl<'a> Feed<'a> {
-    /// Whether a row of stops.txt has this id, found by binary search.
+    // Whether a row of stops.txt has this id, found by binary search.
     pub fn has_stop(&self, id: &str) -> bool
         ensures { result ≡ list_any (λ s. bytes_eq s.stop_id id.now) self.now.stops }
     {
@@ -23,12 +23,10 @@ impl<'a> Feed<'a> {
             .is_ok()
     }
 
-    /// The ids of the place of a stop: its own, and those of the stops and platforms whose parent it is.
-    ///
-    /// GTFS Schedule Reference, stops.txt, `parent_station` and `location_type`.
-    ///
-    /// # Errors
-    /// `OutOfMemory` where memory ran out.
+    // The ids of the place of a stop: its own, and those of the stops and platforms whose parent it is.
+    //
+    // GTFS Schedule Reference, stops.txt, `parent_station` and `location_type`.
+    // Errors: `OutOfMemory` where memory ran out.
     pub fn place<'s>(&'s self, alloc: Global, stop: &'s str) -> Result<Vec<&'s str>, OutOfMemory>
         ensures { IfOk result (λ ids. (x : List ℕ)
             → list_any (bytes_eq x) (map (λ id. id.now) ids.items) ≡ is_in_place self.now stop.now x) }
@@ -43,14 +41,14 @@ impl<'a> Feed<'a> {
         Ok(ids)
     }
 
-    /// How many trips there are.
+    // How many trips there are.
     pub fn trip_count(&self) -> usize
         ensures { result ≡ length self.now.trips }
     {
         self.trips.len()
     }
 
-    /// The trip of a number, in the order of ids.
+    // The trip of a number, in the order of ids.
     pub fn trip(&self, i: usize) -> Trip<'a>
         requires { i < length self.now.trips }
         ensures named { (d : Row) → trip_named self.now result.trip_id.now ≡ Some (slice_index_or self.now.trips i d) }
@@ -63,7 +61,7 @@ impl<'a> Feed<'a> {
         self.trips[i]
     }
 
-    /// The stop times of a trip, ascending by sequence.
+    // The stop times of a trip, ascending by sequence.
     pub fn stop_times(&self, i: usize) -> &[StopTime<'a>]
         requires { i < length self.now.trips }
         ensures rows { (d : Row) → map stop_time_row result.now ≡ (slice_index_or self.now.trips i d).stop_rows }
@@ -72,15 +70,15 @@ impl<'a> Feed<'a> {
         times_of(self.stop_times.as_slice(), self.trips[i].trip_id)
     }
 
-    /// The periods of a trip, ascending by start.
+    // The frequencies of a trip, ascending by start.
     pub fn frequencies(&self, i: usize) -> &[Frequency<'a>]
         requires { i < length self.now.trips }
-        ensures { (d : Row) → map period_row result.now ≡ (slice_index_or self.now.trips i d).frequencies }
+        ensures { (d : Row) → map frequency_row result.now ≡ (slice_index_or self.now.trips i d).frequencies }
     {
-        periods_of(self.frequencies.as_slice(), self.trips[i].trip_id)
+        frequencies_of(self.frequencies.as_slice(), self.trips[i].trip_id)
     }
 
-    /// The service of an id, found by binary search: none where no row of calendar.txt and calendar_dates.txt has it.
+    // The service of an id, found by binary search: none where no row of calendar.txt and calendar_dates.txt has it.
     pub fn service(&self, id: &str) -> Option<&Service>
         ensures { option_copied result ≡ option_map (λ s. s.service) (find (λ s. bytes_eq s.service_id id.now) self.now.services) }
     {
@@ -90,10 +88,10 @@ impl<'a> Feed<'a> {
         }
     }
 
-    /// The name by which riders know a route: the short one, or where it has none the long one. It is empty where the route
-    /// has neither, or is not there.
-    ///
-    /// GTFS Schedule Reference, routes.txt, `route_short_name` and `route_long_name`.
+    // The name by which riders know a route: the short one, or where it has none the long one. It is empty where the route
+    // has neither, or is not there.
+    //
+    // GTFS Schedule Reference, routes.txt, `route_short_name` and `route_long_name`.
     pub fn route_name(&self, id: &str) -> &'a str
         ensures { result.now ≡ unwrap_or (option_and_then (λ r. option_or r.route_short_name r.route_long_name)
             (find (λ r. bytes_eq r.route_id id.now) self.now.routes)) [] }
@@ -128,14 +126,17 @@ pub(super) fn times_of<'s, 'a>(times: &'s [StopTime<'a>], trip: &str) -> &'s [St
     &rest[..until]
 }
 
-// The periods of a trip: they stand in a row.
-pub(super) fn periods_of<'s, 'a>(periods: &'s [Frequency<'a>], trip: &str) -> &'s [Frequency<'a>]
-    requires { Ascends frequency_cmp periods.now }
-    ensures { result.now ≡ frequencies_of trip.now periods.now }
+// The frequencies of a trip: they stand in a row.
+pub(super) fn frequencies_of<'s, 'a>(
+    frequencies: &'s [Frequency<'a>],
+    trip: &str,
+) -> &'s [Frequency<'a>]
+    requires { Ascends frequency_cmp frequencies.now }
+    ensures { result.now ≡ frequencies_of trip.now frequencies.now }
 {
-    let from = periods.partition_point(|period| period.trip_id < trip);
-    let rest = &periods[from..];
-    let until = rest.partition_point(|period| period.trip_id <= trip);
+    let from = frequencies.partition_point(|frequency| frequency.trip_id < trip);
+    let rest = &frequencies[from..];
+    let until = rest.partition_point(|frequency| frequency.trip_id <= trip);
     &rest[..until]
 }
 

@@ -10,7 +10,7 @@ use std::cmp::Ordering;
 // Each of these takes rows in file order and hands them out ascending by key. `Unreadable` where two have the same key:
 // the check is for neighbours that rise, so what comes out ascends whatever the sort does.
 
-/// The rows of stops.txt by id.
+// The rows of stops.txt by id.
 pub(super) fn by_stop_id<'a>(mut stops: Vec<Stop<'a>>) -> Result<Vec<Stop<'a>>, FeedFault>
     ensures rows { IfOk result (λ v. IsPermutation stops.entry.items v.items) }
     ensures ascends { IfOk result (λ v. Ascends stop_cmp v.items) }
@@ -29,7 +29,7 @@ fn stop_order(a: &Stop, b: &Stop) -> Ordering
     a.stop_id.cmp(b.stop_id)
 }
 
-/// The rows of routes.txt by id.
+// The rows of routes.txt by id.
 pub(super) fn by_route_id<'a>(mut routes: Vec<Route<'a>>) -> Result<Vec<Route<'a>>, FeedFault>
     ensures rows { IfOk result (λ v. IsPermutation routes.entry.items v.items) }
     ensures ascends { IfOk result (λ v. Ascends route_cmp v.items) }
@@ -48,7 +48,7 @@ fn route_order(a: &Route, b: &Route) -> Ordering
     a.route_id.cmp(b.route_id)
 }
 
-/// The rows of trips.txt by id.
+// The rows of trips.txt by id.
 pub(super) fn by_trip_id<'a>(mut trips: Vec<Trip<'a>>) -> Result<Vec<Trip<'a>>, FeedFault>
     ensures rows { IfOk result (λ v. IsPermutation trips.entry.items v.items) }
     ensures ascends { IfOk result (λ v. Ascends trip_cmp v.items) }
@@ -67,7 +67,7 @@ fn trip_order(a: &Trip, b: &Trip) -> Ordering
     a.trip_id.cmp(b.trip_id)
 }
 
-/// The rows of stop_times.txt by trip and sequence.
+// The rows of stop_times.txt by trip and sequence.
 pub(super) fn by_trip_and_sequence<'a>(
     mut times: Vec<StopTime<'a>>,
 ) -> Result<Vec<StopTime<'a>>, FeedFault>
@@ -90,16 +90,16 @@ fn stop_time_order(a: &StopTime, b: &StopTime) -> Ordering
         .then(a.stop_sequence.cmp(&b.stop_sequence))
 }
 
-/// The rows of frequencies.txt by trip and start.
+// The rows of frequencies.txt by trip and start.
 pub(super) fn by_trip_and_start<'a>(
-    mut periods: Vec<Frequency<'a>>,
+    mut frequencies: Vec<Frequency<'a>>,
 ) -> Result<Vec<Frequency<'a>>, FeedFault>
-    ensures rows { IfOk result (λ v. IsPermutation periods.entry.items v.items) }
+    ensures rows { IfOk result (λ v. IsPermutation frequencies.entry.items v.items) }
     ensures ascends { IfOk result (λ v. Ascends frequency_cmp v.items) }
 {
-    periods.sort_unstable_by(|a, b| frequency_order(a, b));
-    if periods.is_sorted_by(|a, b| frequency_order(a, b).is_lt()) {
-        Ok(periods)
+    frequencies.sort_unstable_by(|a, b| frequency_order(a, b));
+    if frequencies.is_sorted_by(|a, b| frequency_order(a, b).is_lt()) {
+        Ok(frequencies)
     } else {
         Err(FeedFault::Unreadable)
     }
@@ -113,7 +113,7 @@ fn frequency_order(a: &Frequency, b: &Frequency) -> Ordering
         .then(a.start_time.cmp(&b.start_time))
 }
 
-/// The rows of calendar.txt by service.
+// The rows of calendar.txt by service.
 pub(super) fn by_service<'a>(
     mut weeks: Vec<CalendarWeek<'a>>,
 ) -> Result<Vec<CalendarWeek<'a>>, FeedFault>
@@ -134,7 +134,7 @@ fn week_order(a: &CalendarWeek, b: &CalendarWeek) -> Ordering
     a.service_id.cmp(b.service_id)
 }
 
-/// The rows of calendar_dates.txt by service and day.
+// The rows of calendar_dates.txt by service and day.
 pub(super) fn by_service_and_day<'a>(
     mut dates: Vec<CalendarDate<'a>>,
 ) -> Result<Vec<CalendarDate<'a>>, FeedFault>

@@ -4,7 +4,6 @@ mod calendar;
 mod choice;
 mod dates;
 mod frequencies;
-mod record;
 mod routes;
 mod stop_times;
 mod stops;
@@ -21,6 +20,3 @@ pub use stop_times::read_stop_times;
 pub use stops::read_stops;
 pub use trips::read_trips;
 pub use weeks::read_weeks;
-
-#[cfg(test)]
-mod tests;

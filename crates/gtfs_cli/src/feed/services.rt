@@ -14,12 +14,10 @@ use gtfs_days::{Exception, Service, Week};
 use gtfs_field::{Day, OutOfMemory};
 use std::alloc::Global;
 
-/// The services of both calendar files, ascending by id: each has its calendar row, if any, and its exceptions.
-///
-/// GTFS Schedule Reference, calendar.txt and calendar_dates.txt, `service_id`.
-///
-/// # Errors
-/// `OutOfMemory` where memory ran out.
+// The services of both calendar files, ascending by id: each has its calendar row, if any, and its exceptions.
+//
+// GTFS Schedule Reference, calendar.txt and calendar_dates.txt, `service_id`.
+// Errors: `OutOfMemory` where memory ran out.
 pub(super) fn services_of<'a>(
     alloc: Global,
     weeks: &[CalendarWeek<'a>],

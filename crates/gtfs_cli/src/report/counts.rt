@@ -9,10 +9,8 @@ use itoa::Buffer;
 // How many bytes the line of the counts has, at most: 20 for each number.
 const COUNTS_ROOM: usize = 58;
 
-/// Appends the last line of a report: how many errors and how many warnings there are.
-///
-/// # Errors
-/// `OutOfMemory` where the text cannot grow; it is then as it was.
+// Appends the last line of a report: how many errors and how many warnings there are.
+// Errors: `OutOfMemory` where the text cannot grow; it is then as it was.
 pub(crate) fn push_counts(
     text: &mut String,
     errors: usize,
@@ -35,6 +33,3 @@ fn write_counts(text: &mut String, errors: usize, warnings: usize)
     push_piece(text, " warnings ", Buffer::new().format(warnings));
     push_piece(text, "", "\n");
 }
-
-#[cfg(test)]
-mod tests;

@@ -1,8 +1,8 @@
 ghost use Rattle.std.specs.Prelude.{◌≡◌, ◌++◌, ◌≤◌, ◌+◌, ◌-◌, ◌^◌, length, min, string_bytes, string_len, OnOk, OnErr};
 ghost use Rattle.std.specs.String.{string_capacity};
 ghost use Rattle.gtfs_rules.specs.Report.{column_shown, problem_line};
-ghost use Rattle.gtfs_rules.specs.Values.{plain};
-ghost use Rattle.gtfs_rules.specs.View.{problem_of};
+ghost use Rattle.gtfs_columns.specs.Values.{plain};
+ghost use Rattle.gtfs_columns.specs.View.{problem_of};
 ghost use Rattle.gtfs_cli.specs.Checking.{names_len};
 
 use crate::board::push_piece;
@@ -15,11 +15,9 @@ use itoa::Buffer;
 // one, and one stands after each part.
 const LINE_ROOM: usize = 26;
 
-/// Appends the line of a problem: `CODE FILE:ROW COLUMN TEXT` and a line feed, with a dash for no column and a space for
-/// each control character of a name.
-///
-/// # Errors
-/// `OutOfMemory` where the text cannot grow; it is then as it was.
+// Appends the line of a problem: `CODE FILE:ROW COLUMN TEXT` and a line feed, with a dash for no column and a space for
+// each control character of a name.
+// Errors: `OutOfMemory` where the text cannot grow; it is then as it was.
 pub(crate) fn push_problem(text: &mut String, problem: &Problem<'_>) -> Result<(), OutOfMemory>
     ensures appended { OnOk result (string_bytes text.new ≡ string_bytes text.old ++ problem_line (problem_of problem.now)) }
     ensures unchanged { OnErr result (string_bytes text.new ≡ string_bytes text.old) }
@@ -61,6 +59,3 @@ fn shown_column(name: &str) -> &str
 {
     if name.is_empty() { "-" } else { name }
 }
-
-#[cfg(test)]
-mod tests;

@@ -1,10 +1,10 @@
 //! Names in a line. Whoever appends one has made room for it.
 ghost use Rattle.std.specs.Prelude.{◌≡◌, ◌++◌, ◌≤◌, ◌+◌, if◌then◌else◌, length, string_bytes, string_len};
 ghost use Rattle.std.specs.String.{string_capacity};
-ghost use Rattle.gtfs_rules.specs.Values.{plain};
+ghost use Rattle.gtfs_columns.specs.Values.{plain};
 ghost use Rattle.gtfs_table.specs.Blanks.{is_control};
 
-/// Appends a name with a space in place of each control character, so that it cannot end the line.
+// Appends a name with a space in place of each control character, so that it cannot end the line.
 pub(crate) fn push_plain(text: &mut String, name: &str)
     requires { string_len text.old + length name.now ≤ string_capacity text.old }
     ensures appended { string_bytes text.new ≡ string_bytes text.old ++ plain name.now }

@@ -16,13 +16,11 @@ use std::alloc::Global;
 // The latest time that a field of stop_times.txt can say: 999:59:59.
 const LATEST_TIME: u32 = 3_599_999;
 
-/// The events at the place of a stop: each run of a trip that passes a row there at which riders can board and after which the
-/// trip goes on. Trips with periods of frequencies.txt are left out.
-///
-/// GTFS Schedule Reference, stop_times.txt.
-///
-/// # Errors
-/// `OutOfMemory` where memory ran out.
+// The events at the place of a stop: each run of a trip that passes a row there at which riders can board and after which the
+// trip goes on. Trips with frequencies of frequencies.txt are left out.
+//
+// GTFS Schedule Reference, stop_times.txt.
+// Errors: `OutOfMemory` where memory ran out.
 pub(crate) fn events<'a>(
     alloc: Global,
     feed: &Feed<'a>,
@@ -61,10 +59,10 @@ fn push_trip<'a>(
     Ok(())
 }
 
-// The event of a trip without periods at the row of this position, if riders can board there and the trip goes on.
+// The event of a trip without frequencies at the row of this position, if riders can board there and the trip goes on.
 fn event_at<'a>(feed: &Feed<'a>, number: usize, position: usize) -> Option<Event<'a>>
     requires trip { number < length feed.now.trips }
-    requires no_period { (d : TripRow) → (slice_index_or feed.now.trips number d).frequencies ≡ [] }
+    requires no_frequency { (d : TripRow) → (slice_index_or feed.now.trips number d).frequencies ≡ [] }
     ensures { IfSome result (λ e. (s : List ℕ) → is_in_place feed.now s e.stop.now ≡ true → IsEvent feed.now s e) }
 {
     let trip = feed.trip(number);

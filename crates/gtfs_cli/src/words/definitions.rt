@@ -30,8 +30,8 @@ const TIMES: &str = "T is an instant or a service date:\n  \
     @SECONDS  that many seconds after 1970-01-01T00:00:00Z, as @1711958400\n  \
     YYYYMMDD  where that service day begins in the time zone (noon less twelve hours), as 20240401";
 
-/// The program `gtfs` with all its commands. `--help` and `-h` ask for help, at the top and at each
-/// command; there is no command `help`.
+// The program `gtfs` with all its commands. `--help` and `-h` ask for help, at the top and at each
+// command; there is no command `help`.
 pub(super) fn gtfs<'w>(alloc: Global) -> Result<Command<'w>, AllocError>
     ensures { IfOk result (λ c. app_of c ≡ gtfs_app) }
 {
@@ -72,7 +72,7 @@ fn board<'w>(alloc: Global) -> Result<Command<'w>, AllocError>
     with_option(from, alloc, "until", "T", UNTIL)
 }
 
-// The command with one more text that must stand at its place among the words.
+// The command with one more text that must be given, known by its position among the words.
 fn with_word<'w>(
     command: Command<'w>,
     alloc: Global,

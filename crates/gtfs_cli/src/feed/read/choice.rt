@@ -5,10 +5,8 @@ use crate::feed::fault::FeedFault;
 use crate::feed::rows::{LocationType, PickupType};
 use gtfs_days::Exception;
 
-/// The kind of a place by its number (GTFS Schedule Reference, stops.txt, `location_type`).
-///
-/// # Errors
-/// `Unreadable` for a number above 4.
+// The kind of a location by its number (GTFS Schedule Reference, stops.txt, `location_type`).
+// Errors: `Unreadable` for a number above 4.
 pub(crate) fn location_type(number: u32) -> Result<LocationType, FeedFault>
     ensures { IfOk result (λ kind. kind ≡ location_of number) }
 {
@@ -22,10 +20,8 @@ pub(crate) fn location_type(number: u32) -> Result<LocationType, FeedFault>
     }
 }
 
-/// How riders board by its number (GTFS Schedule Reference, stop_times.txt, `pickup_type`).
-///
-/// # Errors
-/// `Unreadable` for a number above 3.
+// How riders board by its number (GTFS Schedule Reference, stop_times.txt, `pickup_type`).
+// Errors: `Unreadable` for a number above 3.
 pub(crate) fn pickup_type(number: u32) -> Result<PickupType, FeedFault>
     ensures { IfOk result (λ kind. kind ≡ pickup_of number) }
 {
@@ -38,10 +34,8 @@ pub(crate) fn pickup_type(number: u32) -> Result<PickupType, FeedFault>
     }
 }
 
-/// What an exception does by its number (GTFS Schedule Reference, calendar_dates.txt, `exception_type`).
-///
-/// # Errors
-/// `Unreadable` for a number other than 1 and 2.
+// What an exception does by its number (GTFS Schedule Reference, calendar_dates.txt, `exception_type`).
+// Errors: `Unreadable` for a number other than 1 and 2.
 pub(crate) fn exception(number: u32) -> Result<Exception, FeedFault>
     ensures { IfOk result (λ kind. kind ≡ exception_of number) }
 {
@@ -52,10 +46,8 @@ pub(crate) fn exception(number: u32) -> Result<Exception, FeedFault>
     }
 }
 
-/// Whether the number of a yes or no is that of yes, 1.
-///
-/// # Errors
-/// `Unreadable` for a number above 1.
+// Whether the number of a yes or no is that of yes, 1.
+// Errors: `Unreadable` for a number above 1.
 pub(crate) fn is_one(number: u32) -> Result<bool, FeedFault>
     ensures { IfOk result (λ yes. yes ≡ (number == 1)) }
 {

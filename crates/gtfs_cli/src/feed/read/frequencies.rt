@@ -1,18 +1,19 @@
-ghost use Rattle.std.specs.Prelude.{◌≡◌, All, IfOk, map};
+ghost use Rattle.std.specs.Prelude.{◌≡◌, ◌==◌, All, IfOk, map};
 ghost use Rattle.gtfs_table.specs.declared.file.File.TheVariants as file;
-ghost use Rattle.gtfs_cli.specs.Values.{rows};
-ghost use Rattle.gtfs_cli.specs.ReadRows.{IsPeriod, column_in, trip_period, trip_period_in};
+ghost use Rattle.gtfs_table.specs.Rows.{rows};
+ghost use Rattle.gtfs_table.specs.Tables.{field_under};
+ghost use Rattle.gtfs_cli.specs.ReadRows.{IsFrequency, column_in, trip_frequency, trip_frequency_in};
+ghost use Rattle.gtfs_cli.specs.Values.{count_or_0, time_or_0};
 
 use crate::feed::fault::FeedFault;
 use crate::feed::read::choice::is_one;
-use crate::feed::read::record::{is_row, text_at};
 use crate::feed::read::text::id;
 use crate::feed::read::value::{optional_count, positive_count, time};
 use crate::feed::rows::Frequency;
-use gtfs_table::{File, Tables};
+use gtfs_table::{File, Record, Tables};
 use std::alloc::Global;
 
-/// The places of the columns of frequencies.txt.
+// The indices of the columns of frequencies.txt.
 #[derive(Clone, Copy)]
 struct FrequencyColumns {
     trip_id: Option<usize>,
@@ -22,25 +23,20 @@ struct FrequencyColumns {
     exact_times: Option<usize>,
 }
 
-/// The rows of frequencies.txt, in the file's order.
-///
-/// # Errors
-/// `Unreadable` where a row lacks its id, a time or the headway, where a value is not of its kind, where the headway is
-/// 0 or the end is not after the start, and where the id holds a control character; `OutOfMemory`.
+// The rows of frequencies.txt, in the file's order.
+// Errors: `Unreadable` where a row lacks its id, a time or the headway, where a value is not of its kind, where the
+// headway is 0 or the end is not after the start, and where the id holds a control character; `OutOfMemory`.
 pub fn read_frequencies<'a>(
     alloc: Global,
     tables: &'a Tables,
 ) -> Result<Vec<Frequency<'a>>, FeedFault>
-    ensures content { IfOk result (λ periods. map trip_period periods.items ≡ map (trip_period_in tables.now) (rows tables.now file.Frequencies)) }
-    ensures periods { IfOk result (λ periods. All IsPeriod periods.items) }
+    ensures content { IfOk result (λ frequencies. map trip_frequency frequencies.items ≡ map (trip_frequency_in tables.now) (rows tables.now file.Frequencies)) }
+    ensures frequencies { IfOk result (λ frequencies. All IsFrequency frequencies.items) }
 {
     let columns = FrequencyColumns::of(tables);
     let mut frequencies = Vec::new(alloc);
-    for n in 0..tables.records(File::Frequencies).saturating_sub(1) {
-        let row = n + 2;
-        if is_row(tables, File::Frequencies, row) {
-            frequencies.push(columns.frequency(tables, row)?)?;
-        }
+    for (_, record) in tables.rows(File::Frequencies) {
+        frequencies.push(columns.frequency(&record)?)?;
     }
     Ok(frequencies)
 }
@@ -62,31 +58,24 @@ impl FrequencyColumns {
         }
     }
 
-    fn frequency<'a>(self, tables: &'a Tables, row: usize) -> Result<Frequency<'a>, FeedFault>
-        requires trip_id { self.trip_id ≡ column_in tables.now file.Frequencies "trip_id" }
-        requires start_time { self.start_time ≡ column_in tables.now file.Frequencies "start_time" }
-        requires end_time { self.end_time ≡ column_in tables.now file.Frequencies "end_time" }
-        requires headway_secs { self.headway_secs ≡ column_in tables.now file.Frequencies "headway_secs" }
-        requires exact_times { self.exact_times ≡ column_in tables.now file.Frequencies "exact_times" }
-        ensures content { IfOk result (λ period. trip_period period ≡ trip_period_in tables.now row) }
-        ensures period { IfOk result IsPeriod }
+    fn frequency<'a>(self, row: &Record<'a>) -> Result<Frequency<'a>, FeedFault>
+        ensures content { IfOk result (λ frequency. trip_frequency frequency ≡ (
+          field_under row.now self.trip_id,
+          record {
+            start_time = time_or_0 (field_under row.now self.start_time);
+            end_time = time_or_0 (field_under row.now self.end_time);
+            headway_secs = count_or_0 (field_under row.now self.headway_secs);
+            exact_times = count_or_0 (field_under row.now self.exact_times) == 1;
+          },
+        )) }
+        ensures frequency { IfOk result IsFrequency }
     {
         let frequency = Frequency {
-            trip_id: id(text_at(tables, File::Frequencies, row, self.trip_id))?,
-            start_time: time(text_at(tables, File::Frequencies, row, self.start_time))?,
-            end_time: time(text_at(tables, File::Frequencies, row, self.end_time))?,
-            headway_secs: positive_count(text_at(
-                tables,
-                File::Frequencies,
-                row,
-                self.headway_secs,
-            ))?,
-            exact_times: is_one(optional_count(text_at(
-                tables,
-                File::Frequencies,
-                row,
-                self.exact_times,
-            ))?)?,
+            trip_id: id(row.value(self.trip_id))?,
+            start_time: time(row.value(self.start_time))?,
+            end_time: time(row.value(self.end_time))?,
+            headway_secs: positive_count(row.value(self.headway_secs))?,
+            exact_times: is_one(optional_count(row.value(self.exact_times))?)?,
         };
         if frequency.end_time <= frequency.start_time {
             return Err(FeedFault::Unreadable);

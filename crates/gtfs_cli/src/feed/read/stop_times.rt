@@ -1,18 +1,20 @@
 ghost use Rattle.std.specs.Prelude.{◌≡◌, All, IfOk, map};
 ghost use Rattle.gtfs_table.specs.declared.file.File.TheVariants as file;
-ghost use Rattle.gtfs_cli.specs.Values.{rows};
+ghost use Rattle.gtfs_table.specs.Rows.{rows};
+ghost use Rattle.gtfs_table.specs.Tables.{field_under};
 ghost use Rattle.gtfs_cli.specs.ReadRows.{HasTimes, column_in, trip_stop_time, trip_stop_time_in};
+ghost use Rattle.gtfs_cli.specs.Reading.{pickup_of};
+ghost use Rattle.gtfs_cli.specs.Values.{count_or_0, text_if_any, time_if_any};
 
 use crate::feed::fault::FeedFault;
 use crate::feed::read::choice::pickup_type;
-use crate::feed::read::record::{is_row, text_at};
 use crate::feed::read::text::{id, optional};
 use crate::feed::read::value::{count, optional_count, optional_time};
 use crate::feed::rows::StopTime;
-use gtfs_table::{File, Tables};
+use gtfs_table::{File, Record, Tables};
 use std::alloc::Global;
 
-/// The places of the columns of stop_times.txt.
+// The indices of the columns of stop_times.txt.
 #[derive(Clone, Copy)]
 struct StopTimeColumns {
     trip_id: Option<usize>,
@@ -24,11 +26,9 @@ struct StopTimeColumns {
     pickup_type: Option<usize>,
 }
 
-/// The rows of stop_times.txt, in the file's order.
-///
-/// # Errors
-/// `Unreadable` where a row lacks an id or its sequence, where a time, the sequence or `pickup_type` is neither empty
-/// nor of its kind, and where an id or the headsign holds a control character; `OutOfMemory`.
+// The rows of stop_times.txt, in the file's order.
+// Errors: `Unreadable` where a row lacks an id or its sequence, where a time, the sequence or `pickup_type` is neither
+// empty nor of its kind, and where an id or the headsign holds a control character; `OutOfMemory`.
 pub fn read_stop_times<'a>(
     alloc: Global,
     tables: &'a Tables,
@@ -38,11 +38,8 @@ pub fn read_stop_times<'a>(
 {
     let columns = StopTimeColumns::of(tables);
     let mut stop_times = Vec::new(alloc);
-    for n in 0..tables.records(File::StopTimes).saturating_sub(1) {
-        let row = n + 2;
-        if is_row(tables, File::StopTimes, row) {
-            stop_times.push(columns.stop_time(tables, row)?)?;
-        }
+    for (_, record) in tables.rows(File::StopTimes) {
+        stop_times.push(columns.stop_time(&record)?)?;
     }
     Ok(stop_times)
 }
@@ -68,35 +65,28 @@ impl StopTimeColumns {
         }
     }
 
-    fn stop_time<'a>(self, tables: &'a Tables, row: usize) -> Result<StopTime<'a>, FeedFault>
-        requires trip_id { self.trip_id ≡ column_in tables.now file.StopTimes "trip_id" }
-        requires arrival_time { self.arrival_time ≡ column_in tables.now file.StopTimes "arrival_time" }
-        requires departure_time { self.departure_time ≡ column_in tables.now file.StopTimes "departure_time" }
-        requires stop_id { self.stop_id ≡ column_in tables.now file.StopTimes "stop_id" }
-        requires stop_sequence { self.stop_sequence ≡ column_in tables.now file.StopTimes "stop_sequence" }
-        requires stop_headsign { self.stop_headsign ≡ column_in tables.now file.StopTimes "stop_headsign" }
-        requires pickup_type { self.pickup_type ≡ column_in tables.now file.StopTimes "pickup_type" }
-        ensures content { IfOk result (λ stop_time. trip_stop_time stop_time ≡ trip_stop_time_in tables.now row) }
+    fn stop_time<'a>(self, row: &Record<'a>) -> Result<StopTime<'a>, FeedFault>
+        ensures content { IfOk result (λ stop_time. trip_stop_time stop_time ≡ (
+          field_under row.now self.trip_id,
+          record {
+            arrival_time = time_if_any (field_under row.now self.arrival_time);
+            departure_time = time_if_any (field_under row.now self.departure_time);
+            stop_id = field_under row.now self.stop_id;
+            stop_sequence = count_or_0 (field_under row.now self.stop_sequence);
+            stop_headsign = text_if_any (field_under row.now self.stop_headsign);
+            pickup_type = pickup_of (count_or_0 (field_under row.now self.pickup_type));
+          },
+        )) }
         ensures times { IfOk result HasTimes }
     {
         Ok(StopTime {
-            trip_id: id(text_at(tables, File::StopTimes, row, self.trip_id))?,
-            stop_sequence: count(text_at(tables, File::StopTimes, row, self.stop_sequence))?,
-            stop_id: id(text_at(tables, File::StopTimes, row, self.stop_id))?,
-            arrival_time: optional_time(text_at(tables, File::StopTimes, row, self.arrival_time))?,
-            departure_time: optional_time(text_at(
-                tables,
-                File::StopTimes,
-                row,
-                self.departure_time,
-            ))?,
-            stop_headsign: optional(text_at(tables, File::StopTimes, row, self.stop_headsign))?,
-            pickup_type: pickup_type(optional_count(text_at(
-                tables,
-                File::StopTimes,
-                row,
-                self.pickup_type,
-            ))?)?,
+            trip_id: id(row.value(self.trip_id))?,
+            stop_sequence: count(row.value(self.stop_sequence))?,
+            stop_id: id(row.value(self.stop_id))?,
+            arrival_time: optional_time(row.value(self.arrival_time))?,
+            departure_time: optional_time(row.value(self.departure_time))?,
+            stop_headsign: optional(row.value(self.stop_headsign))?,
+            pickup_type: pickup_type(optional_count(row.value(self.pickup_type))?)?,
         })
     }
 }

@@ -1,17 +1,15 @@
-ghost use Rattle.std.specs.Prelude.{◌≡◌, ◌<◌, IfOk, Ok, pos, unwrap_or};
-ghost use Rattle.std.specs.Result.{result_ok};
-ghost use Rattle.gtfs_field.specs.Kinds.{count_of, date_of, time_of};
+ghost use Rattle.std.specs.Prelude.{◌≡◌, ◌<◌, IfOk, Ok};
+ghost use Rattle.gtfs_field.specs.Kinds.{time_of};
 ghost use Rattle.gtfs_cli.specs.ReadRows.{IsDay, IsTime, IsTimeIfAny};
+ghost use Rattle.gtfs_cli.specs.Values.{count_or_0, date_or_0, time_if_any};
 
 use crate::feed::fault::FeedFault;
 use gtfs_field::{read_count, read_date, read_time};
 
-/// A time that may be missing, in seconds from the origin of the service day.
-///
-/// # Errors
-/// `Unreadable` where the text is not empty and no time.
+// A time that may be missing, in seconds from the origin of the service day.
+// Errors: `Unreadable` where the text is not empty and no time.
 pub(crate) fn optional_time(text: &str) -> Result<Option<u32>, FeedFault>
-    ensures value { IfOk result (λ time. time ≡ result_ok (time_of text.now)) }
+    ensures value { IfOk result (λ time. time ≡ time_if_any text.now) }
     ensures bound { IfOk result IsTimeIfAny }
 {
     if text.is_empty() {
@@ -20,10 +18,8 @@ pub(crate) fn optional_time(text: &str) -> Result<Option<u32>, FeedFault>
     Ok(Some(time(text)?))
 }
 
-/// A time that has to be there, in seconds from the origin of the service day.
-///
-/// # Errors
-/// `Unreadable` for every text that is no time, the empty one too.
+// A time that has to be there, in seconds from the origin of the service day.
+// Errors: `Unreadable` for every text that is no time, the empty one too.
 pub(crate) fn time(text: &str) -> Result<u32, FeedFault>
     ensures value { IfOk result (λ time. time_of text.now ≡ Ok time) }
     ensures bound { IfOk result IsTime }
@@ -34,12 +30,10 @@ pub(crate) fn time(text: &str) -> Result<u32, FeedFault>
     }
 }
 
-/// A date that has to be there, as its number of days after 1970-01-01.
-///
-/// # Errors
-/// `Unreadable` for every text that is no date, the empty one too.
+// A date that has to be there, as its number of days after 1970-01-01.
+// Errors: `Unreadable` for every text that is no date, the empty one too.
 pub(crate) fn date(text: &str) -> Result<i32, FeedFault>
-    ensures value { IfOk result (λ day. day ≡ unwrap_or (result_ok (date_of text.now)) (pos 0)) }
+    ensures value { IfOk result (λ day. day ≡ date_or_0 text.now) }
     ensures day { IfOk result IsDay }
 {
     match read_date(text) {
@@ -48,12 +42,10 @@ pub(crate) fn date(text: &str) -> Result<i32, FeedFault>
     }
 }
 
-/// A count, or the number of a choice, that has to be there.
-///
-/// # Errors
-/// `Unreadable` for every text that is no count, the empty one too.
+// A count, or the number of a choice, that has to be there.
+// Errors: `Unreadable` for every text that is no count, the empty one too.
 pub(crate) fn count(text: &str) -> Result<u32, FeedFault>
-    ensures { IfOk result (λ n. n ≡ unwrap_or (result_ok (count_of text.now)) 0) }
+    ensures { IfOk result (λ n. n ≡ count_or_0 text.now) }
 {
     match read_count(text) {
         Ok(number) => Ok(number),
@@ -61,12 +53,10 @@ pub(crate) fn count(text: &str) -> Result<u32, FeedFault>
     }
 }
 
-/// A count, or the number of a choice, whose empty value means 0.
-///
-/// # Errors
-/// `Unreadable` where the text is not empty and no count.
+// A count, or the number of a choice, whose empty value means 0.
+// Errors: `Unreadable` where the text is not empty and no count.
 pub(crate) fn optional_count(text: &str) -> Result<u32, FeedFault>
-    ensures { IfOk result (λ n. n ≡ unwrap_or (result_ok (count_of text.now)) 0) }
+    ensures { IfOk result (λ n. n ≡ count_or_0 text.now) }
 {
     if text.is_empty() {
         return Ok(0);
@@ -74,13 +64,11 @@ pub(crate) fn optional_count(text: &str) -> Result<u32, FeedFault>
     count(text)
 }
 
-/// A count above 0 that has to be there.
-///
-/// # Errors
-/// `Unreadable` for every text that is no count, the empty one too, and for 0.
+// A count above 0 that has to be there.
+// Errors: `Unreadable` for every text that is no count, the empty one too, and for 0.
 pub(crate) fn positive_count(text: &str) -> Result<u32, FeedFault>
     ensures positive { IfOk result (λ n. 0 < n) }
-    ensures value { IfOk result (λ n. n ≡ unwrap_or (result_ok (count_of text.now)) 0) }
+    ensures value { IfOk result (λ n. n ≡ count_or_0 text.now) }
 {
     match count(text)? {
         0 => Err(FeedFault::Unreadable),

@@ -1,21 +1,19 @@
-ghost use Rattle.std.specs.Prelude.{◌≡◌, ◌==◌, ◌∷◌, [], All, IfOk, map, unwrap_or};
-ghost use Rattle.std.specs.Result.{result_ok};
-ghost use Rattle.gtfs_field.specs.Kinds.{count_of};
-ghost use Rattle.gtfs_table.specs.Tables.{field_under, record_at};
+ghost use Rattle.std.specs.Prelude.{◌≡◌, ◌∷◌, [], All, IfOk, map};
+ghost use Rattle.gtfs_table.specs.Tables.{field_under};
 ghost use Rattle.gtfs_table.specs.declared.file.File.TheVariants as file;
-ghost use Rattle.gtfs_cli.specs.Values.{records_in, rows};
-ghost use Rattle.gtfs_cli.specs.ReadRows.{IsOrdered, column_in, service_week, service_week_in};
+ghost use Rattle.gtfs_table.specs.Rows.{rows};
+ghost use Rattle.gtfs_cli.specs.ReadRows.{IsOrdered, column_in, runs_under, service_week, service_week_in};
+ghost use Rattle.gtfs_cli.specs.Values.{date_or_0};
 
 use crate::feed::fault::FeedFault;
 use crate::feed::read::calendar::CalendarWeek;
 use crate::feed::read::choice::is_one;
-use crate::feed::read::record::{is_row, text_at};
 use crate::feed::read::text::id;
 use crate::feed::read::value::{count, date};
-use gtfs_table::{File, Tables};
+use gtfs_table::{File, Record, Tables};
 use std::alloc::Global;
 
-/// The places of the columns of calendar.txt, those of the weekdays from Monday on.
+// The indices of the columns of calendar.txt, those of the weekdays from Monday on.
 #[derive(Clone, Copy)]
 struct WeekColumns {
     service_id: Option<usize>,
@@ -24,22 +22,17 @@ struct WeekColumns {
     end_date: Option<usize>,
 }
 
-/// The rows of calendar.txt, in the file's order. None ends before it starts.
-///
-/// # Errors
-/// `Unreadable` where a row lacks a value, where a weekday is not 0 or 1 or a date is none, where the row ends before it
-/// starts, and where the id holds a control character; `OutOfMemory`.
+// The rows of calendar.txt, in the file's order. None ends before it starts.
+// Errors: `Unreadable` where a row lacks a value, where a weekday is not 0 or 1 or a date is none, where the row ends
+// before it starts, and where the id holds a control character; `OutOfMemory`.
 pub fn read_weeks<'a>(alloc: Global, tables: &'a Tables) -> Result<Vec<CalendarWeek<'a>>, FeedFault>
     ensures content { IfOk result (λ weeks. map service_week weeks.items ≡ map (service_week_in tables.now) (rows tables.now file.Calendar)) }
     ensures ordered { IfOk result (λ weeks. All IsOrdered weeks.items) }
 {
     let columns = WeekColumns::of(tables);
     let mut weeks = Vec::new(alloc);
-    for n in 0..tables.records(File::Calendar).saturating_sub(1) {
-        let row = n + 2;
-        if is_row(tables, File::Calendar, row) {
-            weeks.push(columns.week(tables, row)?)?;
-        }
+    for (_, record) in tables.rows(File::Calendar) {
+        weeks.push(columns.week(&record)?)?;
     }
     Ok(weeks)
 }
@@ -67,49 +60,58 @@ impl WeekColumns {
         }
     }
 
-    fn week<'a>(self, tables: &'a Tables, row: usize) -> Result<CalendarWeek<'a>, FeedFault>
-        requires service_id { self.service_id ≡ column_in tables.now file.Calendar "service_id" }
-        requires days { self.days ≡ column_in tables.now file.Calendar "monday" ∷ column_in tables.now file.Calendar "tuesday" ∷ column_in tables.now file.Calendar "wednesday" ∷ column_in tables.now file.Calendar "thursday" ∷ column_in tables.now file.Calendar "friday" ∷ column_in tables.now file.Calendar "saturday" ∷ column_in tables.now file.Calendar "sunday" ∷ [] }
-        requires start_date { self.start_date ≡ column_in tables.now file.Calendar "start_date" }
-        requires end_date { self.end_date ≡ column_in tables.now file.Calendar "end_date" }
-        ensures content { IfOk result (λ week. service_week week ≡ service_week_in tables.now row) }
+    fn week<'a>(self, row: &Record<'a>) -> Result<CalendarWeek<'a>, FeedFault>
+        ensures content { IfOk result (λ week. service_week week ≡ (
+          field_under row.now self.service_id,
+          record {
+            days = map (runs_under row.now) self.days;
+            start = date_or_0 (field_under row.now self.start_date);
+            end = date_or_0 (field_under row.now self.end_date);
+          },
+        )) }
         ensures ordered { IfOk result IsOrdered }
     {
-        let [
-            monday,
-            tuesday,
-            wednesday,
-            thursday,
-            friday,
-            saturday,
-            sunday,
-        ] = self.days;
-        let start = date(text_at(tables, File::Calendar, row, self.start_date))?;
-        let end = date(text_at(tables, File::Calendar, row, self.end_date))?;
+        let start = date(row.value(self.start_date))?;
+        let end = date(row.value(self.end_date))?;
         if end < start {
             return Err(FeedFault::Unreadable);
         }
-        let days = [
-            runs_on(tables, row, monday)?,
-            runs_on(tables, row, tuesday)?,
-            runs_on(tables, row, wednesday)?,
-            runs_on(tables, row, thursday)?,
-            runs_on(tables, row, friday)?,
-            runs_on(tables, row, saturday)?,
-            runs_on(tables, row, sunday)?,
-        ];
         Ok(CalendarWeek {
-            service_id: id(text_at(tables, File::Calendar, row, self.service_id))?,
-            days,
+            service_id: id(row.value(self.service_id))?,
+            days: weekdays(row, self.days)?,
             start,
             end,
         })
     }
 }
 
-/// Whether the row of a service says that it runs on the weekday of this column.
-fn runs_on(tables: &Tables, row: usize, weekday: Option<usize>) -> Result<bool, FeedFault>
-    ensures { IfOk result (λ runs. runs ≡ (unwrap_or (result_ok (count_of (field_under (record_at (records_in tables.now file.Calendar) row) weekday))) 0 == 1)) }
+// Whether the row of a service says that it runs on the weekdays of these columns.
+fn weekdays(row: &Record<'_>, columns: [Option<usize>; 7]) -> Result<[bool; 7], FeedFault>
+    ensures { IfOk result (λ days. days ≡ map (runs_under row.now) columns) }
 {
-    is_one(count(text_at(tables, File::Calendar, row, weekday))?)
+    let [
+        monday,
+        tuesday,
+        wednesday,
+        thursday,
+        friday,
+        saturday,
+        sunday,
+    ] = columns;
+    Ok([
+        runs_on(row, monday)?,
+        runs_on(row, tuesday)?,
+        runs_on(row, wednesday)?,
+        runs_on(row, thursday)?,
+        runs_on(row, friday)?,
+        runs_on(row, saturday)?,
+        runs_on(row, sunday)?,
+    ])
+}
+
+// Whether the row of a service says that it runs on the weekday of this column.
+fn runs_on(row: &Record<'_>, weekday: Option<usize>) -> Result<bool, FeedFault>
+    ensures { IfOk result (λ runs. runs ≡ runs_under row.now weekday) }
+{
+    is_one(count(row.value(weekday))?)
 }

@@ -1,5 +1,5 @@
 use Rattle.std.proofs.Common.{◌<◌, length, arith, ◌∙◌}
-use Rattle.gtfs_field.proofs.TimePlaces.{time_of-short, time_of-other, time_of-hours, time_of-middle, time_of-minutes, time_of-seconds, time_of-ok}
+use Rattle.gtfs_field.proofs.TimeColons.{time_of-short, time_of-other, time_of-hours, time_of-middle, time_of-minutes, time_of-seconds, time_of-ok}
 use Rattle.gtfs_field.proofs.clock.seconds_of.Goals as goal
 
 pub returns-in_default-clause-value : goal.returns-in_default-clause-value

@@ -1,6 +1,6 @@
 use Rattle.std.proofs.Common.{string_bytes}
 use Rattle.gtfs_rules.specs.Report.{problem_line}
-use Rattle.gtfs_rules.specs.View.{problem_of}
+use Rattle.gtfs_columns.specs.View.{problem_of}
 use Rattle.gtfs_cli.specs.Sending.{SendsBeginning}
 use Rattle.gtfs_cli.proofs.Parts.{line-begun, none-sent, on-error}
 use Rattle.gtfs_cli.proofs.commands.check.print_problem.Goals as goal

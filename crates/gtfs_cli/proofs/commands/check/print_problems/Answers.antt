@@ -1,6 +1,6 @@
 use Rattle.std.proofs.Common.{arith, map}
 use Rattle.gtfs_rules.specs.Report.{report_text}
-use Rattle.gtfs_rules.specs.View.{problem_of}
+use Rattle.gtfs_columns.specs.View.{problem_of}
 use Rattle.gtfs_cli.specs.Sending.{SendsBeginning}
 use Rattle.gtfs_cli.proofs.Begun.{counts-cut, line-cut}
 use Rattle.gtfs_cli.proofs.Parts.{on-error}

@@ -2,7 +2,7 @@ use Rattle.std.proofs.Common.{◌≤◌, map, take}
 use Rattle.std.specs.Prelude.{flat_map}
 use Rattle.std.specs.Io.KnownBytes.{Appends}
 use Rattle.gtfs_rules.specs.Report.{problem_line}
-use Rattle.gtfs_rules.specs.View.{problem_of}
+use Rattle.gtfs_columns.specs.View.{problem_of}
 use Rattle.gtfs_cli.proofs.commands.check.print_problems.Given as goal
 
 abbrev pub invariant-loop-problem : goal.invariant-loop-problem

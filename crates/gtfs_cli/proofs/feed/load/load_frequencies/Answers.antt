@@ -2,13 +2,14 @@ use Rattle.std.proofs.Common.{nat_cmp}
 use Rattle.std.specs.FinMap.{nat_cmp-IsAntisymmetric}
 use Rattle.std.proofs.lemmas.Cmp.{nat_cmp_total}
 use Rattle.gtfs_table.specs.declared.file.File.TheVariants as file
-use Rattle.gtfs_cli.specs.FeedView.{period_row}
-use Rattle.gtfs_cli.specs.Reading.{period_in}
-use Rattle.gtfs_cli.specs.Values.{rows, text_at}
+use Rattle.gtfs_cli.specs.FeedView.{frequency_row}
+use Rattle.gtfs_cli.specs.Reading.{frequency_in}
+use Rattle.gtfs_table.specs.Rows.{rows}
+use Rattle.gtfs_cli.specs.Values.{text_at}
 use Rattle.gtfs_cli.proofs.Assembled.{groups_made}
 use Rattle.gtfs_cli.proofs.feed.load.load_frequencies.Goals as goal
 
 pub returns-clause-rows : goal.returns-clause-rows
 returns-clause-rows c =
-    groups_made (λ t. t.trip_id.now) period_row (λ n. text_at c.args.tables.now file.Frequencies n "trip_id") (period_in c.args.tables.now) nat_cmp nat_cmp_total nat_cmp-IsAntisymmetric (λ r. r.start_time) (λ v. v.items)
+    groups_made (λ t. t.trip_id.now) frequency_row (λ n. text_at c.args.tables.now file.Frequencies n "trip_id") (frequency_in c.args.tables.now) nat_cmp nat_cmp_total nat_cmp-IsAntisymmetric (λ r. r.start_time) (λ v. v.items)
     c.in_ok-read_frequencies.field-0.items (rows c.args.tables.now file.Frequencies) c.by_trip_and_start.result c.in_ok-read_frequencies.ensures.content c.by_trip_and_start.ensures.rows c.by_trip_and_start.ensures.ascends

@@ -4,7 +4,7 @@ use Rattle.gtfs_table.specs.declared.file.File.TheVariants as file
 use Rattle.gtfs_cli.specs.FeedView.{route_row}
 use Rattle.gtfs_cli.specs.Key.{text_cmp}
 use Rattle.gtfs_cli.specs.Reading.{route_in}
-use Rattle.gtfs_cli.specs.Values.{rows}
+use Rattle.gtfs_table.specs.Rows.{rows}
 use Rattle.gtfs_cli.proofs.Assembled.{rows_made, text_antisymmetric}
 use Rattle.gtfs_cli.proofs.feed.load.load_routes.Goals as goal
 

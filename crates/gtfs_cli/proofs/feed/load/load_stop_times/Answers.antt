@@ -4,7 +4,8 @@ use Rattle.std.proofs.lemmas.Cmp.{nat_cmp_total}
 use Rattle.gtfs_table.specs.declared.file.File.TheVariants as file
 use Rattle.gtfs_cli.specs.FeedView.{stop_time_row}
 use Rattle.gtfs_cli.specs.Reading.{stop_row_in}
-use Rattle.gtfs_cli.specs.Values.{rows, text_at}
+use Rattle.gtfs_table.specs.Rows.{rows}
+use Rattle.gtfs_cli.specs.Values.{text_at}
 use Rattle.gtfs_cli.proofs.Assembled.{groups_made}
 use Rattle.gtfs_cli.proofs.feed.load.load_stop_times.Goals as goal
 

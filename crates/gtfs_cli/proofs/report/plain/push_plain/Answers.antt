@@ -1,6 +1,6 @@
 use Rattle.std.proofs.Common.{◌∙◌, ap, sym, ◌++◌, append_assoc, arith, string_bytes}
 use Rattle.std.specs.Prelude.{encode_utf8}
-use Rattle.gtfs_rules.specs.Values.{plain}
+use Rattle.gtfs_columns.specs.Values.{plain}
 use Rattle.gtfs_cli.proofs.PlainNames.{length-past, plain-past}
 use Rattle.gtfs_cli.proofs.report.plain.push_plain.Goals as goal
 
@@ -20,3 +20,10 @@ loop-character-preserved c =
       len = omega (arith, len, rest_len, c.loop-character.invariant.len);
       capacity = omega (arith, c.push.ensures.capacity, c.loop-character.invariant.capacity);
     }
+
+pub unwrap-requires : goal.unwrap-requires
+unwrap-requires c =
+    let name = c.loop-character.character-iterator.rest.now in
+    let later = c.next.new.self.rest.now in
+    let rest_len = length-past name later c.in-Some.character c.shown.result c.in-Some.ensures.steps.0 c.shown.ensures in
+    c.push.ensures.succeeds (omega (arith, rest_len, c.loop-character.invariant.len, c.loop-character.invariant.capacity, c.requires))

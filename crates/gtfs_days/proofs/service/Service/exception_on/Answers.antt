@@ -19,7 +19,7 @@ pub returns-in-Err : goal.returns-in-Err
 returns-in-Err c = λ kind.
     let fits : FitsSigned w32 c.number.result = search rules in
     let back : to_z w32 (of_z w32 c.number.result) ≡ c.args.day = to_z-of_z fits ∙ c.number.ensures.value in
-    let place : IsNonDecreasingBy (λ e. ordering_index (int_cmp e.0 c.args.day)) c.self.inside.exceptions.items
+    let searchable : IsNonDecreasingBy (λ e. ordering_index (int_cmp e.0 c.args.day)) c.self.inside.exceptions.items
     → IsPartitionPoint (λ e. int_cmp e.0 c.args.day ≡ Less) (λ e. int_cmp e.0 c.args.day ≡ Greater) c.self.inside.exceptions.items c.in-Err.field-0 =
     rw (← back, ← c.deref.ensures.value) (c.in-Err.ensures.position (λ e. e.0) (answers_always _ _ _ (λ f a r g called. search rules))) in
-    rw (← c.self.view_is) (missing_exception kind c.args.day c.self.inside.exceptions.items c.in-Err.field-0 c.self.invariant.1 place)
+    rw (← c.self.view_is) (missing_exception kind c.args.day c.self.inside.exceptions.items c.in-Err.field-0 c.self.invariant.1 searchable)

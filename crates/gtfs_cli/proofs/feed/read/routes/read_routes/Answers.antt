@@ -1,17 +1,21 @@
-use Rattle.std.proofs.Common.{sym, ◌∙◌}
+use Rattle.std.proofs.Common.{◌∙◌, ap, map}
+use Rattle.gtfs_table.proofs.RowFacts.{all_taken, listed_more, turn}
 use Rattle.gtfs_table.specs.declared.file.File.TheVariants as file
-use Rattle.gtfs_cli.specs.Values.{is_row, records_in}
 use Rattle.gtfs_cli.specs.Reading.{route_in}
-use Rattle.gtfs_cli.proofs.RowLemmas.{rows_skipped, rows_taken}
-use Rattle.gtfs_cli.proofs.feed.read.routes.read_routes.Goals.{then-is_row+in_ok-route+in_ok-push, else-is_row}
+use Rattle.gtfs_cli.specs.FeedView.{route_row}
 use Rattle.gtfs_cli.proofs.feed.read.routes.read_routes.Goals as goal
 
-pub loop-n-preserved : goal.loop-n-preserved
-loop-n-preserved c =
-    let g = route_in c.args.tables.now in
-    let p = is_row (records_in c.args.tables.now file.Routes) in
-    elim c.if-is_row.branch [
-      | then-is_row+in_ok-route+in_ok-push w ↦ rw (w.routes-is, w.in_ok-push.ensures.items)
-          (rows_taken _ g p _ _ c.loop-n.n c.loop-n.invariant (sym c.is_row.ensures ∙ w.if-is_row.true) w.in_ok-route.ensures)
-      | else-is_row w ↦ rw w.routes-is (rows_skipped _ g p _ c.loop-n.n c.loop-n.invariant (sym c.is_row.ensures ∙ w.if-is_row.false))
-    ]
+pub loop-record-preserved : goal.loop-record-preserved
+loop-record-preserved c =
+    let d = c.args.tables.now in
+    let from = c.into_iter-record-iterator.ensures.into_iter_gives ∙ c.rows-record-items.ensures in
+    let t = turn d file.Routes _ c.loop-record.yielded _ from c.loop-record.yielded_by _ c.in-Some.record _ c.in-Some.ensures.steps in
+    let said = rw (t.record_is, c.of-columns.ensures.route_id, c.of-columns.ensures.route_short_name, c.of-columns.ensures.route_long_name) at c.in_ok-route.ensures in
+    ap (map route_row) c.in_ok-push.ensures.items
+    ∙ listed_more c.loop-record.yielded _ c.in-Some.record route_row (route_in d) c.loop-record.routes.items _ c.loop-record.invariant said
+
+pub returns : goal.returns
+returns c =
+    let from = c.into_iter-record-iterator.ensures.into_iter_gives ∙ c.rows-record-items.ensures in
+    let all = all_taken c.args.tables.now file.Routes _ c.loop-record.yielded _ from c.loop-record.yielded_by c.in-None.ensures.steps.0 in
+    rw all at c.loop-record.invariant

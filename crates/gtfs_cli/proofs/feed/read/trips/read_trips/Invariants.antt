@@ -1,11 +1,8 @@
 use Rattle.std.proofs.Common.{◌≡◌, map}
-use Rattle.std.specs.Prelude.{filter}
-use Rattle.std.specs.List.{range_with_len}
-use Rattle.gtfs_table.specs.declared.file.File.TheVariants as file
-use Rattle.gtfs_cli.specs.Values.{is_row, records_in}
+use Rattle.gtfs_table.specs.Rows.{numbers}
 use Rattle.gtfs_cli.specs.ReadRows.{trip_texts, trip_texts_in}
 use Rattle.gtfs_cli.proofs.feed.read.trips.read_trips.Given as goal
 
 -- the rows so far
-abbrev pub invariant-loop-n : goal.invariant-loop-n
-invariant-loop-n l = map trip_texts l.trips.items ≡ map (trip_texts_in l.tables) (filter (is_row (records_in l.tables file.Trips)) (range_with_len 2 l.n))
+abbrev pub invariant-loop-record : goal.invariant-loop-record
+invariant-loop-record l = map trip_texts l.trips.items ≡ map (trip_texts_in l.tables) (numbers l.yielded)

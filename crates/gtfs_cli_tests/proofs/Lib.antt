@@ -1,0 +1,4 @@
+mod WorkedWords
+mod WorkedLines
+mod WorkedBoards
+mod WorkedReports

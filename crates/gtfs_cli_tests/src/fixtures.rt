@@ -1,0 +1,121 @@
+//! The feed and the zone file of the tests, and how a call of `run` ends.
+ghost use Rattle.std.specs.Prelude.{◌<◌, ◌-◌, ◌^◌};
+ghost use Rattle.std.specs.Option.{ForSome};
+
+use gtfs_cli::run;
+use gtfs_field::OutOfMemory;
+use gtfs_table::{MemoryFolders, MemoryOut};
+use std::alloc::Global;
+use std::process::Abort;
+use std::test::Fail;
+
+// Room for all that is written in these tests but where an output is to fail.
+pub(super) const ROOM: usize = 4_000;
+
+// The most bytes of a file that is read.
+pub(super) const LIMIT: u64 = 1_000;
+
+pub(super) const CHECK: [&str; 3] = ["gtfs", "check", "f1"];
+
+pub(super) const FIRST_LINE: &str =
+    "@1711958400/T1/28800/1/20240401\t2024-04-01 08:00:00+00:00\tS1\t10\t\ts\n";
+
+// A feed of three stops and one trip, which runs on 2024-04-01 alone.
+const FEED: &[(&str, &str)] = &[
+    (
+        "agency.txt",
+        "agency_name,agency_url,agency_timezone\nMetro,http://m.example,UTC\n",
+    ),
+    (
+        "stops.txt",
+        "stop_id,stop_name,stop_lat,stop_lon\n\
+S1,Mill,52.5,13.4\n\
+S2,Lake,52.6,13.5\n\
+S3,Hill,52.7,13.6\n",
+    ),
+    (
+        "routes.txt",
+        "route_id,route_short_name,route_type\nR1,10,3\n",
+    ),
+    ("trips.txt", "route_id,service_id,trip_id\nR1,C1,T1\n"),
+    (
+        "stop_times.txt",
+        "trip_id,arrival_time,departure_time,stop_id,stop_sequence\n\
+T1,08:00:00,08:00:00,S1,1\n\
+T1,08:10:00,08:10:00,S2,2\n",
+    ),
+    (
+        "calendar.txt",
+        "service_id,monday,tuesday,wednesday,thursday,friday,saturday,sunday,start_date,end_date\n\
+C1,1,1,1,1,1,1,1,20240401,20240401\n",
+    ),
+];
+
+// The words that ask for a board of the feed on the day of its trip.
+pub(super) fn asked<'w>(dir: &'w str, zone: &'w str, stop: &'w str) -> [&'w str; 11] {
+    [
+        "gtfs", "board", dir, "--zone", zone, "--stop", stop, "--from", "20240401", "--until",
+        "20240402",
+    ]
+}
+
+// The feed in the folder f1, and in the folder `.` the zone file z1, of UTC.
+pub(super) fn folders(alloc: Global) -> Result<MemoryFolders, OutOfMemory> {
+    filled(alloc, None)
+}
+
+// The same, of whose calls the one with this number, from 1, fails.
+pub(super) fn folders_failing_at(alloc: Global, call: u64) -> Result<MemoryFolders, OutOfMemory>
+    requires { call < 2 ^ 64 - 1 }
+{
+    filled(alloc, Some(call))
+}
+
+fn filled(alloc: Global, fail: Option<u64>) -> Result<MemoryFolders, OutOfMemory>
+    requires { ForSome fail (λ call. call < 2 ^ 64 - 1) }
+{
+    let mut folders = MemoryFolders::new(alloc, LIMIT, fail);
+    for (name, text) in FEED {
+        folders.put("f1", name, text.as_bytes())?;
+    }
+    put_utc(alloc, &mut folders, ".", "z1")?;
+    Ok(folders)
+}
+
+// Puts the zone file of UTC.
+pub(super) fn put_utc(
+    alloc: Global,
+    folders: &mut MemoryFolders,
+    folder: &str,
+    name: &str,
+) -> Result<(), OutOfMemory> {
+    let mut file = Vec::new(alloc);
+    for footer in ["", "\nUTC0\n"] {
+        file.extend_from_slice(b"TZif2")?;
+        file.extend_from_slice(&[0; 15])?;
+        // how many UT indicators, standard indicators, leap seconds, transitions, types and bytes of designations follow
+        for count in [0, 0, 0, 0, 1, 4] {
+            file.extend_from_slice(&[0, 0, 0, count])?;
+        }
+        file.extend_from_slice(b"\0\0\0\0\0\0UTC\0")?;
+        file.extend_from_slice(footer.as_bytes())?;
+    }
+    folders.put(folder, name, &file)
+}
+
+// The words end with this status, this output and this error output.
+pub(super) fn assert_ends(
+    rt: &impl Abort,
+    alloc: Global,
+    folders: &mut MemoryFolders,
+    words: &[&str],
+    (status, printed, told): (u8, &str, &str),
+) -> Result<(), Fail> {
+    let mut out = MemoryOut::new(alloc, ROOM)?;
+    let mut err = MemoryOut::new(alloc, ROOM)?;
+    let ended = run(alloc, words, folders, &mut out, &mut err);
+    assert_eq!(rt; str::from_utf8(err.bytes())?, told);
+    assert_eq!(rt; str::from_utf8(out.bytes())?, printed);
+    assert_eq!(rt; ended, status);
+    Ok(())
+}

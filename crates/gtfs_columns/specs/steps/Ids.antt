@@ -1,0 +1,32 @@
+-- The ids of one column of one file, and the first row of each.
+use Rattle.std.specs.Prelude.{◌≡◌, ℕ, List, Option}
+use Rattle.std.specs.List.Sorted.{IsStrictlySortedBy}
+use Rattle.std.specs.Ordering.{on}
+use Rattle.gtfs_table.specs.Folder.{text_cmp}
+use Rattle.gtfs_table.specs.Tables.{Dataset}
+use Rattle.gtfs_table.specs.declared.file.File.{File}
+use Rattle.gtfs_columns.specs.declared.id_row.IdRow.{IdRow}
+use Rattle.gtfs_columns.specs.steps.IdRows.{id_of, listed_row}
+use Rattle.gtfs_columns.specs.Rows.{row_with}
+
+-- a column of a file of a dataset
+pub record IdColumn : Type 0 where
+  pub dataset : Dataset
+  pub file : File
+  pub column : List ℕ
+
+abbrev pub ids_in : Dataset → File → List ℕ → IdColumn
+ids_in d x column = record { dataset = d; file = x; column = column }
+
+-- the first row with an id
+abbrev pub first_row_with : IdColumn → List ℕ → Option ℕ
+first_row_with i id = row_with i.dataset i.file i.column id
+
+-- of the rows with an id the first is listed first
+abbrev pub ListsFirstRows : IdColumn → List IdRow → Type 0
+ListsFirstRows i rows = (id : List ℕ) → listed_row rows id ≡ first_row_with i id
+
+-- each id once, in order, with its first row
+pub record IsIdIndex (i : IdColumn) (rows : List IdRow) : Type 0 where
+  pub ascending : IsStrictlySortedBy (on id_of text_cmp) rows
+  pub first : ListsFirstRows i rows

@@ -1,0 +1,58 @@
+//! The columns of a GTFS Schedule dataset, the values in them, and the problems that they can have.
+//!
+//! The crates that judge a dataset stand on this one, each with its own rules, and so does whatever reads typed values
+//! from a dataset that passed: a value is read in one way.
+//!
+//! - The kept [`Column`]s of each file: name, [`Kind`], and what an empty value is.
+//! - [`values`] reads the value of a text by its kind, as an id, a count, a choice, a time, a date, a colour or a
+//!   coordinate, and answers None where there is none. In tables that pass, that is where the text is empty and
+//!   nowhere else; so [`present`] reads what is always there, and answers the value itself.
+//! - A column is found once, by its index in the header, and then read record after record (`Tables::column`,
+//!   `Record::value` of `gtfs_table`).
+//! - [`Ids`] are the first rows of the ids in a column, [`Finder`] looks such rows up, and [`FeedIds`] has all those
+//!   that other files name. [`stop_types`] are the location types of stops.
+//! - A [`Code`] says what is wrong, and a [`Problem`] where: in which [`FileName`], row and column. [`Found`] gathers
+//!   the problems that were found.
+//!
+//! A column is found once and then read row after row:
+//!
+//! ```text
+//! let sequence = tables.column(File::StopTimes, "stop_sequence");
+//! for (row, record) in tables.rows(File::StopTimes) {
+//!     let number = values::count(record.value(sequence));
+//! }
+//! ```
+//!
+//! When a problem holds stands in `specs/`, a file for each topic: files, columns, fields, keys and references, presence,
+//! stops, trips, periods and services; and the columns, keys and references of the nine files as data. What only the steps
+//! of a check need stands in `specs/steps/`.
+#![tactic(auto)]
+
+mod cell;
+mod code;
+mod columns;
+mod feed_ids;
+mod file_name;
+mod finder;
+mod found;
+mod id_row;
+mod ids;
+mod location_types;
+pub mod present;
+mod problem;
+pub mod values;
+
+pub use cell::{cell_code, fault_code, has_control, is_required, length_code, read_choice};
+pub use code::Code;
+pub use columns::{
+    Column, Empty, Kind, agency_columns, calendar_columns, calendar_dates_columns,
+    frequencies_columns, routes_columns, stop_times_columns, stops_columns, transfers_columns,
+    trips_columns,
+};
+pub use feed_ids::FeedIds;
+pub use file_name::FileName;
+pub use finder::Finder;
+pub use found::Found;
+pub use ids::Ids;
+pub use location_types::{is_one_of, stop_types, type_of};
+pub use problem::Problem;

@@ -1,0 +1,4 @@
+mod WorkedCounts
+mod WorkedDays
+mod WorkedTables
+mod WorkedTexts

@@ -1,0 +1,39 @@
+-- Counts of calls and of failures that are full.
+use Rattle.std.proofs.Common.{◌≡◌, ◌-◌, ◌^◌, codes, refl, false, Some, Err}
+use Rattle.std.specs.FinMap as finite
+use Rattle.gtfs_table.specs.Device.{counted}
+use Rattle.gtfs_table.specs.Held.{Held, is_failing, after_call, names_answer}
+use Rattle.gtfs_table.specs.declared.folders.FolderFault.TheVariants.{Read}
+
+-- a count of failures rises to 2^64 - 1 and stays there
+filled : counted (2 ^ 64 - 2) ≡ 2 ^ 64 - 1
+filled = refl
+
+full : counted (2 ^ 64 - 1) ≡ 2 ^ 64 - 1
+full = refl
+
+-- folders of which the next call fails, the one with the greatest number that can
+abbrev before : Held
+before = record { store = finite.empty; limit = 0; fail = Some (2 ^ 64 - 2); calls = 2 ^ 64 - 3; failures = 2 ^ 64 - 1 }
+
+abbrev after : Held
+after = after_call before
+
+abbrev last : Held
+last = after_call after
+
+fails : names_answer before (codes "f1") ≡ Err Read
+fails = refl
+
+failures_stay : after.failures ≡ 2 ^ 64 - 1
+failures_stay = refl
+
+-- no later call fails, even where the count of calls stays
+answers : is_failing after ≡ false
+answers = refl
+
+answers_last : is_failing last ≡ false
+answers_last = refl
+
+stays : after_call last ≡ last
+stays = refl

@@ -1,0 +1,30 @@
+//! The lines of faults, which the program prints, and their numbers.
+use gtfs_field::FieldFault;
+use gtfs_table::FolderFault;
+use std::test::Fail;
+
+// The program prints these lines after a path.
+#[test]
+fn faults_of_folders(rt: HostRuntime) -> Result<(), Fail> {
+    let lines = [
+        (FolderFault::Read, 1, "cannot be read"),
+        (FolderFault::TooLarge, 2, "holds a file over the limit"),
+        (FolderFault::OutOfMemory, 3, "out of memory"),
+        (FolderFault::NoFolder, 4, "is not there"),
+        (FolderFault::Write, 5, "cannot be written"),
+    ];
+    for (fault, number, line) in lines {
+        assert_eq!(rt; fault as u8, number);
+        assert_eq!(rt; format!(in rt.alloc(); "{fault}")?.as_str(), line);
+    }
+    Ok(())
+}
+
+#[test]
+fn faults_of_fields(rt: HostRuntime) -> Result<(), Fail> {
+    let lines = format!(in rt.alloc(); "{}; {}", FieldFault::Form, FieldFault::Range)?;
+    assert_eq!(rt; lines.as_str(), "not of this form; out of range");
+    assert_eq!(rt; FieldFault::Form as u8, 1);
+    assert_eq!(rt; FieldFault::Range as u8, 2);
+    Ok(())
+}

@@ -1,0 +1,97 @@
+//! Outputs: a text goes out whole, or up to where its output fails.
+use gtfs_table::{Failed, MemoryOut, Out, OutFault, WriteOut, write_text};
+use std::io;
+use std::io::{Error, ErrorKind, Write};
+use std::test::Fail;
+
+// Takes one byte a call, after an interruption, until its room ends; then it takes none.
+#[derive(Drop)]
+struct Trickle {
+    text: Vec<u8>,
+    room: usize,
+    is_interrupted: bool,
+}
+
+impl Write for Trickle {
+    fn write(&mut self, buf: &[u8]) -> io::Result<usize> {
+        self.is_interrupted = !self.is_interrupted;
+        if self.is_interrupted {
+            return Err(Error::from(ErrorKind::Interrupted));
+        }
+        match buf {
+            [first, ..] if self.text.len() < self.room => {
+                self.text.push(*first)?;
+                Ok(1)
+            }
+            _ => Ok(0),
+        }
+    }
+
+    fn flush(&mut self) -> io::Result<()> {
+        Err(Error::from(ErrorKind::BrokenPipe))
+    }
+}
+
+fn trickling(rt: HostRuntime, room: usize) -> WriteOut<Trickle> {
+    WriteOut::new(Trickle {
+        text: Vec::new(rt.alloc()),
+        room,
+        is_interrupted: false,
+    })
+}
+
+#[test]
+fn a_text_goes_out_whole_or_up_to_its_room(rt: HostRuntime) -> Result<(), Fail> {
+    let text = b"departure";
+    for room in 0..12 {
+        let mut out = MemoryOut::new(rt.alloc(), room)?;
+        let fault = write_text(&mut out, text).err();
+        let written = room.min(text.len());
+        assert_eq!(rt; out.bytes(), &text[..written]);
+        assert_eq!(rt; fault, (room < 9).then_some(OutFault { written: room }));
+        assert_eq!(rt; out.failures(), u64::from(room < 9));
+    }
+    Ok(())
+}
+
+#[test]
+fn an_output_in_memory_fails_where_its_room_ends(rt: HostRuntime) -> Result<(), Fail> {
+    let mut out = MemoryOut::new(rt.alloc(), 10)?;
+    assert_eq!(rt; out.write(b"E07 stop"), Ok(8));
+    assert_eq!(rt; out.write(b""), Ok(0));
+    assert_eq!(rt; out.write(b"_times.txt"), Ok(2));
+    assert_eq!(rt; out.write(b"imes.txt"), Err(Failed));
+    assert_eq!(rt; out.write(b""), Ok(0));
+    assert_eq!(rt; out.bytes(), b"E07 stop_t".as_slice());
+    assert_eq!(rt; out.failures(), 1);
+    Ok(())
+}
+
+#[test]
+fn a_writer_may_take_one_byte_a_call(rt: HostRuntime) {
+    let mut out = trickling(rt, 9);
+    assert_eq!(rt; write_text(&mut out, b"departure"), Ok(()));
+    assert_eq!(rt; out.failures(), 0);
+    assert_eq!(rt; write_text(&mut out, b"s"), Err(OutFault { written: 0 }));
+    assert_eq!(rt; out.failures(), 1);
+    assert_eq!(rt; out.flush(), Err(Failed));
+    assert_eq!(rt; out.failures(), 2);
+}
+
+#[test]
+fn a_writer_that_takes_no_more_fails(rt: HostRuntime) {
+    let mut out = trickling(rt, 4);
+    assert_eq!(rt;
+        write_text(&mut out, b"departure"),
+        Err(OutFault { written: 4 })
+    );
+    assert_eq!(rt; out.failures(), 1);
+}
+
+#[test]
+fn a_vector_is_a_writer(rt: HostRuntime) {
+    let mut out = WriteOut::new(Vec::new(rt.alloc()));
+    assert_eq!(rt; write_text(&mut out, b"stop_times.txt"), Ok(()));
+    assert_eq!(rt; out.flush(), Ok(()));
+    assert_eq!(rt; out.failures(), 0);
+}

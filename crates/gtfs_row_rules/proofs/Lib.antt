@@ -1,0 +1,11 @@
+pub mod FileFacts
+pub mod HeaderFacts
+pub mod HeaderRowFacts
+pub mod KeyFacts
+pub mod KeyParts
+pub mod KeySteps
+pub mod LocatedFacts
+pub mod PresenceFacts
+pub mod SingleKeyFacts
+pub mod StopKindFacts
+pub mod ZoneFacts

@@ -1,0 +1,112 @@
+-- What is reported of values that are missing or forbidden beside others.
+use Rattle.std.proofs.Common.{◌≡◌, ℕ, List, [], ◌∷◌, true, Bool, refl, codes}
+use Rattle.std.specs.Prelude.{◌&&◌, ◌||◌, pos, int_le, is_some}
+use Rattle.std.specs.List.{list_any}
+use Rattle.gtfs_table.specs.Tables.{Dataset}
+use Rattle.gtfs_table.specs.declared.file.File.{File}
+use Rattle.gtfs_table.specs.declared.file.File.TheVariants as file
+use Rattle.gtfs_columns.specs.declared.code.Code.TheVariants as code
+use Rattle.gtfs_columns.specs.Columns.{id}
+use Rattle.gtfs_columns.specs.steps.Found.{Reports}
+use Rattle.gtfs_columns.specs.steps.Picks.{at_column, in_file, of_codes}
+use Rattle.gtfs_columns.specs.PresenceRules.{has_wrong_parent, lacks_agency, lacks_end, lacks_name, lacks_name_or_position}
+use Rattle.gtfs_columns.specs.Problems.{Problem}
+use Rattle.gtfs_columns.specs.Reads.{choice_of}
+use Rattle.gtfs_columns.specs.Rows.{is_file, text_in}
+use Rattle.gtfs_table.specs.Rows.{is_empty}
+use Rattle.gtfs_columns.specs.Values.{if_there, readable}
+use Rattle.gtfs_columns.proofs.StepFacts.{Reported, AtColumns, InFiles, column_then, file_then, no_columns, no_files, reports_columns, reports_files, reported_files, reported_there}
+
+abbrev rules : List Reported
+rules = (file.Agency, "agency_id", lacks_agency file.Agency)
+    ∷ (file.Stops, "stop_name", lacks_name_or_position "stop_name")
+    ∷ (file.Stops, "stop_lat", lacks_name_or_position "stop_lat")
+    ∷ (file.Stops, "stop_lon", lacks_name_or_position "stop_lon")
+    ∷ (file.Stops, "parent_station", has_wrong_parent)
+    ∷ (file.Routes, "route_short_name", lacks_name)
+    ∷ (file.Routes, "agency_id", lacks_agency file.Routes)
+    ∷ (file.Transfers, "from_stop_id", lacks_end 1 3 "from_stop_id")
+    ∷ (file.Transfers, "to_stop_id", lacks_end 1 3 "to_stop_id")
+    ∷ (file.Transfers, "from_trip_id", lacks_end 4 5 "from_trip_id")
+    ∷ (file.Transfers, "to_trip_id", lacks_end 4 5 "to_trip_id")
+    ∷ []
+
+abbrev four_files : List File
+four_files = file.Agency ∷ file.Stops ∷ file.Routes ∷ file.Transfers ∷ []
+
+in_four : (x : File) → list_any (λ t. is_file x t.0) rules ≡ true → list_any (is_file x) four_files ≡ true
+in_four file.Agency e = refl
+in_four file.Stops e = refl
+in_four file.Routes e = refl
+in_four file.Transfers e = refl
+in_four x e = e
+
+in_four_files : (d : Dataset) → InFiles d code.E12 four_files
+in_four_files d x n name e = in_four x (reported_files rules d x n name e)
+
+at_agency : (d : Dataset) → AtColumns d code.E12 file.Agency ("agency_id" ∷ [])
+at_agency d = reported_there rules d file.Agency
+
+at_stops : (d : Dataset) → AtColumns d code.E12 file.Stops ("stop_name" ∷ "stop_lat" ∷ "stop_lon" ∷ "parent_station" ∷ [])
+at_stops d = reported_there rules d file.Stops
+
+at_routes : (d : Dataset) → AtColumns d code.E12 file.Routes ("route_short_name" ∷ "agency_id" ∷ [])
+at_routes d = reported_there rules d file.Routes
+
+at_transfers : (d : Dataset) → AtColumns d code.E12 file.Transfers ("from_stop_id" ∷ "to_stop_id" ∷ "from_trip_id" ∷ "to_trip_id" ∷ [])
+at_transfers d = reported_there rules d file.Transfers
+
+pub agencies_reported : (d : Dataset) (xs ys : List Problem)
+    → Reports d (at_column code.E12 file.Agency (codes "agency_id")) xs ys → Reports d (in_file code.E12 file.Agency) xs ys
+agencies_reported d xs ys first = reports_columns d code.E12 file.Agency ("agency_id" ∷ []) (at_agency d) xs ys
+    (column_then d code.E12 file.Agency "agency_id" [] xs ys ys first (no_columns d code.E12 file.Agency ys))
+
+pub routes_reported : (d : Dataset) (xs ys zs : List Problem)
+    → Reports d (at_column code.E12 file.Routes (codes "route_short_name")) xs ys
+    → Reports d (at_column code.E12 file.Routes (codes "agency_id")) ys zs → Reports d (in_file code.E12 file.Routes) xs zs
+routes_reported d xs ys zs first second = reports_columns d code.E12 file.Routes ("route_short_name" ∷ "agency_id" ∷ []) (at_routes d) xs zs
+    (column_then d code.E12 file.Routes "route_short_name" ("agency_id" ∷ []) xs ys zs first
+    (column_then d code.E12 file.Routes "agency_id" [] ys zs zs second (no_columns d code.E12 file.Routes zs)))
+
+pub stops_reported : (d : Dataset) (us vs ws xs ys : List Problem)
+    → Reports d (at_column code.E12 file.Stops (codes "stop_name")) us vs
+    → Reports d (at_column code.E12 file.Stops (codes "stop_lat")) vs ws
+    → Reports d (at_column code.E12 file.Stops (codes "stop_lon")) ws xs
+    → Reports d (at_column code.E12 file.Stops (codes "parent_station")) xs ys → Reports d (in_file code.E12 file.Stops) us ys
+stops_reported d us vs ws xs ys first second third fourth = reports_columns d code.E12 file.Stops ("stop_name" ∷ "stop_lat" ∷ "stop_lon" ∷ "parent_station" ∷ []) (at_stops d) us ys
+    (column_then d code.E12 file.Stops "stop_name" ("stop_lat" ∷ "stop_lon" ∷ "parent_station" ∷ []) us vs ys first
+    (column_then d code.E12 file.Stops "stop_lat" ("stop_lon" ∷ "parent_station" ∷ []) vs ws ys second
+    (column_then d code.E12 file.Stops "stop_lon" ("parent_station" ∷ []) ws xs ys third
+    (column_then d code.E12 file.Stops "parent_station" [] xs ys ys fourth (no_columns d code.E12 file.Stops ys)))))
+
+pub transfers_reported : (d : Dataset) (us vs ws xs ys : List Problem)
+    → Reports d (at_column code.E12 file.Transfers (codes "from_stop_id")) us vs
+    → Reports d (at_column code.E12 file.Transfers (codes "to_stop_id")) vs ws
+    → Reports d (at_column code.E12 file.Transfers (codes "from_trip_id")) ws xs
+    → Reports d (at_column code.E12 file.Transfers (codes "to_trip_id")) xs ys → Reports d (in_file code.E12 file.Transfers) us ys
+transfers_reported d us vs ws xs ys first second third fourth = reports_columns d code.E12 file.Transfers ("from_stop_id" ∷ "to_stop_id" ∷ "from_trip_id" ∷ "to_trip_id" ∷ []) (at_transfers d) us ys
+    (column_then d code.E12 file.Transfers "from_stop_id" ("to_stop_id" ∷ "from_trip_id" ∷ "to_trip_id" ∷ []) us vs ys first
+    (column_then d code.E12 file.Transfers "to_stop_id" ("from_trip_id" ∷ "to_trip_id" ∷ []) vs ws ys second
+    (column_then d code.E12 file.Transfers "from_trip_id" ("to_trip_id" ∷ []) ws xs ys third
+    (column_then d code.E12 file.Transfers "to_trip_id" [] xs ys ys fourth (no_columns d code.E12 file.Transfers ys)))))
+
+pub presence_reported : (d : Dataset) (us vs ws xs ys : List Problem)
+    → Reports d (in_file code.E12 file.Agency) us vs → Reports d (in_file code.E12 file.Stops) vs ws
+    → Reports d (in_file code.E12 file.Routes) ws xs → Reports d (in_file code.E12 file.Transfers) xs ys → Reports d (of_codes (code.E12 ∷ [])) us ys
+presence_reported d us vs ws xs ys first second third fourth = reports_files d code.E12 four_files refl (in_four_files d) us ys
+    (file_then d code.E12 file.Agency (file.Stops ∷ file.Routes ∷ file.Transfers ∷ []) us vs ys first
+    (file_then d code.E12 file.Stops (file.Routes ∷ file.Transfers ∷ []) vs ws ys second
+    (file_then d code.E12 file.Routes (file.Transfers ∷ []) ws xs ys third
+    (file_then d code.E12 file.Transfers [] xs ys ys fourth (no_files d code.E12 ys)))))
+
+-- ---- parents
+
+abbrev wrong_parent : List ℕ → List ℕ → Bool
+wrong_parent kind parent =
+    (if_there (choice_of ((0, 4) ∷ []) (codes "0") kind) (λ choice. int_le (pos 1) choice && int_le choice (pos 1)) && is_some (readable id parent))
+    || (if_there (choice_of ((0, 4) ∷ []) (codes "0") kind) (λ choice. int_le (pos 2) choice && int_le choice (pos 4)) && is_empty parent)
+
+pub parent_reported : (d : Dataset) (n : ℕ) (kind parent : List ℕ)
+    → kind ≡ text_in d file.Stops n (codes "location_type") → parent ≡ text_in d file.Stops n (codes "parent_station")
+    → wrong_parent kind parent ≡ has_wrong_parent d n
+parent_reported d n kind parent a b = λ i. wrong_parent (a i) (b i)

@@ -1,0 +1,134 @@
+-- Rows whose key is one id: an earlier row has the key just where the first row with the id is earlier.
+use Rattle.std.proofs.Common.{◌≡◌, ◌∷◌, [], ℕ, zero, suc, ◌+◌, List, true, false, Bool, Option, Some, None, arith, refl, sym, ap, ◌∙◌, inl, inr}
+use Rattle.std.specs.Prelude.{◌&&◌, ◌||◌, not, if◌then◌else◌, nat_lt, bytes_eq, is_some, Ok}
+use Rattle.std.specs.Cmp.Lexicographic.{pointwise}
+use Rattle.std.specs.List.{filter, find, list_any, range_with_len}
+use Rattle.std.specs.Result.{result_ok}
+use Rattle.std.proofs.lemmas.Bool.{cases_Bool}
+use Rattle.std.proofs.lemmas.Bool.Decides.{nat_tests}
+use Rattle.gtfs_field.specs.Kinds.{shaped}
+use Rattle.gtfs_table.specs.Tables.{Dataset}
+use Rattle.gtfs_table.specs.declared.file.File.{File}
+use Rattle.gtfs_columns.specs.declared.code.Code.TheVariants as code
+use Rattle.gtfs_columns.specs.Columns.{id}
+use Rattle.gtfs_columns.specs.steps.Found.{Reports}
+use Rattle.gtfs_columns.specs.steps.Ids.{IdColumn, ids_in}
+use Rattle.gtfs_columns.specs.KeyRules.{all_there, key_twice}
+use Rattle.gtfs_columns.specs.steps.Picks.{at_column, in_file, is_kept}
+use Rattle.gtfs_columns.specs.Problems.{Problem, holds, is_code, is_problem}
+use Rattle.gtfs_columns.specs.References.{reported_column}
+use Rattle.gtfs_table.specs.Rows.{is_row, records_in, rows, is_empty}
+use Rattle.gtfs_columns.specs.Rows.{text_in}
+use Rattle.gtfs_row_rules.specs.SingleKeys.{is_repeated}
+use Rattle.gtfs_columns.specs.Reads.{is_id}
+use Rattle.gtfs_columns.specs.Values.{Value, word, value_eq, has_control, if_both, if_there, readable}
+use Rattle.gtfs_columns.proofs.BoolFacts.{same_test, no_test, and_parts, and_both}
+use Rattle.gtfs_columns.proofs.SiteFacts.{code_is, file_is, text_is, text_itself}
+use Rattle.gtfs_columns.proofs.ReportingFacts.{reports_alike}
+
+-- ---- the key of a text
+
+abbrev read_id : Bool → Bool → List ℕ → Option Value
+read_id empty control t = if empty then None else result_ok (shaped (not control) (Ok (word t)))
+
+read_some : (empty control : Bool) (t : List ℕ) → is_some (read_id empty control t) ≡ true → read_id empty control t ≡ Some (word t)
+read_some true control t e = cc e
+read_some false true t e = cc e
+read_some false false t e = refl
+
+read_none : (o : Option Value) → is_some o ≡ false → o ≡ None
+read_none None e = refl
+read_none (Some v) e = cc e
+
+abbrev pub key_of : List ℕ → Option (List Value)
+key_of t = all_there (readable id t ∷ [])
+
+abbrev pub same_keys : List ℕ → List ℕ → Bool
+same_keys t u = if_both (key_of t) (key_of u) (pointwise value_eq)
+
+no_key : (t u : List ℕ) → is_id t ≡ false → same_keys t u ≡ false
+no_key t u none = rw (read_none (readable id t) none) refl
+
+turned : (t u : List ℕ) → (bytes_eq t u && true) ≡ bytes_eq u t
+turned t u = same_test (bytes_eq t u && true) (bytes_eq u t)
+    (λ e. ap (λ v. bytes_eq v t) (sym (text_is t u (and_parts (bytes_eq t u) true e).0)) ∙ text_itself t)
+    (λ e. and_both (bytes_eq t u) true (ap (λ v. bytes_eq v u) (sym (text_is u t e)) ∙ text_itself u) refl)
+
+same_text : (t u : List ℕ) → is_id t ≡ true → same_keys t u ≡ bytes_eq u t
+same_text t u there = elim (cases_Bool (is_id u)) [
+  | inl other ↦ rw (read_some (is_empty t) (has_control t) t there, read_some (is_empty u) (has_control u) u other) (turned t u)
+  | inr none ↦ rw (read_some (is_empty t) (has_control t) t there, read_none (readable id u) none)
+      (sym (no_test (bytes_eq u t) (λ e. sym none ∙ ap is_id (text_is u t e) ∙ there)))
+]
+
+-- ---- the first row that passes a test
+
+module _ (row test : ℕ → Bool) (n : ℕ) where
+  pub none_below : (a k : ℕ) → nat_lt a n ≡ false → list_any (λ m. nat_lt m n && test m) (filter row (range_with_len a k)) ≡ false
+  none_below a zero past = refl
+  none_below a (suc k) past =
+      let next : nat_lt (a + 1) n ≡ false = grind (arith, nat_tests, past) in
+      elim (cases_Bool (row a)) [
+        | inl there ↦ rw (there, past) (none_below (a + 1) k next)
+        | inr none ↦ rw none (none_below (a + 1) k next)
+      ]
+
+  pub first_below : (a k : ℕ) → list_any (λ m. nat_lt m n && test m) (filter row (range_with_len a k))
+      ≡ if_there (find test (filter row (range_with_len a k))) (λ m. nat_lt m n)
+  first_below a zero = refl
+  first_below a (suc k) = elim (cases_Bool (row a)) [
+    | inr none ↦ rw none (first_below (a + 1) k)
+    | inl there ↦ elim (cases_Bool (test a)) [
+      | inr fails ↦ rw (there, fails) (no_more (nat_lt a n) (first_below (a + 1) k))
+      | inl passes ↦ elim (cases_Bool (nat_lt a n)) [
+        | inl below ↦ rw (there, passes, below) refl
+        | inr past ↦ let next : nat_lt (a + 1) n ≡ false = grind (arith, nat_tests, past) in rw (there, passes, past) (none_below (a + 1) k next)
+      ]
+    ]
+  ]
+    where
+      no_more : {x y : Bool} (b : Bool) → x ≡ y → ((b && false) || x) ≡ y
+      no_more true e = e
+      no_more false e = e
+
+never : (xs : List ℕ) (n : ℕ) → list_any (λ m. nat_lt m n && false) xs ≡ false
+never [] n = refl
+never (x ∷ xs) n = rw (no_and (nat_lt x n)) (never xs n)
+  where
+    no_and : (b : Bool) → (b && false) ≡ false
+    no_and true = refl
+    no_and false = refl
+
+pub first_repeats : (d : Dataset) (x : File) (text : ℕ → List ℕ) (n : ℕ)
+    → list_any (λ m. nat_lt m n && same_keys (text n) (text m)) (rows d x)
+    ≡ (is_id (text n) && if_there (find (λ m. bytes_eq (text m) (text n)) (rows d x)) (λ m. nat_lt m n))
+first_repeats d x text n = elim (cases_Bool (is_id (text n))) [
+  | inl there ↦ rw there (ap (λ (f : ℕ → Bool). list_any (λ m. nat_lt m n && f m) (rows d x)) (λ i m. same_text (text n) (text m) there i)
+      ∙ first_below (is_row (records_in d x)) (λ m. bytes_eq (text m) (text n)) n 2 _)
+  | inr none ↦ rw none (ap (λ (f : ℕ → Bool). list_any (λ m. nat_lt m n && f m) (rows d x)) (λ i m. no_key (text n) (text m) none i) ∙ never (rows d x) n)
+]
+
+pub single_reported : (d : Dataset) (x : File) (name : List ℕ) (i : IdColumn) → i ≡ ids_in d x name → (n : ℕ)
+    → (is_row (records_in d x) n && list_any (λ m. nat_lt m n && same_keys (text_in d x n name) (text_in d x m name)) (rows d x))
+    ≡ (is_row (records_in d x) n && is_repeated i (text_in d x n name) n)
+single_reported d x name i ids n =
+    let row = is_row (records_in d x) n in
+    ap (λ b. row && b) (first_repeats d x (λ m. text_in d x m name) n) ∙ (λ k. row && is_repeated (sym ids k) (text_in d x n name) n)
+
+-- the rule reads the ids and the text that are asked for
+pub repeats_alike : (reported row : Bool) (i j : IdColumn) (t u : List ℕ) (n : ℕ) → reported ≡ (row && is_repeated i t n) → j ≡ i → u ≡ t → reported ≡ (row && is_repeated j u n)
+repeats_alike reported row i j t u n rule ids text = rule ∙ (λ k. row && is_repeated (sym ids k) (sym text k) n)
+
+-- ---- reported in a file
+
+pub reports_key : (d : Dataset) (x : File) (name : List ℕ) (xs ys : List Problem) → reported_column x ≡ name → Reports d (at_column code.E09 x name) xs ys → Reports d (in_file code.E09 x) xs ys
+reports_key d x name xs ys column = reports_alike d (at_column code.E09 x name) (in_file code.E09 x) xs ys
+    (λ p. same_test (at_column code.E09 x name p && is_problem d p) (in_file code.E09 x p && is_problem d p)
+    (λ e. let parts = and_parts (at_column code.E09 x name p) (is_problem d p) e in
+    and_both (in_file code.E09 x p) (is_problem d p) (and_parts (in_file code.E09 x p) (bytes_eq p.column name) parts.0).0 parts.1)
+    (λ e. let parts = and_parts (in_file code.E09 x p) (is_problem d p) e in
+    let site = and_parts (is_code p.code code.E09) (is_kept x p.file) parts.0 in
+    let there : key_twice d x p.row p.column ≡ true = sym (λ i. holds (code_is p.code code.E09 site.0 i) d (file_is x p.file site.1 i) p.row p.column) ∙ parts.1 in
+    let row = is_row (records_in d x) p.row in
+    let at = (and_parts (bytes_eq p.column (reported_column x)) row (and_parts (bytes_eq p.column (reported_column x) && row) _ there).0).0 in
+    and_both (at_column code.E09 x name p) (is_problem d p) (and_both (in_file code.E09 x p) (bytes_eq p.column name) parts.0 (ap (bytes_eq p.column) (sym column) ∙ at)) parts.1))

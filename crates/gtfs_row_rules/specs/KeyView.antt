@@ -1,0 +1,48 @@
+-- Keys as a step reads them from the records of rows, and the rows that repeat an earlier key.
+use Rattle.std.specs.Prelude.{ℕ, ◌&&◌, ◌||◌, if◌then◌else◌, Bool, nat_lt, List, [], ◌∷◌, Option, Some}
+use Rattle.std.specs.List.{list_any}
+use Rattle.std.specs.Cmp.Lexicographic.{pointwise}
+use Rattle.gtfs_table.specs.Tables.{Dataset, record_at}
+use Rattle.gtfs_table.specs.declared.file.File.{File}
+use Rattle.gtfs_table.specs.declared.file.File.TheVariants as file
+use Rattle.gtfs_table.specs.Rows.{is_empty, records_in, rows}
+use Rattle.gtfs_columns.specs.declared.code.Code.TheVariants as code
+use Rattle.gtfs_columns.specs.Columns.{Kind, date, id, time}
+use Rattle.gtfs_columns.specs.KeyRules.{all_there}
+use Rattle.gtfs_columns.specs.Problems.{Problem}
+use Rattle.gtfs_columns.specs.Rows.{text_in}
+use Rattle.gtfs_columns.specs.Values.{Value, word, value_eq, if_both, readable}
+use Rattle.gtfs_columns.specs.steps.Picks.{in_file}
+use Rattle.gtfs_row_rules.specs.declared.keys.Number.{Number}
+use Rattle.gtfs_row_rules.specs.declared.keys.Number.TheVariants as numbers
+
+-- the rows of one file, each with its key, where each part of it is there
+abbrev pub KeyAt : Type 0
+KeyAt = ℕ → Option (List Value)
+
+-- the keys of the records of a file
+abbrev pub key_at : (List (List ℕ) → Option (List Value)) → Dataset → File → KeyAt
+key_at key d x n = key (record_at (records_in d x) n)
+
+-- an earlier row of the file has the key of this one
+abbrev pub repeats_key : KeyAt → Dataset → File → ℕ → Bool
+repeats_key key d x n = list_any (λ m. nat_lt m n && if_both (key n) (key m) (pointwise value_eq)) (rows d x)
+
+-- a key of an id and a number
+abbrev pub kind_of : Number → Kind
+kind_of numbers.Date = date
+kind_of numbers.Time = time
+
+abbrev pub numbered_key : Number → List ℕ → List ℕ → Option (List Value)
+numbered_key kind t u = all_there (readable id t ∷ readable (kind_of kind) u ∷ [])
+
+abbrev pub numbered_in : Number → Dataset → File → List ℕ → List ℕ → KeyAt
+numbered_in kind d x id_name number_name n = numbered_key kind (text_in d x n id_name) (text_in d x n number_name)
+
+-- a part of the key of a transfer: an id, or the empty text
+abbrev pub end_part : List ℕ → Option Value
+end_part t = if is_empty t then Some (word []) else readable id t
+
+-- keys of several parts
+abbrev pub in_composite_keys : Problem → Bool
+in_composite_keys p = in_file code.E09 file.CalendarDates p || in_file code.E09 file.Frequencies p || in_file code.E09 file.Transfers p

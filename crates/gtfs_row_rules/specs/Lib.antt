@@ -1,0 +1,8 @@
+pub mod FilePicks
+pub mod HeaderView
+pub mod KeyOrder
+pub mod KeyView
+pub mod PresenceView
+pub mod RowRules
+pub mod SingleKeys
+pub mod StopKinds

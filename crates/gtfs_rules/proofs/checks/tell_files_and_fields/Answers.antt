@@ -1,6 +1,0 @@
-use Rattle.std.proofs.lemmas.Result.{on_ok_weaker}
-use Rattle.gtfs_rules.proofs.TellFacts.{tells_three}
-use Rattle.gtfs_rules.proofs.checks.tell_files_and_fields.Goals as goal
-
-pub returns : goal.returns
-returns c = on_ok_weaker _ (tells_three c.args.tables.now _ _ _ _ _ _ _ c.in_ok-tell_files.ensures c.in_ok-tell_headers.ensures) c.tell_fields.ensures

@@ -1,9 +1,0 @@
-use Rattle.std.proofs.Common.{take}
-use Rattle.gtfs_rules.specs.Found.{is_same, Tells}
-use Rattle.gtfs_rules.proofs.EachFacts.{of_any}
-use Rattle.gtfs_rules.proofs.FileFacts.{other_problem}
-use Rattle.gtfs_rules.proofs.files.tell_other_files.Given as goal
-
--- the names so far
-abbrev pub invariant-loop-name : goal.invariant-loop-name
-invariant-loop-name l = Tells l.tables (of_any (λ name. is_same (other_problem name)) (take l.name-index l.tables.others)) l.fn.found l.found

@@ -1,9 +1,0 @@
-use Rattle.std.proofs.lemmas.Result.{on_ok_weaker}
-use Rattle.gtfs_rules.proofs.StopTimeFacts.{names_told}
-use Rattle.gtfs_rules.proofs.stop_times.named.NamedRows.tell.Goals as goal
-
-pub returns-clause-told : goal.returns-clause-told
-returns-clause-told c = on_ok_weaker c.tell-3.result (λ last. λ d named is. names_told d c.args.stop_time.now is c.args.self.now named _ _ _ _
-    (rw (c.problem-no_stop.ensures, c.is_lost.ensures, c.first_row-stop.ensures.answer, c.value-stop_id.ensures) at c.in_ok-tell.ensures)
-    (rw (c.problem-no_trip.ensures, c.is_lost-2.ensures, c.first_row-trip.ensures.answer, c.value-trip_id.ensures) at c.in_ok-tell-2.ensures)
-    (rw (c.problem-no_platform.ensures, c.is_no_platform.ensures, c.first_row-stop.ensures.answer, c.value-stop_id.ensures) at last)) c.tell-3.ensures

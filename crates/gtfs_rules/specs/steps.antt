@@ -1,0 +1,2 @@
+-- What only the steps of a check need.
+pub mod Parts

@@ -1,0 +1,5 @@
+pub mod WorkedCases
+pub mod WorkedCodes
+pub mod WorkedFeeds
+pub mod WorkedLaws
+pub mod WorkedProblems

@@ -1,0 +1,82 @@
+-- What the worked reports have to do with the report that `check` makes, of every dataset: they are strictly ascending
+-- in its order, and their members are just those of its problems that were tried.
+use Rattle.std.proofs.Common.{◌≡◌, ◌∷◌, [], List, map, true, false, Bool, refl, sym, ap, ◌∙◌, Option, Some, is_some}
+use Rattle.std.specs.Prelude.{◌&&◌, ◌||◌, T, cond, filter}
+use Rattle.std.specs.Cmp.{Equal-is}
+use Rattle.std.specs.FinMap.Entries.{below_all, is_sorted, find, is_some-find, is_sorted-put, find-put}
+use Rattle.std.specs.List.{AllByRecursion}
+use Rattle.std.specs.List.Sorted.{IsStrictlySortedBy}
+use Rattle.std.specs.Ordering.{eq_by_cmp, is_lt}
+use Rattle.std.specs.declared.cmp.Ordering.{Ordering}
+use Rattle.std.specs.declared.cmp.Ordering.TheVariants.{Less, Equal, Greater}
+use Rattle.std.proofs.lemmas.Map.Views.{any-filter_same}
+use Rattle.gtfs_table.specs.Tables.{Dataset}
+use Rattle.gtfs_columns.specs.steps.ProblemOrder.{problem_total, problem_anti}
+use Rattle.gtfs_columns.specs.Problems.{Problem, problem_cmp, is_listed, is_problem, IsReport}
+use Rattle.gtfs_rules_tests.proofs.WorkedFeeds.{tried, entered, problems_in}
+
+-- ---- ascending
+
+left : (a b : Bool) → T (a && b) → T a
+left true b h = tt
+left false b h = absurd h
+
+right : (a b : Bool) → T (a && b) → T b
+right true b h = h
+right false b h = absurd h
+
+less : (r : Ordering) → T (is_lt r) → r ≡ Less
+less Less h = refl
+less Equal h = absurd h
+less Greater h = absurd h
+
+module _ {K : Type 0} (R : K → K → Ordering) where
+  each_less : (x : K) (es : List (K × Unit {0})) → T (below_all R x es) → AllByRecursion (λ y. R x y ≡ Less) (map (λ e. e.0) es)
+  each_less x [] h = tt
+  each_less x (e ∷ es) h = (less (R x e.0) (left _ _ h), each_less x es (right _ _ h))
+
+  keys_ascend : (es : List (K × Unit {0})) → T (is_sorted R es) → IsStrictlySortedBy R (map (λ e. e.0) es)
+  unfolding IsStrictlySortedBy
+  keys_ascend [] h = tt
+  keys_ascend (e ∷ es) h = (each_less e.0 es (left _ _ h), keys_ascend es (right _ _ h))
+
+entered_sorted : (ps : List Problem) → T (is_sorted problem_cmp (entered ps))
+entered_sorted [] = tt
+entered_sorted (p ∷ ps) = is_sorted-put problem_cmp problem_total p tt (entered ps) (entered_sorted ps)
+
+pub ascending : (d : Dataset) → IsStrictlySortedBy problem_cmp (problems_in d)
+ascending d = keys_ascend problem_cmp (entered (filter (is_problem d) (tried d))) (entered_sorted (filter (is_problem d) (tried d)))
+
+-- ---- members
+
+some_first : (b : Bool) (o : Option (Unit {0})) → is_some (cond b (Some tt) o) ≡ (b || is_some o)
+some_first true o = refl
+some_first false o = refl
+
+entered_found : (p : Problem) (ps : List Problem) → is_some (find problem_cmp p (entered ps)) ≡ is_listed ps p
+entered_found p [] = refl
+entered_found p (q ∷ ps) =
+    ap is_some (find-put problem_cmp problem_total p q tt (entered ps))
+    ∙ some_first (eq_by_cmp problem_cmp p q) (find problem_cmp p (entered ps))
+    ∙ ap (λ b. eq_by_cmp problem_cmp p q || b) (entered_found p ps)
+
+pub members : (d : Dataset) (p : Problem) → is_listed (problems_in d) p ≡ (is_problem d p && is_listed (tried d) p)
+members d p =
+    let held = filter (is_problem d) (tried d) in
+    sym (is_some-find problem_cmp p (entered held))
+    ∙ entered_found p held
+    ∙ any-filter_same (eq_by_cmp problem_cmp p) (is_problem d) (is_problem d p)
+    (λ q tied. ap (is_problem d) (sym (problem_anti p q ((Equal-is (problem_cmp p q)).0 tied)))) (tried d)
+
+-- ---- the report
+
+tried_too : (holds : Bool) (listed : Bool) → (holds ≡ true → listed ≡ true) → (holds && listed) ≡ holds
+tried_too true listed h = h refl
+tried_too false listed h = refl
+
+-- where every problem of a dataset was tried, the worked report is the one that `check` makes
+pub worked_report : (d : Dataset) → ((p : Problem) → is_problem d p ≡ true → is_listed (tried d) p ≡ true) → IsReport d (problems_in d)
+worked_report d all = record {
+  ascending = ascending d;
+  members = λ p. members d p ∙ tried_too (is_problem d p) (is_listed (tried d) p) (all p);
+}

@@ -1,0 +1,68 @@
+use super::Asked;
+use super::values::{column_named, is_row};
+use gtfs_columns::Empty;
+use gtfs_rules::Code;
+use gtfs_table::{File, State, Tables};
+
+impl Asked<'_> {
+    pub(super) fn file_holds(self) -> bool {
+        self.column.is_empty()
+            && match self.code {
+                Code::E01 => self.row == 0 && is_missing(self.tables, self.file),
+                Code::E02 => self.row == 0 && self.tables.state(self.file) == State::NotUtf8,
+                _ => is_bare(self.tables, self.file, self.row),
+            }
+    }
+
+    pub(super) fn header_holds(self) -> bool {
+        let times = (0..self.tables.fields(self.file, 1))
+            .filter(|n| self.tables.field(self.file, 1, *n) == self.column)
+            .count();
+        let kept = column_named(self.file, self.column);
+        self.row == 1
+            && match self.code {
+                Code::E03 => {
+                    let required = kept.is_some_and(|kept| matches!(kept.empty, Empty::Refused));
+                    self.tables.records(self.file) > 0 && times == 0 && required
+                }
+                Code::E04 => kept.is_some() && times > 1,
+                _ => kept.is_none() && times > 0 && !self.column.is_empty(),
+            }
+    }
+}
+
+fn is_needed(file: File) -> bool {
+    matches!(
+        file,
+        File::Agency | File::Stops | File::Routes | File::Trips | File::StopTimes
+    )
+}
+
+fn is_absent(tables: &Tables, file: File) -> bool {
+    match tables.state(file) {
+        State::Absent => true,
+        State::NotUtf8 => false,
+        State::Read => !is_needed(file) && tables.records(file) == 0,
+    }
+}
+
+fn is_missing(tables: &Tables, file: File) -> bool {
+    if file == File::Calendar {
+        is_absent(tables, File::Calendar) && is_absent(tables, File::CalendarDates)
+    } else {
+        is_needed(file) && is_absent(tables, file)
+    }
+}
+
+// Whether a needed file has no record (reported at row 0), or agency.txt has a header alone (reported at row 1).
+fn is_bare(tables: &Tables, file: File, row: usize) -> bool {
+    let records = tables.records(file);
+    let has_row = (2..=records).any(|row| is_row(tables, file, row));
+    is_needed(file)
+        && tables.state(file) == State::Read
+        && match row {
+            0 => records == 0,
+            1 => file == File::Agency && records > 0 && !has_row,
+            _ => false,
+        }
+}

@@ -1,0 +1,137 @@
+-- How many rows of stop_times.txt name a trip, counted by the numbers of trips.
+use Rattle.std.proofs.Common.{◌≡◌, ◌≢◌, ◌+◌, ◌<◌, ◌≤◌, ◌∙◌, ◌++◌, ◌∷◌, [], ℕ, Bool, true, false, List, cond, filter, length, length-append, map, get_or, set, refl, sym, ap, arith, inl, inr, Bor, Option, Some, None, option_map}
+use Rattle.std.specs.Prelude.{◌&&◌, ◌==◌, bytes_eq, codes, nat_lt, not}
+use Rattle.std.specs.BTreeMap.{BTreeMap}
+use Rattle.std.specs.List.{All}
+use Rattle.std.specs.Option.{unwrap_or}
+use Rattle.std.proofs.lemmas.Bool.{cases_Bool}
+use Rattle.std.proofs.lemmas.List.{get_or_default, get_or-set_other, get_or-set_same}
+use Rattle.std.proofs.lemmas.List.Elements.{All-push, All-tail, filter-append}
+use Rattle.std.proofs.lemmas.List.Filters.{length-filter_both}
+use Rattle.gtfs_table.specs.Tables.{Dataset}
+use Rattle.gtfs_table.specs.declared.file.File.TheVariants as file
+use Rattle.gtfs_columns.specs.declared.code.Code.TheVariants as code
+use Rattle.gtfs_trip_rules.specs.declared.trips.row.TripStopTime.{TripStopTime}
+use Rattle.gtfs_columns.specs.Problems.{holds_in}
+use Rattle.gtfs_table.specs.Rows.{is_row, records_in}
+use Rattle.gtfs_columns.specs.Rows.{text_in}
+use Rattle.gtfs_trip_rules.specs.TripCounts.{AreCounts, AreKept, are_few, count_of}
+use Rattle.gtfs_trip_rules.specs.TripNotes.{note_of, times_noted, trip_notes_in}
+use Rattle.gtfs_trip_rules.specs.TripNumbers.{AreNamed, AreNumbered, Keeps, name_at, number_in}
+use Rattle.gtfs_columns.specs.Columns.{id as id_kind}
+use Rattle.gtfs_columns.specs.Reads.{word_of}
+use Rattle.gtfs_columns.specs.Values.{if_there}
+use Rattle.gtfs_columns.proofs.BoolFacts.{and_parts, same_test}
+use Rattle.gtfs_columns.proofs.SiteFacts.{number_itself, same_number, text_is, text_itself}
+use Rattle.gtfs_trip_rules.proofs.TripNumberFacts.{one_numbered, rows_stay}
+use Rattle.gtfs_trip_rules.proofs.TripStopTimeFacts.{as_many, named_rows}
+
+-- ---- what is kept, row by row
+
+one_more : (n : ℕ) (rows : List TripStopTime) (row : TripStopTime) → length (filter (λ r. n == r.trip) (rows ++ row ∷ [])) ≡ length (filter (λ r. n == r.trip) rows) + cond (n == row.trip) 1 0
+one_more n rows row =
+    ap length (filter-append (λ (r : TripStopTime). n == r.trip) rows (row ∷ []))
+    ∙ length-append (filter (λ r. n == r.trip) rows) (filter (λ r. n == r.trip) (row ∷ []))
+    ∙ ap (λ m. length (filter (λ r. n == r.trip) rows) + m) (if_one (n == row.trip))
+  where
+    if_one : (b : Bool) → length (cond b (row ∷ []) []) ≡ cond b 1 0
+    if_one true = refl
+    if_one false = refl
+
+module _ (counts : List ℕ) (rows : List TripStopTime) (counted : AreCounts counts rows) where
+  counts_more : (row : TripStopTime) → row.trip < length counts → (count : ℕ) → count ≡ get_or counts row.trip count → AreCounts (set counts row.trip (count + 1)) (rows ++ row ∷ [])
+  counts_more row inside count was n = elim (cases_Bool (n == row.trip)) [
+    | inl here ↦
+        let same : n ≡ row.trip = same_number n row.trip here in
+        ap (λ m. get_or (set counts row.trip (count + 1)) m 0) same ∙ get_or-set_same counts row.trip (count + 1) 0 inside
+        ∙ ap (λ m. m + 1) (was ∙ get_or_default counts row.trip count 0 inside ∙ ap (λ m. get_or counts m 0) (sym same) ∙ counted n)
+        ∙ ap (λ b. length (filter (λ r. n == r.trip) rows) + cond b 1 0) (sym here)
+        ∙ sym (one_more n rows row)
+    | inr other ↦
+        get_or-set_other counts row.trip n (count + 1) 0 (apart other)
+        ∙ counted n
+        ∙ sym (add_none _)
+        ∙ ap (λ b. length (filter (λ r. n == r.trip) rows) + cond b 1 0) (sym other)
+        ∙ sym (one_more n rows row)
+  ]
+    where
+      apart : (n == row.trip) ≡ false → n ≢ row.trip
+      apart other same = let clash : true ≡ false = sym (number_itself n) ∙ ap (λ m. n == m) same ∙ other in cc
+
+      add_none : (m : ℕ) → m + 0 ≡ m
+      add_none m = omega arith
+
+  -- no count is greater than the number of the rows
+  pub count_fits : (count n : ℕ) → n < length counts → count ≡ get_or counts n count → count ≤ length rows
+  count_fits count n inside is =
+      omega (arith, is, get_or_default counts n count 0 inside, counted n, length-filter_both (λ r. n == r.trip) (λ r. not (n == r.trip)) (λ r. refl) rows)
+
+-- after a trip was given its number
+pub still_kept : (old new : BTreeMap (Bor (List ℕ)) ℕ) (names more : List (Bor (List ℕ))) (counts wide : List ℕ) (are_sequenced : Bool) (rows : List TripStopTime) → AreKept old names counts are_sequenced rows
+    → Keeps old new → AreNamed new more → ((n : ℕ) → get_or wide n 0 ≡ get_or counts n 0) → AreKept new more wide are_sequenced rows
+still_kept old new names more counts wide are_sequenced rows kept keeps named same = record {
+  numbered = record { named = named; numbered = rows_stay old new names more rows kept.numbered.numbered keeps named };
+  counted = λ n. same n ∙ kept.counted n;
+  located = kept.located;
+}
+
+-- one row more
+pub one_kept : (numbers : BTreeMap (Bor (List ℕ)) ℕ) (names : List (Bor (List ℕ))) (counts : List ℕ) (are_sequenced : Bool) (rows : List TripStopTime) (row : TripStopTime) (id : List ℕ) (count : ℕ) (are : Bool)
+    → are ≡ (are_sequenced && row.has_sequence) → AreKept numbers names counts are_sequenced rows → number_in numbers id ≡ Some row.trip → row.trip < length counts → count ≡ get_or counts row.trip count
+    → AreKept numbers names (set counts row.trip (count + 1)) are (rows ++ row ∷ [])
+one_kept numbers names counts are_sequenced rows row id count are both kept here inside was = record {
+  numbered = one_numbered numbers names rows row id kept.numbered.named kept.numbered.numbered here;
+  counted = counts_more counts rows kept.counted row inside count was;
+  located = λ all. let parts = and_parts are_sequenced row.has_sequence (sym both ∙ all) in All-push (λ (r : TripStopTime). r.has_sequence ≡ true) rows row (kept.located parts.0) parts.1;
+}
+
+-- rows that all pass
+pub all_pass : (p : TripStopTime → Bool) (rows : List TripStopTime) → All (λ r. p r ≡ true) rows → filter p rows ≡ rows
+all_pass p [] each = refl
+all_pass p (r ∷ rows) each =
+    ap (λ b. cond b (r ∷ filter p rows) (filter p rows)) (each 0 r (omega arith)) ∙ ap (λ rs. r ∷ rs) (all_pass p rows (All-tail (λ r. p r ≡ true) r rows each))
+
+-- ---- rows that name a trip
+
+-- rows with a number
+abbrev is_of : Option ℕ → TripStopTime → Bool
+is_of None = λ r. false
+is_of (Some n) = λ r. n == r.trip
+
+none_of : (rows : List TripStopTime) → length (filter (is_of None) rows) ≡ 0
+none_of [] = refl
+none_of (r ∷ rows) = none_of rows
+
+module _ (numbers : BTreeMap (Bor (List ℕ)) ℕ) (names : List (Bor (List ℕ))) (trip : List ℕ) where
+  abbrev name : ℕ → List ℕ
+  name = name_at names
+
+  named : (o : Option ℕ) (rows : List TripStopTime) → All (λ r. is_of o r ≡ bytes_eq trip (name r.trip)) rows → length (filter (is_of o) rows) ≡ times_noted (map (note_of name) rows) trip
+  named o [] each = refl
+  named o (r ∷ rows) each =
+      ap (λ b. length (cond b (r ∷ filter (is_of o) rows) (filter (is_of o) rows))) (each 0 r (omega arith))
+      ∙ as_many (bytes_eq trip (name r.trip)) r (filter (is_of o) rows) (note_of name r) (filter (λ n. bytes_eq trip n.trip_id) (map (note_of name) rows))
+      (named o rows (All-tail (λ r. is_of o r ≡ bytes_eq trip (name r.trip)) r rows each))
+
+  module _ (rows : List TripStopTime) (are : AreNumbered numbers names rows) where
+    by_number : (o : Option ℕ) → number_in numbers trip ≡ o → (r : TripStopTime) → number_in numbers (name r.trip) ≡ Some r.trip → is_of o r ≡ bytes_eq trip (name r.trip)
+    by_number None is r has = same_test false (bytes_eq trip (name r.trip)) (λ e. cc e)
+        (λ e. let clash : None ≡ Some r.trip = sym is ∙ ap (number_in numbers) (text_is trip (name r.trip) e) ∙ has in cc)
+    by_number (Some n) is r has = same_test (n == r.trip) (bytes_eq trip (name r.trip))
+        (λ e. ap (λ t. bytes_eq t (name r.trip)) (sym (are.named trip n is).1 ∙ ap name (same_number n r.trip e)) ∙ text_itself (name r.trip))
+        (λ e. let one : n ≡ r.trip = ap (λ o. unwrap_or o 0) (sym is ∙ ap (number_in numbers) (text_is trip (name r.trip) e) ∙ has) in ap (λ m. n == m) (sym one) ∙ number_itself n)
+
+    pub trip_counted : (counts : List ℕ) → AreCounts counts rows → count_of numbers counts trip ≡ times_noted (map (note_of name) rows) trip
+    trip_counted counts counted = of_number (number_in numbers trip) refl ∙ named (number_in numbers trip) rows (λ k d below. by_number (number_in numbers trip) refl (get_or rows k d) (are.numbered k d below))
+      where
+        of_number : (o : Option ℕ) → number_in numbers trip ≡ o → unwrap_or (option_map (λ n. get_or counts n 0) o) 0 ≡ length (filter (is_of o) rows)
+        of_number None is = sym (none_of rows)
+        of_number (Some n) is = counted n
+
+-- ---- trips that few rows name
+
+pub few_rows : (d : Dataset) (numbers : BTreeMap (Bor (List ℕ)) ℕ) (counts : List ℕ) (text : ℕ → List ℕ) → ((n : ℕ) → text n ≡ text_in d file.Trips n (codes "trip_id"))
+    → ((trip : List ℕ) → count_of numbers counts trip ≡ times_noted (trip_notes_in d) trip)
+    → (n : ℕ) → holds_in code.W06 d file.Trips n (codes "trip_id") ≡ (is_row (records_in d file.Trips) n && if_there (word_of id_kind (text n)) (are_few numbers counts))
+few_rows d numbers counts text same counted n =
+    λ i. is_row (records_in d file.Trips) n && if_there (word_of id_kind (sym (same n) i)) (λ trip. nat_lt (sym (counted trip ∙ named_rows d trip) i) 2)

@@ -1,0 +1,76 @@
+-- Rows of trips as they are kept: what the numbers of their trips say of the rows next to a row.
+use Rattle.std.proofs.Common.{◌≡◌, ◌+◌, ◌-◌, ◌<◌, ◌≤◌, ◌∙◌, ℕ, Bool, true, false, List, [], ◌∷◌, arith, length, map, get_or, take, reverse, sym, ap, subst, Some}
+use Rattle.std.specs.Prelude.{◌&&◌, ◌||◌, ◌==◌, bytes_eq, not, pos}
+use Rattle.std.specs.List.{slice_get}
+use Rattle.std.specs.Option.{unwrap_or}
+use Rattle.std.specs.Ordering.{int_eq}
+use Rattle.std.specs.Cmp.{signed_Decides}
+use Rattle.std.proofs.lemmas.Bool.{eq-eqb}
+use Rattle.std.proofs.lemmas.List.{map_more, reverse-append, take_all}
+use Rattle.std.proofs.lemmas.Option.{get_or_from_slice_get, slice_get_within}
+use Rattle.gtfs_trip_rules.specs.TripNumbers.{AllNumbered, IsNumbered}
+use Rattle.gtfs_trip_rules.specs.TripOrder.{ends, follows, repeats, same_trip}
+use Rattle.gtfs_trip_rules.specs.TripStopTimes.{TripStopTime, trip_stop_time}
+use Rattle.gtfs_trip_rules.specs.declared.trips.row.TripStopTime.{TripStopTime as CodeTripStopTime}
+use Rattle.gtfs_columns.proofs.BoolFacts.{no_test, same_test}
+use Rattle.gtfs_columns.proofs.SiteFacts.{number_itself, same_number, text_is, text_itself}
+
+pub one_number : (a b : ℕ) → a ≡ b → (a == b) ≡ true
+one_number = eq-eqb
+
+pub two_numbers : (a b : ℕ) → (a ≡ b → ⊥) → (a == b) ≡ false
+two_numbers a b apart = no_test (a == b) (λ e. absurd (apart (same_number a b e)))
+
+same_integers : (a b : ℕ) → (a == b) ≡ int_eq (pos a) (pos b)
+same_integers a b = same_test (a == b) (int_eq (pos a) (pos b))
+    (λ e. (signed_Decides (pos a) (pos b)).1 (ap pos (same_number a b e)))
+    (λ e. one_number a b (cc ((signed_Decides (pos a) (pos b)).0 e)))
+
+module _ (number : List ℕ → ℕ) (name : ℕ → List ℕ) where
+  abbrev row_of : CodeTripStopTime → TripStopTime
+  row_of = trip_stop_time name
+
+  -- rows whose trips have one number are of one trip, and no others are
+  same_trips : (a b : CodeTripStopTime) → IsNumbered number name a → IsNumbered number name b → (a.trip == b.trip) ≡ same_trip (row_of a) (row_of b)
+  same_trips a b first second = same_test (a.trip == b.trip) (bytes_eq (name a.trip) (name b.trip))
+      (λ e. ap (λ n. bytes_eq (name a.trip) (name n)) (sym (same_number a.trip b.trip e)) ∙ text_itself (name a.trip))
+      (λ e. ap (λ n. a.trip == n) (sym second ∙ ap number (sym (text_is (name a.trip) (name b.trip) e)) ∙ first) ∙ number_itself a.trip)
+
+  -- ---- the row before
+
+  module _ (before : List CodeTripStopTime) (row last : CodeTripStopTime) (is_last : slice_get before (length before - 1) ≡ Some last) (each : AllNumbered number name before)
+      (of_row : IsNumbered number name row) where
+    abbrev site : ℕ
+    site = length before - 1
+
+    there : site < length before
+    there = slice_get_within before site last is_last
+
+    here : get_or before site last ≡ last
+    here = get_or_from_slice_get before site last last is_last
+
+    last_first : row_of last ∷ reverse (map row_of (take site before)) ≡ reverse (map row_of before)
+    last_first =
+        let past : length before ≤ site + 1 = omega (arith, there) in
+        ap (λ r. row_of r ∷ reverse (map row_of (take site before))) (sym here)
+        ∙ sym (ap reverse (map_more row_of before site last there) ∙ reverse-append (map row_of (take site before)) (row_of (get_or before site last) ∷ []))
+        ∙ ap (λ rows. reverse (map row_of rows)) (take_all (site + 1) before past)
+
+    same_as_last : (row.trip == last.trip) ≡ same_trip (row_of row) (row_of last)
+    same_as_last = same_trips row last of_row (subst (IsNumbered number name) here (each site last there))
+
+    pub follows_last : (row.trip == last.trip) ≡ follows (reverse (map row_of before)) (row_of row)
+    follows_last = same_as_last ∙ ap (λ rows. follows rows (row_of row)) last_first
+
+    pub repeats_last : ((row.trip == last.trip) && (row.stop_sequence == last.stop_sequence)) ≡ repeats (reverse (map row_of before)) (row_of row)
+    repeats_last = (λ i. same_as_last i && same_integers row.stop_sequence last.stop_sequence i) ∙ ap (λ rows. repeats rows (row_of row)) last_first
+
+  -- ---- the row after
+
+  pub ends_first : (row next : CodeTripStopTime) (after : List CodeTripStopTime) (answer : Bool) → slice_get after 0 ≡ Some next → IsNumbered number name row → AllNumbered number name after
+      → answer ≡ ends (map row_of after) → (not (row.trip == next.trip) || ((row.stop_sequence == next.stop_sequence) && answer)) ≡ ends (row_of row ∷ map row_of after)
+  ends_first row next [] answer first of_row each is = cc first
+  ends_first row next (a ∷ after) answer first of_row each is =
+      let same : next ≡ a = ap (λ o. unwrap_or o a) (sym first) in
+      ap (λ n. not (row.trip == n.trip) || ((row.stop_sequence == n.stop_sequence) && answer)) same
+      ∙ (λ i. not (same_trips row a of_row (each 0 a (omega arith)) i) || (same_integers row.stop_sequence a.stop_sequence i && is i))

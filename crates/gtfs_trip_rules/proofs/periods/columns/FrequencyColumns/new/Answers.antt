@@ -1,0 +1,10 @@
+use Rattle.gtfs_table.specs.Rows.{records_in}
+use Rattle.gtfs_table.specs.Tables.{field_under, record_at}
+use Rattle.gtfs_table.specs.declared.file.File.TheVariants as file
+use Rattle.gtfs_trip_rules.specs.PeriodView.{period_of}
+use Rattle.gtfs_trip_rules.proofs.periods.columns.FrequencyColumns.new.Goals as goal
+
+pub returns : goal.returns
+returns c = λ n.
+    let r = record_at (records_in c.args.tables.now file.Frequencies) n in
+    λ i. period_of (field_under r (c.column.ensures i)) (field_under r (c.column-2.ensures i)) (field_under r (c.column-3.ensures i))

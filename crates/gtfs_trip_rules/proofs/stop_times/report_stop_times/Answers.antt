@@ -1,0 +1,51 @@
+use Rattle.std.proofs.Common.{◌∙◌, subst, sym}
+use Rattle.gtfs_table.specs.declared.file.File.TheVariants as file
+use Rattle.gtfs_table.proofs.RowFacts.{all_taken, turn}
+use Rattle.gtfs_trip_rules.specs.StopTimePicks.{in_rows}
+use Rattle.gtfs_trip_rules.specs.StopTimes.{IsRow, IsStopTime}
+use Rattle.gtfs_columns.proofs.RowFacts.{reported_all, reported_more, reported_none}
+use Rattle.gtfs_trip_rules.proofs.StopTimePasses.{rows_reported, silent_rows}
+use Rattle.gtfs_trip_rules.proofs.TripStopTimeFacts.{notes_more, trip_notes_read}
+use Rattle.gtfs_trip_rules.proofs.stop_times.report_stop_times.Goals as goal
+
+pub loop-row-init : goal.loop-row-init
+loop-row-init c = record {
+  named = c.new-named.ensures c.args.tables.now c.requires.ids c.requires.types;
+  reported = reported_none c.args.tables.now in_rows c.args.found.now;
+  notes = c.new-notes.ensures;
+}
+
+pub stop_time-stop_time-requires-clause-fields : goal.stop_time-stop_time-requires-clause-fields
+stop_time-stop_time-requires-clause-fields c =
+    let d = c.args.tables.now in
+    let t = turn d file.StopTimes _ c.loop-row.yielded _ (c.into_iter-row-iterator.ensures.into_iter_gives ∙ c.rows-row-items.ensures) c.loop-row.yielded_by c.in-Some.row c.in-Some.record _ c.in-Some.ensures.steps in
+    rw c.of-columns.ensures.tables t.record_is
+
+pub loop-row-preserved : goal.loop-row-preserved
+loop-row-preserved c =
+    let d = c.args.tables.now in
+    let s = c.stop_time-stop_time.result in
+    let here = c.stop_time-stop_time.ensures.row in
+    let n = c.in-Some.row in
+    let t = turn d file.StopTimes _ c.loop-row.yielded _ (c.into_iter-row-iterator.ensures.into_iter_gives ∙ c.rows-row-items.ensures) c.loop-row.yielded_by n c.in-Some.record _ c.in-Some.ensures.steps in
+    let says : IsStopTime d n s = rw c.of-columns.ensures.tables at c.stop_time-stop_time.ensures in
+    let is : IsRow d s = record { row = rw here t.is_row; says = subst (λ m. IsStopTime d m s) (sym here) says } in
+    record {
+      named = c.in_ok-report_row.ensures.same d c.loop-row.invariant.named;
+      reported = reported_more d in_rows c.loop-row.yielded n _ _ _ _ c.loop-row.invariant.reported
+          (rw here at (c.in_ok-report_row.ensures.reported d c.of-columns.ensures c.loop-row.invariant.named is));
+      notes = c.in_ok-take_note.ensures d n says ∙ notes_more d c.loop-row.yielded n c.in-Some.record _ c.loop-row.invariant.notes;
+    }
+
+pub returns-clause-reported : goal.returns-clause-reported
+returns-clause-reported c =
+    let d = c.args.tables.now in
+    let silent = silent_rows d c.new-named.result (c.new-named.ensures d c.requires.ids c.requires.types) in
+    let all = all_taken d file.StopTimes _ c.loop-row.yielded _ (c.into_iter-row-iterator.ensures.into_iter_gives ∙ c.rows-row-items.ensures) c.loop-row.yielded_by c.in-None.ensures.steps.0 in
+    rows_reported d _ _ (reported_all d file.StopTimes in_rows _ _ silent (rw all at c.loop-row.invariant.reported))
+
+pub returns-clause-notes : goal.returns-clause-notes
+returns-clause-notes c =
+    let d = c.args.tables.now in
+    let all = all_taken d file.StopTimes _ c.loop-row.yielded _ (c.into_iter-row-iterator.ensures.into_iter_gives ∙ c.rows-row-items.ensures) c.loop-row.yielded_by c.in-None.ensures.steps.0 in
+    (rw all at c.loop-row.invariant.notes) ∙ trip_notes_read d

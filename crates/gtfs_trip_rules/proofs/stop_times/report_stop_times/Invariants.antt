@@ -1,0 +1,17 @@
+use Rattle.std.proofs.Common.{◌≡◌}
+use Rattle.std.specs.List.{filter_map}
+use Rattle.gtfs_table.specs.Rows.{numbers}
+use Rattle.gtfs_columns.specs.steps.Found.{Reports}
+use Rattle.gtfs_trip_rules.specs.StopTimePicks.{in_rows}
+use Rattle.gtfs_trip_rules.specs.StopTimes.{AreNamedRows}
+use Rattle.gtfs_columns.proofs.RowFacts.{at_rows}
+use Rattle.gtfs_trip_rules.specs.TripTexts.{note_read}
+use Rattle.gtfs_trip_rules.proofs.stop_times.report_stop_times.Given as goal
+
+-- what is named, and of the rows so far what was reported and what they say of their trips
+abbrev pub invariant-loop-row : goal.invariant-loop-row
+invariant-loop-row l = record {
+  named : AreNamedRows l.tables l.named;
+  reported : Reports l.tables (at_rows in_rows (numbers l.yielded)) l.fn.found l.found;
+  notes : l.notes ≡ filter_map (note_read l.tables) (numbers l.yielded);
+}

@@ -1,0 +1,15 @@
+pub mod PeriodView
+pub mod Readings
+pub mod RowsById
+pub mod ServiceFields
+pub mod ServiceRows
+pub mod ServiceView
+pub mod SpanView
+pub mod StopTimePicks
+pub mod StopTimes
+pub mod TripCounts
+pub mod TripNotes
+pub mod TripNumbers
+pub mod TripOrder
+pub mod TripStopTimes
+pub mod TripTexts

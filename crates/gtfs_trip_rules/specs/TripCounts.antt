@@ -1,0 +1,30 @@
+-- What is kept of the rows of stop_times.txt: how many name a trip, by the numbers of trips, and whether each has a sequence.
+use Rattle.std.specs.Prelude.{◌≡◌, ◌==◌, ℕ, Bool, true, List, filter, get_or, length, nat_lt, option_map}
+use Rattle.std.specs.Borrow.{Bor}
+use Rattle.std.specs.BTreeMap.{BTreeMap}
+use Rattle.std.specs.List.{All}
+use Rattle.std.specs.Option.{unwrap_or}
+use Rattle.gtfs_trip_rules.specs.declared.trips.row.TripStopTime.{TripStopTime as CodeTripStopTime}
+use Rattle.gtfs_trip_rules.specs.TripNumbers.{number_in, AreNumbered}
+
+-- of each number how many rows have it
+abbrev pub AreCounts : List ℕ → List CodeTripStopTime → Type 0
+AreCounts counts rows = (n : ℕ) → get_or counts n 0 ≡ length (filter (λ r. n == r.trip) rows)
+
+-- how many rows name a trip; a trip without a number has none
+abbrev pub count_of : BTreeMap (Bor (List ℕ)) ℕ → List ℕ → List ℕ → ℕ
+count_of numbers counts trip = unwrap_or (option_map (λ n. get_or counts n 0) (number_in numbers trip)) 0
+
+-- fewer than two rows name the trip
+abbrev pub are_few : BTreeMap (Bor (List ℕ)) ℕ → List ℕ → List ℕ → Bool
+are_few numbers counts trip = nat_lt (count_of numbers counts trip) 2
+
+-- each row has a sequence, where this says so
+abbrev pub AreSequenced : Bool → List CodeTripStopTime → Type 0
+AreSequenced are rows = are ≡ true → All (λ r. r.has_sequence ≡ true) rows
+
+-- what is kept beside the rows is right of them
+pub record AreKept (numbers : BTreeMap (Bor (List ℕ)) ℕ) (names : List (Bor (List ℕ))) (counts : List ℕ) (are_sequenced : Bool) (rows : List CodeTripStopTime) : Type 0 where
+  pub numbered : AreNumbered numbers names rows
+  pub counted : AreCounts counts rows
+  pub located : AreSequenced are_sequenced rows

@@ -1,0 +1,100 @@
+pub(crate) mod columns;
+mod fields;
+mod named;
+pub(crate) mod reading;
+mod times;
+
+ghost use Rattle.std.specs.List.{cons_option};
+ghost use Rattle.std.specs.Prelude.{◌≡◌, ◌++◌, [], ℕ, IfOk, OnOk};
+ghost use Rattle.gtfs_table.specs.declared.file.File.TheVariants as file;
+ghost use Rattle.gtfs_columns.specs.declared.file_name.FileName.TheVariants as file_name;
+ghost use Rattle.gtfs_table.specs.Tables.{Dataset};
+ghost use Rattle.gtfs_columns.specs.steps.FeedIds.{AreIdsOf};
+ghost use Rattle.gtfs_columns.specs.steps.Found.{Reports};
+ghost use Rattle.gtfs_columns.specs.steps.StopTypes.{AreStopTypes};
+ghost use Rattle.gtfs_trip_rules.specs.StopTimePicks.{in_rows, in_stop_times};
+ghost use Rattle.gtfs_trip_rules.specs.StopTimes.{AreNamedRows, AreStopTimeColumns, IsRow, IsStopTime, ReportsOfRow};
+ghost use Rattle.gtfs_trip_rules.specs.TripNotes.{trip_notes_in};
+ghost use Rattle.gtfs_trip_rules.specs.TripTexts.{note_read};
+
+use crate::stop_times::columns::{StopTime, StopTimeColumns};
+use crate::stop_times::fields::report_fields;
+use crate::stop_times::named::NamedRows;
+use crate::stop_times::times::report_times;
+use crate::trips::notes::TripNotes;
+use gtfs_columns::{Code, FeedIds, FileName, Found, Problem};
+use gtfs_field::OutOfMemory;
+use gtfs_table::{File, Tables};
+use std::alloc::Global;
+
+// Reports what is wrong with the rows of stop_times.txt by themselves, and what they name that is
+// not there or of another kind; and takes note of what they say of their trips. It is one pass, in
+// which each field is cut and read once.
+pub fn report_stop_times<'a>(
+    alloc: Global,
+    tables: &'a Tables,
+    ids: &FeedIds<'a>,
+    types: &[Option<i64>],
+    found: &mut Found<'a>,
+) -> Result<TripNotes<'a>, OutOfMemory>
+    requires ids { AreIdsOf tables.now ids.now }
+    requires types { AreStopTypes tables.now types.now }
+    ensures reported { OnOk result (Reports tables.now in_stop_times found.old found.new) }
+    ensures notes { IfOk result (λ notes. notes ≡ trip_notes_in tables.now) }
+{
+    let columns = StopTimeColumns::of(tables);
+    let mut named = NamedRows::new(&*ids, types);
+    let mut notes = TripNotes::new(alloc);
+    for (row, record) in tables.rows(File::StopTimes) {
+        let stop_time = columns.stop_time(row, &record);
+        report_row(&columns, &mut named, &stop_time, found)?;
+        take_note(&stop_time, &mut notes)?;
+    }
+    Ok(notes)
+}
+
+// Reports what is wrong with one row.
+fn report_row<'a>(
+    columns: &StopTimeColumns<'a>,
+    named: &mut NamedRows<'_, '_>,
+    stop_time: &StopTime<'a>,
+    found: &mut Found<'a>,
+) -> Result<(), OutOfMemory>
+    ensures reported { OnOk result ((d : Dataset) → AreStopTimeColumns d columns.now
+        → AreNamedRows d named.old → IsRow d stop_time.now
+        → ReportsOfRow d in_rows stop_time.now.row found.old found.new) }
+    ensures same { (d : Dataset) → AreNamedRows d named.old → AreNamedRows d named.new }
+{
+    report_fields(columns, stop_time, found)?;
+    named.report(stop_time, found)?;
+    report_times(stop_time, found)
+}
+
+// Takes note of what a row says of its trip, where it names one.
+#[inline(always)]
+fn take_note<'a>(stop_time: &StopTime<'a>, notes: &mut TripNotes<'a>) -> Result<(), OutOfMemory>
+    ensures { OnOk result ((d : Dataset) (n : ℕ) → IsStopTime d n stop_time.now
+        → notes.new ≡ notes.old ++ cons_option (note_read d n) []) }
+{
+    match stop_time.trip_note() {
+        Some(note) => notes.note(note),
+        None => Ok(()),
+    }
+}
+
+// A problem of a row of stop_times.txt.
+fn problem<'a>(row: usize, code: Code, column: &'static str) -> Problem<'a>
+    ensures { result ≡ record {
+      file = file_name.Kept file.StopTimes;
+      row = row;
+      code = code;
+      column = column.entry;
+    } }
+{
+    Problem {
+        file: FileName::Kept(File::StopTimes),
+        row,
+        code,
+        column,
+    }
+}

@@ -1,0 +1,109 @@
+ghost use Rattle.std.specs.Prelude.{◌≡◌, option_map, pos};
+ghost use Rattle.gtfs_columns.specs.Columns.{count, id, time};
+ghost use Rattle.gtfs_trip_rules.specs.Readings.{code_in, fault_in, fault_of, is_blank, value_in, value_or};
+ghost use Rattle.gtfs_columns.specs.Values.{amount, readable, word};
+ghost use Rattle.gtfs_table.specs.Rows.{is_empty};
+
+use gtfs_columns::{Code, has_control};
+use gtfs_field::{FieldFault, read_count, read_time};
+
+// What reading a field found.
+#[derive(Clone, Copy)]
+pub(crate) enum Reading<V> {
+    Empty,
+    Fault(Code),
+    Value(V),
+}
+
+impl<V: Copy> Reading<V> {
+    pub(crate) fn is_empty(&self) -> bool
+        ensures { result ≡ is_blank self.now }
+    {
+        match self {
+            Reading::Empty => true,
+            Reading::Fault(_) => false,
+            Reading::Value(_) => false,
+        }
+    }
+
+    // The value, if there is one.
+    pub(crate) fn value(&self) -> Option<V>
+        ensures { result ≡ value_in self.now }
+    {
+        match self {
+            Reading::Empty => None,
+            Reading::Fault(_) => None,
+            Reading::Value(value) => Some(*value),
+        }
+    }
+
+    // This value, and else the other one: none where one of the two fields is not as it has to be.
+    pub(crate) fn or(&self, other: &Reading<V>) -> Option<V>
+        ensures { result ≡ value_or self.now other.now }
+    {
+        match (self, other) {
+            (Reading::Fault(_), _) => None,
+            (_, Reading::Fault(_)) => None,
+            (Reading::Empty, other) => other.value(),
+            (Reading::Value(value), _) => Some(*value),
+        }
+    }
+
+    // What is wrong with the field, if anything, where its column has to be filled or not.
+    pub(crate) fn code(&self, is_required: bool) -> Option<Code>
+        ensures { result ≡ code_in is_required self.now }
+    {
+        match self {
+            Reading::Empty => is_required.then_some(Code::E06),
+            Reading::Fault(code) => Some(*code),
+            Reading::Value(_) => None,
+        }
+    }
+}
+
+#[inline(always)]
+pub(crate) fn read_id(text: &str) -> Reading<&str>
+    ensures empty { is_blank result ≡ is_empty text.now }
+    ensures fault { fault_in result ≡ fault_of id text.now }
+    ensures value { option_map (λ t. word t.now) (value_in result) ≡ readable id text.now }
+{
+    if text.is_empty() {
+        Reading::Empty
+    } else if has_control(text) {
+        Reading::Fault(Code::E20)
+    } else {
+        Reading::Value(text)
+    }
+}
+
+#[inline(always)]
+pub(crate) fn read_seconds(text: &str) -> Reading<u32>
+    ensures empty { is_blank result ≡ is_empty text.now }
+    ensures fault { fault_in result ≡ fault_of time text.now }
+    ensures value { option_map (λ n. amount (pos n)) (value_in result) ≡ readable time text.now }
+{
+    if text.is_empty() {
+        return Reading::Empty;
+    }
+    match read_time(text) {
+        Ok(time) => Reading::Value(time.seconds()),
+        Err(FieldFault::Form) => Reading::Fault(Code::E07),
+        Err(FieldFault::Range) => Reading::Fault(Code::E08),
+    }
+}
+
+#[inline(always)]
+pub(crate) fn read_number(text: &str) -> Reading<u32>
+    ensures empty { is_blank result ≡ is_empty text.now }
+    ensures fault { fault_in result ≡ fault_of count text.now }
+    ensures value { option_map (λ n. amount (pos n)) (value_in result) ≡ readable count text.now }
+{
+    if text.is_empty() {
+        return Reading::Empty;
+    }
+    match read_count(text) {
+        Ok(number) => Reading::Value(number),
+        Err(FieldFault::Form) => Reading::Fault(Code::E07),
+        Err(FieldFault::Range) => Reading::Fault(Code::E08),
+    }
+}

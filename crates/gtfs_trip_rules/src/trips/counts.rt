@@ -1,0 +1,49 @@
+ghost use Rattle.std.specs.Prelude.{◌≡◌, ◌∷◌, [], OnOk};
+ghost use Rattle.gtfs_columns.specs.Columns.{id};
+ghost use Rattle.gtfs_columns.specs.Reads.{word_of};
+ghost use Rattle.gtfs_columns.specs.declared.code.Code.TheVariants as code;
+ghost use Rattle.gtfs_columns.specs.steps.Found.{Reports};
+ghost use Rattle.gtfs_columns.specs.steps.Picks.{of_codes};
+ghost use Rattle.gtfs_trip_rules.specs.TripCounts.{are_few};
+ghost use Rattle.gtfs_trip_rules.specs.TripNotes.{trip_notes_in};
+ghost use Rattle.gtfs_columns.specs.Values.{if_there};
+
+use crate::trips::notes::TripNotes;
+use crate::trips::row_counts::RowCounts;
+use gtfs_columns::{Code, FileName, Found, Problem, values};
+use gtfs_field::OutOfMemory;
+use gtfs_table::{File, Tables};
+
+// Reports each row of trips.txt whose trip has fewer than two rows in stop_times.txt.
+pub fn report_counts<'a>(
+    tables: &'a Tables,
+    notes: &TripNotes<'a>,
+    found: &mut Found<'a>,
+) -> Result<(), OutOfMemory>
+    requires { notes.now ≡ trip_notes_in tables.now }
+    ensures { OnOk result (Reports tables.now (of_codes (code.W06 ∷ [])) found.old found.new) }
+{
+    let trip_id = tables.column(File::Trips, "trip_id");
+    let counts = notes.counts();
+    for (row, record) in tables.rows(File::Trips) {
+        let problem = Problem {
+            file: FileName::Kept(File::Trips),
+            row,
+            code: Code::W06,
+            column: "trip_id",
+        };
+        found.report(problem, has_few_rows(&counts, record.value(trip_id)))?;
+    }
+    Ok(())
+}
+
+// Whether a text is the id of a trip that fewer than two rows of stop_times.txt name.
+fn has_few_rows(counts: &RowCounts<'_, '_>, text: &str) -> bool
+    ensures { result ≡ if_there (word_of id text.now)
+        (are_few counts.now.numbers.now counts.now.counts.now) }
+{
+    match values::id(text) {
+        Some(trip_id) => counts.are_few(trip_id),
+        None => false,
+    }
+}

@@ -1,0 +1,196 @@
+ghost use Rattle.std.specs.Prelude.{◌≡◌, ◌∷◌, ◌||◌, [], List, ℕ, map, reverse, codes, pos, option_map, OnOk};
+ghost use Rattle.gtfs_table.specs.Tables.{Dataset};
+ghost use Rattle.gtfs_table.specs.declared.file.File.TheVariants as file;
+ghost use Rattle.gtfs_columns.specs.declared.code.Code.TheVariants as code;
+ghost use Rattle.gtfs_columns.specs.declared.file_name.FileName.TheVariants as file_name;
+ghost use Rattle.gtfs_columns.specs.steps.Found.{Reports};
+ghost use Rattle.gtfs_columns.specs.steps.Picks.{at_column, in_file, of_codes};
+ghost use Rattle.gtfs_trip_rules.specs.TripNotes.{trip_notes_in};
+ghost use Rattle.gtfs_trip_rules.specs.TripNumbers.{AllNumbered, AreRowsNumbered, IsNumbered};
+ghost use Rattle.gtfs_trip_rules.specs.TripOrder.{ends, follows, is_left_later, is_untimed_end, last_left as last_left_of, left_before, kept_cmp, repeats, AreInOrder};
+ghost use Rattle.gtfs_trip_rules.specs.TripStopTimes.{trip_stop_time, trip_stop_times_in};
+
+use crate::trips::notes::TripNotes;
+use crate::trips::row::TripStopTime;
+use gtfs_columns::{Code, FileName, Found, Problem};
+use gtfs_field::OutOfMemory;
+use gtfs_table::{File, Tables};
+use std::cmp::Ordering;
+
+// Reports what the order of stop times breaks: a sequence of a trip that comes twice, a first or
+// last row without times, and a time that goes back.
+pub fn report_order<'a>(
+    tables: &'a Tables,
+    notes: TripNotes<'a>,
+    found: &mut Found<'a>,
+) -> Result<(), OutOfMemory>
+    requires { notes ≡ trip_notes_in tables.now }
+    ensures { OnOk result (Reports tables.now
+        (λ p. in_file code.E09 file.StopTimes p || of_codes (code.E15 ∷ code.E17 ∷ []) p)
+        found.old found.new) }
+{
+    let rows = in_order(notes.into_rows());
+    report_repeats(&rows, found)?;
+    report_untimed_ends(&rows, found)?;
+    report_times_back(&rows, found)
+}
+
+// The rows by trip, sequence and row. Where they stand in this order already, as they mostly do,
+// one pass finds it so.
+fn in_order(mut rows: Vec<TripStopTime>) -> Vec<TripStopTime>
+    ensures { (d : Dataset) → AreRowsNumbered (trip_stop_times_in d) rows.items
+        → AreInOrder d result.items }
+{
+    rows.sort_unstable_by(|a, b| order(a, b));
+    rows
+}
+
+fn order(a: &TripStopTime, b: &TripStopTime) -> Ordering
+    ensures { result ≡ kept_cmp a.now b.now }
+{
+    a.trip
+        .cmp(&b.trip)
+        .then(a.stop_sequence.cmp(&b.stop_sequence))
+        .then(a.row.cmp(&b.row))
+}
+
+// Rows whose trip and sequence an earlier row has.
+fn report_repeats<'a>(rows: &[TripStopTime], found: &mut Found<'a>) -> Result<(), OutOfMemory>
+    ensures { OnOk result ((d : Dataset) → AreInOrder d rows.now
+        → Reports d (at_column code.E09 file.StopTimes (codes "stop_sequence"))
+        found.old found.new) }
+{
+    for at in 0..rows.len() {
+        let row = &rows[at];
+        let problem = problem(row, Code::E09, "stop_sequence");
+        found.report(problem, repeats(&rows[..at], row))?;
+    }
+    Ok(())
+}
+
+// The first and the last row of a trip where it has no time.
+fn report_untimed_ends<'a>(rows: &[TripStopTime], found: &mut Found<'a>) -> Result<(), OutOfMemory>
+    ensures { OnOk result ((d : Dataset) → AreInOrder d rows.now
+        → Reports d (at_column code.E15 file.StopTimes (codes "arrival_time"))
+        found.old found.new) }
+{
+    let mut ends_trip = true;
+    for at in (0..rows.len()).rev() {
+        let row = &rows[at];
+        ends_trip = ends(row, &rows[at + 1..], ends_trip);
+        let problem = problem(row, Code::E15, "arrival_time");
+        found.report(problem, is_untimed_end(&rows[..at], row, ends_trip))?;
+    }
+    Ok(())
+}
+
+// Rows that are reached before the row with a time before them is left.
+fn report_times_back<'a>(rows: &[TripStopTime], found: &mut Found<'a>) -> Result<(), OutOfMemory>
+    ensures { OnOk result ((d : Dataset) → AreInOrder d rows.now
+        → Reports d (at_column code.E17 file.StopTimes (codes "arrival_time"))
+        found.old found.new) }
+{
+    let mut last_left = None;
+    for at in 0..rows.len() {
+        let row = &rows[at];
+        let left = left_before(&rows[..at], row, last_left);
+        let problem = problem(row, Code::E17, "arrival_time");
+        found.report(problem, is_left_later(left, row.arrival))?;
+        last_left = row.departure.or(left);
+    }
+    Ok(())
+}
+
+fn problem<'a>(row: &TripStopTime, code: Code, column: &'static str) -> Problem<'a>
+    ensures { result ≡ record {
+      file = file_name.Kept file.StopTimes;
+      row = row.now.row;
+      code = code;
+      column = column.entry;
+    } }
+{
+    Problem {
+        file: FileName::Kept(File::StopTimes),
+        row: row.row,
+        code,
+        column,
+    }
+}
+
+// Whether the row before is of the same trip.
+fn follows(before: &[TripStopTime], row: &TripStopTime) -> bool
+    ensures { (number : List ℕ → ℕ) (name : ℕ → List ℕ) → AllNumbered number name before.now
+        → IsNumbered number name row.now
+        → result
+        ≡ follows (reverse (map (trip_stop_time name) before.now)) (trip_stop_time name row.now) }
+{
+    match before.last() {
+        Some(last) => row.trip == last.trip,
+        None => false,
+    }
+}
+
+// Whether the row before has the same trip and sequence.
+fn repeats(before: &[TripStopTime], row: &TripStopTime) -> bool
+    ensures { (number : List ℕ → ℕ) (name : ℕ → List ℕ) → AllNumbered number name before.now
+        → IsNumbered number name row.now
+        → result
+        ≡ repeats (reverse (map (trip_stop_time name) before.now)) (trip_stop_time name row.now) }
+{
+    match before.last() {
+        Some(last) => row.trip == last.trip && row.stop_sequence == last.stop_sequence,
+        None => false,
+    }
+}
+
+// Whether no row after is of the same trip and has a greater sequence, where that is known of the
+// next row.
+fn ends(row: &TripStopTime, after: &[TripStopTime], next_ends: bool) -> bool
+    ensures { (number : List ℕ → ℕ) (name : ℕ → List ℕ) → IsNumbered number name row.now
+        → AllNumbered number name after.now
+        → next_ends ≡ ends (map (trip_stop_time name) after.now)
+        → result ≡ ends (trip_stop_time name row.now ∷ map (trip_stop_time name) after.now) }
+{
+    match after.first() {
+        Some(next) => {
+            row.trip != next.trip || (row.stop_sequence == next.stop_sequence && next_ends)
+        }
+        None => true,
+    }
+}
+
+// Whether a row without times is the first of its trip, or of the rows with its trip's greatest
+// sequence.
+fn is_untimed_end(before: &[TripStopTime], row: &TripStopTime, ends_trip: bool) -> bool
+    ensures { (number : List ℕ → ℕ) (name : ℕ → List ℕ) → AllNumbered number name before.now
+        → IsNumbered number name row.now
+        → result ≡ is_untimed_end (reverse (map (trip_stop_time name) before.now))
+        (trip_stop_time name row.now) ends_trip }
+{
+    row.is_untimed && (!follows(before, row) || (!repeats(before, row) && ends_trip))
+}
+
+// When the row's trip was left last, where that is known of the row before.
+fn left_before(before: &[TripStopTime], row: &TripStopTime, last_left: Option<u32>) -> Option<u32>
+    ensures { (number : List ℕ → ℕ) (name : ℕ → List ℕ) → AllNumbered number name before.now
+        → IsNumbered number name row.now
+        → option_map pos last_left ≡ last_left_of (reverse (map (trip_stop_time name) before.now))
+        → option_map pos result ≡ left_before (reverse (map (trip_stop_time name) before.now))
+        (trip_stop_time name row.now) }
+{
+    if follows(before, row) {
+        last_left
+    } else {
+        None
+    }
+}
+
+// Whether a time at which a row is left comes after that at which another one is reached.
+fn is_left_later(left: Option<u32>, arrival: Option<u32>) -> bool
+    ensures { result ≡ is_left_later (option_map pos left) (option_map pos arrival) }
+{
+    match (left, arrival) {
+        (Some(left), Some(arrival)) => arrival < left,
+        _ => false,
+    }
+}
