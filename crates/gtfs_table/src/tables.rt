@@ -105,7 +105,8 @@ impl Tables {
     /// Reads a folder: first its names, and then each kept file in the order of [`File::ALL`], whichever
     /// names there were. The first fault ends it.
     ///
-    /// Leading byte order marks are dropped, and what follows has to be UTF-8. The records of a file are those that `csv` reads by default, with no header handling, of any lengths.
+    /// Leading byte order marks are dropped, and what follows has to be UTF-8. The records of a file are
+    /// those that `csv` reads by default, with no header handling, of any lengths.
     ///
     /// Refused with [`FolderFault::Read`], with [`FolderFault::TooLarge`] where a kept file is longer than
     /// the device's limit, with [`FolderFault::NoFolder`] and with [`FolderFault::OutOfMemory`].
@@ -218,7 +219,7 @@ impl Tables {
         }
     }
 
-    /// The names of what else the folder holds, by bytes: none is that of a kept file.
+    /// The names of what else the folder holds, in the order of their bytes. None is that of a kept file.
     pub fn others(&self) -> &[Text]
         ensures value { result.now ≡ self.now.others }
         ensures ordered { IsByBytes result.now }
