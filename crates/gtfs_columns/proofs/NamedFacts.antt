@@ -32,7 +32,7 @@ counted : (b : Bool) (n : ℕ) → nat_lt 0 (cond b 1 0 + n) ≡ (b || nat_lt 0 
 counted true n = grind (arith, nat_tests)
 counted false n = grind (arith, nat_tests)
 
-count_any : {X : Type 0} (p : X → Bool) (xs : List X) → nat_lt 0 (count_by p xs) ≡ list_any p xs
+pub count_any : {X : Type 0} (p : X → Bool) (xs : List X) → nat_lt 0 (count_by p xs) ≡ list_any p xs
 count_any p [] = refl
 count_any p (x ∷ xs) = ap (nat_lt 0) (sum_by-cons (λ y. cond (p y) 1 0) x xs) ∙ counted (p x) (count_by p xs) ∙ ap (λ b. p x || b) (count_any p xs)
 

@@ -14,11 +14,11 @@ use crate::values;
 use gtfs_field::{Clock, Colour, Day};
 
 /// The id of a required column, as it stands ("ID").
-pub fn id(text: &str) -> &str
-    requires { StandsRequired kind.id text.now }
-    ensures { word_of kind.id text.now ≡ Some result.now }
+pub fn id(id: &str) -> &str
+    requires { StandsRequired kind.id id.now }
+    ensures { word_of kind.id id.now ≡ Some result.now }
 {
-    text
+    id
 }
 
 /// The text of a required column, as it stands ("Text", and the kinds that are taken as texts). Its value has a space

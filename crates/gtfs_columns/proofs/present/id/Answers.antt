@@ -2,4 +2,4 @@ use Rattle.gtfs_columns.proofs.ReadFacts.{id_there}
 use Rattle.gtfs_columns.proofs.present.id.Goals as goal
 
 pub returns : goal.returns
-returns c = id_there c.args.text.now c.requires
+returns c = id_there c.args.id.now c.requires
