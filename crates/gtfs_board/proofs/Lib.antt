@@ -1,0 +1,12 @@
+pub mod Orders
+pub mod Ints
+pub mod Heads
+pub mod Opening
+pub mod Window
+pub mod Reach
+pub mod Rests
+pub mod Days
+pub mod Candidates
+pub mod Gathers
+pub mod Merges
+pub mod Starts

@@ -1,0 +1,101 @@
+use Rattle.std.proofs.Common.{rules, ◌≡◌, ◌++◌, w32, w64, SFits, to_z, of_z, arith, refl, ◌∙◌, ap, heap_items}
+use Rattle.std.specs.Prelude.{pos, ◌+ℤ◌, ◌≤ℤ◌}
+use Rattle.std.specs.Option.{option_to_list}
+use Rattle.std.proofs.lemmas.Int.{to_z-of_z, ints}
+use Rattle.gtfs_board.specs.merge.Candidates.{least_from}
+use Rattle.gtfs_board.proofs.Ints.{closer, up_more, le_chain}
+use Rattle.gtfs_board.proofs.Gathers.{gathered_first, gathered_more, steps_few_more}
+use Rattle.gtfs_board.proofs.merge.gathering.gather.Goals as goal
+
+pub loop-fresh-init : goal.loop-fresh-init
+loop-fresh-init g c =
+    let source = c.args.source.now in
+    let items = heap_items c.args.queue.now in
+    let waiting = c.least_waiting-waiting.result in
+    let least = c.in_ok-least.least in
+    let end_fits : SFits w64 c.end.result = search rules in
+    let waiting_fits : SFits w64 waiting = search rules in
+    let least_fits : SFits w64 least = search rules in
+    let day_is = to_z-of_z w32 c.args.day c.ranges.day in
+    let waiting_is = to_z-of_z w64 waiting waiting_fits in
+    let least_is = to_z-of_z w64 least least_fits in
+    let end_is = to_z-of_z w64 c.end.result end_fits ∙ c.end.ensures in
+    let waits = waiting_is ∙ c.least_waiting-waiting.ensures ∙ ap (λ e. least_from e items) end_is in
+    let kept = c.in_ok-least.ensures in
+    let r = gathered_first (g.S.Source.events source) c.args.floor.now (g.S.Source.end source) items _ _ c.args.head c.args.day _ _
+    c.requires.heads c.requires.within c.new-fresh.ensures.items kept.heads waits kept.least in
+    let last = c.last-last.ensures.value in
+    record {
+      gathered = rw (day_is, least_is) r.0;
+      last = let last_fits : SFits w32 c.last-last.result = search rules in to_z-of_z w32 c.last-last.result last_fits ∙ last;
+      up = omega (arith, ints);
+      to = rw day_is c.requires.to;
+      steps = λ low from. rw (least_is, r.1) (omega arith);
+    }
+
+pub next_day-day-requires : goal.next_day-day-requires
+next_day-day-requires g c =
+    let due = c.loop-fresh-test.ensures.due (search rules) in
+    let i = c.loop-fresh.invariant in
+    let last = c.last-last.ensures in
+    omega (arith, ints, due, i.last, i.up, last.low, last.high, c.requires.from)
+
+pub loop-fresh-smaller : goal.loop-fresh-smaller
+loop-fresh-smaller g c =
+    let due = c.loop-fresh-test.ensures.due (search rules) in
+    let next = c.next_day-day.ensures in
+    let i = c.loop-fresh.invariant in
+    let last = c.last-last.ensures in
+    let day = to_z w32 c.loop-fresh.day-bits in
+    let next_day = c.next_day-day.result in
+    let top = to_z w32 (of_z w32 c.last-last.result) +ℤ pos 1 in
+    let next_fits : SFits w32 next_day = search rules in
+    let next_is = to_z-of_z w32 next_day next_fits in
+    let plus : to_z w32 (of_z w32 (day +ℤ pos 1)) ≡ day +ℤ pos 1 = omega (arith, ints, due, i.last, i.up, last.low, last.high, c.requires.from) in
+    let up : (day +ℤ pos 1) ≤ℤ next_day = rw plus at next.up in
+    let goes = closer top day next_day (omega (arith, ints, up)) (omega (arith, ints, next.within, i.last)) in
+    rw next_is goes
+
+pub loop-fresh-preserved : goal.loop-fresh-preserved
+loop-fresh-preserved g c =
+    let source = c.args.source.now in
+    let due = c.loop-fresh-test.ensures.due (search rules) in
+    let next = c.next_day-day.ensures in
+    let step = c.in_ok-least-2.ensures in
+    let i = c.loop-fresh.invariant in
+    let last = c.last-last.ensures in
+    let day = to_z w32 c.loop-fresh.day-bits in
+    let mark = to_z w64 c.loop-fresh.least-bits in
+    let next_day = c.next_day-day.result in
+    let falls = c.in_ok-least-2.least in
+    let next_fits : SFits w32 next_day = search rules in
+    let falls_fits : SFits w64 falls = search rules in
+    let next_is = to_z-of_z w32 next_day next_fits in
+    let falls_is = to_z-of_z w64 falls falls_fits in
+    let plus : to_z w32 (of_z w32 (day +ℤ pos 1)) ≡ day +ℤ pos 1 = omega (arith, ints, due, i.last, i.up, last.low, last.high, c.requires.from) in
+    let up : (day +ℤ pos 1) ≤ℤ next_day = rw plus at next.up in
+    let skips = rw plus at next.skips in
+    let more = gathered_more (g.met.S.Source.lanes source) c.args.floor.now (g.S.Source.end source) (heap_items c.args.queue.now)
+    c.loop-fresh.fresh.items c.open_day.new.fresh.items day next_day mark falls i.gathered due.1 step.heads step.least up skips in
+    let day_is = to_z-of_z w32 c.args.day c.ranges.day in
+    let since = rw day_is at i.up in
+    let in_time = rw i.last at due.0 in
+    let there = g.met.S.Source.listed source day (le_chain _ c.args.day day c.requires.from since) in_time in
+    let begins = least_from (g.S.Source.end source) (heap_items c.args.queue.now ++ option_to_list c.args.head) in
+    let few = rw day_is at i.steps in
+    let steps = steps_few_more (g.S.Source.last source) day next_day mark falls (g.S.Source.days source) (g.S.Source.count source) _ _ _ c.args.day begins few there since in_time up more.1 more.2 step.steps in
+    record {
+      gathered = rw (next_is, falls_is) more.0;
+      last = i.last;
+      up = rw next_is (up_more _ day next_day i.up up);
+      to = rw next_is next.within;
+      steps = rw (next_is, falls_is, day_is) steps;
+    }
+
+pub returns-clause-stopped : goal.returns-clause-stopped
+returns-clause-stopped g c = let s = c.loop-fresh-test.ensures.stopped refl in rw (← c.loop-fresh.invariant.last) s
+
+pub returns-clause-steps : goal.returns-clause-steps
+returns-clause-steps g c =
+    let day_is = to_z-of_z w32 c.args.day c.ranges.day in
+    rw day_is at c.loop-fresh.invariant.steps

@@ -1,0 +1,118 @@
+-- The order of candidates.
+use Rattle.std.specs.Option.{option_to_list}
+use Rattle.std.specs.BinaryHeap.{IsHeap}
+use Rattle.std.specs.Prelude.{◌≡◌, ◌≤◌, ◌+◌, ◌*◌, ◌/◌, ◌∷◌, length, Bool, false, ℕ, ℤ, List, [], Option, Some, None, map, ◌++◌, pos, ◌+ℤ◌, ◌-ℤ◌, ◌*ℤ◌, ◌≤ℤ◌}
+use Rattle.gtfs_board.specs.merge.Order.{In, Each, tally}
+use Rattle.std.specs.List.{find, filter_map, range_with_len, fold}
+use Rattle.std.specs.Int.{int_min}
+use Rattle.gtfs_board.specs.merge.Lanes.{Events, AreHeads, IsStopped, IsFrom, is_reached}
+use Rattle.std.specs.declared.cmp.Ordering.{Ordering}
+use Rattle.std.specs.Ordering.{nat_cmp, int_cmp, is_lt, on, then_cmp, flip_args}
+use Rattle.gtfs_board.specs.declared.merge.candidate.Candidate.{Candidate}
+
+-- by instant, trip, run, sequence and day, as keys are
+abbrev pub departure_cmp : Candidate → Candidate → Ordering
+departure_cmp = then_cmp (on (λ c. c.instant) int_cmp)
+    (then_cmp (on (λ c. c.trip) nat_cmp)
+    (then_cmp (on (λ c. c.run) nat_cmp)
+    (then_cmp (on (λ c. c.sequence) nat_cmp)
+    (on (λ c. c.day) int_cmp))))
+
+-- by lane, row and time
+abbrev pub lane_cmp : Candidate → Candidate → Ordering
+lane_cmp = then_cmp (on (λ c. c.lane) nat_cmp) (then_cmp (on (λ c. c.row) nat_cmp) (on (λ c. c.at) nat_cmp))
+
+-- by all eight, so that two that tie are one
+abbrev pub candidate_cmp : Candidate → Candidate → Ordering
+candidate_cmp = then_cmp departure_cmp lane_cmp
+
+abbrev pub candidate_lt : Candidate → Candidate → Bool
+candidate_lt a b = is_lt (candidate_cmp a b)
+
+-- the first event of each of n lanes on a day above a floor
+unfoldable pub heads_on : Events Candidate → Candidate → ℤ → ℕ → List Candidate
+heads_on events floor day n = filter_map (λ i. find (candidate_lt floor) (events i day)) (range_with_len 0 n)
+
+-- the least of the instants and a mark
+unfoldable pub least_from : ℤ → List Candidate → ℤ
+least_from mark cs = fold int_min mark (map (λ c. c.instant) cs)
+
+-- the order of the days, the lanes and the instants of candidates
+abbrev pub day_of : Candidate → ℤ
+day_of c = c.day
+
+abbrev pub lane_of : Candidate → ℕ
+lane_of c = c.lane
+
+abbrev pub instant_of : Candidate → ℤ
+instant_of c = c.instant
+
+abbrev pub IsWithin : ℤ → Candidate → Type 0
+IsWithin mark c = (c.day *ℤ pos 86_400) ≤ℤ (mark +ℤ pos 93_599)
+
+-- what waits beside the least while days are opened: the heads of the days before `day`, and the least instant
+pub record AreGathered (events : Events Candidate) (floor : Candidate) (end : ℤ) (others fresh : List Candidate) (day mark : ℤ) : Type 0 where
+  pub heads : AreHeads candidate_lt day_of lane_of events day (candidate_lt floor) (others ++ fresh)
+  pub least : mark ≡ least_from end (others ++ fresh)
+  pub within : Each (IsWithin mark) (others ++ fresh)
+
+-- where a board stands: at the first that waits, or at the end
+abbrev pub position : ℤ → Option Candidate → ℤ
+position end None = end
+position end (Some c) = c.instant
+
+-- no other comes before the first, and there is no other without a first
+abbrev pub IsFirst : Option Candidate → List Candidate → Type 0
+IsFirst None others = others ≡ []
+IsFirst (Some c) others = Each (λ y. candidate_lt y c ≡ false) others
+
+-- what a board keeps: the heads of the days before `day` wait, the least of them first, and every later day lies above it
+pub record IsWaiting (events : Events Candidate) (end last : ℤ) (floor : Candidate) (first : Option Candidate) (others : List Candidate) (day : ℤ) : Type 0 where
+  pub heads : AreHeads candidate_lt day_of lane_of events day (candidate_lt floor) (option_to_list first ++ others)
+  pub least : IsFirst first others
+  pub within : Each (IsWithin (position end first)) (option_to_list first ++ others)
+  pub stopped : IsStopped last day (position end first)
+
+abbrev pub head_of : {X : Type 0} → List X → Option X
+head_of [] = None
+head_of (x ∷ xs) = Some x
+
+-- what the fields of a board keep
+pub record IsMerge (events : Events Candidate) (end from last : ℤ) (floor : Candidate) (first : Option Candidate) (others : List Candidate) (day low : ℤ) : Type 0 where
+  pub waiting : IsWaiting events end last floor first others day
+  pub ordered : IsHeap (flip_args candidate_cmp) others
+  pub low_in : IsFrom low last day
+  pub from_in : from ≤ℤ day
+  pub to_in : day ≤ℤ (last +ℤ pos 1)
+
+-- what contracts see of a board
+pub record MergeValue : Type 0 where
+  pub rest : List Candidate
+  pub queue : List Candidate
+  pub lanes : ℕ
+  pub latest : ℕ
+  pub start : ℤ
+  pub end : ℤ
+  pub days : List ℤ
+  pub steps : ℕ
+
+-- the instant at which a board stands
+abbrev pub stands : MergeValue → ℤ
+stands v = position v.end (head_of v.rest)
+
+-- what waits is left, the first of the rest is the first of the queue, and none waits only where nothing is left; the queue is within its bound
+pub record IsQueued (v : MergeValue) : Type 0 where
+  pub within : Each (λ c. In c v.rest) v.queue
+  pub same_first : head_of v.queue ≡ head_of v.rest
+  pub bounded : length v.queue ≤ v.lanes * ((v.latest + 187_198) / 86_400 + 1)
+
+-- how many days may have been opened for a board that stands there
+abbrev pub reach : MergeValue → ℕ
+reach v = tally (is_reached (v.start -ℤ pos (v.latest + 93_599)) (stands v)) v.days
+
+pub record SameSettings (v w : MergeValue) : Type 0 where
+  pub lanes : w.lanes ≡ v.lanes
+  pub latest : w.latest ≡ v.latest
+  pub start : w.start ≡ v.start
+  pub end : w.end ≡ v.end
+  pub days : w.days ≡ v.days

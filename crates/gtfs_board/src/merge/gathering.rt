@@ -1,0 +1,155 @@
+ghost use Rattle.std.specs.Prelude.{◌≡◌, ◌≤◌, ◌+◌, ◌*◌, ◌++◌, pos, negsuc, ◌+ℤ◌, ◌-ℤ◌, ◌*ℤ◌, ◌≤ℤ◌, ◌<ℤ◌, OnOk, IfOk, IsTrue, false};
+ghost use Rattle.std.specs.Option.{option_to_list};
+ghost use Rattle.std.specs.BinaryHeap.{heap_items, IsHeap};
+ghost use Rattle.std.specs.Ordering.{flip_args};
+ghost use Rattle.gtfs_board.specs.merge.Order.{Each, tally};
+ghost use Rattle.gtfs_board.specs.merge.Lanes.{AreHeads, IsStopped, AreStepsFew, IsStartDay};
+ghost use Rattle.gtfs_board.specs.merge.Candidates.{candidate_cmp, candidate_lt, heads_on, least_from, day_of, lane_of, IsWithin, AreGathered};
+
+use crate::merge::candidate::Candidate;
+use crate::merge::source::Source;
+use crate::steps::Steps;
+use std::alloc::{AllocError, Global};
+use std::collections::BinaryHeap;
+
+// The seconds of a day on which no clock changes.
+const SECONDS_OF_DAY: i64 = 86_400;
+
+// How far the origin of a service day can lie from midnight UTC of its date, in seconds.
+const ORIGIN_DISTANCE: i64 = 93_599;
+
+// What waits beside the queue once days were opened.
+#[derive(Drop)]
+pub struct Gathered {
+    pub fresh: Vec<Candidate>,
+    // The first day that is not opened.
+    pub day: i32,
+    // The least instant that waits, or the end.
+    pub least: i64,
+}
+
+// Opens days until no unopened one can hold an event at or below the least.
+pub(super) fn gather<S: Source>(
+    alloc: Global,
+    source: &S,
+    queue: &BinaryHeap<Candidate>,
+    head: Option<Candidate>,
+    floor: &Candidate,
+    mut day: i32,
+    steps: &mut Steps,
+) -> Result<Gathered, AllocError>
+    requires ordered { IsHeap (flip_args candidate_cmp) (heap_items queue.now) }
+    requires ended { Each (λ c. c.instant ≤ℤ S.end source.now) (heap_items queue.now) }
+    requires heads { AreHeads candidate_lt day_of lane_of (S.events source.now) day (candidate_lt floor.now) (heap_items queue.now ++ option_to_list head) }
+    requires within { Each (IsWithin (least_from (S.end source.now) (heap_items queue.now ++ option_to_list head))) (heap_items queue.now ++ option_to_list head) }
+    requires from { S.first source.now ≤ℤ day }
+    requires to { day ≤ℤ (S.last source.now +ℤ pos 1) }
+    ensures gathered { IfOk result (λ r. AreGathered (S.events source.now) floor.now (S.end source.now) (heap_items queue.now) r.fresh.items r.day r.least) }
+    ensures stopped { IfOk result (λ r. IsStopped (S.last source.now) r.day r.least) }
+    ensures range { IfOk result (λ r. (day ≤ℤ r.day) × (r.day ≤ℤ (S.last source.now +ℤ pos 1))) }
+    ensures steps { IfOk result (λ r. AreStepsFew (S.count source.now) (S.last source.now) (S.days source.now)
+        steps.old day (least_from (S.end source.now) (heap_items queue.now ++ option_to_list head)) steps.new r.day r.least) }
+{
+    let mut fresh = Vec::new(alloc);
+    let waiting = least_waiting(queue, source.end());
+    let mut least = keep(&mut fresh, head, waiting)?;
+    let last = source.last();
+    while is_due(day, last, least) {
+        least = open_day(source, day, floor, &mut fresh, least, steps)?;
+        day = source.next_day(day + 1);
+    }
+    Ok(Gathered { fresh, day, least })
+}
+
+// The least instant that waits, or the end.
+fn least_waiting(queue: &BinaryHeap<Candidate>, end: i64) -> i64
+    requires ordered { IsHeap (flip_args candidate_cmp) (heap_items queue.now) }
+    requires ended { Each (λ c. c.instant ≤ℤ end) (heap_items queue.now) }
+    ensures { result ≡ least_from end (heap_items queue.now) }
+{
+    match queue.peek() {
+        Some(first) => first.instant,
+        None => end,
+    }
+}
+
+// The heads of all lanes on a day join those that wait, and the least instant so far is answered.
+fn open_day<S: Source>(
+    source: &S,
+    day: i32,
+    floor: &Candidate,
+    fresh: &mut Vec<Candidate>,
+    mut least: i64,
+    steps: &mut Steps,
+) -> Result<i64, AllocError>
+    ensures heads { OnOk result (fresh.new.items ≡ fresh.old.items ++ heads_on (S.events source.now) floor.now day (S.count source.now)) }
+    ensures least { IfOk result (λ t. t ≡ least_from least (heads_on (S.events source.now) floor.now day (S.count source.now))) }
+    ensures steps { OnOk result (steps.new ≤ steps.old + S.count source.now) }
+{
+    for lane in 0..source.count() {
+        let head = source.head(lane, day, floor, steps)?;
+        least = keep(fresh, head, least)?;
+    }
+    Ok(least)
+}
+
+// A head, if there is one, joins those that wait, and the least instant so far is answered.
+fn keep(fresh: &mut Vec<Candidate>, head: Option<Candidate>, least: i64) -> Result<i64, AllocError>
+    ensures heads { OnOk result (fresh.new.items ≡ fresh.old.items ++ option_to_list head) }
+    ensures least { IfOk result (λ t. t ≡ least_from least (option_to_list head)) }
+{
+    match head {
+        Some(head) => {
+            fresh.push(head)?;
+            Ok(least.min(head.instant))
+        }
+        None => Ok(least),
+    }
+}
+
+// A day that is not past the last may hold an event at or below the mark.
+fn is_due(day: i32, last: i32, least: i64) -> bool
+    ensures due { IsTrue result → (day ≤ℤ last) × ((day *ℤ pos 86_400) ≤ℤ (least +ℤ pos 93_599)) }
+    ensures stopped { result ≡ false → IsStopped last day least }
+{
+    day <= last && earliest(day) <= least
+}
+
+// No event of a day comes before this instant.
+fn earliest(day: i32) -> i64
+    ensures { (result +ℤ pos 93_599) ≡ day *ℤ pos 86_400 }
+{
+    i64::from(day) * SECONDS_OF_DAY - ORIGIN_DISTANCE
+}
+
+// The first day from a first one on that can hold an event at or above an instant, where `latest` is how long after the
+// origin of its day an event may come: the one after the last where there is none.
+pub(super) fn first_due(first: i32, last: i32, start: i64, latest: u32) -> i32
+    requires low { negsuc 2_999_999 ≤ℤ first }
+    requires to { first ≤ℤ last }
+    requires high { last ≤ℤ pos 3_000_000 }
+    requires start { negsuc 999_999_999_999 ≤ℤ start }
+    ensures from { first ≤ℤ result }
+    ensures within { result ≤ℤ (last +ℤ pos 1) }
+    ensures start { IsStartDay (start -ℤ pos (latest + 93_599)) first last result }
+{
+    let day = first_begun(low_mark(start, latest));
+    day.clamp(i64::from(first), i64::from(last) + 1) as i32
+}
+
+// A day whose date begins before this instant has no event at or above the start.
+fn low_mark(start: i64, latest: u32) -> i64
+    requires { negsuc 999_999_999_999 ≤ℤ start }
+    ensures { result ≡ start -ℤ pos (latest + 93_599) }
+{
+    start - i64::from(latest) - ORIGIN_DISTANCE
+}
+
+// The first day whose date begins at or after an instant.
+fn first_begun(instant: i64) -> i64
+    requires { negsuc 1_999_999_999_999 ≤ℤ instant }
+    ensures from { instant ≤ℤ (result *ℤ pos 86_400) }
+    ensures least { (result *ℤ pos 86_400) <ℤ (instant +ℤ pos 86_400) }
+{
+    (instant - 1).div_euclid(SECONDS_OF_DAY) + 1
+}

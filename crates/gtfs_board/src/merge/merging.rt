@@ -1,0 +1,132 @@
+ghost use Rattle.std.specs.Prelude.{◌≡◌, ℤ, negsuc, ◌≤ℤ◌, ◌≤◌, ◌+◌, ◌*◌, ◌∷◌, [], length, IfOk, OnOk, OnErr, MatchOption};
+ghost use Rattle.gtfs_board.specs.merge.Lanes.{rest_of};
+ghost use Rattle.gtfs_board.specs.merge.Candidates.{candidate_lt, IsQueued, SameSettings, reach};
+
+use crate::merge::candidate::Candidate;
+use crate::merge::gathering::{first_due, gather};
+use crate::merge::queue::join;
+use crate::merge::source::Source;
+use crate::steps::Steps;
+use std::alloc::{AllocError, Global};
+use std::collections::BinaryHeap;
+use std::marker::Model;
+
+// The events of all lanes in order, of which only the next of each opened day of each lane wait.
+#[derive(Drop)]
+pub struct Merge<S: Source> {
+    alloc: Global,
+    source: S,
+    // The next event, which stands outside the heap so that the least of the others is known before it is taken.
+    first: Option<Candidate>,
+    others: BinaryHeap<Candidate>,
+    // The first service day that is not opened.
+    day: i32,
+    // The instant from which events are looked for.
+    start: i64,
+    // What lies above it is left.
+    floor: Candidate,
+    steps: Steps,
+}
+
+impl<S: Source> Model for Merge<S> {
+    ghost use Rattle.std.specs.Prelude.{◌++◌, ◌+◌, pos, ◌-ℤ◌};
+    ghost use Rattle.std.specs.Option.{option_to_list};
+    ghost use Rattle.std.specs.BinaryHeap.{heap_items};
+    ghost use Rattle.gtfs_board.specs.merge.Lanes.{rest_of};
+    ghost use Rattle.gtfs_board.specs.merge.Candidates.{MergeValue, IsMerge, candidate_lt};
+
+    ghost Value = { MergeValue };
+
+    ghost view = { λ b. record {
+      rest = rest_of candidate_lt (S.all b.source) (candidate_lt b.floor);
+      queue = option_to_list b.first ++ heap_items b.others;
+      lanes = S.count b.source;
+      latest = S.latest b.source;
+      start = b.start;
+      end = S.end b.source;
+      days = S.days b.source;
+      steps = b.steps;
+    } };
+
+    ghost invariant = { λ b. IsMerge (S.events b.source) (S.end b.source) (S.first b.source) (S.last b.source) b.floor b.first (heap_items b.others) b.day
+        (b.start -ℤ pos (S.latest b.source + 93_599)) };
+}
+
+impl<S: Source + Drop> Merge<S> {
+    // The events above a floor.
+    pub fn open(
+        alloc: Global,
+        source: S,
+        floor: Candidate,
+        mut steps: Steps,
+    ) -> Result<Merge<S>, AllocError>
+        requires { negsuc 999_999_999_999 ≤ℤ floor.instant }
+        ensures rest { IfOk result (λ b. b.rest ≡ rest_of candidate_lt (S.all source) (candidate_lt floor)) }
+        ensures queued { IfOk result IsQueued }
+        ensures settings { IfOk result (λ b. (b.lanes ≡ S.count source) × (b.latest ≡ S.latest source) × (b.start ≡ floor.instant) × (b.end ≡ S.end source) × (b.days ≡ S.days source)) }
+        ensures steps { IfOk result (λ b. b.steps ≤ steps + b.lanes * reach b) }
+    {
+        let start = floor.instant;
+        let from = first_due(source.first(), source.last(), start, source.latest());
+        let day = source.next_day(from);
+        let mut others = BinaryHeap::new(alloc);
+        let gathered = gather(alloc, &source, &others, None, &floor, day, &mut steps)?;
+        let first = join(&mut others, gathered.fresh)?;
+        Ok(Merge {
+            alloc,
+            source,
+            first,
+            others,
+            day: gathered.day,
+            start,
+            floor,
+            steps,
+        })
+    }
+
+    // Takes the first of the rest: none where nothing is left, and from then on always.
+    pub fn next(&mut self) -> Result<Option<Candidate>, AllocError>
+        ensures first { IfOk result (λ o. MatchOption o ((self.old.rest ≡ []) × (self.new.rest ≡ [])) (λ c. self.old.rest ≡ c ∷ self.new.rest)) }
+        ensures kept { OnErr result ((self.new.rest ≡ self.old.rest) × (self.new.queue ≡ self.old.queue)) }
+        ensures settings { SameSettings self.old self.new }
+        ensures queued { IsQueued self.new }
+        ensures steps { OnOk result (self.new.steps + self.old.lanes * reach self.old ≤ self.old.steps + 1 + self.old.lanes * reach self.new) }
+    {
+        let first = match self.first {
+            Some(first) => first,
+            None => return Ok(None),
+        };
+        let head = self.source.after(&first, &mut self.steps);
+        let gathered = gather(
+            self.alloc,
+            &self.source,
+            &self.others,
+            head,
+            &first,
+            self.day,
+            &mut self.steps,
+        )?;
+        // The last that can be refused: until here nothing but the count of steps is written.
+        self.first = join(&mut self.others, gathered.fresh)?;
+        self.floor = first;
+        self.day = gathered.day;
+        Ok(Some(first))
+    }
+
+    // How many wait.
+    pub fn held(&self) -> usize
+        ensures { result ≡ length self.now.queue }
+    {
+        match self.first {
+            Some(_) => self.others.len() + 1,
+            None => 0,
+        }
+    }
+
+    // How often lanes were asked.
+    pub fn steps(&self) -> u64
+        ensures { result ≡ self.now.steps }
+    {
+        self.steps.count()
+    }
+}

@@ -1,0 +1,29 @@
+ghost use Rattle.std.specs.Prelude.{◌≡◌, ◌++◌, IfOk, OnErr};
+ghost use Rattle.std.specs.Option.{option_to_list};
+ghost use Rattle.std.specs.Ordering.{flip_args};
+ghost use Rattle.std.specs.BinaryHeap.{heap_items, IsHeap};
+ghost use Rattle.gtfs_board.specs.merge.Order.{tally, same};
+ghost use Rattle.gtfs_board.specs.merge.Candidates.{candidate_cmp, candidate_lt, IsFirst};
+
+use crate::merge::candidate::Candidate;
+use std::alloc::AllocError;
+use std::collections::BinaryHeap;
+
+// The heap takes in what was gathered, and the first of all leaves it. A refused heap is as it was.
+pub(super) fn join(
+    others: &mut BinaryHeap<Candidate>,
+    fresh: Vec<Candidate>,
+) -> Result<Option<Candidate>, AllocError>
+    requires { IsHeap (flip_args candidate_cmp) (heap_items others.old) }
+    ensures kept { OnErr result (heap_items others.new ≡ heap_items others.old) }
+    ensures ordered { IsHeap (flip_args candidate_cmp) (heap_items others.new) }
+    ensures counts { IfOk result (λ o. (x : Candidate) → tally (same candidate_lt x) (option_to_list o ++ heap_items others.new) ≡ tally (same candidate_lt x) (heap_items others.old ++ fresh.items)) }
+    ensures first { IfOk result (λ o. IsFirst o (heap_items others.new)) }
+{
+    let mut fresh = BinaryHeap::from(fresh);
+    others.append(&mut fresh)?;
+    match others.pop() {
+        Some(first) => Ok(Some(first)),
+        None => Ok(None),
+    }
+}

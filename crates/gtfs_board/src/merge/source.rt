@@ -1,0 +1,102 @@
+ghost use Rattle.std.specs.Prelude.{◌≡◌, ℕ, ℤ, List, ◌≤◌, ◌<◌, ◌+◌, pos, negsuc, ◌≤ℤ◌, ◌<ℤ◌, ◌+ℤ◌, IfOk, []};
+ghost use Rattle.std.specs.List.{find};
+ghost use Rattle.gtfs_board.specs.merge.Candidates.{candidate_lt, instant_of, day_of, lane_of};
+ghost use Rattle.gtfs_board.specs.merge.Order.{In};
+ghost use Rattle.gtfs_board.specs.merge.Lanes.{AreLanes, AreAll};
+
+use crate::merge::candidate::Candidate;
+use crate::steps::Steps;
+use std::alloc::AllocError;
+
+// Lanes that tell their departures day by day, each in the order of candidates.
+pub trait Source {
+    ghost use Rattle.gtfs_board.specs.declared.merge.candidate.Candidate.{Candidate};
+
+    // How many lanes there are.
+    ghost count: { Self → ℕ };
+
+    // No event lies later than this after the origin of its day.
+    ghost latest: { Self → ℕ };
+
+    // No event lies later than this instant.
+    ghost end: { Self → ℤ };
+
+    // The first service day and the last.
+    ghost first: { Self → ℤ };
+
+    ghost last: { Self → ℤ };
+
+    // All service days.
+    ghost days: { Self → List ℤ };
+
+    // The events of a lane on a day.
+    ghost events: { Self → ℕ → ℤ → List Candidate };
+
+    // All events.
+    ghost all: { Self → List Candidate };
+
+    // How many lanes there are.
+    fn count(&self) -> usize
+        ensures { result ≡ count self.now };
+
+    // No event lies later than this after the origin of its day, in seconds.
+    fn latest(&self) -> u32
+        ensures { result ≡ latest self.now };
+
+    // No event lies later than this instant.
+    fn end(&self) -> i64
+        ensures { result ≡ end self.now };
+
+    // The first service day.
+    fn first(&self) -> i32
+        ensures value { result ≡ first self.now }
+        ensures low { negsuc 2_999_999 ≤ℤ first self.now }
+        ensures to { first self.now ≤ℤ last self.now };
+
+    // The last service day.
+    fn last(&self) -> i32
+        ensures value { result ≡ last self.now }
+        ensures low { negsuc 2_999_999 ≤ℤ first self.now }
+        ensures high { last self.now ≤ℤ pos 3_000_000 };
+
+    // The first day from this one on that has events: the one after the last where there is none.
+    fn next_day(&self, day: i32) -> i32
+        requires { day ≤ℤ (last self.now +ℤ pos 1) }
+        ensures up { day ≤ℤ result }
+        ensures within { result ≤ℤ (last self.now +ℤ pos 1) }
+        ensures skips { (i : ℕ) (d : ℤ) → day ≤ℤ d → d <ℤ result → events self.now i d ≡ [] };
+
+    // The first event of a lane on a day above a floor. It may ask the lane once.
+    fn head(
+        &self,
+        lane: usize,
+        day: i32,
+        floor: &Candidate,
+        steps: &mut Steps,
+    ) -> Result<Option<Candidate>, AllocError>
+        requires { lane < count self.now }
+        ensures first { IfOk result (λ o. o ≡ find (candidate_lt floor.now) (events self.now lane day)) }
+        ensures steps { steps.new ≤ steps.old + 1 };
+
+    // The event after one, in its lane on its day. It may ask the lane once.
+    fn after(&self, event: &Candidate, steps: &mut Steps) -> Option<Candidate>
+        requires { In event.now (events self.now event.now.lane event.now.day) }
+        ensures next { result ≡ find (candidate_lt event.now) (events self.now event.now.lane event.now.day) }
+        ensures steps { steps.new ≤ steps.old + 1 };
+
+    // No event lies beyond the end.
+    ghost ends: { (s : Self) (i : ℕ) (d : ℤ) (c : Candidate) → In c (events s i d) → c.instant ≤ℤ end s };
+
+    // The days from the first to the last are the service days, and no other day has events.
+    ghost listed: { (s : Self) (d : ℤ) → first s ≤ℤ d → d ≤ℤ last s → In d (days s) };
+
+    ghost within: { (s : Self) (d : ℤ) → In d (days s) → d ≤ℤ last s };
+
+    ghost before: { (s : Self) (i : ℕ) (d : ℤ) → d <ℤ first s → events s i d ≡ [] };
+
+    ghost beyond: { (s : Self) (i : ℕ) (d : ℤ) → last s <ℤ d → events s i d ≡ [] };
+
+    ghost lanes: { (s : Self) → AreLanes candidate_lt instant_of day_of lane_of (count s) (latest s) (events s) };
+
+    ghost whole: { (s : Self) → AreAll day_of lane_of (events s) (all s) };
+}
