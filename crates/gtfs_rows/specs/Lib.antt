@@ -10,3 +10,4 @@ pub mod RowCells
 pub mod Rows
 pub mod Sound
 pub mod Written
+pub mod Views
