@@ -3,7 +3,7 @@
 -- Row 0 is the file as a whole, row 1 its header, and no column is the empty text.
 use Rattle.std.specs.Prelude.{ℕ, ◌==◌, ◌&&◌, ◌||◌, not, Bool, true, false, List, length, bytes_eq}
 use Rattle.std.specs.List.{list_any}
-use Rattle.gtfs_table.specs.Tables.{Dataset, table_of}
+use Rattle.gtfs_table.specs.Tables.{Dataset, table_of, table_state}
 use Rattle.gtfs_table.specs.declared.file.File.{File}
 use Rattle.gtfs_table.specs.declared.file.File.TheVariants as file
 use Rattle.gtfs_table.specs.declared.state.State.{State}
@@ -27,7 +27,7 @@ is_read_state state.NotUtf8 = false
 is_read_state state.Read = true
 
 abbrev pub is_read : Dataset → File → Bool
-is_read d x = is_read_state (table_of d x).state
+is_read d x = is_read_state (table_state (table_of d x))
 
 -- the five files that a dataset has to have
 abbrev pub is_needed : File → Bool
@@ -43,7 +43,7 @@ is_needed file.Transfers = false
 
 -- one of the other four counts as absent, too, where it is there and has no record
 abbrev pub is_absent : Dataset → File → Bool
-is_absent d x = is_absent_state (table_of d x).state || (not (is_needed x) && is_read d x && has_no_record d x)
+is_absent d x = is_absent_state (table_state (table_of d x)) || (not (is_needed x) && is_read d x && has_no_record d x)
 
 -- the problem stands at this row and at no column
 abbrev pub is_at : ℕ → ℕ → List ℕ → Bool
@@ -56,7 +56,7 @@ file_missing d x n name = is_at 0 n name
 
 -- E02 not UTF-8
 abbrev pub not_utf8 : Condition
-not_utf8 d x n name = is_at 0 n name && is_not_utf8_state (table_of d x).state
+not_utf8 d x n name = is_at 0 n name && is_not_utf8_state (table_state (table_of d x))
 
 -- E05 file empty: one of the five has no record, or agency.txt has a header and no row
 abbrev pub file_empty : Condition

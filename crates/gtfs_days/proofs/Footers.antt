@@ -25,14 +25,14 @@ SameInfo a b = (a.offset.seconds ≡ b.offset.seconds) × (a.dst ≡ b.dst) × (
 abbrev std_info : Offset → Abbreviation → OffsetInfo
 std_info o a = record { offset = o; abbreviation = a; dst = No }
 
-same_nanos : (y : ℤ) (a b : DayTime) (s : ℤ) → day_time_view a ≡ day_time_view b → rule_nanos y a s ≡ rule_nanos y b s
+pub same_nanos : (y : ℤ) (a b : DayTime) (s : ℤ) → day_time_view a ≡ day_time_view b → rule_nanos y a s ≡ rule_nanos y b s
 unfolding rule_nanos
 same_nanos y a b s e =
     let date = ap (λ p. p.0) e in
     let time = ap (λ p. p.1) e in
     rw (date, time) refl
 
-same_window : (y : ℤ) (a b : Dst) (s t : Offset) → s.seconds ≡ t.seconds → dst_view a ≡ dst_view b → utc_window a y s ≡ utc_window b y t
+pub same_window : (y : ℤ) (a b : Dst) (s t : Offset) → s.seconds ≡ t.seconds → dst_view a ≡ dst_view b → utc_window a y s ≡ utc_window b y t
 unfolding utc_window
 same_window y a b s t std e =
     let seconds : a.offset.seconds ≡ b.offset.seconds = ap (λ v. v.seconds) e in

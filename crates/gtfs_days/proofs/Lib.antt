@@ -3,3 +3,4 @@ pub mod Footers
 pub mod Clocks
 pub mod ActiveDays
 pub mod Weekdays
+pub mod SameZones

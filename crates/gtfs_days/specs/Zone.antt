@@ -59,3 +59,9 @@ pub record IsCivil (z : Zone) (x : ℤ) (c : Civil) : Type 0 where
   pub second : c.second < 60
   pub offset : c.offset ≡ (Table.offset_at (table_of z) (nanos_of_seconds x)).seconds
   pub clock : days_from_civil c.year c.month c.day *ℤ pos 86_400 +ℤ pos (3600 * c.hour + 60 * c.minute + c.second) ≡ x +ℤ c.offset
+
+-- the zones say the same: of each day one origin, and of each instant one local clock
+pub record SaysSame (y z : Zone) : Type 0 where
+  pub origin : (n : ℤ) → zone_origin y n ≡ zone_origin z n
+  pub clock : (x : ℤ) (c d : Civil) → IsCivil y x c → IsCivil z x d → c ≡ d
+  pub shows : (x : ℤ) (c : Civil) → IsCivil y x c → IsCivil z x c

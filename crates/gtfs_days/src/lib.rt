@@ -30,12 +30,14 @@
 
 mod civil;
 mod exception;
+mod law;
 mod service;
 mod week;
 mod zone;
 
 pub use civil::{Civil, CivilFault};
 pub use exception::Exception;
+pub use law::zones_are_one;
 pub use service::Service;
 pub use week::Week;
 pub use zone::{Zone, ZoneFault};

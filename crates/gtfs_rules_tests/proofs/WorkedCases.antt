@@ -3,7 +3,7 @@ use Rattle.std.proofs.Common.{◌≡◌, ◌∷◌, [], codes, refl}
 use Rattle.std.specs.Fmt.{digits}
 use Rattle.jiff_core.specs.Calendar.{days_from_civil, day_count, days_of_years, days_of_months, weekday_number}
 use Rattle.gtfs_table.specs.Blanks.{without_first_blanks}
-use Rattle.gtfs_table.specs.declared.state.State.TheVariants as state
+use Rattle.gtfs_table.specs.Tables.{not_utf8}
 use Rattle.gtfs_rules_tests.proofs.WorkedFeeds.{file, small_feed, calendar_header, reported, lines}
 
 -- a record of blanks is no row, and counts in row numbers
@@ -46,7 +46,7 @@ headers-alone = refl
 
 -- a calendar.txt that is not UTF-8 is not missing, and has no rows
 broken-calendar : reported (record small_feed {
-  calendar = record { state = state.NotUtf8; records = [] };
+  calendar = not_utf8;
 }) ≡ lines
     ("E10 trips.txt:2 service_id unknown reference"
     ∷ "E02 calendar.txt:0 - not UTF-8"

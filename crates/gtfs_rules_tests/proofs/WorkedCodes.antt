@@ -3,8 +3,7 @@ use Rattle.std.proofs.Common.{◌≡◌, ◌∷◌, [], codes, refl}
 use Rattle.std.specs.Fmt.{digits}
 use Rattle.jiff_core.specs.Calendar.{days_from_civil, day_count, days_of_years, days_of_months, weekday_number}
 use Rattle.gtfs_table.specs.Blanks.{without_first_blanks}
-use Rattle.gtfs_table.specs.Tables.{absent}
-use Rattle.gtfs_table.specs.declared.state.State.TheVariants as state
+use Rattle.gtfs_table.specs.Tables.{absent, not_utf8}
 use Rattle.gtfs_rules_tests.proofs.WorkedFeeds.{file, small_feed, calendar_header, reported, lines}
 
 -- E01
@@ -18,7 +17,7 @@ file-missing = refl
 
 -- E02
 not-utf8 : reported (record small_feed {
-  stop_times = record { state = state.NotUtf8; records = [] };
+  stop_times = not_utf8;
 }) ≡ lines
     ("W06 trips.txt:2 trip_id fewer than two rows"
     ∷ "E02 stop_times.txt:0 - not UTF-8"

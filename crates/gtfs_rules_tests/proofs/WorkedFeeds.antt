@@ -5,9 +5,8 @@ use Rattle.std.specs.List.{range_with_len, slice_split}
 use Rattle.std.specs.FinMap.Entries.{put}
 use Prim.Native.String.{String as Literal}
 use Rattle.gtfs_table.specs.Reading.{kept_files}
-use Rattle.gtfs_table.specs.Tables.{Table, Dataset, empty_dataset}
+use Rattle.gtfs_table.specs.Tables.{Table, Dataset, empty_dataset, of_records}
 use Rattle.gtfs_table.specs.declared.file.File.{File}
-use Rattle.gtfs_table.specs.declared.state.State.TheVariants as state
 use Rattle.gtfs_columns.specs.Codes.{all_codes}
 use Rattle.gtfs_columns.specs.Columns.{columns_of}
 use Rattle.gtfs_table.specs.Rows.{records_in, is_empty}
@@ -20,7 +19,7 @@ abbrev pub fields : Literal → List (List ℕ)
 fields line = slice_split (λ b. b == 44) (codes line)
 
 abbrev pub file : List Literal → Table
-file lines = record { state = state.Read; records = map fields lines }
+file lines = of_records (map fields lines)
 
 abbrev pub calendar_header : Literal
 calendar_header = "service_id,monday,tuesday,wednesday,thursday,friday,saturday,sunday,start_date,end_date"

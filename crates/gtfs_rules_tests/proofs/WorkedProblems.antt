@@ -5,7 +5,7 @@ use Rattle.csv.specs.Machine.{next_record}
 use Rattle.csv.specs.Reading.{records_from, strip_bom}
 use Rattle.jiff_core.specs.Calendar.{days_from_civil, day_count, days_of_years, days_of_months, weekday_number}
 use Rattle.gtfs_table.specs.Blanks.{without_first_blanks}
-use Rattle.gtfs_table.specs.Tables.{Table, empty_dataset, records_of, without_marks}
+use Rattle.gtfs_table.specs.Tables.{Table, empty_dataset, records_of, table_records, without_marks}
 use Rattle.gtfs_rules_tests.proofs.WorkedFeeds.{file, small_feed, calendar_header, reported, lines}
 
 -- nothing is wrong with the small feed
@@ -40,7 +40,7 @@ abbrev worn_lines : Table
 worn_lines = file ("trip_id,arrival_time,departure_time,stop_id,stop_sequence" ∷ "T1, 08:00:00 ,08:00:00,S1,1" ∷ "T1,24:60:00,24:10:00,S2,2"
     ∷ "T1,25:00:00,25:00:00,S3,3" ∷ "T1,26:00:00,26:00:00,S1" ∷ "T1,27:00:00" ∷ [])
 
-worn-records : records_of worn ≡ worn_lines.records
+worn-records : records_of worn ≡ table_records worn_lines
 unfolding worn without_marks records_from strip_bom next_record
 worn-records = refl
 

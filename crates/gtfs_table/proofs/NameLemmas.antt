@@ -4,10 +4,14 @@ use Rattle.std.specs.String.{string_cmp}
 use Rattle.std.specs.Ordering.{is_lt, ordering_reverse}
 use Rattle.std.specs.List.Sorted.{IsStrictlySortedBy}
 use Rattle.std.proofs.lemmas.List.{get_or-map, length-map}
+use Rattle.std.specs.Prelude.{not, true}
+use Rattle.std.proofs.lemmas.Bool.{not-true}
+use Rattle.std.proofs.lemmas.List.Elements.{All-weaker, filter_passes}
 use Rattle.std.proofs.lemmas.List.Kept.{IsSortedBy-filter}
 use Rattle.std.proofs.lemmas.List.Sorted.{ranks_by}
 use Rattle.std.proofs.lemmas.Map.Keys.{Less-from_sorted}
 use Rattle.gtfs_table.specs.Folder.{IsByBytes}
+use Rattle.gtfs_table.specs.Reading.{AreOthers, is_kept, other_names}
 use Rattle.gtfs_table.proofs.ByTextLemmas.{texts_total}
 
 -- texts in order are bytes in order
@@ -31,3 +35,11 @@ keys-by_bytes names h = by_bytes names (λ k d low within.
 -- some of the names are in order as all are
 pub filter-by_bytes : (p : List ℕ → Bool) (names : List (List ℕ)) → IsByBytes names → IsByBytes (filter p names)
 filter-by_bytes p names h = IsSortedBy-filter _ (ranks_by texts_total (λ x. x)) p names h
+
+-- the names of a folder but those of kept files
+pub others-of : (names : List (List ℕ)) → IsByBytes names → AreOthers (other_names names)
+others-of names h = record {
+  ordered = filter-by_bytes (λ name. not (is_kept name)) names h;
+  not_kept = All-weaker (λ name. not (is_kept name) ≡ true) (λ name. is_kept name ≡ false) (λ name e. not-true (is_kept name) e) (other_names names)
+      (filter_passes (λ name. not (is_kept name)) names);
+}

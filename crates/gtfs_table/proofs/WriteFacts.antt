@@ -15,9 +15,8 @@ use Rattle.csv.proofs.RecordFacts.{text-take}
 use Rattle.csv.specs.Writing.{default_writer, with_flexible, escaped, field_text, fields_text, is_blank, needs_byte, read_back, row_body, row_text}
 use Rattle.csv.specs.declared.parser.State.TheVariants as st
 use Rattle.csv.proofs.RoundTrip.{read-write}
-use Rattle.gtfs_table.specs.Tables.{Records, table_of_bytes, without_marks}
+use Rattle.gtfs_table.specs.Tables.{Records, of_records, table_of_bytes, without_marks}
 use Rattle.gtfs_table.specs.Written.{text_of_records, begins_with_mark, is_marked}
-use Rattle.gtfs_table.specs.declared.state.State.TheVariants as state
 use Rattle.gtfs_table.proofs.AllRecords.{records-AreRecords}
 use Rattle.gtfs_table.proofs.StoreFacts.{AllFilled}
 use Rattle.gtfs_table.proofs.Utf8Fields.{and-left, and-right, encode-high}
@@ -217,7 +216,7 @@ text-utf8 (r ∷ rs) h = IsUtf8-append _ _ (row-utf8 r (All-head AllText r rs h)
 -- ---- the whole
 
 pub reads-back : (rs : Records) → AllFilled rs → All AllText rs → is_marked rs ≡ false
-    → table_of_bytes (Some (text_of_records rs)) ≡ record { state = state.Read; records = rs }
+    → table_of_bytes (Some (text_of_records rs)) ≡ of_records rs
 unfolding table_of_bytes
 reads-back rs filled text e =
     let bytes = unmarked-text rs filled e in

@@ -1,11 +1,11 @@
 -- The tables of a folder's files, and why they could not be read.
 -- GTFS Schedule Reference, "Dataset Files".
-use Rattle.std.specs.Prelude.{ℕ, not, bytes_eq, filter, Bool, List, [], ◌∷◌, Option, Some, None, option_map, ◌≡◌, ⊤}
-use Rattle.std.specs.List.{list_any}
+use Rattle.std.specs.Prelude.{ℕ, not, bytes_eq, filter, Bool, false, List, [], ◌∷◌, Option, Some, None, option_map, ◌≡◌, ⊤}
+use Rattle.std.specs.List.{All, list_any}
 use Rattle.std.specs.FinMap as map
 use Rattle.gtfs_table.specs.Device.{Rises}
 use Rattle.gtfs_table.specs.Files.{file_name}
-use Rattle.gtfs_table.specs.Folder.{Files, Store, HasFile, LacksFolder}
+use Rattle.gtfs_table.specs.Folder.{Files, Store, HasFile, IsByBytes, LacksFolder}
 use Rattle.gtfs_table.specs.Tables.{Dataset, Table, table_of_bytes, with_table}
 use Rattle.gtfs_table.specs.declared.file.File.{File}
 use Rattle.gtfs_table.specs.declared.file.File.TheVariants as file
@@ -22,6 +22,11 @@ is_kept name = list_any (λ x. bytes_eq (file_name x) name) kept_files
 -- the names that are none of the kept files
 abbrev pub other_names : List (List ℕ) → List (List ℕ)
 other_names names = filter (λ name. not (is_kept name)) names
+
+-- the names of what else a folder holds: by their bytes, and none is that of a kept file
+pub record AreOthers (names : List (List ℕ)) : Type 0 where
+  pub ordered : IsByBytes names
+  pub not_kept : All (λ name. is_kept name ≡ false) names
 
 -- the table of a folder's file
 abbrev pub table_in : Files → File → Table

@@ -3,7 +3,7 @@
 use Rattle.std.specs.Prelude.{ℕ, ◌+◌, ◌-◌, ◌==◌, ◌&&◌, not, Bool, nat_lt, nat_le, List, length, map, filter}
 use Rattle.std.specs.List.{list_any, range_with_len}
 use Rattle.gtfs_table.specs.Blanks.{cut}
-use Rattle.gtfs_table.specs.Tables.{Records, Dataset, table_of, record_at}
+use Rattle.gtfs_table.specs.Tables.{Records, Dataset, table_of, table_records, record_at}
 use Rattle.gtfs_table.specs.declared.file.File.{File}
 
 abbrev pub is_empty : List ℕ → Bool
@@ -11,7 +11,7 @@ is_empty t = length t == 0
 
 -- the records of a file: none where it is absent or not UTF-8
 abbrev pub records_in : Dataset → File → Records
-records_in d x = (table_of d x).records
+records_in d x = table_records (table_of d x)
 
 abbrev pub has_no_record : Dataset → File → Bool
 has_no_record d x = length (records_in d x) == 0

@@ -1,10 +1,14 @@
 -- How the texts and records of a file lie in memory.
-use Rattle.std.specs.Prelude.{ℕ, ◌<◌, ◌≤◌, ◌-◌, List, length, take, drop, All}
+use Rattle.std.specs.Prelude.{ℕ, ◌≡◌, ◌<◌, ◌≤◌, ◌-◌, List, length, take, drop, All}
 use Rattle.csv.specs.Records.{AllText, Rising}
 use Rattle.gtfs_table.specs.Parts.{parts}
+use Rattle.gtfs_table.specs.Tables.{Records, Table, absent, not_utf8, of_records, table_records}
+use Rattle.gtfs_table.specs.declared.state.State.{State}
+use Rattle.gtfs_table.specs.declared.state.State.TheVariants as state
 use Rattle.gtfs_table.specs.declared.texts.Texts.TheInside as texts
 use Rattle.gtfs_table.specs.declared.record.Record.TheInside as one
 use Rattle.gtfs_table.specs.declared.records.Records.TheInside as records
+use Rattle.gtfs_table.specs.declared.table.FileTable.TheInside as table
 
 -- texts one after the other, each from its offset on
 abbrev pub texts_of : texts.Inside → List (List ℕ)
@@ -32,3 +36,16 @@ record_in r = take (r.end - r.start) (drop r.start r.fields.now)
 pub record IsRecordWithin (r : one.Inside) : Type 0 where
   pub rising : r.start ≤ r.end
   pub within : r.end ≤ length r.fields.now
+
+-- a kept file, which has records only where it was read
+abbrev pub table_with : State → Records → Table
+table_with state.Absent rs = absent
+table_with state.NotUtf8 rs = not_utf8
+table_with state.Read rs = of_records rs
+
+abbrev pub table_stored : table.Inside → Table
+table_stored t = table_with t.state t.records
+
+-- no record is kept of a file that was not read
+abbrev pub IsTableStore : table.Inside → Type 0
+IsTableStore t = t.records ≡ table_records (table_stored t)

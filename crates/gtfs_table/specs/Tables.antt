@@ -49,28 +49,37 @@ value rs row column = field_under (record_at rs row) (column_of rs column)
 
 -- ---- tables
 
--- what is known of a kept file, and its records where it is there and UTF-8
-pub record Table : Type 0 where
-  pub state : State
-  pub records : Records
+-- a kept file: it is absent, or not UTF-8, or it has records
+pub data Table : Type 0 where
+  absent : Table
+  not_utf8 : Table
+  of_records : Records → Table
 
-abbrev pub absent : Table
-absent = record { state = state.Absent; records = [] }
+abbrev pub table_state : Table → State
+table_state absent = state.Absent
+table_state not_utf8 = state.NotUtf8
+table_state (of_records rs) = state.Read
+
+-- a file that is absent or not UTF-8 has no record
+abbrev pub table_records : Table → Records
+table_records absent = []
+table_records not_utf8 = []
+table_records (of_records rs) = rs
 
 -- the table of a file with these bytes, or of one that is not there
 unfoldable pub table_of_bytes : Option (List ℕ) → Table
 table_of_bytes None = absent
-table_of_bytes (Some bytes) =
-    if is_utf8 (without_marks bytes) then record { state = state.Read; records = records_of bytes }
-    else record { state = state.NotUtf8; records = [] }
+table_of_bytes (Some bytes) = if is_utf8 (without_marks bytes) then of_records (records_of bytes) else not_utf8
 
 -- a table with one more record, of this one field
 abbrev pub with_record : Table → List ℕ → Table
-with_record t field = record { state = state.Read; records = t.records ++ (field ∷ []) ∷ [] }
+with_record t field = of_records (table_records t ++ (field ∷ []) ∷ [])
 
 -- a table whose last record has one more field
 abbrev pub with_field : Table → List ℕ → Table
-with_field t field = record { state = t.state; records = add_to_last t.records field }
+with_field absent field = absent
+with_field not_utf8 field = not_utf8
+with_field (of_records rs) field = of_records (add_to_last rs field)
 
 -- the tables of the nine kept files, and the other names of their folder
 pub record Dataset : Type 0 where

@@ -1,6 +1,6 @@
 ghost use Rattle.std.specs.Prelude.{◌≡◌, ◌<◌, length, option_map, IfOk, OnOk, OnErr};
 ghost use Rattle.gtfs_table.specs.Rows.{rows_past};
-ghost use Rattle.gtfs_table.specs.Tables.{absent, column_of, field_cut, record_at, with_field, with_record};
+ghost use Rattle.gtfs_table.specs.Tables.{absent, column_of, field_cut, record_at, table_records, table_state, with_field, with_record};
 ghost use Rattle.gtfs_table.specs.Written.{text_of_table, ReadsBack};
 
 use crate::record::Record;
@@ -23,7 +23,11 @@ impl Model for FileTable {
 
     ghost Value = { Table };
 
-    ghost view = { λ t. record { state = t.state; records = t.records } };
+    ghost use Rattle.gtfs_table.specs.Storage.{table_stored, IsTableStore};
+
+    ghost view = { table_stored };
+
+    ghost invariant = { IsTableStore };
 }
 
 // Written out, so that a function that lets a table go has one call to prove.
@@ -48,34 +52,34 @@ impl FileTable {
     }
 
     pub(crate) fn state(&self) -> State
-        ensures { result ≡ self.now.state }
+        ensures { result ≡ table_state self.now }
     {
         self.state
     }
 
     pub(crate) fn len(&self) -> usize
-        ensures { result ≡ length self.now.records }
+        ensures { result ≡ length (table_records self.now) }
     {
         self.records.len()
     }
 
     // The record of a row, from 1: one with no field where there is no such row.
     pub(crate) fn record(&self, row: usize) -> Record<'_>
-        ensures { result ≡ record_at self.now.records row }
+        ensures { result ≡ record_at (table_records self.now) row }
     {
         self.records.record(row)
     }
 
     // The rows: the records after the header that are not blank.
     pub(crate) fn rows(&self) -> Rows<'_>
-        ensures { result ≡ rows_past self.now.records 1 }
+        ensures { result ≡ rows_past (table_records self.now) 1 }
     {
         Rows::past(&self.records, 1)
     }
 
     // The index of the first column of this name in the header.
     pub(crate) fn column(&self, name: &str) -> Option<usize>
-        ensures { result ≡ column_of self.now.records name.now }
+        ensures { result ≡ column_of (table_records self.now) name.now }
     {
         if name.is_empty() {
             return None;
@@ -99,14 +103,15 @@ impl FileTable {
     }
 
     pub(crate) fn push_field(&mut self, field: &str) -> Result<(), OutOfMemory>
-        requires { 0 < length self.old.records }
+        requires { 0 < length (table_records self.old) }
         ensures ok { OnOk result (self.new ≡ with_field self.old field.now) }
         ensures err { OnErr result (self.new ≡ self.old) }
     {
         self.records.push_field(field)
     }
 
-    // The text of the records as `csv` writes it: none where the file is absent.
+    // The text of the records as `csv` writes it: none where the file is absent, and empty where it has
+    // none since it is not UTF-8.
     pub(crate) fn write(&self, alloc: Global) -> Result<Option<Vec<u8>>, OutOfMemory>
         ensures text { IfOk result
             (λ text. option_map (λ bytes. bytes.items) text ≡ text_of_table self.now) }
@@ -115,7 +120,8 @@ impl FileTable {
     {
         match self.state {
             State::Absent => Ok(None),
-            State::NotUtf8 | State::Read => Ok(Some(writer::write_records(alloc, &self.records)?)),
+            State::NotUtf8 => Ok(Some(Vec::new(alloc))),
+            State::Read => Ok(Some(writer::write_records(alloc, &self.records)?)),
         }
     }
 }

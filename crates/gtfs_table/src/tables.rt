@@ -1,9 +1,9 @@
-ghost use Rattle.std.specs.Prelude.{◌≡◌, ◌<◌, ◌≤◌, is_some, length, map, option_map, string_bytes, IfOk, IfErr, IfSome, OnOk, OnErr};
+ghost use Rattle.std.specs.Prelude.{All, ◌≡◌, ◌≢◌, ◌<◌, ◌≤◌, [], false, is_some, length, map, option_map, string_bytes, IfOk, IfErr, IfSome, OnOk, OnErr};
 ghost use Rattle.gtfs_table.specs.Files.{file_name};
 ghost use Rattle.gtfs_table.specs.Folder.{IsByBytes, RefusesRead};
-ghost use Rattle.gtfs_table.specs.Reading.{is_kept, kept_files, other_names as names_kept_out, HoldsDataset, HoldsTable, RefusesDataset, SetsTables};
+ghost use Rattle.gtfs_table.specs.Reading.{is_kept, kept_files, AreOthers, other_names as names_kept_out, HoldsDataset, HoldsTable, RefusesDataset, SetsTables};
 ghost use Rattle.gtfs_table.specs.Rows.{is_row as row_of, numbered, records_in, rows as row_numbers};
-ghost use Rattle.gtfs_table.specs.Tables.{column_of, empty_dataset, field_cut, record_at, table_of, value, with_field, with_record, with_table};
+ghost use Rattle.gtfs_table.specs.Tables.{column_of, empty_dataset, field_cut, record_at, table_of, table_state, value, with_field, with_record, with_table};
 ghost use Rattle.gtfs_table.specs.Written.{text_of_table, ReadsBack};
 
 use crate::file::File;
@@ -53,9 +53,9 @@ impl Model for Tables {
       others = t.others.items;
     } };
 
-    ghost use Rattle.gtfs_table.specs.Folder.{IsByBytes};
+    ghost use Rattle.gtfs_table.specs.Reading.{AreOthers};
 
-    ghost invariant = { λ t. IsByBytes t.others.items };
+    ghost invariant = { λ t. AreOthers t.others.items };
 }
 
 // Written out, so that a function that lets tables go has one call to prove.
@@ -85,7 +85,7 @@ impl Tables {
     }
 
     fn of_names(others: Vec<Text>, alloc: Global) -> Tables
-        requires { IsByBytes others.items }
+        requires { AreOthers others.items }
         ensures { result ≡ record empty_dataset { others = others.items } }
     {
         Tables {
@@ -105,7 +105,8 @@ impl Tables {
     /// Reads a folder: first its names, and then each kept file in the order of [`File::ALL`], whichever
     /// names there were. The first fault ends it.
     ///
-    /// Leading byte order marks are dropped, and what follows has to be UTF-8. The records of a file are those that `csv` reads by default, with no header handling, of any lengths.
+    /// Leading byte order marks are dropped, and what follows has to be UTF-8. The records of a file are
+    /// those that `csv` reads by default, with no header handling, of any lengths.
     ///
     /// Refused with [`FolderFault::Read`], with [`FolderFault::TooLarge`] where a kept file is longer than
     /// the device's limit, with [`FolderFault::NoFolder`] and with [`FolderFault::OutOfMemory`].
@@ -127,16 +128,17 @@ impl Tables {
         Ok(tables)
     }
 
-    /// Whether a file is there, and is UTF-8.
+    /// Whether a file is there, and is UTF-8. One that is not has no record.
     pub fn state(&self, file: File) -> State
-        ensures { result ≡ (table_of self.now file).state }
+        ensures state { result ≡ table_state (table_of self.now file) }
+        ensures unread { result ≢ State.Read → records_in self.now file ≡ [] }
     {
         self.table(file).state()
     }
 
     /// How many records a file has, the header among them: none where it is absent or not UTF-8.
     pub fn records(&self, file: File) -> usize
-        ensures { result ≡ length (table_of self.now file).records }
+        ensures { result ≡ length (records_in self.now file) }
     {
         self.table(file).len()
     }
@@ -177,21 +179,21 @@ impl Tables {
     /// A record by its number, for a caller that reads many fields of it: one with no field where there is
     /// no such record.
     pub fn record(&self, file: File, row: usize) -> Record<'_>
-        ensures { result ≡ record_at (table_of self.now file).records row }
+        ensures { result ≡ record_at (records_in self.now file) row }
     {
         self.table(file).record(row)
     }
 
     /// How many fields the record of a row has: none where there is no such row.
     pub fn fields(&self, file: File, row: usize) -> usize
-        ensures { result ≡ length (record_at (table_of self.now file).records row) }
+        ensures { result ≡ length (record_at (records_in self.now file) row) }
     {
         self.record(file, row).len()
     }
 
     /// A field of a row, cut of its blanks: the empty text where there is no such field.
     pub fn field(&self, file: File, row: usize, n: usize) -> &str
-        ensures { result.now ≡ field_cut (record_at (table_of self.now file).records row) n }
+        ensures { result.now ≡ field_cut (record_at (records_in self.now file) row) n }
     {
         self.record(file, row).field(n)
     }
@@ -201,7 +203,7 @@ impl Tables {
     ///
     /// A column is looked up once, and its fields are then read by [`Tables::field`] row after row.
     pub fn column(&self, file: File, name: &str) -> Option<usize>
-        ensures { result ≡ column_of (table_of self.now file).records name.now }
+        ensures { result ≡ column_of (records_in self.now file) name.now }
     {
         self.table(file).column(name)
     }
@@ -209,7 +211,7 @@ impl Tables {
     /// The value of a column in a row: the field under the first header column of that name, cut of its
     /// blanks, and the empty text where there is none.
     pub fn value(&self, file: File, row: usize, column: &str) -> &str
-        ensures { result.now ≡ value (table_of self.now file).records row column.now }
+        ensures { result.now ≡ value (records_in self.now file) row column.now }
     {
         match self.column(file, column) {
             Some(n) => self.field(file, row, n),
@@ -217,10 +219,11 @@ impl Tables {
         }
     }
 
-    /// The names of what else the folder holds, by bytes.
+    /// The names of what else the folder holds, in the order of their bytes. None is that of a kept file.
     pub fn others(&self) -> &[Text]
         ensures value { result.now ≡ self.now.others }
         ensures ordered { IsByBytes result.now }
+        ensures not_kept { All (λ name. is_kept name ≡ false) result.now }
     {
         self.others.as_slice()
     }
@@ -247,7 +250,7 @@ impl Tables {
 
     /// Adds a field to the last record of a file, which has to have one. A refusal leaves all as it was.
     pub fn push_field(&mut self, file: File, field: &str) -> Result<(), OutOfMemory>
-        requires { 0 < length (table_of self.old file).records }
+        requires { 0 < length (records_in self.old file) }
         ensures ok { OnOk result
             (self.new ≡ with_table self.old file (with_field (table_of self.old file) field.now)) }
         ensures err { OnErr result (self.new ≡ self.old) }

@@ -1,11 +1,10 @@
 ghost use Rattle.std.specs.Prelude.{◌≡◌, ◌<◌, [], length, IfOk, OnOk, Some, false, slice_index_or};
 ghost use Rattle.csv.specs.Records.{fields_of};
 ghost use Rattle.gtfs_table.specs.Written.{is_marked, text_of_records};
-ghost use Rattle.gtfs_table.specs.Tables.{table_of_bytes};
+ghost use Rattle.gtfs_table.specs.Tables.{of_records, table_of_bytes};
 
 use crate::record::Record;
 use crate::records::Records;
-use crate::state::State;
 use csv::{ByteRecord, WriterBuilder};
 use gtfs_field::OutOfMemory;
 use std::alloc::Global;
@@ -15,7 +14,7 @@ pub(crate) fn write_records(alloc: Global, records: &Records) -> Result<Vec<u8>,
     ensures text { IfOk result (λ text. text.items ≡ text_of_records records.now) }
     ensures reads_back { IfOk result
         (λ text. is_marked records.now ≡ false
-        → table_of_bytes (Some text.items) ≡ record { state = State.Read; records = records.now }) }
+        → table_of_bytes (Some text.items) ≡ of_records records.now) }
 {
     records.are_filled_with_text();
     let mut writer = WriterBuilder::new()

@@ -25,5 +25,5 @@ returns-in-Err c =
     let refused = rw (c.cut_marks.ensures) at c.in-Err.ensures.cases.0 in
     elim (cases_Bool (is_utf8 (without_marks c.args.bytes.now))) [
       | inl good ↦ absurd (refused (IsUtf8-from_is_utf8 (without_marks c.args.bytes.now) good))
-      | inr bad ↦ rw (bad, c.new.ensures) refl
+      | inr bad ↦ rw bad refl
     ]
