@@ -9,7 +9,7 @@ use Rattle.std.proofs.lemmas.List.FromFn.{length-map-range_with_len}
 use Rattle.std.proofs.lemmas.List.{map-id}
 use Rattle.gtfs_days.specs.declared.week.Week.{Week}
 use Rattle.gtfs_table.specs.Blanks.{cut, without_first_blanks}
-use Rattle.gtfs_table.specs.Tables.{table_of}
+use Rattle.gtfs_table.specs.Tables.{table_of, table_state}
 use Rattle.gtfs_table.specs.declared.file.File.{File}
 use Rattle.gtfs_table.specs.declared.file.File.TheVariants as file
 use Rattle.gtfs_table.specs.Rows.{rows, has_no_record, records_in}
@@ -110,7 +110,7 @@ module _ (c : Content) where
 
   -- ---- E02
 
-  utf8 : (x : File) → is_not_utf8_state (table_of (written c) x).state ≡ false
+  utf8 : (x : File) → is_not_utf8_state (table_state (table_of (written c) x)) ≡ false
   utf8 file.Agency = refl
   utf8 file.Stops = refl
   utf8 file.Routes = refl

@@ -1,10 +1,9 @@
 -- The written form of a content: nine tables, each with the header of its kept columns and a row of canonical texts for each row.
 -- GTFS Schedule Reference, the fields of each file.
 use Rattle.std.specs.Prelude.{List, [], ◌∷◌, map}
-use Rattle.gtfs_table.specs.Tables.{Records, Table, Dataset}
+use Rattle.gtfs_table.specs.Tables.{Records, Table, Dataset, of_records}
 use Rattle.gtfs_table.specs.declared.file.File.{File}
 use Rattle.gtfs_table.specs.declared.file.File.TheVariants as file
-use Rattle.gtfs_table.specs.declared.state.State.TheVariants as state
 use Rattle.gtfs_columns.specs.Columns.{columns_of}
 use Rattle.gtfs_rows.specs.Cells.{Cell, record_text}
 use Rattle.gtfs_rows.specs.Content.{Content}
@@ -15,7 +14,7 @@ abbrev pub records_of_cells : File → List (List Cell) → Records
 records_of_cells x rows = map (λ c. c.name) (columns_of x) ∷ map (record_text (columns_of x)) rows
 
 abbrev pub table_of_cells : File → List (List Cell) → Table
-table_of_cells x rows = record { state = state.Read; records = records_of_cells x rows }
+table_of_cells x rows = of_records (records_of_cells x rows)
 
 -- the tables of cells for each file, and no other name
 abbrev pub dataset_of_cells : (File → List (List Cell)) → Dataset
