@@ -1,12 +1,12 @@
 mod Choices
-mod Colours
-mod CoordinateTexts
+pub mod Colours
+pub mod CoordinateTexts
 mod Coordinates
-mod Dates
+pub mod Dates
 mod Fractions
-mod Numerals
-mod Texts
+pub mod Numerals
+pub mod Texts
 mod TimeColons
 mod Times
-mod Wides
-mod Zeros
+pub mod Wides
+pub mod Zeros

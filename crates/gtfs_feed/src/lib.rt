@@ -1,0 +1,9 @@
+//! The typed feed of a GTFS Schedule dataset.
+//!
+//! - [`Feed`] has the rows of a dataset by number: ids are numbered in the order of their bytes, from 0.
+#![tactic(auto)]
+
+mod feed;
+mod ids;
+
+pub use feed::Feed;

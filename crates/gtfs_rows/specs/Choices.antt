@@ -1,0 +1,77 @@
+-- The numbers of the choices.
+-- GTFS Schedule Reference, the fields of type "Enum" of stops.txt, trips.txt, stop_times.txt, frequencies.txt and transfers.txt.
+use Rattle.std.specs.Prelude.{ℕ}
+use Rattle.gtfs_rows.specs.declared.choices.LocationType.{LocationType}
+use Rattle.gtfs_rows.specs.declared.choices.LocationType.TheVariants as location
+use Rattle.gtfs_rows.specs.declared.choices.WheelchairBoarding.{WheelchairBoarding}
+use Rattle.gtfs_rows.specs.declared.choices.WheelchairBoarding.TheVariants as boarding
+use Rattle.gtfs_rows.specs.declared.choices.Direction.{Direction}
+use Rattle.gtfs_rows.specs.declared.choices.Direction.TheVariants as direction
+use Rattle.gtfs_rows.specs.declared.choices.WheelchairAccessible.{WheelchairAccessible}
+use Rattle.gtfs_rows.specs.declared.choices.WheelchairAccessible.TheVariants as wheelchair
+use Rattle.gtfs_rows.specs.declared.choices.BikesAllowed.{BikesAllowed}
+use Rattle.gtfs_rows.specs.declared.choices.BikesAllowed.TheVariants as bikes
+use Rattle.gtfs_rows.specs.declared.choices.PickupType.{PickupType}
+use Rattle.gtfs_rows.specs.declared.choices.PickupType.TheVariants as pickup
+use Rattle.gtfs_rows.specs.declared.choices.DropOffType.{DropOffType}
+use Rattle.gtfs_rows.specs.declared.choices.DropOffType.TheVariants as drop_off
+use Rattle.gtfs_rows.specs.declared.choices.Timepoint.{Timepoint}
+use Rattle.gtfs_rows.specs.declared.choices.Timepoint.TheVariants as timepoint
+use Rattle.gtfs_rows.specs.declared.choices.ExactTimes.{ExactTimes}
+use Rattle.gtfs_rows.specs.declared.choices.ExactTimes.TheVariants as exact
+use Rattle.gtfs_rows.specs.declared.choices.TransferType.{TransferType}
+use Rattle.gtfs_rows.specs.declared.choices.TransferType.TheVariants as transfer
+
+abbrev pub location_code : LocationType → ℕ
+location_code location.Stop = 0
+location_code location.Station = 1
+location_code location.Entrance = 2
+location_code location.Node = 3
+location_code location.BoardingArea = 4
+
+abbrev pub boarding_code : WheelchairBoarding → ℕ
+boarding_code boarding.Unknown = 0
+boarding_code boarding.Possible = 1
+boarding_code boarding.NotPossible = 2
+
+abbrev pub direction_code : Direction → ℕ
+direction_code direction.One = 0
+direction_code direction.Opposite = 1
+
+abbrev pub wheelchair_code : WheelchairAccessible → ℕ
+wheelchair_code wheelchair.Unknown = 0
+wheelchair_code wheelchair.Accessible = 1
+wheelchair_code wheelchair.NotAccessible = 2
+
+abbrev pub bikes_code : BikesAllowed → ℕ
+bikes_code bikes.Unknown = 0
+bikes_code bikes.Allowed = 1
+bikes_code bikes.NotAllowed = 2
+
+abbrev pub pickup_code : PickupType → ℕ
+pickup_code pickup.Regular = 0
+pickup_code pickup.None = 1
+pickup_code pickup.Phone = 2
+pickup_code pickup.Driver = 3
+
+abbrev pub drop_off_code : DropOffType → ℕ
+drop_off_code drop_off.Regular = 0
+drop_off_code drop_off.None = 1
+drop_off_code drop_off.Phone = 2
+drop_off_code drop_off.Driver = 3
+
+abbrev pub timepoint_code : Timepoint → ℕ
+timepoint_code timepoint.Approximate = 0
+timepoint_code timepoint.Exact = 1
+
+abbrev pub exact_code : ExactTimes → ℕ
+exact_code exact.Frequency = 0
+exact_code exact.Schedule = 1
+
+abbrev pub transfer_code : TransferType → ℕ
+transfer_code transfer.Recommended = 0
+transfer_code transfer.Timed = 1
+transfer_code transfer.MinimumTime = 2
+transfer_code transfer.NotPossible = 3
+transfer_code transfer.InSeat = 4
+transfer_code transfer.Reboard = 5

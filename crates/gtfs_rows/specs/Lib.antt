@@ -1,0 +1,13 @@
+pub mod Cells
+pub mod Choices
+pub mod Content
+pub mod Named
+pub mod Optional
+pub mod Order
+pub mod Reading
+pub mod RouteTypes
+pub mod RowCells
+pub mod Rows
+pub mod Sound
+pub mod Written
+pub mod Views

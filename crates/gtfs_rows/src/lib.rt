@@ -1,0 +1,48 @@
+//! The rows of a GTFS Schedule feed as typed values, and what they mean together.
+//!
+//! - [`Agency`], [`Stop`], [`Route`], [`ServiceRow`], [`Trip`], [`StopRow`], [`Frequency`] and [`Transfer`] are the rows of
+//!   the nine files. Fields have the names of the columns; each choice is an enum with the numbers of the standard.
+//! - A row names other rows by their numbers: an [`AgencyNo`], [`StopNo`], [`RouteNo`], [`ServiceNo`] or [`TripNo`] is the
+//!   place of an id among all ids of its kind, by bytes, from 0. A row's own id is a text in the row.
+//! - [`StopRow`] and [`Frequency`] are small and `Copy`. A time that may be missing is an [`OptionalClock`] of four bytes,
+//!   and a headsign an [`OptionalHeadsign`], a number in the feed's list of headsigns.
+//! - [`Parts`] are all rows of a feed, each list in the order of its keys.
+//!
+//! ```text
+//! let row = StopRow { stop_id: StopNo(3), arrival_time: OptionalClock::NONE, .. };
+//! row.pickup_type == PickupType::Regular
+//! ```
+//!
+//! What a row stands for, with ids as texts, is in `specs/Views.antt`. `specs/Reading.antt` says what the content of a
+//! dataset is, `specs/Sound.antt` which rows make a feed, and `specs/Written.antt` how a feed is written; that what is
+//! written passes the validator and reads back is proved in `proofs/`.
+#![tactic(auto)]
+
+mod agency;
+mod choices;
+mod frequency;
+mod numbers;
+mod optional;
+mod parts;
+mod route;
+mod service;
+mod stop;
+mod stop_row;
+mod transfer;
+mod trip;
+
+pub use agency::Agency;
+pub use choices::{
+    BikesAllowed, Direction, DropOffType, ExactTimes, LocationType, PickupType, Timepoint,
+    TransferType, WheelchairAccessible, WheelchairBoarding,
+};
+pub use frequency::Frequency;
+pub use numbers::{AgencyNo, HeadsignNo, RouteNo, ServiceNo, StopNo, TripNo};
+pub use optional::{OptionalClock, OptionalHeadsign};
+pub use parts::Parts;
+pub use route::{Route, RouteType};
+pub use service::ServiceRow;
+pub use stop::Stop;
+pub use stop_row::StopRow;
+pub use transfer::Transfer;
+pub use trip::Trip;

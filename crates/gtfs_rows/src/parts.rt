@@ -1,0 +1,49 @@
+use crate::agency::Agency;
+use crate::frequency::Frequency;
+use crate::route::Route;
+use crate::service::ServiceRow;
+use crate::stop::Stop;
+use crate::stop_row::StopRow;
+use crate::transfer::Transfer;
+use crate::trip::Trip;
+use gtfs_field::{List, Text};
+
+/// All rows of a feed, each list in the order of its keys: ids by their bytes, transfers by the six parts of their key.
+///
+/// The stop times of all trips stand in one list, trip after trip and in each trip by sequence, and so do the
+/// frequencies, in each trip by start.
+pub struct Parts {
+    pub agencies: List<Agency>,
+    pub stops: List<Stop>,
+    pub routes: List<Route>,
+    pub services: List<ServiceRow>,
+    pub trips: List<Trip>,
+    pub transfers: List<Transfer>,
+    pub stop_rows: List<StopRow>,
+    /// Where the stop times of each trip begin; they end where those of the next one begin.
+    pub stop_row_starts: List<usize>,
+    pub frequencies: List<Frequency>,
+    /// Where the frequencies of each trip begin.
+    pub frequency_starts: List<usize>,
+    /// The headsigns that stop times name by their numbers.
+    pub headsigns: List<Text>,
+}
+
+// Written out, so that a function that lets parts go has one call to prove.
+impl Drop for Parts {
+    fn drop(self) {
+        let Parts {
+            agencies: _,
+            stops: _,
+            routes: _,
+            services: _,
+            trips: _,
+            transfers: _,
+            stop_rows: _,
+            stop_row_starts: _,
+            frequencies: _,
+            frequency_starts: _,
+            headsigns: _,
+        } = self;
+    }
+}
