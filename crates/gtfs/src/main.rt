@@ -3,7 +3,9 @@
 //! standard output that could not be flushed.
 #![tactic(auto)]
 
-ghost use Rattle.std.specs.Prelude.{◌≡◌, ◌≤◌, IfOk, IfErr, OnOk, OnErr};
+ghost use Rattle.std.specs.Prelude.{◌≡◌, ◌≤◌, [], IfOk, IfErr, OnOk, OnErr};
+ghost use Rattle.std.specs.Io.Buffered.{writer_buffer, writer_contents};
+ghost use Rattle.std.specs.Io.KnownBytes.{Keeps};
 ghost use Rattle.gtfs_table.specs.Device.{counted};
 ghost use Rattle.gtfs.specs.declared.fault.Fault.TheVariants.{OutputFailed};
 
@@ -43,13 +45,16 @@ fn answer<R: Runtime + AllocGlobal, E: Out>(rt: &R, err: &mut E) -> Result<u8, F
 
 /// Flushes the buffer of the output. Where that fails, a command that found nothing else wrong with its output
 /// (status 0 or 1) did not do what was asked.
-fn close<W: Write>(out: &mut WriteOut<W>, status: u8) -> Result<u8, Fault>
+fn close<W: Write + Drop>(out: &mut WriteOut<BufWriter<W>>, status: u8) -> Result<u8, Fault>
     ensures kept { IfOk result (λ given. given ≡ status) }
     ensures failed { IfErr result (λ fault. (fault ≡ OutputFailed) × (status ≤ 1)) }
     ensures sent { status ≤ 1 → OnOk result (out.new.1 ≡ out.old.1) }
+    ensures emptied { status ≤ 1 → OnOk result (writer_buffer out.new.0 ≡ []) }
+    ensures whole { Keeps (writer_contents W.contents out.old.0)
+        (writer_contents W.contents out.new.0) }
     ensures counted { OnErr result (out.new.1 ≡ counted out.old.1) }
 {
-    match out.flush() {
+    match out.flush_buffer() {
         Err(_) if status <= 1 => Err(Fault::OutputFailed),
         _ => Ok(status),
     }

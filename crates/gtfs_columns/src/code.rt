@@ -1,5 +1,5 @@
 ghost use Rattle.std.specs.Prelude.{◌≡◌, ◌<◌};
-ghost use Rattle.gtfs_columns.specs.Codes.{code_name, code_rank, code_text, is_error};
+ghost use Rattle.gtfs_columns.specs.Codes.{all_codes, code_name, code_rank, code_text, is_error};
 
 /// What a problem is: an error, whose name begins with `E`, or a warning, whose name begins with `W`.
 ///
@@ -66,37 +66,41 @@ pub enum Code {
 }
 
 impl Code {
-    /// The codes in their order.
-    pub const ALL: [Code; 28] = [
-        Code::E01,
-        Code::E02,
-        Code::E03,
-        Code::E04,
-        Code::E05,
-        Code::E06,
-        Code::E07,
-        Code::E08,
-        Code::E09,
-        Code::E10,
-        Code::E11,
-        Code::E12,
-        Code::E13,
-        Code::E14,
-        Code::E15,
-        Code::E16,
-        Code::E17,
-        Code::E18,
-        Code::E19,
-        Code::E20,
-        Code::W01,
-        Code::W02,
-        Code::W03,
-        Code::W04,
-        Code::W05,
-        Code::W06,
-        Code::W07,
-        Code::W08,
-    ];
+    /// The codes, each once, in their order.
+    pub fn all() -> [Code; 28]
+        ensures { result ≡ all_codes }
+    {
+        [
+            Code::E01,
+            Code::E02,
+            Code::E03,
+            Code::E04,
+            Code::E05,
+            Code::E06,
+            Code::E07,
+            Code::E08,
+            Code::E09,
+            Code::E10,
+            Code::E11,
+            Code::E12,
+            Code::E13,
+            Code::E14,
+            Code::E15,
+            Code::E16,
+            Code::E17,
+            Code::E18,
+            Code::E19,
+            Code::E20,
+            Code::W01,
+            Code::W02,
+            Code::W03,
+            Code::W04,
+            Code::W05,
+            Code::W06,
+            Code::W07,
+            Code::W08,
+        ]
+    }
 
     /// The code's name, as `E07`.
     pub fn name(self) -> &'static str

@@ -12,14 +12,10 @@ use Rattle.gtfs_days.specs.declared.exception.Exception.TheVariants.{Added, Remo
 use Rattle.gtfs_days.specs.declared.week.Week.{Week}
 use Rattle.gtfs_days.specs.Service.{ServiceDates, is_service_day, is_regular, is_added, is_removed, is_active, first_service_day, IsByDay, IsFirstIfAny}
 use Rattle.gtfs_days.proofs.Weekdays.{lt_from, lt_true, not_lt_from}
-use Rattle.gtfs_days.proofs.Exceptions.{Row, eq-int_eq, ne-int_eq, no_exception, by_day_head, by_day_tail}
+use Rattle.gtfs_days.proofs.Exceptions.{Row, eq-int_eq, ne-int_eq, no_exception, or_false, by_day_head, by_day_tail}
 
 abbrev pub dates : Option Week → List Row → ServiceDates
 dates week es = record { week = week; exceptions = es }
-
-or_false : (b : Bool) → (b || false) ≡ b
-or_false true = refl
-or_false false = refl
 
 and_true : (b : Bool) → (b && true) ≡ b
 and_true true = refl

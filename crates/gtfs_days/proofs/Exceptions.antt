@@ -39,7 +39,7 @@ pub no_exception : (kind : Exception → Bool) (d : ℤ) (es : List Row) → All
 no_exception kind d es apart =
     list_any_none (λ (e : Row). int_eq e.0 d && kind e.1) es (λ k e h. rw (ne-int_eq (get_or es k e).0 d (apart k e h)))
 
-or_false : (b : Bool) → (b || false) ≡ b
+pub or_false : (b : Bool) → (b || false) ≡ b
 or_false true = refl
 or_false false = refl
 

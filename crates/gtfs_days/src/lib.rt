@@ -10,7 +10,8 @@
 //!   is not midnight. `civil` is the local date and time at an instant, a [`Civil`].
 //!
 //! A day is a `gtfs_field::Day`, and an instant is a number of seconds since
-//! 1970-01-01T00:00:00Z. A service day is a day from 1900-01-01 to 9998-12-31.
+//! 1970-01-01T00:00:00Z. A service day is a day from 1900-01-01 to 9998-12-31, of which
+//! [`FIRST_SERVICE_DAY`] and [`LAST_SERVICE_DAY`] are the numbers.
 //!
 //! ```text
 //! let week = Week { days: [true, true, true, true, true, false, false], start, end };
@@ -32,6 +33,7 @@ mod civil;
 mod exception;
 mod law;
 mod service;
+mod service_day;
 mod week;
 mod zone;
 
@@ -39,5 +41,6 @@ pub use civil::{Civil, CivilFault};
 pub use exception::Exception;
 pub use law::zones_are_one;
 pub use service::Service;
+pub use service_day::{FIRST_SERVICE_DAY, LAST_SERVICE_DAY};
 pub use week::Week;
 pub use zone::{Zone, ZoneFault};

@@ -4,7 +4,8 @@ ghost use Rattle.jiff_core.specs.Calendar.{IsBetween};
 ghost use Rattle.gtfs_days.specs.Service.{first_service_day, is_service_day};
 
 use crate::exception::Exception;
-use crate::week::{LAST_SERVICE_DAY, Week};
+use crate::service_day::LAST_SERVICE_DAY;
+use crate::week::Week;
 use gtfs_field::{Day, OutOfMemory};
 use std::alloc::Global;
 use std::marker::Model;
@@ -100,7 +101,8 @@ impl Service {
 
     // The one exception that stands for the day, found by binary search.
     fn exception_on(&self, day: Day) -> Option<Exception>
-        ensures { (kind : Exception → Bool) → has_exception kind self.now day ≡ option_map_or kind result false }
+        ensures { (kind : Exception → Bool)
+            → has_exception kind self.now day ≡ option_map_or kind result false }
     {
         let found = self
             .exceptions
@@ -126,7 +128,8 @@ impl Service {
     fn exceptions_from(&self, day: Day) -> &[(Day, Exception)]
         ensures by_day { IsByDay result.now }
         ensures from_on { All (λ e. day ≤ℤ e.0) result.now }
-        ensures same { (e : ℤ) → day ≤ℤ e → is_active self.now e ≡ is_active (with_exceptions self.now result.now) e }
+        ensures same { (e : ℤ) → day ≤ℤ e
+            → is_active self.now e ≡ is_active (with_exceptions self.now result.now) e }
     {
         let from = day.number();
         let first = self

@@ -1,10 +1,8 @@
 ghost use Rattle.std.specs.Prelude.{◌≡◌, ◌<◌, pos, negsuc};
 ghost use Rattle.jiff_core.specs.Calendar.{weekday_number, IsBetween};
 
+use crate::service_day::LAST_SERVICE_DAY;
 use gtfs_field::Day;
-
-// The number of 9998-12-31, the last service day.
-pub(crate) const LAST_SERVICE_DAY: i32 = 2_932_531;
 
 /// A row of `calendar.txt` without its id: on which weekdays a service runs, and between which days.
 ///

@@ -16,13 +16,10 @@ use Rattle.gtfs_field.specs.declared.fault.FieldFault.{FieldFault}
 use Rattle.gtfs_field.specs.declared.coord.Axis.{Axis}
 use Rattle.gtfs_field.specs.declared.coord.Axis.TheVariants.{Longitude}
 use Rattle.gtfs_field.proofs.Choices.{shaped-true, within-true, leb_from, same-value}
-use Rattle.gtfs_field.proofs.Coordinates.{whole_of, fraction_of, shape-around, magnitude-around}
+use Rattle.gtfs_field.proofs.Coordinates.{digit-no-point, whole_of, fraction_of, shape-around, magnitude-around}
 use Rattle.gtfs_field.proofs.Texts.{decimal-digits, number-decimal}
 use Rattle.gtfs_field.proofs.Wides.{wide-digits, number-wide}
 use Rattle.gtfs_field.proofs.Zeros.{without-digits, length-without, number-without}
-
-digit-no-point : (b : ℕ) → is_ascii_digit b ≡ true → is_point b ≡ false
-digit-no-point b digit = grind (arith, nat_tests)
 
 digit-no-sign : (b : ℕ) → is_ascii_digit b ≡ true → is_sign b ≡ false
 digit-no-sign b digit = grind (arith, nat_tests)

@@ -13,7 +13,7 @@ use Rattle.std.proofs.Math.Nat.{pow-suc, mul-add-div_right, one-le-pow}
 use Rattle.gtfs_field.specs.Digits.{number}
 use Rattle.gtfs_field.specs.Kinds.{is_point, without_points, has_coordinate_shape, magnitude, is_sign, are_digits, billionths}
 
-digit-no-point : (b : ℕ) → is_ascii_digit b ≡ true → is_point b ≡ false
+pub digit-no-point : (b : ℕ) → is_ascii_digit b ≡ true → is_point b ≡ false
 digit-no-point b digit = grind (arith, nat_tests)
 
 -- digits have no point among them

@@ -21,7 +21,8 @@ pub(crate) fn push_ascii(text: &mut String, bytes: &[u8]) -> Result<(), OutOfMem
 pub(crate) fn write_wide(number: u64, width: usize, end: usize, bytes: &mut [u8])
     requires small { number < 10 ^ width }
     requires within { (0 < width) × (width ≤ end) × (end ≤ length bytes.old) }
-    ensures { bytes.new ≡ take (end - width) bytes.old ++ (wide width number ++ drop end bytes.old) }
+    ensures { bytes.new
+        ≡ take (end - width) bytes.old ++ (wide width number ++ drop end bytes.old) }
 {
     bytes[end - width..end].fill(b'0');
     let _ = write_digits(number, bytes, end);

@@ -74,10 +74,12 @@ pub fn read_time(text: &str) -> Result<Clock, FieldFault>
 /// # Errors
 /// `OutOfMemory` where the text cannot grow; it is then as it was.
 pub fn push_time(_alloc: Global, text: &mut String, clock: Clock) -> Result<(), OutOfMemory>
-    ensures appended { OnOk result (string_bytes text.new ≡ string_bytes text.old ++ time_text clock) }
+    ensures appended { OnOk result
+        (string_bytes text.new ≡ string_bytes text.old ++ time_text clock) }
     ensures unchanged { OnErr result (string_bytes text.new ≡ string_bytes text.old) }
     ensures reads_back { clock ≤ 3_599_999 → time_of (time_text clock) ≡ Ok clock }
-    ensures unique { (other : ℕ) → other ≤ 7_199_999 → time_text other ≡ time_text clock → other ≡ clock }
+    ensures unique { (other : ℕ) → other ≤ 7_199_999 → time_text other ≡ time_text clock
+        → other ≡ clock }
 {
     let seconds = clock.seconds();
     push_ascii(text, &time_bytes(seconds)[spare_digits(seconds / 3600)..])
@@ -86,7 +88,8 @@ pub fn push_time(_alloc: Global, text: &mut String, clock: Clock) -> Result<(), 
 /// A time with four digits of hours.
 fn time_bytes(seconds: u32) -> [u8; 10]
     requires { seconds ≤ 7_199_999 }
-    ensures { result ≡ wide 4 (seconds / 3600) ++ 58 ∷ wide 2 (seconds / 60 % 60) ++ 58 ∷ wide 2 (seconds % 60) }
+    ensures { result ≡ wide 4 (seconds / 3600)
+        ++ 58 ∷ wide 2 (seconds / 60 % 60) ++ 58 ∷ wide 2 (seconds % 60) }
 {
     let mut bytes = *b"0000:00:00";
     write_wide(u64::from(seconds / 3600), 4, 4, &mut bytes);
@@ -124,7 +127,8 @@ fn seconds_of(text: &str) -> Option<u32>
 
 /// The number that one to three digits write.
 fn hours_of(text: &[u8]) -> Option<u32>
-    ensures value { result ≡ (if is_number text.now && nat_le (length text.now) 3 then Some (number text.now) else None) }
+    ensures value { result ≡ (if is_number text.now && nat_le (length text.now) 3
+        then Some (number text.now) else None) }
     ensures bound { IfSome result (λ n. n < 1000) }
 {
     match text {
@@ -149,7 +153,8 @@ fn digit(byte: u8) -> Option<u32>
 
 /// The number below 60 that two digits write.
 fn sixtieth(tens: u8, ones: u8) -> Option<u32>
-    ensures value { result ≡ (if is_sixtieth (tens ∷ ones ∷ []) then Some (number (tens ∷ ones ∷ [])) else None) }
+    ensures value { result ≡ (if is_sixtieth (tens ∷ ones ∷ [])
+        then Some (number (tens ∷ ones ∷ [])) else None) }
     ensures bound { IfSome result (λ n. n < 60) }
 {
     match two_digits(tens, ones) {

@@ -84,10 +84,12 @@ fn are_hexadecimal(text: &[u8]) -> bool
 /// # Errors
 /// `OutOfMemory` where the text cannot grow; it is then as it was.
 pub fn push_colour(_alloc: Global, text: &mut String, colour: Colour) -> Result<(), OutOfMemory>
-    ensures appended { OnOk result (string_bytes text.new ≡ string_bytes text.old ++ colour_text colour) }
+    ensures appended { OnOk result
+        (string_bytes text.new ≡ string_bytes text.old ++ colour_text colour) }
     ensures unchanged { OnErr result (string_bytes text.new ≡ string_bytes text.old) }
     ensures reads_back { colour_of (colour_text colour) ≡ Ok colour }
-    ensures unique { (other : ℕ) → other ≤ 0xFF_FFFF → colour_text other ≡ colour_text colour → other ≡ colour }
+    ensures unique { (other : ℕ) → other ≤ 0xFF_FFFF → colour_text other ≡ colour_text colour
+        → other ≡ colour }
 {
     push_ascii(text, &hexadecimal(colour.bits()))
 }

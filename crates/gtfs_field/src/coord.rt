@@ -52,7 +52,8 @@ impl Model for Coord {
 
     ghost view = { λ c. c.nanodegrees };
 
-    ghost invariant = { λ c. (negsuc 179_999_999_999 ≤ℤ c.nanodegrees) × (c.nanodegrees ≤ℤ pos 180_000_000_000) };
+    ghost invariant = { λ c. (negsuc 179_999_999_999 ≤ℤ c.nanodegrees)
+        × (c.nanodegrees ≤ℤ pos 180_000_000_000) };
 
     ghost inverse = { λ n. record { nanodegrees = n } };
 }
@@ -118,7 +119,8 @@ fn begins_with_sign(text: &[u8]) -> bool
 
 /// Units of 10^-9 degree, `u64::MAX` where there are more; None where the text has no coordinate's shape.
 fn magnitude_of(body: &str) -> Option<u64>
-    ensures { result ≡ (if has_coordinate_shape body.now then Some (min (magnitude body.now) (2 ^ 64 - 1)) else None) }
+    ensures { result ≡ (if has_coordinate_shape body.now
+        then Some (min (magnitude body.now) (2 ^ 64 - 1)) else None) }
 {
     let (whole, fraction) = around_point(body);
     magnitude_from(whole.as_bytes(), fraction.as_bytes())
@@ -126,7 +128,8 @@ fn magnitude_of(body: &str) -> Option<u64>
 
 /// The same, from what stands before the point and after it.
 fn magnitude_from(whole: &[u8], fraction: &[u8]) -> Option<u64>
-    ensures { result ≡ (if are_digits whole.now fraction.now then Some (min (billionths whole.now fraction.now) (2 ^ 64 - 1)) else None) }
+    ensures { result ≡ (if are_digits whole.now fraction.now
+        then Some (min (billionths whole.now fraction.now) (2 ^ 64 - 1)) else None) }
 {
     if whole.is_empty() && fraction.is_empty() {
         return None;
@@ -150,7 +153,8 @@ fn around_point(body: &str) -> (&str, &str)
 
 /// The billionths that the digits of a fraction mean, further digits cut off; None where a byte is no digit.
 fn billionths_of(fraction: &[u8]) -> Option<u64>
-    ensures value { result ≡ (if all_ascii_digits fraction.now then Some (number fraction.now * 10 ^ 9 / 10 ^ length fraction.now) else None) }
+    ensures value { result ≡ (if all_ascii_digits fraction.now
+        then Some (number fraction.now * 10 ^ 9 / 10 ^ length fraction.now) else None) }
 {
     let mut billionths: u64 = 0;
     let mut weight: u64 = 1_000_000_000;
@@ -173,10 +177,13 @@ const NANODEGREES: u64 = 1_000_000_000;
 /// # Errors
 /// `OutOfMemory` where the text cannot grow; it is then as it was.
 pub fn push_coord(_alloc: Global, text: &mut String, coord: Coord) -> Result<(), OutOfMemory>
-    ensures appended { OnOk result (string_bytes text.new ≡ string_bytes text.old ++ coordinate_text coord) }
+    ensures appended { OnOk result
+        (string_bytes text.new ≡ string_bytes text.old ++ coordinate_text coord) }
     ensures unchanged { OnErr result (string_bytes text.new ≡ string_bytes text.old) }
-    ensures reads_back { (axis : Axis) → unsigned_abs coord ≤ most_degrees axis * 10 ^ 9 → coordinate_of axis (coordinate_text coord) ≡ Ok coord }
-    ensures unique { (other : ℤ) → unsigned_abs other ≤ 180_000_000_000 → coordinate_text other ≡ coordinate_text coord → other ≡ coord }
+    ensures reads_back { (axis : Axis) → unsigned_abs coord ≤ most_degrees axis * 10 ^ 9
+        → coordinate_of axis (coordinate_text coord) ≡ Ok coord }
+    ensures unique { (other : ℤ) → unsigned_abs other ≤ 180_000_000_000
+        → coordinate_text other ≡ coordinate_text coord → other ≡ coord }
 {
     let nanodegrees = coord.nanodegrees();
     // A sign, three digits of degrees, the point and nine digits of the fraction.
@@ -189,7 +196,8 @@ pub fn push_coord(_alloc: Global, text: &mut String, coord: Coord) -> Result<(),
 /// Appends the sign of a negative number.
 fn push_sign(text: &mut String, is_negative: bool)
     requires room { string_len text.old + 1 ≤ string_capacity text.old }
-    ensures appended { string_bytes text.new ≡ string_bytes text.old ++ (if is_negative then 45 ∷ [] else []) }
+    ensures appended { string_bytes text.new
+        ≡ string_bytes text.old ++ (if is_negative then 45 ∷ [] else []) }
     ensures len { string_len text.new ≤ string_len text.old + 1 }
     ensures capacity { string_capacity text.old ≤ string_capacity text.new }
 {

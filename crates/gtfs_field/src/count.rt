@@ -32,10 +32,12 @@ pub fn read_count(text: &str) -> Result<u32, FieldFault>
 /// # Errors
 /// `OutOfMemory` where the text cannot grow; it is then as it was.
 pub fn push_count(_alloc: Global, text: &mut String, count: u32) -> Result<(), OutOfMemory>
-    ensures appended { OnOk result (string_bytes text.new ≡ string_bytes text.old ++ count_text count) }
+    ensures appended { OnOk result
+        (string_bytes text.new ≡ string_bytes text.old ++ count_text count) }
     ensures unchanged { OnErr result (string_bytes text.new ≡ string_bytes text.old) }
     ensures reads_back { count ≤ 2_147_483_647 → count_of (count_text count) ≡ Ok count }
-    ensures unique { (other : ℕ) → other < 2 ^ 32 → count_text other ≡ count_text count → other ≡ count }
+    ensures unique { (other : ℕ) → other < 2 ^ 32 → count_text other ≡ count_text count
+        → other ≡ count }
 {
     text.push_str(Buffer::new().format(count))
 }

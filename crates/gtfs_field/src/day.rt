@@ -99,10 +99,12 @@ fn day_of(digits: u64) -> Result<Day, FieldFault>
 /// # Errors
 /// `OutOfMemory` where the text cannot grow; it is then as it was.
 pub fn push_date(_alloc: Global, text: &mut String, day: Day) -> Result<(), OutOfMemory>
-    ensures appended { OnOk result (string_bytes text.new ≡ string_bytes text.old ++ date_text day) }
+    ensures appended { OnOk result
+        (string_bytes text.new ≡ string_bytes text.old ++ date_text day) }
     ensures unchanged { OnErr result (string_bytes text.new ≡ string_bytes text.old) }
     ensures reads_back { date_of (date_text day) ≡ Ok day }
-    ensures unique { (other : ℤ) → negsuc 25_566 ≤ℤ other → other ≤ℤ pos 2_932_896 → date_text other ≡ date_text day → other ≡ day }
+    ensures unique { (other : ℤ) → negsuc 25_566 ≤ℤ other → other ≤ℤ pos 2_932_896
+        → date_text other ≡ date_text day → other ≡ day }
 {
     push_ascii(text, &date_bytes(day.date()))
 }

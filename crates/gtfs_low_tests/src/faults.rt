@@ -1,4 +1,5 @@
 //! The lines of faults, which the program prints, and their numbers.
+use gtfs_days::{CivilFault, ZoneFault};
 use gtfs_field::FieldFault;
 use gtfs_table::FolderFault;
 use std::test::Fail;
@@ -26,5 +27,25 @@ fn faults_of_fields(rt: HostRuntime) -> Result<(), Fail> {
     assert_eq!(rt; lines.as_str(), "not of this form; out of range");
     assert_eq!(rt; FieldFault::Form as u8, 1);
     assert_eq!(rt; FieldFault::Range as u8, 2);
+    Ok(())
+}
+
+#[test]
+fn faults_of_zones(rt: HostRuntime) -> Result<(), Fail> {
+    let (unreadable, no_memory) = (ZoneFault::Unreadable, ZoneFault::OutOfMemory);
+    let lines = format!(in rt.alloc(); "{unreadable}; {no_memory}")?;
+    assert_eq!(rt; lines.as_str(), "not a zone file; out of memory");
+    assert_eq!(rt; unreadable as u8, 1);
+    assert_eq!(rt; no_memory as u8, 2);
+    Ok(())
+}
+
+#[test]
+fn faults_of_clocks(rt: HostRuntime) -> Result<(), Fail> {
+    let (out_of_range, no_memory) = (CivilFault::OutOfRange, CivilFault::OutOfMemory);
+    let lines = format!(in rt.alloc(); "{out_of_range}; {no_memory}")?;
+    assert_eq!(rt; lines.as_str(), "instant out of range; out of memory");
+    assert_eq!(rt; out_of_range as u8, 1);
+    assert_eq!(rt; no_memory as u8, 2);
     Ok(())
 }

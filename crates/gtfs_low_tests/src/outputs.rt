@@ -1,7 +1,7 @@
 //! Outputs: a text goes out whole, or up to where its output fails.
 use gtfs_table::{Failed, MemoryOut, Out, OutFault, WriteOut, write_text};
 use std::io;
-use std::io::{Error, ErrorKind, Write};
+use std::io::{BufWriter, Error, ErrorKind, Write};
 use std::test::Fail;
 
 // Takes one byte a call, after an interruption, until its room ends; then it takes none.
@@ -94,4 +94,30 @@ fn a_vector_is_a_writer(rt: HostRuntime) {
     assert_eq!(rt; write_text(&mut out, b"stop_times.txt"), Ok(()));
     assert_eq!(rt; out.flush(), Ok(()));
     assert_eq!(rt; out.failures(), 0);
+}
+
+#[test]
+fn a_buffer_is_flushed_into_its_writer(rt: HostRuntime) -> Result<(), Fail> {
+    let buffer = BufWriter::new(rt.alloc(), Vec::new(rt.alloc()))?;
+    let mut out = WriteOut::new(buffer);
+    assert_eq!(rt; write_text(&mut out, b"stop_times.txt"), Ok(()));
+    assert_eq!(rt; out.flush_buffer(), Ok(()));
+    assert_eq!(rt; out.failures(), 0);
+    Ok(())
+}
+
+// The buffer takes the text, and its writer then takes four bytes of it.
+#[test]
+fn a_buffer_fails_where_its_writer_takes_no_more(rt: HostRuntime) -> Result<(), Fail> {
+    let writer = Trickle {
+        text: Vec::new(rt.alloc()),
+        room: 4,
+        is_interrupted: false,
+    };
+    let mut out = WriteOut::new(BufWriter::new(rt.alloc(), writer)?);
+    assert_eq!(rt; write_text(&mut out, b"departure"), Ok(()));
+    assert_eq!(rt; out.failures(), 0);
+    assert_eq!(rt; out.flush_buffer(), Err(Failed));
+    assert_eq!(rt; out.failures(), 1);
+    Ok(())
 }

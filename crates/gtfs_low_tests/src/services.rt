@@ -3,8 +3,8 @@ ghost use Rattle.std.specs.Prelude.{◌≡◌, ℤ, pos, ◌+ℤ◌};
 ghost use Rattle.jiff_core.specs.Calendar.{IsBetween};
 
 use gtfs_days::Exception::{Added, Removed};
-use gtfs_days::{Service, Week};
-use gtfs_field::Day;
+use gtfs_days::{FIRST_SERVICE_DAY, LAST_SERVICE_DAY, Service, Week};
+use gtfs_field::{Day, read_date};
 use std::test::Fail;
 
 // A day of April 2024, of which the 1st is a Monday.
@@ -63,6 +63,39 @@ fn a_weekday_that_the_row_does_not_reach(rt: HostRuntime) -> Result<(), Fail> {
     };
     let service = Service::new(rt.alloc(), Some(week), &[])?;
     assert_eq!(rt; service.next_active(april(1)), None);
+    Ok(())
+}
+
+// The limits of service days are these dates. A service that is never without a day runs on both, and
+// not on the day after the last; before the first there is no date.
+#[test]
+fn the_first_and_the_last_service_day(rt: HostRuntime) -> Result<(), Fail> {
+    assert_eq!(rt;
+        read_date("19000101"),
+        Ok(Day::from_number(FIRST_SERVICE_DAY))
+    );
+    assert_eq!(rt;
+        read_date("99981231"),
+        Ok(Day::from_number(LAST_SERVICE_DAY))
+    );
+    let first = Day::from_number(FIRST_SERVICE_DAY);
+    let last = Day::from_number(LAST_SERVICE_DAY);
+    let after = Day::from_number(LAST_SERVICE_DAY + 1);
+    assert_eq!(rt; read_date("99990101"), Ok(after));
+    let week = Week {
+        days: [true; 7],
+        start: first,
+        end: Day::from_number(2_932_896),
+    };
+    let service = Service::new(rt.alloc(), Some(week), &[])?;
+    for (day, active) in [(first, true), (last, true), (after, false)] {
+        assert_eq!(rt; service.active(day), active, "on {day:?}");
+        assert_eq!(rt;
+            service.next_active(day),
+            active.then_some(day),
+            "from {day:?}"
+        );
+    }
     Ok(())
 }
 

@@ -54,7 +54,7 @@ fn ask_row<'a>(
     row: usize,
     problems: &mut Vec<Problem<'a>>,
 ) -> Result<(), AllocError> {
-    for code in Code::ALL {
+    for code in Code::all() {
         let at = |column| Asked {
             tables,
             file,

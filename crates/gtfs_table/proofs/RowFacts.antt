@@ -1,9 +1,9 @@
 -- The rows of a file, as an iterator hands them out and as a loop over it takes them.
 use Rattle.std.proofs.Common.{◌≡◌, ℕ, zero, suc, ◌+◌, ◌-◌, ◌<◌, ◌≤◌, Bool, true, false, List, [], ◌∷◌, ◌++◌, map, length, Option, Some, None, refl, sym, ap, ◌∙◌, inl, inr, arith, append-nil}
-use Rattle.std.specs.Prelude.{◌&&◌, ◌||◌, ◌==◌, not, nat_lt, nat_le, filter, find}
+use Rattle.std.specs.Prelude.{◌&&◌, ◌==◌, not, nat_lt, nat_le, filter, find}
 use Rattle.std.specs.Iterator.{Yields, YieldsFirst}
 use Rattle.std.specs.List.{All, filter_map, list_any, range_with_len}
-use Rattle.std.proofs.lemmas.Bool.{cases_Bool}
+use Rattle.std.proofs.lemmas.Bool.{and_parts, cases_Bool, or_right}
 use Rattle.std.proofs.lemmas.Bool.Decides.{nat_tests}
 use Rattle.std.proofs.lemmas.List.{map-append}
 use Rattle.std.proofs.lemmas.List.Elements.{All-nil, All-cons, All-head, All-tail, filter_map-append, filter_passes}
@@ -140,10 +140,6 @@ no_row_yet taken n r p none here = rw (numbers_more taken n r, no_first p (numbe
 
 -- ---- which numbers are among the rows
 
-or_true : (a : Bool) → (a || true) ≡ true
-or_true true = refl
-or_true false = refl
-
 kept_in_range : (p : ℕ → Bool) (m a k : ℕ) → p m ≡ true → a ≤ m → m < a + k → is_among (filter p (range_with_len a k)) m ≡ true
 kept_in_range p m a zero passes low high = absurd (omega arith)
 kept_in_range p m a (suc k) passes low high = elim (cases_Bool (m == a)) [
@@ -153,7 +149,7 @@ kept_in_range p m a (suc k) passes low high = elim (cases_Bool (m == a)) [
   | inr other ↦ (let above : a + 1 ≤ m = grind (arith, nat_tests, other, low) in
       let later = kept_in_range p m (a + 1) k passes above (omega arith) in
       elim (cases_Bool (p a)) [
-        | inl here ↦ rw (here, later) (or_true (m == a))
+        | inl here ↦ rw (here, later) (or_right (m == a) true refl)
         | inr passed ↦ rw passed later
       ])
 ]
@@ -162,15 +158,6 @@ kept_in_range p m a (suc k) passes low high = elim (cases_Bool (m == a)) [
 pub row_among : (d : Dataset) (x : File) (m : ℕ) → is_row (records_in d x) m ≡ true → is_among (rows d x) m ≡ true
 row_among d x m row =
     let rs = records_in d x in
-    let low : nat_lt 1 m ≡ true = first (nat_lt 1 m) (nat_le m (length rs)) (has_value (record_at rs m)) row in
-    let high : nat_le m (length rs) ≡ true = second (nat_lt 1 m) (nat_le m (length rs)) (has_value (record_at rs m)) row in
+    let (numbered, _) = and_parts (nat_lt 1 m && nat_le m (length rs)) (has_value (record_at rs m)) row in
+    let (low, high) = and_parts (nat_lt 1 m) (nat_le m (length rs)) numbered in
     kept_in_range (is_row rs) m 2 (length rs - 1) row (grind (arith, nat_tests, low)) (grind (arith, nat_tests, low, high))
-  where
-    first : (a b c : Bool) → (a && b && c) ≡ true → a ≡ true
-    first true b c e = refl
-    first false b c e = e
-
-    second : (a b c : Bool) → (a && b && c) ≡ true → b ≡ true
-    second true true c e = refl
-    second true false c e = e
-    second false b c e = cc e

@@ -1,10 +1,10 @@
 -- The fields of a record of a text are texts.
 use Rattle.std.specs.Prelude.{⊤}
-use Rattle.std.proofs.Common.{◌≡◌, ◌≤◌, ◌==◌, ◌++◌, ◌∷◌, ◌∙◌, ◌&&◌, ◌||◌, [], ℕ, List, Bool, Option, Some, None, refl, ap, subst, true, false, append_assoc, inl, inr, if◌then◌else◌, arith, nat_lt}
+use Rattle.std.proofs.Common.{◌≡◌, ◌≤◌, ◌==◌, ◌++◌, ◌∷◌, ◌∙◌, ◌||◌, [], ℕ, List, Bool, Option, Some, None, refl, ap, subst, true, false, append_assoc, inl, inr, if◌then◌else◌, arith, nat_lt}
 use Rattle.std.specs.Str.{IsUtf8}
 use Rattle.std.proofs.lemmas.Str.{IsUtf8-nil, IsUtf8-append, IsUtf8-encode, encode_ascii}
 use Rattle.std.proofs.lemmas.List.{append-nil}
-use Rattle.std.proofs.lemmas.Bool.{cases_Bool, cases_lt, ne_eqb}
+use Rattle.std.proofs.lemmas.Bool.{and_parts, cases_Bool, cases_lt, ne_eqb}
 use Rattle.std.proofs.lemmas.Bool.Decides.{nat_tests}
 use Rattle.std.specs.List.{AllByRecursion}
 use lib.Utf8.{scalars, scalar, encodes, encode}
@@ -128,14 +128,6 @@ if-reads : (t : Bool) (x y : Option Read) → ReadsText x → ReadsText y → Re
 if-reads true x y p q = p
 if-reads false x y p q = q
 
-pub and-left : (a b : Bool) → (a && b) ≡ true → a ≡ true
-and-left true b e = refl
-and-left false b e = e
-
-pub and-right : (a b : Bool) → (a && b) ≡ true → b ≡ true
-and-right true b e = e
-and-right false b e = cc e
-
 -- one ASCII byte, by what the machine does with it
 by_action : (a : Action) (c : ℕ) (s2 : State) (fields : List (List ℕ)) (field rest : List ℕ) → is_open s2 ≡ true → AllText fields → IsUtf8 field → IsUtf8 (c ∷ []) → IsUtf8 rest
     → ((fs : List (List ℕ)) (f : List ℕ) → AllText fs → IsUtf8 f → ReadsText (next_record default_config s2 fs f rest))
@@ -151,8 +143,7 @@ reads-text : (cs : List ℕ) (s : State) (fields : List (List ℕ)) (field : Lis
 unfolding next_record
 reads-text [] s fields field known o all text = if-reads (ends_at_end s) _ _ (text-more fields field all text, IsUtf8-nil, refl) tt
 reads-text (c ∷ cs) s fields field known o all text =
-    let here = and-left (scalar c) (scalars cs) known in
-    let there = and-right (scalar c) (scalars cs) known in
+    let (here, there) = and_parts (scalar c) (scalars cs) known in
     elim (cases_lt c 128) [
       | inl low ↦
           let one : encode c ≡ c ∷ [] = encode_ascii c low in

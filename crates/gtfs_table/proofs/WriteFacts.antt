@@ -2,7 +2,7 @@
 use Rattle.std.proofs.Common.{◌≡◌, ◌<◌, ◌≤◌, ◌==◌, ◌&&◌, ◌++◌, ◌∷◌, [], ℕ, zero, suc, List, Bool, Some, length, refl, sym, subst, true, false, if◌then◌else◌, arith, append_assoc, inl, inr, drop}
 use Rattle.std.specs.List.{All, AllByRecursion, list_any}
 use Rattle.std.specs.Str.{IsUtf8, is_utf8}
-use Rattle.std.proofs.lemmas.Bool.{cases_Bool, cases_lt, ne_eqb}
+use Rattle.std.proofs.lemmas.Bool.{and_parts, cases_Bool, cases_lt, ne_eqb}
 use Rattle.std.proofs.lemmas.List.{append-nil}
 use Rattle.std.proofs.lemmas.List.Elements.{All-nil, All-cons, All-head, All-tail}
 use Rattle.std.proofs.lemmas.Str.{IsUtf8-nil, IsUtf8-append, IsUtf8-encode, encode_ascii, is_utf8-from_IsUtf8}
@@ -19,7 +19,7 @@ use Rattle.gtfs_table.specs.Tables.{Records, of_records, table_of_bytes, without
 use Rattle.gtfs_table.specs.Written.{text_of_records, begins_with_mark, is_marked}
 use Rattle.gtfs_table.proofs.AllRecords.{records-AreRecords}
 use Rattle.gtfs_table.proofs.StoreFacts.{AllFilled}
-use Rattle.gtfs_table.proofs.Utf8Fields.{and-left, and-right, encode-high}
+use Rattle.gtfs_table.proofs.Utf8Fields.{encode-high}
 use Rattle.gtfs_table.specs.Parts.{parts}
 
 -- ---- a writer that lets records differ in length writes the same
@@ -174,8 +174,8 @@ escaped-chars : (cs : List ℕ) → scalars cs ≡ true → IsUtf8 (escaped defa
 unfolding escaped
 escaped-chars [] known = IsUtf8-nil
 escaped-chars (c ∷ cs) known =
-    let here = and-left (scalar c) (scalars cs) known in
-    let rest = escaped-chars cs (and-right (scalar c) (scalars cs) known) in
+    let (here, there) = and_parts (scalar c) (scalars cs) known in
+    let rest = escaped-chars cs there in
     rw (escaped-append (encode c) (encodes cs)) (IsUtf8-append (escaped default_writer (encode c)) (escaped default_writer (encodes cs)) (elim (cases_lt c 128) [
       | inl low ↦ rw (encode_ascii c low) (escaped-low c low here)
       | inr high ↦ rw (escaped-high (encode c) (encode-high c high)) (IsUtf8-encode c here)

@@ -1,9 +1,10 @@
-ghost use Rattle.std.specs.Prelude.{◌≡◌, ◌<◌, ◌≤◌, length, take, IfOk, IfSome, MatchOption, OnOk, OnErr};
+ghost use Rattle.std.specs.Prelude.{◌≡◌, ◌<◌, ◌≤◌, [], length, take, IfOk, IfSome, MatchOption, OnOk, OnErr};
+ghost use Rattle.std.specs.Io.Buffered.{writer_buffer, writer_contents};
 ghost use Rattle.std.specs.Io.KnownBytes.{Appends, Keeps};
 ghost use Rattle.gtfs_table.specs.Device.{Rises, counted};
 
 use crate::output::{Failed, Out};
-use std::io::{ErrorKind, Write};
+use std::io::{BufWriter, ErrorKind, Write};
 use std::marker::Model;
 
 /// An output that hands its text to a writer, as a file or a terminal, and tells of it what the writer tells.
@@ -53,6 +54,25 @@ impl<W: Write> WriteOut<W> {
     {
         self.failures = self.failures.saturating_add(1);
         Failed
+    }
+}
+
+impl<W: Write + Drop> WriteOut<BufWriter<W>> {
+    /// Flushes the buffer: then nothing is left in it, and its writer was handed all that the buffer
+    /// took. That writer is flushed too.
+    ///
+    /// Refused with Failed, which counts as a failure.
+    pub fn flush_buffer(&mut self) -> Result<(), Failed>
+        ensures empty { OnOk result (writer_buffer self.new.0 ≡ []) }
+        ensures kept { Keeps (writer_contents W.contents self.old.0)
+            (writer_contents W.contents self.new.0) }
+        ensures ok { OnOk result (self.new.1 ≡ self.old.1) }
+        ensures err { OnErr result (self.new.1 ≡ counted self.old.1) }
+    {
+        if self.writer.flush().is_err() {
+            return Err(self.fail());
+        }
+        Ok(())
     }
 }
 

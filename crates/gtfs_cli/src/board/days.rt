@@ -11,14 +11,9 @@ use crate::board::span::Span;
 use crate::board::waiting::Waiting;
 use crate::feed::Feed;
 use crate::runs::Event;
-use gtfs_days::{Service, Zone};
+use gtfs_days::{FIRST_SERVICE_DAY, LAST_SERVICE_DAY, Service, Zone};
 use gtfs_field::{Day, OutOfMemory};
 use std::alloc::Global;
-
-// The first and the last service day: 1900-01-01 and 9998-12-31.
-const FIRST_SERVICE_DAY: i64 = -25_567;
-
-const LAST_SERVICE_DAY: i64 = 2_932_531;
 
 // How far the origin of a day can lie from midnight UTC of its date, in seconds.
 const FARTHEST: i64 = 93_599;
@@ -115,10 +110,11 @@ fn is_past(span: Span, day: Day, at: u32) -> bool {
 fn active_from(service: &Service, number: i64) -> Option<Day>
     ensures { IfSome result (λ d. (is_active service.now d ≡ true) × (number ≤ℤ d)) }
 {
-    if number > LAST_SERVICE_DAY {
+    if number > i64::from(LAST_SERVICE_DAY) {
         return None;
     }
-    service.next_active(Day::from_number(number.max(FIRST_SERVICE_DAY) as i32))
+    let first = number.max(i64::from(FIRST_SERVICE_DAY));
+    service.next_active(Day::from_number(first as i32))
 }
 
 // The first day after this one on which the service runs.

@@ -4,12 +4,9 @@ ghost use Rattle.gtfs_days.specs.Zone.{zone_origin};
 ghost use Rattle.gtfs_cli.specs.Running.{after_at, instant_at, moment_of, service_day};
 ghost use Rattle.gtfs_cli.specs.Refusals.{IsSound};
 
-use gtfs_days::Zone;
+use gtfs_days::{LAST_SERVICE_DAY, Zone};
 use gtfs_field::{Day, OutOfMemory, read_date, read_instant};
 use std::alloc::Global;
-
-// The last service day, 9998-12-31, by its number.
-const LAST_SERVICE_DAY: i32 = 2_932_531;
 
 // When a board begins or ends.
 #[derive(Clone, Copy)]

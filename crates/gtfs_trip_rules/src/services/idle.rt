@@ -2,12 +2,9 @@ ghost use Rattle.std.specs.Prelude.{◌≡◌, IfOk};
 ghost use Rattle.gtfs_days.specs.Service.{IsOrdered, NamesEachDayOnce};
 ghost use Rattle.gtfs_trip_rules.specs.ServiceView.{is_never_active};
 
-use gtfs_days::{Exception, Service, Week};
+use gtfs_days::{Exception, FIRST_SERVICE_DAY, Service, Week};
 use gtfs_field::{Day, OutOfMemory};
 use std::alloc::Global;
-
-// The number of 1900-01-01, the first service day.
-const FIRST_SERVICE_DAY: i32 = -25_567;
 
 // Whether a service with this calendar row, if any, and these exceptions runs on no day.
 pub(crate) fn is_never_active(
