@@ -74,7 +74,7 @@ module _ (d : Dataset) (types : List (Option ℤ)) (all : AreStopTypes d types) 
 abbrev pub kind_sites : List (File × List ℕ)
 kind_sites = (file.StopTimes, codes "stop_id") ∷ (file.Stops, codes "parent_station") ∷ (file.Transfers, codes "from_stop_id") ∷ (file.Transfers, codes "to_stop_id") ∷ []
 
-abbrev kind_rules : List Reported
+abbrev pub kind_rules : List Reported
 kind_rules =
     (file.StopTimes, "stop_id", names_none_of (0 ∷ []) file.StopTimes "stop_id")
     ∷ (file.Stops, "parent_station", has_parent_of_other_type)

@@ -1,12 +1,12 @@
 -- Problems of values that are missing or forbidden beside others, and of zones: E12 and E13.
 -- GTFS Schedule Reference, the conditionally required and the conditionally forbidden fields of agency.txt, stops.txt,
 -- routes.txt and transfers.txt; `agency_timezone` of agency.txt. Each column of a rule is judged by itself.
-use Rattle.std.specs.Prelude.{ℕ, ◌&&◌, ◌||◌, not, Bool, nat_lt, List, [], ◌∷◌, length, bytes_eq, find, Option, option_and_then, pos, int_le}
+use Rattle.std.specs.Prelude.{ℕ, ◌&&◌, ◌||◌, not, Bool, nat_lt, List, [], ◌∷◌, length, bytes_eq, find, Option, option_and_then}
 use Prim.Native.String.{String as Literal}
 use Rattle.gtfs_table.specs.Tables.{Dataset}
 use Rattle.gtfs_table.specs.declared.file.File.{File}
 use Rattle.gtfs_table.specs.declared.file.File.TheVariants as file
-use Rattle.gtfs_columns.specs.Values.{if_there, if_both}
+use Rattle.gtfs_columns.specs.Values.{if_there, if_both, is_between}
 use Rattle.gtfs_table.specs.Rows.{rows}
 use Rattle.gtfs_columns.specs.Rows.{is_readable_in, is_empty_in, word_in, choice_in, Rule, Condition, reported_at, any_of}
 
@@ -14,7 +14,7 @@ use Rattle.gtfs_columns.specs.Rows.{is_readable_in, is_empty_in, word_in, choice
 
 -- the row's choice is a number from low to high
 abbrev pub is_choice : ℕ → ℕ → File → Literal → Rule
-is_choice low high x column d n = if_there (choice_in d x n column) (λ choice. int_le (pos low) choice && int_le choice (pos high))
+is_choice low high x column d n = if_there (choice_in d x n column) (is_between low high)
 
 abbrev pub is_of_type : ℕ → ℕ → Rule
 is_of_type low high = is_choice low high file.Stops "location_type"

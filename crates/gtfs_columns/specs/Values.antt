@@ -1,6 +1,6 @@
 -- Values: what the text of a column means by the column's kind.
 -- GTFS Schedule Reference, "Field Types". A text is the list of its bytes.
-use Rattle.std.specs.Prelude.{ℕ, not, Bool, false, if◌then◌else◌, List, map, bytes_eq, Option, Some, None, ℤ, pos, Result, Ok, Err}
+use Rattle.std.specs.Prelude.{ℕ, ◌&&◌, not, Bool, false, if◌then◌else◌, List, map, bytes_eq, Option, Some, None, ℤ, pos, int_le, Result, Ok, Err}
 use Rattle.std.specs.List.{list_any}
 use Rattle.std.specs.Result.{result_ok}
 use Rattle.std.specs.Ordering.{int_eq}
@@ -82,6 +82,10 @@ if_both a b p = if_there a (λ x. if_there b (p x))
 abbrev pub is_word : Option (List ℕ) → List ℕ → Bool
 is_word o t = if_there o (bytes_eq t)
 
--- a number is one of these, or lies between two of them
+-- a number lies between two, both included
+abbrev pub is_between : ℕ → ℕ → ℤ → Bool
+is_between low high x = int_le (pos low) x && int_le x (pos high)
+
+-- a number is one of these
 abbrev pub is_one_of : List ℕ → ℤ → Bool
 is_one_of wanted x = list_any (λ w. int_eq x (pos w)) wanted

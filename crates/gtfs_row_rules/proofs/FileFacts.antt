@@ -9,7 +9,7 @@ use Rattle.gtfs_table.specs.declared.file.File.{File}
 use Rattle.gtfs_table.specs.declared.file.File.TheVariants as file
 use Rattle.gtfs_columns.specs.declared.code.Code.{Code}
 use Rattle.gtfs_columns.specs.declared.code.Code.TheVariants as code
-use Rattle.gtfs_row_rules.specs.FilePicks.{codes_in}
+use Rattle.gtfs_columns.specs.steps.FieldCodes.{in_file_of}
 use Rattle.gtfs_columns.specs.FileRules.{file_not_kept, is_at, is_needed, is_read}
 use Rattle.gtfs_columns.specs.steps.Found.{Adds, is_same, Reports}
 use Rattle.gtfs_columns.specs.steps.Picks.{in_file, is_kept, of_codes}
@@ -53,8 +53,8 @@ module _ (d : Dataset) (cs : List Code) (silent : list_any (is_code code.W03) cs
       ∙ no_other (list_any (is_code c) cs) (is_code c code.W03) (file_not_kept d t n name)
       (λ e. ap (λ k. list_any (is_code k) cs) (code_is c code.W03 e) ∙ silent)
 
-  pub files_reported : (old new : List Problem) → Reports d (of_any (codes_in cs) kept_files) old new → Reports d (of_codes cs) old new
-  files_reported old new reported = reports_alike d (of_any (codes_in cs) kept_files) (of_codes cs) old new (λ p. files_hold p.code p.file p.row p.column) reported
+  pub files_reported : (old new : List Problem) → Reports d (of_any (in_file_of cs) kept_files) old new → Reports d (of_codes cs) old new
+  files_reported old new reported = reports_alike d (of_any (in_file_of cs) kept_files) (of_codes cs) old new (λ p. files_hold p.code p.file p.row p.column) reported
 
 -- ---- a step for each code
 
@@ -66,13 +66,13 @@ code_more true false false h = refl
 code_more false b k h = refl
 
 module _ (d : Dataset) (x : File) where
-  pub no_code_reported : (ps : List Problem) → Reports d (codes_in [] x) ps ps
+  pub no_code_reported : (ps : List Problem) → Reports d (in_file_of [] x) ps ps
   no_code_reported ps = reports_none d ps
 
-  pub code_reported : (c : Code) (cs : List Code) (old mid new : List Problem) → Reports d (in_file c x) old mid → Reports d (codes_in cs x) mid new → Reports d (codes_in (c ∷ cs) x) old new
-  code_reported c cs old mid new first later = reports_alike d (λ p. in_file c x p || codes_in cs x p) (codes_in (c ∷ cs) x) old new
+  pub code_reported : (c : Code) (cs : List Code) (old mid new : List Problem) → Reports d (in_file c x) old mid → Reports d (in_file_of cs x) mid new → Reports d (in_file_of (c ∷ cs) x) old new
+  code_reported c cs old mid new first later = reports_alike d (λ p. in_file c x p || in_file_of cs x p) (in_file_of (c ∷ cs) x) old new
       (λ p. code_more (is_code p.code c) (of_codes cs p) (is_kept x p.file) (is_problem d p))
-      (reports_then d (in_file c x) (codes_in cs x) old mid new first later)
+      (reports_then d (in_file c x) (in_file_of cs x) old mid new first later)
 
 -- ---- problems that stand at certain rows and at no column
 

@@ -15,7 +15,7 @@ use Rattle.gtfs_columns.specs.declared.columns.Column.{Column as CodeColumn}
 use Rattle.gtfs_columns.specs.Columns.{Column, column_named, columns_of}
 use Rattle.gtfs_columns.specs.ColumnRules.{is_required}
 use Rattle.gtfs_columns.specs.steps.ColumnView.{column_of}
-use Rattle.gtfs_row_rules.specs.FilePicks.{codes_in}
+use Rattle.gtfs_columns.specs.steps.FieldCodes.{in_file_of}
 use Rattle.gtfs_columns.specs.steps.Found.{is_same, Reports}
 use Rattle.gtfs_columns.specs.steps.Picks.{at_column, in_file, is_kept, of_codes}
 use Rattle.gtfs_columns.specs.Problems.{Problem, holds_in, is_code, is_problem}
@@ -136,7 +136,7 @@ module _ (d : Dataset) (x : File) (name : List ℕ) where
 
 -- the problem is that of a kept column of the header
 abbrev pub of_column : File → Column → Problem → Bool
-of_column x c p = codes_in (code.E03 ∷ code.E04 ∷ []) x p && bytes_eq c.name p.column
+of_column x c p = in_file_of (code.E03 ∷ code.E04 ∷ []) x p && bytes_eq c.name p.column
 
 two_codes : (a b k t : Bool) → (((a && k) && t) || ((b && k) && t)) ≡ (((a || (b || false)) && k) && t)
 two_codes true true true true = refl
@@ -156,7 +156,7 @@ module _ (d : Dataset) (x : File) where
   pub column_reported : (c : Column) (old mid new : List Problem) → Reports d (at_column code.E03 x c.name) old mid → Reports d (at_column code.E04 x c.name) mid new → Reports d (of_column x c) old new
   column_reported c old mid new missing twice = reports_alike d (λ p. at_column code.E03 x c.name p || at_column code.E04 x c.name p) (of_column x c) old new
       (λ p. ap (λ b. b && is_problem d p) (two_codes (is_code p.code code.E03) (is_code p.code code.E04) (is_kept x p.file) (bytes_eq p.column c.name)
-      ∙ ap (λ b. codes_in (code.E03 ∷ code.E04 ∷ []) x p && b) (same_either_way p.column c.name)))
+      ∙ ap (λ b. in_file_of (code.E03 ∷ code.E04 ∷ []) x p && b) (same_either_way p.column c.name)))
       (reports_then d (at_column code.E03 x c.name) (at_column code.E04 x c.name) old mid new missing twice)
 
   pub twice_holds : (c : Column) (times : ℕ) → column_named x c.name ≡ Some c → times ≡ times_named d x c.name → nat_lt 1 times ≡ holds_in code.E04 d x 1 c.name
@@ -171,7 +171,7 @@ module _ (d : Dataset) (x : File) where
   twice_is_kept n name e =
       (and_parts (n == 1) (is_kept_column x name) ((and_parts ((n == 1) && is_kept_column x name) (nat_lt 1 (times_named d x name)) e).0)).1
 
-  kept_alone : (p : Problem) → codes_in (code.E03 ∷ code.E04 ∷ []) x p ≡ true → is_problem d p ≡ true → is_kept_column x p.column ≡ true
+  kept_alone : (p : Problem) → in_file_of (code.E03 ∷ code.E04 ∷ []) x p ≡ true → is_problem d p ≡ true → is_kept_column x p.column ≡ true
   kept_alone p picked holds = by_code (is_code p.code code.E03) (is_code p.code code.E04) refl refl (and_parts (of_codes (code.E03 ∷ code.E04 ∷ []) p) (is_kept x p.file) picked)
     where
       by_code : (a b : Bool) → is_code p.code code.E03 ≡ a → is_code p.code code.E04 ≡ b → (((a || (b || false)) ≡ true) × (is_kept x p.file ≡ true)) → is_kept_column x p.column ≡ true
@@ -179,19 +179,19 @@ module _ (d : Dataset) (x : File) where
       by_code false true first second parts = twice_is_kept p.row p.column (held d code.E04 x p (and_both (is_code p.code code.E04) (is_kept x p.file) second parts.1) holds)
       by_code false false first second parts = cc (parts.0)
 
-  columns_hold : (p : Problem) → (of_any (of_column x) (columns_of x) p && is_problem d p) ≡ (codes_in (code.E03 ∷ code.E04 ∷ []) x p && is_problem d p)
+  columns_hold : (p : Problem) → (of_any (of_column x) (columns_of x) p && is_problem d p) ≡ (in_file_of (code.E03 ∷ code.E04 ∷ []) x p && is_problem d p)
   columns_hold p =
       ap (λ b. b && is_problem d p)
-      (any_and (codes_in (code.E03 ∷ code.E04 ∷ []) x p) (λ c. bytes_eq c.name p.column) (columns_of x)
-      ∙ ap (λ b. codes_in (code.E03 ∷ code.E04 ∷ []) x p && b) (sym (found_any (λ c. bytes_eq c.name p.column) (columns_of x))))
-      ∙ narrowed (codes_in (code.E03 ∷ code.E04 ∷ []) x p) (is_kept_column x p.column) (is_problem d p) (kept_alone p)
+      (any_and (in_file_of (code.E03 ∷ code.E04 ∷ []) x p) (λ c. bytes_eq c.name p.column) (columns_of x)
+      ∙ ap (λ b. in_file_of (code.E03 ∷ code.E04 ∷ []) x p && b) (sym (found_any (λ c. bytes_eq c.name p.column) (columns_of x))))
+      ∙ narrowed (in_file_of (code.E03 ∷ code.E04 ∷ []) x p) (is_kept_column x p.column) (is_problem d p) (kept_alone p)
 
   columns_mapped : (columns : List CodeColumn) (p : Problem) → map column_of columns ≡ columns_of x → of_any (λ c. of_column x (column_of c)) columns p ≡ of_any (of_column x) (columns_of x) p
   columns_mapped columns p same = sym (any_mapped column_of (λ c. of_column x c p) columns) ∙ ap (list_any (λ c. of_column x c p)) same
 
   pub columns_reported : (columns : List CodeColumn) (old new : List Problem) → map column_of columns ≡ columns_of x
-      → Reports d (of_any (λ c. of_column x (column_of c)) columns) old new → Reports d (codes_in (code.E03 ∷ code.E04 ∷ []) x) old new
-  columns_reported columns old new same reported = reports_alike d (of_any (λ c. of_column x (column_of c)) columns) (codes_in (code.E03 ∷ code.E04 ∷ []) x) old new
+      → Reports d (of_any (λ c. of_column x (column_of c)) columns) old new → Reports d (in_file_of (code.E03 ∷ code.E04 ∷ []) x) old new
+  columns_reported columns old new same reported = reports_alike d (of_any (λ c. of_column x (column_of c)) columns) (in_file_of (code.E03 ∷ code.E04 ∷ []) x) old new
       (λ p. ap (λ b. b && is_problem d p) (columns_mapped columns p same) ∙ columns_hold p) reported
 
 -- ---- the other names
@@ -206,7 +206,7 @@ module _ (d : Dataset) (x : File) where
       let named = (and_parts ((n == 1) && not (is_empty name) && is_named d x name) (not (is_kept_column x name)) e).0 in
       (and_parts ((n == 1) && not (is_empty name)) (is_named d x name) named).1
 
-  names_hold : (p : Problem) → (of_any (at_column code.W04 x) (header (records_in d x)) p && is_problem d p) ≡ (codes_in (code.W04 ∷ []) x p && is_problem d p)
+  names_hold : (p : Problem) → (of_any (at_column code.W04 x) (header (records_in d x)) p && is_problem d p) ≡ (in_file_of (code.W04 ∷ []) x p && is_problem d p)
   names_hold p =
       ap (λ b. b && is_problem d p)
       (any_and (in_file code.W04 x p) (bytes_eq p.column) (header (records_in d x))
@@ -214,8 +214,8 @@ module _ (d : Dataset) (x : File) where
       ∙ narrowed (in_file code.W04 x p) (is_named d x p.column) (is_problem d p) (λ picked holds. other_is_named p.row p.column (held d code.W04 x p picked holds))
       ∙ ap (λ b. b && is_problem d p) (or_none (is_code p.code code.W04) (is_kept x p.file))
 
-  pub names_reported : (old new : List Problem) → Reports d (of_any (at_column code.W04 x) (header (records_in d x))) old new → Reports d (codes_in (code.W04 ∷ []) x) old new
-  names_reported old new reported = reports_alike d (of_any (at_column code.W04 x) (header (records_in d x))) (codes_in (code.W04 ∷ []) x) old new names_hold reported
+  pub names_reported : (old new : List Problem) → Reports d (of_any (at_column code.W04 x) (header (records_in d x))) old new → Reports d (in_file_of (code.W04 ∷ []) x) old new
+  names_reported old new reported = reports_alike d (of_any (at_column code.W04 x) (header (records_in d x))) (in_file_of (code.W04 ∷ []) x) old new names_hold reported
 
   pub other_holds : (name : List ℕ) → list_any (bytes_eq name) (header (records_in d x)) ≡ true
       → (not (is_empty name) && not (is_kept_column x name)) ≡ holds_in code.W04 d x 1 name
@@ -240,9 +240,9 @@ three_codes false true false true h = refl
 three_codes false true false false h = refl
 three_codes false false c k h = refl
 
-pub header_reported : (d : Dataset) (x : File) (old mid new : List Problem) → Reports d (codes_in (code.E03 ∷ code.E04 ∷ []) x) old mid → Reports d (codes_in (code.W04 ∷ []) x) mid new
-    → Reports d (codes_in (code.E03 ∷ code.E04 ∷ code.W04 ∷ []) x) old new
-header_reported d x old mid new columns names = reports_alike d (λ p. codes_in (code.E03 ∷ code.E04 ∷ []) x p || codes_in (code.W04 ∷ []) x p)
-    (codes_in (code.E03 ∷ code.E04 ∷ code.W04 ∷ []) x) old new
+pub header_reported : (d : Dataset) (x : File) (old mid new : List Problem) → Reports d (in_file_of (code.E03 ∷ code.E04 ∷ []) x) old mid → Reports d (in_file_of (code.W04 ∷ []) x) mid new
+    → Reports d (in_file_of (code.E03 ∷ code.E04 ∷ code.W04 ∷ []) x) old new
+header_reported d x old mid new columns names = reports_alike d (λ p. in_file_of (code.E03 ∷ code.E04 ∷ []) x p || in_file_of (code.W04 ∷ []) x p)
+    (in_file_of (code.E03 ∷ code.E04 ∷ code.W04 ∷ []) x) old new
     (λ p. three_codes (is_code p.code code.E03) (is_code p.code code.E04) (is_code p.code code.W04) (is_kept x p.file) (is_problem d p))
-    (reports_then d (codes_in (code.E03 ∷ code.E04 ∷ []) x) (codes_in (code.W04 ∷ []) x) old mid new columns names)
+    (reports_then d (in_file_of (code.E03 ∷ code.E04 ∷ []) x) (in_file_of (code.W04 ∷ []) x) old mid new columns names)

@@ -1,6 +1,6 @@
 -- What is reported of values that are missing or forbidden beside others.
 use Rattle.std.proofs.Common.{◌≡◌, ℕ, List, [], ◌∷◌, true, Bool, refl, codes}
-use Rattle.std.specs.Prelude.{◌&&◌, ◌||◌, pos, int_le, is_some}
+use Rattle.std.specs.Prelude.{◌&&◌, ◌||◌, is_some}
 use Rattle.std.specs.List.{list_any}
 use Rattle.gtfs_table.specs.Tables.{Dataset}
 use Rattle.gtfs_table.specs.declared.file.File.{File}
@@ -11,14 +11,14 @@ use Rattle.gtfs_columns.specs.steps.Found.{Reports}
 use Rattle.gtfs_columns.specs.steps.Picks.{at_column, in_file, of_codes}
 use Rattle.gtfs_columns.specs.PresenceRules.{has_wrong_parent, lacks_agency, lacks_end, lacks_name, lacks_name_or_position}
 use Rattle.gtfs_columns.specs.Problems.{Problem}
-use Rattle.gtfs_columns.specs.Reads.{choice_of}
 use Rattle.gtfs_columns.specs.Rows.{is_file, text_in}
 use Rattle.gtfs_table.specs.Rows.{is_empty}
-use Rattle.gtfs_columns.specs.Values.{if_there, readable}
+use Rattle.gtfs_columns.specs.Values.{readable}
+use Rattle.gtfs_row_rules.specs.PresenceView.{is_chosen}
 use Rattle.gtfs_columns.proofs.StepFacts.{Reported, AtColumns, InFiles, column_then, file_then, no_columns, no_files, reports_columns, reports_files, reported_files, reported_there}
 
-abbrev rules : List Reported
-rules = (file.Agency, "agency_id", lacks_agency file.Agency)
+abbrev pub presence_rules : List Reported
+presence_rules = (file.Agency, "agency_id", lacks_agency file.Agency)
     ∷ (file.Stops, "stop_name", lacks_name_or_position "stop_name")
     ∷ (file.Stops, "stop_lat", lacks_name_or_position "stop_lat")
     ∷ (file.Stops, "stop_lon", lacks_name_or_position "stop_lon")
@@ -34,7 +34,7 @@ rules = (file.Agency, "agency_id", lacks_agency file.Agency)
 abbrev four_files : List File
 four_files = file.Agency ∷ file.Stops ∷ file.Routes ∷ file.Transfers ∷ []
 
-in_four : (x : File) → list_any (λ t. is_file x t.0) rules ≡ true → list_any (is_file x) four_files ≡ true
+in_four : (x : File) → list_any (λ t. is_file x t.0) presence_rules ≡ true → list_any (is_file x) four_files ≡ true
 in_four file.Agency e = refl
 in_four file.Stops e = refl
 in_four file.Routes e = refl
@@ -42,19 +42,19 @@ in_four file.Transfers e = refl
 in_four x e = e
 
 in_four_files : (d : Dataset) → InFiles d code.E12 four_files
-in_four_files d x n name e = in_four x (reported_files rules d x n name e)
+in_four_files d x n name e = in_four x (reported_files presence_rules d x n name e)
 
 at_agency : (d : Dataset) → AtColumns d code.E12 file.Agency ("agency_id" ∷ [])
-at_agency d = reported_there rules d file.Agency
+at_agency d = reported_there presence_rules d file.Agency
 
 at_stops : (d : Dataset) → AtColumns d code.E12 file.Stops ("stop_name" ∷ "stop_lat" ∷ "stop_lon" ∷ "parent_station" ∷ [])
-at_stops d = reported_there rules d file.Stops
+at_stops d = reported_there presence_rules d file.Stops
 
 at_routes : (d : Dataset) → AtColumns d code.E12 file.Routes ("route_short_name" ∷ "agency_id" ∷ [])
-at_routes d = reported_there rules d file.Routes
+at_routes d = reported_there presence_rules d file.Routes
 
 at_transfers : (d : Dataset) → AtColumns d code.E12 file.Transfers ("from_stop_id" ∷ "to_stop_id" ∷ "from_trip_id" ∷ "to_trip_id" ∷ [])
-at_transfers d = reported_there rules d file.Transfers
+at_transfers d = reported_there presence_rules d file.Transfers
 
 pub agencies_reported : (d : Dataset) (xs ys : List Problem)
     → Reports d (at_column code.E12 file.Agency (codes "agency_id")) xs ys → Reports d (in_file code.E12 file.Agency) xs ys
@@ -103,8 +103,7 @@ presence_reported d us vs ws xs ys first second third fourth = reports_files d c
 
 abbrev wrong_parent : List ℕ → List ℕ → Bool
 wrong_parent kind parent =
-    (if_there (choice_of ((0, 4) ∷ []) (codes "0") kind) (λ choice. int_le (pos 1) choice && int_le choice (pos 1)) && is_some (readable id parent))
-    || (if_there (choice_of ((0, 4) ∷ []) (codes "0") kind) (λ choice. int_le (pos 2) choice && int_le choice (pos 4)) && is_empty parent)
+    (is_chosen 4 kind 1 1 && is_some (readable id parent)) || (is_chosen 4 kind 2 4 && is_empty parent)
 
 pub parent_reported : (d : Dataset) (n : ℕ) (kind parent : List ℕ)
     → kind ≡ text_in d file.Stops n (codes "location_type") → parent ≡ text_in d file.Stops n (codes "parent_station")

@@ -1,18 +1,14 @@
 -- Keys as a step reads them from the records of rows, and the rows that repeat an earlier key.
-use Rattle.std.specs.Prelude.{ℕ, ◌&&◌, ◌||◌, if◌then◌else◌, Bool, nat_lt, List, [], ◌∷◌, Option, Some}
+use Rattle.std.specs.Prelude.{ℕ, ◌&&◌, if◌then◌else◌, Bool, nat_lt, List, [], ◌∷◌, Option, Some}
 use Rattle.std.specs.List.{list_any}
 use Rattle.std.specs.Cmp.Lexicographic.{pointwise}
 use Rattle.gtfs_table.specs.Tables.{Dataset, record_at}
 use Rattle.gtfs_table.specs.declared.file.File.{File}
-use Rattle.gtfs_table.specs.declared.file.File.TheVariants as file
 use Rattle.gtfs_table.specs.Rows.{is_empty, records_in, rows}
-use Rattle.gtfs_columns.specs.declared.code.Code.TheVariants as code
 use Rattle.gtfs_columns.specs.Columns.{Kind, date, id, time}
 use Rattle.gtfs_columns.specs.KeyRules.{all_there}
-use Rattle.gtfs_columns.specs.Problems.{Problem}
 use Rattle.gtfs_columns.specs.Rows.{text_in}
 use Rattle.gtfs_columns.specs.Values.{Value, word, value_eq, if_both, readable}
-use Rattle.gtfs_columns.specs.steps.Picks.{in_file}
 use Rattle.gtfs_row_rules.specs.declared.keys.Number.{Number}
 use Rattle.gtfs_row_rules.specs.declared.keys.Number.TheVariants as numbers
 
@@ -42,7 +38,3 @@ numbered_in kind d x id_name number_name n = numbered_key kind (text_in d x n id
 -- a part of the key of a transfer: an id, or the empty text
 abbrev pub end_part : List ℕ → Option Value
 end_part t = if is_empty t then Some (word []) else readable id t
-
--- keys of several parts
-abbrev pub in_composite_keys : Problem → Bool
-in_composite_keys p = in_file code.E09 file.CalendarDates p || in_file code.E09 file.Frequencies p || in_file code.E09 file.Transfers p

@@ -1,4 +1,3 @@
-pub mod FilePicks
 pub mod HeaderView
 pub mod KeyOrder
 pub mod KeyView

@@ -1,6 +1,6 @@
 ghost use Rattle.std.specs.Prelude.{◌≡◌, ◌==◌, ◌&&◌, [], ◌∷◌, length, not, OnOk};
 ghost use Rattle.gtfs_columns.specs.declared.code.Code.TheVariants as code;
-ghost use Rattle.gtfs_row_rules.specs.FilePicks.{codes_in};
+ghost use Rattle.gtfs_columns.specs.steps.FieldCodes.{in_file_of};
 ghost use Rattle.gtfs_columns.specs.FileRules.{file_empty, file_missing, is_absent, is_needed, is_read, not_utf8};
 ghost use Rattle.gtfs_columns.specs.steps.Found.{Reports};
 ghost use Rattle.gtfs_columns.specs.steps.Picks.{of_codes};
@@ -14,14 +14,17 @@ use gtfs_table::{File, State, Tables};
 
 // Reports what is wrong with whole files, and what else the folder holds.
 pub fn report_files<'a>(tables: &'a Tables, found: &mut Found<'a>) -> Result<(), OutOfMemory>
-    ensures { OnOk result (Reports tables.now (of_codes (code.E01 ∷ code.E02 ∷ code.E05 ∷ code.W03 ∷ [])) found.old found.new) }
+    ensures { OnOk result
+        (Reports tables.now (of_codes (code.E01 ∷ code.E02 ∷ code.E05 ∷ code.W03 ∷ []))
+        found.old found.new) }
 {
     report_kept_files(tables, found)?;
     report_other_files(tables, found)
 }
 
 fn report_kept_files<'a>(tables: &'a Tables, found: &mut Found<'a>) -> Result<(), OutOfMemory>
-    ensures { OnOk result (Reports tables.now (of_codes (code.E01 ∷ code.E02 ∷ code.E05 ∷ [])) found.old found.new) }
+    ensures { OnOk result
+        (Reports tables.now (of_codes (code.E01 ∷ code.E02 ∷ code.E05 ∷ [])) found.old found.new) }
 {
     for file in &File::ALL {
         report_file(tables, *file, found)?;
@@ -30,7 +33,9 @@ fn report_kept_files<'a>(tables: &'a Tables, found: &mut Found<'a>) -> Result<()
 }
 
 fn report_file<'a>(tables: &'a Tables, file: File, found: &mut Found<'a>) -> Result<(), OutOfMemory>
-    ensures { OnOk result (Reports tables.now (codes_in (code.E01 ∷ code.E02 ∷ code.E05 ∷ []) file) found.old found.new) }
+    ensures { OnOk result
+        (Reports tables.now (in_file_of (code.E01 ∷ code.E02 ∷ code.E05 ∷ []) file)
+        found.old found.new) }
 {
     found.report(at_row(file, 0, Code::E01), is_missing(tables, file))?;
     found.report(at_row(file, 0, Code::E02), is_not_utf8(tables, file))?;

@@ -4,7 +4,7 @@ ghost use Rattle.gtfs_columns.specs.declared.code.Code.TheVariants as code;
 ghost use Rattle.gtfs_columns.specs.Columns.{column_named, columns_of};
 ghost use Rattle.gtfs_columns.specs.ColumnRules.{column_missing};
 ghost use Rattle.gtfs_columns.specs.steps.ColumnView.{column_of};
-ghost use Rattle.gtfs_row_rules.specs.FilePicks.{codes_in};
+ghost use Rattle.gtfs_columns.specs.steps.FieldCodes.{in_file_of};
 ghost use Rattle.gtfs_columns.specs.steps.Found.{Reports};
 ghost use Rattle.gtfs_columns.specs.steps.Picks.{of_codes};
 ghost use Rattle.gtfs_columns.specs.Problems.{kept};
@@ -22,7 +22,8 @@ use gtfs_table::{File, Tables};
 
 // Reports what is wrong with the headers of the nine files.
 pub fn report_headers<'a>(tables: &'a Tables, found: &mut Found<'a>) -> Result<(), OutOfMemory>
-    ensures { OnOk result (Reports tables.now (of_codes (code.E03 ∷ code.E04 ∷ code.W04 ∷ [])) found.old found.new) }
+    ensures { OnOk result
+        (Reports tables.now (of_codes (code.E03 ∷ code.E04 ∷ code.W04 ∷ [])) found.old found.new) }
 {
     for file in &File::ALL {
         report_header(tables, *file, found)?;
@@ -35,7 +36,9 @@ fn report_header<'a>(
     file: File,
     found: &mut Found<'a>,
 ) -> Result<(), OutOfMemory>
-    ensures { OnOk result (Reports tables.now (codes_in (code.E03 ∷ code.E04 ∷ code.W04 ∷ []) file) found.old found.new) }
+    ensures { OnOk result
+        (Reports tables.now (in_file_of (code.E03 ∷ code.E04 ∷ code.W04 ∷ []) file)
+        found.old found.new) }
 {
     match file {
         File::Agency => report_names(tables, file, &agency_columns(), found),
@@ -57,7 +60,9 @@ fn report_names<'a>(
     found: &mut Found<'a>,
 ) -> Result<(), OutOfMemory>
     requires { map column_of columns.now ≡ columns_of file }
-    ensures { OnOk result (Reports tables.now (codes_in (code.E03 ∷ code.E04 ∷ code.W04 ∷ []) file) found.old found.new) }
+    ensures { OnOk result
+        (Reports tables.now (in_file_of (code.E03 ∷ code.E04 ∷ code.W04 ∷ []) file)
+        found.old found.new) }
 {
     report_kept_columns(tables, file, columns, found)?;
     report_other_columns(tables, file, columns, found)
@@ -70,7 +75,8 @@ fn report_kept_columns<'a>(
     found: &mut Found<'a>,
 ) -> Result<(), OutOfMemory>
     requires { map column_of columns.now ≡ columns_of file }
-    ensures { OnOk result (Reports tables.now (codes_in (code.E03 ∷ code.E04 ∷ []) file) found.old found.new) }
+    ensures { OnOk result
+        (Reports tables.now (in_file_of (code.E03 ∷ code.E04 ∷ []) file) found.old found.new) }
 {
     for column in columns {
         report_kept_column(tables, file, column, found)?;
@@ -85,7 +91,9 @@ fn report_kept_column<'a>(
     found: &mut Found<'a>,
 ) -> Result<(), OutOfMemory>
     requires { column_named file column.now.name.now ≡ Some (column_of column.now) }
-    ensures { OnOk result (Reports tables.now (λ p. codes_in (code.E03 ∷ code.E04 ∷ []) file p && bytes_eq column.now.name.now p.column) found.old found.new) }
+    ensures { OnOk result
+        (Reports tables.now (λ p. in_file_of (code.E03 ∷ code.E04 ∷ []) file p
+        && bytes_eq column.now.name.now p.column) found.old found.new) }
 {
     let times = times_named(tables, file, column.name);
     let missing = is_missing(tables, file, column, times);
@@ -121,7 +129,8 @@ fn report_other_columns<'a>(
     found: &mut Found<'a>,
 ) -> Result<(), OutOfMemory>
     requires { map column_of columns.now ≡ columns_of file }
-    ensures { OnOk result (Reports tables.now (codes_in (code.W04 ∷ []) file) found.old found.new) }
+    ensures { OnOk result
+        (Reports tables.now (in_file_of (code.W04 ∷ []) file) found.old found.new) }
 {
     for n in 0..tables.fields(file, 1) {
         let name = tables.field(file, 1, n);
@@ -132,7 +141,8 @@ fn report_other_columns<'a>(
 
 // Whether the name is that of a column, and of no kept one.
 fn is_other(columns: &[Column], name: &str) -> bool
-    ensures { result ≡ (not (is_empty name.now) && not (list_any (λ column. bytes_eq column.name.now name.now) columns.now)) }
+    ensures { result ≡ (not (is_empty name.now)
+        && not (list_any (λ column. bytes_eq column.name.now name.now) columns.now)) }
 {
     !name.is_empty() && !is_kept(columns, name)
 }
@@ -145,7 +155,8 @@ fn is_kept(columns: &[Column], name: &str) -> bool
 
 // A problem of the header, at a column.
 fn in_header<'a>(file: File, code: Code, column: &'a str) -> Problem<'a>
-    ensures { problem_of result ≡ record { file = kept file; row = 1; code = code; column = column.now } }
+    ensures { problem_of result
+        ≡ record { file = kept file; row = 1; code = code; column = column.now } }
 {
     Problem {
         file: FileName::Kept(file),

@@ -7,9 +7,9 @@ ghost use Rattle.gtfs_columns.specs.Reads.{amount_of};
 ghost use Rattle.gtfs_columns.specs.References.{reported_column};
 ghost use Rattle.gtfs_columns.specs.Values.{Value, amount, if_there, value_eq, word};
 ghost use Rattle.gtfs_columns.specs.steps.Found.{Reports};
-ghost use Rattle.gtfs_columns.specs.steps.Picks.{at_column, in_file};
+ghost use Rattle.gtfs_columns.specs.steps.Picks.{at_column, in_composite_keys, in_file};
 ghost use Rattle.gtfs_row_rules.specs.KeyOrder.{numbered_alike, six_alike};
-ghost use Rattle.gtfs_row_rules.specs.KeyView.{end_part, in_composite_keys, kind_of, numbered_in, numbered_key, repeats_key};
+ghost use Rattle.gtfs_row_rules.specs.KeyView.{end_part, kind_of, numbered_in, numbered_key, repeats_key};
 ghost use Rattle.gtfs_row_rules.specs.RowRules.{HoldsWhere};
 ghost use Rattle.gtfs_table.specs.Rows.{records_in};
 ghost use Rattle.gtfs_table.specs.Tables.{field_under, record_at};
@@ -143,7 +143,8 @@ impl<'a> Keys for TransferKeys<'a> {
     ghost parts = { λ k. word k.0.now ∷ word k.1.now ∷ word k.2.now
         ∷ word k.3.now ∷ word k.4.now ∷ word k.5.now ∷ [] };
 
-    ghost key_at = { λ s n. let r = record_at (records_in s.tables.now files.Transfers) n in all_there
+    ghost key_at = { λ s n.
+        let r = record_at (records_in s.tables.now files.Transfers) n in all_there
         (end_part (field_under r s.from_stop) ∷ end_part (field_under r s.to_stop)
         ∷ end_part (field_under r s.from_route) ∷ end_part (field_under r s.to_route)
         ∷ end_part (field_under r s.from_trip) ∷ end_part (field_under r s.to_trip) ∷ []) };
@@ -234,7 +235,8 @@ fn report_transfer_keys<'a>(
     tables: &'a Tables,
     found: &mut Found<'a>,
 ) -> Result<(), OutOfMemory>
-    ensures { OnOk result (Reports tables.now (in_file Code.E09 File.Transfers) found.old found.new) }
+    ensures { OnOk result
+        (Reports tables.now (in_file Code.E09 File.Transfers) found.old found.new) }
 {
     let keys = TransferKeys {
         tables,

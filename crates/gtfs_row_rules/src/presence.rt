@@ -158,7 +158,8 @@ fn report_routes<'a>(
 }
 
 fn report_transfers<'a>(tables: &'a Tables, found: &mut Found<'a>) -> Result<(), OutOfMemory>
-    ensures { OnOk result (Reports tables.now (in_file Code.E12 File.Transfers) found.old found.new) }
+    ensures { OnOk result
+        (Reports tables.now (in_file Code.E12 File.Transfers) found.old found.new) }
 {
     let mut lacks_from_stop = lacks_end(tables, 1, 3, "from_stop_id");
     report(
@@ -225,7 +226,8 @@ fn has_many_agencies(tables: &Tables) -> bool
 
 fn lacks_agency(tables: &Tables, file: File, has_many: bool) -> LacksAgency
     requires { has_many ≡ has_many_agencies tables.now }
-    ensures { (n : ℕ) → ⟦<LacksAgency as Rule>⟧.breaks result n (record_at (records_in tables.now file) n)
+    ensures { (n : ℕ) → ⟦<LacksAgency as Rule>⟧.breaks result n
+        (record_at (records_in tables.now file) n)
         ≡ lacks_agency file tables.now n }
 {
     LacksAgency {

@@ -117,7 +117,8 @@ fn report_unknown_services<'a>(
     found: &mut Found<'a>,
 ) -> Result<(), OutOfMemory>
     requires { AreIdsOf tables.now ids.now }
-    ensures { OnOk result (Reports tables.now (at_sites Code.E10 service_names) found.old found.new) }
+    ensures { OnOk result
+        (Reports tables.now (at_sites Code.E10 service_names) found.old found.new) }
 {
     let site = Site {
         code: Code::E10,
@@ -142,7 +143,8 @@ fn report_unknown<'a>(
 ) -> Result<(), OutOfMemory>
     requires { HoldsWhere Code.E10 tables.now file column.now
         (λ n. is_unknown ids.now (text_in tables.now file n column.now)) }
-    ensures { OnOk result (Reports tables.now (at_column Code.E10 file column.now) found.old found.new) }
+    ensures { OnOk result
+        (Reports tables.now (at_column Code.E10 file column.now) found.old found.new) }
 {
     let site = Site {
         code: Code::E10,

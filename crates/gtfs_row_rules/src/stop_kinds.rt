@@ -42,7 +42,8 @@ struct NamesOther<'a> {
 }
 
 impl Rule for NamesOther<'_> {
-    ghost breaks = { λ s n r. if_there (named_type s.stop r) (λ t. not (is_one_of s.wanted.now t)) };
+    ghost breaks = { λ s n r.
+        if_there (named_type s.stop r) (λ t. not (is_one_of s.wanted.now t)) };
 
     fn breaks(&mut self, row: usize, record: &Record<'_>) -> bool {
         match self.stop.location_type(record) {
@@ -114,7 +115,8 @@ fn report_parents<'a>(
     requires ids { stops.now ≡ ids_in tables.now File.Stops (codes "stop_id") }
     requires types { AreStopTypes tables.now types.now }
     ensures { OnOk result
-        (Reports tables.now (at_column Code.E11 File.Stops (codes "parent_station")) found.old found.new) }
+        (Reports tables.now (at_column Code.E11 File.Stops (codes "parent_station"))
+        found.old found.new) }
 {
     let site = Site {
         code: Code::E11,
@@ -139,7 +141,8 @@ fn report_ends<'a>(
     found: &mut Found<'a>,
 ) -> Result<(), OutOfMemory>
     requires { HoldsWhere Code.E11 tables.now File.Transfers column.now
-        (λ n. if_there (type_with types.now stops.now (text_in tables.now File.Transfers n column.now))
+        (λ n. if_there
+        (type_with types.now stops.now (text_in tables.now File.Transfers n column.now))
         (λ t. not (is_one_of (0 ∷ 1 ∷ []) t))) }
     ensures { OnOk result
         (Reports tables.now (at_column Code.E11 File.Transfers column.now) found.old found.new) }

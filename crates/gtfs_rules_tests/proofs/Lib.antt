@@ -1,5 +1,7 @@
+pub mod SiteFacts
 pub mod WorkedCases
 pub mod WorkedCodes
 pub mod WorkedFeeds
 pub mod WorkedLaws
 pub mod WorkedProblems
+pub mod WorkedTried

@@ -37,19 +37,19 @@ small_feed = record empty_dataset {
 
 -- ---- the problems of a feed: every code is tried at every row, at no column, each kept column and each other name of the header
 
-abbrev names_tried : Dataset → File → List (List ℕ)
+abbrev pub names_tried : Dataset → File → List (List ℕ)
 names_tried d x = [] ∷ (map (λ c. c.name) (columns_of x)
     ++ filter (λ name. not (is_empty name) && not (is_kept_column x name)) (header (records_in d x)))
 
-abbrev problems_tried : Dataset → File → ℕ → List Problem
+abbrev pub problems_tried : Dataset → File → ℕ → List Problem
 problems_tried d x n =
     flat_map (λ c. map (λ name. record { file = kept x; row = n; code = c; column = name }) (names_tried d x)) all_codes
 
-abbrev problems_of_others : Dataset → List Problem
+abbrev pub problems_of_others : Dataset → List Problem
 problems_of_others d =
     flat_map (λ name. map (λ c. record { file = other name; row = 0; code = c; column = [] }) all_codes) d.others
 
-abbrev rows_tried : Dataset → File → List ℕ
+abbrev pub rows_tried : Dataset → File → List ℕ
 rows_tried d x = range_with_len 0 (length (records_in d x) + 1)
 
 abbrev pub tried : Dataset → List Problem

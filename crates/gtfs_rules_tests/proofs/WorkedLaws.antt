@@ -1,5 +1,5 @@
--- What the worked reports have to do with the report that `check` makes, of every dataset: they are strictly ascending
--- in its order, and their members are just those of its problems that were tried.
+-- The worked reports are the reports that `check` makes, of every dataset: strictly ascending in their order, and their
+-- members are just its problems, since every problem is among those that were tried.
 use Rattle.std.proofs.Common.{◌≡◌, ◌∷◌, [], List, map, true, false, Bool, refl, sym, ap, ◌∙◌, Option, Some, is_some}
 use Rattle.std.specs.Prelude.{◌&&◌, ◌||◌, T, cond, filter}
 use Rattle.std.specs.Cmp.{Equal-is}
@@ -13,7 +13,10 @@ use Rattle.std.proofs.lemmas.Map.Views.{any-filter_same}
 use Rattle.gtfs_table.specs.Tables.{Dataset}
 use Rattle.gtfs_columns.specs.steps.ProblemOrder.{problem_total, problem_anti}
 use Rattle.gtfs_columns.specs.Problems.{Problem, problem_cmp, is_listed, is_problem, IsReport}
-use Rattle.gtfs_rules_tests.proofs.WorkedFeeds.{tried, entered, problems_in}
+use Rattle.gtfs_rules.specs.Report.{report_text}
+use Rattle.gtfs_rules.proofs.ReportLaws.{one_report}
+use Rattle.gtfs_rules_tests.proofs.WorkedFeeds.{tried, entered, problems_in, reported}
+use Rattle.gtfs_rules_tests.proofs.WorkedTried.{all_tried}
 
 -- ---- ascending
 
@@ -74,9 +77,13 @@ tried_too : (holds : Bool) (listed : Bool) → (holds ≡ true → listed ≡ tr
 tried_too true listed h = h refl
 tried_too false listed h = refl
 
--- where every problem of a dataset was tried, the worked report is the one that `check` makes
-pub worked_report : (d : Dataset) → ((p : Problem) → is_problem d p ≡ true → is_listed (tried d) p ≡ true) → IsReport d (problems_in d)
-worked_report d all = record {
+-- the worked problems of a dataset are its report
+pub worked_report : (d : Dataset) → IsReport d (problems_in d)
+worked_report d = record {
   ascending = ascending d;
-  members = λ p. members d p ∙ tried_too (is_problem d p) (is_listed (tried d) p) (all p);
+  members = λ p. members d p ∙ tried_too (is_problem d p) (is_listed (tried d) p) (all_tried d p);
 }
+
+-- so the lines of a worked report are those of the report that `check` makes, which is the only one
+pub worked_lines : (d : Dataset) (ps : List Problem) → IsReport d ps → report_text ps ≡ reported d
+worked_lines d ps report = ap report_text (one_report d ps (problems_in d) report (worked_report d))

@@ -2,15 +2,15 @@ use Rattle.std.proofs.Common.{◌∷◌, [], refl, arith}
 use Rattle.gtfs_table.specs.Reading.{kept_files}
 use Rattle.gtfs_table.specs.declared.file.File.TheVariants as file
 use Rattle.gtfs_columns.specs.declared.code.Code.TheVariants as code
-use Rattle.gtfs_row_rules.specs.FilePicks.{codes_in}
+use Rattle.gtfs_columns.specs.steps.FieldCodes.{in_file_of}
 use Rattle.gtfs_columns.proofs.EachFacts.{each_done, each_more}
 use Rattle.gtfs_row_rules.proofs.FileFacts.{files_reported}
 use Rattle.gtfs_row_rules.proofs.files.report_kept_files.Goals as goal
 
 pub loop-file-preserved : goal.loop-file-preserved
-loop-file-preserved c = each_more c.args.tables.now (codes_in (code.E01 ∷ code.E02 ∷ code.E05 ∷ [])) kept_files c.loop-file.file-index file.Agency
+loop-file-preserved c = each_more c.args.tables.now (in_file_of (code.E01 ∷ code.E02 ∷ code.E05 ∷ [])) kept_files c.loop-file.file-index file.Agency
     c.args.found.now c.loop-file.found c.report_file.new.found (omega arith) c.loop-file.invariant c.in_ok-report_file.ensures
 
 pub returns : goal.returns
 returns c = files_reported c.args.tables.now (code.E01 ∷ code.E02 ∷ code.E05 ∷ []) refl c.args.found.now c.loop-file.found
-    (each_done c.args.tables.now (codes_in (code.E01 ∷ code.E02 ∷ code.E05 ∷ [])) kept_files c.loop-file.file-index c.args.found.now c.loop-file.found (omega arith) c.loop-file.invariant)
+    (each_done c.args.tables.now (in_file_of (code.E01 ∷ code.E02 ∷ code.E05 ∷ [])) kept_files c.loop-file.file-index c.args.found.now c.loop-file.found (omega arith) c.loop-file.invariant)

@@ -1,11 +1,11 @@
 use Rattle.std.proofs.Common.{[], ◌∷◌, take}
 use Rattle.gtfs_table.specs.Reading.{kept_files}
 use Rattle.gtfs_columns.specs.declared.code.Code.TheVariants as code
-use Rattle.gtfs_row_rules.specs.FilePicks.{codes_in}
+use Rattle.gtfs_columns.specs.steps.FieldCodes.{in_file_of}
 use Rattle.gtfs_columns.specs.steps.Found.{Reports}
 use Rattle.gtfs_columns.proofs.EachFacts.{of_any}
 use Rattle.gtfs_row_rules.proofs.files.report_kept_files.Given as goal
 
 -- the files so far
 abbrev pub invariant-loop-file : goal.invariant-loop-file
-invariant-loop-file l = Reports l.tables (of_any (codes_in (code.E01 ∷ code.E02 ∷ code.E05 ∷ [])) (take l.file-index kept_files)) l.fn.found l.found
+invariant-loop-file l = Reports l.tables (of_any (in_file_of (code.E01 ∷ code.E02 ∷ code.E05 ∷ [])) (take l.file-index kept_files)) l.fn.found l.found
