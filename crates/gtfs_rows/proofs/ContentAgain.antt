@@ -38,7 +38,7 @@ same_option anti None (Some y) e = cc
 same_option anti (Some x) None e = cc
 same_option anti (Some x) (Some y) e = ap Some (anti x y e)
 
-transfer_total : IsTotalOrder transfer_key_cmp
+pub transfer_total : IsTotalOrder transfer_key_cmp
 transfer_total = lists_total (options_total nat_list_cmp_total)
 
 transfer_antisymmetric : table.IsAntisymmetric transfer_key_cmp
@@ -46,7 +46,7 @@ transfer_antisymmetric = table.slice_cmp-IsAntisymmetric (same_option text_antis
 
 -- ---- ids that may be empty
 
-no_text : (t : List ℕ) → is_empty t ≡ true → t ≡ []
+pub no_text : (t : List ℕ) → is_empty t ≡ true → t ≡ []
 no_text [] h = refl
 no_text (b ∷ t) h = let e : suc (length t) ≡ 0 = grind (arith, nat_tests, h) in absurd (omega arith)
 
@@ -84,7 +84,7 @@ module _ (c : Content) (sound : IsSound c) where
       ∙ by_key_again text_cmp nat_list_cmp_total text_antisymmetric (λ a. a.agency_id) c.agencies sound.in_order.agencies
 
   -- an empty id of an agency is that of the only one
-  only_agency : (rest : List Agency) (q : List ℕ) → list_all (is_sound_agency c) rest ≡ true → has_id (λ a. a.agency_id) rest q ≡ true → is_empty q ≡ true → length c.agencies ≡ 1
+  pub only_agency : (rest : List Agency) (q : List ℕ) → list_all (is_sound_agency c) rest ≡ true → has_id (λ a. a.agency_id) rest q ≡ true → is_empty q ≡ true → length c.agencies ≡ 1
   only_agency [] q fine has empty = cc
   only_agency (a ∷ rest) q fine has empty =
       let parts = and_parts (is_sound_agency c a) (list_all (is_sound_agency c) rest) fine in

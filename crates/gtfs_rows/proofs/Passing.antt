@@ -83,6 +83,7 @@ module _ (c : Content) (sound : IsSound c) (rest : IsRest c) where
   written_passes p h = none_in p.code p.file p.row p.column h
 
 -- what `to_tables` needs
+
 pub record IsWrittenForm (c : Content) : Type 0 where
   pub passes : Passes (written c)
   pub again : content_of (written c) ≡ c

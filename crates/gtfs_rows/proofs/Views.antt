@@ -77,7 +77,7 @@ module _ {X : Type 0} (c : Content) (x : File) (xs : List X) (cells : X → List
     inside : k < length (cells_in c x)
     inside = subst (λ n. k < n) (sym count_is) within
 
-    cells_ok : are_cells (columns_of x) (cells (get_or xs k e)) ≡ true
+    pub cells_ok : are_cells (columns_of x) (cells (get_or xs k e)) ≡ true
     cells_ok = ap (are_cells (columns_of x)) (sym cells_at) ∙ all_at (are_cells (columns_of x)) (cells_in c x) k [] sound inside
 
     -- the value and the text of a column
