@@ -15,7 +15,7 @@ use Rattle.gtfs_rows.specs.Content.{Content}
 use Rattle.gtfs_rows.specs.RowCells.{agency_cells, route_cells, stop_cells, transfer_cells, id_cell, number}
 use Rattle.gtfs_rows.specs.Rows.{Agency, Route, Stop, Transfer}
 use Rattle.gtfs_rows.specs.Sound.{IsSound, has_ends, has_id, has_place, has_right_parent, is_sound_agency, is_sound_route, is_sound_stop, is_sound_transfer, is_stop_of}
-use Rattle.gtfs_rows.specs.Written.{written}
+use Rattle.gtfs_rows.specs.Written.{written_beside}
 use Rattle.gtfs_rows.proofs.ContentAgain.{only_agency}
 use Rattle.gtfs_rows.proofs.RowTexts.{all_at}
 use Rattle.gtfs_rows.proofs.Views.{choice_from, empty_at, no_told, rows_are, value_at}
@@ -123,36 +123,36 @@ has_trips t h high = elim (or_cases ((t.transfer_type == 0) || (nat_le t.transfe
 
 -- ---- rows
 
-module _ (c : Content) (sound : IsSound c) where
-  many_is : has_many_agencies (written c) ≡ nat_lt 1 (length c.agencies)
-  many_is = ap (λ ns. nat_lt 1 (length ns)) (rows_are c file.Agency c.agencies agency_cells refl (sound.cells file.Agency))
+module _ (others : List (List ℕ)) (c : Content) (sound : IsSound c) where
+  many_is : has_many_agencies (written_beside others c) ≡ nat_lt 1 (length c.agencies)
+  many_is = ap (λ ns. nat_lt 1 (length ns)) (rows_are others c file.Agency c.agencies agency_cells refl (sound.cells file.Agency))
       ∙ ap (nat_lt 1) (length-range_with_len 2 (length c.agencies))
 
-  agency_has_id : (k : ℕ) (e : Agency) → k < length c.agencies → lacks_agency file.Agency (written c) (k + 2) ≡ false
+  agency_has_id : (k : ℕ) (e : Agency) → k < length c.agencies → lacks_agency file.Agency (written_beside others c) (k + 2) ≡ false
   agency_has_id k e h =
       let a = get_or c.agencies k e in
       let fine = (and_parts (not (is_empty a.agency_id) || (length c.agencies == 1)) _ (all_at (is_sound_agency c) c.agencies k e sound.agencies h)).0 in
-      (λ i. many_is i && empty_at c file.Agency c.agencies agency_cells refl (sound.cells file.Agency) k e h "agency_id" refl (id_cell a.agency_id) refl refl i)
+      (λ i. many_is i && empty_at others c file.Agency c.agencies agency_cells refl (sound.cells file.Agency) k e h "agency_id" refl (id_cell a.agency_id) refl refl i)
       ∙ no_agency_missing (length c.agencies) a.agency_id (λ empty. elim (or_cases (not (is_empty a.agency_id)) (length c.agencies == 1) fine) [
         | inl filled ↦ clash (is_empty a.agency_id) empty (not-true (is_empty a.agency_id) filled)
         | inr one ↦ eqb-true (length c.agencies) 1 one
       ])
 
-  route_has_agency : (k : ℕ) (e : Route) → k < length c.routes → lacks_agency file.Routes (written c) (k + 2) ≡ false
+  route_has_agency : (k : ℕ) (e : Route) → k < length c.routes → lacks_agency file.Routes (written_beside others c) (k + 2) ≡ false
   route_has_agency k e h =
       let r = get_or c.routes k e in
       let known = (and_parts (has_id (λ a. a.agency_id) c.agencies r.agency_id) _ (all_at (is_sound_route c) c.routes k e sound.routes h)).0 in
-      (λ i. many_is i && empty_at c file.Routes c.routes route_cells refl (sound.cells file.Routes) k e h "agency_id" refl (id_cell r.agency_id) refl refl i)
-      ∙ no_agency_missing (length c.agencies) r.agency_id (only_agency c sound c.agencies r.agency_id sound.agencies known)
+      (λ i. many_is i && empty_at others c file.Routes c.routes route_cells refl (sound.cells file.Routes) k e h "agency_id" refl (id_cell r.agency_id) refl refl i)
+      ∙ no_agency_missing (length c.agencies) r.agency_id (only_agency others c sound c.agencies r.agency_id sound.agencies known)
 
-  route_has_name : (k : ℕ) (e : Route) → k < length c.routes → lacks_name (written c) (k + 2) ≡ false
+  route_has_name : (k : ℕ) (e : Route) → k < length c.routes → lacks_name (written_beside others c) (k + 2) ≡ false
   route_has_name k e h =
       let r = get_or c.routes k e in
       let named = (and_parts (has_id (λ a. a.agency_id) c.agencies r.agency_id) (is_some r.route_short_name || is_some r.route_long_name) (all_at (is_sound_route c) c.routes k e sound.routes h)).1 in
       let short = is_none (option_map word r.route_short_name) in
       let long = is_none (option_map word r.route_long_name) in
-      (λ i. empty_at c file.Routes c.routes route_cells refl (sound.cells file.Routes) k e h "route_short_name" refl (option_map word r.route_short_name) refl refl i
-      && empty_at c file.Routes c.routes route_cells refl (sound.cells file.Routes) k e h "route_long_name" refl (option_map word r.route_long_name) refl refl i)
+      (λ i. empty_at others c file.Routes c.routes route_cells refl (sound.cells file.Routes) k e h "route_short_name" refl (option_map word r.route_short_name) refl refl i
+      && empty_at others c file.Routes c.routes route_cells refl (sound.cells file.Routes) k e h "route_long_name" refl (option_map word r.route_long_name) refl refl i)
       ∙ elim (or_cases (is_some r.route_short_name) (is_some r.route_long_name) named) [
         | inl there ↦ and_left short long (not_none r.route_short_name word there)
         | inr there ↦ and_right short long (not_none r.route_long_name word there)
@@ -161,16 +161,16 @@ module _ (c : Content) (sound : IsSound c) where
   -- ---- stops
 
   module _ (k : ℕ) (e : Stop) (h : k < length c.stops) where
-    type_at : (low high : ℕ) → is_choice low high file.Stops "location_type" (written c) (k + 2) ≡ within low high (get_or c.stops k e).location_type
+    type_at : (low high : ℕ) → is_choice low high file.Stops "location_type" (written_beside others c) (k + 2) ≡ within low high (get_or c.stops k e).location_type
     type_at low high = ap (λ o. if_there o (λ choice. int_le (pos low) choice && int_le choice (pos high)))
-        (choice_from (written c) file.Stops (k + 2) "location_type" (number (get_or c.stops k e).location_type) (value_at c file.Stops c.stops stop_cells refl (sound.cells file.Stops) k e h (codes "location_type") refl))
+        (choice_from (written_beside others c) file.Stops (k + 2) "location_type" (number (get_or c.stops k e).location_type) (value_at others c file.Stops c.stops stop_cells refl (sound.cells file.Stops) k e h (codes "location_type") refl))
 
     stop_fine : ((nat_lt 2 (get_or c.stops k e).location_type || has_place (get_or c.stops k e)) ≡ true) × (has_right_parent c (get_or c.stops k e).location_type (get_or c.stops k e).parent_station ≡ true)
     stop_fine = and_parts _ _ (all_at (is_sound_stop c) c.stops k e sound.stops h)
 
     -- a column of a place
-    place_there : (column : Literal) (missing : Bool) → is_empty_in (written c) file.Stops (k + 2) column ≡ missing → (has_place (get_or c.stops k e) ≡ true → missing ≡ false)
-        → lacks_name_or_position column (written c) (k + 2) ≡ false
+    place_there : (column : Literal) (missing : Bool) → is_empty_in (written_beside others c) file.Stops (k + 2) column ≡ missing → (has_place (get_or c.stops k e) ≡ true → missing ≡ false)
+        → lacks_name_or_position column (written_beside others c) (k + 2) ≡ false
     place_there column missing is placed =
         (λ i. type_at 0 2 i && is i)
         ∙ elim (or_cases (nat_lt 2 (get_or c.stops k e).location_type) (has_place (get_or c.stops k e)) stop_fine.0) [
@@ -186,31 +186,31 @@ module _ (c : Content) (sound : IsSound c) where
         let first = and_parts (is_some s.stop_name) (is_some s.stop_lat) last.0 in
         (first.0, first.1, last.1)
 
-  stop_has_name : (k : ℕ) (e : Stop) → k < length c.stops → lacks_name_or_position "stop_name" (written c) (k + 2) ≡ false
+  stop_has_name : (k : ℕ) (e : Stop) → k < length c.stops → lacks_name_or_position "stop_name" (written_beside others c) (k + 2) ≡ false
   stop_has_name k e h =
       let s = get_or c.stops k e in
-      place_there k e h "stop_name" (is_none (option_map word s.stop_name)) (empty_at c file.Stops c.stops stop_cells refl (sound.cells file.Stops) k e h "stop_name" refl (option_map word s.stop_name) refl refl)
+      place_there k e h "stop_name" (is_none (option_map word s.stop_name)) (empty_at others c file.Stops c.stops stop_cells refl (sound.cells file.Stops) k e h "stop_name" refl (option_map word s.stop_name) refl refl)
       (λ place. not_none s.stop_name word (parts_of_place k e h place).0)
 
-  stop_has_latitude : (k : ℕ) (e : Stop) → k < length c.stops → lacks_name_or_position "stop_lat" (written c) (k + 2) ≡ false
+  stop_has_latitude : (k : ℕ) (e : Stop) → k < length c.stops → lacks_name_or_position "stop_lat" (written_beside others c) (k + 2) ≡ false
   stop_has_latitude k e h =
       let s = get_or c.stops k e in
-      place_there k e h "stop_lat" (is_none (option_map amount s.stop_lat)) (empty_at c file.Stops c.stops stop_cells refl (sound.cells file.Stops) k e h "stop_lat" refl (option_map amount s.stop_lat) refl refl)
+      place_there k e h "stop_lat" (is_none (option_map amount s.stop_lat)) (empty_at others c file.Stops c.stops stop_cells refl (sound.cells file.Stops) k e h "stop_lat" refl (option_map amount s.stop_lat) refl refl)
       (λ place. not_none s.stop_lat amount (parts_of_place k e h place).1)
 
-  stop_has_longitude : (k : ℕ) (e : Stop) → k < length c.stops → lacks_name_or_position "stop_lon" (written c) (k + 2) ≡ false
+  stop_has_longitude : (k : ℕ) (e : Stop) → k < length c.stops → lacks_name_or_position "stop_lon" (written_beside others c) (k + 2) ≡ false
   stop_has_longitude k e h =
       let s = get_or c.stops k e in
-      place_there k e h "stop_lon" (is_none (option_map amount s.stop_lon)) (empty_at c file.Stops c.stops stop_cells refl (sound.cells file.Stops) k e h "stop_lon" refl (option_map amount s.stop_lon) refl refl)
+      place_there k e h "stop_lon" (is_none (option_map amount s.stop_lon)) (empty_at others c file.Stops c.stops stop_cells refl (sound.cells file.Stops) k e h "stop_lon" refl (option_map amount s.stop_lon) refl refl)
       (λ place. not_none s.stop_lon amount (parts_of_place k e h place).2)
 
-  stop_has_parent : (k : ℕ) (e : Stop) → k < length c.stops → has_wrong_parent (written c) (k + 2) ≡ false
+  stop_has_parent : (k : ℕ) (e : Stop) → k < length c.stops → has_wrong_parent (written_beside others c) (k + 2) ≡ false
   stop_has_parent k e h =
       let s = get_or c.stops k e in
-      let readable : is_readable_in (written c) file.Stops (k + 2) "parent_station" ≡ is_some (option_map word s.parent_station) =
-      ap is_some (value_at c file.Stops c.stops stop_cells refl (sound.cells file.Stops) k e h (codes "parent_station") refl) in
+      let readable : is_readable_in (written_beside others c) file.Stops (k + 2) "parent_station" ≡ is_some (option_map word s.parent_station) =
+      ap is_some (value_at others c file.Stops c.stops stop_cells refl (sound.cells file.Stops) k e h (codes "parent_station") refl) in
       (λ i. (type_at k e h 1 1 i && readable i)
-      || (type_at k e h 2 4 i && empty_at c file.Stops c.stops stop_cells refl (sound.cells file.Stops) k e h "parent_station" refl (option_map word s.parent_station) refl refl i))
+      || (type_at k e h 2 4 i && empty_at others c file.Stops c.stops stop_cells refl (sound.cells file.Stops) k e h "parent_station" refl (option_map word s.parent_station) refl refl i))
       ∙ right_parent c s.location_type s.parent_station (stop_fine k e h).1
 
   -- ---- transfers
@@ -219,49 +219,49 @@ module _ (c : Content) (sound : IsSound c) where
     ends : has_ends (get_or c.transfers k e) ≡ true
     ends = (and_parts _ (has_ends (get_or c.transfers k e)) (all_at (is_sound_transfer c) c.transfers k e sound.transfers h)).1
 
-    end_there : (low high : ℕ) (column : Literal) (missing : Bool) → is_empty_in (written c) file.Transfers (k + 2) column ≡ missing
-        → (within low high (get_or c.transfers k e).transfer_type ≡ true → missing ≡ false) → lacks_end low high column (written c) (k + 2) ≡ false
+    end_there : (low high : ℕ) (column : Literal) (missing : Bool) → is_empty_in (written_beside others c) file.Transfers (k + 2) column ≡ missing
+        → (within low high (get_or c.transfers k e).transfer_type ≡ true → missing ≡ false) → lacks_end low high column (written_beside others c) (k + 2) ≡ false
     end_there low high column missing is there =
         let type = (get_or c.transfers k e).transfer_type in
-        let choice : is_choice low high file.Transfers "transfer_type" (written c) (k + 2) ≡ within low high type =
+        let choice : is_choice low high file.Transfers "transfer_type" (written_beside others c) (k + 2) ≡ within low high type =
         ap (λ o. if_there o (λ choice. int_le (pos low) choice && int_le choice (pos high)))
-        (choice_from (written c) file.Transfers (k + 2) "transfer_type" (number type) (value_at c file.Transfers c.transfers transfer_cells refl (sound.cells file.Transfers) k e h (codes "transfer_type") refl)) in
+        (choice_from (written_beside others c) file.Transfers (k + 2) "transfer_type" (number type) (value_at others c file.Transfers c.transfers transfer_cells refl (sound.cells file.Transfers) k e h (codes "transfer_type") refl)) in
         (λ i. choice i && is i) ∙ unless (within low high type) missing there
 
-  from_stop_there : (k : ℕ) (e : Transfer) → k < length c.transfers → lacks_end 1 3 "from_stop_id" (written c) (k + 2) ≡ false
+  from_stop_there : (k : ℕ) (e : Transfer) → k < length c.transfers → lacks_end 1 3 "from_stop_id" (written_beside others c) (k + 2) ≡ false
   from_stop_there k e h =
       let t = get_or c.transfers k e in
-      end_there k e h 1 3 "from_stop_id" (is_none (option_map word t.from_stop_id)) (empty_at c file.Transfers c.transfers transfer_cells refl (sound.cells file.Transfers) k e h "from_stop_id" refl (option_map word t.from_stop_id) refl refl)
+      end_there k e h 1 3 "from_stop_id" (is_none (option_map word t.from_stop_id)) (empty_at others c file.Transfers c.transfers transfer_cells refl (sound.cells file.Transfers) k e h "from_stop_id" refl (option_map word t.from_stop_id) refl refl)
       (λ low. not_none t.from_stop_id word (has_stops t (ends k e h) low).from)
 
-  to_stop_there : (k : ℕ) (e : Transfer) → k < length c.transfers → lacks_end 1 3 "to_stop_id" (written c) (k + 2) ≡ false
+  to_stop_there : (k : ℕ) (e : Transfer) → k < length c.transfers → lacks_end 1 3 "to_stop_id" (written_beside others c) (k + 2) ≡ false
   to_stop_there k e h =
       let t = get_or c.transfers k e in
-      end_there k e h 1 3 "to_stop_id" (is_none (option_map word t.to_stop_id)) (empty_at c file.Transfers c.transfers transfer_cells refl (sound.cells file.Transfers) k e h "to_stop_id" refl (option_map word t.to_stop_id) refl refl)
+      end_there k e h 1 3 "to_stop_id" (is_none (option_map word t.to_stop_id)) (empty_at others c file.Transfers c.transfers transfer_cells refl (sound.cells file.Transfers) k e h "to_stop_id" refl (option_map word t.to_stop_id) refl refl)
       (λ low. not_none t.to_stop_id word (has_stops t (ends k e h) low).to)
 
-  from_trip_there : (k : ℕ) (e : Transfer) → k < length c.transfers → lacks_end 4 5 "from_trip_id" (written c) (k + 2) ≡ false
+  from_trip_there : (k : ℕ) (e : Transfer) → k < length c.transfers → lacks_end 4 5 "from_trip_id" (written_beside others c) (k + 2) ≡ false
   from_trip_there k e h =
       let t = get_or c.transfers k e in
-      end_there k e h 4 5 "from_trip_id" (is_none (option_map word t.from_trip_id)) (empty_at c file.Transfers c.transfers transfer_cells refl (sound.cells file.Transfers) k e h "from_trip_id" refl (option_map word t.from_trip_id) refl refl)
+      end_there k e h 4 5 "from_trip_id" (is_none (option_map word t.from_trip_id)) (empty_at others c file.Transfers c.transfers transfer_cells refl (sound.cells file.Transfers) k e h "from_trip_id" refl (option_map word t.from_trip_id) refl refl)
       (λ high. not_none t.from_trip_id word (has_trips t (ends k e h) high).from)
 
-  to_trip_there : (k : ℕ) (e : Transfer) → k < length c.transfers → lacks_end 4 5 "to_trip_id" (written c) (k + 2) ≡ false
+  to_trip_there : (k : ℕ) (e : Transfer) → k < length c.transfers → lacks_end 4 5 "to_trip_id" (written_beside others c) (k + 2) ≡ false
   to_trip_there k e h =
       let t = get_or c.transfers k e in
-      end_there k e h 4 5 "to_trip_id" (is_none (option_map word t.to_trip_id)) (empty_at c file.Transfers c.transfers transfer_cells refl (sound.cells file.Transfers) k e h "to_trip_id" refl (option_map word t.to_trip_id) refl refl)
+      end_there k e h 4 5 "to_trip_id" (is_none (option_map word t.to_trip_id)) (empty_at others c file.Transfers c.transfers transfer_cells refl (sound.cells file.Transfers) k e h "to_trip_id" refl (option_map word t.to_trip_id) refl refl)
       (λ high. not_none t.to_trip_id word (has_trips t (ends k e h) high).to)
 
-  pub no_value_missing : (y : File) (n : ℕ) (name : List ℕ) → value_missing_or_forbidden (written c) y n name ≡ false
+  pub no_value_missing : (y : File) (n : ℕ) (name : List ℕ) → value_missing_or_forbidden (written_beside others c) y n name ≡ false
   no_value_missing y n name =
-      or_from _ _ (no_told c file.Agency c.agencies agency_cells refl (sound.cells file.Agency) "agency_id" (lacks_agency file.Agency) agency_has_id y n name)
-      (or_from _ _ (no_told c file.Stops c.stops stop_cells refl (sound.cells file.Stops) "stop_name" (lacks_name_or_position "stop_name") stop_has_name y n name)
-      (or_from _ _ (no_told c file.Stops c.stops stop_cells refl (sound.cells file.Stops) "stop_lat" (lacks_name_or_position "stop_lat") stop_has_latitude y n name)
-      (or_from _ _ (no_told c file.Stops c.stops stop_cells refl (sound.cells file.Stops) "stop_lon" (lacks_name_or_position "stop_lon") stop_has_longitude y n name)
-      (or_from _ _ (no_told c file.Stops c.stops stop_cells refl (sound.cells file.Stops) "parent_station" has_wrong_parent stop_has_parent y n name)
-      (or_from _ _ (no_told c file.Routes c.routes route_cells refl (sound.cells file.Routes) "route_short_name" lacks_name route_has_name y n name)
-      (or_from _ _ (no_told c file.Routes c.routes route_cells refl (sound.cells file.Routes) "agency_id" (lacks_agency file.Routes) route_has_agency y n name)
-      (or_from _ _ (no_told c file.Transfers c.transfers transfer_cells refl (sound.cells file.Transfers) "from_stop_id" (lacks_end 1 3 "from_stop_id") from_stop_there y n name)
-      (or_from _ _ (no_told c file.Transfers c.transfers transfer_cells refl (sound.cells file.Transfers) "to_stop_id" (lacks_end 1 3 "to_stop_id") to_stop_there y n name)
-      (or_from _ _ (no_told c file.Transfers c.transfers transfer_cells refl (sound.cells file.Transfers) "from_trip_id" (lacks_end 4 5 "from_trip_id") from_trip_there y n name)
-      (or_from _ _ (no_told c file.Transfers c.transfers transfer_cells refl (sound.cells file.Transfers) "to_trip_id" (lacks_end 4 5 "to_trip_id") to_trip_there y n name) refl))))))))))
+      or_from _ _ (no_told others c file.Agency c.agencies agency_cells refl (sound.cells file.Agency) "agency_id" (lacks_agency file.Agency) agency_has_id y n name)
+      (or_from _ _ (no_told others c file.Stops c.stops stop_cells refl (sound.cells file.Stops) "stop_name" (lacks_name_or_position "stop_name") stop_has_name y n name)
+      (or_from _ _ (no_told others c file.Stops c.stops stop_cells refl (sound.cells file.Stops) "stop_lat" (lacks_name_or_position "stop_lat") stop_has_latitude y n name)
+      (or_from _ _ (no_told others c file.Stops c.stops stop_cells refl (sound.cells file.Stops) "stop_lon" (lacks_name_or_position "stop_lon") stop_has_longitude y n name)
+      (or_from _ _ (no_told others c file.Stops c.stops stop_cells refl (sound.cells file.Stops) "parent_station" has_wrong_parent stop_has_parent y n name)
+      (or_from _ _ (no_told others c file.Routes c.routes route_cells refl (sound.cells file.Routes) "route_short_name" lacks_name route_has_name y n name)
+      (or_from _ _ (no_told others c file.Routes c.routes route_cells refl (sound.cells file.Routes) "agency_id" (lacks_agency file.Routes) route_has_agency y n name)
+      (or_from _ _ (no_told others c file.Transfers c.transfers transfer_cells refl (sound.cells file.Transfers) "from_stop_id" (lacks_end 1 3 "from_stop_id") from_stop_there y n name)
+      (or_from _ _ (no_told others c file.Transfers c.transfers transfer_cells refl (sound.cells file.Transfers) "to_stop_id" (lacks_end 1 3 "to_stop_id") to_stop_there y n name)
+      (or_from _ _ (no_told others c file.Transfers c.transfers transfer_cells refl (sound.cells file.Transfers) "from_trip_id" (lacks_end 4 5 "from_trip_id") from_trip_there y n name)
+      (or_from _ _ (no_told others c file.Transfers c.transfers transfer_cells refl (sound.cells file.Transfers) "to_trip_id" (lacks_end 4 5 "to_trip_id") to_trip_there y n name) refl))))))))))

@@ -20,7 +20,7 @@ use Rattle.gtfs_rows.specs.Order.{transfer_key, transfer_key_cmp}
 use Rattle.gtfs_rows.specs.RowCells.{transfer_cells}
 use Rattle.gtfs_rows.specs.Rows.{Transfer}
 use Rattle.gtfs_rows.specs.Sound.{IsSound, if_given}
-use Rattle.gtfs_rows.specs.Written.{written}
+use Rattle.gtfs_rows.specs.Written.{written_beside}
 use Rattle.gtfs_rows.proofs.ContentAgain.{transfer_total}
 use Rattle.gtfs_rows.proofs.KeyCodes.{no_repeat}
 use Rattle.gtfs_rows.proofs.Views.{cells_ok, value_at, empty_at}
@@ -105,19 +105,19 @@ keys_differ a b fa fb less = false_from_ne_true (pointwise value_eq (map (λ o. 
     let clash : Less ≡ Equal = sym less ∙ tie in
     cc)
 
-module _ (c : Content) (sound : IsSound c) where
+module _ (others : List (List ℕ)) (c : Content) (sound : IsSound c) where
   module _ (k : ℕ) (e : Transfer) (within : k < length c.transfers) where
     filled_at : IsFilled (get_or c.transfers k e)
-    filled_at = filled_parts (get_or c.transfers k e) (cells_ok c file.Transfers c.transfers transfer_cells refl (sound.cells file.Transfers) k e within)
+    filled_at = filled_parts (get_or c.transfers k e) (cells_ok others c file.Transfers c.transfers transfer_cells refl (sound.cells file.Transfers) k e within)
 
     part_at : (column : Literal) → is_empty (codes column) ≡ false → (o : Option (List ℕ)) → cell_named (columns_of file.Transfers) (transfer_cells (get_or c.transfers k e)) (codes column) ≡ option_map word o
-        → is_some (column_named file.Transfers (codes column)) ≡ true → key_part (written c) file.Transfers (k + 2) (codes column) ≡ Some (word (part o))
+        → is_some (column_named file.Transfers (codes column)) ≡ true → key_part (written_beside others c) file.Transfers (k + 2) (codes column) ≡ Some (word (part o))
     part_at column named o is kept =
-        part_of o (is_empty_in (written c) file.Transfers (k + 2) column) (value_in (written c) file.Transfers (k + 2) (codes column))
-        (empty_at c file.Transfers c.transfers transfer_cells refl (sound.cells file.Transfers) k e within column named (option_map word o) is kept)
-        (value_at c file.Transfers c.transfers transfer_cells refl (sound.cells file.Transfers) k e within (codes column) named ∙ is)
+        part_of o (is_empty_in (written_beside others c) file.Transfers (k + 2) column) (value_in (written_beside others c) file.Transfers (k + 2) (codes column))
+        (empty_at others c file.Transfers c.transfers transfer_cells refl (sound.cells file.Transfers) k e within column named (option_map word o) is kept)
+        (value_at others c file.Transfers c.transfers transfer_cells refl (sound.cells file.Transfers) k e within (codes column) named ∙ is)
 
-    key_at : key_in (written c) file.Transfers (k + 2) ≡ key_of (get_or c.transfers k e)
+    key_at : key_in (written_beside others c) file.Transfers (k + 2) ≡ key_of (get_or c.transfers k e)
     key_at =
         let t = get_or c.transfers k e in
         λ i. all_there (part_at "from_stop_id" refl t.from_stop_id refl refl i
@@ -127,6 +127,6 @@ module _ (c : Content) (sound : IsSound c) where
         ∷ part_at "from_trip_id" refl t.from_trip_id refl refl i
         ∷ part_at "to_trip_id" refl t.to_trip_id refl refl i ∷ [])
 
-  pub no_transfer_twice : (n : ℕ) (name : List ℕ) → key_twice (written c) file.Transfers n name ≡ false
-  no_transfer_twice = no_repeat c file.Transfers c.transfers transfer_cells refl (sound.cells file.Transfers) key_of key_at
+  pub no_transfer_twice : (n : ℕ) (name : List ℕ) → key_twice (written_beside others c) file.Transfers n name ≡ false
+  no_transfer_twice = no_repeat others c file.Transfers c.transfers transfer_cells refl (sound.cells file.Transfers) key_of key_at
       (λ i j d h l. keys_differ (get_or c.transfers i d) (get_or c.transfers j d) (filled_at i d (omega arith)) (filled_at j d l) (sound.in_order.transfers i j d h l))
