@@ -1,11 +1,13 @@
 ghost use Rattle.std.specs.Prelude.{◌≡◌, ◌<◌, [], Some, length, position, option_map, bytes_eq, slice_get, slice_index_or};
+ghost use Rattle.gtfs_table.specs.Parts.{parts};
 ghost use Rattle.gtfs_rows.specs.Views.{agency_ids, stop_ids, route_ids, service_ids, trip_ids};
 
 use crate::ids::Ids;
+use crate::stretches::stretch;
 use gtfs_days::Service;
 use gtfs_rows::{
-    Agency, AgencyNo, HeadsignNo, Parts, Route, RouteNo, ServiceNo, Stop, StopNo, Transfer, Trip,
-    TripNo,
+    Agency, AgencyNo, Frequency, HeadsignNo, Parts, Route, RouteNo, ServiceNo, Stop, StopNo,
+    StopRow, Transfer, Trip, TripNo,
 };
 use std::marker::Model;
 
@@ -184,6 +186,24 @@ impl Feed {
     {
         let row = &self.parts.services.as_slice()[service.0];
         row.service_id.as_str()
+    }
+
+    /// The stop times of the trip of a number, which is below [`Feed::trip_count`], by their sequence.
+    pub fn trip_rows(&self, trip: TripNo) -> &[StopRow]
+        requires { trip.0 < length self.now.trips }
+        ensures { slice_get (parts self.now.stop_row_starts self.now.stop_rows) trip.0 ≡ Some result.now }
+    {
+        let rows = self.parts.stop_rows.as_slice();
+        stretch(rows, self.parts.stop_row_starts.as_slice(), trip.0)
+    }
+
+    /// The frequencies of the trip of a number, which is below [`Feed::trip_count`], by their start.
+    pub fn trip_frequencies(&self, trip: TripNo) -> &[Frequency]
+        requires { trip.0 < length self.now.trips }
+        ensures { slice_get (parts self.now.frequency_starts self.now.frequencies) trip.0 ≡ Some result.now }
+    {
+        let rows = self.parts.frequencies.as_slice();
+        stretch(rows, self.parts.frequency_starts.as_slice(), trip.0)
     }
 
     /// The text of a headsign that a stop time names.

@@ -5,5 +5,6 @@
 
 mod feed;
 mod ids;
+mod stretches;
 
 pub use feed::Feed;

@@ -23,7 +23,7 @@ use Rattle.gtfs_columns.proofs.NamedFacts.{kept_name_is}
 use Rattle.gtfs_rows.specs.Content.{Content}
 use Rattle.gtfs_rows.specs.RowCells.{agency_cells, week_cells, week_list, weeks_of}
 use Rattle.gtfs_rows.specs.Sound.{IsSound, is_sound_service, is_sound_week, if_given}
-use Rattle.gtfs_rows.specs.Written.{written}
+use Rattle.gtfs_rows.specs.Written.{written_beside}
 use Rattle.gtfs_rows.proofs.Held.{held_member}
 use Rattle.gtfs_rows.proofs.ServicesAgain.{week_again}
 use Rattle.gtfs_rows.proofs.TripCodes.{contained}
@@ -58,8 +58,8 @@ found_passes p q (y ∷ xs) x all found =
       | inr other ↦ found_passes p q xs x parts.1 (rw other at found)
     ]
 
-module _ (c : Content) where
-  header_is : (x : File) → header (records_in (written c) x) ≡ map cut (map (λ k. k.name) (columns_of x))
+module _ (others : List (List ℕ)) (c : Content) where
+  header_is : (x : File) → header (records_in (written_beside others c) x) ≡ map cut (map (λ k. k.name) (columns_of x))
   header_is file.Agency = refl
   header_is file.Stops = refl
   header_is file.Routes = refl
@@ -70,7 +70,7 @@ module _ (c : Content) where
   header_is file.Frequencies = refl
   header_is file.Transfers = refl
 
-  has_header : (x : File) → has_no_record (written c) x ≡ false
+  has_header : (x : File) → has_no_record (written_beside others c) x ≡ false
   has_header file.Agency = not_none _
   has_header file.Stops = not_none _
   has_header file.Routes = not_none _
@@ -81,7 +81,7 @@ module _ (c : Content) where
   has_header file.Frequencies = not_none _
   has_header file.Transfers = not_none _
 
-  named_once : (x : File) (name : List ℕ) (k : Column) → column_named x name ≡ Some k → times_named (written c) x name ≡ 1
+  named_once : (x : File) (name : List ℕ) (k : Column) → column_named x name ≡ Some k → times_named (written_beside others c) x name ≡ 1
   unfolding once
   named_once x name k found =
       let one = found_passes (λ j. count_by (bytes_eq j.name) (map cut (map (λ z. z.name) (columns_of x))) == 1) (λ j. bytes_eq j.name name) (columns_of x) k (kept_once x) found in
@@ -91,7 +91,7 @@ module _ (c : Content) where
 
   -- ---- E01
 
-  there : (x : File) → is_absent (written c) x ≡ false
+  there : (x : File) → is_absent (written_beside others c) x ≡ false
   there file.Agency = refl
   there file.Stops = refl
   there file.Routes = refl
@@ -102,15 +102,15 @@ module _ (c : Content) where
   there file.Frequencies = has_header file.Frequencies
   there file.Transfers = has_header file.Transfers
 
-  pub no_file_missing : (x : File) (n : ℕ) (name : List ℕ) → file_missing (written c) x n name ≡ false
+  pub no_file_missing : (x : File) (n : ℕ) (name : List ℕ) → file_missing (written_beside others c) x n name ≡ false
   no_file_missing x n name =
-      and_right (is_at 0 n name) _ (or_from (is_needed x && is_absent (written c) x) (is_file x file.Calendar && is_absent (written c) file.Calendar && is_absent (written c) file.CalendarDates)
-      (and_right (is_needed x) (is_absent (written c) x) (there x))
-      (and_right (is_file x file.Calendar && is_absent (written c) file.Calendar) (is_absent (written c) file.CalendarDates) (there file.CalendarDates)))
+      and_right (is_at 0 n name) _ (or_from (is_needed x && is_absent (written_beside others c) x) (is_file x file.Calendar && is_absent (written_beside others c) file.Calendar && is_absent (written_beside others c) file.CalendarDates)
+      (and_right (is_needed x) (is_absent (written_beside others c) x) (there x))
+      (and_right (is_file x file.Calendar && is_absent (written_beside others c) file.Calendar) (is_absent (written_beside others c) file.CalendarDates) (there file.CalendarDates)))
 
   -- ---- E02
 
-  utf8 : (x : File) → is_not_utf8_state (table_state (table_of (written c) x)) ≡ false
+  utf8 : (x : File) → is_not_utf8_state (table_state (table_of (written_beside others c) x)) ≡ false
   utf8 file.Agency = refl
   utf8 file.Stops = refl
   utf8 file.Routes = refl
@@ -121,38 +121,38 @@ module _ (c : Content) where
   utf8 file.Frequencies = refl
   utf8 file.Transfers = refl
 
-  pub no_not_utf8 : (x : File) (n : ℕ) (name : List ℕ) → not_utf8 (written c) x n name ≡ false
+  pub no_not_utf8 : (x : File) (n : ℕ) (name : List ℕ) → not_utf8 (written_beside others c) x n name ≡ false
   no_not_utf8 x n name = and_right (is_at 0 n name) _ (utf8 x)
 
   -- ---- E03 and E04
 
-  pub no_column_missing : (x : File) (n : ℕ) (name : List ℕ) → column_missing (written c) x n name ≡ false
+  pub no_column_missing : (x : File) (n : ℕ) (name : List ℕ) → column_missing (written_beside others c) x n name ≡ false
   no_column_missing x n name = at_column (column_named x name) refl
     where
-      at_column : (o : Option Column) → column_named x name ≡ o → ((n == 1) && not (has_no_record (written c) x) && if_there o is_required && not (is_named (written c) x name)) ≡ false
-      at_column None found = and_left ((n == 1) && not (has_no_record (written c) x) && false) (not (is_named (written c) x name)) (and_right ((n == 1) && not (has_no_record (written c) x)) false refl)
+      at_column : (o : Option Column) → column_named x name ≡ o → ((n == 1) && not (has_no_record (written_beside others c) x) && if_there o is_required && not (is_named (written_beside others c) x name)) ≡ false
+      at_column None found = and_left ((n == 1) && not (has_no_record (written_beside others c) x) && false) (not (is_named (written_beside others c) x name)) (and_right ((n == 1) && not (has_no_record (written_beside others c) x)) false refl)
       at_column (Some k) found =
-          let named : is_named (written c) x name ≡ true = ap (nat_lt 0) (named_once x name k found) in
-          and_right ((n == 1) && not (has_no_record (written c) x) && is_required k) (not (is_named (written c) x name)) (not_from_true (is_named (written c) x name) named)
+          let named : is_named (written_beside others c) x name ≡ true = ap (nat_lt 0) (named_once x name k found) in
+          and_right ((n == 1) && not (has_no_record (written_beside others c) x) && is_required k) (not (is_named (written_beside others c) x name)) (not_from_true (is_named (written_beside others c) x name) named)
 
-  pub no_column_twice : (x : File) (n : ℕ) (name : List ℕ) → column_twice (written c) x n name ≡ false
+  pub no_column_twice : (x : File) (n : ℕ) (name : List ℕ) → column_twice (written_beside others c) x n name ≡ false
   no_column_twice x n name = at_column (column_named x name) refl
     where
-      at_column : (o : Option Column) → column_named x name ≡ o → ((n == 1) && is_some o && nat_lt 1 (times_named (written c) x name)) ≡ false
-      at_column None found = and_left ((n == 1) && false) (nat_lt 1 (times_named (written c) x name)) (and_right (n == 1) false refl)
-      at_column (Some k) found = and_right ((n == 1) && true) (nat_lt 1 (times_named (written c) x name)) (ap (nat_lt 1) (named_once x name k found))
+      at_column : (o : Option Column) → column_named x name ≡ o → ((n == 1) && is_some o && nat_lt 1 (times_named (written_beside others c) x name)) ≡ false
+      at_column None found = and_left ((n == 1) && false) (nat_lt 1 (times_named (written_beside others c) x name)) (and_right (n == 1) false refl)
+      at_column (Some k) found = and_right ((n == 1) && true) (nat_lt 1 (times_named (written_beside others c) x name)) (ap (nat_lt 1) (named_once x name k found))
 
   module _ (sound : IsSound c) where
     -- ---- E05
 
-    some_agency : (length (rows (written c) file.Agency) == 0) ≡ false
+    some_agency : (length (rows (written_beside others c) file.Agency) == 0) ≡ false
     some_agency =
-        let size : length (rows (written c) file.Agency) ≡ length c.agencies =
-        ap length (rows_are c file.Agency c.agencies agency_cells refl (sound.cells file.Agency)) ∙ ap length (sym (map-id (range_with_len 2 (length c.agencies)))) ∙ length-map-range_with_len (λ n. n) 2 (length c.agencies) in
+        let size : length (rows (written_beside others c) file.Agency) ≡ length c.agencies =
+        ap length (rows_are others c file.Agency c.agencies agency_cells refl (sound.cells file.Agency)) ∙ ap length (sym (map-id (range_with_len 2 (length c.agencies)))) ∙ length-map-range_with_len (λ n. n) 2 (length c.agencies) in
         ap (λ n. n == 0) size ∙ not-true (length c.agencies == 0) sound.has_agency
 
-    empty_agency : (x : File) → (is_file x file.Agency && not (has_no_record (written c) x) && (length (rows (written c) x) == 0)) ≡ false
-    empty_agency file.Agency = and_right (is_file file.Agency file.Agency && not (has_no_record (written c) file.Agency)) _ some_agency
+    empty_agency : (x : File) → (is_file x file.Agency && not (has_no_record (written_beside others c) x) && (length (rows (written_beside others c) x) == 0)) ≡ false
+    empty_agency file.Agency = and_right (is_file file.Agency file.Agency && not (has_no_record (written_beside others c) file.Agency)) _ some_agency
     empty_agency file.Stops = refl
     empty_agency file.Routes = refl
     empty_agency file.Trips = refl
@@ -166,11 +166,11 @@ module _ (c : Content) where
     last_test true b d e h = h
     last_test false b d e h = refl
 
-    pub no_file_empty : (x : File) (n : ℕ) (name : List ℕ) → file_empty (written c) x n name ≡ false
+    pub no_file_empty : (x : File) (n : ℕ) (name : List ℕ) → file_empty (written_beside others c) x n name ≡ false
     no_file_empty x n name =
-        and_right (is_needed x && is_read (written c) x) _ (or_from (is_at 0 n name && has_no_record (written c) x) _
-        (and_right (is_at 0 n name) (has_no_record (written c) x) (has_header x))
-        (last_test (is_at 1 n name) (is_file x file.Agency) (not (has_no_record (written c) x)) (length (rows (written c) x) == 0) (empty_agency x)))
+        and_right (is_needed x && is_read (written_beside others c) x) _ (or_from (is_at 0 n name && has_no_record (written_beside others c) x) _
+        (and_right (is_at 0 n name) (has_no_record (written_beside others c) x) (has_header x))
+        (last_test (is_at 1 n name) (is_file x file.Agency) (not (has_no_record (written_beside others c) x)) (length (rows (written_beside others c) x) == 0) (empty_agency x)))
 
     -- ---- E14
 
@@ -196,11 +196,11 @@ module _ (c : Content) where
     both_days (Some x) None a b e f h = refl
     both_days (Some x) (Some y) a b e f h = (λ i. int_lt (e i) (f i)) ∙ h
 
-    no_early_end : (k : ℕ) (e : List ℕ × Week) → k < length (weeks_of c) → ends_before_start (written c) (k + 2) ≡ false
+    no_early_end : (k : ℕ) (e : List ℕ × Week) → k < length (weeks_of c) → ends_before_start (written_beside others c) (k + 2) ≡ false
     no_early_end k e h =
         let w = (get_or (weeks_of c) k e).1 in
-        both_days (amount_in (written c) file.Calendar (k + 2) "end_date") (amount_in (written c) file.Calendar (k + 2) "start_date") w.start w.end
-        (ap (λ v. v.end) (week_again c sound k e h)) (ap (λ v. v.start) (week_again c sound k e h)) (not_less w.start w.end (week_in_order k e h))
+        both_days (amount_in (written_beside others c) file.Calendar (k + 2) "end_date") (amount_in (written_beside others c) file.Calendar (k + 2) "start_date") w.start w.end
+        (ap (λ v. v.end) (week_again others c sound k e h)) (ap (λ v. v.start) (week_again others c sound k e h)) (not_less w.start w.end (week_in_order k e h))
 
-    pub no_end_before_start : (y : File) (n : ℕ) (name : List ℕ) → end_before_start (written c) y n name ≡ false
-    no_end_before_start = no_told c file.Calendar (weeks_of c) week_cells refl (sound.cells file.Calendar) "end_date" ends_before_start no_early_end
+    pub no_end_before_start : (y : File) (n : ℕ) (name : List ℕ) → end_before_start (written_beside others c) y n name ≡ false
+    no_end_before_start = no_told others c file.Calendar (weeks_of c) week_cells refl (sound.cells file.Calendar) "end_date" ends_before_start no_early_end

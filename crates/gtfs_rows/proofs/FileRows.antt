@@ -83,26 +83,26 @@ cell_found (k ∷ cs) (v ∷ vs) c name are found =
           record { cell = rest.cell; is = rest.is; text = rw later (rest.text); named = rw later (rest.named) }
     ]
 
-module _ (cells : File → List (List Cell)) (x : File) (sound : list_all (are_cells (columns_of x)) (cells x) ≡ true) where
+module _ (others : List (List ℕ)) (cells : File → List (List Cell)) (x : File) (sound : list_all (are_cells (columns_of x)) (cells x) ≡ true) where
   rs : Records
   rs = records_of_cells x (cells x)
 
   length-records : length (records_of_cells x (cells x)) ≡ length (cells x) + 1
   length-records = let e = length-map (cells x) (record_text (columns_of x)) in omega (arith, e)
 
-  pub row_written : (k : ℕ) → k < length (cells x) → is_row (records_in (dataset_of_cells cells) x) (k + 2) ≡ true
+  pub row_written : (k : ℕ) → k < length (cells x) → is_row (records_in (dataset_of_cells others cells) x) (k + 2) ≡ true
   row_written k within =
       let all = records_of_cells x (cells x) in
       let first : nat_lt 1 (k + 2) ≡ true = grind (arith, nat_tests) in
       let last : nat_le (k + 2) (length all) ≡ true = le-leb (k + 2) (length all) (omega (arith, length-records)) in
       let full : is_full (record_at all (k + 2)) ≡ true = ap is_full (record-written x (cells x) k [] within)
       ∙ full-row (columns_of x) (get_or (cells x) k []) (all_at (are_cells (columns_of x)) (cells x) k [] sound within) (kept_fills x) in
-      ap (λ rs. is_row rs (k + 2)) (records_written cells x) ∙ and_from (nat_lt 1 (k + 2) && nat_le (k + 2) (length all)) _ (and_from _ _ first last) full
+      ap (λ rs. is_row rs (k + 2)) (records_written others cells x) ∙ and_from (nat_lt 1 (k + 2) && nat_le (k + 2) (length all)) _ (and_from _ _ first last) full
 
-  pub row_place : (n : ℕ) → is_row (records_in (dataset_of_cells cells) x) n ≡ true → IsRowAt n (length (cells x))
+  pub row_place : (n : ℕ) → is_row (records_in (dataset_of_cells others cells) x) n ≡ true → IsRowAt n (length (cells x))
   row_place n row =
       let all = records_of_cells x (cells x) in
-      let here : is_row all n ≡ true = ap (λ rs. is_row rs n) (sym (records_written cells x)) ∙ row in
+      let here : is_row all n ≡ true = ap (λ rs. is_row rs n) (sym (records_written others cells x)) ∙ row in
       let range = (and_parts (nat_lt 1 n && nat_le n (length all)) _ here).0 in
       let bounds = and_parts (nat_lt 1 n) (nat_le n (length all)) range in
       let low = ltb-true 1 n bounds.0 in
@@ -110,28 +110,28 @@ module _ (cells : File → List (List Cell)) (x : File) (sound : list_all (are_c
       record { place = n - 2; is = omega (arith, low); within = omega (arith, low, high, length-records) }
 
   -- all records after the header are rows
-  pub rows_written : rows (dataset_of_cells cells) x ≡ range_with_len 2 (length (cells x))
+  pub rows_written : rows (dataset_of_cells others cells) x ≡ range_with_len 2 (length (cells x))
   rows_written =
-      let all = records_in (dataset_of_cells cells) x in
-      let size : length all - 1 ≡ length (cells x) = let e = ap length (records_written cells x) in omega (arith, e, length-records) in
+      let all = records_in (dataset_of_cells others cells) x in
+      let size : length all - 1 ≡ length (cells x) = let e = ap length (records_written others cells x) in omega (arith, e, length-records) in
       ap (λ n. filter (is_row all) (range_with_len 2 n)) size ∙ filter_all (is_row all) 2 (length (cells x)) row_written
 
   -- a test that no cell's text passes
   no_field : (test : Column → List ℕ → Bool) → ((c : Column) (v : Cell) → is_cell c v ≡ true → test c (cell_text c.kind v) ≡ false)
-      → (n : ℕ) (name : List ℕ) → in_row test (dataset_of_cells cells) x n name ≡ false
-  no_field test never n name = elim (cases_Bool (is_row (records_in (dataset_of_cells cells) x) n)) [
-    | inr outside ↦ and_left _ (if_there (column_named x name) (λ c. test c (text_in (dataset_of_cells cells) x n name))) outside
-    | inl row ↦ and_right (is_row (records_in (dataset_of_cells cells) x) n) _ (at_column (column_named x name) refl (row_place n row))
+      → (n : ℕ) (name : List ℕ) → in_row test (dataset_of_cells others cells) x n name ≡ false
+  no_field test never n name = elim (cases_Bool (is_row (records_in (dataset_of_cells others cells) x) n)) [
+    | inr outside ↦ and_left _ (if_there (column_named x name) (λ c. test c (text_in (dataset_of_cells others cells) x n name))) outside
+    | inl row ↦ and_right (is_row (records_in (dataset_of_cells others cells) x) n) _ (at_column (column_named x name) refl (row_place n row))
   ]
     where
       at_column : (o : Option Column) → column_named x name ≡ o → IsRowAt n (length (cells x))
-          → if_there o (λ c. test c (text_in (dataset_of_cells cells) x n name)) ≡ false
+          → if_there o (λ c. test c (text_in (dataset_of_cells others cells) x n name)) ≡ false
       at_column None is at = refl
       at_column (Some c) is at =
           let k = at.place in
           let has = cell_found (columns_of x) (get_or (cells x) k []) c name (all_at (are_cells (columns_of x)) (cells x) k [] sound at.within) is in
-          ap (λ m. test c (text_in (dataset_of_cells cells) x m name)) at.is
-          ∙ ap (test c) (text_written cells x sound k [] name at.within (kept_name_filled x name c is) ∙ has.text)
+          ap (λ m. test c (text_in (dataset_of_cells others cells) x m name)) at.is
+          ∙ ap (test c) (text_written others cells x sound k [] name at.within (kept_name_filled x name c is) ∙ has.text)
           ∙ never c has.cell has.is
 
   -- E06
@@ -144,15 +144,15 @@ module _ (cells : File → List (List Cell)) (x : File) (sound : list_all (are_c
       not_required nothing h = refl
       not_required (means t) h = refl
 
-  pub no_value_empty : (n : ℕ) (name : List ℕ) → value_empty (dataset_of_cells cells) x n name ≡ false
-  no_value_empty n name = and_right (is_named (dataset_of_cells cells) x name) _ (no_field (λ c t. is_required c && is_empty t) needs n name)
+  pub no_value_empty : (n : ℕ) (name : List ℕ) → value_empty (dataset_of_cells others cells) x n name ≡ false
+  no_value_empty n name = and_right (is_named (dataset_of_cells others cells) x name) _ (no_field (λ c t. is_required c && is_empty t) needs n name)
 
   -- E07
   shaped : (c : Column) (v : Cell) → is_cell c v ≡ true → (not (is_empty (cell_text c.kind v)) && not (is_id c.kind) && is_form_fault (read_as c.kind (cell_text c.kind v))) ≡ false
   shaped c None h = refl
   shaped c (Some v) h = and_right (not (is_empty (text_of c.kind v)) && not (is_id c.kind)) _ (ap is_form_fault ((writes_value c.kind v h).read))
 
-  pub no_value_unreadable : (n : ℕ) (name : List ℕ) → value_unreadable (dataset_of_cells cells) x n name ≡ false
+  pub no_value_unreadable : (n : ℕ) (name : List ℕ) → value_unreadable (dataset_of_cells others cells) x n name ≡ false
   no_value_unreadable n name = no_field (λ c t. not (is_empty t) && not (is_id c.kind) && is_form_fault (read_as c.kind t)) shaped n name
 
   -- E08
@@ -160,7 +160,7 @@ module _ (cells : File → List (List Cell)) (x : File) (sound : list_all (are_c
   inside c None h = refl
   inside c (Some v) h = and_right (not (is_empty (text_of c.kind v))) _ (ap is_range_fault ((writes_value c.kind v h).read))
 
-  pub no_value_out_of_range : (n : ℕ) (name : List ℕ) → value_out_of_range (dataset_of_cells cells) x n name ≡ false
+  pub no_value_out_of_range : (n : ℕ) (name : List ℕ) → value_out_of_range (dataset_of_cells others cells) x n name ≡ false
   no_value_out_of_range n name = no_field (λ c t. not (is_empty t) && is_range_fault (read_as c.kind t)) inside n name
 
   -- E20
@@ -180,5 +180,5 @@ module _ (cells : File → List (List Cell)) (x : File) (sound : list_all (are_c
   without_control c None h = clean c.kind None refl
   without_control c (Some v) h = clean c.kind (Some v) h
 
-  pub no_control_in_id : (n : ℕ) (name : List ℕ) → control_in_id (dataset_of_cells cells) x n name ≡ false
+  pub no_control_in_id : (n : ℕ) (name : List ℕ) → control_in_id (dataset_of_cells others cells) x n name ≡ false
   no_control_in_id n name = no_field (λ c t. is_id c.kind && has_control t) without_control n name

@@ -19,7 +19,7 @@ use Rattle.gtfs_rows.specs.Content.{Content}
 use Rattle.gtfs_rows.specs.RowCells.{frequency_cells, frequencies_of}
 use Rattle.gtfs_rows.specs.Rows.{Frequency, Trip}
 use Rattle.gtfs_rows.specs.Sound.{IsSound, are_apart, is_sound_period, is_sound_trip, is_sound_in, has_id}
-use Rattle.gtfs_rows.specs.Written.{written}
+use Rattle.gtfs_rows.specs.Written.{written_beside}
 use Rattle.gtfs_rows.proofs.Held.{held_at, held_member, held_pairs}
 use Rattle.gtfs_rows.proofs.TripCodes.{contained}
 use Rattle.gtfs_rows.proofs.RowTexts.{all_at}
@@ -34,7 +34,7 @@ pub record IsPeriod (c : Content) (q : List ℕ) (p : Frequency) : Type 0 where
   pub fine : is_sound_period (get_or c.trips place none).frequencies p ≡ true
   pub own : Contains (get_or c.trips place none).frequencies p
 
-module _ (c : Content) (sound : IsSound c) where
+module _ (others : List (List ℕ)) (c : Content) (sound : IsSound c) where
   abbrev ps : List (List ℕ × Frequency)
   ps = frequencies_of c
 
@@ -56,31 +56,31 @@ module _ (c : Content) (sound : IsSound c) where
         own = own;
       }
 
-  start_at : (k : ℕ) (e : List ℕ × Frequency) → k < length (frequencies_of c) → rule.start_in (written c) (k + 2) ≡ Some (pos (get_or (frequencies_of c) k e).1.start_time)
-  start_at k e h = amounts_at c file.Frequencies (frequencies_of c) frequency_cells refl (sound.cells file.Frequencies) k e h "start_time" refl (Some (get_or (frequencies_of c) k e).1.start_time) refl
+  start_at : (k : ℕ) (e : List ℕ × Frequency) → k < length (frequencies_of c) → rule.start_in (written_beside others c) (k + 2) ≡ Some (pos (get_or (frequencies_of c) k e).1.start_time)
+  start_at k e h = amounts_at others c file.Frequencies (frequencies_of c) frequency_cells refl (sound.cells file.Frequencies) k e h "start_time" refl (Some (get_or (frequencies_of c) k e).1.start_time) refl
 
-  end_at : (k : ℕ) (e : List ℕ × Frequency) → k < length (frequencies_of c) → rule.end_in (written c) (k + 2) ≡ Some (pos (get_or (frequencies_of c) k e).1.end_time)
-  end_at k e h = amounts_at c file.Frequencies (frequencies_of c) frequency_cells refl (sound.cells file.Frequencies) k e h "end_time" refl (Some (get_or (frequencies_of c) k e).1.end_time) refl
+  end_at : (k : ℕ) (e : List ℕ × Frequency) → k < length (frequencies_of c) → rule.end_in (written_beside others c) (k + 2) ≡ Some (pos (get_or (frequencies_of c) k e).1.end_time)
+  end_at k e h = amounts_at others c file.Frequencies (frequencies_of c) frequency_cells refl (sound.cells file.Frequencies) k e h "end_time" refl (Some (get_or (frequencies_of c) k e).1.end_time) refl
 
-  pub trip_at : (k : ℕ) (e : List ℕ × Frequency) → k < length (frequencies_of c) → word_in (written c) file.Frequencies (k + 2) "trip_id" ≡ Some (get_or (frequencies_of c) k e).0
-  trip_at k e h = word_at c file.Frequencies (frequencies_of c) frequency_cells refl (sound.cells file.Frequencies) k e h "trip_id" refl (Some (get_or (frequencies_of c) k e).0) refl
+  pub trip_at : (k : ℕ) (e : List ℕ × Frequency) → k < length (frequencies_of c) → word_in (written_beside others c) file.Frequencies (k + 2) "trip_id" ≡ Some (get_or (frequencies_of c) k e).0
+  trip_at k e h = word_at others c file.Frequencies (frequencies_of c) frequency_cells refl (sound.cells file.Frequencies) k e h "trip_id" refl (Some (get_or (frequencies_of c) k e).0) refl
 
   -- ---- E18
 
-  no_empty_period : (k : ℕ) (e : List ℕ × Frequency) → k < length (frequencies_of c) → rule.ends_at_start (written c) (k + 2) ≡ false
+  no_empty_period : (k : ℕ) (e : List ℕ × Frequency) → k < length (frequencies_of c) → rule.ends_at_start (written_beside others c) (k + 2) ≡ false
   no_empty_period k e h =
       let p = (get_or (frequencies_of c) k e).1 in
       let s = period k e h in
       let parts = and_parts (nat_lt p.start_time p.end_time) (list_all (are_apart p) (get_or c.trips s.place s.none).frequencies) s.fine in
       (λ i. if_both (end_at k e h i) (start_at k e h i) int_le) ∙ lt-leb p.end_time p.start_time (ltb-true p.start_time p.end_time parts.0)
 
-  pub no_period_empty : (y : File) (n : ℕ) (name : List ℕ) → rule.period_empty (written c) y n name ≡ false
-  no_period_empty = no_told c file.Frequencies (frequencies_of c) frequency_cells refl (sound.cells file.Frequencies) "end_time" rule.ends_at_start no_empty_period
+  pub no_period_empty : (y : File) (n : ℕ) (name : List ℕ) → rule.period_empty (written_beside others c) y n name ≡ false
+  no_period_empty = no_told others c file.Frequencies (frequencies_of c) frequency_cells refl (sound.cells file.Frequencies) "end_time" rule.ends_at_start no_empty_period
 
   -- ---- E19
 
   meets_at : (j k : ℕ) (e : List ℕ × Frequency) → j < length (frequencies_of c) → k < length (frequencies_of c) → j < k → (get_or (frequencies_of c) j e).0 ≡ (get_or (frequencies_of c) k e).0
-      → rule.periods_meet (written c) (j + 2) (k + 2) ≡ false
+      → rule.periods_meet (written_beside others c) (j + 2) (k + 2) ≡ false
   meets_at j k e first second order same =
       let p = get_or (frequencies_of c) j e in
       let q = get_or (frequencies_of c) k e in
@@ -107,23 +107,23 @@ module _ (c : Content) (sound : IsSound c) where
       differ : Less ≡ Equal → ⊥
       differ e = cc
 
-  no_overlap : (k : ℕ) (e : List ℕ × Frequency) → k < length (frequencies_of c) → rule.overlaps_earlier (written c) (k + 2) ≡ false
+  no_overlap : (k : ℕ) (e : List ℕ × Frequency) → k < length (frequencies_of c) → rule.overlaps_earlier (written_beside others c) (k + 2) ≡ false
   no_overlap k e h =
       let q = (get_or (frequencies_of c) k e).0 in
-      let bad = λ (m : ℕ). nat_lt m (k + 2) && is_word (word_in (written c) file.Frequencies m "trip_id") q && rule.periods_meet (written c) m (k + 2) in
-      ap (λ o. if_there o (λ trip. list_any (λ m. nat_lt m (k + 2) && is_word (word_in (written c) file.Frequencies m "trip_id") trip && rule.periods_meet (written c) m (k + 2)) (rows (written c) file.Frequencies))) (trip_at k e h)
-      ∙ ap (list_any bad) (rows_are c file.Frequencies (frequencies_of c) frequency_cells refl (sound.cells file.Frequencies))
+      let bad = λ (m : ℕ). nat_lt m (k + 2) && is_word (word_in (written_beside others c) file.Frequencies m "trip_id") q && rule.periods_meet (written_beside others c) m (k + 2) in
+      ap (λ o. if_there o (λ trip. list_any (λ m. nat_lt m (k + 2) && is_word (word_in (written_beside others c) file.Frequencies m "trip_id") trip && rule.periods_meet (written_beside others c) m (k + 2)) (rows (written_beside others c) file.Frequencies))) (trip_at k e h)
+      ∙ ap (list_any bad) (rows_are others c file.Frequencies (frequencies_of c) frequency_cells refl (sound.cells file.Frequencies))
       ∙ none_in_range bad 2 (length (frequencies_of c)) (λ j first. elim (cases_Bool (nat_lt (j + 2) (k + 2))) [
-        | inr later ↦ and_left (nat_lt (j + 2) (k + 2) && is_word (word_in (written c) file.Frequencies (j + 2) "trip_id") q) (rule.periods_meet (written c) (j + 2) (k + 2)) (and_left (nat_lt (j + 2) (k + 2)) (is_word (word_in (written c) file.Frequencies (j + 2) "trip_id") q) later)
-        | inl earlier ↦ elim (cases_Bool (is_word (word_in (written c) file.Frequencies (j + 2) "trip_id") q)) [
-          | inr other ↦ and_left (nat_lt (j + 2) (k + 2) && is_word (word_in (written c) file.Frequencies (j + 2) "trip_id") q) (rule.periods_meet (written c) (j + 2) (k + 2)) (and_right (nat_lt (j + 2) (k + 2)) (is_word (word_in (written c) file.Frequencies (j + 2) "trip_id") q) other)
+        | inr later ↦ and_left (nat_lt (j + 2) (k + 2) && is_word (word_in (written_beside others c) file.Frequencies (j + 2) "trip_id") q) (rule.periods_meet (written_beside others c) (j + 2) (k + 2)) (and_left (nat_lt (j + 2) (k + 2)) (is_word (word_in (written_beside others c) file.Frequencies (j + 2) "trip_id") q) later)
+        | inl earlier ↦ elim (cases_Bool (is_word (word_in (written_beside others c) file.Frequencies (j + 2) "trip_id") q)) [
+          | inr other ↦ and_left (nat_lt (j + 2) (k + 2) && is_word (word_in (written_beside others c) file.Frequencies (j + 2) "trip_id") q) (rule.periods_meet (written_beside others c) (j + 2) (k + 2)) (and_right (nat_lt (j + 2) (k + 2)) (is_word (word_in (written_beside others c) file.Frequencies (j + 2) "trip_id") q) other)
           | inl named ↦
               let p = (get_or (frequencies_of c) j e).0 in
               let order = ltb-true (j + 2) (k + 2) earlier in
               let same : q ≡ p = text_is q p (ap (λ o. is_word o q) (sym (trip_at j e first)) ∙ named) in
-              and_right (nat_lt (j + 2) (k + 2) && is_word (word_in (written c) file.Frequencies (j + 2) "trip_id") q) (rule.periods_meet (written c) (j + 2) (k + 2)) (meets_at j k e first h (omega (arith, order)) (sym same))
+              and_right (nat_lt (j + 2) (k + 2) && is_word (word_in (written_beside others c) file.Frequencies (j + 2) "trip_id") q) (rule.periods_meet (written_beside others c) (j + 2) (k + 2)) (meets_at j k e first h (omega (arith, order)) (sym same))
         ]
       ])
 
-  pub no_periods_overlap : (y : File) (n : ℕ) (name : List ℕ) → rule.periods_overlap (written c) y n name ≡ false
-  no_periods_overlap = no_told c file.Frequencies (frequencies_of c) frequency_cells refl (sound.cells file.Frequencies) "start_time" rule.overlaps_earlier no_overlap
+  pub no_periods_overlap : (y : File) (n : ℕ) (name : List ℕ) → rule.periods_overlap (written_beside others c) y n name ≡ false
+  no_periods_overlap = no_told others c file.Frequencies (frequencies_of c) frequency_cells refl (sound.cells file.Frequencies) "start_time" rule.overlaps_earlier no_overlap

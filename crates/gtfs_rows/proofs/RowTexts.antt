@@ -105,16 +105,16 @@ kept_cut file.CalendarDates = refl
 kept_cut file.Frequencies = refl
 kept_cut file.Transfers = refl
 
-pub records_written : (cells : File → List (List Cell)) (x : File) → records_in (dataset_of_cells cells) x ≡ records_of_cells x (cells x)
-records_written cells file.Agency = refl
-records_written cells file.Stops = refl
-records_written cells file.Routes = refl
-records_written cells file.Trips = refl
-records_written cells file.StopTimes = refl
-records_written cells file.Calendar = refl
-records_written cells file.CalendarDates = refl
-records_written cells file.Frequencies = refl
-records_written cells file.Transfers = refl
+pub records_written : (others : List (List ℕ)) (cells : File → List (List Cell)) (x : File) → records_in (dataset_of_cells others cells) x ≡ records_of_cells x (cells x)
+records_written others cells file.Agency = refl
+records_written others cells file.Stops = refl
+records_written others cells file.Routes = refl
+records_written others cells file.Trips = refl
+records_written others cells file.StopTimes = refl
+records_written others cells file.Calendar = refl
+records_written others cells file.CalendarDates = refl
+records_written others cells file.Frequencies = refl
+records_written others cells file.Transfers = refl
 
 pub all_at : {X : Type 0} (p : X → Bool) (xs : List X) (k : ℕ) (d : X) → list_all p xs ≡ true → k < length xs → p (get_or xs k d) ≡ true
 all_at p [] k d all within = absurd (omega arith)
@@ -137,17 +137,17 @@ module _ (x : File) (rows' : List (List Cell)) (k : ℕ) (d : List Cell) (within
         ∙ ap (field_under (record_text (columns_of x) (get_or rows' k d))) place
         ∙ named-text name (columns_of x) (get_or rows' k d) (kept_cut x) are
 
-module _ (cells : File → List (List Cell)) (x : File) (sound : list_all (are_cells (columns_of x)) (cells x) ≡ true) where
+module _ (others : List (List ℕ)) (cells : File → List (List Cell)) (x : File) (sound : list_all (are_cells (columns_of x)) (cells x) ≡ true) where
   -- the text of a column in a row
   pub text_written : (k : ℕ) (d : List Cell) (name : List ℕ) → k < length (cells x) → is_empty name ≡ false
-      → text_in (dataset_of_cells cells) x (k + 2) name ≡ text_named (columns_of x) (get_or (cells x) k d) name
+      → text_in (dataset_of_cells others cells) x (k + 2) name ≡ text_named (columns_of x) (get_or (cells x) k d) name
   text_written k d name within filled =
-      ap (λ rs. value rs (k + 2) name) (records_written cells x)
+      ap (λ rs. value rs (k + 2) name) (records_written others cells x)
       ∙ text-written x (cells x) k d within name filled (all_at (are_cells (columns_of x)) (cells x) k d sound within)
 
   -- the value of a column in a row
   pub value_written : (k : ℕ) (d : List Cell) (name : List ℕ) → k < length (cells x) → is_empty name ≡ false
-      → value_in (dataset_of_cells cells) x (k + 2) name ≡ cell_named (columns_of x) (get_or (cells x) k d) name
+      → value_in (dataset_of_cells others cells) x (k + 2) name ≡ cell_named (columns_of x) (get_or (cells x) k d) name
   value_written k d name within filled =
       ap (λ t. option_and_then (λ c. readable c.kind t) (column_named x name)) (text_written k d name within filled)
       ∙ named-value name (columns_of x) (get_or (cells x) k d) (all_at (are_cells (columns_of x)) (cells x) k d sound within)

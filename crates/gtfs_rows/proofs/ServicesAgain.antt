@@ -29,7 +29,7 @@ use Rattle.gtfs_rows.specs.Reading.{text_at, services_named, service_row_in}
 use Rattle.gtfs_rows.specs.RowCells.{cells_in, flag, week_cells, exception_cells, exception_number, week_list, weeks_of, exceptions_of, held_by}
 use Rattle.gtfs_rows.specs.Rows.{ServiceRow}
 use Rattle.gtfs_rows.specs.Sound.{IsSound, is_sound_service, is_sound_week, if_given}
-use Rattle.gtfs_rows.specs.Written.{written}
+use Rattle.gtfs_rows.specs.Written.{written_beside}
 use Rattle.gtfs_rows.proofs.ByKey.{by_key_map}
 use Rattle.gtfs_rows.proofs.Held.{text_antisymmetric, held_at, held_member, held_has}
 use Rattle.gtfs_rows.proofs.RangeLists.{map_range, map_filter_range, find_range}
@@ -107,7 +107,7 @@ days_are q w h =
     let size : length (map flag w.days ++ Some (amount w.start) ∷ Some (amount w.end) ∷ []) ≡ length w.days + 2 = length-append (map flag w.days) (Some (amount w.start) ∷ Some (amount w.end) ∷ []) ∙ ap (λ n. n + 2) (length-map w.days flag) in
     omega (arith, count, size)
 
-module _ (c : Content) (sound : IsSound c) where
+module _ (others : List (List ℕ)) (c : Content) (sound : IsSound c) where
   module _ (k : ℕ) (e : List ℕ × Week) (within : k < length (weeks_of c)) where
     cells_ok : are_cells (columns_of file.Calendar) (week_cells (get_or (weeks_of c) k e)) ≡ true
     cells_ok =
@@ -116,16 +116,16 @@ module _ (c : Content) (sound : IsSound c) where
         ∙ all_at (are_cells (columns_of file.Calendar)) (cells_in c file.Calendar) k [] (sound.cells file.Calendar) inside
 
     weekday : (column : Literal) → is_empty (codes column) ≡ false → (b : Bool) → cell_named (columns_of file.Calendar) (week_cells (get_or (weeks_of c) k e)) (codes column) ≡ flag b
-        → runs_on (written c) (k + 2) column ≡ b
+        → runs_on (written_beside others c) (k + 2) column ≡ b
     weekday column filled b is =
-        ap (λ o. int_eq (unwrap_or o (pos 0)) (pos 1)) (amount_at c file.Calendar (weeks_of c) week_cells refl (sound.cells file.Calendar) k e within column filled (Some (pos (if b then 1 else 0))) is)
+        ap (λ o. int_eq (unwrap_or o (pos 0)) (pos 1)) (amount_at others c file.Calendar (weeks_of c) week_cells refl (sound.cells file.Calendar) k e within column filled (Some (pos (if b then 1 else 0))) is)
         ∙ flag_back b
 
     week_day : (column : Literal) → is_empty (codes column) ≡ false → (x : ℤ) → cell_named (columns_of file.Calendar) (week_cells (get_or (weeks_of c) k e)) (codes column) ≡ Some (amount x)
-        → number_in (written c) file.Calendar (k + 2) column ≡ x
-    week_day column filled x is = ap (λ o. unwrap_or o (pos 0)) (amount_at c file.Calendar (weeks_of c) week_cells refl (sound.cells file.Calendar) k e within column filled (Some x) is)
+        → number_in (written_beside others c) file.Calendar (k + 2) column ≡ x
+    week_day column filled x is = ap (λ o. unwrap_or o (pos 0)) (amount_at others c file.Calendar (weeks_of c) week_cells refl (sound.cells file.Calendar) k e within column filled (Some x) is)
 
-    pub week_again : week_in (written c) (k + 2) ≡ (get_or (weeks_of c) k e).1
+    pub week_again : week_in (written_beside others c) (k + 2) ≡ (get_or (weeks_of c) k e).1
     week_again =
         let q = (get_or (weeks_of c) k e).0 in
         let w = (get_or (weeks_of c) k e).1 in
@@ -135,7 +135,7 @@ module _ (c : Content) (sound : IsSound c) where
         let named : (name : List ℕ) → cell_named (columns_of file.Calendar) (week_cells (get_or (weeks_of c) k e)) name
         ≡ cell_named (columns_of file.Calendar) (Some (word q) ∷ flag s.a ∷ flag s.b ∷ flag s.c ∷ flag s.d ∷ flag s.e ∷ flag s.f ∷ flag s.g ∷ Some (amount w.start) ∷ Some (amount w.end) ∷ []) name
         = λ name. ap (λ vs. cell_named (columns_of file.Calendar) vs name) cells in
-        let read : week_in (written c) (k + 2) ≡ record { days = s.a ∷ s.b ∷ s.c ∷ s.d ∷ s.e ∷ s.f ∷ s.g ∷ []; start = w.start; end = w.end } =
+        let read : week_in (written_beside others c) (k + 2) ≡ record { days = s.a ∷ s.b ∷ s.c ∷ s.d ∷ s.e ∷ s.f ∷ s.g ∷ []; start = w.start; end = w.end } =
         λ i. record {
           days = weekday "monday" refl s.a (named (codes "monday")) i ∷ weekday "tuesday" refl s.b (named (codes "tuesday")) i ∷ weekday "wednesday" refl s.c (named (codes "wednesday")) i
               ∷ weekday "thursday" refl s.d (named (codes "thursday")) i ∷ weekday "friday" refl s.e (named (codes "friday")) i ∷ weekday "saturday" refl s.f (named (codes "saturday")) i
@@ -147,43 +147,43 @@ module _ (c : Content) (sound : IsSound c) where
         read ∙ back
 
   week_named : (q : List ℕ) (k : ℕ) (e : List ℕ × Week) → k < length (weeks_of c)
-      → is_word (word_in (written c) file.Calendar (k + 2) "service_id") q ≡ bytes_eq q (get_or (weeks_of c) k e).0
+      → is_word (word_in (written_beside others c) file.Calendar (k + 2) "service_id") q ≡ bytes_eq q (get_or (weeks_of c) k e).0
   week_named q k e within =
-      ap (λ o. is_word o q) (word_at c file.Calendar (weeks_of c) week_cells refl (sound.cells file.Calendar) k e within "service_id" refl (Some (get_or (weeks_of c) k e).0) refl)
+      ap (λ o. is_word o q) (word_at others c file.Calendar (weeks_of c) week_cells refl (sound.cells file.Calendar) k e within "service_id" refl (Some (get_or (weeks_of c) k e).0) refl)
 
-  exception_again : (k : ℕ) (e : List ℕ × (ℤ × Exception)) → k < length (exceptions_of c) → exception_in (written c) (k + 2) ≡ (get_or (exceptions_of c) k e).1
+  exception_again : (k : ℕ) (e : List ℕ × (ℤ × Exception)) → k < length (exceptions_of c) → exception_in (written_beside others c) (k + 2) ≡ (get_or (exceptions_of c) k e).1
   exception_again k e within =
       let x = (get_or (exceptions_of c) k e).1 in
-      let day : number_in (written c) file.CalendarDates (k + 2) "date" ≡ x.0 =
-      ap (λ o. unwrap_or o (pos 0)) (amount_at c file.CalendarDates (exceptions_of c) exception_cells refl (sound.cells file.CalendarDates) k e within "date" refl (Some x.0) refl) in
-      let type : (if int_eq (number_in (written c) file.CalendarDates (k + 2) "exception_type") (pos 1) then Added else Removed) ≡ x.1 =
+      let day : number_in (written_beside others c) file.CalendarDates (k + 2) "date" ≡ x.0 =
+      ap (λ o. unwrap_or o (pos 0)) (amount_at others c file.CalendarDates (exceptions_of c) exception_cells refl (sound.cells file.CalendarDates) k e within "date" refl (Some x.0) refl) in
+      let type : (if int_eq (number_in (written_beside others c) file.CalendarDates (k + 2) "exception_type") (pos 1) then Added else Removed) ≡ x.1 =
       ap (λ o. if int_eq (unwrap_or o (pos 0)) (pos 1) then Added else Removed)
-      (amount_at c file.CalendarDates (exceptions_of c) exception_cells refl (sound.cells file.CalendarDates) k e within "exception_type" refl (Some (pos (exception_number x.1))) refl)
+      (amount_at others c file.CalendarDates (exceptions_of c) exception_cells refl (sound.cells file.CalendarDates) k e within "exception_type" refl (Some (pos (exception_number x.1))) refl)
       ∙ type_back x.1 in
       λ i. (day i, type i)
 
   exception_named : (q : List ℕ) (k : ℕ) (e : List ℕ × (ℤ × Exception)) → k < length (exceptions_of c)
-      → is_word (word_in (written c) file.CalendarDates (k + 2) "service_id") q ≡ bytes_eq q (get_or (exceptions_of c) k e).0
+      → is_word (word_in (written_beside others c) file.CalendarDates (k + 2) "service_id") q ≡ bytes_eq q (get_or (exceptions_of c) k e).0
   exception_named q k e within =
-      ap (λ o. is_word o q) (word_at c file.CalendarDates (exceptions_of c) exception_cells refl (sound.cells file.CalendarDates) k e within "service_id" refl (Some (get_or (exceptions_of c) k e).0) refl)
+      ap (λ o. is_word o q) (word_at others c file.CalendarDates (exceptions_of c) exception_cells refl (sound.cells file.CalendarDates) k e within "service_id" refl (Some (get_or (exceptions_of c) k e).0) refl)
 
   -- ---- the service of an id
 
-  service_again : (k : ℕ) (e : ServiceRow) → k < length c.services → service_row_in (written c) (get_or c.services k e).service_id ≡ get_or c.services k e
+  service_again : (k : ℕ) (e : ServiceRow) → k < length c.services → service_row_in (written_beside others c) (get_or c.services k e).service_id ≡ get_or c.services k e
   service_again k e within =
       let s = get_or c.services k e in
       let q = s.service_id in
-      let week : option_map (week_in (written c)) (first_service_row (written c) file.Calendar q) ≡ s.service.week =
-      as_then (week_in (written c)) (first_service_row (written c) file.Calendar q)
-      ∙ ap (λ ns. option_and_then (λ n. Some (week_in (written c) n)) (find (λ n. is_word (word_in (written c) file.Calendar n "service_id") q) ns)) (rows_are c file.Calendar (weeks_of c) week_cells refl (sound.cells file.Calendar))
-      ∙ find_range (λ n. is_word (word_in (written c) file.Calendar n "service_id") q) (λ p. bytes_eq q p.0) (λ n. Some (week_in (written c) n)) (λ p. Some p.1) 2 (weeks_of c)
+      let week : option_map (week_in (written_beside others c)) (first_service_row (written_beside others c) file.Calendar q) ≡ s.service.week =
+      as_then (week_in (written_beside others c)) (first_service_row (written_beside others c) file.Calendar q)
+      ∙ ap (λ ns. option_and_then (λ n. Some (week_in (written_beside others c) n)) (find (λ n. is_word (word_in (written_beside others c) file.Calendar n "service_id") q) ns)) (rows_are others c file.Calendar (weeks_of c) week_cells refl (sound.cells file.Calendar))
+      ∙ find_range (λ n. is_word (word_in (written_beside others c) file.Calendar n "service_id") q) (λ p. bytes_eq q p.0) (λ n. Some (week_in (written_beside others c) n)) (λ p. Some p.1) 2 (weeks_of c)
       (record { at = week_named q }) (record { at = λ j d h. ap Some (week_again j d h) })
       ∙ found_first (λ p. bytes_eq q p.0) (λ p. p.1) (weeks_of c)
       ∙ ap first_of (held_at (λ r. r.service_id) (λ r. week_list r.service.week) c.services k e within sound.in_order.services)
       ∙ first_week s.service.week in
-      let exceptions : by_key int_cmp (λ x. x.0) (map (exception_in (written c)) (service_rows (written c) file.CalendarDates q)) ≡ s.service.exceptions =
-      ap (λ ns. by_key int_cmp (λ x. x.0) (map (exception_in (written c)) (filter (λ n. is_word (word_in (written c) file.CalendarDates n "service_id") q) ns))) (rows_are c file.CalendarDates (exceptions_of c) exception_cells refl (sound.cells file.CalendarDates))
-      ∙ ap (by_key int_cmp (λ x. x.0)) (map_filter_range (λ n. is_word (word_in (written c) file.CalendarDates n "service_id") q) (λ p. bytes_eq q p.0) (exception_in (written c)) (λ p. p.1) 2 (exceptions_of c)
+      let exceptions : by_key int_cmp (λ x. x.0) (map (exception_in (written_beside others c)) (service_rows (written_beside others c) file.CalendarDates q)) ≡ s.service.exceptions =
+      ap (λ ns. by_key int_cmp (λ x. x.0) (map (exception_in (written_beside others c)) (filter (λ n. is_word (word_in (written_beside others c) file.CalendarDates n "service_id") q) ns))) (rows_are others c file.CalendarDates (exceptions_of c) exception_cells refl (sound.cells file.CalendarDates))
+      ∙ ap (by_key int_cmp (λ x. x.0)) (map_filter_range (λ n. is_word (word_in (written_beside others c) file.CalendarDates n "service_id") q) (λ p. bytes_eq q p.0) (exception_in (written_beside others c)) (λ p. p.1) 2 (exceptions_of c)
       (record { at = exception_named q }) (record { at = exception_again })
       ∙ held_at (λ r. r.service_id) (λ r. r.service.exceptions) c.services k e within sound.in_order.services)
       ∙ by_key_again int_cmp int_cmp_total table.int_cmp-IsAntisymmetric (λ x. x.0) s.service.exceptions (sound.in_order.exceptions k e within) in
@@ -194,19 +194,19 @@ module _ (c : Content) (sound : IsSound c) where
   abbrev pub ids : List (List ℕ)
   ids = map (λ s. s.service_id) c.services
 
-  week_ids : map (λ n. text_at (written c) file.Calendar n "service_id") (rows (written c) file.Calendar) ≡ map (λ p. p.0) (weeks_of c)
+  week_ids : map (λ n. text_at (written_beside others c) file.Calendar n "service_id") (rows (written_beside others c) file.Calendar) ≡ map (λ p. p.0) (weeks_of c)
   week_ids =
-      ap (map (λ n. text_at (written c) file.Calendar n "service_id")) (rows_are c file.Calendar (weeks_of c) week_cells refl (sound.cells file.Calendar))
-      ∙ map_range (λ n. text_at (written c) file.Calendar n "service_id") (λ p. p.0) 2 (weeks_of c)
-      (record { at = λ j d h. given_at c file.Calendar (weeks_of c) week_cells refl (sound.cells file.Calendar) j d h "service_id" refl (get_or (weeks_of c) j d).0 refl })
+      ap (map (λ n. text_at (written_beside others c) file.Calendar n "service_id")) (rows_are others c file.Calendar (weeks_of c) week_cells refl (sound.cells file.Calendar))
+      ∙ map_range (λ n. text_at (written_beside others c) file.Calendar n "service_id") (λ p. p.0) 2 (weeks_of c)
+      (record { at = λ j d h. given_at others c file.Calendar (weeks_of c) week_cells refl (sound.cells file.Calendar) j d h "service_id" refl (get_or (weeks_of c) j d).0 refl })
 
-  exception_ids : map (λ n. text_at (written c) file.CalendarDates n "service_id") (rows (written c) file.CalendarDates) ≡ map (λ p. p.0) (exceptions_of c)
+  exception_ids : map (λ n. text_at (written_beside others c) file.CalendarDates n "service_id") (rows (written_beside others c) file.CalendarDates) ≡ map (λ p. p.0) (exceptions_of c)
   exception_ids =
-      ap (map (λ n. text_at (written c) file.CalendarDates n "service_id")) (rows_are c file.CalendarDates (exceptions_of c) exception_cells refl (sound.cells file.CalendarDates))
-      ∙ map_range (λ n. text_at (written c) file.CalendarDates n "service_id") (λ p. p.0) 2 (exceptions_of c)
-      (record { at = λ j d h. given_at c file.CalendarDates (exceptions_of c) exception_cells refl (sound.cells file.CalendarDates) j d h "service_id" refl (get_or (exceptions_of c) j d).0 refl })
+      ap (map (λ n. text_at (written_beside others c) file.CalendarDates n "service_id")) (rows_are others c file.CalendarDates (exceptions_of c) exception_cells refl (sound.cells file.CalendarDates))
+      ∙ map_range (λ n. text_at (written_beside others c) file.CalendarDates n "service_id") (λ p. p.0) 2 (exceptions_of c)
+      (record { at = λ j d h. given_at others c file.CalendarDates (exceptions_of c) exception_cells refl (sound.cells file.CalendarDates) j d h "service_id" refl (get_or (exceptions_of c) j d).0 refl })
 
-  named_again : services_named (written c) ≡ map (λ p. p.0) (weeks_of c) ++ map (λ p. p.0) (exceptions_of c)
+  named_again : services_named (written_beside others c) ≡ map (λ p. p.0) (weeks_of c) ++ map (λ p. p.0) (exceptions_of c)
   named_again = λ i. week_ids i ++ exception_ids i
 
   -- an id that a held element names is that of a row
@@ -237,7 +237,7 @@ module _ (c : Content) (sound : IsSound c) where
           contains-map (λ p. p.0) (exceptions_of c) (s.service_id, x)
           (held_has (λ r. r.service_id) (λ r. r.service.exceptions) c.services s x at (subst (λ ys. Contains ys x) (sym same) (contains-first x x es refl)))
 
-  same_ids : SameElements (services_named (written c)) ids
+  same_ids : SameElements (services_named (written_beside others c)) ids
   same_ids = record {
     there = λ q at. elim (Contains-append_cases (map (λ p. p.0) (weeks_of c)) (map (λ p. p.0) (exceptions_of c)) q (subst (λ qs. Contains qs q) named_again at)) [
       | inl week ↦ id_held (λ s. week_list s.service.week) q week
@@ -250,8 +250,8 @@ module _ (c : Content) (sound : IsSound c) where
         subst (λ qs. Contains qs q) (sym named_again) (subst (Contains (map (λ p. p.0) (weeks_of c) ++ map (λ p. p.0) (exceptions_of c))) from.1.1 (in_file from.0 from.1.0 fine));
   }
 
-  pub services_again : by_key text_cmp (λ s. s.service_id) (map (service_row_in (written c)) (services_named (written c))) ≡ c.services
+  pub services_again : by_key text_cmp (λ s. s.service_id) (map (service_row_in (written_beside others c)) (services_named (written_beside others c))) ≡ c.services
   services_again =
-      by_key_map text_cmp nat_list_cmp_total text_antisymmetric (λ s. s.service_id) (service_row_in (written c)) (services_named (written c)) ids same_ids
+      by_key_map text_cmp nat_list_cmp_total text_antisymmetric (λ s. s.service_id) (service_row_in (written_beside others c)) (services_named (written_beside others c)) ids same_ids
       (pairs-map (λ s. s.service_id) (λ x y. text_cmp x y ≡ Less) c.services sound.in_order.services)
-      ∙ map_back (service_row_in (written c)) (λ s. s.service_id) c.services service_again
+      ∙ map_back (service_row_in (written_beside others c)) (λ s. s.service_id) c.services service_again

@@ -24,7 +24,7 @@ use Rattle.gtfs_rows.specs.Content.{Content}
 use Rattle.gtfs_rows.specs.RowCells.{stop_time_cells, stop_times_of, number}
 use Rattle.gtfs_rows.specs.Rows.{StopRow, Trip}
 use Rattle.gtfs_rows.specs.Sound.{IsSound, comes, leaves, is_sound_stop_row, is_stop_of, keeps_time, is_end, is_sound_in, is_sound_trip, has_id, is_sound_period}
-use Rattle.gtfs_rows.specs.Written.{written}
+use Rattle.gtfs_rows.specs.Written.{written_beside}
 use Rattle.gtfs_rows.proofs.Held.{held_at, held_member}
 use Rattle.gtfs_rows.proofs.RangeLists.{any_filter_range}
 use Rattle.gtfs_rows.proofs.RowTexts.{all_at}
@@ -103,7 +103,7 @@ pub record IsStopTime (c : Content) (q : List ℕ) (r : StopRow) : Type 0 where
   pub fine : is_sound_in c (get_or c.trips place none).stop_rows r ≡ true
   pub own : Contains (get_or c.trips place none).stop_rows r
 
-module _ (c : Content) (sound : IsSound c) where
+module _ (others : List (List ℕ)) (c : Content) (sound : IsSound c) where
   pub stop_time : (k : ℕ) (e : List ℕ × StopRow) → k < length (stop_times_of c) → IsStopTime c (get_or (stop_times_of c) k e).0 (get_or (stop_times_of c) k e).1
   stop_time k e within =
       let p = get_or (stop_times_of c) k e in
@@ -124,13 +124,13 @@ module _ (c : Content) (sound : IsSound c) where
 
   -- ---- E16
 
-  arrival_at : (k : ℕ) (e : List ℕ × StopRow) → k < length (stop_times_of c) → amount_in (written c) file.StopTimes (k + 2) "arrival_time" ≡ option_map pos ((get_or (stop_times_of c) k e).1.arrival_time)
-  arrival_at k e within = amounts_at c file.StopTimes (stop_times_of c) stop_time_cells refl (sound.cells file.StopTimes) k e within "arrival_time" refl ((get_or (stop_times_of c) k e).1.arrival_time) refl
+  arrival_at : (k : ℕ) (e : List ℕ × StopRow) → k < length (stop_times_of c) → amount_in (written_beside others c) file.StopTimes (k + 2) "arrival_time" ≡ option_map pos ((get_or (stop_times_of c) k e).1.arrival_time)
+  arrival_at k e within = amounts_at others c file.StopTimes (stop_times_of c) stop_time_cells refl (sound.cells file.StopTimes) k e within "arrival_time" refl ((get_or (stop_times_of c) k e).1.arrival_time) refl
 
-  departure_at : (k : ℕ) (e : List ℕ × StopRow) → k < length (stop_times_of c) → amount_in (written c) file.StopTimes (k + 2) "departure_time" ≡ option_map pos ((get_or (stop_times_of c) k e).1.departure_time)
-  departure_at k e within = amounts_at c file.StopTimes (stop_times_of c) stop_time_cells refl (sound.cells file.StopTimes) k e within "departure_time" refl ((get_or (stop_times_of c) k e).1.departure_time) refl
+  departure_at : (k : ℕ) (e : List ℕ × StopRow) → k < length (stop_times_of c) → amount_in (written_beside others c) file.StopTimes (k + 2) "departure_time" ≡ option_map pos ((get_or (stop_times_of c) k e).1.departure_time)
+  departure_at k e within = amounts_at others c file.StopTimes (stop_times_of c) stop_time_cells refl (sound.cells file.StopTimes) k e within "departure_time" refl ((get_or (stop_times_of c) k e).1.departure_time) refl
 
-  no_leaves_early : (k : ℕ) (e : List ℕ × StopRow) → k < length (stop_times_of c) → leaves_early (written c) (k + 2) ≡ false
+  no_leaves_early : (k : ℕ) (e : List ℕ × StopRow) → k < length (stop_times_of c) → leaves_early (written_beside others c) (k + 2) ≡ false
   no_leaves_early k e within =
       let r = (get_or (stop_times_of c) k e).1 in
       let s = stop_time k e within in
@@ -142,103 +142,103 @@ module _ (c : Content) (sound : IsSound c) where
       ∙ both_numbers r.departure_time r.arrival_time
       ∙ not-true (if_both r.departure_time r.arrival_time nat_lt) row.1
 
-  pub no_departure_before_arrival : (y : File) (n : ℕ) (name : List ℕ) → departure_before_arrival (written c) y n name ≡ false
-  no_departure_before_arrival = no_told c file.StopTimes (stop_times_of c) stop_time_cells refl (sound.cells file.StopTimes) "departure_time" leaves_early no_leaves_early
+  pub no_departure_before_arrival : (y : File) (n : ℕ) (name : List ℕ) → departure_before_arrival (written_beside others c) y n name ≡ false
+  no_departure_before_arrival = no_told others c file.StopTimes (stop_times_of c) stop_time_cells refl (sound.cells file.StopTimes) "departure_time" leaves_early no_leaves_early
 
   -- ---- what the rules of trips read of a row
 
   readable_at : (k : ℕ) (e : List ℕ × StopRow) → k < length (stop_times_of c) → (v : Cell) (column : Literal) → is_empty (codes column) ≡ false
       → cell_named (columns_of file.StopTimes) (stop_time_cells (get_or (stop_times_of c) k e)) (codes column) ≡ v → is_some (column_named file.StopTimes (codes column)) ≡ true
-      → rule.is_clear (written c) (k + 2) column ≡ true
+      → rule.is_clear (written_beside others c) (k + 2) column ≡ true
   readable_at k e within v column filled is kept =
-      (λ i. is_some ((value_at c file.StopTimes (stop_times_of c) stop_time_cells refl (sound.cells file.StopTimes) k e within (codes column) filled ∙ is) i)
-      || empty_at c file.StopTimes (stop_times_of c) stop_time_cells refl (sound.cells file.StopTimes) k e within column filled v is kept i)
+      (λ i. is_some ((value_at others c file.StopTimes (stop_times_of c) stop_time_cells refl (sound.cells file.StopTimes) k e within (codes column) filled ∙ is) i)
+      || empty_at others c file.StopTimes (stop_times_of c) stop_time_cells refl (sound.cells file.StopTimes) k e within column filled v is kept i)
       ∙ clear_cell v
 
-  pub arrives_at : (k : ℕ) (e : List ℕ × StopRow) → k < length (stop_times_of c) → rule.arrival_in (written c) (k + 2) ≡ option_map pos (comes (get_or (stop_times_of c) k e).1)
+  pub arrives_at : (k : ℕ) (e : List ℕ × StopRow) → k < length (stop_times_of c) → rule.arrival_in (written_beside others c) (k + 2) ≡ option_map pos (comes (get_or (stop_times_of c) k e).1)
   arrives_at k e within =
       let r = (get_or (stop_times_of c) k e).1 in
       if_clear _ _ _ (readable_at k e within (option_map number r.arrival_time) "arrival_time" refl refl refl) (readable_at k e within (option_map number r.departure_time) "departure_time" refl refl refl)
       ∙ (λ i. option_or (arrival_at k e within i) (departure_at k e within i))
       ∙ or_numbers r.arrival_time r.departure_time
 
-  pub departs_at : (k : ℕ) (e : List ℕ × StopRow) → k < length (stop_times_of c) → rule.departure_in (written c) (k + 2) ≡ option_map pos (leaves (get_or (stop_times_of c) k e).1)
+  pub departs_at : (k : ℕ) (e : List ℕ × StopRow) → k < length (stop_times_of c) → rule.departure_in (written_beside others c) (k + 2) ≡ option_map pos (leaves (get_or (stop_times_of c) k e).1)
   departs_at k e within =
       let r = (get_or (stop_times_of c) k e).1 in
       if_clear _ _ _ (readable_at k e within (option_map number r.departure_time) "departure_time" refl refl refl) (readable_at k e within (option_map number r.arrival_time) "arrival_time" refl refl refl)
       ∙ (λ i. option_or (departure_at k e within i) (arrival_at k e within i))
       ∙ or_numbers r.departure_time r.arrival_time
 
-  pub sequence_at : (k : ℕ) (e : List ℕ × StopRow) → k < length (stop_times_of c) → rule.sequence_in (written c) (k + 2) ≡ Some (pos (get_or (stop_times_of c) k e).1.stop_sequence)
+  pub sequence_at : (k : ℕ) (e : List ℕ × StopRow) → k < length (stop_times_of c) → rule.sequence_in (written_beside others c) (k + 2) ≡ Some (pos (get_or (stop_times_of c) k e).1.stop_sequence)
   sequence_at k e within =
-      amounts_at c file.StopTimes (stop_times_of c) stop_time_cells refl (sound.cells file.StopTimes) k e within "stop_sequence" refl (Some (get_or (stop_times_of c) k e).1.stop_sequence) refl
+      amounts_at others c file.StopTimes (stop_times_of c) stop_time_cells refl (sound.cells file.StopTimes) k e within "stop_sequence" refl (Some (get_or (stop_times_of c) k e).1.stop_sequence) refl
 
-  pub trip_at : (k : ℕ) (e : List ℕ × StopRow) → k < length (stop_times_of c) → word_in (written c) file.StopTimes (k + 2) "trip_id" ≡ Some (get_or (stop_times_of c) k e).0
-  trip_at k e within = word_at c file.StopTimes (stop_times_of c) stop_time_cells refl (sound.cells file.StopTimes) k e within "trip_id" refl (Some (get_or (stop_times_of c) k e).0) refl
+  pub trip_at : (k : ℕ) (e : List ℕ × StopRow) → k < length (stop_times_of c) → word_in (written_beside others c) file.StopTimes (k + 2) "trip_id" ≡ Some (get_or (stop_times_of c) k e).0
+  trip_at k e within = word_at others c file.StopTimes (stop_times_of c) stop_time_cells refl (sound.cells file.StopTimes) k e within "trip_id" refl (Some (get_or (stop_times_of c) k e).0) refl
 
   -- a row is one of a trip's
   abbrev pub keeps : List ℕ → ℕ → Bool
-  keeps q m = rule.is_row_of (written c) q m && is_some (rule.sequence_in (written c) m)
+  keeps q m = rule.is_row_of (written_beside others c) q m && is_some (rule.sequence_in (written_beside others c) m)
 
   pub kept_at : (q : List ℕ) (k : ℕ) (e : List ℕ × StopRow) → k < length (stop_times_of c) → keeps q (k + 2) ≡ bytes_eq q (get_or (stop_times_of c) k e).0
   kept_at q k e within =
       (λ i. is_word (trip_at k e within i) q && is_some (sequence_at k e within i)) ∙ and_yes (bytes_eq q (get_or (stop_times_of c) k e).0)
 
   pub less_at : (j k : ℕ) (d e : List ℕ × StopRow) → j < length (stop_times_of c) → k < length (stop_times_of c)
-      → rule.is_less (written c) (j + 2) (k + 2) ≡ nat_lt (get_or (stop_times_of c) j d).1.stop_sequence (get_or (stop_times_of c) k e).1.stop_sequence
+      → rule.is_less (written_beside others c) (j + 2) (k + 2) ≡ nat_lt (get_or (stop_times_of c) j d).1.stop_sequence (get_or (stop_times_of c) k e).1.stop_sequence
   less_at j k d e first second = λ i. if_both (sequence_at j d first i) (sequence_at k e second i) int_lt
 
   -- a test of the rows of a trip
   any_of_trip : (f : ℕ → Bool) (F : StopRow → Bool) (k : ℕ) (e : List ℕ × StopRow) (within : k < length (stop_times_of c))
       → ((j : ℕ) (d : List ℕ × StopRow) → j < length (stop_times_of c) → f (j + 2) ≡ F (get_or (stop_times_of c) j d).1)
-      → list_any f (rule.rows_of_trip (written c) (get_or (stop_times_of c) k e).0) ≡ list_any F (get_or c.trips (stop_time k e within).place (stop_time k e within).none).stop_rows
+      → list_any f (rule.rows_of_trip (written_beside others c) (get_or (stop_times_of c) k e).0) ≡ list_any F (get_or c.trips (stop_time k e within).place (stop_time k e within).none).stop_rows
   any_of_trip f F k e within same =
       let q = (get_or (stop_times_of c) k e).0 in
       let s = stop_time k e within in
-      ap (λ ns. list_any f (filter (keeps q) ns)) (rows_are c file.StopTimes (stop_times_of c) stop_time_cells refl (sound.cells file.StopTimes))
+      ap (λ ns. list_any f (filter (keeps q) ns)) (rows_are others c file.StopTimes (stop_times_of c) stop_time_cells refl (sound.cells file.StopTimes))
       ∙ any_filter_range (keeps q) (λ p. bytes_eq q p.0) f (λ p. F p.1) 2 (stop_times_of c) (record { at = kept_at q }) (record { at = same })
       ∙ sym (any_of_mapped (λ p. p.1) F (filter (λ p. bytes_eq q p.0) (stop_times_of c)))
       ∙ ap (list_any F) (ap (λ t. map (λ p. p.1) (filter (λ p. bytes_eq t p.0) (stop_times_of c))) s.named ∙ held_at (λ t. t.trip_id) (λ t. t.stop_rows) c.trips s.place s.none s.within sound.in_order.trips)
 
   -- ---- E15
 
-  no_end_untimed : (k : ℕ) (e : List ℕ × StopRow) → k < length (stop_times_of c) → rule.is_end_untimed (written c) (k + 2) ≡ false
+  no_end_untimed : (k : ℕ) (e : List ℕ × StopRow) → k < length (stop_times_of c) → rule.is_end_untimed (written_beside others c) (k + 2) ≡ false
   no_end_untimed k e within =
       let p = get_or (stop_times_of c) k e in
       let r = p.1 in
       let s = stop_time k e within in
       let rs = (get_or c.trips s.place s.none).stop_rows in
       let n = k + 2 in
-      let arrival = is_empty_in (written c) file.StopTimes n "arrival_time" in
-      let departure = is_empty_in (written c) file.StopTimes n "departure_time" in
-      let some = is_some (rule.sequence_in (written c) n) in
-      let end : Bool = if_there (word_in (written c) file.StopTimes n "trip_id") (λ trip. rule.is_first_row (written c) trip n || rule.is_last_row (written c) trip n) in
+      let arrival = is_empty_in (written_beside others c) file.StopTimes n "arrival_time" in
+      let departure = is_empty_in (written_beside others c) file.StopTimes n "departure_time" in
+      let some = is_some (rule.sequence_in (written_beside others c) n) in
+      let end : Bool = if_there (word_in (written_beside others c) file.StopTimes n "trip_id") (λ trip. rule.is_first_row (written_beside others c) trip n || rule.is_last_row (written_beside others c) trip n) in
       let outer = and_parts (is_sound_stop_row c r && (is_some (leaves r) || not (is_end rs r))) (list_all (keeps_time r) rs) s.fine in
       let inner = and_parts (is_sound_stop_row c r) (is_some (leaves r) || not (is_end rs r)) outer.0 in
       elim (or_cases (is_some (leaves r)) (not (is_end rs r)) inner.1) [
         | inl timed ↦
             let none : (arrival && departure) ≡ false =
-            (λ i. empty_at c file.StopTimes (stop_times_of c) stop_time_cells refl (sound.cells file.StopTimes) k e within "arrival_time" refl (option_map number r.arrival_time) refl refl i
-            && empty_at c file.StopTimes (stop_times_of c) stop_time_cells refl (sound.cells file.StopTimes) k e within "departure_time" refl (option_map number r.departure_time) refl refl i)
+            (λ i. empty_at others c file.StopTimes (stop_times_of c) stop_time_cells refl (sound.cells file.StopTimes) k e within "arrival_time" refl (option_map number r.arrival_time) refl refl i
+            && empty_at others c file.StopTimes (stop_times_of c) stop_time_cells refl (sound.cells file.StopTimes) k e within "departure_time" refl (option_map number r.departure_time) refl refl i)
             ∙ timed_cells r.arrival_time r.departure_time timed in
             and_left (arrival && departure && some) end (and_left (arrival && departure) some none)
         | inr inside ↦
             let ends = or_parts (list_all (λ t. nat_le r.stop_sequence t.stop_sequence) rs) (list_all (λ t. nat_le t.stop_sequence r.stop_sequence) rs) (not-true (is_end rs r) inside) in
-            let before : list_any (λ m. rule.is_less (written c) m n) (rule.rows_of_trip (written c) p.0) ≡ true =
-            any_of_trip (λ m. rule.is_less (written c) m n) (λ t. nat_lt t.stop_sequence r.stop_sequence) k e within (λ j d h. less_at j k d e h within)
+            let before : list_any (λ m. rule.is_less (written_beside others c) m n) (rule.rows_of_trip (written_beside others c) p.0) ≡ true =
+            any_of_trip (λ m. rule.is_less (written_beside others c) m n) (λ t. nat_lt t.stop_sequence r.stop_sequence) k e within (λ j d h. less_at j k d e h within)
             ∙ some_not (λ t. nat_le r.stop_sequence t.stop_sequence) (λ t. nat_lt t.stop_sequence r.stop_sequence) rs (λ t h. above r.stop_sequence t.stop_sequence h) ends.0 in
-            let after : list_any (λ m. rule.is_less (written c) n m) (rule.rows_of_trip (written c) p.0) ≡ true =
-            any_of_trip (λ m. rule.is_less (written c) n m) (λ t. nat_lt r.stop_sequence t.stop_sequence) k e within (λ j d h. less_at k j e d within h)
+            let after : list_any (λ m. rule.is_less (written_beside others c) n m) (rule.rows_of_trip (written_beside others c) p.0) ≡ true =
+            any_of_trip (λ m. rule.is_less (written_beside others c) n m) (λ t. nat_lt r.stop_sequence t.stop_sequence) k e within (λ j d h. less_at k j e d within h)
             ∙ some_not (λ t. nat_le t.stop_sequence r.stop_sequence) (λ t. nat_lt r.stop_sequence t.stop_sequence) rs (λ t h. above t.stop_sequence r.stop_sequence h) ends.1 in
-            let first : rule.is_first_row (written c) p.0 n ≡ false =
-            not_from_true (list_any (λ m. rule.stands_before (written c) m n) (rule.rows_of_trip (written c) p.0))
-            (any_follows (λ m. rule.is_less (written c) m n) (λ m. rule.stands_before (written c) m n) (rule.rows_of_trip (written c) p.0) (λ m h. or_left (rule.is_less (written c) m n) (rule.is_earlier_equal (written c) m n) h) before) in
-            let last : rule.is_last_row (written c) p.0 n ≡ false =
-            not_from_true (list_any (λ m. rule.is_less (written c) n m || rule.is_earlier_equal (written c) m n) (rule.rows_of_trip (written c) p.0))
-            (any_follows (λ m. rule.is_less (written c) n m) (λ m. rule.is_less (written c) n m || rule.is_earlier_equal (written c) m n) (rule.rows_of_trip (written c) p.0) (λ m h. or_left (rule.is_less (written c) n m) (rule.is_earlier_equal (written c) m n) h) after) in
-            let none : end ≡ false = ap (λ o. if_there o (λ trip. rule.is_first_row (written c) trip n || rule.is_last_row (written c) trip n)) (trip_at k e within) ∙ or_from (rule.is_first_row (written c) p.0 n) (rule.is_last_row (written c) p.0 n) first last in
+            let first : rule.is_first_row (written_beside others c) p.0 n ≡ false =
+            not_from_true (list_any (λ m. rule.stands_before (written_beside others c) m n) (rule.rows_of_trip (written_beside others c) p.0))
+            (any_follows (λ m. rule.is_less (written_beside others c) m n) (λ m. rule.stands_before (written_beside others c) m n) (rule.rows_of_trip (written_beside others c) p.0) (λ m h. or_left (rule.is_less (written_beside others c) m n) (rule.is_earlier_equal (written_beside others c) m n) h) before) in
+            let last : rule.is_last_row (written_beside others c) p.0 n ≡ false =
+            not_from_true (list_any (λ m. rule.is_less (written_beside others c) n m || rule.is_earlier_equal (written_beside others c) m n) (rule.rows_of_trip (written_beside others c) p.0))
+            (any_follows (λ m. rule.is_less (written_beside others c) n m) (λ m. rule.is_less (written_beside others c) n m || rule.is_earlier_equal (written_beside others c) m n) (rule.rows_of_trip (written_beside others c) p.0) (λ m h. or_left (rule.is_less (written_beside others c) n m) (rule.is_earlier_equal (written_beside others c) m n) h) after) in
+            let none : end ≡ false = ap (λ o. if_there o (λ trip. rule.is_first_row (written_beside others c) trip n || rule.is_last_row (written_beside others c) trip n)) (trip_at k e within) ∙ or_from (rule.is_first_row (written_beside others c) p.0 n) (rule.is_last_row (written_beside others c) p.0 n) first last in
             and_right (arrival && departure && some) end none
       ]
 
-  pub no_untimed_end : (y : File) (n : ℕ) (name : List ℕ) → rule.end_untimed (written c) y n name ≡ false
-  no_untimed_end = no_told c file.StopTimes (stop_times_of c) stop_time_cells refl (sound.cells file.StopTimes) "arrival_time" rule.is_end_untimed no_end_untimed
+  pub no_untimed_end : (y : File) (n : ℕ) (name : List ℕ) → rule.end_untimed (written_beside others c) y n name ≡ false
+  no_untimed_end = no_told others c file.StopTimes (stop_times_of c) stop_time_cells refl (sound.cells file.StopTimes) "arrival_time" rule.is_end_untimed no_end_untimed

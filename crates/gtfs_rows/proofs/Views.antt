@@ -16,7 +16,7 @@ use Rattle.gtfs_rows.specs.Content.{Content}
 use Rattle.gtfs_rows.specs.Named.{cell_named, text_named}
 use Rattle.gtfs_rows.specs.Reading.{text_at, number_in, number_at}
 use Rattle.gtfs_rows.specs.RowCells.{cells_in, number}
-use Rattle.gtfs_rows.specs.Written.{written}
+use Rattle.gtfs_rows.specs.Written.{written_beside}
 use Rattle.gtfs_rows.proofs.FileRows.{rows_written, row_place, cell_found}
 use Rattle.gtfs_rows.proofs.RowTexts.{all_at, value_written, text_written}
 use Rattle.gtfs_rows.proofs.CellTexts.{writes_value}
@@ -62,13 +62,13 @@ choice_from d x n column v there = ap (option_and_then as_amount) (same_meaning 
 
 -- ---- a file of a content
 
-module _ {X : Type 0} (c : Content) (x : File) (xs : List X) (cells : X → List Cell) (are : cells_in c x ≡ map cells xs)
+module _ {X : Type 0} (others : List (List ℕ)) (c : Content) (x : File) (xs : List X) (cells : X → List Cell) (are : cells_in c x ≡ map cells xs)
     (sound : list_all (are_cells (columns_of x)) (cells_in c x) ≡ true) where
   pub count_is : length (cells_in c x) ≡ length xs
   count_is = ap length are ∙ length-map xs cells
 
-  pub rows_are : rows (written c) x ≡ range_with_len 2 (length xs)
-  rows_are = rows_written (cells_in c) x sound ∙ ap (range_with_len 2) count_is
+  pub rows_are : rows (written_beside others c) x ≡ range_with_len 2 (length xs)
+  rows_are = rows_written others (cells_in c) x sound ∙ ap (range_with_len 2) count_is
 
   module _ (k : ℕ) (e : X) (within : k < length xs) where
     cells_at : get_or (cells_in c x) k [] ≡ cells (get_or xs k e)
@@ -77,55 +77,55 @@ module _ {X : Type 0} (c : Content) (x : File) (xs : List X) (cells : X → List
     inside : k < length (cells_in c x)
     inside = subst (λ n. k < n) (sym count_is) within
 
-    cells_ok : are_cells (columns_of x) (cells (get_or xs k e)) ≡ true
+    pub cells_ok : are_cells (columns_of x) (cells (get_or xs k e)) ≡ true
     cells_ok = ap (are_cells (columns_of x)) (sym cells_at) ∙ all_at (are_cells (columns_of x)) (cells_in c x) k [] sound inside
 
     -- the value and the text of a column
-    pub value_at : (name : List ℕ) → is_empty name ≡ false → value_in (written c) x (k + 2) name ≡ cell_named (columns_of x) (cells (get_or xs k e)) name
-    value_at name filled = value_written (cells_in c) x sound k [] name inside filled ∙ ap (λ vs. cell_named (columns_of x) vs name) cells_at
+    pub value_at : (name : List ℕ) → is_empty name ≡ false → value_in (written_beside others c) x (k + 2) name ≡ cell_named (columns_of x) (cells (get_or xs k e)) name
+    value_at name filled = value_written others (cells_in c) x sound k [] name inside filled ∙ ap (λ vs. cell_named (columns_of x) vs name) cells_at
 
-    pub text_at' : (name : List ℕ) → is_empty name ≡ false → text_in (written c) x (k + 2) name ≡ text_named (columns_of x) (cells (get_or xs k e)) name
-    text_at' name filled = text_written (cells_in c) x sound k [] name inside filled ∙ ap (λ vs. text_named (columns_of x) vs name) cells_at
+    pub text_at' : (name : List ℕ) → is_empty name ≡ false → text_in (written_beside others c) x (k + 2) name ≡ text_named (columns_of x) (cells (get_or xs k e)) name
+    text_at' name filled = text_written others (cells_in c) x sound k [] name inside filled ∙ ap (λ vs. text_named (columns_of x) vs name) cells_at
 
     module _ (column : Literal) (filled : is_empty (codes column) ≡ false) where
-      pub word_at : (o : Option (List ℕ)) → cell_named (columns_of x) (cells (get_or xs k e)) (codes column) ≡ option_map word o → word_in (written c) x (k + 2) column ≡ o
+      pub word_at : (o : Option (List ℕ)) → cell_named (columns_of x) (cells (get_or xs k e)) (codes column) ≡ option_map word o → word_in (written_beside others c) x (k + 2) column ≡ o
       word_at o is = ap (option_and_then as_word) (value_at (codes column) filled ∙ is) ∙ word_back o
 
-      pub amount_at : (o : Option ℤ) → cell_named (columns_of x) (cells (get_or xs k e)) (codes column) ≡ option_map amount o → amount_in (written c) x (k + 2) column ≡ o
+      pub amount_at : (o : Option ℤ) → cell_named (columns_of x) (cells (get_or xs k e)) (codes column) ≡ option_map amount o → amount_in (written_beside others c) x (k + 2) column ≡ o
       amount_at o is = ap (option_and_then as_amount) (value_at (codes column) filled ∙ is) ∙ amount_back o
 
-      pub number_in_at : (o : Option ℕ) → cell_named (columns_of x) (cells (get_or xs k e)) (codes column) ≡ option_map number o → number_in (written c) x (k + 2) column ≡ o
+      pub number_in_at : (o : Option ℕ) → cell_named (columns_of x) (cells (get_or xs k e)) (codes column) ≡ option_map number o → number_in (written_beside others c) x (k + 2) column ≡ o
       number_in_at o is = ap (λ v. option_map unsigned_abs (option_and_then as_amount v)) (value_at (codes column) filled ∙ is) ∙ number_back o
 
-      pub given_at : (t : List ℕ) → cell_named (columns_of x) (cells (get_or xs k e)) (codes column) ≡ Some (word t) → text_at (written c) x (k + 2) column ≡ t
+      pub given_at : (t : List ℕ) → cell_named (columns_of x) (cells (get_or xs k e)) (codes column) ≡ Some (word t) → text_at (written_beside others c) x (k + 2) column ≡ t
       given_at t is = ap (λ v. unwrap_or (option_and_then as_word v) []) (value_at (codes column) filled ∙ is)
 
-      pub choice_at : (n : ℕ) → cell_named (columns_of x) (cells (get_or xs k e)) (codes column) ≡ Some (number n) → number_at (written c) x (k + 2) column ≡ n
-      choice_at n is = ap (λ o. unsigned_abs (unwrap_or o (pos 0))) (choice_from (written c) x (k + 2) column (number n) (value_at (codes column) filled ∙ is))
+      pub choice_at : (n : ℕ) → cell_named (columns_of x) (cells (get_or xs k e)) (codes column) ≡ Some (number n) → number_at (written_beside others c) x (k + 2) column ≡ n
+      choice_at n is = ap (λ o. unsigned_abs (unwrap_or o (pos 0))) (choice_from (written_beside others c) x (k + 2) column (number n) (value_at (codes column) filled ∙ is))
 
-      pub amounts_at : (o : Option ℕ) → cell_named (columns_of x) (cells (get_or xs k e)) (codes column) ≡ option_map number o → amount_in (written c) x (k + 2) column ≡ option_map pos o
+      pub amounts_at : (o : Option ℕ) → cell_named (columns_of x) (cells (get_or xs k e)) (codes column) ≡ option_map number o → amount_in (written_beside others c) x (k + 2) column ≡ option_map pos o
       amounts_at o is = ap (option_and_then as_amount) (value_at (codes column) filled ∙ is) ∙ amounts_back o
 
       -- a column is empty just where the row has no value in it
-      pub empty_at : (v : Cell) → cell_named (columns_of x) (cells (get_or xs k e)) (codes column) ≡ v → is_some (column_named x (codes column)) ≡ true → is_empty_in (written c) x (k + 2) column ≡ is_none v
+      pub empty_at : (v : Cell) → cell_named (columns_of x) (cells (get_or xs k e)) (codes column) ≡ v → is_some (column_named x (codes column)) ≡ true → is_empty_in (written_beside others c) x (k + 2) column ≡ is_none v
       empty_at v is kept = empty_from (column_named x (codes column)) refl kept
         where
-          empty_from : (o : Option Column) → column_named x (codes column) ≡ o → is_some o ≡ true → is_empty_in (written c) x (k + 2) column ≡ is_none v
+          empty_from : (o : Option Column) → column_named x (codes column) ≡ o → is_some o ≡ true → is_empty_in (written_beside others c) x (k + 2) column ≡ is_none v
           empty_from None same there = cc
           empty_from (Some col) same there =
               let has = cell_found (columns_of x) (cells (get_or xs k e)) col (codes column) cells_ok same in
               ap is_empty (text_at' (codes column) filled ∙ has.text) ∙ none_from col has.cell has.is ∙ ap is_none (sym (has.named) ∙ is)
 
   -- a rule that holds of no row is told of none
-  pub no_told : (column : Literal) (rule : Rule) → ((k : ℕ) (e : X) → k < length xs → rule (written c) (k + 2) ≡ false) → (y : File) (n : ℕ) (name : List ℕ) → reported_at x column rule (written c) y n name ≡ false
+  pub no_told : (column : Literal) (rule : Rule) → ((k : ℕ) (e : X) → k < length xs → rule (written_beside others c) (k + 2) ≡ false) → (y : File) (n : ℕ) (name : List ℕ) → reported_at x column rule (written_beside others c) y n name ≡ false
   no_told column rule never y n name =
       let at = is_file y x && bytes_eq name (codes column) in
-      elim (cases_Bool (is_row (records_in (written c) x) n)) [
-        | inr outside ↦ and_left (at && is_row (records_in (written c) x) n) (rule (written c) n) (and_right at (is_row (records_in (written c) x) n) outside)
+      elim (cases_Bool (is_row (records_in (written_beside others c) x) n)) [
+        | inr outside ↦ and_left (at && is_row (records_in (written_beside others c) x) n) (rule (written_beside others c) n) (and_right at (is_row (records_in (written_beside others c) x) n) outside)
         | inl row ↦
-            let place = row_place (cells_in c) x sound n row in
+            let place = row_place others (cells_in c) x sound n row in
             let within : place.place < length xs = subst (λ m. place.place < m) count_is place.within in
-            and_right (at && is_row (records_in (written c) x) n) (rule (written c) n) (ap (rule (written c)) place.is ∙ at_some xs within (λ e. never place.place e within))
+            and_right (at && is_row (records_in (written_beside others c) x) n) (rule (written_beside others c) n) (ap (rule (written_beside others c)) place.is ∙ at_some xs within (λ e. never place.place e within))
       ]
     where
       -- there is an element where there is a place

@@ -10,4 +10,5 @@ pub mod RowCells
 pub mod Rows
 pub mod Sound
 pub mod Written
+pub mod WrittenForm
 pub mod Views

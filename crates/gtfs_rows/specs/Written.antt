@@ -1,6 +1,6 @@
 -- The written form of a content: nine tables, each with the header of its kept columns and a row of canonical texts for each row.
 -- GTFS Schedule Reference, the fields of each file.
-use Rattle.std.specs.Prelude.{List, [], ◌∷◌, map}
+use Rattle.std.specs.Prelude.{ℕ, List, [], ◌∷◌, map}
 use Rattle.gtfs_table.specs.Tables.{Records, Table, Dataset, of_records}
 use Rattle.gtfs_table.specs.declared.file.File.{File}
 use Rattle.gtfs_table.specs.declared.file.File.TheVariants as file
@@ -16,9 +16,9 @@ records_of_cells x rows = map (λ c. c.name) (columns_of x) ∷ map (record_text
 abbrev pub table_of_cells : File → List (List Cell) → Table
 table_of_cells x rows = of_records (records_of_cells x rows)
 
--- the tables of cells for each file, and no other name
-abbrev pub dataset_of_cells : (File → List (List Cell)) → Dataset
-dataset_of_cells cells = record {
+-- the tables of cells for each file, in a folder that holds other names, too
+abbrev pub dataset_of_cells : List (List ℕ) → (File → List (List Cell)) → Dataset
+dataset_of_cells others cells = record {
   agency = table_of_cells file.Agency (cells file.Agency);
   stops = table_of_cells file.Stops (cells file.Stops);
   routes = table_of_cells file.Routes (cells file.Routes);
@@ -28,8 +28,13 @@ dataset_of_cells cells = record {
   calendar_dates = table_of_cells file.CalendarDates (cells file.CalendarDates);
   frequencies = table_of_cells file.Frequencies (cells file.Frequencies);
   transfers = table_of_cells file.Transfers (cells file.Transfers);
-  others = [];
+  others = others;
 }
 
+-- the written form of a content in a folder that holds other names, too
+abbrev pub written_beside : List (List ℕ) → Content → Dataset
+written_beside others c = dataset_of_cells others (cells_in c)
+
+-- the written form of a content: the nine files, and no other name
 abbrev pub written : Content → Dataset
-written c = dataset_of_cells (cells_in c)
+written c = written_beside [] c
