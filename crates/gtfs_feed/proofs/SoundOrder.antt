@@ -15,12 +15,7 @@ use Rattle.gtfs_rows.specs.declared.trip.Trip.{Trip}
 use Rattle.gtfs_rows.specs.Order.{Ascends}
 use Rattle.gtfs_rows.specs.Views.{IsSoundParts, content_of_parts, agency_of, stop_of, route_of, service_of, trips_of}
 use Rattle.gtfs_rows.proofs.SameElements.{pairs-map}
-
-pairs-from_map : {A X : Type 0} (f : A → X) (R : X → X → Type 0) (xs : List A) → AllPairs R (map f xs) → AllPairs (λ x y. R (f x) (f y)) xs
-pairs-from_map f R xs up i j d before within =
-    let first = get_or-map f xs i d (f d) (omega arith) in
-    let second = get_or-map f xs j d (f d) within in
-    subst (λ x. R x (f (get_or xs j d))) first (subst (λ y. R (get_or (map f xs) i (f d)) y) second (up i j (f d) before (omega (arith, length-map xs f))))
+use Rattle.gtfs_feed.proofs.ListFacts.{pairs-from_map}
 
 -- rows with the same ids are in the same order
 same_order : {X Y : Type 0} (f : X → List ℕ) (g : Y → List ℕ) (xs : List X) (ys : List Y) → map f xs ≡ map g ys → Ascends (on f text_cmp) xs → Ascends (on g text_cmp) ys

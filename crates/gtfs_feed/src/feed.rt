@@ -1,6 +1,6 @@
 ghost use Rattle.std.specs.Prelude.{◌≡◌, ◌<◌, [], IfOk, Some, length, position, option_map, bytes_eq, slice_get, slice_index_or};
-ghost use Rattle.gtfs_table.specs.Parts.{parts};
 ghost use Rattle.gtfs_rows.specs.Views.{IsSoundParts, agency_ids, stop_ids, route_ids, service_ids, trip_ids};
+ghost use Rattle.gtfs_feed.specs.Trips.{stop_rows_by_trip, frequencies_by_trip};
 
 use crate::ids::Ids;
 use crate::stretches::stretch;
@@ -77,6 +77,14 @@ impl Feed {
             services,
             trips,
         })
+    }
+
+    /// All rows, as [`Feed::assemble`] took them.
+    pub fn parts(&self) -> &Parts
+        ensures value { result.now ≡ self.now }
+        ensures sound { IsSoundParts self.now }
+    {
+        &self.parts
     }
 
     /// The number of an agency by its id, and None exactly where the feed has no such agency.
@@ -216,7 +224,7 @@ impl Feed {
     /// The stop times of the trip of a number, which is below [`Feed::trip_count`], by their sequence.
     pub fn trip_rows(&self, trip: TripNo) -> &[StopRow]
         requires { trip.0 < length self.now.trips }
-        ensures { slice_get (parts self.now.stop_row_starts self.now.stop_rows) trip.0 ≡ Some result.now }
+        ensures { slice_get (stop_rows_by_trip self.now) trip.0 ≡ Some result.now }
     {
         let rows = self.parts.stop_rows.as_slice();
         stretch(rows, self.parts.stop_row_starts.as_slice(), trip.0)
@@ -225,7 +233,7 @@ impl Feed {
     /// The frequencies of the trip of a number, which is below [`Feed::trip_count`], by their start.
     pub fn trip_frequencies(&self, trip: TripNo) -> &[Frequency]
         requires { trip.0 < length self.now.trips }
-        ensures { slice_get (parts self.now.frequency_starts self.now.frequencies) trip.0 ≡ Some result.now }
+        ensures { slice_get (frequencies_by_trip self.now) trip.0 ≡ Some result.now }
     {
         let rows = self.parts.frequencies.as_slice();
         stretch(rows, self.parts.frequency_starts.as_slice(), trip.0)
