@@ -1,10 +1,10 @@
 -- What the rows of sound parts are: the numbers that they name, their ids, zones and days.
-use Rattle.std.proofs.Common.{◌≡◌, ◌+◌, ◌<◌, ◌∙◌, ℕ, zero, suc, List, [], ◌∷◌, length, map, get_or, Bool, true, false, Option, Some, None, cond, refl, sym, ap, arith}
-use Rattle.std.specs.Prelude.{◌==◌, ◌&&◌, ◌||◌, not, bytes_eq, nat_lt, int_le, option_map, IfSome, is_some}
+use Rattle.std.proofs.Common.{◌≡◌, ◌+◌, ◌<◌, ◌∙◌, ℕ, zero, suc, List, [], ◌∷◌, length, map, true, Option, Some, None, refl, sym, ap, arith}
+use Rattle.std.specs.Prelude.{◌==◌, ◌||◌, not, bytes_eq, nat_lt, int_le, option_map, IfSome, is_some}
 use Rattle.std.specs.List.{list_all, slice_get, position, position_or_len}
 use Rattle.std.specs.Ordering.{on}
 use Rattle.std.specs.declared.cmp.Ordering.TheVariants.{Less}
-use Rattle.std.proofs.lemmas.Bool.{and_parts, or_cases, not-true, ltb-true, lt-ltb, eqb-false}
+use Rattle.std.proofs.lemmas.Bool.{and_parts, not-true, ltb-true, lt-ltb, eqb-false}
 use Rattle.std.proofs.lemmas.List.{length-map}
 use Rattle.std.proofs.lemmas.List.Folds.{list_all-map}
 use Rattle.std.proofs.lemmas.Option.{get_or_from_slice_get, slice_get_within}
@@ -16,11 +16,10 @@ use Rattle.gtfs_rows.specs.declared.parts.Parts.{Parts}
 use Rattle.gtfs_rows.specs.declared.route.Route.{Route}
 use Rattle.gtfs_rows.specs.declared.service.ServiceRow.{ServiceRow}
 use Rattle.gtfs_rows.specs.declared.stop.Stop.{Stop}
-use Rattle.gtfs_rows.specs.declared.transfer.Transfer.{Transfer}
 use Rattle.gtfs_rows.specs.declared.trip.Trip.{Trip}
 use Rattle.gtfs_rows.specs.Order.{Ascends}
 use Rattle.gtfs_rows.specs.Sound.{if_given, is_sound_agency, is_sound_service, is_sound_week}
-use Rattle.gtfs_rows.specs.Views.{IsSoundParts, content_of_parts, agency_of, service_of, names_stop, names_route, names_trip, trip_names_rows, transfer_names_rows}
+use Rattle.gtfs_rows.specs.Views.{IsSoundParts, content_of_parts, agency_of, service_of, names_stop, trip_names_rows}
 use Rattle.gtfs_rows.proofs.Held.{apart_turned}
 use Rattle.gtfs_rows.proofs.SameElements.{pairs-head, pairs-tail}
 use Rattle.gtfs_feed.proofs.ListFacts.{all_of}

@@ -1,9 +1,8 @@
 -- Parts whose content is in order have their rows in order.
-use Rattle.std.proofs.Common.{◌≡◌, ◌∙◌, ℕ, List, [], ◌∷◌, length, map, get_or, refl, ap, subst, arith}
+use Rattle.std.proofs.Common.{◌≡◌, ◌∙◌, ℕ, List, [], ◌∷◌, length, map, refl, ap, subst, arith}
 use Rattle.std.specs.List.{AllPairs}
 use Rattle.std.specs.Ordering.{on}
 use Rattle.std.specs.declared.cmp.Ordering.TheVariants.{Less}
-use Rattle.std.proofs.lemmas.List.{get_or-map, length-map}
 use Rattle.std.proofs.lemmas.Simd.{map-map}
 use Rattle.gtfs_table.specs.Folder.{text_cmp}
 use Rattle.gtfs_table.specs.Parts.{parts}

@@ -1,10 +1,10 @@
 -- What the stop times and the frequencies of a trip are in sound parts.
-use Rattle.std.proofs.Common.{◌≡◌, ◌+◌, ◌-◌, ◌<◌, ◌≤◌, ◌∙◌, ℕ, List, [], ◌∷◌, length, map, get_or, Bool, true, false, Option, Some, None, sym, ap, subst, arith, inl, inr}
-use Rattle.std.specs.Prelude.{◌==◌, ◌&&◌, ◌||◌, not, nat_lt, nat_le, All, AllPairs, IfSome, is_some, pos}
+use Rattle.std.proofs.Common.{◌≡◌, ◌-◌, ◌<◌, ◌≤◌, ◌∙◌, ℕ, List, [], ◌∷◌, length, map, get_or, true, false, Option, Some, None, sym, ap, subst, arith, inl, inr}
+use Rattle.std.specs.Prelude.{◌==◌, ◌&&◌, ◌||◌, not, nat_lt, nat_le, AllPairs, IfSome, is_some, pos}
 use Rattle.std.specs.List.{list_all, slice_get}
 use Rattle.std.specs.Ordering.{nat_cmp, on}
 use Rattle.std.specs.declared.cmp.Ordering.TheVariants.{Less}
-use Rattle.std.proofs.lemmas.Bool.{and_parts, or_cases, or_left, or_right, cases_Bool, both_ways, not-true, not_from_true, ltb-true, ltb-false, lt-ltb, le-ltb, le-leb, eqb-true}
+use Rattle.std.proofs.lemmas.Bool.{and_parts, or_cases, or_left, or_right, cases_Bool, both_ways, not-true, ltb-true, ltb-false, lt-ltb, le-ltb, le-leb, eqb-true}
 use Rattle.std.proofs.lemmas.List.{get_or-map, length-map}
 use Rattle.std.proofs.lemmas.List.Folds.{list_all-map}
 use Rattle.std.proofs.lemmas.Option.{get_or_from_slice_get, slice_get-get_or, slice_get_within}
@@ -77,9 +77,10 @@ module _ (p : Parts) (sound : IsSoundParts p) where
         let c = content_of_parts p in
         let u = trip_of p row rs fs in
         let is = get_or_from_slice_get c.trips t u u there in
-        let within = slice_get_within c.trips t u there in
-        (subst (λ v. Ascends (on (λ r. r.stop_sequence) nat_cmp) v.stop_rows) is (sound.content.in_order.stop_rows t u within),
-        subst (λ v. Ascends (on (λ f. f.start_time) nat_cmp) v.frequencies) is (sound.content.in_order.frequencies t u within))
+        let within = slice_get_within c.trips t u there in (
+          subst (λ v. Ascends (on (λ r. r.stop_sequence) nat_cmp) v.stop_rows) is (sound.content.in_order.stop_rows t u within),
+          subst (λ v. Ascends (on (λ f. f.start_time) nat_cmp) v.frequencies) is (sound.content.in_order.frequencies t u within),
+        )
 
     -- ---- stop times
 
@@ -189,8 +190,14 @@ module _ (p : Parts) (sound : IsSoundParts p) where
 
   pub stop_times : (t : ℕ) (rs : List StopRow) → slice_get (stop_rows_by_trip p) t ≡ Some rs → AreStopTimes p rs
   stop_times t rs at_rows =
-      let within : t < length (frequencies_by_trip p) = omega (arith, slice_get_within (stop_rows_by_trip p) t rs at_rows, length-parts p.stop_row_starts p.stop_rows, sound.stop_rows.0,
-      length-parts p.frequency_starts p.frequencies, sound.frequencies.0) in
+      let within : t < length (frequencies_by_trip p) = omega (
+        arith,
+        slice_get_within (stop_rows_by_trip p) t rs at_rows,
+        length-parts p.stop_row_starts p.stop_rows,
+        sound.stop_rows.0,
+        length-parts p.frequency_starts p.frequencies,
+        sound.frequencies.0,
+      ) in
       let fs = get_or (frequencies_by_trip p) t [] in
       let u = trip t rs fs at_rows (slice_get-get_or (frequencies_by_trip p) t [] within) in
       let named = all_in_part (stop_time_names_rows p) p.stop_row_starts p.stop_rows t rs sound.names_rows.stop_rows at_rows in
@@ -208,8 +215,14 @@ module _ (p : Parts) (sound : IsSoundParts p) where
 
   pub periods : (t : ℕ) (fs : List Frequency) → slice_get (frequencies_by_trip p) t ≡ Some fs → ArePeriods fs
   periods t fs at_periods =
-      let within : t < length (stop_rows_by_trip p) = omega (arith, slice_get_within (frequencies_by_trip p) t fs at_periods, length-parts p.stop_row_starts p.stop_rows, sound.stop_rows.0,
-      length-parts p.frequency_starts p.frequencies, sound.frequencies.0) in
+      let within : t < length (stop_rows_by_trip p) = omega (
+        arith,
+        slice_get_within (frequencies_by_trip p) t fs at_periods,
+        length-parts p.stop_row_starts p.stop_rows,
+        sound.stop_rows.0,
+        length-parts p.frequency_starts p.frequencies,
+        sound.frequencies.0,
+      ) in
       let rs = get_or (stop_rows_by_trip p) t [] in
       let u = trip t rs fs (slice_get-get_or (stop_rows_by_trip p) t [] within) at_periods in
       record { filled = filled t rs fs u.row u.there; apart = apart t rs fs u.row u.there }
