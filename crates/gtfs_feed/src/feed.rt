@@ -1,14 +1,17 @@
-ghost use Rattle.std.specs.Prelude.{◌≡◌, ◌<◌, [], Some, length, position, option_map, bytes_eq, slice_get, slice_index_or};
-ghost use Rattle.gtfs_table.specs.Parts.{parts};
-ghost use Rattle.gtfs_rows.specs.Views.{agency_ids, stop_ids, route_ids, service_ids, trip_ids};
+ghost use Rattle.std.specs.Prelude.{◌≡◌, ◌<◌, [], IfOk, Some, length, position, option_map, bytes_eq, slice_get, slice_index_or};
+ghost use Rattle.gtfs_rows.specs.Views.{IsSoundParts, agency_ids, stop_ids, route_ids, service_ids, trip_ids};
+ghost use Rattle.gtfs_feed.specs.Trips.{stop_rows_by_trip, frequencies_by_trip};
 
 use crate::ids::Ids;
 use crate::stretches::stretch;
 use gtfs_days::Service;
+use gtfs_field::OutOfMemory;
 use gtfs_rows::{
     Agency, AgencyNo, Frequency, HeadsignNo, Parts, Route, RouteNo, ServiceNo, Stop, StopNo,
     StopRow, Transfer, Trip, TripNo,
 };
+use std::alloc::Global;
+use std::hash::RandomState;
 use std::marker::Model;
 
 /// The rows of a feed by number, and its ids by text. A feed is always sound: its lists are in the order of their keys,
@@ -54,6 +57,36 @@ impl Drop for Feed {
 }
 
 impl Feed {
+    /// The feed of these rows: ids get their numbers in the order of their bytes.
+    ///
+    /// Where memory is refused, the parts are let go. No answer of a feed depends on the random state.
+    pub fn assemble(alloc: Global, random: RandomState, parts: Parts) -> Result<Feed, OutOfMemory>
+        requires { IsSoundParts parts }
+        ensures { IfOk result (λ feed. feed ≡ parts) }
+    {
+        let agencies = Ids::of_rows(alloc, random, parts.agencies.as_slice())?;
+        let stops = Ids::of_rows(alloc, random, parts.stops.as_slice())?;
+        let routes = Ids::of_rows(alloc, random, parts.routes.as_slice())?;
+        let services = Ids::of_rows(alloc, random, parts.services.as_slice())?;
+        let trips = Ids::of_rows(alloc, random, parts.trips.as_slice())?;
+        Ok(Feed {
+            parts,
+            agencies,
+            stops,
+            routes,
+            services,
+            trips,
+        })
+    }
+
+    /// All rows, as [`Feed::assemble`] took them.
+    pub fn parts(&self) -> &Parts
+        ensures value { result.now ≡ self.now }
+        ensures sound { IsSoundParts self.now }
+    {
+        &self.parts
+    }
+
     /// The number of an agency by its id, and None exactly where the feed has no such agency.
     pub fn agency(&self, id: &str) -> Option<AgencyNo>
         ensures { option_map (λ n. n.0) result ≡ position (bytes_eq id.now) (agency_ids self.now) }
@@ -191,7 +224,7 @@ impl Feed {
     /// The stop times of the trip of a number, which is below [`Feed::trip_count`], by their sequence.
     pub fn trip_rows(&self, trip: TripNo) -> &[StopRow]
         requires { trip.0 < length self.now.trips }
-        ensures { slice_get (parts self.now.stop_row_starts self.now.stop_rows) trip.0 ≡ Some result.now }
+        ensures { slice_get (stop_rows_by_trip self.now) trip.0 ≡ Some result.now }
     {
         let rows = self.parts.stop_rows.as_slice();
         stretch(rows, self.parts.stop_row_starts.as_slice(), trip.0)
@@ -200,7 +233,7 @@ impl Feed {
     /// The frequencies of the trip of a number, which is below [`Feed::trip_count`], by their start.
     pub fn trip_frequencies(&self, trip: TripNo) -> &[Frequency]
         requires { trip.0 < length self.now.trips }
-        ensures { slice_get (parts self.now.frequency_starts self.now.frequencies) trip.0 ≡ Some result.now }
+        ensures { slice_get (frequencies_by_trip self.now) trip.0 ≡ Some result.now }
     {
         let rows = self.parts.frequencies.as_slice();
         stretch(rows, self.parts.frequency_starts.as_slice(), trip.0)

@@ -1,6 +1,10 @@
-ghost use Rattle.std.specs.Prelude.{◌≡◌, [], ◌∷◌, ◌++◌, IfSome, OnOk, length, position, bytes_eq, string_bytes, false, ◌<◌};
+ghost use Rattle.std.specs.Prelude.{◌≡◌, [], ◌∷◌, ◌++◌, IfOk, OnOk, map, position, bytes_eq, string_bytes, false};
 ghost use Rattle.std.specs.List.{list_any};
+ghost use Rattle.std.specs.Ordering.{on};
+ghost use Rattle.gtfs_table.specs.Folder.{text_cmp};
+ghost use Rattle.gtfs_rows.specs.Order.{Ascends};
 
+use crate::named::Named;
 use gtfs_field::OutOfMemory;
 use indexmap::IndexSet;
 use std::alloc::Global;
@@ -22,13 +26,29 @@ impl Model for Ids {
 }
 
 impl Ids {
-    // No ids.
-    pub(crate) fn new(alloc: Global, random: RandomState) -> Ids
-        ensures { result ≡ [] }
+    // The ids of rows that ascend by them: an id has the number of its row.
+    pub(crate) fn of_rows<R: Named>(
+        alloc: Global,
+        random: RandomState,
+        rows: &[R],
+    ) -> Result<Ids, OutOfMemory>
+        requires { Ascends (on R.name text_cmp) rows.now }
+        ensures { IfOk result (λ ids. ids ≡ map R.name rows.now) }
     {
-        Ids {
-            ids: IndexSet::with_hasher(alloc, random),
+        let mut ids = Ids::with_room(alloc, random, rows.len())?;
+        for row in rows {
+            ids.push(String::from_str(alloc, row.id())?)?;
         }
+        Ok(ids)
+    }
+
+    // No ids yet, and room for this many.
+    fn with_room(alloc: Global, random: RandomState, count: usize) -> Result<Ids, OutOfMemory>
+        ensures { IfOk result (λ ids. ids ≡ []) }
+    {
+        Ok(Ids {
+            ids: IndexSet::with_capacity_and_hasher(alloc, count, random)?,
+        })
     }
 
     // The number of an id.
@@ -39,7 +59,7 @@ impl Ids {
     }
 
     // Adds an id that is not there, which takes the next number.
-    pub(crate) fn push(&mut self, id: String) -> Result<(), OutOfMemory>
+    fn push(&mut self, id: String) -> Result<(), OutOfMemory>
         requires { list_any (bytes_eq (string_bytes id)) self.old ≡ false }
         ensures { OnOk result (self.new ≡ self.old ++ string_bytes id ∷ []) }
     {

@@ -5,6 +5,7 @@
 
 mod feed;
 mod ids;
+mod named;
 mod stretches;
 
 pub use feed::Feed;
