@@ -7,7 +7,7 @@ use Rattle.gtfs_table.specs.Reading.{RefusesDataset}
 use Rattle.gtfs_table.specs.declared.folders.FolderFault.{FolderFault}
 use Rattle.gtfs_table.specs.declared.folders.FolderFault.TheVariants as faults
 use Rattle.clap.specs.Words.{Text}
-use Rattle.gtfs_cli.specs.Running.{AsksCheck, AsksFor, Failures, IsBadUsage, IsDeviceFault, IsFileOf, KeepsFromReading}
+use Rattle.gtfs_cli.specs.Running.{AsksCheck, AsksFor, Failures, IsBadUsage, IsDeviceFault, IsFileOf, KeepsFromReading, RefusesFeed}
 use Rattle.gtfs_cli.specs.Refusals.{status_of, IsCause, IsCauseInWords, IsCauseOf, IsCheckCause, IsFaultCause}
 use Rattle.gtfs_cli.specs.declared.commands.refusal.Refusal.{Refusal}
 use Rattle.gtfs_cli.specs.declared.commands.refusal.Refusal.TheVariants.{Words, BadValue, NotThere, Unreadable, OverLimit, HasErrors, NoZone, UnknownStop, UntilBeforeFrom, OutputFailed, OutOfMemory}
@@ -19,13 +19,13 @@ rises-longer b x y a first rises last = omega arith
 
 -- ---- why tables and files are not read
 
-pub refuses-longer : (held : Option Store) (dir : List ℕ) (before after : Failures) (x y : ℕ) (fault : FolderFault) → before.folders ≤ x → y ≤ after.folders
-    → RefusesDataset fault held dir x y → RefusesDataset fault held dir before.folders after.folders
-refuses-longer held dir before after x y faults.Read first last h = rises-longer before.folders x y after.folders first h last
-refuses-longer held dir before after x y faults.TooLarge first last h = h
-refuses-longer held dir before after x y faults.OutOfMemory first last h = h
-refuses-longer held dir before after x y faults.NoFolder first last h = h
-refuses-longer held dir before after x y faults.Write first last h = h
+pub refuses-longer : (limit : ℕ) (held : Option Store) (dir : List ℕ) (before after : Failures) (x y : ℕ) (fault : FolderFault) → before.folders ≤ x → y ≤ after.folders
+    → RefusesDataset fault limit held dir x y → RefusesFeed fault held dir before.folders after.folders
+refuses-longer limit held dir before after x y faults.Read first last h = rises-longer before.folders x y after.folders first h last
+refuses-longer limit held dir before after x y faults.TooLarge first last h = (h.0, (limit, h.1))
+refuses-longer limit held dir before after x y faults.OutOfMemory first last h = h
+refuses-longer limit held dir before after x y faults.NoFolder first last h = h
+refuses-longer limit held dir before after x y faults.Write first last h = h
 
 -- what keeps a folder from being checked keeps it from its board
 pub board-cause : (held : Option Store) (words : BoardWords) (before after : Failures) (r : Refusal) → IsCheckCause held words.dir.now before after r
@@ -42,13 +42,13 @@ board-cause held words before after UntilBeforeFrom h = absurd h
 board-cause held words before after OutputFailed h = h
 board-cause held words before after OutOfMemory h = h
 
-pub cause-file : (held : Option Store) (words : BoardWords) (before after : Failures) (x y : ℕ) (folder name : List ℕ) (fault : FolderFault) → before.folders ≤ x → y ≤ after.folders
-    → IsFileOf words.zone.now folder name → RefusesRead fault held folder name x y → IsFaultCause held words before after fault
-cause-file held words before after x y folder name faults.Read first last of h = rises-longer before.folders x y after.folders first h last
-cause-file held words before after x y folder name faults.TooLarge first last of h = inr (record { folder = folder; name = name; file = of; fact = h })
-cause-file held words before after x y folder name faults.OutOfMemory first last of h = h
-cause-file held words before after x y folder name faults.NoFolder first last of h = inr (record { folder = folder; name = name; file = of; fact = inl h })
-cause-file held words before after x y folder name faults.Write first last of h = h
+pub cause-file : (limit : ℕ) (held : Option Store) (words : BoardWords) (before after : Failures) (x y : ℕ) (folder name : List ℕ) (fault : FolderFault) → before.folders ≤ x → y ≤ after.folders
+    → IsFileOf words.zone.now folder name → RefusesRead fault limit held folder name x y → IsFaultCause held words before after fault
+cause-file limit held words before after x y folder name faults.Read first last of h = rises-longer before.folders x y after.folders first h last
+cause-file limit held words before after x y folder name faults.TooLarge first last of h = inr (record { folder = folder; name = name; file = of; fact = (limit, h) })
+cause-file limit held words before after x y folder name faults.OutOfMemory first last of h = h
+cause-file limit held words before after x y folder name faults.NoFolder first last of h = inr (record { folder = folder; name = name; file = of; fact = inl h })
+cause-file limit held words before after x y folder name faults.Write first last of h = h
 
 -- ---- what statuses tell
 

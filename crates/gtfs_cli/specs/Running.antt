@@ -1,6 +1,6 @@
 -- How the program ends: what is the matter where it ends with status 2 (usage) or 3 (folders, files and output).
 -- These definitions say nothing about folders whose contents are unknown, such as those of a disk.
-use Rattle.std.specs.Prelude.{◌≡◌, ◌≢◌, ◌<◌, ◌++◌, ◌⊎◌, ℕ, slice_index, ◌==◌, false, if◌then◌else◌, codes, length, List, [], ◌∷◌, Option, Some, None, option_map, Result, Ok, Err, ℤ, ◌<ℤ◌}
+use Rattle.std.specs.Prelude.{◌≡◌, ◌≢◌, ◌<◌, ◌++◌, ◌⊎◌, ⊤, ℕ, slice_index, ◌==◌, false, if◌then◌else◌, codes, length, List, [], ◌∷◌, Option, Some, None, option_map, Result, Ok, Err, ℤ, ◌<ℤ◌}
 use Rattle.std.specs.Borrow.{Bor}
 use Rattle.std.specs.Result.{result_ok}
 use Rattle.std.specs.Path.{slash}
@@ -12,8 +12,10 @@ use Rattle.gtfs_days.specs.Zone.{zone_origin, IsUnreadable, IsZoneOf}
 use Rattle.gtfs_days.specs.declared.zone.Zone.{Zone}
 use Rattle.gtfs_table.specs.Device.{Rises}
 use Rattle.gtfs_table.specs.Files.{file_name}
-use Rattle.gtfs_table.specs.Folder.{Store, Finds, HasFile, LacksFolder}
+use Rattle.gtfs_table.specs.Folder.{Store, Finds, HasFileOver, LacksFolder}
 use Rattle.gtfs_table.specs.declared.file.File.{File}
+use Rattle.gtfs_table.specs.declared.folders.FolderFault.{FolderFault}
+use Rattle.gtfs_table.specs.declared.folders.FolderFault.TheVariants as faults
 use Rattle.gtfs_cli.specs.CommandLine.{gtfs_app, IsCommandOf}
 use Rattle.gtfs_cli.specs.Departures.{Origins}
 use Rattle.gtfs_cli.specs.declared.commands.moments.Moment.{Moment}
@@ -73,9 +75,13 @@ pub record OfFile (path : List ℕ) (Fact : List ℕ → List ℕ → Type 0) : 
 abbrev pub HoldsBytes : Option Store → List ℕ → List ℕ → Type 0
 HoldsBytes held path bytes = OfFile path (λ folder name. Finds held folder name (Some bytes))
 
--- they hold a file under the path, which a device refuses to read where it is over its limit
+-- they hold a file of that name which is longer than some limit
+abbrev pub HasLongFile : Option Store → List ℕ → List ℕ → Type 0
+HasLongFile held folder name = (limit : ℕ) × HasFileOver limit held folder name
+
+-- they hold a file under the path which a device refuses to read, as it is over its limit
 abbrev pub HoldsFile : Option Store → List ℕ → Type 0
-HoldsFile held path = OfFile path (λ folder name. HasFile held folder name)
+HoldsFile held path = OfFile path (λ folder name. HasLongFile held folder name)
 
 -- there is no such file, or not its folder
 abbrev pub LacksFile : Option Store → List ℕ → Type 0
@@ -103,9 +109,17 @@ pub record HoldsNoZone (held : Option Store) (path : List ℕ) : Type 0 where
 abbrev pub LacksFeed : Option Store → List ℕ → Type 0
 LacksFeed held dir = (dir ≡ []) ⊎ LacksFolder held dir
 
--- it holds one of the files that are read, which a device refuses to read where it is over its limit
+-- it holds one of the files that are read, which a device refuses to read, as it is over its limit
 abbrev pub HoldsKeptFile : Option Store → List ℕ → Type 0
-HoldsKeptFile held dir = (x : File) × HasFile held dir (file_name x)
+HoldsKeptFile held dir = (x : File) × HasLongFile held dir (file_name x)
+
+-- why the files of a folder are not read
+abbrev pub RefusesFeed : FolderFault → Option Store → List ℕ → ℕ → ℕ → Type 0
+RefusesFeed faults.Read held dir before after = Rises before after
+RefusesFeed faults.TooLarge held dir before after = HoldsKeptFile held dir
+RefusesFeed faults.OutOfMemory held dir before after = ⊤
+RefusesFeed faults.NoFolder held dir before after = LacksFolder held dir
+RefusesFeed faults.Write held dir before after = ⊥
 
 -- ---- status 2
 

@@ -1,7 +1,7 @@
 -- Counts of calls and of failures that are full.
 use Rattle.std.proofs.Common.{◌≡◌, ◌-◌, ◌^◌, codes, refl, false, Some, Err}
 use Rattle.std.specs.FinMap as finite
-use Rattle.gtfs_table.specs.Device.{counted}
+use Rattle.gtfs_table.specs.Device.{counted, counted_times, calls_after, FailsAtLast}
 use Rattle.gtfs_table.specs.Held.{Held, is_failing, after_call, names_answer}
 use Rattle.gtfs_table.specs.declared.folders.FolderFault.TheVariants.{Read}
 
@@ -11,6 +11,20 @@ filled = refl
 
 full : counted (2 ^ 64 - 1) ≡ 2 ^ 64 - 1
 full = refl
+
+-- ten calls on folders that are new, and on folders whose count is almost full
+ten_calls : counted_times 10 0 ≡ 10
+ten_calls = refl
+
+filled_calls : counted_times 10 (2 ^ 64 - 3) ≡ 2 ^ 64 - 1
+filled_calls = refl
+
+-- the third call failed, and no other came after it; the fourth is one that came after it
+ends : FailsAtLast (Some (calls_after 2 (record { made = 1; failing = Some 3 })))
+ends = refl
+
+goes_on : FailsAtLast (Some (calls_after 3 (record { made = 1; failing = Some 3 }))) → ⊥
+goes_on e = cc e
 
 -- folders of which the next call fails, the one with the greatest number that can
 abbrev before : Held

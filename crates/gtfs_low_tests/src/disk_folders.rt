@@ -4,7 +4,9 @@ mod stand_in;
 use gtfs_table::{DiskFolders, FolderFault, Folders};
 use stand_in::{Drip, StandIn};
 use std::cell::Cell;
+use std::fs::Permissions;
 use std::io::ErrorKind;
+use std::os::unix::fs::PermissionsExt;
 use std::process::Abort;
 use std::test::Fail;
 use std::{env, fs, process};
@@ -58,6 +60,92 @@ fn files_are_written_listed_and_read(rt: HostRuntime) -> Result<(), Fail> {
         true
     );
     assert_eq!(rt; disk.failures(), 0);
+    fs::remove_dir_all(&rt, base.as_str())?;
+    Ok(())
+}
+
+#[test]
+fn a_name_that_begins_with_a_dot_is_listed(rt: HostRuntime) -> Result<(), Fail> {
+    let base = make_folder(&rt, "dots")?;
+    let mut disk = DiskFolders::new(&rt);
+    disk.write(rt.alloc(), base.as_str(), "x", b"")?;
+    disk.write(rt.alloc(), base.as_str(), ".x", b"hidden")?;
+    let names = disk.names(rt.alloc(), base.as_str())?;
+    assert_eq!(rt; names.len(), 2);
+    for (name, wanted) in names.iter().zip([".x", "x"]) {
+        assert_eq!(rt; name.as_str(), wanted);
+    }
+    assert_file(&rt, disk.read(rt.alloc(), base.as_str(), ".x")?, b"hidden");
+    fs::remove_dir_all(&rt, base.as_str())?;
+    Ok(())
+}
+
+// Of bytes that show where a part was lost or came twice.
+#[test]
+fn a_file_of_megabytes_is_read_as_it_was_written(rt: HostRuntime) -> Result<(), Fail> {
+    let base = make_folder(&rt, "megabytes")?;
+    let mut disk = DiskFolders::new(&rt);
+    for len in [65_536_u32, 65_537, 5_000_001] {
+        let mut bytes = Vec::new(rt.alloc());
+        for number in 0..len {
+            bytes.push((number % 251) as u8)?;
+        }
+        disk.write(rt.alloc(), base.as_str(), "stops.txt", &bytes)?;
+        assert_file(
+            &rt,
+            disk.read(rt.alloc(), base.as_str(), "stops.txt")?,
+            &bytes,
+        );
+    }
+    assert_eq!(rt; disk.failures(), 0);
+    fs::remove_dir_all(&rt, base.as_str())?;
+    Ok(())
+}
+
+// No entry has the name, but the system says so by NotFound alone.
+#[test]
+fn what_is_refused_is_not_absent(rt: HostRuntime) {
+    for kind in [ErrorKind::PermissionDenied, ErrorKind::TimedOut] {
+        let system = StandIn::refusing(rt, kind);
+        let mut disk = DiskFolders::new(&system);
+        let read = Some(FolderFault::Read);
+        assert_eq!(rt; disk.names(rt.alloc(), "f1").err(), read);
+        assert_eq!(rt; disk.read(rt.alloc(), "f1", "stops.txt").err(), read);
+        assert_eq!(rt;
+            disk.write(rt.alloc(), "f1", "stops.txt", b""),
+            Err(FolderFault::Write)
+        );
+        assert_eq!(rt; disk.failures(), 3);
+    }
+    let system = StandIn::refusing(rt, ErrorKind::NotFound);
+    let mut disk = DiskFolders::new(&system);
+    assert_eq!(rt;
+        disk.names(rt.alloc(), "f1").err(),
+        Some(FolderFault::NoFolder)
+    );
+    let file = disk.read(rt.alloc(), "f1", "stops.txt");
+    assert_eq!(rt; file.is_ok_and(|file| file.is_none()), true);
+    assert_eq!(rt; disk.failures(), 0);
+}
+
+// A folder that its permissions close cannot be read. A user with all rights reads it nevertheless.
+#[test]
+fn a_closed_folder_is_not_absent(rt: HostRuntime) -> Result<(), Fail> {
+    let base = make_folder(&rt, "closed")?;
+    let mut disk = DiskFolders::new(&rt);
+    disk.write(rt.alloc(), base.as_str(), "stops.txt", b"stop_id")?;
+    fs::set_permissions(&rt, base.as_str(), Permissions::from_mode(0))?;
+    let has_all_rights = fs::read_dir(&rt, base.as_str()).is_ok();
+    let names = disk.names(rt.alloc(), base.as_str());
+    let file = disk.read(rt.alloc(), base.as_str(), "stops.txt");
+    fs::set_permissions(&rt, base.as_str(), Permissions::from_mode(0o700))?;
+    if has_all_rights {
+        assert_eq!(rt; names.is_ok_and(|names| names.len() == 1), true);
+        assert_file(&rt, file?, b"stop_id");
+    } else {
+        assert_eq!(rt; names.err(), Some(FolderFault::Read));
+        assert_eq!(rt; file.err(), Some(FolderFault::Read));
+    }
     fs::remove_dir_all(&rt, base.as_str())?;
     Ok(())
 }

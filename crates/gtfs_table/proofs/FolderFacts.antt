@@ -1,12 +1,13 @@
 -- The tables of what a device holds.
-use Rattle.std.proofs.Common.{◌≡◌, ◌<◌, ◌≤◌, ◌+◌, ◌∷◌, ◌++◌, ◌∙◌, [], ℕ, List, Option, Some, None, length, take, get_or, refl, sym, ap, arith}
-use Rattle.std.specs.Prelude.{option_map, filter, not}
+use Rattle.std.proofs.Common.{◌≡◌, ◌<◌, ◌≤◌, ◌+◌, ◌∷◌, ◌++◌, ◌∙◌, [], ℕ, zero, suc, List, Option, Some, None, length, take, get_or, refl, sym, ap, arith}
+use Rattle.std.specs.Prelude.{option_map, filter, not, OnErr, Ok, Err, Result}
 use Rattle.std.specs.FinMap as finmap
 use Rattle.std.proofs.lemmas.List.{take_more}
-use Rattle.gtfs_table.specs.Device.{Rises}
+use Rattle.std.proofs.lemmas.List.Elements.{All-push}
+use Rattle.gtfs_table.specs.Device.{counted, counted_times, calls_after, Calls, MakesCalls, MakesSomeCalls, Rises}
 use Rattle.gtfs_table.specs.Files.{file_name}
-use Rattle.gtfs_table.specs.Folder.{Files, Store, Finds, Lists, RefusesNames, RefusesRead}
-use Rattle.gtfs_table.specs.Reading.{HoldsTable, HoldsDataset, RefusesDataset, SetsTables, dataset_of, is_kept, kept_files, table_in, tables_set}
+use Rattle.gtfs_table.specs.Folder.{file_in, Files, Store, Finds, Lists, RefusesNames, RefusesRead}
+use Rattle.gtfs_table.specs.Reading.{AllHoldWithin, HoldsTable, HoldsDataset, HoldsWithin, RefusesDataset, SetsTables, dataset_of, is_kept, kept_files, table_in, tables_set}
 use Rattle.gtfs_table.specs.Tables.{Dataset, Table, absent, empty_dataset, table_of_bytes, with_table}
 use Rattle.gtfs_table.specs.declared.file.File.{File}
 use Rattle.gtfs_table.specs.declared.folders.FolderFault.{FolderFault}
@@ -67,16 +68,75 @@ sets-all (Some store) dir names old new h e sets =
 rises-from : (n m k : ℕ) → n ≤ m → Rises m k → Rises n k
 rises-from n m k h r = omega arith
 
-pub refused-read : (fault : FolderFault) (told : Option Store) (dir : List ℕ) (x : File) (n m k : ℕ) → n ≤ m → RefusesRead fault told dir (file_name x) m k → RefusesDataset fault told dir n k
-refused-read Read told dir x n m k h r = rises-from n m k h r
-refused-read TooLarge told dir x n m k h r = (x, r)
-refused-read OutOfMemory told dir x n m k h r = tt
-refused-read NoFolder told dir x n m k h r = r
-refused-read Write told dir x n m k h r = absurd r
+pub refused-read : (fault : FolderFault) (limit : ℕ) (told : Option Store) (dir : List ℕ) (x : File) (n m k : ℕ) → n ≤ m → RefusesRead fault limit told dir (file_name x) m k
+    → RefusesDataset fault limit told dir n k
+refused-read Read limit told dir x n m k h r = rises-from n m k h r
+refused-read TooLarge limit told dir x n m k h r = (x, r)
+refused-read OutOfMemory limit told dir x n m k h r = tt
+refused-read NoFolder limit told dir x n m k h r = r
+refused-read Write limit told dir x n m k h r = absurd r
 
-pub refused-names : (fault : FolderFault) (told : Option Store) (dir : List ℕ) (n k : ℕ) → RefusesNames fault told dir n k → RefusesDataset fault told dir n k
-refused-names Read told dir n k r = r
-refused-names TooLarge told dir n k r = absurd r
-refused-names OutOfMemory told dir n k r = tt
-refused-names NoFolder told dir n k r = r
-refused-names Write told dir n k r = absurd r
+pub refused-names : (fault : FolderFault) (limit : ℕ) (told : Option Store) (dir : List ℕ) (n k : ℕ) → RefusesNames fault told dir n k → RefusesDataset fault limit told dir n k
+refused-names Read limit told dir n k r = r
+refused-names TooLarge limit told dir n k r = absurd r
+refused-names OutOfMemory limit told dir n k r = tt
+refused-names NoFolder limit told dir n k r = r
+refused-names Write limit told dir n k r = absurd r
+
+-- ---- the limit
+
+found-within : (limit : ℕ) (found : Option (Option (List ℕ))) (read : List ℕ) → found ≡ Some (Some read) → length read ≤ limit → (bytes : List ℕ) → found ≡ Some (Some bytes) → length bytes ≤ limit
+found-within limit found read e short bytes f = let same : read ≡ bytes = cc (e, f) in rw (← same) short
+
+-- a file that was found is as long as what was read
+pub within-read : (limit : ℕ) (told : Option Store) (dir : List ℕ) (x : File) (read : List ℕ) → Finds told dir (file_name x) (Some read) → length read ≤ limit → HoldsWithin limit told dir x
+within-read limit None dir x read found short = tt
+within-read limit (Some store) dir x read found short = found-within limit (file_in store dir (file_name x)) read found short
+
+none-within : (limit : ℕ) (found : Option (Option (List ℕ))) → found ≡ Some None → (bytes : List ℕ) → found ≡ Some (Some bytes) → length bytes ≤ limit
+none-within limit found e bytes f = absurd (cc (e, f))
+
+-- a file that is absent is not too long
+pub within-absent : (limit : ℕ) (told : Option Store) (dir : List ℕ) (x : File) → Finds told dir (file_name x) None → HoldsWithin limit told dir x
+within-absent limit None dir x found = tt
+within-absent limit (Some store) dir x found = none-within limit (file_in store dir (file_name x)) found
+
+pub within-none : (limit : ℕ) (told : Option Store) (dir : List ℕ) → AllHoldWithin limit told dir (take 0 kept_files)
+within-none limit told dir k d lt = absurd (omega (arith, lt))
+
+pub within-more : (limit : ℕ) (told : Option Store) (dir : List ℕ) (n : ℕ) (x : File) → AllHoldWithin limit told dir (take n kept_files) → n < length kept_files
+    → HoldsWithin limit told dir (get_or kept_files n x) → AllHoldWithin limit told dir (take (n + 1) kept_files)
+within-more limit told dir n x all lt one = rw (take_more kept_files n x lt) (All-push (λ (y : File). HoldsWithin limit told dir y) (take n kept_files) (get_or kept_files n x) all one)
+
+-- ---- the calls
+
+pub on_err-always : {T E : Type 0} (r : Result T E) (P : Type 0) → P → OnErr r P
+on_err-always (Ok x) P p = tt
+on_err-always (Err e) P p = p
+
+pub calls-none : (a : Option Calls) → MakesCalls 0 a a
+calls-none None = tt
+calls-none (Some a) = refl
+
+times-more : (n m count : ℕ) → counted_times m (counted_times n count) ≡ counted_times (n + m) count
+times-more n zero count = let e : n + 0 ≡ n = omega arith in rw e refl
+times-more n (suc m) count = let e : n + suc m ≡ suc (n + m) = omega arith in rw e (ap counted (times-more n m count))
+
+pub calls-more : (n m : ℕ) (a b c : Option Calls) → MakesCalls n a b → MakesCalls m b c → MakesCalls (n + m) a c
+calls-more n m None b c p q = tt
+calls-more n m (Some a) None c p q = absurd (cc p)
+calls-more n m (Some a) (Some b) c p q =
+    let first : b ≡ calls_after n a = cc p in
+    q ∙ ap (λ (x : Calls). Some (calls_after m x)) first ∙ ap (λ (made : ℕ). Some (record { made = made; failing = a.failing })) (times-more n m a.made)
+
+pub calls-some : (most n : ℕ) (a b : Option Calls) → 1 ≤ n → n ≤ most → MakesCalls n a b → MakesSomeCalls most a b
+calls-some most n a b some few made = record { count = n; some = some; few = few; made = made }
+
+-- one call, and then some more
+pub calls-then : (most : ℕ) (a b c : Option Calls) → MakesCalls 1 a b → MakesSomeCalls most b c → MakesSomeCalls (most + 1) a c
+calls-then most a b c first later = record {
+  count = 1 + later.count;
+  some = omega arith;
+  few = omega (arith, later.few);
+  made = calls-more 1 later.count a b c first later.made;
+}

@@ -1,6 +1,7 @@
 -- What a refused call on folders in memory means for every device.
-use Rattle.std.proofs.Common.{◌≡◌, ℕ, Bool, true, false, cond, List, length, nat_le, refl, sym, subst, arith, ◌⊎◌, inl, inr, Option, Some, None, Ok, Err, option_map}
+use Rattle.std.proofs.Common.{◌≡◌, ◌<◌, ℕ, Bool, true, false, cond, List, length, nat_le, refl, sym, subst, arith, ◌⊎◌, inl, inr, Option, Some, None, Ok, Err, option_map}
 use Rattle.std.specs.FinMap as fin
+use Rattle.std.proofs.lemmas.Bool.{leb-false}
 use Rattle.gtfs_table.specs.Device.{Rises}
 use Rattle.gtfs_table.specs.Folder.{Store, file_in, RefusesRead, DiffersAt}
 use Rattle.gtfs_table.specs.Held.{Held, is_failing, after_call, file_answer, Refuses}
@@ -20,10 +21,14 @@ absent : {A B : Type 0} (f : A → B) (found : Option A) → option_map f found 
 absent f None e = refl
 absent f (Some a) e = cc
 
-large : (limit : ℕ) (found : Option (Option (List ℕ))) → file_answer limit found ≡ Err TooLarge → (bytes : List ℕ) × (found ≡ Some (Some bytes))
+longer : (limit : ℕ) (bytes : List ℕ) (within : Bool) → nat_le (length bytes) limit ≡ within → cond within (Ok (Some bytes)) (Err TooLarge) ≡ Err TooLarge → limit < length bytes
+longer limit bytes true e h = absurd (cc h)
+longer limit bytes false e h = leb-false (length bytes) limit e
+
+large : (limit : ℕ) (found : Option (Option (List ℕ))) → file_answer limit found ≡ Err TooLarge → (bytes : List ℕ) × (found ≡ Some (Some bytes)) × (limit < length bytes)
 large limit None e = cc
 large limit (Some None) e = cc
-large limit (Some (Some bytes)) e = (bytes, refl)
+large limit (Some (Some bytes)) e = (bytes, refl, longer limit bytes (nat_le (length bytes) limit) refl e)
 
 -- a file that is over the limit is refused as such
 over : (within : Bool) (bytes : List ℕ) (fault : FolderFault) → cond within (Ok (Some bytes)) (Err TooLarge) ≡ Err fault → fault ≡ TooLarge
@@ -50,7 +55,7 @@ neither-write (inl e) = cc
 neither-write (inr e) = cc
 
 -- a read that was refused, not by its number
-pub read-refused : (limit : ℕ) (store : Store) (dir name : List ℕ) (before after : ℕ) (fault : FolderFault) → Refuses fault (file_answer limit (file_in store dir name)) → RefusesRead fault (Some store) dir name before after
+pub read-refused : (limit : ℕ) (store : Store) (dir name : List ℕ) (before after : ℕ) (fault : FolderFault) → Refuses fault (file_answer limit (file_in store dir name)) → RefusesRead fault limit (Some store) dir name before after
 read-refused limit store dir name before after Read r = absurd (neither-read (told limit _ Read r))
 read-refused limit store dir name before after TooLarge r = large limit (file_in store dir name) r
 read-refused limit store dir name before after OutOfMemory r = tt

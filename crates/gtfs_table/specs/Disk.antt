@@ -1,6 +1,7 @@
 -- Folders on a disk, which tell nothing of what they hold: what their answers rest on.
-use Rattle.std.specs.Prelude.{ℕ, Option, None, ⊤}
-use Rattle.gtfs_table.specs.Device.{counted}
+use Rattle.std.specs.Prelude.{ℕ, length, List, Option, None, ◌<◌, ◌≤◌, ⊤}
+use Rattle.std.specs.Io.KnownBytes.{Consumes}
+use Rattle.gtfs_table.specs.Device.{counted, Calls}
 use Rattle.gtfs_table.specs.Folder.{Store}
 use Rattle.gtfs_table.specs.declared.folders.FolderFault.{FolderFault}
 use Rattle.gtfs_table.specs.declared.folders.FolderFault.TheVariants.{Read, TooLarge, OutOfMemory, NoFolder, Write}
@@ -15,6 +16,10 @@ pub record Disk : Type 0 where
 -- it tells nothing of what it holds
 abbrev pub told : Disk → Option Store
 told disk = None
+
+-- nor how often it was called
+abbrev pub calls : Disk → Option Calls
+calls disk = None
 
 -- the state after a call that ended in a fault: the count rises where the device failed
 abbrev pub after_fault : FolderFault → Disk → Disk
@@ -31,6 +36,18 @@ RefusesList TooLarge = ⊥
 RefusesList OutOfMemory = ⊤
 RefusesList NoFolder = ⊤
 RefusesList Write = ⊥
+
+-- a reader gave at most so many bytes
+pub record GivesAtMost (most : ℕ) (old new : Option (List ℕ)) : Type 0 where
+  pub bytes : List ℕ
+  pub given : Consumes old new bytes
+  pub few : length bytes ≤ most
+
+-- a reader gave more bytes than the limit
+pub record GivesMoreThan (limit : ℕ) (old new : Option (List ℕ)) : Type 0 where
+  pub bytes : List ℕ
+  pub given : Consumes old new bytes
+  pub over : limit < length bytes
 
 -- why a file is not read
 abbrev pub RefusesFile : FolderFault → Type 0

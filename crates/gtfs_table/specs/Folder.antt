@@ -1,7 +1,7 @@
 -- Folders of files: what they hold, and what their calls answer.
 -- GTFS Schedule Reference, "Dataset Files": a dataset lies in one folder, each file under its own name.
 -- The contents of a device may be unknown (None); then the words below that speak of them say nothing.
-use Rattle.std.specs.Prelude.{ℕ, IsTrue, is_some, List, Option, Some, None, option_map, unwrap_or, IsSorted, ◌≡◌, ◌≢◌, ⊤}
+use Rattle.std.specs.Prelude.{ℕ, IsTrue, is_some, length, List, Option, Some, None, option_map, unwrap_or, IsSorted, ◌≡◌, ◌≢◌, ◌<◌, ⊤}
 use Rattle.std.specs.Cmp.Lexicographic.{slice_cmp}
 use Rattle.std.specs.Ordering.{nat_cmp}
 use Rattle.std.specs.declared.cmp.Ordering.{Ordering}
@@ -63,10 +63,10 @@ abbrev pub LacksFolder : Option Store → List ℕ → Type 0
 LacksFolder None dir = ⊤
 LacksFolder (Some store) dir = map.get store dir ≡ None
 
--- there is such a file
-abbrev pub HasFile : Option Store → List ℕ → List ℕ → Type 0
-HasFile None dir name = ⊤
-HasFile (Some store) dir name = (bytes : List ℕ) × (file_in store dir name ≡ Some (Some bytes))
+-- there is such a file, and it is longer than the limit
+abbrev pub HasFileOver : ℕ → Option Store → List ℕ → List ℕ → Type 0
+HasFileOver limit None dir name = ⊤
+HasFileOver limit (Some store) dir name = (bytes : List ℕ) × (file_in store dir name ≡ Some (Some bytes)) × (limit < length bytes)
 
 -- the device holds these bytes in that file, and else what it held
 abbrev pub Writes : Option Store → Option Store → List ℕ → List ℕ → List ℕ → Type 0
@@ -95,12 +95,12 @@ RefusesNames NoFolder told dir before after = LacksFolder told dir
 RefusesNames Write told dir before after = ⊥
 
 -- `read` is refused for these and for a file over the limit
-abbrev pub RefusesRead : FolderFault → Option Store → List ℕ → List ℕ → ℕ → ℕ → Type 0
-RefusesRead Read told dir name before after = Rises before after
-RefusesRead TooLarge told dir name before after = HasFile told dir name
-RefusesRead OutOfMemory told dir name before after = ⊤
-RefusesRead NoFolder told dir name before after = LacksFolder told dir
-RefusesRead Write told dir name before after = ⊥
+abbrev pub RefusesRead : FolderFault → ℕ → Option Store → List ℕ → List ℕ → ℕ → ℕ → Type 0
+RefusesRead Read limit told dir name before after = Rises before after
+RefusesRead TooLarge limit told dir name before after = HasFileOver limit told dir name
+RefusesRead OutOfMemory limit told dir name before after = ⊤
+RefusesRead NoFolder limit told dir name before after = LacksFolder told dir
+RefusesRead Write limit told dir name before after = ⊥
 
 -- `write` is refused for want of memory, and then nothing changed, or for a fault of the device
 abbrev pub RefusesWrite : FolderFault → Option Store → Option Store → List ℕ → List ℕ → ℕ → ℕ → Type 0

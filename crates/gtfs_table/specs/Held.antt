@@ -1,7 +1,7 @@
 -- Folders in memory: their state, and the answer of each call as that state says it.
 use Rattle.std.specs.Prelude.{ℕ, Bool, false, ◌==◌, nat_le, if◌then◌else◌, List, length, Option, Some, None, Result, Ok, Err, IsOk, ok_or, ◌≡◌, refl}
 use Rattle.std.specs.Coded.{Coded, code_by, coded×, coded_ℕ, coded_option}
-use Rattle.gtfs_table.specs.Device.{counted}
+use Rattle.gtfs_table.specs.Device.{counted, Calls}
 use Rattle.gtfs_table.specs.Folder.{Store, names_in, file_in}
 use Rattle.gtfs_table.specs.ByText.{store_code}
 use Rattle.gtfs_table.specs.declared.folders.FolderFault.{FolderFault}
@@ -33,6 +33,10 @@ is_failing held = is_numbered held.fail (counted held.calls)
 -- the state after one more call that writes nothing
 abbrev pub after_call : Held → Held
 after_call held = record held { calls = counted held.calls; failures = if is_failing held then counted held.failures else held.failures }
+
+-- its calls, which it counts
+abbrev pub calls_of : Held → Option Calls
+calls_of held = Some (record { made = held.calls; failing = held.fail })
 
 -- ---- the answers, as memory suffices
 

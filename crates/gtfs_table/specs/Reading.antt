@@ -1,11 +1,11 @@
 -- The tables of a folder's files, and why they could not be read.
 -- GTFS Schedule Reference, "Dataset Files".
-use Rattle.std.specs.Prelude.{ℕ, not, bytes_eq, filter, Bool, false, List, [], ◌∷◌, Option, Some, None, option_map, ◌≡◌, ⊤}
+use Rattle.std.specs.Prelude.{ℕ, not, bytes_eq, filter, length, Bool, false, List, [], ◌∷◌, Option, Some, None, option_map, ◌≡◌, ◌≤◌, ⊤}
 use Rattle.std.specs.List.{All, list_any}
 use Rattle.std.specs.FinMap as map
 use Rattle.gtfs_table.specs.Device.{Rises}
 use Rattle.gtfs_table.specs.Files.{file_name}
-use Rattle.gtfs_table.specs.Folder.{Files, Store, HasFile, IsByBytes, LacksFolder}
+use Rattle.gtfs_table.specs.Folder.{file_in, Files, Store, HasFileOver, IsByBytes, LacksFolder}
 use Rattle.gtfs_table.specs.Tables.{Dataset, Table, table_of_bytes, with_table}
 use Rattle.gtfs_table.specs.declared.file.File.{File}
 use Rattle.gtfs_table.specs.declared.file.File.TheVariants as file
@@ -59,6 +59,15 @@ abbrev pub HoldsDataset : Option Store → List ℕ → Dataset → Type 0
 HoldsDataset None dir d = ⊤
 HoldsDataset (Some store) dir d = option_map dataset_of (map.get store dir) ≡ Some d
 
+-- the folder's file of this name, where there is one, is no longer than the limit
+abbrev pub HoldsWithin : ℕ → Option Store → List ℕ → File → Type 0
+HoldsWithin limit None dir x = ⊤
+HoldsWithin limit (Some store) dir x = (bytes : List ℕ) → file_in store dir (file_name x) ≡ Some (Some bytes) → length bytes ≤ limit
+
+-- none of these files of the folder is longer than the limit
+abbrev pub AllHoldWithin : ℕ → Option Store → List ℕ → List File → Type 0
+AllHoldWithin limit told dir xs = All (λ x. HoldsWithin limit told dir x) xs
+
 -- a dataset with the tables of these files in place of its own
 abbrev pub tables_set : (File → Table) → List File → Dataset → Dataset
 tables_set table [] d = d
@@ -71,9 +80,9 @@ SetsTables (Some store) dir xs old new = (files : Files) → map.get store dir �
 
 -- reading a folder is refused for a fault of the device, for one of the kept files over its limit, for want
 -- of memory, or for a folder that is not there; the counts are those of failures, before and after
-abbrev pub RefusesDataset : FolderFault → Option Store → List ℕ → ℕ → ℕ → Type 0
-RefusesDataset Read told dir before after = Rises before after
-RefusesDataset TooLarge told dir before after = (x : File) × HasFile told dir (file_name x)
-RefusesDataset OutOfMemory told dir before after = ⊤
-RefusesDataset NoFolder told dir before after = LacksFolder told dir
-RefusesDataset Write told dir before after = ⊥
+abbrev pub RefusesDataset : FolderFault → ℕ → Option Store → List ℕ → ℕ → ℕ → Type 0
+RefusesDataset Read limit told dir before after = Rises before after
+RefusesDataset TooLarge limit told dir before after = (x : File) × HasFileOver limit told dir (file_name x)
+RefusesDataset OutOfMemory limit told dir before after = ⊤
+RefusesDataset NoFolder limit told dir before after = LacksFolder told dir
+RefusesDataset Write limit told dir before after = ⊥

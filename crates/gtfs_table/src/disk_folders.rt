@@ -1,9 +1,11 @@
-ghost use Rattle.std.specs.Prelude.{◌≡◌, ◌≤◌, map, option_map, string_bytes, vec_len, IfOk, IfErr, IfSome, IsNone, OnOk, MatchResult};
+ghost use Rattle.std.specs.Prelude.{◌≡◌, ◌≤◌, map, option_map, string_bytes, vec_len, IfOk, IfErr, IfSome, IsErrOf, IsNone, IsOk, OnOk, MatchResult};
+ghost use Rattle.gtfs_table.specs.Device.{FailsAtLast, MakesCalls};
 ghost use Rattle.gtfs_table.specs.Folder.{IsByBytes, Lists, Finds, Writes, RefusesNames, RefusesRead, RefusesWrite};
-ghost use Rattle.gtfs_table.specs.Disk.{told, after_fault, RefusesList, RefusesFile, RefusesStore};
+ghost use Rattle.gtfs_table.specs.Disk.{told, calls, after_fault, RefusesList, RefusesFile, RefusesStore};
 
 use crate::folders::{FolderFault, Folders};
 use crate::read_within::read_within;
+use crate::write_whole::write_whole;
 use gtfs_field::OutOfMemory;
 use std::alloc::Global;
 use std::fs;
@@ -82,6 +84,10 @@ impl<'a, R: Files + Alloc + Clone + Drop> Folders for DiskFolders<'a, R> {
 
     ghost failure_count = { λ disk. disk.failures };
 
+    ghost limit = { λ disk. disk.limit };
+
+    ghost calls = { calls };
+
     /// Reads the folder from the system. It counts a failure exactly where it answers Read.
     fn names(&mut self, alloc: Global, dir: &str) -> Result<Vec<String>, FolderFault>
         ensures lists { IfOk result
@@ -92,6 +98,10 @@ impl<'a, R: Files + Alloc + Clone + Drop> Folders for DiskFolders<'a, R> {
             self.old.failures self.new.failures) }
         ensures unchanged { told self.new ≡ told self.old }
         ensures grows { self.old.failures ≤ self.new.failures }
+        ensures no_failure { OnOk result (self.new.failures ≡ self.old.failures) }
+        ensures same_limit { self.new.limit ≡ self.old.limit }
+        ensures called { MakesCalls 1 (calls self.old) (calls self.new) }
+        ensures ends { IsErrOf result FolderFault.Read → FailsAtLast (calls self.new) }
 
         ensures few { IfOk result (λ names. vec_len names ≤ self.old.entries) }
         ensures counted { MatchResult result
@@ -109,14 +119,18 @@ impl<'a, R: Files + Alloc + Clone + Drop> Folders for DiskFolders<'a, R> {
         ensures finds { IfOk result
             (λ file. Finds (told self.old) dir.now name.now
             (option_map (λ bytes. bytes.items) file)) }
+        ensures within { IfOk result
+            (λ file. IfSome file (λ bytes. vec_len bytes ≤ self.old.limit)) }
         ensures refused { IfErr result
-            (λ fault. RefusesRead fault (told self.old) dir.now name.now
+            (λ fault. RefusesRead fault self.old.limit (told self.old) dir.now name.now
             self.old.failures self.new.failures) }
         ensures unchanged { told self.new ≡ told self.old }
         ensures grows { self.old.failures ≤ self.new.failures }
+        ensures no_failure { OnOk result (self.new.failures ≡ self.old.failures) }
+        ensures same_limit { self.new.limit ≡ self.old.limit }
+        ensures called { MakesCalls 1 (calls self.old) (calls self.new) }
+        ensures ends { IsErrOf result FolderFault.Read → FailsAtLast (calls self.new) }
 
-        ensures within { IfOk result
-            (λ file. IfSome file (λ bytes. vec_len bytes ≤ self.old.limit)) }
         ensures counted { MatchResult result
             (λ _. self.new ≡ self.old)
             (λ fault. self.new ≡ after_fault fault self.old) }
@@ -142,6 +156,10 @@ impl<'a, R: Files + Alloc + Clone + Drop> Folders for DiskFolders<'a, R> {
             (λ fault. RefusesWrite fault (told self.old) (told self.new) dir.now name.now
             self.old.failures self.new.failures) }
         ensures grows { self.old.failures ≤ self.new.failures }
+        ensures no_failure { OnOk result (self.new.failures ≡ self.old.failures) }
+        ensures same_limit { self.new.limit ≡ self.old.limit }
+        ensures called { MakesCalls 1 (calls self.old) (calls self.new) }
+        ensures ends { IsErrOf result FolderFault.Write → FailsAtLast (calls self.new) }
 
         ensures counted { MatchResult result
             (λ _. self.new ≡ self.old)
@@ -201,8 +219,10 @@ fn push_names<R: Files + Alloc + Clone + Drop>(
     Ok(())
 }
 
+// What it means that the folder of this path could not be listed: only one that is not found is not there.
 fn list_fault<R: Files>(rt: &R, dir: &str, kind: ErrorKind) -> FolderFault
-    ensures { RefusesList result }
+    ensures refused { RefusesList result }
+    ensures absent { result ≡ FolderFault.NoFolder → kind ≡ ErrorKind.NotFound }
 {
     match kind {
         ErrorKind::NotFound if is_absent(rt, dir) => FolderFault::NoFolder,
@@ -255,6 +275,8 @@ fn without_file<R: Files>(
     kind: ErrorKind,
 ) -> Result<Option<Vec<u8>>, FolderFault>
     ensures absent { IfOk result IsNone }
+    ensures not_found { IsOk result → kind ≡ ErrorKind.NotFound }
+    ensures no_folder { IsErrOf result FolderFault.NoFolder → kind ≡ ErrorKind.NotFound }
     ensures refused { IfErr result RefusesFile }
 {
     if kind != ErrorKind::NotFound || !is_absent(rt, path) {
@@ -291,8 +313,8 @@ fn write_file<R: Files>(
         return Err(FolderFault::Write);
     }
     let path = path_of(alloc, dir, name)?;
-    match fs::create_dir_all(rt, dir).and_then(|()| fs::write(rt, path.as_str(), bytes)) {
-        Ok(()) => Ok(()),
+    match fs::create_dir_all(rt, dir).and_then(|()| fs::create(rt, path.as_str())) {
+        Ok(mut file) => write_whole(&mut file, bytes),
         Err(_) => Err(FolderFault::Write),
     }
 }

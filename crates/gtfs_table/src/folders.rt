@@ -1,4 +1,5 @@
-ghost use Rattle.std.specs.Prelude.{◌≡◌, ◌≤◌, ℕ, Option, map, option_map, string_bytes, IfOk, IfErr, OnOk};
+ghost use Rattle.std.specs.Prelude.{◌≡◌, ◌≤◌, ℕ, Option, None, map, option_map, string_bytes, vec_len, IfOk, IfErr, IfSome, IsErrOf, OnOk};
+ghost use Rattle.gtfs_table.specs.Device.{Calls, FailsAtLast, MakesCalls};
 ghost use Rattle.gtfs_table.specs.Folder.{Store, IsByBytes, Lists, Finds, Writes, RefusesNames, RefusesRead, RefusesWrite};
 
 use gtfs_field::OutOfMemory;
@@ -50,13 +51,19 @@ impl<T: Drop> From<AllocFailed<T>> for FolderFault {
 /// A device that holds folders of files (GTFS Schedule Reference, "Dataset Files"): each file lies in a
 /// folder under a name, and is a list of bytes.
 ///
-/// A device counts its failures. It answers Read and Write only where that count rose in the very call;
-/// a count at 2^64 - 1 stays there and counts as risen. The contents of a device may be unknown, as
-/// those of a disk are: the clauses on its contents say nothing then.
+/// A device counts its failures. It answers Read and Write only where that count rose in the very call,
+/// and a call that succeeds leaves the count as it was; a count at 2^64 - 1 stays there and counts as
+/// risen. A device has a limit, the greatest length in bytes of a file that it reads, which never changes.
+/// A device may count its calls too. The contents of a device may be unknown, as those of a disk are: the
+/// clauses on its contents say nothing then.
 pub trait Folders {
     ghost held: { Self → Option Store };
 
     ghost failure_count: { Self → ℕ };
+
+    ghost limit: { Self → ℕ };
+
+    ghost calls: { Self → Option Calls } = { λ _. None };
 
     /// The names of what lies in a folder, in byte order.
     ///
@@ -69,7 +76,11 @@ pub trait Folders {
             (λ fault. RefusesNames fault (held self.old) dir.now
             (failure_count self.old) (failure_count self.new)) }
         ensures unchanged { held self.new ≡ held self.old }
-        ensures grows { failure_count self.old ≤ failure_count self.new };
+        ensures grows { failure_count self.old ≤ failure_count self.new }
+        ensures no_failure { OnOk result (failure_count self.new ≡ failure_count self.old) }
+        ensures same_limit { limit self.new ≡ limit self.old }
+        ensures called { MakesCalls 1 (calls self.old) (calls self.new) }
+        ensures ends { IsErrOf result FolderFault.Read → FailsAtLast (calls self.new) };
 
     /// The bytes of a folder's file, or None where the folder has no such file.
     ///
@@ -79,11 +90,17 @@ pub trait Folders {
         ensures finds { IfOk result
             (λ file. Finds (held self.old) dir.now name.now
             (option_map (λ bytes. bytes.items) file)) }
+        ensures within { IfOk result
+            (λ file. IfSome file (λ bytes. vec_len bytes ≤ limit self.old)) }
         ensures refused { IfErr result
-            (λ fault. RefusesRead fault (held self.old) dir.now name.now
+            (λ fault. RefusesRead fault (limit self.old) (held self.old) dir.now name.now
             (failure_count self.old) (failure_count self.new)) }
         ensures unchanged { held self.new ≡ held self.old }
-        ensures grows { failure_count self.old ≤ failure_count self.new };
+        ensures grows { failure_count self.old ≤ failure_count self.new }
+        ensures no_failure { OnOk result (failure_count self.new ≡ failure_count self.old) }
+        ensures same_limit { limit self.new ≡ limit self.old }
+        ensures called { MakesCalls 1 (calls self.old) (calls self.new) }
+        ensures ends { IsErrOf result FolderFault.Read → FailsAtLast (calls self.new) };
 
     /// Makes these bytes the whole of a folder's file. Makes the folder where it is absent, and takes the
     /// place of a file that was there. It judges no limit.
@@ -102,7 +119,11 @@ pub trait Folders {
         ensures refused { IfErr result
             (λ fault. RefusesWrite fault (held self.old) (held self.new) dir.now name.now
             (failure_count self.old) (failure_count self.new)) }
-        ensures grows { failure_count self.old ≤ failure_count self.new };
+        ensures grows { failure_count self.old ≤ failure_count self.new }
+        ensures no_failure { OnOk result (failure_count self.new ≡ failure_count self.old) }
+        ensures same_limit { limit self.new ≡ limit self.old }
+        ensures called { MakesCalls 1 (calls self.old) (calls self.new) }
+        ensures ends { IsErrOf result FolderFault.Write → FailsAtLast (calls self.new) };
 
     /// How often a call failed with Read or Write, at most 2^64 - 1.
     fn failures(&self) -> u64

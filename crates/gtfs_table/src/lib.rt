@@ -56,6 +56,7 @@ mod table;
 mod tables;
 mod texts;
 mod write_out;
+mod write_whole;
 mod writer;
 
 pub use disk_folders::DiskFolders;

@@ -1,8 +1,9 @@
-ghost use Rattle.std.specs.Prelude.{◌≡◌, ◌≤◌, ◌<◌, ◌-◌, ◌^◌, ◌↔◌, map, option_map, string_bytes, IsTrue, IfOk, IfErr, OnOk, OnErr, IfSome, IsErrOf, MatchResult, Ok, Some};
+ghost use Rattle.std.specs.Prelude.{◌≡◌, ◌≤◌, ◌<◌, ◌-◌, ◌^◌, ◌↔◌, map, option_map, string_bytes, IsTrue, vec_len, IfOk, IfErr, OnOk, OnErr, IfSome, IsErrOf, MatchResult, Ok, Some};
 ghost use Rattle.std.specs.Option.{ForSome};
 ghost use Rattle.std.specs.FinMap as finite;
+ghost use Rattle.gtfs_table.specs.Device.{FailsAtLast, MakesCalls};
 ghost use Rattle.gtfs_table.specs.Folder.{IsByBytes, Lists, Finds, Writes, RefusesNames, RefusesRead, RefusesWrite, put, put_folder};
-ghost use Rattle.gtfs_table.specs.Held.{Refuses, is_failing, after_call, names_answer, read_answer};
+ghost use Rattle.gtfs_table.specs.Held.{Refuses, calls_of, is_failing, after_call, names_answer, read_answer};
 
 use crate::folders::{FolderFault, Folders};
 use crate::memory_store::MemoryStore;
@@ -103,6 +104,10 @@ impl Folders for MemoryFolders {
 
     ghost failure_count = { λ folders. folders.failures };
 
+    ghost limit = { λ folders. folders.limit };
+
+    ghost calls = { calls_of };
+
     /// Answers Read exactly at the call that fails; at any other, NoFolder exactly where there is no such
     /// folder, and else the names, as memory suffices.
     fn names(&mut self, alloc: Global, dir: &str) -> Result<Vec<String>, FolderFault>
@@ -114,6 +119,10 @@ impl Folders for MemoryFolders {
             self.old.failures self.new.failures) }
         ensures unchanged { Some self.new.store ≡ Some self.old.store }
         ensures grows { self.old.failures ≤ self.new.failures }
+        ensures no_failure { OnOk result (self.new.failures ≡ self.old.failures) }
+        ensures same_limit { self.new.limit ≡ self.old.limit }
+        ensures called { MakesCalls 1 (calls_of self.old) (calls_of self.new) }
+        ensures ends { IsErrOf result FolderFault.Read → FailsAtLast (calls_of self.new) }
 
         ensures answers { MatchResult result
             (λ names. names_answer self.old dir.now ≡ Ok (map string_bytes names.items))
@@ -133,11 +142,17 @@ impl Folders for MemoryFolders {
         ensures finds { IfOk result
             (λ file. Finds (Some self.old.store) dir.now name.now
             (option_map (λ bytes. bytes.items) file)) }
+        ensures within { IfOk result
+            (λ file. IfSome file (λ bytes. vec_len bytes ≤ self.old.limit)) }
         ensures refused { IfErr result
-            (λ fault. RefusesRead fault (Some self.old.store) dir.now name.now
+            (λ fault. RefusesRead fault self.old.limit (Some self.old.store) dir.now name.now
             self.old.failures self.new.failures) }
         ensures unchanged { Some self.new.store ≡ Some self.old.store }
         ensures grows { self.old.failures ≤ self.new.failures }
+        ensures no_failure { OnOk result (self.new.failures ≡ self.old.failures) }
+        ensures same_limit { self.new.limit ≡ self.old.limit }
+        ensures called { MakesCalls 1 (calls_of self.old) (calls_of self.new) }
+        ensures ends { IsErrOf result FolderFault.Read → FailsAtLast (calls_of self.new) }
 
         ensures answers { MatchResult result
             (λ file. read_answer self.old dir.now name.now
@@ -166,6 +181,10 @@ impl Folders for MemoryFolders {
             (λ fault. RefusesWrite fault (Some self.old.store) (Some self.new.store)
             dir.now name.now self.old.failures self.new.failures) }
         ensures grows { self.old.failures ≤ self.new.failures }
+        ensures no_failure { OnOk result (self.new.failures ≡ self.old.failures) }
+        ensures same_limit { self.new.limit ≡ self.old.limit }
+        ensures called { MakesCalls 1 (calls_of self.old) (calls_of self.new) }
+        ensures ends { IsErrOf result FolderFault.Write → FailsAtLast (calls_of self.new) }
 
         ensures failing { IsErrOf result FolderFault.Write ↔ IsTrue (is_failing self.old) }
         ensures ok { OnOk result

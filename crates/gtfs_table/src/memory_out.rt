@@ -1,4 +1,4 @@
-ghost use Rattle.std.specs.Prelude.{◌≡◌, ◌<◌, ◌≤◌, ◌-◌, ◌++◌, ◌↔◌, [], length, take, min, IfOk, OnErr, IsErr, Some};
+ghost use Rattle.std.specs.Prelude.{◌≡◌, ◌<◌, ◌≤◌, ◌-◌, ◌++◌, ◌↔◌, [], length, take, min, IfOk, OnOk, OnErr, IsErr, Some};
 ghost use Rattle.std.specs.Io.KnownBytes.{Appends, Keeps};
 ghost use Rattle.gtfs_table.specs.Device.{Sent, Rises, counted};
 
@@ -67,6 +67,7 @@ impl Out for MemoryOut {
         ensures nothing { OnErr result (Keeps (Some self.old.text) (Some self.new.text)) }
         ensures counted { OnErr result (Rises self.old.failures self.new.failures) }
         ensures grows { self.old.failures ≤ self.new.failures }
+        ensures no_failure { OnOk result (self.new.failures ≡ self.old.failures) }
 
         ensures fits { IfOk result (λ n. n ≡ min (length text.now) self.old.left) }
         ensures ok { IfOk result

@@ -19,8 +19,9 @@ pub struct OutFault {
 
 /// An output, which takes text in pieces of its own size and counts its failures.
 ///
-/// A count of failures at 2^64 - 1 stays there and counts as risen. What went out may be unknown,
-/// as of a terminal: the clauses on what went out say nothing then.
+/// A write that succeeds leaves the count of failures as it was; a count at 2^64 - 1 stays there and
+/// counts as risen. What went out may be unknown, as of a terminal: the clauses on what went out say
+/// nothing then.
 pub trait Out {
     ghost told: { Self → Option (List ℕ) };
 
@@ -36,7 +37,8 @@ pub trait Out {
         ensures moves { IfOk result (λ n. 0 < length text.now → 0 < n) }
         ensures nothing { OnErr result (Keeps (told self.old) (told self.new)) }
         ensures counted { OnErr result (Rises (failure_count self.old) (failure_count self.new)) }
-        ensures grows { failure_count self.old ≤ failure_count self.new };
+        ensures grows { failure_count self.old ≤ failure_count self.new }
+        ensures no_failure { OnOk result (failure_count self.new ≡ failure_count self.old) };
 
     /// How often the output failed, at most 2^64 - 1.
     fn failures(&self) -> u64
@@ -53,6 +55,7 @@ pub fn write_text<O: Out>(out: &mut O, text: &[u8]) -> Result<(), OutFault>
     ensures within { IfErr result (λ fault. fault.written < length text.now) }
     ensures counted { OnErr result (Rises (O.failure_count out.old) (O.failure_count out.new)) }
     ensures grows { O.failure_count out.old ≤ O.failure_count out.new }
+    ensures no_failure { OnOk result (O.failure_count out.new ≡ O.failure_count out.old) }
 {
     let mut written = 0;
     while written < text.len() {

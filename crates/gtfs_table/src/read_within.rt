@@ -1,5 +1,5 @@
-ghost use Rattle.std.specs.Prelude.{◌≡◌, ◌≤◌, ◌<◌, length, vec_len, IfOk, IfErr, IfSome, IsErrOf};
-ghost use Rattle.gtfs_table.specs.Disk.{RefusesFile};
+ghost use Rattle.std.specs.Prelude.{◌≡◌, ◌≤◌, ◌<◌, ◌+◌, length, vec_len, IfOk, IfErr, IfSome, IsErrOf};
+ghost use Rattle.gtfs_table.specs.Disk.{RefusesFile, GivesAtMost, GivesMoreThan};
 
 use crate::folders::FolderFault;
 use std::alloc::Global;
@@ -23,7 +23,8 @@ pub(crate) fn read_within<F: Read>(
         (λ bytes. IfSome (F.remaining file.old) (λ left. bytes.items ≡ left)) }
     ensures within { IfOk result (λ bytes. vec_len bytes ≤ limit) }
     ensures large { IsErrOf result FolderFault.TooLarge
-        → IfSome (F.remaining file.old) (λ left. limit < length left) }
+        → GivesMoreThan limit (F.remaining file.old) (F.remaining file.new) }
+    ensures takes { GivesAtMost (limit + 1) (F.remaining file.old) (F.remaining file.new) }
     ensures faults { IfErr result RefusesFile }
 {
     let mut bytes = Vec::with_capacity(alloc, size)?;

@@ -1,7 +1,8 @@
-ghost use Rattle.std.specs.Prelude.{All, ◌≡◌, ◌≢◌, ◌<◌, ◌≤◌, [], false, is_some, length, map, option_map, string_bytes, IfOk, IfErr, IfSome, OnOk, OnErr};
+ghost use Rattle.std.specs.Prelude.{All, ◌≡◌, ◌≢◌, ◌<◌, ◌≤◌, [], false, is_some, length, map, option_map, string_bytes, IfOk, IfErr, IfSome, IsErrOf, OnOk, OnErr};
+ghost use Rattle.gtfs_table.specs.Device.{FailsAtLast, MakesCalls, MakesSomeCalls};
 ghost use Rattle.gtfs_table.specs.Files.{file_name};
 ghost use Rattle.gtfs_table.specs.Folder.{IsByBytes, RefusesRead};
-ghost use Rattle.gtfs_table.specs.Reading.{is_kept, kept_files, AreOthers, other_names as names_kept_out, HoldsDataset, HoldsTable, RefusesDataset, SetsTables};
+ghost use Rattle.gtfs_table.specs.Reading.{is_kept, kept_files, AllHoldWithin, AreOthers, other_names as names_kept_out, HoldsDataset, HoldsTable, HoldsWithin, RefusesDataset, SetsTables};
 ghost use Rattle.gtfs_table.specs.Rows.{is_row as row_of, numbered, records_in, rows as row_numbers};
 ghost use Rattle.gtfs_table.specs.Tables.{column_of, empty_dataset, field_cut, record_at, table_of, table_state, value, with_field, with_record, with_table};
 ghost use Rattle.gtfs_table.specs.Written.{text_of_table, ReadsBack};
@@ -116,11 +117,20 @@ impl Tables {
         dir: &str,
     ) -> Result<Tables, FolderFault>
         ensures reads { IfOk result (λ tables. HoldsDataset (F.held folders.old) dir.now tables) }
+        ensures within { OnOk result
+            (AllHoldWithin (F.limit folders.old) (F.held folders.old) dir.now kept_files) }
         ensures refused { IfErr result
-            (λ fault. RefusesDataset fault (F.held folders.old) dir.now
+            (λ fault. RefusesDataset fault (F.limit folders.old) (F.held folders.old) dir.now
             (F.failure_count folders.old) (F.failure_count folders.new)) }
         ensures unchanged { F.held folders.new ≡ F.held folders.old }
         ensures grows { F.failure_count folders.old ≤ F.failure_count folders.new }
+        ensures no_failure { OnOk result
+            (F.failure_count folders.new ≡ F.failure_count folders.old) }
+        ensures same_limit { F.limit folders.new ≡ F.limit folders.old }
+        ensures called { OnOk result (MakesCalls 10 (F.calls folders.old) (F.calls folders.new)) }
+        ensures called_until { OnErr result
+            (MakesSomeCalls 10 (F.calls folders.old) (F.calls folders.new)) }
+        ensures ends { IsErrOf result FolderFault.Read → FailsAtLast (F.calls folders.new) }
     {
         let names = folders.names(alloc, dir)?;
         let mut tables = Tables::of_names(other_names(alloc, names)?, alloc);
@@ -291,11 +301,20 @@ impl Tables {
     ) -> Result<(), FolderFault>
         ensures sets { OnOk result
             (SetsTables (F.held folders.old) dir.now kept_files self.old self.new) }
+        ensures within { OnOk result
+            (AllHoldWithin (F.limit folders.old) (F.held folders.old) dir.now kept_files) }
         ensures refused { IfErr result
-            (λ fault. RefusesDataset fault (F.held folders.old) dir.now
+            (λ fault. RefusesDataset fault (F.limit folders.old) (F.held folders.old) dir.now
             (F.failure_count folders.old) (F.failure_count folders.new)) }
         ensures unchanged { F.held folders.new ≡ F.held folders.old }
         ensures grows { F.failure_count folders.old ≤ F.failure_count folders.new }
+        ensures no_failure { OnOk result
+            (F.failure_count folders.new ≡ F.failure_count folders.old) }
+        ensures same_limit { F.limit folders.new ≡ F.limit folders.old }
+        ensures called { OnOk result (MakesCalls 9 (F.calls folders.old) (F.calls folders.new)) }
+        ensures called_until { OnErr result
+            (MakesSomeCalls 9 (F.calls folders.old) (F.calls folders.new)) }
+        ensures ends { IsErrOf result FolderFault.Read → FailsAtLast (F.calls folders.new) }
     {
         for file in &File::ALL {
             let table = read_file(alloc, folders, dir, *file)?;
@@ -345,11 +364,17 @@ fn read_file<F: Folders>(
     file: File,
 ) -> Result<FileTable, FolderFault>
     ensures reads { IfOk result (λ table. HoldsTable (F.held folders.old) dir.now file table) }
+    ensures within { OnOk result
+        (HoldsWithin (F.limit folders.old) (F.held folders.old) dir.now file) }
     ensures refused { IfErr result
-        (λ fault. RefusesRead fault (F.held folders.old) dir.now (file_name file)
-        (F.failure_count folders.old) (F.failure_count folders.new)) }
+        (λ fault. RefusesRead fault (F.limit folders.old) (F.held folders.old) dir.now
+        (file_name file) (F.failure_count folders.old) (F.failure_count folders.new)) }
     ensures unchanged { F.held folders.new ≡ F.held folders.old }
     ensures grows { F.failure_count folders.old ≤ F.failure_count folders.new }
+    ensures no_failure { OnOk result (F.failure_count folders.new ≡ F.failure_count folders.old) }
+    ensures same_limit { F.limit folders.new ≡ F.limit folders.old }
+    ensures called { MakesCalls 1 (F.calls folders.old) (F.calls folders.new) }
+    ensures ends { IsErrOf result FolderFault.Read → FailsAtLast (F.calls folders.new) }
 {
     match folders.read(alloc, dir, file.name())? {
         Some(bytes) => Ok(reader::read_table(alloc, &bytes)?),

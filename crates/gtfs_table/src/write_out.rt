@@ -91,8 +91,8 @@ impl<W: Write> Out for WriteOut<W> {
         ensures nothing { OnErr result (Keeps (W.contents self.old.0) (W.contents self.new.0)) }
         ensures counted { OnErr result (Rises self.old.1 self.new.1) }
         ensures grows { self.old.1 ≤ self.new.1 }
+        ensures no_failure { OnOk result (self.new.1 ≡ self.old.1) }
 
-        ensures ok { OnOk result (self.new.1 ≡ self.old.1) }
         ensures err { OnErr result (self.new.1 ≡ counted self.old.1) }
     {
         match write_some(&mut self.writer, text) {

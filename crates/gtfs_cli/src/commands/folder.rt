@@ -1,7 +1,7 @@
 ghost use Rattle.std.specs.Prelude.{◌≡◌, ◌≤◌, Option, IfOk, IfErr};
 ghost use Rattle.gtfs_table.specs.Folder.{Store};
-ghost use Rattle.gtfs_table.specs.Reading.{HoldsDataset, RefusesDataset};
-ghost use Rattle.gtfs_cli.specs.Running.{Failures};
+ghost use Rattle.gtfs_table.specs.Reading.{HoldsDataset};
+ghost use Rattle.gtfs_cli.specs.Running.{Failures, RefusesFeed};
 ghost use Rattle.gtfs_cli.specs.declared.words.BoardWords.{BoardWords as Given};
 ghost use Rattle.gtfs_cli.specs.Refusals.{IsCause, IsCheckCause, IsFaultCause};
 
@@ -34,7 +34,7 @@ pub(super) fn read_tables<'w, F: Folders>(
 // What a fault of the folders means for the path that was asked for.
 pub(super) fn of_folder(fault: FolderFault, path: &str) -> Refusal<'_>
     ensures board { (held : Option Store) (words : Given) (before after : Failures) → IsFaultCause held words before after fault → IsCause held words before after result }
-    ensures check { (held : Option Store) (before after : Failures) → RefusesDataset fault held path.now before.folders after.folders
+    ensures check { (held : Option Store) (before after : Failures) → RefusesFeed fault held path.now before.folders after.folders
         → IsCheckCause held path.now before after result }
 {
     match fault {

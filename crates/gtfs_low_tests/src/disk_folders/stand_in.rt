@@ -1,4 +1,5 @@
-//! A file system that stands in for the real one: one folder, and under every path one file or none.
+//! A file system that stands in for the real one: one folder, and under every path one file or none, or a
+//! folder of which nothing can be opened.
 ghost use Rattle.std.specs.Prelude.{IsErr};
 
 use std::alloc::{Allocator, Global};
@@ -13,6 +14,8 @@ pub(super) struct StandIn<'a> {
     pub(super) rt: HostRuntime,
     pub(super) folder: Entries,
     pub(super) file: Option<Drip<'a>>,
+    // What is opened or made is refused for this.
+    pub(super) refusal: Option<ErrorKind>,
 }
 
 impl<'a> StandIn<'a> {
@@ -21,6 +24,14 @@ impl<'a> StandIn<'a> {
             rt,
             folder: Entries { names, times },
             file: None,
+            refusal: None,
+        }
+    }
+
+    pub(super) fn refusing(rt: HostRuntime, kind: ErrorKind) -> StandIn<'a> {
+        StandIn {
+            refusal: Some(kind),
+            ..StandIn::with_names(rt, b"", 0)
         }
     }
 
@@ -32,6 +43,7 @@ impl<'a> StandIn<'a> {
                 times: 0,
             },
             file: Some(file),
+            refusal: None,
         }
     }
 }
@@ -138,19 +150,23 @@ impl<'a> Files for StandIn<'a> {
     type Dir = Entries;
 
     fn open_file(&self, _how: &OpenOptions, _path: &str) -> io::Result<Drip<'a>> {
-        self.file.ok_or(Error::from(ErrorKind::Unsupported))
+        let kind = self.refusal.unwrap_or(ErrorKind::Unsupported);
+        self.file.ok_or(Error::from(kind))
     }
 
     fn open_dir(&self, _path: &str) -> io::Result<Entries> {
-        Ok(self.folder)
+        match self.refusal {
+            Some(kind) => Err(Error::from(kind)),
+            None => Ok(self.folder),
+        }
     }
 
     fn metadata(&self, _path: &str) -> io::Result<Metadata> {
-        unsupported()
+        Ok(Metadata::of_dir())
     }
 
     fn symlink_metadata(&self, _path: &str) -> io::Result<Metadata> {
-        unsupported()
+        Err(Error::from(ErrorKind::NotFound))
     }
 
     fn copy(&self, _from: &str, _to: &str) -> io::Result<u64> {
@@ -166,7 +182,7 @@ impl<'a> Files for StandIn<'a> {
     }
 
     fn create_dir(&self, _path: &str) -> io::Result<()> {
-        unsupported()
+        Err(Error::from(self.refusal.unwrap_or(ErrorKind::Unsupported)))
     }
 
     fn remove_dir(&self, _path: &str) -> io::Result<()> {

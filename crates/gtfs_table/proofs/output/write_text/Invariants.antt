@@ -1,4 +1,4 @@
-use Rattle.std.proofs.Common.{length, ◌-◌, ◌≤◌, take}
+use Rattle.std.proofs.Common.{length, ◌-◌, ◌≡◌, ◌≤◌, take}
 use Rattle.std.specs.Io.KnownBytes.{Appends}
 use Rattle.gtfs_table.proofs.output.write_text.Given as goal
 
@@ -9,7 +9,7 @@ invariant-loop-written g l =
     record {
       within : l.written ≤ length l.text;
       sent : Appends (told l.fn.out) (told l.out) (take l.written l.text);
-      counted : count l.fn.out ≤ count l.out;
+      counted : count l.out ≡ count l.fn.out;
     }
 
 abbrev pub decreases-loop-written : goal.decreases-loop-written

@@ -3,8 +3,9 @@ use Rattle.gtfs_cli.proofs.commands.board.read_zone.Goals as goal
 
 pub returns-in-Err-clause-refused : goal.returns-in-Err-clause-refused
 returns-in-Err-clause-refused g c = λ before after first last.
+    let limit = g.F.Folders.limit c.args.folders.now in
     let held = g.F.Folders.held c.args.folders.now in
     let x = g.F.Folders.failure_count c.args.folders.now in
     let y = g.F.Folders.failure_count c.read.new.self in
     c.of_folder.ensures.board held c.args.words.now before after
-    (cause-file held c.args.words.now before after x y c.cut_path.result.0.now c.cut_path.result.1.now c.in-Err.fault first last c.cut_path.ensures c.in-Err.ensures.refused)
+    (cause-file limit held c.args.words.now before after x y c.cut_path.result.0.now c.cut_path.result.1.now c.in-Err.fault first last c.cut_path.ensures c.in-Err.ensures.refused)
