@@ -27,17 +27,17 @@ abbrev pub id_and_row : IdRow → List ℕ × ℕ
 id_and_row r = (id_of r, r.row)
 
 -- the row of the first pair with an id
-abbrev row_paired : List (List ℕ × ℕ) → List ℕ → Option ℕ
+abbrev pub row_paired : List (List ℕ × ℕ) → List ℕ → Option ℕ
 row_paired ps id = option_map (λ p. p.1) (find (λ p. bytes_eq p.0 id) ps)
 
-paired_rows : (rs : List IdRow) (id : List ℕ) → row_paired (map id_and_row rs) id ≡ listed_row rs id
+pub paired_rows : (rs : List IdRow) (id : List ℕ) → row_paired (map id_and_row rs) id ≡ listed_row rs id
 paired_rows [] id = refl
 paired_rows (r ∷ rs) id = elim (cases_Bool (bytes_eq (id_of r) id)) [
   | inl here ↦ rw here refl
   | inr later ↦ rw later (paired_rows rs id)
 ]
 
-paired_numbers : (f : ℕ → List ℕ) (ns : List ℕ) (id : List ℕ) → row_paired (map (λ n. (f n, n)) ns) id ≡ find (λ n. bytes_eq (f n) id) ns
+pub paired_numbers : (f : ℕ → List ℕ) (ns : List ℕ) (id : List ℕ) → row_paired (map (λ n. (f n, n)) ns) id ≡ find (λ n. bytes_eq (f n) id) ns
 paired_numbers f [] id = refl
 paired_numbers f (n ∷ ns) id = elim (cases_Bool (bytes_eq (f n) id)) [
   | inl here ↦ rw here refl
@@ -162,3 +162,12 @@ module _ (id : List ℕ) (xs : List IdRow) (up : IsStrictlySortedBy row_cmp xs) 
         | inl before ↦ sym (same_id id (get_or xs k x)) ∙ ap is_eq (sides.0 k x (omega arith) before)
         | inr after ↦ sym (same_id id (get_or xs k x)) ∙ ap is_eq (sides.1 k x after h)
       ]))
+
+-- the rows before the one with an id have others
+pub earlier : (at : ℕ) (x : IdRow) (id : List ℕ) (xs : List IdRow) → IsStrictlySortedBy row_cmp xs → at < length xs → x ≡ get_or xs at x → bytes_eq (id_of x) id ≡ true
+    → (k : ℕ) → k < at → bytes_eq (id_of (get_or xs k x)) id ≡ false
+earlier at x id xs up h is here k l =
+    let tie : text_cmp (id_of x) id ≡ Equal = (Equal-is (text_cmp (id_of x) id)).0 (same_id id x ∙ here) in
+    let same : text_cmp (id_of (get_or xs at x)) id ≡ Equal = ap (λ r. text_cmp (id_of r) id) (sym is) ∙ tie in
+    sym (same_id id (get_or xs k x))
+    ∙ ap is_eq (sym (alike_right nat_list_cmp_total (id_of (get_or xs at x)) id (id_of (get_or xs k x)) same) ∙ Less-from_sorted row_cmp xs k at x up l h)

@@ -6,6 +6,7 @@ pub mod FieldFacts
 pub mod FieldRowFacts
 pub mod FoundFacts
 pub mod IdFacts
+pub mod IdNumberFacts
 pub mod NamedFacts
 pub mod ReadFacts
 pub mod ReferenceFacts

@@ -157,13 +157,13 @@ read_as_there kind e t s always =
     let under = (read_under s.column t s.stands).there in
     rw (s.kind_is, s.empty_is, always) at under
 
-read_stands : (kind : Kind) (e : Empty) (t : List ℕ) → StandsAs kind e t → IsReadAs kind t
+pub read_stands : (kind : Kind) (e : Empty) (t : List ℕ) → StandsAs kind e t → IsReadAs kind t
 read_stands kind e t s = rw s.kind_is at (read_under s.column t s.stands).read
 
 -- ---- what readers find of them
 
 -- the values of the kind are numbers
-abbrev is_of_numbers : Kind → Bool
+abbrev pub is_of_numbers : Kind → Bool
 is_of_numbers kind = not (is_id kind) && not (is_text kind)
 
 counted_some : (e : Bool) (r : Result ℕ FieldFault) → is_some (option_and_then as_amount (if e then None else result_ok (counted r))) ≡ is_some (if e then None else result_ok (counted r))
@@ -176,7 +176,7 @@ measured_some true r = refl
 measured_some false (Ok n) = refl
 measured_some false (Err f) = refl
 
-amount_some : (kind : Kind) → is_of_numbers kind ≡ true → (t : List ℕ) → is_some (amount_of kind t) ≡ is_some (readable kind t)
+pub amount_some : (kind : Kind) → is_of_numbers kind ≡ true → (t : List ℕ) → is_some (amount_of kind t) ≡ is_some (readable kind t)
 amount_some id none t = cc none
 amount_some text none t = cc none
 amount_some count numbers t = counted_some (is_empty t) (count_of t)

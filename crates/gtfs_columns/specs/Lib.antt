@@ -4,6 +4,7 @@ pub mod ColumnRules
 pub mod Columns
 pub mod FieldRules
 pub mod FileRules
+pub mod IdNumbers
 pub mod KeyRules
 pub mod PeriodRules
 pub mod PresenceRules

@@ -1,24 +1,33 @@
-ghost use Rattle.std.specs.Prelude.{◌≡◌, IfSome, Some};
-ghost use Rattle.gtfs_columns.specs.steps.Ids.{first_row_with};
+ghost use Rattle.std.specs.Prelude.{◌≡◌, option_map, IfSome, Some};
+ghost use Rattle.gtfs_columns.specs.steps.Ids.{first_row_with, number_with};
 
 use crate::ids::Ids;
 
 // An odd number whose multiples are spread evenly: 2^64 divided by the golden ratio.
 const SPREAD: u64 = 0x9E37_79B9_7F4A_7C15;
 
-/// Finds the first rows of ids that are asked for one after the other.
+/// What is known of an id of a column.
+#[derive(Clone, Copy)]
+pub struct FoundId {
+    /// Its number, from 0: how many ids of the column come before it by their bytes.
+    pub number: usize,
+    /// The first row that has it.
+    pub row: usize,
+}
+
+/// Finds ids of a column that are asked for one after the other.
 ///
 /// Rows that stand together often name one row, and rows in turn; and in a large file most ids were asked for
-/// before. So before a search is made, three ranks are tried: that of the last answer, that where an id with
-/// the same last bytes was found, and the next in the order of ids. What they hold is compared with the id, so
-/// that no choice of ids can make an answer wrong, or cost more than the search.
+/// before. So before a search is made, three numbers are tried: that of the last answer, that of an id with
+/// the same last bytes that was found, and the next. What they hold is compared with the id, so that no choice of
+/// ids can make an answer wrong, or cost more than the search.
 #[derive(Drop)]
 pub struct Finder<'a> {
     /// The ids that are searched.
     pub ids: &'a Ids<'a>,
     last: usize,
-    // By slot, the rank that was found for an id of this slot: none where there is no slot yet.
-    ranks: Vec<usize>,
+    // By slot, the number that was found for an id of this slot: none where there is no slot yet.
+    numbers: Vec<usize>,
 }
 
 impl<'a> Finder<'a> {
@@ -29,7 +38,7 @@ impl<'a> Finder<'a> {
         Finder {
             ids,
             last: 0,
-            ranks: ids.no_ranks(),
+            numbers: ids.no_numbers(),
         }
     }
 
@@ -40,58 +49,77 @@ impl<'a> Finder<'a> {
         ensures answer { result ≡ first_row_with self.old.ids.now id.now }
         ensures same { self.new.ids.now ≡ self.old.ids.now }
     {
-        if let Some(row) = self.ids.row_at(self.last, id) {
-            return Some(row);
+        match self.find(id) {
+            Some(found) => Some(found.row),
+            None => None,
         }
-        let slot = self.slot(id);
-        if let Some(row) = self.try_rank(self.rank_of(slot), id) {
-            return Some(row);
-        }
-        if let Some(row) = self.try_rank(self.last.saturating_add(1), id) {
-            return Some(row);
-        }
-        let (rank, row) = self.ids.find(id)?;
-        self.remember(slot, rank);
-        Some(row)
     }
 
-    // The first row with this id, where the id has this rank in the order of ids.
-    #[inline(always)]
-    fn try_rank(&mut self, rank: usize, id: &str) -> Option<usize>
-        ensures answer { IfSome result (λ row. Some row ≡ first_row_with self.old.ids.now id.now) }
+    /// The number of this id and its first row, and None where no row has it.
+    ///
+    /// It needs memory only to guess by, so it answers the same where memory runs out.
+    pub fn find(&mut self, id: &str) -> Option<FoundId>
+        ensures row { option_map (λ found. found.row) result
+            ≡ first_row_with self.old.ids.now id.now }
+        ensures number { option_map (λ found. found.number) result
+            ≡ number_with self.old.ids.now id.now }
         ensures same { self.new.ids.now ≡ self.old.ids.now }
     {
-        let row = self.ids.row_at(rank, id)?;
-        self.last = rank;
-        Some(row)
+        if let Some(found) = self.ids.at(self.last, id) {
+            return Some(found);
+        }
+        let slot = self.slot(id);
+        if let Some(found) = self.try_number(self.number_of(slot), id) {
+            return Some(found);
+        }
+        if let Some(found) = self.try_number(self.last.saturating_add(1), id) {
+            return Some(found);
+        }
+        let found = self.ids.find(id)?;
+        self.remember(slot, found.number);
+        Some(found)
     }
 
-    // The rank that was found for an id of this slot.
+    // This id, where it has this number.
     #[inline(always)]
-    fn rank_of(&self, slot: usize) -> usize {
-        self.ranks.get(slot).copied().unwrap_or(0)
+    fn try_number(&mut self, number: usize, id: &str) -> Option<FoundId>
+        ensures row { IfSome result
+            (λ found. Some found.row ≡ first_row_with self.old.ids.now id.now) }
+        ensures number { IfSome result
+            (λ found. Some found.number ≡ number_with self.old.ids.now id.now) }
+        ensures same { self.new.ids.now ≡ self.old.ids.now }
+    {
+        let found = self.ids.at(number, id)?;
+        self.last = number;
+        Some(found)
+    }
+
+    // The number that was found for an id of this slot.
+    #[inline(always)]
+    fn number_of(&self, slot: usize) -> usize {
+        self.numbers.get(slot).copied().unwrap_or(0)
     }
 
     // The slot of an id, by its last bytes.
     #[inline(always)]
     fn slot(&self, id: &str) -> usize {
         let mixed = last_bytes(id.as_bytes()).wrapping_mul(SPREAD) >> 32;
-        mixed as usize & self.ranks.len().saturating_sub(1)
+        mixed as usize & self.numbers.len().saturating_sub(1)
     }
 
-    // Remembers the rank of an id. Where memory runs out there are fewer guesses, and the same answers.
-    fn remember(&mut self, slot: usize, rank: usize)
+    // Remembers the number of an id. Where memory runs out there are fewer guesses, and the same answers.
+    fn remember(&mut self, slot: usize, number: usize)
         ensures { self.new.ids.now ≡ self.old.ids.now }
     {
-        if self.ranks.is_empty()
-            && let Ok(ranks) = self.ids.ranks()
+        if self.numbers.is_empty()
+            && let Ok(numbers) = self.ids.numbers()
         {
-            self.ranks = ranks;
+            self.numbers = numbers;
         }
-        if let Some(found) = self.ranks.get_mut(slot) {
-            *found = rank;
+        if let Some(found) = self.numbers.get_mut(slot) {
+            *found = number;
         }
-        self.last = rank;
+        self.last = number;
     }
 }
 

@@ -1,6 +1,7 @@
-ghost use Rattle.std.specs.Prelude.{◌≡◌, option_map, IfOk, IfSome, Some};
-ghost use Rattle.gtfs_columns.specs.steps.Ids.{first_row_with, ids_in, ListsFirstRows};
+ghost use Rattle.std.specs.Prelude.{◌≡◌, ◌<◌, ◌^◌, length, option_map, IfOk, IfSome, Some};
+ghost use Rattle.gtfs_columns.specs.steps.Ids.{first_row_with, number_with, ids_in, ids_of, ListsFirstRows};
 
+use crate::finder::FoundId;
 use crate::id_row::IdRow;
 use gtfs_field::OutOfMemory;
 use gtfs_table::{File, Tables};
@@ -52,42 +53,59 @@ impl<'a> Ids<'a> {
         })
     }
 
-    // The rank of this id in the order of ids, and its first row.
-    pub(crate) fn find(&self, id: &str) -> Option<(usize, usize)>
-        ensures { option_map (λ found. found.1) result ≡ first_row_with self.now id.now }
+    /// How many ids there are. Their numbers are those below.
+    pub fn len(&self) -> usize
+        ensures value { result ≡ length (ids_of self.now) }
+        ensures bound { result < 2 ^ 63 }
+    {
+        self.rows.len()
+    }
+
+    // The number of this id and its first row.
+    pub(crate) fn find(&self, id: &str) -> Option<FoundId>
+        ensures row { option_map (λ found. found.row) result ≡ first_row_with self.now id.now }
+        ensures number { option_map (λ found. found.number) result ≡ number_with self.now id.now }
     {
         match self.rows.binary_search_by(|row| row.id.cmp(id)) {
-            Ok(at) => Some((at, self.rows[at].row)),
+            Ok(number) => Some(FoundId {
+                number,
+                row: self.rows[number].row,
+            }),
             Err(_) => None,
         }
     }
 
-    // Eight ranks and more for each id, all of them 0: as many as a power of two.
-    pub(crate) fn ranks(&self) -> Result<Vec<usize>, OutOfMemory> {
-        let mut ranks = Vec::new(self.alloc);
+    // Eight numbers and more for each id, all of them 0: as many as a power of two.
+    pub(crate) fn numbers(&self) -> Result<Vec<usize>, OutOfMemory> {
+        let mut numbers = Vec::new(self.alloc);
         let count = self.rows.len().saturating_mul(8);
-        ranks.resize(count.checked_next_power_of_two().unwrap_or(0), 0)?;
-        Ok(ranks)
+        numbers.resize(count.checked_next_power_of_two().unwrap_or(0), 0)?;
+        Ok(numbers)
     }
 
-    // No ranks, which take no memory.
-    pub(crate) fn no_ranks(&self) -> Vec<usize> {
+    // No numbers, which take no memory.
+    pub(crate) fn no_numbers(&self) -> Vec<usize> {
         Vec::new(self.alloc)
     }
 
-    // The first row with this id, where the id has this rank in the order of ids.
+    // This id, where it has this number.
     #[inline(always)]
-    pub(crate) fn row_at(&self, rank: usize, id: &str) -> Option<usize>
-        ensures { IfSome result (λ row. Some row ≡ first_row_with self.now id.now) }
+    pub(crate) fn at(&self, number: usize, id: &str) -> Option<FoundId>
+        ensures row { IfSome result (λ found. Some found.row ≡ first_row_with self.now id.now) }
+        ensures number { IfSome result
+            (λ found. Some found.number ≡ number_with self.now id.now) }
     {
-        if rank >= self.rows.len() {
+        if number >= self.rows.len() {
             return None;
         }
-        let found = self.rows[rank];
+        let found = self.rows[number];
         if found.id != id {
             return None;
         }
-        Some(found.row)
+        Some(FoundId {
+            number,
+            row: found.row,
+        })
     }
 }
 

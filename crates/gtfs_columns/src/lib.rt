@@ -9,8 +9,8 @@
 //!   nowhere else; so [`present`] reads what is always there, and answers the value itself.
 //! - A column is found once, by its index in the header, and then read record after record (`Tables::column`,
 //!   `Record::value` of `gtfs_table`).
-//! - [`Ids`] are the first rows of the ids in a column, [`Finder`] looks such rows up, and [`FeedIds`] has all those
-//!   that other files name. [`stop_types`] are the location types of stops.
+//! - [`Ids`] are the ids in a column, each with its number by bytes and its first row, [`Finder`] looks them up, and
+//!   [`FeedIds`] has all those that other files name. [`stop_types`] are the location types of stops.
 //! - A [`Code`] says what is wrong, and a [`Problem`] where: in which [`FileName`], row and column. [`Found`] gathers
 //!   the problems that were found.
 //!
@@ -51,7 +51,7 @@ pub use columns::{
 };
 pub use feed_ids::FeedIds;
 pub use file_name::FileName;
-pub use finder::Finder;
+pub use finder::{Finder, FoundId};
 pub use found::Found;
 pub use ids::Ids;
 pub use location_types::{is_one_of, stop_types, type_of};

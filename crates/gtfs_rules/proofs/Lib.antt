@@ -1,2 +1,4 @@
 pub mod CompleteFacts
+pub mod PassedRows
+pub mod PassedStopTimes
 pub mod ReportLaws

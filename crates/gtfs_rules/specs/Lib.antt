@@ -1,3 +1,4 @@
 pub mod Report
+pub mod StopTimes
 pub mod Words
 pub mod steps

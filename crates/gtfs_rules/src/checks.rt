@@ -4,6 +4,7 @@ ghost use Rattle.gtfs_columns.specs.steps.Found.{Reports};
 ghost use Rattle.gtfs_rules.specs.steps.Parts.{every, in_files_and_fields, in_keys_and_references, in_periods_and_services, in_rows_alone, in_trips};
 ghost use Rattle.gtfs_columns.specs.Problems.{IsReport};
 ghost use Rattle.gtfs_columns.specs.steps.StopTypes.{AreStopTypes};
+ghost use Rattle.gtfs_trip_rules.specs.KeptOrder.{AreKeptOf};
 
 use crate::report::Report;
 use gtfs_columns::{FeedIds, Found, stop_types};
@@ -14,7 +15,7 @@ use gtfs_row_rules::{
 };
 use gtfs_table::Tables;
 use gtfs_trip_rules::{
-    report_counts, report_order, report_overlaps, report_services, report_stop_times,
+    StopTime, report_counts, report_order, report_overlaps, report_services, report_stop_times,
 };
 use std::alloc::Global;
 
@@ -30,17 +31,18 @@ pub fn check<'a>(alloc: Global, tables: &'a Tables) -> Result<Report<'a>, OutOfM
     ensures report { IfOk result (λ report. IsReport tables.now report.problems) }
 {
     let mut found = Found::new(alloc);
-    report_all(alloc, tables, &mut found)?;
-    Ok(Report::new(tables, found))
+    let stop_times = report_all(alloc, tables, &mut found)?;
+    Ok(Report::new(tables, found, stop_times))
 }
 
-// All that is wrong.
+// All that is wrong. This and the parts that judge stop times hand these on.
 fn report_all<'a>(
     alloc: Global,
     tables: &'a Tables,
     found: &mut Found<'a>,
-) -> Result<(), OutOfMemory>
-    ensures { OnOk result (Reports tables.now every found.old found.new) }
+) -> Result<Vec<StopTime>, OutOfMemory>
+    ensures reported { OnOk result (Reports tables.now every found.old found.new) }
+    ensures kept { IfOk result (λ stop_times. AreKeptOf tables.now stop_times.items) }
 {
     let types = stop_types(alloc, tables)?;
     let ids = FeedIds::new(alloc, tables)?;
@@ -54,16 +56,18 @@ fn report_parts<'a>(
     ids: &FeedIds<'a>,
     types: &[Option<i64>],
     found: &mut Found<'a>,
-) -> Result<(), OutOfMemory>
+) -> Result<Vec<StopTime>, OutOfMemory>
     requires ids { AreIdsOf tables.now ids.now }
     requires types { AreStopTypes tables.now types.now }
-    ensures { OnOk result (Reports tables.now every found.old found.new) }
+    ensures reported { OnOk result (Reports tables.now every found.old found.new) }
+    ensures kept { IfOk result (λ stop_times. AreKeptOf tables.now stop_times.items) }
 {
     report_files_and_fields(alloc, tables, found)?;
     report_rows_alone(tables, found)?;
     report_keys_and_references(alloc, tables, ids, types, found)?;
-    report_trips(alloc, tables, ids, types, found)?;
-    report_periods_and_services(alloc, tables, found)
+    let stop_times = report_trips(alloc, tables, ids, types, found)?;
+    report_periods_and_services(alloc, tables, found)?;
+    Ok(stop_times)
 }
 
 // What is wrong with files, with their headers and with single fields.
@@ -113,10 +117,11 @@ fn report_trips<'a>(
     ids: &FeedIds<'a>,
     types: &[Option<i64>],
     found: &mut Found<'a>,
-) -> Result<(), OutOfMemory>
+) -> Result<Vec<StopTime>, OutOfMemory>
     requires ids { AreIdsOf tables.now ids.now }
     requires types { AreStopTypes tables.now types.now }
-    ensures { OnOk result (Reports tables.now in_trips found.old found.new) }
+    ensures reported { OnOk result (Reports tables.now in_trips found.old found.new) }
+    ensures kept { IfOk result (λ stop_times. AreKeptOf tables.now stop_times.items) }
 {
     let notes = report_stop_times(alloc, tables, ids, types, found)?;
     report_counts(tables, &notes, found)?;

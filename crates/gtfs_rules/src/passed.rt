@@ -1,33 +1,37 @@
 ghost use Rattle.std.specs.Prelude.{◌≡◌};
 ghost use Rattle.gtfs_columns.specs.Problems.{Passes};
+ghost use Rattle.gtfs_rules.specs.StopTimes.{AreStopTimes};
 
 use gtfs_table::Tables;
+use gtfs_trip_rules::StopTime;
 use std::marker::Model;
 
 /// Tables that were checked and have no error. Nothing but [`Report::passed`](crate::Report::passed) makes one.
 #[derive(Drop)]
 pub struct Passed<'a> {
     tables: &'a Tables,
+    stop_times: Vec<StopTime>,
 }
 
 impl<'a> Model for Passed<'a> {
     ghost use Rattle.gtfs_table.specs.Tables.{Dataset};
-    ghost use Rattle.gtfs_columns.specs.Problems.{Passes};
+    ghost use Rattle.gtfs_rules.specs.steps.Checked.{HasPassed};
 
     ghost Value = { Dataset };
 
     ghost view = { λ p. p.tables.now };
 
-    ghost invariant = { λ p. Passes p.tables.now };
+    ghost invariant = { λ p. HasPassed p.tables.now p.stop_times.items };
 }
 
 impl<'a> Passed<'a> {
-    // Tables that have no error.
-    pub(crate) fn new(tables: &'a Tables) -> Passed<'a>
-        requires { Passes tables.now }
+    // Tables that have no error, and their stop times.
+    pub(crate) fn new(tables: &'a Tables, stop_times: Vec<StopTime>) -> Passed<'a>
+        requires passes { Passes tables.now }
+        requires stop_times { AreStopTimes tables.now stop_times.items }
         ensures { result ≡ tables.now }
     {
-        Passed { tables }
+        Passed { tables, stop_times }
     }
 
     /// The tables that were checked.
@@ -36,5 +40,15 @@ impl<'a> Passed<'a> {
         ensures passes { Passes result.now }
     {
         self.tables
+    }
+
+    /// The stop times of the dataset, one for each row of `stop_times.txt`: by the numbers of their trips, and in a
+    /// trip by their sequence. Each was read once, when the tables were checked, and says what its row says (GTFS
+    /// Schedule Reference, `stop_times.txt`). Trips and stops have the numbers of their ids: from 0, in the order of
+    /// the ids' bytes.
+    pub fn stop_times(&self) -> &[StopTime]
+        ensures { AreStopTimes self.now result.now }
+    {
+        self.stop_times.as_slice()
     }
 }

@@ -4,10 +4,12 @@ ghost use Rattle.gtfs_columns.specs.Codes.{is_error};
 ghost use Rattle.gtfs_columns.specs.steps.Found.{ListsAll};
 ghost use Rattle.gtfs_columns.specs.Problems.{IsOnlyReport, IsReport, Passes};
 ghost use Rattle.gtfs_columns.specs.View.{problem_of};
+ghost use Rattle.gtfs_trip_rules.specs.KeptOrder.{AreKeptOf};
 
 use crate::passed::Passed;
 use gtfs_columns::{Found, Problem};
 use gtfs_table::Tables;
+use gtfs_trip_rules::StopTime;
 use std::marker::Model;
 
 /// The problems of a dataset, each once, in order; it lends the tables that were checked.
@@ -15,30 +17,36 @@ use std::marker::Model;
 pub struct Report<'a> {
     tables: &'a Tables,
     problems: Vec<Problem<'a>>,
+    // Those that name a trip and have a sequence, in their order.
+    stop_times: Vec<StopTime>,
 }
 
 impl<'a> Model for Report<'a> {
     ghost use Rattle.std.specs.Prelude.{map};
     ghost use Rattle.gtfs_columns.specs.steps.Found.{Checked};
-    ghost use Rattle.gtfs_columns.specs.Problems.{IsReport};
     ghost use Rattle.gtfs_columns.specs.View.{problem_of};
+    ghost use Rattle.gtfs_rules.specs.steps.Checked.{IsChecked};
 
     ghost Value = { Checked };
 
     ghost view = { λ r. record { dataset = r.tables.now; problems = map problem_of r.problems.items } };
 
-    ghost invariant = { λ r. IsReport r.tables.now (map problem_of r.problems.items) };
+    ghost invariant = { λ r.
+        IsChecked r.tables.now (map problem_of r.problems.items) r.stop_times.items };
 }
 
 impl<'a> Report<'a> {
-    // The report of the problems that were found, which are all that the tables have.
-    pub(crate) fn new(tables: &'a Tables, found: Found<'a>) -> Report<'a>
-        requires { ListsAll tables.now found }
+    // The report of the problems that were found, which are all that the tables have, and the stop
+    // times that were read.
+    pub(crate) fn new(tables: &'a Tables, found: Found<'a>, stop_times: Vec<StopTime>) -> Report<'a>
+        requires found { ListsAll tables.now found }
+        requires stop_times { AreKeptOf tables.now stop_times.items }
         ensures { result.dataset ≡ tables.now }
     {
         Report {
             tables,
             problems: found.into_sorted(),
+            stop_times,
         }
     }
 
@@ -65,8 +73,9 @@ impl<'a> Report<'a> {
         let Report {
             tables,
             problems: _,
+            stop_times,
         } = self;
-        Ok(Passed::new(tables))
+        Ok(Passed::new(tables, stop_times))
     }
 }
 

@@ -9,7 +9,7 @@ use Rattle.gtfs_table.specs.declared.file.File.{File}
 use Rattle.gtfs_table.specs.declared.file.File.TheVariants as file
 use Rattle.gtfs_columns.specs.declared.code.Code.{Code}
 use Rattle.gtfs_columns.specs.declared.code.Code.TheVariants as code
-use Rattle.gtfs_trip_rules.specs.declared.stop_times.columns.StopTime.{StopTime}
+use Rattle.gtfs_trip_rules.specs.declared.stop_times.columns.ReadStopTime.{ReadStopTime}
 use Rattle.gtfs_trip_rules.specs.declared.stop_times.named.NamedRows.{NamedRows}
 use Rattle.gtfs_columns.specs.Columns.{id, time}
 use Rattle.gtfs_columns.specs.steps.Found.{Adds, is_same}
@@ -61,15 +61,15 @@ row_first d n c name sites = rows_then d n (at_column c file.StopTimes name) (at
 
 -- ---- readings
 
-counted_text : (v : Option ℕ) → option_and_then as_amount (option_map (λ x. amount (pos x)) v) ≡ option_map pos v
+pub counted_text : (v : Option ℕ) → option_and_then as_amount (option_map (λ x. amount (pos x)) v) ≡ option_map pos v
 counted_text None = refl
 counted_text (Some x) = refl
 
-some_mapped : {X Y : Type 0} (f : X → Y) (v : Option X) → is_some (option_map f v) ≡ is_some v
+pub some_mapped : {X Y : Type 0} (f : X → Y) (v : Option X) → is_some (option_map f v) ≡ is_some v
 some_mapped f None = refl
 some_mapped f (Some x) = refl
 
-worded_text : (v : Option (Bor (List ℕ))) → option_and_then as_word (option_map (λ t. word t.now) v) ≡ text_of v
+pub worded_text : (v : Option (Bor (List ℕ))) → option_and_then as_word (option_map (λ t. word t.now) v) ≡ text_of v
 worded_text None = refl
 worded_text (Some t) = refl
 
@@ -114,7 +114,7 @@ module _ (d : Dataset) where
   pub no_departure_rule : Rules d code.W08 (codes "departure_time") (lacks_time "departure_time" "arrival_time" d)
   no_departure_rule n = alone _
 
-module _ (d : Dataset) (s : StopTime) (is : IsRow d s) where
+module _ (d : Dataset) (s : ReadStopTime) (is : IsRow d s) where
   one_reported : (c : Code) (name : List ℕ) (breaks : ℕ → Bool) → Rules d c name breaks → (b : Bool) → b ≡ breaks s.row → (old new : List Problem) → Adds (λ p. is_same (problem_at c file.StopTimes name s.row) p && b) old new
       → ReportsOfRow d (at_column c file.StopTimes name) s.row old new
   one_reported c name breaks rule b same old new adds = row_reported d c file.StopTimes name breaks rule s.row old new is.row (rw same at adds)
@@ -170,7 +170,7 @@ module _ (i : IdColumn) (t : List ℕ) where
       → (is_some v && not (is_some (option_and_then (first_row_with i) (text_of v)))) ≡ is_unknown i t
   unknown_read v read = unknown_shape v (is_empty t) (has_control t) read
 
-module _ (d : Dataset) (s : StopTime) (is : IsRow d s) (r : NamedRows) (named : AreNamedRows d r) where
+module _ (d : Dataset) (s : ReadStopTime) (is : IsRow d s) (r : NamedRows) (named : AreNamedRows d r) where
   abbrev stop_text : List ℕ
   stop_text = text_at d s.row "stop_id"
 

@@ -6,12 +6,12 @@ use Rattle.gtfs_table.specs.Tables.{Dataset}
 use Rattle.gtfs_table.specs.declared.file.File.TheVariants as file
 use Rattle.gtfs_columns.specs.declared.code.Code.{Code}
 use Rattle.gtfs_columns.specs.declared.code.Code.TheVariants as code
-use Rattle.gtfs_trip_rules.specs.declared.stop_times.columns.StopTime.{StopTime}
+use Rattle.gtfs_trip_rules.specs.declared.stop_times.columns.ReadStopTime.{ReadStopTime}
 use Rattle.gtfs_trip_rules.specs.declared.stop_times.columns.StopTimeColumns.{StopTimeColumns}
 use Rattle.gtfs_trip_rules.specs.declared.stop_times.reading.Reading.{Reading}
 use Rattle.gtfs_trip_rules.specs.declared.stop_times.reading.Reading.TheVariants as reading
 use Rattle.gtfs_columns.specs.steps.Cells.{fault_code, is_found, when}
-use Rattle.gtfs_columns.specs.Columns.{Column, Kind, columns_of, column_named, id, count, time}
+use Rattle.gtfs_columns.specs.Columns.{Column, Kind, columns_of, column_named, id, count, time, up_to}
 use Rattle.gtfs_columns.specs.steps.FieldCodes.{field_codes, in_file_of, is_found_at, is_in_row, length_code}
 use Rattle.gtfs_columns.specs.steps.Found.{Adds}
 use Rattle.gtfs_columns.specs.Problems.{Problem, is_listed, is_problem}
@@ -89,7 +89,7 @@ module _ {V : Type 0} (kind : Kind) (as_value : V → Value) (t : List ℕ) (r :
       ∙ (λ i. if read.empty i then when b code.E06 else read.fault i)
       ∙ filled_code (is_empty t) b wanted (fault_code kind t) same
 
-module _ (d : Dataset) (c : StopTimeColumns) (columns : AreStopTimeColumns d c) (s : StopTime) (is : IsRow d s) where
+module _ (d : Dataset) (c : StopTimeColumns) (columns : AreStopTimeColumns d c) (s : ReadStopTime) (is : IsRow d s) where
   -- the cells of the kept columns, by the definition
   abbrev cells_in : List Cell
   cells_in = map (λ k. (k.name, cell_at d file.StopTimes s.row k.name k)) (columns_of file.StopTimes)
@@ -111,9 +111,9 @@ module _ (d : Dataset) (c : StopTimeColumns) (columns : AreStopTimeColumns d c) 
       ∷ (codes "stop_id", read_code id _ _ _ is.says.stop_id _ _ stop_named i)
       ∷ (codes "stop_sequence", read_code count _ _ _ is.says.stop_sequence _ _ sequence_named i)
       ∷ (codes "stop_headsign", (is.says.stop_headsign ∙ unfilled_code (is_empty (text_at d s.row "stop_headsign")) (is_named d file.StopTimes (codes "stop_headsign")) _) i)
-      ∷ (codes "pickup_type", (is.says.pickup_type ∙ unfilled_code (is_empty (text_at d s.row "pickup_type")) (is_named d file.StopTimes (codes "pickup_type")) _) i)
-      ∷ (codes "drop_off_type", (is.says.drop_off_type ∙ unfilled_code (is_empty (text_at d s.row "drop_off_type")) (is_named d file.StopTimes (codes "drop_off_type")) _) i)
-      ∷ (codes "timepoint", (is.says.timepoint ∙ unfilled_code (is_empty (text_at d s.row "timepoint")) (is_named d file.StopTimes (codes "timepoint")) _) i)
+      ∷ (codes "pickup_type", read_code (up_to 3) _ _ _ is.says.pickup_type _ _ (and_false (is_named d file.StopTimes (codes "pickup_type"))) i)
+      ∷ (codes "drop_off_type", read_code (up_to 3) _ _ _ is.says.drop_off_type _ _ (and_false (is_named d file.StopTimes (codes "drop_off_type"))) i)
+      ∷ (codes "timepoint", read_code (up_to 1) _ _ _ is.says.is_exact _ _ (and_false (is_named d file.StopTimes (codes "timepoint"))) i)
       ∷ []
 
   same_there : (o : Option Column) (f g : Column → Bool) → ((k : Column) → o ≡ Some k → f k ≡ g k) → if_there o f ≡ if_there o g

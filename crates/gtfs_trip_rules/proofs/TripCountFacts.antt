@@ -11,11 +11,12 @@ use Rattle.std.proofs.lemmas.List.Filters.{length-filter_both}
 use Rattle.gtfs_table.specs.Tables.{Dataset}
 use Rattle.gtfs_table.specs.declared.file.File.TheVariants as file
 use Rattle.gtfs_columns.specs.declared.code.Code.TheVariants as code
-use Rattle.gtfs_trip_rules.specs.declared.trips.row.TripStopTime.{TripStopTime}
+use Rattle.gtfs_trip_rules.specs.declared.trips.row.StopTime.{StopTime}
 use Rattle.gtfs_columns.specs.Problems.{holds_in}
 use Rattle.gtfs_table.specs.Rows.{is_row, records_in}
 use Rattle.gtfs_columns.specs.Rows.{text_in}
-use Rattle.gtfs_trip_rules.specs.TripCounts.{AreCounts, AreKept, are_few, count_of}
+use Rattle.gtfs_trip_rules.specs.TripCounts.{AreCounts, AreKept, count_of}
+use Rattle.gtfs_trip_rules.specs.KeptTimes.{is_placed}
 use Rattle.gtfs_trip_rules.specs.TripNotes.{note_of, times_noted, trip_notes_in}
 use Rattle.gtfs_trip_rules.specs.TripNumbers.{AreNamed, AreNumbered, Keeps, name_at, number_in}
 use Rattle.gtfs_columns.specs.Columns.{id as id_kind}
@@ -28,9 +29,9 @@ use Rattle.gtfs_trip_rules.proofs.TripStopTimeFacts.{as_many, named_rows}
 
 -- ---- what is kept, row by row
 
-one_more : (n : ℕ) (rows : List TripStopTime) (row : TripStopTime) → length (filter (λ r. n == r.trip) (rows ++ row ∷ [])) ≡ length (filter (λ r. n == r.trip) rows) + cond (n == row.trip) 1 0
+one_more : (n : ℕ) (rows : List StopTime) (row : StopTime) → length (filter (λ r. n == r.trip) (rows ++ row ∷ [])) ≡ length (filter (λ r. n == r.trip) rows) + cond (n == row.trip) 1 0
 one_more n rows row =
-    ap length (filter-append (λ (r : TripStopTime). n == r.trip) rows (row ∷ []))
+    ap length (filter-append (λ (r : StopTime). n == r.trip) rows (row ∷ []))
     ∙ length-append (filter (λ r. n == r.trip) rows) (filter (λ r. n == r.trip) (row ∷ []))
     ∙ ap (λ m. length (filter (λ r. n == r.trip) rows) + m) (if_one (n == row.trip))
   where
@@ -38,8 +39,8 @@ one_more n rows row =
     if_one true = refl
     if_one false = refl
 
-module _ (counts : List ℕ) (rows : List TripStopTime) (counted : AreCounts counts rows) where
-  counts_more : (row : TripStopTime) → row.trip < length counts → (count : ℕ) → count ≡ get_or counts row.trip count → AreCounts (set counts row.trip (count + 1)) (rows ++ row ∷ [])
+module _ (counts : List ℕ) (rows : List StopTime) (counted : AreCounts counts rows) where
+  counts_more : (row : StopTime) → row.trip < length counts → (count : ℕ) → count ≡ get_or counts row.trip count → AreCounts (set counts row.trip (count + 1)) (rows ++ row ∷ [])
   counts_more row inside count was n = elim (cases_Bool (n == row.trip)) [
     | inl here ↦
         let same : n ≡ row.trip = same_number n row.trip here in
@@ -66,27 +67,28 @@ module _ (counts : List ℕ) (rows : List TripStopTime) (counted : AreCounts cou
   count_fits count n inside is =
       omega (arith, is, get_or_default counts n count 0 inside, counted n, length-filter_both (λ r. n == r.trip) (λ r. not (n == r.trip)) (λ r. refl) rows)
 
--- after a trip was given its number
-pub still_kept : (old new : BTreeMap (Bor (List ℕ)) ℕ) (names more : List (Bor (List ℕ))) (counts wide : List ℕ) (are_sequenced : Bool) (rows : List TripStopTime) → AreKept old names counts are_sequenced rows
-    → Keeps old new → AreNamed new more → ((n : ℕ) → get_or wide n 0 ≡ get_or counts n 0) → AreKept new more wide are_sequenced rows
-still_kept old new names more counts wide are_sequenced rows kept keeps named same = record {
-  numbered = record { named = named; numbered = rows_stay old new names more rows kept.numbered.numbered keeps named };
-  counted = λ n. same n ∙ kept.counted n;
-  located = kept.located;
-}
+module _ (trips : List (List ℕ)) where
+  -- after a trip was given its number
+  pub still_kept : (old new : BTreeMap (Bor (List ℕ)) ℕ) (names more : List (Bor (List ℕ))) (counts wide : List ℕ) (are_sequenced : Bool) (rows : List StopTime) → AreKept trips old names counts are_sequenced rows
+      → Keeps trips old new → AreNamed trips new more → ((n : ℕ) → get_or wide n 0 ≡ get_or counts n 0) → AreKept trips new more wide are_sequenced rows
+  still_kept old new names more counts wide are_sequenced rows kept keeps named same = record {
+    numbered = record { named = named; numbered = rows_stay trips old new names more rows kept.numbered.numbered keeps named };
+    counted = λ n. same n ∙ kept.counted n;
+    located = kept.located;
+  }
 
--- one row more
-pub one_kept : (numbers : BTreeMap (Bor (List ℕ)) ℕ) (names : List (Bor (List ℕ))) (counts : List ℕ) (are_sequenced : Bool) (rows : List TripStopTime) (row : TripStopTime) (id : List ℕ) (count : ℕ) (are : Bool)
-    → are ≡ (are_sequenced && row.has_sequence) → AreKept numbers names counts are_sequenced rows → number_in numbers id ≡ Some row.trip → row.trip < length counts → count ≡ get_or counts row.trip count
-    → AreKept numbers names (set counts row.trip (count + 1)) are (rows ++ row ∷ [])
-one_kept numbers names counts are_sequenced rows row id count are both kept here inside was = record {
-  numbered = one_numbered numbers names rows row id kept.numbered.named kept.numbered.numbered here;
-  counted = counts_more counts rows kept.counted row inside count was;
-  located = λ all. let parts = and_parts are_sequenced row.has_sequence (sym both ∙ all) in All-push (λ (r : TripStopTime). r.has_sequence ≡ true) rows row (kept.located parts.0) parts.1;
-}
+  -- one row more
+  pub one_kept : (numbers : BTreeMap (Bor (List ℕ)) ℕ) (names : List (Bor (List ℕ))) (counts : List ℕ) (are_sequenced : Bool) (rows : List StopTime) (row : StopTime) (id : List ℕ) (count : ℕ) (are : Bool)
+      → are ≡ (are_sequenced && is_placed row.times) → AreKept trips numbers names counts are_sequenced rows → number_in trips numbers id ≡ Some row.trip → row.trip < length counts → count ≡ get_or counts row.trip count
+      → AreKept trips numbers names (set counts row.trip (count + 1)) are (rows ++ row ∷ [])
+  one_kept numbers names counts are_sequenced rows row id count are both kept here inside was = record {
+    numbered = one_numbered trips numbers names rows row id kept.numbered.named kept.numbered.numbered here;
+    counted = counts_more counts rows kept.counted row inside count was;
+    located = λ all. let parts = and_parts are_sequenced (is_placed row.times) (sym both ∙ all) in All-push (λ (r : StopTime). is_placed r.times ≡ true) rows row (kept.located parts.0) parts.1;
+  }
 
 -- rows that all pass
-pub all_pass : (p : TripStopTime → Bool) (rows : List TripStopTime) → All (λ r. p r ≡ true) rows → filter p rows ≡ rows
+pub all_pass : (p : StopTime → Bool) (rows : List StopTime) → All (λ r. p r ≡ true) rows → filter p rows ≡ rows
 all_pass p [] each = refl
 all_pass p (r ∷ rows) each =
     ap (λ b. cond b (r ∷ filter p rows) (filter p rows)) (each 0 r (omega arith)) ∙ ap (λ rs. r ∷ rs) (all_pass p rows (All-tail (λ r. p r ≡ true) r rows each))
@@ -94,44 +96,44 @@ all_pass p (r ∷ rows) each =
 -- ---- rows that name a trip
 
 -- rows with a number
-abbrev is_of : Option ℕ → TripStopTime → Bool
+abbrev is_of : Option ℕ → StopTime → Bool
 is_of None = λ r. false
 is_of (Some n) = λ r. n == r.trip
 
-none_of : (rows : List TripStopTime) → length (filter (is_of None) rows) ≡ 0
+none_of : (rows : List StopTime) → length (filter (is_of None) rows) ≡ 0
 none_of [] = refl
 none_of (r ∷ rows) = none_of rows
 
-module _ (numbers : BTreeMap (Bor (List ℕ)) ℕ) (names : List (Bor (List ℕ))) (trip : List ℕ) where
+module _ (trips : List (List ℕ)) (numbers : BTreeMap (Bor (List ℕ)) ℕ) (names : List (Bor (List ℕ))) (trip : List ℕ) where
   abbrev name : ℕ → List ℕ
-  name = name_at names
+  name = name_at trips names
 
-  named : (o : Option ℕ) (rows : List TripStopTime) → All (λ r. is_of o r ≡ bytes_eq trip (name r.trip)) rows → length (filter (is_of o) rows) ≡ times_noted (map (note_of name) rows) trip
+  named : (o : Option ℕ) (rows : List StopTime) → All (λ r. is_of o r ≡ bytes_eq trip (name r.trip)) rows → length (filter (is_of o) rows) ≡ times_noted (map (note_of name) rows) trip
   named o [] each = refl
   named o (r ∷ rows) each =
       ap (λ b. length (cond b (r ∷ filter (is_of o) rows) (filter (is_of o) rows))) (each 0 r (omega arith))
       ∙ as_many (bytes_eq trip (name r.trip)) r (filter (is_of o) rows) (note_of name r) (filter (λ n. bytes_eq trip n.trip_id) (map (note_of name) rows))
       (named o rows (All-tail (λ r. is_of o r ≡ bytes_eq trip (name r.trip)) r rows each))
 
-  module _ (rows : List TripStopTime) (are : AreNumbered numbers names rows) where
-    by_number : (o : Option ℕ) → number_in numbers trip ≡ o → (r : TripStopTime) → number_in numbers (name r.trip) ≡ Some r.trip → is_of o r ≡ bytes_eq trip (name r.trip)
+  module _ (rows : List StopTime) (are : AreNumbered trips numbers names rows) where
+    by_number : (o : Option ℕ) → number_in trips numbers trip ≡ o → (r : StopTime) → number_in trips numbers (name r.trip) ≡ Some r.trip → is_of o r ≡ bytes_eq trip (name r.trip)
     by_number None is r has = same_test false (bytes_eq trip (name r.trip)) (λ e. cc e)
-        (λ e. let clash : None ≡ Some r.trip = sym is ∙ ap (number_in numbers) (text_is trip (name r.trip) e) ∙ has in cc)
+        (λ e. let clash : None ≡ Some r.trip = sym is ∙ ap (number_in trips numbers) (text_is trip (name r.trip) e) ∙ has in cc)
     by_number (Some n) is r has = same_test (n == r.trip) (bytes_eq trip (name r.trip))
         (λ e. ap (λ t. bytes_eq t (name r.trip)) (sym (are.named trip n is).1 ∙ ap name (same_number n r.trip e)) ∙ text_itself (name r.trip))
-        (λ e. let one : n ≡ r.trip = ap (λ o. unwrap_or o 0) (sym is ∙ ap (number_in numbers) (text_is trip (name r.trip) e) ∙ has) in ap (λ m. n == m) (sym one) ∙ number_itself n)
+        (λ e. let one : n ≡ r.trip = ap (λ o. unwrap_or o 0) (sym is ∙ ap (number_in trips numbers) (text_is trip (name r.trip) e) ∙ has) in ap (λ m. n == m) (sym one) ∙ number_itself n)
 
-    pub trip_counted : (counts : List ℕ) → AreCounts counts rows → count_of numbers counts trip ≡ times_noted (map (note_of name) rows) trip
-    trip_counted counts counted = of_number (number_in numbers trip) refl ∙ named (number_in numbers trip) rows (λ k d below. by_number (number_in numbers trip) refl (get_or rows k d) (are.numbered k d below))
+    pub trip_counted : (counts : List ℕ) → AreCounts counts rows → count_of trips numbers counts trip ≡ times_noted (map (note_of name) rows) trip
+    trip_counted counts counted = of_number (number_in trips numbers trip) refl ∙ named (number_in trips numbers trip) rows (λ k d below. by_number (number_in trips numbers trip) refl (get_or rows k d) (are.numbered k d below))
       where
-        of_number : (o : Option ℕ) → number_in numbers trip ≡ o → unwrap_or (option_map (λ n. get_or counts n 0) o) 0 ≡ length (filter (is_of o) rows)
+        of_number : (o : Option ℕ) → number_in trips numbers trip ≡ o → unwrap_or (option_map (λ n. get_or counts n 0) o) 0 ≡ length (filter (is_of o) rows)
         of_number None is = sym (none_of rows)
         of_number (Some n) is = counted n
 
 -- ---- trips that few rows name
 
-pub few_rows : (d : Dataset) (numbers : BTreeMap (Bor (List ℕ)) ℕ) (counts : List ℕ) (text : ℕ → List ℕ) → ((n : ℕ) → text n ≡ text_in d file.Trips n (codes "trip_id"))
-    → ((trip : List ℕ) → count_of numbers counts trip ≡ times_noted (trip_notes_in d) trip)
-    → (n : ℕ) → holds_in code.W06 d file.Trips n (codes "trip_id") ≡ (is_row (records_in d file.Trips) n && if_there (word_of id_kind (text n)) (are_few numbers counts))
-few_rows d numbers counts text same counted n =
-    λ i. is_row (records_in d file.Trips) n && if_there (word_of id_kind (sym (same n) i)) (λ trip. nat_lt (sym (counted trip ∙ named_rows d trip) i) 2)
+pub few_rows : (d : Dataset) (few : List ℕ → Bool) (text : ℕ → List ℕ) → ((n : ℕ) → text n ≡ text_in d file.Trips n (codes "trip_id"))
+    → ((trip : List ℕ) → few trip ≡ nat_lt (times_noted (trip_notes_in d) trip) 2)
+    → (n : ℕ) → holds_in code.W06 d file.Trips n (codes "trip_id") ≡ (is_row (records_in d file.Trips) n && if_there (word_of id_kind (text n)) few)
+few_rows d few text same counted n =
+    λ i. is_row (records_in d file.Trips) n && if_there (word_of id_kind (sym (same n) i)) (λ trip. (ap (λ m. nat_lt m 2) (sym (named_rows d trip)) ∙ sym (counted trip)) i)

@@ -11,7 +11,7 @@ use Rattle.std.proofs.lemmas.Option.{get_or_from_slice_get, slice_get_within}
 use Rattle.gtfs_trip_rules.specs.TripNumbers.{AllNumbered, IsNumbered}
 use Rattle.gtfs_trip_rules.specs.TripOrder.{ends, follows, repeats, same_trip}
 use Rattle.gtfs_trip_rules.specs.TripStopTimes.{TripStopTime, trip_stop_time}
-use Rattle.gtfs_trip_rules.specs.declared.trips.row.TripStopTime.{TripStopTime as CodeTripStopTime}
+use Rattle.gtfs_trip_rules.specs.declared.trips.row.StopTime.{StopTime}
 use Rattle.gtfs_columns.proofs.BoolFacts.{no_test, same_test}
 use Rattle.gtfs_columns.proofs.SiteFacts.{number_itself, same_number, text_is, text_itself}
 
@@ -27,18 +27,18 @@ same_integers a b = same_test (a == b) (int_eq (pos a) (pos b))
     (λ e. one_number a b (cc ((signed_Decides (pos a) (pos b)).0 e)))
 
 module _ (number : List ℕ → ℕ) (name : ℕ → List ℕ) where
-  abbrev row_of : CodeTripStopTime → TripStopTime
+  abbrev row_of : StopTime → TripStopTime
   row_of = trip_stop_time name
 
   -- rows whose trips have one number are of one trip, and no others are
-  same_trips : (a b : CodeTripStopTime) → IsNumbered number name a → IsNumbered number name b → (a.trip == b.trip) ≡ same_trip (row_of a) (row_of b)
+  same_trips : (a b : StopTime) → IsNumbered number name a → IsNumbered number name b → (a.trip == b.trip) ≡ same_trip (row_of a) (row_of b)
   same_trips a b first second = same_test (a.trip == b.trip) (bytes_eq (name a.trip) (name b.trip))
       (λ e. ap (λ n. bytes_eq (name a.trip) (name n)) (sym (same_number a.trip b.trip e)) ∙ text_itself (name a.trip))
       (λ e. ap (λ n. a.trip == n) (sym second ∙ ap number (sym (text_is (name a.trip) (name b.trip) e)) ∙ first) ∙ number_itself a.trip)
 
   -- ---- the row before
 
-  module _ (before : List CodeTripStopTime) (row last : CodeTripStopTime) (is_last : slice_get before (length before - 1) ≡ Some last) (each : AllNumbered number name before)
+  module _ (before : List StopTime) (row last : StopTime) (is_last : slice_get before (length before - 1) ≡ Some last) (each : AllNumbered number name before)
       (of_row : IsNumbered number name row) where
     abbrev site : ℕ
     site = length before - 1
@@ -67,7 +67,7 @@ module _ (number : List ℕ → ℕ) (name : ℕ → List ℕ) where
 
   -- ---- the row after
 
-  pub ends_first : (row next : CodeTripStopTime) (after : List CodeTripStopTime) (answer : Bool) → slice_get after 0 ≡ Some next → IsNumbered number name row → AllNumbered number name after
+  pub ends_first : (row next : StopTime) (after : List StopTime) (answer : Bool) → slice_get after 0 ≡ Some next → IsNumbered number name row → AllNumbered number name after
       → answer ≡ ends (map row_of after) → (not (row.trip == next.trip) || ((row.stop_sequence == next.stop_sequence) && answer)) ≡ ends (row_of row ∷ map row_of after)
   ends_first row next [] answer first of_row each is = cc first
   ends_first row next (a ∷ after) answer first of_row each is =

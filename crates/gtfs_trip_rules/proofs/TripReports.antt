@@ -14,11 +14,12 @@ use Rattle.gtfs_table.specs.declared.file.File.TheVariants as file
 use Rattle.gtfs_columns.specs.declared.code.Code.{Code}
 use Rattle.gtfs_columns.specs.declared.code.Code.TheVariants as code
 use Rattle.gtfs_columns.specs.declared.problem.Problem.{Problem as LentProblem}
-use Rattle.gtfs_trip_rules.specs.declared.trips.row.TripStopTime.{TripStopTime as CodeTripStopTime}
+use Rattle.gtfs_trip_rules.specs.declared.trips.row.StopTime.{StopTime}
 use Rattle.gtfs_columns.specs.steps.Found.{Adds, Reports, is_same}
 use Rattle.gtfs_columns.specs.steps.Picks.{at_column}
 use Rattle.gtfs_columns.specs.Problems.{Problem, holds_in, is_listed, is_problem}
 use Rattle.gtfs_table.specs.Rows.{is_row, records_in, rows, is_empty}
+use Rattle.gtfs_trip_rules.specs.KeptTimes.{departs}
 use Rattle.gtfs_trip_rules.specs.TripOrder.{ends, is_left_later, is_untimed_end, last_left, left_before, repeats, row_cmp, same_sequence, same_trip, InOrder}
 use Rattle.gtfs_trip_rules.specs.TripStopTimes.{TripStopTime, has_trip_stop_time, trip_stop_time, trip_stop_time_in, trip_stop_times_in}
 use Rattle.gtfs_columns.specs.Values.{if_there}
@@ -152,17 +153,17 @@ module _ (d : Dataset) (c : Code) (name : List ℕ) (rule : List TripStopTime �
 
 -- ---- the rules at a site of the rows in order
 
-abbrev pub rows_before : (ℕ → List ℕ) → List CodeTripStopTime → ℕ → List TripStopTime
+abbrev pub rows_before : (ℕ → List ℕ) → List StopTime → ℕ → List TripStopTime
 rows_before name lent i = reverse (map (trip_stop_time name) (take i lent))
 
-abbrev pub rows_from : (ℕ → List ℕ) → List CodeTripStopTime → ℕ → List TripStopTime
+abbrev pub rows_from : (ℕ → List ℕ) → List StopTime → ℕ → List TripStopTime
 rows_from name lent i = map (trip_stop_time name) (drop i lent)
 
 map_or : (a b : Option ℕ) → option_map pos (option_or a b) ≡ option_or (option_map pos a) (option_map pos b)
 map_or None b = refl
 map_or (Some x) b = refl
 
-module _ (name : ℕ → List ℕ) (lent : List CodeTripStopTime) (i : ℕ) (z : CodeTripStopTime) (below : i < length lent) where
+module _ (name : ℕ → List ℕ) (lent : List StopTime) (i : ℕ) (z : StopTime) (below : i < length lent) where
   rows_before_more : rows_before name lent (i + 1) ≡ trip_stop_time name (get_or lent i z) ∷ rows_before name lent i
   rows_before_more = ap reverse (map_more (trip_stop_time name) lent i z below) ∙ reverse-append (map (trip_stop_time name) (take i lent)) (trip_stop_time name (get_or lent i z) ∷ [])
 
@@ -174,13 +175,13 @@ module _ (name : ℕ → List ℕ) (lent : List CodeTripStopTime) (i : ℕ) (z :
   ends_more answer is = is ∙ ap (λ rest. ends (trip_stop_time name (get_or lent i z) ∷ map (trip_stop_time name) rest)) (take_rest lent (i + 1)) ∙ ap ends (sym rows_from_here)
 
   -- when a trip was left last, one row later
-  pub left_more : (left next : Option ℕ) → option_map pos left ≡ left_before (rows_before name lent i) (trip_stop_time name (get_or lent i z)) → next ≡ option_or (get_or lent i z).departure left
+  pub left_more : (left next : Option ℕ) → option_map pos left ≡ left_before (rows_before name lent i) (trip_stop_time name (get_or lent i z)) → next ≡ option_or (departs (get_or lent i z)) left
       → option_map pos next ≡ last_left (rows_before name lent (i + 1))
   left_more left next before now =
-      ap (option_map pos) now ∙ map_or (get_or lent i z).departure left ∙ ap (option_or (option_map pos (get_or lent i z).departure)) before ∙ ap last_left (sym rows_before_more)
+      ap (option_map pos) now ∙ map_or (departs (get_or lent i z)) left ∙ ap (option_or (option_map pos (departs (get_or lent i z)))) before ∙ ap last_left (sym rows_before_more)
 
-module _ (d : Dataset) (name : ℕ → List ℕ) (lent : List CodeTripStopTime) (o : InOrder d (map (trip_stop_time name) lent)) where
-  module _ (i : ℕ) (z : CodeTripStopTime) (below : i < length lent) where
+module _ (d : Dataset) (name : ℕ → List ℕ) (lent : List StopTime) (o : InOrder d (map (trip_stop_time name) lent)) where
+  module _ (i : ℕ) (z : StopTime) (below : i < length lent) where
     abbrev e : TripStopTime
     e = trip_stop_time name (get_or lent i z)
 
@@ -229,11 +230,11 @@ module _ (d : Dataset) (name : ℕ → List ℕ) (lent : List CodeTripStopTime) 
 
   pub before_end : (i : ℕ) → length lent ≤ i → IsPermutation (trip_stop_times_in d) (rows_before name lent i)
   before_end i past =
-      subst (λ (ls : List CodeTripStopTime). IsPermutation (trip_stop_times_in d) (reverse (map (trip_stop_time name) ls))) (sym (take_all i lent past))
+      subst (λ (ls : List StopTime). IsPermutation (trip_stop_times_in d) (reverse (map (trip_stop_time name) ls))) (sym (take_all i lent past))
       (IsPermutation-trans (trip_stop_times_in d) (map (trip_stop_time name) lent) (reverse (map (trip_stop_time name) lent)) o.moved (IsPermutation-reverse (map (trip_stop_time name) lent)))
 
-module _ (d : Dataset) (name : ℕ → List ℕ) (lent : List CodeTripStopTime) (o : InOrder d (map (trip_stop_time name) lent)) (c : Code) (column : List ℕ) (rule : List TripStopTime → TripStopTime → Bool) (r : ReportsRule d c column rule)
-    (i : ℕ) (z : CodeTripStopTime) (below : i < length lent) (q : LentProblem) (test : Bool) (old mid new : List Problem)
+module _ (d : Dataset) (name : ℕ → List ℕ) (lent : List StopTime) (o : InOrder d (map (trip_stop_time name) lent)) (c : Code) (column : List ℕ) (rule : List TripStopTime → TripStopTime → Bool) (r : ReportsRule d c column rule)
+    (i : ℕ) (z : StopTime) (below : i < length lent) (q : LentProblem) (test : Bool) (old mid new : List Problem)
     (here : problem_of q ≡ problem_at c file.StopTimes column (get_or lent i z).row) (asked : test ≡ rule (trip_stop_times_in d) (trip_stop_time name (get_or lent i z)))
     (adds : Adds (λ p. is_same (problem_of q) p && test) mid new) where
   reported_here : (xs : List TripStopTime) → Reports d (seen c column xs) old mid → Reports d (seen c column (trip_stop_time name (get_or lent i z) ∷ xs)) old new

@@ -7,13 +7,14 @@ use Rattle.std.proofs.lemmas.Bool.{cases_Bool}
 use Rattle.std.proofs.lemmas.List.Elements.{filter_map-append}
 use Rattle.gtfs_table.specs.Tables.{Dataset}
 use Rattle.gtfs_table.specs.declared.file.File.TheVariants as file
-use Rattle.gtfs_trip_rules.specs.declared.trips.row.TripStopTime.{TripStopTime as CodeTripStopTime}
+use Rattle.gtfs_trip_rules.specs.declared.trips.row.StopTime.{StopTime}
 use Rattle.gtfs_table.specs.Rows.{Row, numbers, rows}
 use Rattle.gtfs_table.proofs.RowFacts.{numbers_more}
-use Rattle.gtfs_columns.specs.Rows.{is_empty_in, text_in, word_in}
-use Rattle.gtfs_trip_rules.specs.TripNotes.{TripNote, has_trip_id, note_of, row_of_note, rows_of_notes, times_noted, trip_note_in, trip_notes_in}
+use Rattle.gtfs_columns.specs.Rows.{text_in, word_in}
+use Rattle.gtfs_trip_rules.specs.KeptTimes.{is_placed}
+use Rattle.gtfs_trip_rules.specs.TripNotes.{TripNote, has_trip_id, note_of, rows_of_notes, timed_row, times_noted, trip_note_in, trip_notes_in}
 use Rattle.gtfs_trip_rules.specs.TripStopTimes.{TripStopTime, has_trip_stop_time, trip_stop_time, trip_stop_time_in, trip_stop_times_in}
-use Rattle.gtfs_columns.specs.TripRules.{arrival_in, departure_in, is_row_of, sequence_in}
+use Rattle.gtfs_columns.specs.TripRules.{is_row_of, sequence_in}
 use Rattle.gtfs_trip_rules.specs.TripTexts.{note_of_values, note_read}
 use Rattle.gtfs_columns.specs.Values.{is_word}
 
@@ -61,21 +62,14 @@ of_sequence true (Some s) row = refl
 of_sequence false sequence row = refl
 
 pub sequenced_rows : (d : Dataset) → rows_of_notes (trip_notes_in d) ≡ trip_stop_times_in d
-sequenced_rows d = of_kept (trip_note_in d) (has_trip_id d) row_of_note (rows d file.StopTimes)
-    ∙ kept (λ n. if has_trip_id d n then row_of_note (trip_note_in d n) else None) (has_trip_stop_time d) (trip_stop_time_in d)
-    (λ n. of_sequence (has_trip_id d n) (sequence_in d n) (λ sequence. record {
-      trip_id = unwrap_or (word_in d file.StopTimes n "trip_id") [];
-      sequence = sequence;
-      row = n;
-      arrival = arrival_in d n;
-      departure = departure_in d n;
-      is_untimed = is_empty_in d file.StopTimes n "arrival_time" && is_empty_in d file.StopTimes n "departure_time";
-    })) (rows d file.StopTimes)
+sequenced_rows d = of_kept (trip_note_in d) (has_trip_id d) (λ n. n.row) (rows d file.StopTimes)
+    ∙ kept (λ n. if has_trip_id d n then (trip_note_in d n).row else None) (has_trip_stop_time d) (trip_stop_time_in d)
+    (λ n. of_sequence (has_trip_id d n) (sequence_in d n) (timed_row d n (unwrap_or (word_in d file.StopTimes n "trip_id") []))) (rows d file.StopTimes)
 
 -- the rows as they are kept
-pub rows_kept : (name : ℕ → List ℕ) (rs : List CodeTripStopTime) → map (trip_stop_time name) (filter (λ r. r.has_sequence) rs) ≡ rows_of_notes (map (note_of name) rs)
+pub rows_kept : (name : ℕ → List ℕ) (rs : List StopTime) → map (trip_stop_time name) (filter (λ r. is_placed r.times) rs) ≡ rows_of_notes (map (note_of name) rs)
 rows_kept name [] = refl
-rows_kept name (r ∷ rs) = elim (cases_Bool r.has_sequence) [
+rows_kept name (r ∷ rs) = elim (cases_Bool (is_placed r.times)) [
   | inl has ↦ rw (has, rows_kept name rs) refl
   | inr none ↦ rw (none, rows_kept name rs) refl
 ]

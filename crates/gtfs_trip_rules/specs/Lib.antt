@@ -1,3 +1,8 @@
+pub mod Kept
+pub mod KeptChoices
+pub mod KeptOrder
+pub mod KeptRow
+pub mod KeptTimes
 pub mod PeriodView
 pub mod Readings
 pub mod RowsById

@@ -1,21 +1,23 @@
 -- The rows of stop_times.txt, each field of which was read once.
-use Rattle.std.specs.Prelude.{◌≡◌, ℕ, ◌||◌, Bool, true, false, List, [], ◌∷◌, codes, option_map, Option, is_some, pos}
+use Rattle.std.specs.Prelude.{◌≡◌, ℕ, ◌||◌, Bool, true, false, List, [], ◌∷◌, codes, option_and_then, option_map, Option, is_some, pos}
 use Rattle.std.specs.List.{list_any}
 use Prim.Native.String.{String as Literal}
 use Rattle.gtfs_table.specs.Tables.{Dataset, column_of}
 use Rattle.gtfs_table.specs.declared.file.File.TheVariants as file
 use Rattle.gtfs_columns.specs.declared.code.Code.{Code}
-use Rattle.gtfs_trip_rules.specs.declared.stop_times.columns.StopTime.{StopTime}
+use Rattle.gtfs_trip_rules.specs.declared.stop_times.columns.ReadStopTime.{ReadStopTime}
 use Rattle.gtfs_trip_rules.specs.declared.stop_times.columns.StopTimeColumns.{StopTimeColumns}
+use Rattle.gtfs_trip_rules.specs.declared.stop_times.named.Named.{Named}
 use Rattle.gtfs_trip_rules.specs.declared.stop_times.named.NamedRows.{NamedRows}
 use Rattle.gtfs_trip_rules.specs.declared.stop_times.reading.Reading.{Reading}
 use Rattle.gtfs_columns.specs.Columns.{Kind, id, text, count, time, up_to}
 use Rattle.gtfs_columns.specs.steps.FieldCodes.{is_found_at, length_code}
 use Rattle.gtfs_columns.specs.FieldRules.{field_count}
 use Rattle.gtfs_columns.specs.steps.Found.{Reports}
-use Rattle.gtfs_columns.specs.steps.Ids.{ids_in}
+use Rattle.gtfs_columns.specs.steps.Ids.{ids_in, number_with}
 use Rattle.gtfs_columns.specs.Problems.{Problem}
-use Rattle.gtfs_trip_rules.specs.Readings.{code_in, fault_in, fault_of, is_blank, value_in}
+use Rattle.gtfs_trip_rules.specs.KeptChoices.{boarding_number, exact_number}
+use Rattle.gtfs_trip_rules.specs.Readings.{code_in, fault_in, fault_of, is_blank, text_of, value_in}
 use Rattle.gtfs_table.specs.Rows.{is_row, records_in, is_empty}
 use Rattle.gtfs_columns.specs.Rows.{text_in}
 use Rattle.gtfs_columns.specs.steps.StopTypes.{AreStopTypes}
@@ -49,7 +51,7 @@ pub record IsReading {V : Type 0} (kind : Kind) (as_value : V → Value) (t : Li
   pub value : option_map as_value (value_in r) ≡ readable kind t
 
 -- what a row says
-pub record IsStopTime (d : Dataset) (n : ℕ) (s : StopTime) : Type 0 where
+pub record IsStopTime (d : Dataset) (n : ℕ) (s : ReadStopTime) : Type 0 where
   pub row : s.row ≡ n
   pub fields : s.fields ≡ field_count d file.StopTimes n
   pub trip_id : IsReading id (λ t. word t.now) (text_at d n "trip_id") s.trip_id
@@ -58,14 +60,14 @@ pub record IsStopTime (d : Dataset) (n : ℕ) (s : StopTime) : Type 0 where
   pub stop_id : IsReading id (λ t. word t.now) (text_at d n "stop_id") s.stop_id
   pub stop_sequence : IsReading count (λ x. amount (pos x)) (text_at d n "stop_sequence") s.stop_sequence
   pub stop_headsign : s.stop_headsign ≡ fault_of text (text_at d n "stop_headsign")
-  pub pickup_type : s.pickup_type ≡ fault_of (up_to 3) (text_at d n "pickup_type")
-  pub drop_off_type : s.drop_off_type ≡ fault_of (up_to 3) (text_at d n "drop_off_type")
-  pub timepoint : s.timepoint ≡ fault_of (up_to 1) (text_at d n "timepoint")
+  pub pickup_type : IsReading (up_to 3) (λ b. amount (pos (boarding_number b))) (text_at d n "pickup_type") s.pickup_type
+  pub drop_off_type : IsReading (up_to 3) (λ b. amount (pos (boarding_number b))) (text_at d n "drop_off_type") s.drop_off_type
+  pub is_exact : IsReading (up_to 1) (λ e. amount (pos (exact_number e))) (text_at d n "timepoint") s.is_exact
 
 -- ---- what is reported of a row
 
 -- what is wrong with each field, by the name of its column
-abbrev pub cells_of : StopTimeColumns → StopTime → List (List ℕ × Option Code)
+abbrev pub cells_of : StopTimeColumns → ReadStopTime → List (List ℕ × Option Code)
 cells_of c s =
     (codes "trip_id", code_in (is_some c.trip_id) s.trip_id)
     ∷ (codes "arrival_time", code_in false s.arrival_time)
@@ -73,23 +75,28 @@ cells_of c s =
     ∷ (codes "stop_id", code_in (is_some c.stop_id) s.stop_id)
     ∷ (codes "stop_sequence", code_in (is_some c.stop_sequence) s.stop_sequence)
     ∷ (codes "stop_headsign", s.stop_headsign)
-    ∷ (codes "pickup_type", s.pickup_type)
-    ∷ (codes "drop_off_type", s.drop_off_type)
-    ∷ (codes "timepoint", s.timepoint)
+    ∷ (codes "pickup_type", code_in false s.pickup_type)
+    ∷ (codes "drop_off_type", code_in false s.drop_off_type)
+    ∷ (codes "timepoint", code_in false s.is_exact)
     ∷ []
 
 -- the length of the row and its fields
-abbrev pub fields_report : StopTimeColumns → StopTime → Problem → Bool
+abbrev pub fields_report : StopTimeColumns → ReadStopTime → Problem → Bool
 fields_report c s p = is_found_at (length_code c.width s.fields) [] p || list_any (λ cell. is_found_at cell.1 cell.0 p) (cells_of c s)
 
 -- the record is a row, and this is what it says
-pub record IsRow (d : Dataset) (s : StopTime) : Type 0 where
+pub record IsRow (d : Dataset) (s : ReadStopTime) : Type 0 where
   pub row : is_row (records_in d file.StopTimes) s.row ≡ true
   pub says : IsStopTime d s.row s
 
 -- of the problems of a row that a test picks just those that the dataset has were added
 abbrev pub ReportsOfRow : Dataset → (Problem → Bool) → ℕ → List Problem → List Problem → Type 0
 ReportsOfRow d picks n old new = Reports d (at_row picks n) old new
+
+-- the numbers of the trip and of the stop that a row names
+pub record AreNumbersOf (d : Dataset) (s : ReadStopTime) (names : Named) : Type 0 where
+  pub trip : names.trip ≡ option_and_then (number_with (ids_in d file.Trips (codes "trip_id"))) (text_of (value_in s.trip_id))
+  pub stop : names.stop ≡ option_and_then (number_with (ids_in d file.Stops (codes "stop_id"))) (text_of (value_in s.stop_id))
 
 -- the rows that stop times name are those of this dataset
 pub record AreNamedRows (d : Dataset) (r : NamedRows) : Type 0 where

@@ -4,27 +4,28 @@ use Rattle.std.specs.Borrow.{Bor}
 use Rattle.std.specs.BTreeMap.{BTreeMap}
 use Rattle.std.specs.List.{All}
 use Rattle.std.specs.Option.{unwrap_or}
-use Rattle.gtfs_trip_rules.specs.declared.trips.row.TripStopTime.{TripStopTime as CodeTripStopTime}
+use Rattle.gtfs_trip_rules.specs.declared.trips.row.StopTime.{StopTime}
+use Rattle.gtfs_trip_rules.specs.KeptTimes.{is_placed}
 use Rattle.gtfs_trip_rules.specs.TripNumbers.{number_in, AreNumbered}
 
 -- of each number how many rows have it
-abbrev pub AreCounts : List ℕ → List CodeTripStopTime → Type 0
+abbrev pub AreCounts : List ℕ → List StopTime → Type 0
 AreCounts counts rows = (n : ℕ) → get_or counts n 0 ≡ length (filter (λ r. n == r.trip) rows)
 
 -- how many rows name a trip; a trip without a number has none
-abbrev pub count_of : BTreeMap (Bor (List ℕ)) ℕ → List ℕ → List ℕ → ℕ
-count_of numbers counts trip = unwrap_or (option_map (λ n. get_or counts n 0) (number_in numbers trip)) 0
+abbrev pub count_of : List (List ℕ) → BTreeMap (Bor (List ℕ)) ℕ → List ℕ → List ℕ → ℕ
+count_of trips numbers counts trip = unwrap_or (option_map (λ n. get_or counts n 0) (number_in trips numbers trip)) 0
 
 -- fewer than two rows name the trip
-abbrev pub are_few : BTreeMap (Bor (List ℕ)) ℕ → List ℕ → List ℕ → Bool
-are_few numbers counts trip = nat_lt (count_of numbers counts trip) 2
+abbrev pub are_few : List (List ℕ) → BTreeMap (Bor (List ℕ)) ℕ → List ℕ → List ℕ → Bool
+are_few trips numbers counts trip = nat_lt (count_of trips numbers counts trip) 2
 
 -- each row has a sequence, where this says so
-abbrev pub AreSequenced : Bool → List CodeTripStopTime → Type 0
-AreSequenced are rows = are ≡ true → All (λ r. r.has_sequence ≡ true) rows
+abbrev pub AreSequenced : Bool → List StopTime → Type 0
+AreSequenced are rows = are ≡ true → All (λ r. is_placed r.times ≡ true) rows
 
 -- what is kept beside the rows is right of them
-pub record AreKept (numbers : BTreeMap (Bor (List ℕ)) ℕ) (names : List (Bor (List ℕ))) (counts : List ℕ) (are_sequenced : Bool) (rows : List CodeTripStopTime) : Type 0 where
-  pub numbered : AreNumbered numbers names rows
+pub record AreKept (trips : List (List ℕ)) (numbers : BTreeMap (Bor (List ℕ)) ℕ) (names : List (Bor (List ℕ))) (counts : List ℕ) (are_sequenced : Bool) (rows : List StopTime) : Type 0 where
+  pub numbered : AreNumbered trips numbers names rows
   pub counted : AreCounts counts rows
   pub located : AreSequenced are_sequenced rows

@@ -1,46 +1,48 @@
 -- The rows of stop_times.txt that name a trip, as records.
-use Rattle.std.specs.Prelude.{ℕ, ◌&&◌, Bool, List, [], length, map, filter, bytes_eq, Option, Some, None, if◌then◌else◌, is_some, option_map, ℤ, pos}
+use Rattle.std.specs.Prelude.{◌≡◌, ℕ, ◌&&◌, ◌∷◌, ◌++◌, Bool, List, [], length, map, filter, bytes_eq, Option, Some, None, if◌then◌else◌, is_some, option_map, ℤ}
 use Rattle.std.specs.List.{filter_map}
 use Rattle.std.specs.Option.{unwrap_or}
 use Rattle.gtfs_table.specs.Tables.{Dataset}
 use Rattle.gtfs_table.specs.declared.file.File.TheVariants as file
 use Rattle.gtfs_trip_rules.specs.declared.trips.notes.TripNote.{TripNote as CodeTripNote}
-use Rattle.gtfs_trip_rules.specs.declared.trips.row.TripStopTime.{TripStopTime as CodeTripStopTime}
+use Rattle.gtfs_trip_rules.specs.declared.trips.row.StopTime.{StopTime}
 use Rattle.gtfs_table.specs.Rows.{rows}
 use Rattle.gtfs_columns.specs.Rows.{is_empty_in, word_in}
-use Rattle.gtfs_trip_rules.specs.TripStopTimes.{TripStopTime}
+use Rattle.gtfs_columns.specs.steps.Ids.{IdColumn}
+use Rattle.gtfs_trip_rules.specs.KeptRow.{with_trip}
+use Rattle.gtfs_trip_rules.specs.KeptTimes.{is_placed}
+use Rattle.gtfs_trip_rules.specs.TripStopTimes.{TripStopTime, trip_stop_time}
 use Rattle.gtfs_columns.specs.TripRules.{sequence_in, arrival_in, departure_in}
 
--- what a row says of its trip; its sequence where that is readable
+-- what a row says of its trip: which one it is, and where it has a sequence its stop time
 pub record TripNote : Type 0 where
   pub trip_id : List ℕ
-  pub sequence : Option ℤ
-  pub row : ℕ
-  pub arrival : Option ℤ
-  pub departure : Option ℤ
-  -- both times are empty
-  pub is_untimed : Bool
+  pub row : Option TripStopTime
+
+-- a row as it is kept, where it has a sequence
+abbrev pub said : (ℕ → List ℕ) → StopTime → Option TripStopTime
+said name r = if is_placed r.times then Some (trip_stop_time name r) else None
 
 -- a note of the code
 abbrev pub trip_note : CodeTripNote → TripNote
-trip_note n = record {
-  trip_id = n.trip_id.now;
-  sequence = option_map pos n.stop_sequence;
-  row = n.row;
-  arrival = option_map pos n.arrival;
-  departure = option_map pos n.departure;
-  is_untimed = n.is_untimed;
+trip_note n = record { trip_id = n.trip_id.now; row = said (λ t. n.trip_id.now) n.kept }
+
+-- a row by its number, with this trip and this sequence
+abbrev pub timed_row : Dataset → ℕ → List ℕ → ℤ → TripStopTime
+timed_row d n trip sequence = record {
+  trip_id = trip;
+  sequence = sequence;
+  row = n;
+  arrival = arrival_in d n;
+  departure = departure_in d n;
+  is_untimed = is_empty_in d file.StopTimes n "arrival_time" && is_empty_in d file.StopTimes n "departure_time";
 }
 
 -- a row by its number; a missing id is the empty text
 abbrev pub trip_note_in : Dataset → ℕ → TripNote
 trip_note_in d n = record {
   trip_id = unwrap_or (word_in d file.StopTimes n "trip_id") [];
-  sequence = sequence_in d n;
-  row = n;
-  arrival = arrival_in d n;
-  departure = departure_in d n;
-  is_untimed = is_empty_in d file.StopTimes n "arrival_time" && is_empty_in d file.StopTimes n "departure_time";
+  row = option_map (timed_row d n (unwrap_or (word_in d file.StopTimes n "trip_id") [])) (sequence_in d n);
 }
 
 -- the row has an id
@@ -56,30 +58,22 @@ abbrev pub times_noted : List TripNote → List ℕ → ℕ
 times_noted notes trip = length (filter (λ n. bytes_eq trip n.trip_id) notes)
 
 -- the rows that have a sequence
-abbrev pub row_of_note : TripNote → Option TripStopTime
-row_of_note n = option_map (λ sequence. record {
-  trip_id = n.trip_id;
-  sequence = sequence;
-  row = n.row;
-  arrival = n.arrival;
-  departure = n.departure;
-  is_untimed = n.is_untimed;
-}) n.sequence
-
 abbrev pub rows_of_notes : List TripNote → List TripStopTime
-rows_of_notes = filter_map row_of_note
+rows_of_notes = filter_map (λ n. n.row)
 
--- ---- a row as it is kept
+-- ---- rows as they are kept
 
-abbrev pub sequence_of : CodeTripStopTime → Option ℤ
-sequence_of r = if r.has_sequence then Some (pos r.stop_sequence) else None
+abbrev pub note_of : (ℕ → List ℕ) → StopTime → TripNote
+note_of name r = record { trip_id = name r.trip; row = said name r }
 
-abbrev pub note_of : (ℕ → List ℕ) → CodeTripStopTime → TripNote
-note_of name r = record {
-  trip_id = name r.trip;
-  sequence = sequence_of r;
-  row = r.row;
-  arrival = option_map pos r.arrival;
-  departure = option_map pos r.departure;
-  is_untimed = r.is_untimed;
-}
+-- what rows say of their trips, the rows, and the ids of trips.txt
+pub record Noted : Type 0 where
+  pub trips : IdColumn
+  pub notes : List TripNote
+  pub rows : List StopTime
+
+-- a row was noted: it has the number of its trip that its note says, if any
+pub record NotesRow (note : CodeTripNote) (old new : List StopTime) : Type 0 where
+  pub trip : ℕ
+  pub rows : new ≡ old ++ with_trip note.kept trip ∷ []
+  pub known : (n : ℕ) → note.number ≡ Some n → trip ≡ n

@@ -6,7 +6,7 @@ use Rattle.std.specs.Ordering.{int_cmp, int_eq, nat_cmp, on, then_cmp}
 use Rattle.std.specs.declared.cmp.Ordering.{Ordering}
 use Rattle.gtfs_table.specs.Folder.{text_cmp}
 use Rattle.gtfs_table.specs.Tables.{Dataset}
-use Rattle.gtfs_trip_rules.specs.declared.trips.row.TripStopTime.{TripStopTime as CodeTripStopTime}
+use Rattle.gtfs_trip_rules.specs.declared.trips.row.StopTime.{StopTime}
 use Rattle.gtfs_columns.specs.Values.{if_both}
 use Rattle.gtfs_trip_rules.specs.TripNumbers.{AllNumbered}
 use Rattle.gtfs_trip_rules.specs.TripStopTimes.{TripStopTime, trip_stop_time, trip_stop_times_in}
@@ -26,7 +26,7 @@ abbrev pub row_cmp : (List ℕ → ℕ) → TripStopTime → TripStopTime → Or
 row_cmp number = then_cmp (on (λ r. r.trip_id) (trip_cmp number)) (then_cmp (on (λ r. r.sequence) int_cmp) (on (λ r. r.row) nat_cmp))
 
 -- rows as they are kept, by the numbers of their trips
-abbrev pub kept_cmp : CodeTripStopTime → CodeTripStopTime → Ordering
+abbrev pub kept_cmp : StopTime → StopTime → Ordering
 kept_cmp = then_cmp (on (λ r. r.trip) nat_cmp) (then_cmp (on (λ r. pos r.stop_sequence) int_cmp) (on (λ r. r.row) nat_cmp))
 
 -- the rows of a dataset, each once and in their order, by some numbers of trips
@@ -36,11 +36,12 @@ pub record InOrder (d : Dataset) (rows : List TripStopTime) : Type 0 where
   pub ascending : IsStrictlySortedBy (row_cmp number) rows
 
 -- rows as they are kept, which stand in this order
-pub record AreInOrder (d : Dataset) (kept : List CodeTripStopTime) : Type 0 where
+pub record AreInOrder (d : Dataset) (kept : List StopTime) : Type 0 where
   pub number : List ℕ → ℕ
   pub name : ℕ → List ℕ
   pub numbered : AllNumbered number name kept
   pub order : InOrder d (map (trip_stop_time name) kept)
+  pub ascending : IsStrictlySortedBy kept_cmp kept
 
 -- ---- a row and the rows before it, of which the last comes first
 

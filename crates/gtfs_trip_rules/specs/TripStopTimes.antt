@@ -3,7 +3,8 @@ use Rattle.std.specs.Prelude.{ℕ, ◌&&◌, Bool, List, [], map, filter, Option
 use Rattle.std.specs.Option.{unwrap_or}
 use Rattle.gtfs_table.specs.Tables.{Dataset}
 use Rattle.gtfs_table.specs.declared.file.File.TheVariants as file
-use Rattle.gtfs_trip_rules.specs.declared.trips.row.TripStopTime.{TripStopTime as CodeTripStopTime}
+use Rattle.gtfs_trip_rules.specs.declared.trips.row.StopTime.{StopTime}
+use Rattle.gtfs_trip_rules.specs.KeptTimes.{arrives, departs, is_untimed}
 use Rattle.gtfs_table.specs.Rows.{rows}
 use Rattle.gtfs_columns.specs.Rows.{is_empty_in, word_in}
 use Rattle.gtfs_columns.specs.TripRules.{sequence_in, arrival_in, departure_in}
@@ -18,14 +19,14 @@ pub record TripStopTime : Type 0 where
   pub is_untimed : Bool
 
 -- a row of the code, whose trip is known by its number
-abbrev pub trip_stop_time : (ℕ → List ℕ) → CodeTripStopTime → TripStopTime
+abbrev pub trip_stop_time : (ℕ → List ℕ) → StopTime → TripStopTime
 trip_stop_time name r = record {
   trip_id = name r.trip;
   sequence = pos r.stop_sequence;
   row = r.row;
-  arrival = option_map pos r.arrival;
-  departure = option_map pos r.departure;
-  is_untimed = r.is_untimed;
+  arrival = option_map pos (arrives r);
+  departure = option_map pos (departs r);
+  is_untimed = is_untimed r.times;
 }
 
 -- a row by its number; a missing id is the empty text, and a missing sequence is 0

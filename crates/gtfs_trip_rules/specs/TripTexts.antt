@@ -23,11 +23,14 @@ time_of_texts first second = if is_clear_text first && is_clear_text second
 abbrev pub note_of_values : Option (List ℕ) → Option ℤ → List ℕ → List ℕ → ℕ → Option TripNote
 note_of_values trip_id sequence arrival departure n = option_map (λ id. record {
   trip_id = id;
-  sequence = sequence;
-  row = n;
-  arrival = time_of_texts arrival departure;
-  departure = time_of_texts departure arrival;
-  is_untimed = is_empty arrival && is_empty departure;
+  row = option_map (λ s. record {
+    trip_id = id;
+    sequence = s;
+    row = n;
+    arrival = time_of_texts arrival departure;
+    departure = time_of_texts departure arrival;
+    is_untimed = is_empty arrival && is_empty departure;
+  }) sequence;
 }) trip_id
 
 abbrev pub note_of_texts : List ℕ → List ℕ → List ℕ → List ℕ → ℕ → Option TripNote

@@ -1,25 +1,29 @@
 pub(crate) mod columns;
 mod fields;
+pub(crate) mod kept;
 mod named;
 pub(crate) mod reading;
 mod times;
 
 ghost use Rattle.std.specs.List.{cons_option};
-ghost use Rattle.std.specs.Prelude.{◌≡◌, ◌++◌, [], ℕ, IfOk, OnOk};
+ghost use Rattle.std.specs.Prelude.{◌≡◌, ◌++◌, [], ℕ, option_and_then, IfOk, OnOk};
 ghost use Rattle.gtfs_table.specs.declared.file.File.TheVariants as file;
 ghost use Rattle.gtfs_columns.specs.declared.file_name.FileName.TheVariants as file_name;
 ghost use Rattle.gtfs_table.specs.Tables.{Dataset};
 ghost use Rattle.gtfs_columns.specs.steps.FeedIds.{AreIdsOf};
 ghost use Rattle.gtfs_columns.specs.steps.Found.{Reports};
+ghost use Rattle.gtfs_columns.specs.steps.Ids.{number_with};
 ghost use Rattle.gtfs_columns.specs.steps.StopTypes.{AreStopTypes};
 ghost use Rattle.gtfs_trip_rules.specs.StopTimePicks.{in_rows, in_stop_times};
-ghost use Rattle.gtfs_trip_rules.specs.StopTimes.{AreNamedRows, AreStopTimeColumns, IsRow, IsStopTime, ReportsOfRow};
+ghost use Rattle.gtfs_trip_rules.specs.Kept.{AllKeep};
+ghost use Rattle.gtfs_trip_rules.specs.Readings.{text_of, value_in};
+ghost use Rattle.gtfs_trip_rules.specs.StopTimes.{AreNamedRows, AreNumbersOf, AreStopTimeColumns, IsRow, IsStopTime, ReportsOfRow};
 ghost use Rattle.gtfs_trip_rules.specs.TripNotes.{trip_notes_in};
 ghost use Rattle.gtfs_trip_rules.specs.TripTexts.{note_read};
 
-use crate::stop_times::columns::{StopTime, StopTimeColumns};
+use crate::stop_times::columns::{ReadStopTime, StopTimeColumns};
 use crate::stop_times::fields::report_fields;
-use crate::stop_times::named::NamedRows;
+use crate::stop_times::named::{Named, NamedRows};
 use crate::stop_times::times::report_times;
 use crate::trips::notes::TripNotes;
 use gtfs_columns::{Code, FeedIds, FileName, Found, Problem};
@@ -30,53 +34,68 @@ use std::alloc::Global;
 // Reports what is wrong with the rows of stop_times.txt by themselves, and what they name that is
 // not there or of another kind; and takes note of what they say of their trips. It is one pass, in
 // which each field is cut and read once.
-pub fn report_stop_times<'a>(
+pub fn report_stop_times<'a, 'i>(
     alloc: Global,
     tables: &'a Tables,
-    ids: &FeedIds<'a>,
+    ids: &'i FeedIds<'a>,
     types: &[Option<i64>],
     found: &mut Found<'a>,
-) -> Result<TripNotes<'a>, OutOfMemory>
+) -> Result<TripNotes<'i>, OutOfMemory>
     requires ids { AreIdsOf tables.now ids.now }
     requires types { AreStopTypes tables.now types.now }
     ensures reported { OnOk result (Reports tables.now in_stop_times found.old found.new) }
-    ensures notes { IfOk result (λ notes. notes ≡ trip_notes_in tables.now) }
+    ensures notes { IfOk result (λ notes. notes.notes ≡ trip_notes_in tables.now) }
+    ensures kept { IfOk result (λ notes. AllKeep tables.now notes.rows) }
 {
     let columns = StopTimeColumns::of(tables);
     let mut named = NamedRows::new(&*ids, types);
-    let mut notes = TripNotes::new(alloc);
+    let mut notes = TripNotes::new(alloc, &ids.trips);
     for (row, record) in tables.rows(File::StopTimes) {
         let stop_time = columns.stop_time(row, &record);
-        report_row(&columns, &mut named, &stop_time, found)?;
-        take_note(&stop_time, &mut notes)?;
+        let names = report_row(&columns, &mut named, &stop_time, found)?;
+        take_note(&stop_time, names, &mut notes)?;
     }
     Ok(notes)
 }
 
-// Reports what is wrong with one row.
+// Reports what is wrong with one row, and answers the numbers of what it names.
 fn report_row<'a>(
     columns: &StopTimeColumns<'a>,
     named: &mut NamedRows<'_, '_>,
-    stop_time: &StopTime<'a>,
+    stop_time: &ReadStopTime<'a>,
     found: &mut Found<'a>,
-) -> Result<(), OutOfMemory>
+) -> Result<Named, OutOfMemory>
     ensures reported { OnOk result ((d : Dataset) → AreStopTimeColumns d columns.now
         → AreNamedRows d named.old → IsRow d stop_time.now
         → ReportsOfRow d in_rows stop_time.now.row found.old found.new) }
     ensures same { (d : Dataset) → AreNamedRows d named.old → AreNamedRows d named.new }
+    ensures names { IfOk result (λ names. (d : Dataset) → AreNamedRows d named.old
+        → IsRow d stop_time.now → AreNumbersOf d stop_time.now names) }
 {
     report_fields(columns, stop_time, found)?;
-    named.report(stop_time, found)?;
-    report_times(stop_time, found)
+    let names = named.report(stop_time, found)?;
+    report_times(stop_time, found)?;
+    Ok(names)
 }
 
-// Takes note of what a row says of its trip, where it names one.
+// Takes note of what a row says of its trip, where it names one; these are the numbers of what it
+// names.
 #[inline(always)]
-fn take_note<'a>(stop_time: &StopTime<'a>, notes: &mut TripNotes<'a>) -> Result<(), OutOfMemory>
-    ensures { OnOk result ((d : Dataset) (n : ℕ) → IsStopTime d n stop_time.now
-        → notes.new ≡ notes.old ++ cons_option (note_read d n) []) }
+fn take_note<'i>(
+    stop_time: &ReadStopTime<'i>,
+    names: Named,
+    notes: &mut TripNotes<'i>,
+) -> Result<(), OutOfMemory>
+    requires { names.trip ≡ option_and_then (number_with notes.old.trips)
+        (text_of (value_in stop_time.now.trip_id)) }
+    ensures trips { notes.new.trips ≡ notes.old.trips }
+    ensures notes { OnOk result ((d : Dataset) (n : ℕ) → IsStopTime d n stop_time.now
+        → notes.new.notes ≡ notes.old.notes ++ cons_option (note_read d n) []) }
+    ensures kept { OnOk result ((d : Dataset) (n : ℕ) → IsStopTime d n stop_time.now
+        → AreNumbersOf d stop_time.now names
+        → AllKeep d notes.old.rows → AllKeep d notes.new.rows) }
 {
-    match stop_time.trip_note() {
+    match stop_time.trip_note(names.trip, names.stop) {
         Some(note) => notes.note(note),
         None => Ok(()),
     }

@@ -7,6 +7,7 @@ use Rattle.gtfs_table.specs.Tables.{Dataset}
 use Rattle.gtfs_table.specs.declared.file.File.{File}
 use Rattle.gtfs_columns.specs.declared.id_row.IdRow.{IdRow}
 use Rattle.gtfs_columns.specs.steps.IdRows.{id_of, listed_row}
+use Rattle.gtfs_columns.specs.IdNumbers.{ids_by_bytes, number_in}
 use Rattle.gtfs_columns.specs.Rows.{row_with}
 
 -- a column of a file of a dataset
@@ -21,6 +22,14 @@ ids_in d x column = record { dataset = d; file = x; column = column }
 -- the first row with an id
 abbrev pub first_row_with : IdColumn → List ℕ → Option ℕ
 first_row_with i id = row_with i.dataset i.file i.column id
+
+-- the ids by their numbers
+abbrev pub ids_of : IdColumn → List (List ℕ)
+ids_of i = ids_by_bytes i.dataset i.file i.column
+
+-- the number of an id
+abbrev pub number_with : IdColumn → List ℕ → Option ℕ
+number_with i id = number_in i.dataset i.file i.column id
 
 -- of the rows with an id the first is listed first
 abbrev pub ListsFirstRows : IdColumn → List IdRow → Type 0

@@ -1,15 +1,18 @@
-ghost use Rattle.std.specs.Prelude.{◌≡◌, ℕ, option_map};
-ghost use Rattle.gtfs_table.specs.Tables.{Dataset, record_at};
+ghost use Rattle.std.specs.Prelude.{◌≡◌, option_map};
+ghost use Rattle.gtfs_table.specs.Tables.{record_at};
 ghost use Rattle.gtfs_table.specs.declared.file.File.TheVariants as file;
 ghost use Rattle.gtfs_columns.specs.steps.ColumnView.{kind_of};
-ghost use Rattle.gtfs_trip_rules.specs.Readings.{fault_of};
+ghost use Rattle.gtfs_trip_rules.specs.KeptRow.{kept_row, note_of_trip};
+ghost use Rattle.gtfs_trip_rules.specs.Readings.{fault_of, value_in};
 ghost use Rattle.gtfs_table.specs.Rows.{records_in};
 ghost use Rattle.gtfs_trip_rules.specs.StopTimes.{AreStopTimeColumns, IsStopTime};
-ghost use Rattle.gtfs_trip_rules.specs.TripNotes.{trip_note};
-ghost use Rattle.gtfs_trip_rules.specs.TripTexts.{note_read};
 
-use crate::stop_times::reading::{Reading, read_id, read_number, read_seconds};
+use crate::stop_times::kept::{boarding_in, kept_times, placed, timepoint_in};
+use crate::stop_times::reading::{
+    Reading, read_boarding, read_id, read_is_exact, read_number, read_seconds,
+};
 use crate::trips::notes::TripNote;
+use crate::trips::row::{Boarding, StopTime};
 use gtfs_columns::{Code, Kind, fault_code};
 use gtfs_table::{File, Record, Tables};
 
@@ -31,7 +34,7 @@ pub(crate) struct StopTimeColumns<'a> {
 
 // A row of stop_times.txt, each field of which was cut and read once.
 #[derive(Clone, Copy)]
-pub(crate) struct StopTime<'a> {
+pub(crate) struct ReadStopTime<'a> {
     pub(crate) row: usize,
     // How many fields the row has.
     pub(crate) fields: usize,
@@ -40,29 +43,46 @@ pub(crate) struct StopTime<'a> {
     pub(crate) departure_time: Reading<u32>,
     pub(crate) stop_id: Reading<&'a str>,
     pub(crate) stop_sequence: Reading<u32>,
-    // What is wrong with these fields.
+    // What is wrong with this field.
     pub(crate) stop_headsign: Option<Code>,
-    pub(crate) pickup_type: Option<Code>,
-    pub(crate) drop_off_type: Option<Code>,
-    pub(crate) timepoint: Option<Code>,
+    pub(crate) pickup_type: Reading<Boarding>,
+    pub(crate) drop_off_type: Reading<Boarding>,
+    // Whether its times are exact.
+    pub(crate) is_exact: Reading<bool>,
 }
 
-impl<'a> StopTime<'a> {
-    // What the row says of its trip, where it names one.
-    pub(crate) fn trip_note(&self) -> Option<TripNote<'a>>
-        ensures { (d : Dataset) (n : ℕ) → IsStopTime d n self.now
-            → option_map trip_note result ≡ note_read d n }
+impl<'a> ReadStopTime<'a> {
+    // What the row says of its trip, where it names one; these are the numbers that the trip and the
+    // stop of the row have.
+    pub(crate) fn trip_note(&self, trip: Option<usize>, stop: Option<usize>) -> Option<TripNote<'a>>
+        ensures { result ≡ option_map (note_of_trip trip (kept_row self.now stop))
+            (value_in self.now.trip_id) }
     {
-        let arrival = &self.arrival_time;
-        let departure = &self.departure_time;
         Some(TripNote {
             trip_id: self.trip_id.value()?,
-            stop_sequence: self.stop_sequence.value(),
-            row: self.row,
-            arrival: arrival.or(departure),
-            departure: departure.or(arrival),
-            is_untimed: arrival.is_empty() && departure.is_empty(),
+            number: trip,
+            kept: self.kept(stop),
         })
+    }
+
+    // The row as it is kept, before it has the number of its trip.
+    fn kept(&self, stop: Option<usize>) -> StopTime
+        ensures { result ≡ kept_row self.now stop }
+    {
+        let times = kept_times(&self.arrival_time, &self.departure_time);
+        let sequence = self.stop_sequence.value();
+        StopTime {
+            trip: 0,
+            stop: stop.unwrap_or(0),
+            row: self.row,
+            arrival: times.arrival,
+            departure: times.departure,
+            stop_sequence: sequence.unwrap_or(0),
+            times: placed(times.times, sequence.is_some()),
+            pickup_type: boarding_in(self.pickup_type),
+            drop_off_type: boarding_in(self.drop_off_type),
+            timepoint: timepoint_in(self.is_exact),
+        }
     }
 }
 
@@ -87,13 +107,13 @@ impl<'a> StopTimeColumns<'a> {
 
     // What a row says.
     #[inline(always)]
-    pub(crate) fn stop_time(&self, row: usize, record: &Record<'a>) -> StopTime<'a>
+    pub(crate) fn stop_time(&self, row: usize, record: &Record<'a>) -> ReadStopTime<'a>
         requires columns { AreStopTimeColumns self.now.tables.now self.now }
         requires fields { «record».now
             ≡ record_at (records_in self.now.tables.now file.StopTimes) row }
         ensures { IsStopTime self.now.tables.now row result }
     {
-        StopTime {
+        ReadStopTime {
             row,
             fields: record.len(),
             trip_id: read_id(record.value(self.trip_id)),
@@ -102,18 +122,12 @@ impl<'a> StopTimeColumns<'a> {
             stop_id: read_id(record.value(self.stop_id)),
             stop_sequence: read_number(record.value(self.stop_sequence)),
             stop_headsign: fault_in_text(Kind::Text, record.value(self.stop_headsign)),
-            pickup_type: fault_in_text(BOARDING, record.value(self.pickup_type)),
-            drop_off_type: fault_in_text(BOARDING, record.value(self.drop_off_type)),
-            timepoint: fault_in_text(TIMEPOINT, record.value(self.timepoint)),
+            pickup_type: read_boarding(record.value(self.pickup_type)),
+            drop_off_type: read_boarding(record.value(self.drop_off_type)),
+            is_exact: read_is_exact(record.value(self.timepoint)),
         }
     }
 }
-
-// How passengers board or get off.
-const BOARDING: Kind = Kind::Choice(&[(0, 3)]);
-
-// Whether the times of a row are exact.
-const TIMEPOINT: Kind = Kind::Choice(&[(0, 1)]);
 
 // What is wrong with a text of a kind, if it is not empty.
 #[inline(always)]

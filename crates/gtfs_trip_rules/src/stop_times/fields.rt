@@ -4,7 +4,7 @@ ghost use Rattle.gtfs_columns.specs.steps.FieldCodes.{is_found_at, is_in_row};
 ghost use Rattle.gtfs_columns.specs.steps.Found.{Adds};
 ghost use Rattle.gtfs_trip_rules.specs.StopTimes.{fields_report};
 
-use crate::stop_times::columns::{StopTime, StopTimeColumns};
+use crate::stop_times::columns::{ReadStopTime, StopTimeColumns};
 use crate::stop_times::problem;
 use gtfs_columns::{Code, Found, length_code};
 use gtfs_field::OutOfMemory;
@@ -13,7 +13,7 @@ use gtfs_field::OutOfMemory;
 // not name has to be filled in no row.
 pub(crate) fn report_fields<'a>(
     columns: &StopTimeColumns<'a>,
-    stop_time: &StopTime<'a>,
+    stop_time: &ReadStopTime<'a>,
     found: &mut Found<'a>,
 ) -> Result<(), OutOfMemory>
     ensures { OnOk result (Adds (λ p. is_in_row file.StopTimes stop_time.now.row p
@@ -43,9 +43,14 @@ pub(crate) fn report_fields<'a>(
     report(row, "stop_id", stop_id, found)?;
     report(row, "stop_sequence", sequence, found)?;
     report(row, "stop_headsign", stop_time.stop_headsign, found)?;
-    report(row, "pickup_type", stop_time.pickup_type, found)?;
-    report(row, "drop_off_type", stop_time.drop_off_type, found)?;
-    report(row, "timepoint", stop_time.timepoint, found)
+    report(row, "pickup_type", stop_time.pickup_type.code(false), found)?;
+    report(
+        row,
+        "drop_off_type",
+        stop_time.drop_off_type.code(false),
+        found,
+    )?;
+    report(row, "timepoint", stop_time.is_exact.code(false), found)
 }
 
 // Reports what was found at a column of a row, if anything.

@@ -1,14 +1,14 @@
-ghost use Rattle.std.specs.Prelude.{◌≡◌, ◌&&◌, ◌∷◌, [], not, is_some, option_and_then, OnOk};
+ghost use Rattle.std.specs.Prelude.{◌≡◌, ◌&&◌, ◌∷◌, [], not, is_some, option_and_then, IfOk, OnOk};
 ghost use Rattle.gtfs_table.specs.Tables.{Dataset};
 ghost use Rattle.gtfs_columns.specs.steps.FeedIds.{AreIdsOf};
-ghost use Rattle.gtfs_columns.specs.steps.Ids.{first_row_with};
-ghost use Rattle.gtfs_trip_rules.specs.Readings.{text_of};
+ghost use Rattle.gtfs_columns.specs.steps.Ids.{first_row_with, number_with};
+ghost use Rattle.gtfs_trip_rules.specs.Readings.{text_of, value_in};
 ghost use Rattle.gtfs_columns.specs.steps.StopTypes.{type_of, AreStopTypes};
 ghost use Rattle.gtfs_trip_rules.specs.StopTimePicks.{in_names};
 ghost use Rattle.gtfs_trip_rules.specs.StopTimes.{AreNamedRows, IsRow, ReportsOfRow};
 ghost use Rattle.gtfs_columns.specs.Values.{if_there, is_one_of};
 
-use crate::stop_times::columns::StopTime;
+use crate::stop_times::columns::ReadStopTime;
 use crate::stop_times::problem;
 use gtfs_columns::{Code, FeedIds, Finder, Found, is_one_of, type_of};
 use gtfs_field::OutOfMemory;
@@ -34,40 +34,76 @@ impl<'a, 't> NamedRows<'a, 't> {
     }
 
     // Reports a stop and a trip that are not there, and a stop at which no vehicle stops: a
-    // station, an entrance, a node or a boarding area.
+    // station, an entrance, a node or a boarding area. Answers the numbers of those that are there.
     pub(crate) fn report<'b>(
         &mut self,
-        stop_time: &StopTime<'b>,
+        stop_time: &ReadStopTime<'b>,
         found: &mut Found<'b>,
-    ) -> Result<(), OutOfMemory>
+    ) -> Result<Named, OutOfMemory>
         ensures reported { OnOk result ((d : Dataset) → AreNamedRows d self.old
             → IsRow d stop_time.now
             → ReportsOfRow d in_names stop_time.now.row found.old found.new) }
         ensures same { (d : Dataset) → AreNamedRows d self.old → AreNamedRows d self.new }
+        ensures trip { IfOk result (λ named. named.trip ≡ option_and_then
+            (number_with self.old.trips.ids.now) (text_of (value_in stop_time.now.trip_id))) }
+        ensures stop { IfOk result (λ named. named.stop ≡ option_and_then
+            (number_with self.old.stops.ids.now) (text_of (value_in stop_time.now.stop_id))) }
     {
         let row = stop_time.row;
         let stop_id = stop_time.stop_id.value();
         let trip_id = stop_time.trip_id.value();
-        let stop = first_row(&mut self.stops, stop_id);
-        let trip = first_row(&mut self.trips, trip_id);
+        let stop = find(&mut self.stops, stop_id);
+        let trip = find(&mut self.trips, trip_id);
         let no_stop = problem(row, Code::E10, "stop_id");
-        found.report(no_stop, is_lost(stop_id, stop))?;
+        found.report(no_stop, is_lost(stop_id, stop.row))?;
         let no_trip = problem(row, Code::E10, "trip_id");
-        found.report(no_trip, is_lost(trip_id, trip))?;
+        found.report(no_trip, is_lost(trip_id, trip.row))?;
         let no_platform = problem(row, Code::E11, "stop_id");
-        found.report(no_platform, is_no_platform(self.types, stop))
+        found.report(no_platform, is_no_platform(self.types, stop.row))?;
+        Ok(Named {
+            trip: trip.number,
+            stop: stop.number,
+        })
     }
 }
 
-// The first row with the id, if there is an id.
+// The numbers of the trip and of the stop that a row names, where they are there.
+#[derive(Clone, Copy)]
+pub(crate) struct Named {
+    pub(crate) trip: Option<usize>,
+    pub(crate) stop: Option<usize>,
+}
+
+// Where an id stands: its number, and the first row that has it.
+#[derive(Clone, Copy)]
+struct Place {
+    number: Option<usize>,
+    row: Option<usize>,
+}
+
+const NOWHERE: Place = Place {
+    number: None,
+    row: None,
+};
+
+// Where the id stands, if there is an id.
 #[inline(always)]
-fn first_row(rows: &mut Finder<'_>, id: Option<&str>) -> Option<usize>
-    ensures answer { result ≡ option_and_then (first_row_with rows.old.ids.now) (text_of id.entry) }
-    ensures same { rows.new.ids.now ≡ rows.old.ids.now }
+fn find(ids: &mut Finder<'_>, id: Option<&str>) -> Place
+    ensures row { result.row
+        ≡ option_and_then (first_row_with ids.old.ids.now) (text_of id.entry) }
+    ensures number { result.number
+        ≡ option_and_then (number_with ids.old.ids.now) (text_of id.entry) }
+    ensures same { ids.new.ids.now ≡ ids.old.ids.now }
 {
-    match id {
-        Some(id) => rows.first_row(id),
-        None => None,
+    let Some(id) = id else {
+        return NOWHERE;
+    };
+    match ids.find(id) {
+        Some(found) => Place {
+            number: Some(found.number),
+            row: Some(found.row),
+        },
+        None => NOWHERE,
     }
 }
 

@@ -1,9 +1,11 @@
 ghost use Rattle.std.specs.Prelude.{◌≡◌, option_map, pos};
-ghost use Rattle.gtfs_columns.specs.Columns.{count, id, time};
+ghost use Rattle.gtfs_columns.specs.Columns.{count, id, time, up_to};
+ghost use Rattle.gtfs_trip_rules.specs.KeptChoices.{boarding_number, exact_number};
 ghost use Rattle.gtfs_trip_rules.specs.Readings.{code_in, fault_in, fault_of, is_blank, value_in, value_or};
 ghost use Rattle.gtfs_columns.specs.Values.{amount, readable, word};
 ghost use Rattle.gtfs_table.specs.Rows.{is_empty};
 
+use crate::trips::row::Boarding;
 use gtfs_columns::{Code, has_control};
 use gtfs_field::{FieldFault, read_count, read_time};
 
@@ -103,6 +105,48 @@ pub(crate) fn read_number(text: &str) -> Reading<u32>
     }
     match read_count(text) {
         Ok(number) => Reading::Value(number),
+        Err(FieldFault::Form) => Reading::Fault(Code::E07),
+        Err(FieldFault::Range) => Reading::Fault(Code::E08),
+    }
+}
+
+// How passengers board or get off.
+#[inline(always)]
+pub(crate) fn read_boarding(text: &str) -> Reading<Boarding>
+    ensures empty { is_blank result ≡ is_empty text.now }
+    ensures fault { fault_in result ≡ fault_of (up_to 3) text.now }
+    ensures value { option_map (λ b. amount (pos (boarding_number b))) (value_in result)
+        ≡ readable (up_to 3) text.now }
+{
+    if text.is_empty() {
+        return Reading::Empty;
+    }
+    match read_count(text) {
+        Ok(0) => Reading::Value(Boarding::Regular),
+        Ok(1) => Reading::Value(Boarding::Unavailable),
+        Ok(2) => Reading::Value(Boarding::Phone),
+        Ok(3) => Reading::Value(Boarding::Driver),
+        Ok(4..) => Reading::Fault(Code::E08),
+        Err(FieldFault::Form) => Reading::Fault(Code::E07),
+        Err(FieldFault::Range) => Reading::Fault(Code::E08),
+    }
+}
+
+// Whether the times of a row are exact.
+#[inline(always)]
+pub(crate) fn read_is_exact(text: &str) -> Reading<bool>
+    ensures empty { is_blank result ≡ is_empty text.now }
+    ensures fault { fault_in result ≡ fault_of (up_to 1) text.now }
+    ensures value { option_map (λ e. amount (pos (exact_number e))) (value_in result)
+        ≡ readable (up_to 1) text.now }
+{
+    if text.is_empty() {
+        return Reading::Empty;
+    }
+    match read_count(text) {
+        Ok(0) => Reading::Value(false),
+        Ok(1) => Reading::Value(true),
+        Ok(2..) => Reading::Fault(Code::E08),
         Err(FieldFault::Form) => Reading::Fault(Code::E07),
         Err(FieldFault::Range) => Reading::Fault(Code::E08),
     }

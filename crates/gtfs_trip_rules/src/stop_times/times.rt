@@ -5,7 +5,7 @@ ghost use Rattle.gtfs_trip_rules.specs.StopTimePicks.{in_times};
 ghost use Rattle.gtfs_trip_rules.specs.StopTimes.{IsRow, ReportsOfRow};
 ghost use Rattle.gtfs_columns.specs.Values.{if_both};
 
-use crate::stop_times::columns::StopTime;
+use crate::stop_times::columns::ReadStopTime;
 use crate::stop_times::problem;
 use crate::stop_times::reading::Reading;
 use gtfs_columns::{Code, Found};
@@ -13,7 +13,7 @@ use gtfs_field::OutOfMemory;
 
 // Reports a row that is left before it is reached, or that has one of its two times alone.
 pub(crate) fn report_times<'a>(
-    stop_time: &StopTime<'a>,
+    stop_time: &ReadStopTime<'a>,
     found: &mut Found<'a>,
 ) -> Result<(), OutOfMemory>
     ensures { OnOk result ((d : Dataset) → IsRow d stop_time.now

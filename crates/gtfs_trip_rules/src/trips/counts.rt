@@ -3,6 +3,7 @@ ghost use Rattle.gtfs_columns.specs.Columns.{id};
 ghost use Rattle.gtfs_columns.specs.Reads.{word_of};
 ghost use Rattle.gtfs_columns.specs.declared.code.Code.TheVariants as code;
 ghost use Rattle.gtfs_columns.specs.steps.Found.{Reports};
+ghost use Rattle.gtfs_columns.specs.steps.Ids.{ids_of};
 ghost use Rattle.gtfs_columns.specs.steps.Picks.{of_codes};
 ghost use Rattle.gtfs_trip_rules.specs.TripCounts.{are_few};
 ghost use Rattle.gtfs_trip_rules.specs.TripNotes.{trip_notes_in};
@@ -17,14 +18,14 @@ use gtfs_table::{File, Tables};
 // Reports each row of trips.txt whose trip has fewer than two rows in stop_times.txt.
 pub fn report_counts<'a>(
     tables: &'a Tables,
-    notes: &TripNotes<'a>,
+    notes: &TripNotes<'_>,
     found: &mut Found<'a>,
 ) -> Result<(), OutOfMemory>
-    requires { notes.now ≡ trip_notes_in tables.now }
+    requires { notes.now.notes ≡ trip_notes_in tables.now }
     ensures { OnOk result (Reports tables.now (of_codes (code.W06 ∷ [])) found.old found.new) }
 {
     let trip_id = tables.column(File::Trips, "trip_id");
-    let counts = notes.counts();
+    let mut counts = notes.counts();
     for (row, record) in tables.rows(File::Trips) {
         let problem = Problem {
             file: FileName::Kept(File::Trips),
@@ -32,15 +33,18 @@ pub fn report_counts<'a>(
             code: Code::W06,
             column: "trip_id",
         };
-        found.report(problem, has_few_rows(&counts, record.value(trip_id)))?;
+        found.report(problem, has_few_rows(&mut counts, record.value(trip_id)))?;
     }
     Ok(())
 }
 
 // Whether a text is the id of a trip that fewer than two rows of stop_times.txt name.
-fn has_few_rows(counts: &RowCounts<'_, '_>, text: &str) -> bool
-    ensures { result ≡ if_there (word_of id text.now)
-        (are_few counts.now.numbers.now counts.now.counts.now) }
+fn has_few_rows(counts: &mut RowCounts<'_, '_>, text: &str) -> bool
+    ensures few { result ≡ if_there (word_of id text.now)
+        (are_few (ids_of counts.old.trips.ids.now) counts.old.numbers.now counts.old.counts.now) }
+    ensures trips { counts.new.trips.ids.now ≡ counts.old.trips.ids.now }
+    ensures numbers { counts.new.numbers.now ≡ counts.old.numbers.now }
+    ensures counts { counts.new.counts.now ≡ counts.old.counts.now }
 {
     match values::id(text) {
         Some(trip_id) => counts.are_few(trip_id),

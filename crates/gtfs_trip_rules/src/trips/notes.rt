@@ -1,9 +1,17 @@
-ghost use Rattle.std.specs.Prelude.{◌≡◌, [], List, ℕ};
+ghost use Rattle.std.specs.Prelude.{◌≡◌, ◌∷◌, ◌++◌, [], true, List, ℕ, OnOk};
+ghost use Rattle.std.specs.List.{All};
+ghost use Rattle.gtfs_columns.specs.steps.Ids.{ids_of, number_with};
+ghost use Rattle.gtfs_table.specs.Tables.{Dataset};
+ghost use Rattle.gtfs_trip_rules.specs.Kept.{AllKeep};
+ghost use Rattle.gtfs_trip_rules.specs.KeptTimes.{is_placed};
 ghost use Rattle.gtfs_trip_rules.specs.TripCounts.{count_of};
+ghost use Rattle.gtfs_trip_rules.specs.TripNotes.{rows_of_notes, times_noted, trip_note, NotesRow};
+ghost use Rattle.gtfs_trip_rules.specs.TripNumbers.{AreRowsNumbered};
 
 use crate::trips::numbers::trip_number;
-use crate::trips::row::TripStopTime;
+use crate::trips::row::StopTime;
 use crate::trips::row_counts::{RowCounts, make_room};
+use gtfs_columns::{Finder, Ids};
 use gtfs_field::OutOfMemory;
 use std::alloc::Global;
 use std::collections::BTreeMap;
@@ -13,44 +21,21 @@ use std::marker::Model;
 #[derive(Clone, Copy)]
 pub(crate) struct TripNote<'a> {
     pub(crate) trip_id: &'a str,
-    // Where it is readable.
-    pub(crate) stop_sequence: Option<u32>,
-    pub(crate) row: usize,
-    // Each time stands for the other where that is missing. There is none where one is unreadable.
-    pub(crate) arrival: Option<u32>,
-    pub(crate) departure: Option<u32>,
-    pub(crate) is_untimed: bool,
-}
-
-impl<'a> TripNote<'a> {
-    ghost use Rattle.gtfs_trip_rules.specs.TripNotes.{note_of, trip_note};
-
-    // The row as it is kept, its trip by its number.
-    fn to_row(self, trip: usize) -> TripStopTime
-        ensures note { (name : ℕ → List ℕ) → name trip ≡ self.entry.trip_id.now
-            → note_of name result ≡ trip_note self.entry }
-        ensures trip { result.trip ≡ trip }
-    {
-        TripStopTime {
-            trip,
-            row: self.row,
-            arrival: self.arrival,
-            departure: self.departure,
-            stop_sequence: self.stop_sequence.unwrap_or(0),
-            has_sequence: self.stop_sequence.is_some(),
-            is_untimed: self.is_untimed,
-        }
-    }
+    // The number of the trip, where trips.txt has it.
+    pub(crate) number: Option<usize>,
+    // The row, which has no number of its trip yet.
+    pub(crate) kept: StopTime,
 }
 
 // What the rows of stop_times.txt say of their trips.
 #[derive(Drop)]
 pub struct TripNotes<'a> {
-    rows: Vec<TripStopTime>,
+    trips: &'a Ids<'a>,
+    rows: Vec<StopTime>,
     // Whether each row has a sequence.
     are_sequenced: bool,
-    // The trips by their numbers, and their numbers. The first row that names a trip gives it its
-    // number, so that rows that stand together are in order.
+    // The trips that trips.txt lacks in the order of their numbers, and these. The first row that
+    // names such a trip gives it its number.
     names: Vec<&'a str>,
     numbers: BTreeMap<&'a str, usize>,
     // How many rows have each number.
@@ -58,29 +43,31 @@ pub struct TripNotes<'a> {
 }
 
 impl<'a> Model for TripNotes<'a> {
-    ghost use Rattle.std.specs.Prelude.{List, map};
+    ghost use Rattle.std.specs.Prelude.{map};
+    ghost use Rattle.gtfs_columns.specs.steps.Ids.{ids_of};
     ghost use Rattle.gtfs_trip_rules.specs.TripCounts.{AreKept};
-    ghost use Rattle.gtfs_trip_rules.specs.TripNotes.{TripNote, note_of};
+    ghost use Rattle.gtfs_trip_rules.specs.TripNotes.{Noted, note_of};
     ghost use Rattle.gtfs_trip_rules.specs.TripNumbers.{name_at};
 
-    ghost Value = { List TripNote };
+    ghost Value = { Noted };
 
-    ghost view = { λ n. map (note_of (name_at n.names.items)) n.rows.items };
+    ghost view = { λ n. record {
+      trips = n.trips.now;
+      notes = map (note_of (name_at (ids_of n.trips.now) n.names.items)) n.rows.items;
+      rows = n.rows.items;
+    } };
 
-    ghost invariant = { λ n.
-        AreKept n.numbers n.names.items n.counts.items n.are_sequenced n.rows.items };
+    ghost invariant = { λ n. AreKept (ids_of n.trips.now) n.numbers n.names.items n.counts.items
+        n.are_sequenced n.rows.items };
 }
 
 impl<'a> TripNotes<'a> {
-    ghost use Rattle.std.specs.Prelude.{◌∷◌, ◌++◌, filter, OnOk};
-    ghost use Rattle.gtfs_trip_rules.specs.TripNotes.{rows_of_notes, times_noted, trip_note};
-    ghost use Rattle.gtfs_trip_rules.specs.TripNumbers.{AreRowsNumbered};
-
-    // No notes.
-    pub(crate) fn new(alloc: Global) -> TripNotes<'a>
-        ensures { result ≡ [] }
+    // No notes, about the trips of trips.txt and others.
+    pub(crate) fn new(alloc: Global, trips: &'a Ids<'a>) -> TripNotes<'a>
+        ensures { result ≡ record { trips = trips.now; notes = []; rows = [] } }
     {
         TripNotes {
+            trips,
             rows: Vec::new(alloc),
             are_sequenced: true,
             names: Vec::new(alloc),
@@ -91,32 +78,45 @@ impl<'a> TripNotes<'a> {
 
     // Takes note of one more row.
     pub(crate) fn note(&mut self, note: TripNote<'a>) -> Result<(), OutOfMemory>
-        ensures { OnOk result (self.new ≡ self.old ++ trip_note note.entry ∷ []) }
+        requires { note.number ≡ number_with self.old.trips note.trip_id.now }
+        ensures trips { self.new.trips ≡ self.old.trips }
+        ensures notes { OnOk result (self.new.notes ≡ self.old.notes ++ trip_note note.entry ∷ []) }
+        ensures rows { OnOk result (NotesRow note.entry self.old.rows self.new.rows) }
     {
         let id = note.trip_id;
-        let trip = trip_number(&self.rows, &mut self.numbers, &mut self.names, id)?;
-        make_room(&mut self.counts, self.names.len())?;
-        let row = note.to_row(trip);
+        let trip = trip_number(
+            self.trips,
+            &mut self.numbers,
+            &mut self.names,
+            id,
+            note.number,
+        )?;
+        make_room(&mut self.counts, self.trips.len(), trip)?;
+        let row = note.kept.of_trip(trip);
         self.rows.push(row)?;
         self.counts[trip] += 1;
-        self.are_sequenced = self.are_sequenced && row.has_sequence;
+        self.are_sequenced = self.are_sequenced && row.is_placed();
         Ok(())
     }
 
     // How many rows name each trip.
     pub(crate) fn counts<'n>(&'n self) -> RowCounts<'a, 'n>
-        ensures { (trip : List ℕ)
-            → count_of result.numbers.now result.counts.now trip ≡ times_noted self.now trip }
+        ensures counts { (trip : List ℕ) → count_of (ids_of self.now.trips) result.numbers.now
+            result.counts.now trip ≡ times_noted self.now.notes trip }
+        ensures trips { result.trips.ids.now ≡ self.now.trips }
     {
         RowCounts {
+            trips: Finder::new(self.trips),
             numbers: &self.numbers,
             counts: &self.counts,
         }
     }
 
     // The rows that have a sequence, in the file's order.
-    pub(crate) fn into_rows(self) -> Vec<TripStopTime>
-        ensures { AreRowsNumbered (rows_of_notes self.entry) result.items }
+    pub(crate) fn into_rows(self) -> Vec<StopTime>
+        ensures numbered { AreRowsNumbered (rows_of_notes self.entry.notes) result.items }
+        ensures placed { All (λ r. is_placed r.times ≡ true) result.items }
+        ensures kept { (d : Dataset) → AllKeep d self.entry.rows → AllKeep d result.items }
     {
         let TripNotes {
             mut rows,
@@ -124,7 +124,7 @@ impl<'a> TripNotes<'a> {
             ..
         } = self;
         if !are_sequenced {
-            rows.retain(|row| row.has_sequence);
+            rows.retain(|row| row.is_placed());
         }
         rows
     }

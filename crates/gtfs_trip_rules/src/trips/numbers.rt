@@ -1,77 +1,49 @@
-ghost use Rattle.std.specs.Prelude.{◌≡◌, true, None, Some, IfOk, IfSome};
-ghost use Rattle.gtfs_trip_rules.specs.TripNumbers.{number_in, AreNamed, AreNumbered, IsNumberAmong, Keeps};
+ghost use Rattle.std.specs.Prelude.{◌≡◌, ◌+◌, ◌<◌, ◌^◌, None, Some, IfOk, length};
+ghost use Rattle.gtfs_columns.specs.steps.Ids.{ids_of, number_with};
+ghost use Rattle.gtfs_trip_rules.specs.TripNumbers.{number_in, AreNamed, Keeps};
 
-use crate::trips::row::TripStopTime;
+use gtfs_columns::Ids;
 use gtfs_field::OutOfMemory;
 use std::collections::BTreeMap;
 
-// The number of a trip that a row names after these rows.
+// The number of a trip that a row names, which this is where trips.txt has the trip.
 pub(crate) fn trip_number<'a>(
-    rows: &[TripStopTime],
+    trips: &Ids<'a>,
     numbers: &mut BTreeMap<&'a str, usize>,
     names: &mut Vec<&'a str>,
     id: &'a str,
+    number: Option<usize>,
 ) -> Result<usize, OutOfMemory>
-    requires { AreNumbered numbers.old names.old.items rows.now }
-    ensures named { AreNamed numbers.new names.new.items }
-    ensures keeps { Keeps numbers.old numbers.new }
-    ensures number { IfOk result (λ n. number_in numbers.new id.now ≡ Some n) }
+    requires named { AreNamed (ids_of trips.now) numbers.old names.old.items }
+    requires number { number ≡ number_with trips.now id.now }
+    ensures named { AreNamed (ids_of trips.now) numbers.new names.new.items }
+    ensures keeps { Keeps (ids_of trips.now) numbers.old numbers.new }
+    ensures number { IfOk result (λ n. number_in (ids_of trips.now) numbers.new id.now ≡ Some n) }
 {
-    match last_number(rows, names, id) {
+    match number {
         Some(number) => Ok(number),
-        None => number_of(numbers, names, id),
+        None => number_of_other(trips, numbers, names, id),
     }
 }
 
-// The number of a trip. A trip that is new gets the next one.
-fn number_of<'a>(
+// The number of a trip that trips.txt lacks. One that is new gets the next number.
+fn number_of_other<'a>(
+    trips: &Ids<'a>,
     numbers: &mut BTreeMap<&'a str, usize>,
     names: &mut Vec<&'a str>,
     id: &'a str,
 ) -> Result<usize, OutOfMemory>
-    requires { AreNamed numbers.old names.old.items }
-    ensures named { AreNamed numbers.new names.new.items }
-    ensures keeps { Keeps numbers.old numbers.new }
-    ensures number { IfOk result (λ n. number_in numbers.new id.now ≡ Some n) }
+    requires named { AreNamed (ids_of trips.now) numbers.old names.old.items }
+    requires other { number_with trips.now id.now ≡ None }
+    ensures named { AreNamed (ids_of trips.now) numbers.new names.new.items }
+    ensures keeps { Keeps (ids_of trips.now) numbers.old numbers.new }
+    ensures number { IfOk result (λ n. number_in (ids_of trips.now) numbers.new id.now ≡ Some n) }
 {
-    if let Some(number) = known_number(numbers, id) {
-        return Ok(number);
+    if let Some(number) = numbers.get(id) {
+        return Ok(*number);
     }
-    let number = names.len();
+    let number = trips.len() + names.len();
     names.push(id)?;
     numbers.insert(id, number)?;
     Ok(number)
-}
-
-// The number of a trip, if it has one.
-fn known_number(numbers: &BTreeMap<&str, usize>, id: &str) -> Option<usize>
-    ensures { result ≡ number_in numbers.now id.now }
-{
-    if is_beyond(numbers, id) {
-        return None;
-    }
-    numbers.get(id).copied()
-}
-
-// Whether an id comes after all that have a number, as where trips stand in the order of their ids.
-// Such an id is new, and need not be looked for.
-fn is_beyond(numbers: &BTreeMap<&str, usize>, id: &str) -> bool
-    ensures { result ≡ true → number_in numbers.now id.now ≡ None }
-{
-    match numbers.last_key_value() {
-        Some((last, _)) => *last < id,
-        None => false,
-    }
-}
-
-// The number of a trip, where the last row names it.
-fn last_number(rows: &[TripStopTime], names: &[&str], id: &str) -> Option<usize>
-    ensures { IfSome result (IsNumberAmong rows.now names.now id.now) }
-{
-    let last = rows.last()?;
-    let name = names.get(last.trip)?;
-    if *name != id {
-        return None;
-    }
-    Some(last.trip)
 }

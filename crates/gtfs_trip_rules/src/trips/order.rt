@@ -1,51 +1,57 @@
-ghost use Rattle.std.specs.Prelude.{◌≡◌, ◌∷◌, ◌||◌, [], List, ℕ, map, reverse, codes, pos, option_map, OnOk};
+ghost use Rattle.std.specs.Prelude.{◌≡◌, ◌∷◌, ◌||◌, [], List, ℕ, map, reverse, codes, pos, option_map, IfOk, IsPermutation, OnOk};
 ghost use Rattle.gtfs_table.specs.Tables.{Dataset};
 ghost use Rattle.gtfs_table.specs.declared.file.File.TheVariants as file;
 ghost use Rattle.gtfs_columns.specs.declared.code.Code.TheVariants as code;
 ghost use Rattle.gtfs_columns.specs.declared.file_name.FileName.TheVariants as file_name;
 ghost use Rattle.gtfs_columns.specs.steps.Found.{Reports};
 ghost use Rattle.gtfs_columns.specs.steps.Picks.{at_column, in_file, of_codes};
+ghost use Rattle.gtfs_trip_rules.specs.Kept.{AllKeep};
+ghost use Rattle.gtfs_trip_rules.specs.KeptOrder.{AreKeptOf};
 ghost use Rattle.gtfs_trip_rules.specs.TripNotes.{trip_notes_in};
 ghost use Rattle.gtfs_trip_rules.specs.TripNumbers.{AllNumbered, AreRowsNumbered, IsNumbered};
 ghost use Rattle.gtfs_trip_rules.specs.TripOrder.{ends, follows, is_left_later, is_untimed_end, last_left as last_left_of, left_before, kept_cmp, repeats, AreInOrder};
 ghost use Rattle.gtfs_trip_rules.specs.TripStopTimes.{trip_stop_time, trip_stop_times_in};
 
 use crate::trips::notes::TripNotes;
-use crate::trips::row::TripStopTime;
+use crate::trips::row::StopTime;
 use gtfs_columns::{Code, FileName, Found, Problem};
 use gtfs_field::OutOfMemory;
 use gtfs_table::{File, Tables};
 use std::cmp::Ordering;
 
 // Reports what the order of stop times breaks: a sequence of a trip that comes twice, a first or
-// last row without times, and a time that goes back.
+// last row without times, and a time that goes back. Hands on the stop times in their order.
 pub fn report_order<'a>(
     tables: &'a Tables,
-    notes: TripNotes<'a>,
+    notes: TripNotes<'_>,
     found: &mut Found<'a>,
-) -> Result<(), OutOfMemory>
-    requires { notes ≡ trip_notes_in tables.now }
-    ensures { OnOk result (Reports tables.now
+) -> Result<Vec<StopTime>, OutOfMemory>
+    requires notes { notes.notes ≡ trip_notes_in tables.now }
+    requires kept { AllKeep tables.now notes.rows }
+    ensures reported { OnOk result (Reports tables.now
         (λ p. in_file code.E09 file.StopTimes p || of_codes (code.E15 ∷ code.E17 ∷ []) p)
         found.old found.new) }
+    ensures kept { IfOk result (λ rows. AreKeptOf tables.now rows.items) }
 {
     let rows = in_order(notes.into_rows());
     report_repeats(&rows, found)?;
     report_untimed_ends(&rows, found)?;
-    report_times_back(&rows, found)
+    report_times_back(&rows, found)?;
+    Ok(rows)
 }
 
 // The rows by trip, sequence and row. Where they stand in this order already, as they mostly do,
 // one pass finds it so.
-fn in_order(mut rows: Vec<TripStopTime>) -> Vec<TripStopTime>
-    ensures { (d : Dataset) → AreRowsNumbered (trip_stop_times_in d) rows.items
+fn in_order(mut rows: Vec<StopTime>) -> Vec<StopTime>
+    ensures order { (d : Dataset) → AreRowsNumbered (trip_stop_times_in d) rows.items
         → AreInOrder d result.items }
+    ensures moved { IsPermutation rows.items result.items }
 {
     rows.sort_unstable_by(|a, b| order(a, b));
     rows
 }
 
-fn order(a: &TripStopTime, b: &TripStopTime) -> Ordering
+fn order(a: &StopTime, b: &StopTime) -> Ordering
     ensures { result ≡ kept_cmp a.now b.now }
 {
     a.trip
@@ -55,7 +61,7 @@ fn order(a: &TripStopTime, b: &TripStopTime) -> Ordering
 }
 
 // Rows whose trip and sequence an earlier row has.
-fn report_repeats<'a>(rows: &[TripStopTime], found: &mut Found<'a>) -> Result<(), OutOfMemory>
+fn report_repeats<'a>(rows: &[StopTime], found: &mut Found<'a>) -> Result<(), OutOfMemory>
     ensures { OnOk result ((d : Dataset) → AreInOrder d rows.now
         → Reports d (at_column code.E09 file.StopTimes (codes "stop_sequence"))
         found.old found.new) }
@@ -69,7 +75,7 @@ fn report_repeats<'a>(rows: &[TripStopTime], found: &mut Found<'a>) -> Result<()
 }
 
 // The first and the last row of a trip where it has no time.
-fn report_untimed_ends<'a>(rows: &[TripStopTime], found: &mut Found<'a>) -> Result<(), OutOfMemory>
+fn report_untimed_ends<'a>(rows: &[StopTime], found: &mut Found<'a>) -> Result<(), OutOfMemory>
     ensures { OnOk result ((d : Dataset) → AreInOrder d rows.now
         → Reports d (at_column code.E15 file.StopTimes (codes "arrival_time"))
         found.old found.new) }
@@ -85,7 +91,7 @@ fn report_untimed_ends<'a>(rows: &[TripStopTime], found: &mut Found<'a>) -> Resu
 }
 
 // Rows that are reached before the row with a time before them is left.
-fn report_times_back<'a>(rows: &[TripStopTime], found: &mut Found<'a>) -> Result<(), OutOfMemory>
+fn report_times_back<'a>(rows: &[StopTime], found: &mut Found<'a>) -> Result<(), OutOfMemory>
     ensures { OnOk result ((d : Dataset) → AreInOrder d rows.now
         → Reports d (at_column code.E17 file.StopTimes (codes "arrival_time"))
         found.old found.new) }
@@ -95,13 +101,13 @@ fn report_times_back<'a>(rows: &[TripStopTime], found: &mut Found<'a>) -> Result
         let row = &rows[at];
         let left = left_before(&rows[..at], row, last_left);
         let problem = problem(row, Code::E17, "arrival_time");
-        found.report(problem, is_left_later(left, row.arrival))?;
-        last_left = row.departure.or(left);
+        found.report(problem, is_left_later(left, row.arrives()))?;
+        last_left = row.departs().or(left);
     }
     Ok(())
 }
 
-fn problem<'a>(row: &TripStopTime, code: Code, column: &'static str) -> Problem<'a>
+fn problem<'a>(row: &StopTime, code: Code, column: &'static str) -> Problem<'a>
     ensures { result ≡ record {
       file = file_name.Kept file.StopTimes;
       row = row.now.row;
@@ -118,7 +124,7 @@ fn problem<'a>(row: &TripStopTime, code: Code, column: &'static str) -> Problem<
 }
 
 // Whether the row before is of the same trip.
-fn follows(before: &[TripStopTime], row: &TripStopTime) -> bool
+fn follows(before: &[StopTime], row: &StopTime) -> bool
     ensures { (number : List ℕ → ℕ) (name : ℕ → List ℕ) → AllNumbered number name before.now
         → IsNumbered number name row.now
         → result
@@ -131,7 +137,7 @@ fn follows(before: &[TripStopTime], row: &TripStopTime) -> bool
 }
 
 // Whether the row before has the same trip and sequence.
-fn repeats(before: &[TripStopTime], row: &TripStopTime) -> bool
+fn repeats(before: &[StopTime], row: &StopTime) -> bool
     ensures { (number : List ℕ → ℕ) (name : ℕ → List ℕ) → AllNumbered number name before.now
         → IsNumbered number name row.now
         → result
@@ -145,7 +151,7 @@ fn repeats(before: &[TripStopTime], row: &TripStopTime) -> bool
 
 // Whether no row after is of the same trip and has a greater sequence, where that is known of the
 // next row.
-fn ends(row: &TripStopTime, after: &[TripStopTime], next_ends: bool) -> bool
+fn ends(row: &StopTime, after: &[StopTime], next_ends: bool) -> bool
     ensures { (number : List ℕ → ℕ) (name : ℕ → List ℕ) → IsNumbered number name row.now
         → AllNumbered number name after.now
         → next_ends ≡ ends (map (trip_stop_time name) after.now)
@@ -161,17 +167,17 @@ fn ends(row: &TripStopTime, after: &[TripStopTime], next_ends: bool) -> bool
 
 // Whether a row without times is the first of its trip, or of the rows with its trip's greatest
 // sequence.
-fn is_untimed_end(before: &[TripStopTime], row: &TripStopTime, ends_trip: bool) -> bool
+fn is_untimed_end(before: &[StopTime], row: &StopTime, ends_trip: bool) -> bool
     ensures { (number : List ℕ → ℕ) (name : ℕ → List ℕ) → AllNumbered number name before.now
         → IsNumbered number name row.now
         → result ≡ is_untimed_end (reverse (map (trip_stop_time name) before.now))
         (trip_stop_time name row.now) ends_trip }
 {
-    row.is_untimed && (!follows(before, row) || (!repeats(before, row) && ends_trip))
+    row.is_untimed() && (!follows(before, row) || (!repeats(before, row) && ends_trip))
 }
 
 // When the row's trip was left last, where that is known of the row before.
-fn left_before(before: &[TripStopTime], row: &TripStopTime, last_left: Option<u32>) -> Option<u32>
+fn left_before(before: &[StopTime], row: &StopTime, last_left: Option<u32>) -> Option<u32>
     ensures { (number : List ℕ → ℕ) (name : ℕ → List ℕ) → AllNumbered number name before.now
         → IsNumbered number name row.now
         → option_map pos last_left ≡ last_left_of (reverse (map (trip_stop_time name) before.now))

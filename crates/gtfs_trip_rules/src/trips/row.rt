@@ -1,12 +1,162 @@
-// A row of stop_times.txt that names a trip, as it is kept. Where it has no sequence that is 0.
+ghost use Rattle.std.specs.Prelude.{◌≡◌};
+ghost use Rattle.gtfs_trip_rules.specs.KeptRow.{with_trip};
+ghost use Rattle.gtfs_trip_rules.specs.KeptTimes.{arrival_time, arrives, departs, departure_time, is_placed, is_untimed};
+
+/// How passengers board at a stop or get off (GTFS Schedule Reference, `pickup_type` and
+/// `drop_off_type` of stop_times.txt).
+#[derive(Clone, Copy, Debug, PartialEq, Eq)]
+pub enum Boarding {
+    /// 0, or empty: as scheduled.
+    Regular,
+    /// 1: not at all.
+    Unavailable,
+    /// 2: after a call to the agency.
+    Phone,
+    /// 3: as agreed with the driver.
+    Driver,
+}
+
+/// Whether the times of a stop time are exact (GTFS Schedule Reference, `timepoint` of
+/// stop_times.txt).
+#[derive(Clone, Copy, Debug, PartialEq, Eq)]
+pub enum Timepoint {
+    /// Empty: nothing is said.
+    Unsaid,
+    /// 0: they are approximate.
+    Approximate,
+    /// 1: they are exact.
+    Exact,
+}
+
+// Which of its two times a stop time has.
 #[derive(Clone, Copy)]
-pub(crate) struct TripStopTime {
-    // The number of its trip.
-    pub(crate) trip: usize,
-    pub(crate) row: usize,
-    pub(crate) arrival: Option<u32>,
-    pub(crate) departure: Option<u32>,
-    pub(crate) stop_sequence: u32,
-    pub(crate) has_sequence: bool,
-    pub(crate) is_untimed: bool,
+pub(crate) enum Times {
+    Both,
+    // Each of these has the one time in the place of the other too.
+    Arrival,
+    Departure,
+    // Both are empty.
+    Neither,
+    // One of them is not as it has to be.
+    Unclear,
+    // The row has no sequence, and so no place in its trip. Its times are not asked for.
+    Unplaced,
+}
+
+/// A stop time: a row of stop_times.txt as it was read, with numbers in the place of ids.
+///
+/// It has 40 bytes. The texts of the row are read of the tables by its number.
+#[derive(Clone, Copy)]
+pub struct StopTime {
+    /// The number of its trip: how many ids of trips.txt come before that trip's id by their bytes.
+    pub trip: usize,
+    /// The number of its stop: how many ids of stops.txt come before that stop's id by their bytes.
+    pub stop: usize,
+    /// The number of its row.
+    pub row: usize,
+    pub(crate) arrival: u32,
+    pub(crate) departure: u32,
+    /// Where it stands in its trip: a number from 0 to 2,147,483,647.
+    pub stop_sequence: u32,
+    pub(crate) times: Times,
+    /// How passengers board.
+    pub pickup_type: Boarding,
+    /// How passengers get off.
+    pub drop_off_type: Boarding,
+    /// Whether its times are exact.
+    pub timepoint: Timepoint,
+}
+
+impl StopTime {
+    // The row, whose trip has this number.
+    #[inline(always)]
+    pub(crate) fn of_trip(self, trip: usize) -> StopTime
+        ensures { result ≡ with_trip self trip }
+    {
+        StopTime { trip, ..self }
+    }
+
+    /// When the vehicle arrives, in seconds from the origin of the service day, if that is said.
+    pub fn arrival_time(&self) -> Option<u32>
+        ensures { result ≡ arrival_time self.now }
+    {
+        match self.times {
+            Times::Both => Some(self.arrival),
+            Times::Arrival => Some(self.arrival),
+            Times::Departure => None,
+            Times::Neither => None,
+            Times::Unclear => None,
+            Times::Unplaced => None,
+        }
+    }
+
+    /// When the vehicle departs, in seconds from the origin of the service day, if that is said.
+    pub fn departure_time(&self) -> Option<u32>
+        ensures { result ≡ departure_time self.now }
+    {
+        match self.times {
+            Times::Both => Some(self.departure),
+            Times::Arrival => None,
+            Times::Departure => Some(self.departure),
+            Times::Neither => None,
+            Times::Unclear => None,
+            Times::Unplaced => None,
+        }
+    }
+
+    // When it is reached: at its arrival time, and else at its departure time.
+    pub(crate) fn arrives(&self) -> Option<u32>
+        ensures { result ≡ arrives self.now }
+    {
+        match self.times {
+            Times::Both => Some(self.arrival),
+            Times::Arrival => Some(self.arrival),
+            Times::Departure => Some(self.arrival),
+            Times::Neither => None,
+            Times::Unclear => None,
+            Times::Unplaced => None,
+        }
+    }
+
+    // When it is left: at its departure time, and else at its arrival time.
+    pub(crate) fn departs(&self) -> Option<u32>
+        ensures { result ≡ departs self.now }
+    {
+        match self.times {
+            Times::Both => Some(self.departure),
+            Times::Arrival => Some(self.departure),
+            Times::Departure => Some(self.departure),
+            Times::Neither => None,
+            Times::Unclear => None,
+            Times::Unplaced => None,
+        }
+    }
+
+    // Whether both of its times are empty.
+    pub(crate) fn is_untimed(&self) -> bool
+        ensures { result ≡ is_untimed self.now.times }
+    {
+        match self.times {
+            Times::Both => false,
+            Times::Arrival => false,
+            Times::Departure => false,
+            Times::Neither => true,
+            Times::Unclear => false,
+            Times::Unplaced => false,
+        }
+    }
+
+    // Whether it has a sequence, and so a place in its trip.
+    pub(crate) fn is_placed(&self) -> bool
+        ensures { result ≡ is_placed self.now.times }
+    {
+        match self.times {
+            Times::Both => true,
+            Times::Arrival => true,
+            Times::Departure => true,
+            Times::Neither => true,
+            Times::Unclear => true,
+            Times::Unplaced => false,
+        }
+    }
 }

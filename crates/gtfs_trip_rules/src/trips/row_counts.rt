@@ -1,12 +1,17 @@
-ghost use Rattle.std.specs.Prelude.{◌≡◌, ◌≤◌, ℕ, length, get_or, OnOk};
+ghost use Rattle.std.specs.Prelude.{◌≡◌, ◌<◌, ◌-◌, ◌^◌, ℕ, length, get_or, OnOk};
+ghost use Rattle.gtfs_columns.specs.steps.Ids.{ids_of};
 ghost use Rattle.gtfs_trip_rules.specs.TripCounts.{are_few};
+ghost use Rattle.gtfs_trip_rules.specs.TripNumbers.{number_in};
 
+use gtfs_columns::Finder;
 use gtfs_field::OutOfMemory;
 use std::collections::BTreeMap;
 
 // How many rows of stop_times.txt name each trip.
-#[derive(Clone, Copy)]
+#[derive(Drop)]
 pub(crate) struct RowCounts<'a, 'n> {
+    pub(crate) trips: Finder<'a>,
+    // The numbers of the trips that trips.txt lacks.
     pub(crate) numbers: &'n BTreeMap<&'a str, usize>,
     // By the numbers of the trips.
     pub(crate) counts: &'n [usize],
@@ -14,23 +19,46 @@ pub(crate) struct RowCounts<'a, 'n> {
 
 impl RowCounts<'_, '_> {
     // Whether fewer than two rows name a trip.
-    pub(crate) fn are_few(&self, trip_id: &str) -> bool
-        ensures { result ≡ are_few self.now.numbers.now self.now.counts.now trip_id.now }
+    pub(crate) fn are_few(&mut self, trip_id: &str) -> bool
+        ensures few { result ≡ are_few (ids_of self.old.trips.ids.now) self.old.numbers.now
+            self.old.counts.now trip_id.now }
+        ensures trips { self.new.trips.ids.now ≡ self.old.trips.ids.now }
+        ensures numbers { self.new.numbers.now ≡ self.old.numbers.now }
+        ensures counts { self.new.counts.now ≡ self.old.counts.now }
     {
-        match self.numbers.get(trip_id) {
-            Some(number) => self.counts.get(*number).copied().unwrap_or(0) < 2,
+        match self.number(trip_id) {
+            Some(number) => self.counts.get(number).copied().unwrap_or(0) < 2,
             None => true,
+        }
+    }
+
+    // The number of a trip, if it has one.
+    fn number(&mut self, trip_id: &str) -> Option<usize>
+        ensures number { result
+            ≡ number_in (ids_of self.old.trips.ids.now) self.old.numbers.now trip_id.now }
+        ensures trips { self.new.trips.ids.now ≡ self.old.trips.ids.now }
+        ensures numbers { self.new.numbers.now ≡ self.old.numbers.now }
+        ensures counts { self.new.counts.now ≡ self.old.counts.now }
+    {
+        match self.trips.find(trip_id) {
+            Some(found) => Some(found.number),
+            None => self.numbers.get(trip_id).copied(),
         }
     }
 }
 
-// Makes room for the counts of this many numbers.
-pub(crate) fn make_room(counts: &mut Vec<usize>, numbers: usize) -> Result<(), OutOfMemory>
+// Makes room for the count of a trip of this number, and for those of this many trips.
+pub(crate) fn make_room(
+    counts: &mut Vec<usize>,
+    trips: usize,
+    trip: usize,
+) -> Result<(), OutOfMemory>
+    requires { trip < 2 ^ 64 - 1 }
     ensures same { (n : ℕ) → get_or counts.new.items n 0 ≡ get_or counts.old.items n 0 }
-    ensures room { OnOk result (numbers ≤ length counts.new.items) }
+    ensures room { OnOk result (trip < length counts.new.items) }
 {
-    if counts.len() < numbers {
-        counts.resize(numbers, 0)?;
+    if counts.len() <= trip {
+        counts.resize(trips.max(trip + 1), 0)?;
     }
     Ok(())
 }

@@ -6,9 +6,9 @@ use Rattle.gtfs_rules.proofs.CompleteFacts.{all_picked}
 use Rattle.gtfs_columns.proofs.ReportingFacts.{reports_all}
 use Rattle.gtfs_rules.proofs.checks.check.Goals as goal
 
-pub new-requires : goal.new-requires
-new-requires c =
+pub new-requires-clause-found : goal.new-requires-clause-found
+new-requires-clause-found c =
     let d = c.args.tables.now in
     let last = c.report_all.new.found in
     reports_all d every last (all_picked d)
-    (subst (λ (first : List Problem). Reports d every first last) c.new-found.ensures c.in_ok-report_all.ensures)
+    (subst (λ (first : List Problem). Reports d every first last) c.new-found.ensures c.in_ok-stop_times.ensures.reported)

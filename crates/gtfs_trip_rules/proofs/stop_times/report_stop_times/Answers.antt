@@ -1,4 +1,8 @@
-use Rattle.std.proofs.Common.{◌∙◌, subst, sym}
+use Rattle.std.proofs.Common.{◌∙◌, ap, arith, subst, sym}
+use Rattle.std.specs.Prelude.{option_and_then}
+use Rattle.gtfs_columns.specs.steps.Ids.{number_with}
+use Rattle.gtfs_trip_rules.specs.Kept.{AllKeep}
+use Rattle.gtfs_trip_rules.specs.Readings.{text_of, value_in}
 use Rattle.gtfs_table.specs.declared.file.File.TheVariants as file
 use Rattle.gtfs_table.proofs.RowFacts.{all_taken, turn}
 use Rattle.gtfs_trip_rules.specs.StopTimePicks.{in_rows}
@@ -12,8 +16,21 @@ pub loop-row-init : goal.loop-row-init
 loop-row-init c = record {
   named = c.new-named.ensures c.args.tables.now c.requires.ids c.requires.types;
   reported = reported_none c.args.tables.now in_rows c.args.found.now;
-  notes = c.new-notes.ensures;
+  trips = ap (λ v. v.trips) c.new-notes.ensures ∙ c.requires.ids.trips;
+  notes = ap (λ v. v.notes) c.new-notes.ensures;
+  kept = subst (AllKeep c.args.tables.now) (sym (ap (λ v. v.rows) c.new-notes.ensures)) (λ k d below. absurd (omega (arith, below)));
 }
+
+pub take_note-requires : goal.take_note-requires
+take_note-requires c =
+    let d = c.args.tables.now in
+    let s = c.stop_time-stop_time.result in
+    let here = c.stop_time-stop_time.ensures.row in
+    let n = c.in-Some.row in
+    let t = turn d file.StopTimes _ c.loop-row.yielded _ (c.into_iter-row-iterator.ensures.into_iter_gives ∙ c.rows-row-items.ensures) c.loop-row.yielded_by n c.in-Some.record _ c.in-Some.ensures.steps in
+    let says : IsStopTime d n s = rw c.of-columns.ensures.tables at c.stop_time-stop_time.ensures in
+    let is : IsRow d s = record { row = rw here t.is_row; says = subst (λ m. IsStopTime d m s) (sym here) says } in
+    (c.in_ok-names.ensures.names d c.loop-row.invariant.named is).trip ∙ ap (λ i. option_and_then (number_with i) (text_of (value_in s.trip_id))) (sym c.loop-row.invariant.trips)
 
 pub stop_time-stop_time-requires-clause-fields : goal.stop_time-stop_time-requires-clause-fields
 stop_time-stop_time-requires-clause-fields c =
@@ -31,10 +48,12 @@ loop-row-preserved c =
     let says : IsStopTime d n s = rw c.of-columns.ensures.tables at c.stop_time-stop_time.ensures in
     let is : IsRow d s = record { row = rw here t.is_row; says = subst (λ m. IsStopTime d m s) (sym here) says } in
     record {
-      named = c.in_ok-report_row.ensures.same d c.loop-row.invariant.named;
+      named = c.in_ok-names.ensures.same d c.loop-row.invariant.named;
       reported = reported_more d in_rows c.loop-row.yielded n _ _ _ _ c.loop-row.invariant.reported
-          (rw here at (c.in_ok-report_row.ensures.reported d c.of-columns.ensures c.loop-row.invariant.named is));
-      notes = c.in_ok-take_note.ensures d n says ∙ notes_more d c.loop-row.yielded n c.in-Some.record _ c.loop-row.invariant.notes;
+          (rw here at (c.in_ok-names.ensures.reported d c.of-columns.ensures c.loop-row.invariant.named is));
+      trips = c.in_ok-take_note.ensures.trips ∙ c.loop-row.invariant.trips;
+      kept = c.in_ok-take_note.ensures.kept d n says (c.in_ok-names.ensures.names d c.loop-row.invariant.named is) c.loop-row.invariant.kept;
+      notes = c.in_ok-take_note.ensures.notes d n says ∙ notes_more d c.loop-row.yielded n c.in-Some.record _ c.loop-row.invariant.notes;
     }
 
 pub returns-clause-reported : goal.returns-clause-reported

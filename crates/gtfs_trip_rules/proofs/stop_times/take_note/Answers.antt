@@ -1,14 +1,27 @@
-use Rattle.std.proofs.Common.{◌++◌, ◌∙◌, [], ap, append-nil, option_map, sym}
+use Rattle.std.proofs.Common.{◌≡◌, ◌++◌, ◌∙◌, [], ap, option_map, refl, subst, sym, Some}
 use Rattle.std.specs.List.{cons_option}
+use Rattle.std.proofs.lemmas.List.Elements.{All-push}
 use Rattle.std.proofs.lemmas.Result.{on_ok_weaker}
+use Rattle.gtfs_trip_rules.specs.Kept.{AllKeep, Keeps}
+use Rattle.gtfs_trip_rules.specs.KeptRow.{kept_row, note_of_trip, with_trip}
+use Rattle.gtfs_trip_rules.specs.Readings.{value_in}
 use Rattle.gtfs_trip_rules.specs.TripNotes.{trip_note}
+use Rattle.gtfs_trip_rules.proofs.KeptFacts.{keeps, note_from, note_said}
 use Rattle.gtfs_trip_rules.proofs.stop_times.take_note.Goals as goal
 
-pub returns-in-Some : goal.returns-in-Some
-returns-in-Some c =
+pub returns-in-Some-clause-notes : goal.returns-in-Some-clause-notes
+returns-in-Some-clause-notes c =
+    let s = c.args.stop_time.now in
     on_ok_weaker c.note.result (λ added. λ d n is.
-    added ∙ ap (λ o. c.args.notes.now ++ cons_option o []) (ap (option_map trip_note) (sym c.in-Some.is) ∙ c.trip_note.ensures d n is)) c.note.ensures
+    added ∙ ap (λ o. c.args.notes.now.notes ++ cons_option o [])
+    (ap (option_map trip_note) (sym c.in-Some.is ∙ c.trip_note.ensures) ∙ note_said d n s is c.args.names.stop c.args.names.trip)) c.note.ensures.notes
 
-pub returns-in-None : goal.returns-in-None
-returns-in-None c = λ d n is.
-    sym (append-nil c.args.notes.now) ∙ ap (λ o. c.args.notes.now ++ cons_option o []) (ap (option_map trip_note) (sym c.in-None.is) ∙ c.trip_note.ensures d n is)
+pub returns-in-Some-clause-kept : goal.returns-in-Some-clause-kept
+returns-in-Some-clause-kept c =
+    let s = c.args.stop_time.now in
+    let names = c.args.names in
+    let made : Some c.in-Some.note ≡ option_map (note_of_trip names.trip (kept_row s names.stop)) (value_in s.trip_id) = sym c.in-Some.is ∙ c.trip_note.ensures in
+    let from = note_from c.in-Some.note names.trip (kept_row s names.stop) (value_in s.trip_id) made in
+    on_ok_weaker c.note.result (λ noted. λ d n is are each.
+    subst (AllKeep d) (sym noted.rows) (All-push (Keeps d) c.args.notes.now.rows (with_trip c.in-Some.note.kept noted.trip) each
+    (subst (λ k. Keeps d (with_trip k noted.trip)) (sym from.0) (keeps d n s is names.stop names are refl noted.trip (λ m e. noted.known m (from.1 ∙ e)))))) c.note.ensures.rows

@@ -25,4 +25,7 @@ returns c =
     (rw c.code-2.ensures at c.in_ok-report-4.ensures))
     (rw (c.code-stop_id.ensures, c.is_some-2.ensures) at c.in_ok-report-5.ensures))
     (rw (c.code-sequence.ensures, c.is_some-3.ensures) at c.in_ok-report-6.ensures))
-    c.in_ok-report-7.ensures) c.in_ok-report-8.ensures) c.in_ok-report-9.ensures) last)) c.report-10.ensures
+    c.in_ok-report-7.ensures)
+    (rw c.code-3.ensures at c.in_ok-report-8.ensures))
+    (rw c.code-4.ensures at c.in_ok-report-9.ensures))
+    (rw c.code-5.ensures at last))) c.report-10.ensures

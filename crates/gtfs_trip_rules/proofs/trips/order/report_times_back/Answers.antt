@@ -1,5 +1,7 @@
-use Rattle.std.proofs.Common.{◌∙◌, ap, refl}
-use Rattle.std.specs.Prelude.{codes}
+use Rattle.std.proofs.Common.{◌∙◌, ap, option_map, refl}
+use Rattle.std.specs.Option.{option_or}
+use Rattle.std.specs.Prelude.{codes, pos}
+use Rattle.gtfs_trip_rules.specs.TripOrder.{is_left_later}
 use Rattle.std.proofs.lemmas.List.Elements.{All-take}
 use Rattle.gtfs_trip_rules.specs.TripNumbers.{IsNumbered}
 use Rattle.gtfs_columns.specs.View.{problem_of}
@@ -19,13 +21,13 @@ loop-at-preserved c =
       reported = λ d o.
           reported_forward d o.name rows o.order code.E17 (codes "arrival_time") goes_back_among (back_reported d) at _ c.loop-at-test.true c.problem-problem.result c.is_left_later.result _ _ _
           (ap problem_of c.problem-problem.ensures)
-          (c.is_left_later.ensures ∙ back_here d o.name rows o.order at _ c.loop-at-test.true _
+          (c.is_left_later.ensures ∙ ap (λ a. is_left_later (option_map pos c.left_before-left.result) (option_map pos a)) c.arrives.ensures ∙ back_here d o.name rows o.order at _ c.loop-at-test.true _
           (c.left_before-left.ensures o.number o.name (All-take (IsNumbered o.number o.name) at rows o.numbered) (o.numbered at _ c.loop-at-test.true)
           (c.loop-at.invariant.left o.number o.name o.numbered))) c.in_ok-report.ensures (c.loop-at.invariant.reported d o);
       left = λ number name each.
           left_more name rows at _ c.loop-at-test.true c.left_before-left.result c.or-last_left.result
           (c.left_before-left.ensures number name (All-take (IsNumbered number name) at rows each) (each at _ c.loop-at-test.true) (c.loop-at.invariant.left number name each))
-          c.or-last_left.ensures;
+          (c.or-last_left.ensures ∙ ap (λ o. option_or o c.left_before-left.result) c.departs.ensures);
     }
 
 pub returns : goal.returns

@@ -1,0 +1,170 @@
+-- The rows of ids, as they are listed, are the ids by their numbers.
+use Rattle.std.proofs.Common.{◌≡◌, ℕ, zero, suc, ◌+◌, ◌<◌, ◌≤◌, ◌∷◌, [], List, map, length, get_or, option_map, cond, true, false, Bool, Option, Some, None, refl, sym, ap, ◌∙◌, arith, inl, inr}
+use Rattle.std.specs.Prelude.{◌&&◌, ◌||◌, bytes_eq, is_some, nat_lt, not, slice_get}
+use Rattle.std.specs.Cmp.Lexicographic.{nat_list_cmp_total}
+use Rattle.std.specs.FinMap as table
+use Rattle.std.specs.FinMap.{nat_cmp-IsAntisymmetric, slice_cmp-IsAntisymmetric}
+use Rattle.std.specs.FinMap.Entries.{below_all, is_sorted, find}
+use Rattle.std.specs.List.{AllByRecursion, find as find_first, list_any, position_or_len}
+use Rattle.std.specs.List.Sorted.{IsStrictlySortedBy}
+use Rattle.std.specs.Ordering.{eq_by_cmp, is_lt, on}
+use Rattle.std.specs.declared.cmp.Ordering.TheVariants.{Less}
+use Rattle.std.proofs.lemmas.Bool.{cases_Bool}
+use Rattle.std.proofs.lemmas.Bool.Decides.{nat_tests}
+use Rattle.std.proofs.lemmas.List.{length-map}
+use Rattle.std.proofs.lemmas.Map.Text.{is_eq-slice_cmp}
+use Rattle.gtfs_table.specs.Folder.{text_cmp}
+use Rattle.gtfs_table.specs.Rows.{rows}
+use Rattle.gtfs_columns.specs.declared.id_row.IdRow.{IdRow}
+use Rattle.gtfs_columns.specs.IdNumbers.{first_rows}
+use Rattle.gtfs_columns.specs.Rows.{text_in}
+use Rattle.gtfs_columns.specs.steps.IdRows.{id_of, listed_row}
+use Rattle.gtfs_columns.specs.steps.Ids.{IdColumn, IsIdIndex, first_row_with, ids_of, number_with}
+use Rattle.gtfs_columns.proofs.IdFacts.{earlier, id_and_row, paired_numbers, paired_rows, row_paired}
+use Rattle.std.proofs.lemmas.List.Quantifiers.{position-Some}
+use Rattle.std.proofs.lemmas.Option.{slice_get-get_or}
+use Rattle.gtfs_columns.proofs.EachFacts.{any_alike}
+use Rattle.gtfs_columns.proofs.NamedFacts.{text_turned}
+use Rattle.gtfs_columns.proofs.SiteFacts.{text_is}
+
+-- ---- rows ascending by their ids are the entries of a map
+
+both : (a b : Bool) → a ≡ true → b ≡ true → (a && b) ≡ true
+both true b p q = q
+both false b p q = cc p
+
+below : (r : IdRow) (rs : List IdRow) → AllByRecursion (λ s. on id_of text_cmp r s ≡ Less) rs → below_all text_cmp (id_of r) (map id_and_row rs) ≡ true
+below r [] h = refl
+below r (s ∷ rs) h = both (is_lt (text_cmp (id_of r) (id_of s))) (below_all text_cmp (id_of r) (map id_and_row rs)) (ap is_lt h.0) (below r rs h.1)
+
+ascend : (rs : List IdRow) → IsStrictlySortedBy (on id_of text_cmp) rs → is_sorted text_cmp (map id_and_row rs) ≡ true
+unfolding IsStrictlySortedBy
+ascend [] h = refl
+ascend (r ∷ rs) h = both (below_all text_cmp (id_of r) (map id_and_row rs)) (is_sorted text_cmp (map id_and_row rs)) (below r rs h.0) (ascend rs h.1)
+
+first_paired : (q : List ℕ) (ps : List (List ℕ × ℕ)) → find text_cmp q ps ≡ row_paired ps q
+first_paired q [] = refl
+first_paired q (p ∷ ps) =
+    let same : eq_by_cmp text_cmp q p.0 ≡ bytes_eq p.0 q = is_eq-slice_cmp q p.0 ∙ text_turned q p.0 in
+    elim (cases_Bool (bytes_eq p.0 q)) [
+      | inl here ↦ rw (same, here) refl
+      | inr later ↦ rw (same, later) (first_paired q ps)
+    ]
+
+module _ (i : IdColumn) (listed : List IdRow) (index : IsIdIndex i listed) where
+  as_map : first_rows i.dataset i.file i.column ≡ table.from_sorted {R = text_cmp} (map id_and_row listed)
+  as_map =
+      table.same_map nat_list_cmp_total (slice_cmp-IsAntisymmetric nat_cmp-IsAntisymmetric) _ _ (λ q.
+      table.get-from_entries nat_list_cmp_total (map (λ n. (text_in i.dataset i.file n i.column, n)) (rows i.dataset i.file)) q
+      ∙ first_paired q (map (λ n. (text_in i.dataset i.file n i.column, n)) (rows i.dataset i.file))
+      ∙ paired_numbers (λ n. text_in i.dataset i.file n i.column) (rows i.dataset i.file) q
+      ∙ sym (index.first q)
+      ∙ sym (paired_rows listed q)
+      ∙ sym (first_paired q (map id_and_row listed))
+      ∙ sym (table.get-from_sorted text_cmp (map id_and_row listed) q (rw (ascend listed index.ascending) tt)))
+
+  keys_listed : (rs : List IdRow) → map (λ e. e.0) (map id_and_row rs) ≡ map id_of rs
+  keys_listed [] = refl
+  keys_listed (r ∷ rs) = ap (λ ids. id_of r ∷ ids) (keys_listed rs)
+
+  -- the listed ids, in their order
+  pub listed_ids : ids_of i ≡ map id_of listed
+  listed_ids = ap table.keys as_map
+      ∙ ap (map (λ e. e.0)) (table.entries-from_sorted text_cmp (map id_and_row listed) (rw (ascend listed index.ascending) tt))
+      ∙ keys_listed listed
+
+-- ---- the place of an id is its number
+
+position_at : {X : Type 0} (p : X → Bool) (xs : List X) (at : ℕ) (x : X) → at < length xs → x ≡ get_or xs at x → p x ≡ true
+    → ((k : ℕ) → k < at → p (get_or xs k x) ≡ false) → position_or_len p xs ≡ at
+position_at p [] at x h is here before = absurd (omega arith)
+position_at p (y ∷ ys) zero x h is here before = rw (← is, here) refl
+position_at p (y ∷ ys) (suc at) x h is here before =
+    let rest = position_at p ys at x (omega arith) is here (λ k l. before (suc k) (omega arith)) in
+    rw (before 0 (omega arith)) (omega (arith, rest))
+
+position_mapped : {X Y : Type 0} (f : X → Y) (p : Y → Bool) (xs : List X) → position_or_len p (map f xs) ≡ position_or_len (λ x. p (f x)) xs
+position_mapped f p [] = refl
+position_mapped f p (x ∷ xs) = ap (λ n. cond (not (p (f x))) (1 + n) 0) (position_mapped f p xs)
+
+position_past : {X : Type 0} (p : X → Bool) (xs : List X) → find_first p xs ≡ None → length xs ≤ position_or_len p xs
+position_past p [] none = omega arith
+position_past p (x ∷ xs) none = elim (cases_Bool (p x)) [
+  | inl here ↦ let some : find_first p (x ∷ xs) ≡ Some x = rw here refl in cc (sym some ∙ none)
+  | inr later ↦
+      let rest : find_first p xs ≡ None = sym (ap (λ b. cond b (Some x) (find_first p xs)) later) ∙ none in
+      rw later (let past = position_past p xs rest in omega (arith, past))
+]
+
+no_row : (o : Option IdRow) → option_map (λ r. r.row) o ≡ None → o ≡ None
+no_row None e = refl
+no_row (Some r) e = cc e
+
+module _ (i : IdColumn) (listed : List IdRow) (index : IsIdIndex i listed) (id : List ℕ) where
+  abbrev has_id : IdRow → Bool
+  has_id r = bytes_eq (id_of r) id
+
+  place : position_or_len (λ k. bytes_eq k id) (ids_of i) ≡ position_or_len has_id listed
+  place = ap (position_or_len (λ k. bytes_eq k id)) (listed_ids i listed index) ∙ position_mapped id_of (λ k. bytes_eq k id) listed
+
+  many : length (ids_of i) ≡ length listed
+  many = ap length (listed_ids i listed index) ∙ length-map listed id_of
+
+  pub numbered_at : (at : ℕ) (r : IdRow) → at < length listed → r ≡ get_or listed at r → has_id r ≡ true → Some at ≡ number_with i id
+  numbered_at at r within is here =
+      let up = index.ascending in
+      let below : nat_lt at (length listed) ≡ true = grind (arith, nat_tests, within) in
+      let site : position_or_len has_id listed ≡ at = position_at has_id listed at r within is here (λ k l. earlier at r id listed up within is here k l) in
+      sym (ap (λ n. cond (nat_lt n (length (ids_of i))) (Some n) None) (place ∙ site)
+      ∙ ap (λ m. cond (nat_lt at m) (Some at) None) many
+      ∙ ap (λ b. cond b (Some at) None) below)
+
+  not_not : (b : Bool) → false ≡ not b → b ≡ true
+  not_not true e = refl
+  not_not false e = e
+
+  -- the row there has the id
+  pub numbered_as : (at : ℕ) (r : IdRow) → at < length listed → r ≡ get_or listed at r → false ≡ not (has_id r) → Some at ≡ number_with i id
+  numbered_as at r within is same = numbered_at at r within is (not_not (has_id r) same)
+
+  pub no_number : listed_row listed id ≡ None → None ≡ number_with i id
+  no_number none =
+      let past = position_past has_id listed (no_row (find_first has_id listed) none) in
+      let beyond : nat_lt (position_or_len has_id listed) (length listed) ≡ false = grind (arith, nat_tests, past) in
+      sym (ap (λ n. cond (nat_lt n (length (ids_of i))) (Some n) None) place
+      ∙ ap (λ m. cond (nat_lt (position_or_len has_id listed) m) (Some (position_or_len has_id listed)) None) many
+      ∙ ap (λ b. cond b (Some (position_or_len has_id listed)) None) beyond)
+
+-- ---- ids that are there
+
+any_placed : {X : Type 0} (p : X → Bool) (xs : List X) → list_any p xs ≡ true → position_or_len p xs < length xs
+any_placed p [] e = cc e
+any_placed p (x ∷ xs) e = elim (cases_Bool (p x)) [
+  | inl here ↦ rw here (omega arith)
+  | inr later ↦ let rest = any_placed p xs (sym (ap (λ b. b || list_any p xs) later) ∙ e) in rw later (omega (arith, rest))
+]
+
+module _ (i : IdColumn) (id : List ℕ) where
+  abbrev pairs : List (List ℕ × ℕ)
+  pairs = map (λ n. (text_in i.dataset i.file n i.column, n)) (rows i.dataset i.file)
+
+  key_there : list_any (eq_by_cmp text_cmp id) (ids_of i) ≡ is_some (first_row_with i id)
+  key_there = sym (table.contains_key-keys (first_rows i.dataset i.file i.column) id)
+      ∙ ap is_some (table.get-from_entries nat_list_cmp_total pairs id ∙ first_paired id pairs ∙ paired_numbers (λ n. text_in i.dataset i.file n i.column) (rows i.dataset i.file) id)
+
+  same_test : (k : List ℕ) → eq_by_cmp text_cmp id k ≡ bytes_eq k id
+  same_test k = is_eq-slice_cmp id k ∙ text_turned id k
+
+  -- an id that a row has has a number
+  pub number_there : is_some (first_row_with i id) ≡ true → is_some (number_with i id) ≡ true
+  number_there there =
+      let here : list_any (λ k. bytes_eq k id) (ids_of i) ≡ true = any_alike (λ k. bytes_eq k id) (eq_by_cmp text_cmp id) (ids_of i) (λ k. sym (same_test k)) ∙ key_there ∙ there in
+      let below = any_placed (λ k. bytes_eq k id) (ids_of i) here in
+      let within : nat_lt (position_or_len (λ k. bytes_eq k id) (ids_of i)) (length (ids_of i)) ≡ true = grind (arith, nat_tests, below) in
+      ap (λ b. is_some (cond b (Some (position_or_len (λ k. bytes_eq k id) (ids_of i))) None)) within
+
+  -- the number of an id is that of no other
+  pub id_of_number : (n : ℕ) → number_with i id ≡ Some n → slice_get (ids_of i) n ≡ Some id
+  id_of_number n e =
+      let at = position-Some (λ k. bytes_eq k id) (ids_of i) n [] e in
+      slice_get-get_or (ids_of i) n [] at.0 ∙ ap Some (text_is (get_or (ids_of i) n []) id at.1)
