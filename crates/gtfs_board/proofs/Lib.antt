@@ -10,3 +10,13 @@ pub mod Candidates
 pub mod Gathers
 pub mod Merges
 pub mod Starts
+pub mod Joined
+pub mod KeyOrder
+pub mod Slashes
+pub mod KeyTexts
+pub mod OneBoard
+pub mod CandidateKeys
+pub mod BoardKeys
+pub mod Pages
+mod TextVectors
+mod BoardVectors

@@ -1,1 +1,13 @@
+pub mod Board
+pub mod CandidateKeys
+pub mod Departures
+pub mod Key
+pub mod KeyTexts
+pub mod Lent
+pub mod Lines
+pub mod Page
+pub mod PageFaults
+pub mod Parts
+pub mod Shown
+pub mod Span
 pub mod merge

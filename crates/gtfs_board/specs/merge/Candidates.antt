@@ -1,11 +1,11 @@
 -- The order of candidates.
 use Rattle.std.specs.Option.{option_to_list}
 use Rattle.std.specs.BinaryHeap.{IsHeap}
-use Rattle.std.specs.Prelude.{◌≡◌, ◌≤◌, ◌+◌, ◌*◌, ◌/◌, ◌∷◌, length, Bool, false, ℕ, ℤ, List, [], Option, Some, None, map, ◌++◌, pos, ◌+ℤ◌, ◌-ℤ◌, ◌*ℤ◌, ◌≤ℤ◌}
-use Rattle.gtfs_board.specs.merge.Order.{In, Each, tally}
+use Rattle.std.specs.Prelude.{◌≡◌, ◌≤◌, ◌+◌, ◌*◌, ◌/◌, ◌∷◌, length, Bool, false, ℕ, ℤ, List, [], Option, Some, None, MatchOption, map, ◌++◌, pos, ◌+ℤ◌, ◌-ℤ◌, ◌*ℤ◌, ◌≤ℤ◌}
+use Rattle.gtfs_board.specs.merge.Order.{In, Each, tally, same}
 use Rattle.std.specs.List.{find, filter_map, range_with_len, fold}
 use Rattle.std.specs.Int.{int_min}
-use Rattle.gtfs_board.specs.merge.Lanes.{Events, AreHeads, IsStopped, IsFrom, is_reached}
+use Rattle.gtfs_board.specs.merge.Lanes.{Events, AreHeads, AreLanes, IsStopped, IsFrom, is_reached, rest_of}
 use Rattle.std.specs.declared.cmp.Ordering.{Ordering}
 use Rattle.std.specs.Ordering.{nat_cmp, int_cmp, is_lt, on, then_cmp, flip_args}
 use Rattle.gtfs_board.specs.declared.merge.candidate.Candidate.{Candidate}
@@ -29,6 +29,26 @@ candidate_cmp = then_cmp departure_cmp lane_cmp
 abbrev pub candidate_lt : Candidate → Candidate → Bool
 candidate_lt a b = is_lt (candidate_cmp a b)
 
+-- the first of a list above a floor
+abbrev pub first_above : Candidate → List Candidate → Option Candidate
+first_above floor cs = find (candidate_lt floor) cs
+
+-- what is left above a floor, of all events
+abbrev pub rest_above : List Candidate → Candidate → List Candidate
+rest_above all floor = rest_of candidate_lt all (candidate_lt floor)
+
+-- the events of the candidate's lane on its day
+abbrev pub slot_of : Events Candidate → Candidate → List Candidate
+slot_of events c = events c.lane c.day
+
+-- each candidate stands in both lists equally often
+abbrev pub HaveSameMembers : List Candidate → List Candidate → Type 0
+HaveSameMembers xs ys = (x : Candidate) → tally (same candidate_lt x) xs ≡ tally (same candidate_lt x) ys
+
+-- none of them lies beyond the end
+abbrev pub EndsBy : ℤ → List Candidate → Type 0
+EndsBy end cs = (c : Candidate) → In c cs → c.instant ≤ℤ end
+
 -- the first event of each of n lanes on a day above a floor
 unfoldable pub heads_on : Events Candidate → Candidate → ℤ → ℕ → List Candidate
 heads_on events floor day n = filter_map (λ i. find (candidate_lt floor) (events i day)) (range_with_len 0 n)
@@ -49,6 +69,21 @@ instant_of c = c.instant
 
 abbrev pub IsWithin : ℤ → Candidate → Type 0
 IsWithin mark c = (c.day *ℤ pos 86_400) ≤ℤ (mark +ℤ pos 93_599)
+
+-- lanes of candidates, in their order
+abbrev pub AreCandidateLanes : ℕ → ℕ → Events Candidate → Type 0
+AreCandidateLanes count latest events = AreLanes candidate_lt instant_of day_of lane_of count latest events
+
+-- the first events above a floor wait, of each lane on each day before `day`
+abbrev pub AreHeadsAbove : Events Candidate → Candidate → ℤ → List Candidate → Type 0
+AreHeadsAbove events floor day queue = AreHeads candidate_lt day_of lane_of events day (candidate_lt floor) queue
+
+-- the day of each may hold an event at or below the least of them
+abbrev pub AreWithinLeast : ℤ → List Candidate → Type 0
+AreWithinLeast end queue = Each (IsWithin (least_from end queue)) queue
+
+abbrev pub with_head : List Candidate → Option Candidate → List Candidate
+with_head queue head = queue ++ option_to_list head
 
 -- what waits beside the least while days are opened: the heads of the days before `day`, and the least instant
 pub record AreGathered (events : Events Candidate) (floor : Candidate) (end : ℤ) (others fresh : List Candidate) (day mark : ℤ) : Type 0 where
@@ -109,6 +144,21 @@ pub record IsQueued (v : MergeValue) : Type 0 where
 -- how many days may have been opened for a board that stands there
 abbrev pub reach : MergeValue → ℕ
 reach v = tally (is_reached (v.start -ℤ pos (v.latest + 93_599)) (stands v)) v.days
+
+-- what a board was opened with
+abbrev pub HasSettings : ℕ → ℕ → ℤ → ℤ → List ℤ → MergeValue → Type 0
+HasSettings lanes latest start end days v = (v.lanes ≡ lanes) × (v.latest ≡ latest) × (v.start ≡ start) × (v.end ≡ end) × (v.days ≡ days)
+
+-- the first of the rest is taken away; there is none exactly where nothing is left
+abbrev pub TakesFirst : MergeValue → MergeValue → Option Candidate → Type 0
+TakesFirst v w o = MatchOption o ((v.rest ≡ []) × (w.rest ≡ [])) (λ c. v.rest ≡ c ∷ w.rest)
+
+abbrev pub KeepsLists : MergeValue → MergeValue → Type 0
+KeepsLists v w = (w.rest ≡ v.rest) × (w.queue ≡ v.queue)
+
+-- a call made one step, and one a lane for each day that it opened
+abbrev pub AreStepsWithin : MergeValue → MergeValue → Type 0
+AreStepsWithin v w = w.steps + v.lanes * reach v ≤ v.steps + 1 + v.lanes * reach w
 
 pub record SameSettings (v w : MergeValue) : Type 0 where
   pub lanes : w.lanes ≡ v.lanes

@@ -3,9 +3,11 @@ ghost use Rattle.std.specs.Prelude.{◌≡◌};
 ghost use Rattle.std.specs.Cmp.{partial_order_from_own_ties};
 ghost use Rattle.std.specs.Cmp.Rules.{comparing};
 ghost use Rattle.std.specs.Ordering.{flip_args, as_partial_cmp};
+ghost use Rattle.gtfs_board.specs.CandidateKeys.{ComparesAsKeys};
 ghost use Rattle.gtfs_board.specs.merge.Candidates.{candidate_cmp, departure_cmp, lane_cmp};
 
 use std::cmp::Ordering;
+use std::mem::size_of;
 
 // A departure that may be the next one: numbers alone, so that many can wait.
 //
@@ -16,24 +18,28 @@ pub struct Candidate {
     pub instant: i64,
     // The number of its trip.
     pub trip: usize,
+    // The lane that gives it.
+    pub lane: usize,
+    // The place of its stop time in the trip, from 0.
+    pub row: usize,
     // The second of the service day at which its run starts.
     pub run: u32,
     // `stop_sequence` of its stop time.
     pub sequence: u32,
     // The number of its service day.
     pub day: i32,
-    // The lane that gives it.
-    pub lane: usize,
-    // The place of its stop time in the trip, from 0.
-    pub row: usize,
     // How many seconds after the origin of its service day it departs.
     pub at: u32,
 }
 
+// Many wait at once, so one is kept small.
+const _: () = prove!(size_of::<Candidate>() == 48);
+
 impl Candidate {
-    // The order of the departures: by instant, trip, run, sequence and day.
+    // The order of the departures: by instant, trip, run, sequence and day. It is the order of their keys.
     fn cmp_departure(&self, other: &Candidate) -> Ordering
-        ensures { result ≡ departure_cmp self.now other.now }
+        ensures value { result ≡ departure_cmp self.now other.now }
+        ensures as_keys { ComparesAsKeys self.now other.now result }
     {
         self.instant
             .cmp(&other.instant)

@@ -3,12 +3,12 @@ ghost use Rattle.std.specs.Option.{option_to_list};
 ghost use Rattle.std.specs.BinaryHeap.{heap_items, IsHeap};
 ghost use Rattle.std.specs.Ordering.{flip_args};
 ghost use Rattle.gtfs_board.specs.merge.Order.{Each, tally};
-ghost use Rattle.gtfs_board.specs.merge.Lanes.{AreHeads, IsStopped, AreStepsFew, IsStartDay};
-ghost use Rattle.gtfs_board.specs.merge.Candidates.{candidate_cmp, candidate_lt, heads_on, least_from, day_of, lane_of, IsWithin, AreGathered};
+ghost use Rattle.gtfs_board.specs.merge.Lanes.{IsStopped, AreStepsFew, IsStartDay};
+ghost use Rattle.gtfs_board.specs.merge.Candidates.{AreGathered, AreHeadsAbove, AreWithinLeast, candidate_cmp, heads_on, least_from, with_head};
 
 use crate::merge::candidate::Candidate;
 use crate::merge::source::Source;
-use crate::steps::Steps;
+use gtfs_runs::Steps;
 use std::alloc::{AllocError, Global};
 use std::collections::BinaryHeap;
 
@@ -40,15 +40,18 @@ pub(super) fn gather<S: Source>(
 ) -> Result<Gathered, AllocError>
     requires ordered { IsHeap (flip_args candidate_cmp) (heap_items queue.now) }
     requires ended { Each (λ c. c.instant ≤ℤ S.end source.now) (heap_items queue.now) }
-    requires heads { AreHeads candidate_lt day_of lane_of (S.events source.now) day (candidate_lt floor.now) (heap_items queue.now ++ option_to_list head) }
-    requires within { Each (IsWithin (least_from (S.end source.now) (heap_items queue.now ++ option_to_list head))) (heap_items queue.now ++ option_to_list head) }
+    requires heads { AreHeadsAbove (S.events source.now) floor.now day
+        (with_head (heap_items queue.now) head) }
+    requires within { AreWithinLeast (S.end source.now) (with_head (heap_items queue.now) head) }
     requires from { S.first source.now ≤ℤ day }
     requires to { day ≤ℤ (S.last source.now +ℤ pos 1) }
-    ensures gathered { IfOk result (λ r. AreGathered (S.events source.now) floor.now (S.end source.now) (heap_items queue.now) r.fresh.items r.day r.least) }
+    ensures gathered { IfOk result (λ r. AreGathered (S.events source.now) floor.now (S.end source.now)
+        (heap_items queue.now) r.fresh.items r.day r.least) }
     ensures stopped { IfOk result (λ r. IsStopped (S.last source.now) r.day r.least) }
     ensures range { IfOk result (λ r. (day ≤ℤ r.day) × (r.day ≤ℤ (S.last source.now +ℤ pos 1))) }
     ensures steps { IfOk result (λ r. AreStepsFew (S.count source.now) (S.last source.now) (S.days source.now)
-        steps.old day (least_from (S.end source.now) (heap_items queue.now ++ option_to_list head)) steps.new r.day r.least) }
+        steps.old day (least_from (S.end source.now) (with_head (heap_items queue.now) head))
+        steps.new r.day r.least) }
 {
     let mut fresh = Vec::new(alloc);
     let waiting = least_waiting(queue, source.end());
@@ -82,8 +85,10 @@ fn open_day<S: Source>(
     mut least: i64,
     steps: &mut Steps,
 ) -> Result<i64, AllocError>
-    ensures heads { OnOk result (fresh.new.items ≡ fresh.old.items ++ heads_on (S.events source.now) floor.now day (S.count source.now)) }
-    ensures least { IfOk result (λ t. t ≡ least_from least (heads_on (S.events source.now) floor.now day (S.count source.now))) }
+    ensures heads { OnOk result (fresh.new.items
+        ≡ fresh.old.items ++ heads_on (S.events source.now) floor.now day (S.count source.now)) }
+    ensures least { IfOk result (λ t. t
+        ≡ least_from least (heads_on (S.events source.now) floor.now day (S.count source.now))) }
     ensures steps { OnOk result (steps.new ≤ steps.old + S.count source.now) }
 {
     for lane in 0..source.count() {

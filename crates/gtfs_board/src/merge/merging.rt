@@ -1,12 +1,11 @@
-ghost use Rattle.std.specs.Prelude.{◌≡◌, ℤ, negsuc, ◌≤ℤ◌, ◌≤◌, ◌+◌, ◌*◌, ◌∷◌, [], length, IfOk, OnOk, OnErr, MatchOption};
-ghost use Rattle.gtfs_board.specs.merge.Lanes.{rest_of};
-ghost use Rattle.gtfs_board.specs.merge.Candidates.{candidate_lt, IsQueued, SameSettings, reach};
+ghost use Rattle.std.specs.Prelude.{◌≡◌, ℤ, negsuc, ◌≤ℤ◌, ◌≤◌, ◌+◌, ◌*◌, length, IfOk, OnOk, OnErr};
+ghost use Rattle.gtfs_board.specs.merge.Candidates.{AreStepsWithin, HasSettings, IsQueued, KeepsLists, SameSettings, TakesFirst, reach, rest_above};
 
 use crate::merge::candidate::Candidate;
 use crate::merge::gathering::{first_due, gather};
 use crate::merge::queue::join;
 use crate::merge::source::Source;
-use crate::steps::Steps;
+use gtfs_runs::Steps;
 use std::alloc::{AllocError, Global};
 use std::collections::BinaryHeap;
 use std::marker::Model;
@@ -32,13 +31,12 @@ impl<S: Source> Model for Merge<S> {
     ghost use Rattle.std.specs.Prelude.{◌++◌, ◌+◌, pos, ◌-ℤ◌};
     ghost use Rattle.std.specs.Option.{option_to_list};
     ghost use Rattle.std.specs.BinaryHeap.{heap_items};
-    ghost use Rattle.gtfs_board.specs.merge.Lanes.{rest_of};
-    ghost use Rattle.gtfs_board.specs.merge.Candidates.{MergeValue, IsMerge, candidate_lt};
+    ghost use Rattle.gtfs_board.specs.merge.Candidates.{MergeValue, IsMerge, rest_above};
 
     ghost Value = { MergeValue };
 
     ghost view = { λ b. record {
-      rest = rest_of candidate_lt (S.all b.source) (candidate_lt b.floor);
+      rest = rest_above (S.all b.source) b.floor;
       queue = option_to_list b.first ++ heap_items b.others;
       lanes = S.count b.source;
       latest = S.latest b.source;
@@ -48,7 +46,8 @@ impl<S: Source> Model for Merge<S> {
       steps = b.steps;
     } };
 
-    ghost invariant = { λ b. IsMerge (S.events b.source) (S.end b.source) (S.first b.source) (S.last b.source) b.floor b.first (heap_items b.others) b.day
+    ghost invariant = { λ b. IsMerge (S.events b.source) (S.end b.source) (S.first b.source)
+        (S.last b.source) b.floor b.first (heap_items b.others) b.day
         (b.start -ℤ pos (S.latest b.source + 93_599)) };
 }
 
@@ -61,9 +60,10 @@ impl<S: Source + Drop> Merge<S> {
         mut steps: Steps,
     ) -> Result<Merge<S>, AllocError>
         requires { negsuc 999_999_999_999 ≤ℤ floor.instant }
-        ensures rest { IfOk result (λ b. b.rest ≡ rest_of candidate_lt (S.all source) (candidate_lt floor)) }
+        ensures rest { IfOk result (λ b. b.rest ≡ rest_above (S.all source) floor) }
         ensures queued { IfOk result IsQueued }
-        ensures settings { IfOk result (λ b. (b.lanes ≡ S.count source) × (b.latest ≡ S.latest source) × (b.start ≡ floor.instant) × (b.end ≡ S.end source) × (b.days ≡ S.days source)) }
+        ensures settings { IfOk result (HasSettings (S.count source) (S.latest source) floor.instant
+            (S.end source) (S.days source)) }
         ensures steps { IfOk result (λ b. b.steps ≤ steps + b.lanes * reach b) }
     {
         let start = floor.instant;
@@ -86,11 +86,11 @@ impl<S: Source + Drop> Merge<S> {
 
     // Takes the first of the rest: none where nothing is left, and from then on always.
     pub fn next(&mut self) -> Result<Option<Candidate>, AllocError>
-        ensures first { IfOk result (λ o. MatchOption o ((self.old.rest ≡ []) × (self.new.rest ≡ [])) (λ c. self.old.rest ≡ c ∷ self.new.rest)) }
-        ensures kept { OnErr result ((self.new.rest ≡ self.old.rest) × (self.new.queue ≡ self.old.queue)) }
+        ensures first { IfOk result (TakesFirst self.old self.new) }
+        ensures kept { OnErr result (KeepsLists self.old self.new) }
         ensures settings { SameSettings self.old self.new }
         ensures queued { IsQueued self.new }
-        ensures steps { OnOk result (self.new.steps + self.old.lanes * reach self.old ≤ self.old.steps + 1 + self.old.lanes * reach self.new) }
+        ensures steps { OnOk result (AreStepsWithin self.old self.new) }
     {
         let first = match self.first {
             Some(first) => first,

@@ -2,8 +2,7 @@ ghost use Rattle.std.specs.Prelude.{◌≡◌, ◌++◌, IfOk, OnErr};
 ghost use Rattle.std.specs.Option.{option_to_list};
 ghost use Rattle.std.specs.Ordering.{flip_args};
 ghost use Rattle.std.specs.BinaryHeap.{heap_items, IsHeap};
-ghost use Rattle.gtfs_board.specs.merge.Order.{tally, same};
-ghost use Rattle.gtfs_board.specs.merge.Candidates.{candidate_cmp, candidate_lt, IsFirst};
+ghost use Rattle.gtfs_board.specs.merge.Candidates.{HaveSameMembers, IsFirst, candidate_cmp};
 
 use crate::merge::candidate::Candidate;
 use std::alloc::AllocError;
@@ -17,7 +16,8 @@ pub(super) fn join(
     requires { IsHeap (flip_args candidate_cmp) (heap_items others.old) }
     ensures kept { OnErr result (heap_items others.new ≡ heap_items others.old) }
     ensures ordered { IsHeap (flip_args candidate_cmp) (heap_items others.new) }
-    ensures counts { IfOk result (λ o. (x : Candidate) → tally (same candidate_lt x) (option_to_list o ++ heap_items others.new) ≡ tally (same candidate_lt x) (heap_items others.old ++ fresh.items)) }
+    ensures counts { IfOk result (λ o. HaveSameMembers (option_to_list o ++ heap_items others.new)
+        (heap_items others.old ++ fresh.items)) }
     ensures first { IfOk result (λ o. IsFirst o (heap_items others.new)) }
 {
     let mut fresh = BinaryHeap::from(fresh);

@@ -1,11 +1,10 @@
 ghost use Rattle.std.specs.Prelude.{◌≡◌, ℕ, ℤ, List, ◌≤◌, ◌<◌, ◌+◌, pos, negsuc, ◌≤ℤ◌, ◌<ℤ◌, ◌+ℤ◌, IfOk, []};
-ghost use Rattle.std.specs.List.{find};
-ghost use Rattle.gtfs_board.specs.merge.Candidates.{candidate_lt, instant_of, day_of, lane_of};
+ghost use Rattle.gtfs_board.specs.merge.Candidates.{AreCandidateLanes, EndsBy, day_of, first_above, lane_of, slot_of};
 ghost use Rattle.gtfs_board.specs.merge.Order.{In};
-ghost use Rattle.gtfs_board.specs.merge.Lanes.{AreLanes, AreAll};
+ghost use Rattle.gtfs_board.specs.merge.Lanes.{AreAll};
 
 use crate::merge::candidate::Candidate;
-use crate::steps::Steps;
+use gtfs_runs::Steps;
 use std::alloc::AllocError;
 
 // Lanes that tell their departures day by day, each in the order of candidates.
@@ -75,17 +74,17 @@ pub trait Source {
         steps: &mut Steps,
     ) -> Result<Option<Candidate>, AllocError>
         requires { lane < count self.now }
-        ensures first { IfOk result (λ o. o ≡ find (candidate_lt floor.now) (events self.now lane day)) }
+        ensures first { IfOk result (λ o. o ≡ first_above floor.now (events self.now lane day)) }
         ensures steps { steps.new ≤ steps.old + 1 };
 
     // The event after one, in its lane on its day. It may ask the lane once.
     fn after(&self, event: &Candidate, steps: &mut Steps) -> Option<Candidate>
-        requires { In event.now (events self.now event.now.lane event.now.day) }
-        ensures next { result ≡ find (candidate_lt event.now) (events self.now event.now.lane event.now.day) }
+        requires { In event.now (slot_of (events self.now) event.now) }
+        ensures next { result ≡ first_above event.now (slot_of (events self.now) event.now) }
         ensures steps { steps.new ≤ steps.old + 1 };
 
     // No event lies beyond the end.
-    ghost ends: { (s : Self) (i : ℕ) (d : ℤ) (c : Candidate) → In c (events s i d) → c.instant ≤ℤ end s };
+    ghost ends: { (s : Self) (i : ℕ) (d : ℤ) → EndsBy (end s) (events s i d) };
 
     // The days from the first to the last are the service days, and no other day has events.
     ghost listed: { (s : Self) (d : ℤ) → first s ≤ℤ d → d ≤ℤ last s → In d (days s) };
@@ -96,7 +95,7 @@ pub trait Source {
 
     ghost beyond: { (s : Self) (i : ℕ) (d : ℤ) → last s <ℤ d → events s i d ≡ [] };
 
-    ghost lanes: { (s : Self) → AreLanes candidate_lt instant_of day_of lane_of (count s) (latest s) (events s) };
+    ghost lanes: { (s : Self) → AreCandidateLanes (count s) (latest s) (events s) };
 
     ghost whole: { (s : Self) → AreAll day_of lane_of (events s) (all s) };
 }

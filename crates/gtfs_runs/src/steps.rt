@@ -4,7 +4,7 @@ use std::marker::Model;
 
 /// How often lanes were asked for a departure: a number that stays at the greatest of 64 bits.
 ///
-/// Nothing makes one or copies one but the toolkit itself, so nobody else can change what is told.
+/// Only the lanes of a stop come with one, and nothing copies one, so nobody else can change what is told.
 #[derive(Debug, Drop)]
 pub struct Steps {
     count: u64,
@@ -37,6 +37,7 @@ impl Steps {
     pub(crate) fn add_one(&mut self)
         ensures { self.new ≡ min (self.old + 1) (2 ^ 64 - 1) }
     {
-        self.count = self.count.saturating_add(1);
+        let count = &mut self.count;
+        *count = count.saturating_add(1);
     }
 }

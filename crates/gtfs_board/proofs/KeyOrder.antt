@@ -1,0 +1,69 @@
+-- The order of keys: total, only equal keys tie, and what it says of the instants.
+use Rattle.std.proofs.Common.{◌≡◌, true, ℤ, ◌<ℤ◌, ◌≤ℤ◌, refl, sym, ap, ◌∙◌, arith}
+use Rattle.std.proofs.lemmas.Int.{ints}
+use Rattle.std.proofs.lemmas.Cmp.{nat_cmp_total, int_cmp_total, nat_list_cmp_total, then_total, on_total, tied_itself}
+use Rattle.std.specs.Cmp.{IsTotalOrder, int_ranks, int_cmp_is}
+use Rattle.std.specs.FinMap.{IsAntisymmetric, nat_cmp-IsAntisymmetric, int_cmp-IsAntisymmetric, slice_cmp-IsAntisymmetric}
+use Rattle.std.specs.Ordering.{ordering_then, is_lt, int_cmp, MatchOrdering}
+use Rattle.std.specs.declared.cmp.Ordering.{Ordering}
+use Rattle.std.specs.declared.cmp.Ordering.TheVariants.{Less, Equal, Greater}
+use Rattle.gtfs_board.specs.Key.{Key, key_cmp}
+
+-- ---- two orders, one after the other
+
+tied_first : (r s : Ordering) → ordering_then r s ≡ Equal → r ≡ Equal
+tied_first Less s e = cc e
+tied_first Equal s e = refl
+tied_first Greater s e = cc e
+
+tied_second : (r s : Ordering) → ordering_then r s ≡ Equal → s ≡ Equal
+tied_second Less s e = cc e
+tied_second Equal s e = e
+tied_second Greater s e = cc e
+
+-- ---- the laws
+
+pub key_cmp_total : IsTotalOrder key_cmp
+key_cmp_total = then_total (on_total (λ (k : Key). k.instant) int_cmp_total)
+    (then_total (on_total (λ (k : Key). k.trip) nat_list_cmp_total)
+    (then_total (on_total (λ (k : Key). k.run) nat_cmp_total)
+    (then_total (on_total (λ (k : Key). k.sequence) nat_cmp_total)
+    (on_total (λ (k : Key). k.day) int_cmp_total))))
+
+pub key_cmp-IsAntisymmetric : IsAntisymmetric key_cmp
+key_cmp-IsAntisymmetric a b e =
+    let past_instant = tied_second _ _ e in
+    let past_trip = tied_second _ _ past_instant in
+    let past_run = tied_second _ _ past_trip in
+    let instant = int_cmp-IsAntisymmetric a.instant b.instant (tied_first _ _ e) in
+    let trip = slice_cmp-IsAntisymmetric nat_cmp-IsAntisymmetric a.trip b.trip (tied_first _ _ past_instant) in
+    let run = nat_cmp-IsAntisymmetric a.run b.run (tied_first _ _ past_trip) in
+    let sequence = nat_cmp-IsAntisymmetric a.sequence b.sequence (tied_first _ _ past_run) in
+    let day = int_cmp-IsAntisymmetric a.day b.day (tied_second _ _ past_run) in
+    λ i. record { instant = instant i; trip = trip i; run = run i; sequence = sequence i; day = day i }
+
+-- ---- the same as tests
+
+less : (r : Ordering) → is_lt r ≡ true → r ≡ Less
+less Less e = refl
+less Equal e = cc e
+less Greater e = cc e
+
+pub key_lt_trans : (a b c : Key) → is_lt (key_cmp a b) ≡ true → is_lt (key_cmp b c) ≡ true → is_lt (key_cmp a c) ≡ true
+key_lt_trans a b c h k = ap is_lt (key_cmp_total.trans a b c (less (key_cmp a b) h) (less (key_cmp b c) k))
+
+pub key_lt_irrefl : (a : Key) → is_lt (key_cmp a a) ≡ true → ⊥
+key_lt_irrefl a h = let tied = tied_itself key_cmp_total a in cc (sym (less (key_cmp a a) h) ∙ tied)
+
+-- ---- keys and their instants
+
+not_later : (x y : ℤ) (r s : Ordering) → MatchOrdering r (x <ℤ y) (x ≡ y) (y <ℤ x) → is_lt (ordering_then r s) ≡ true → x ≤ℤ y
+not_later x y Less s ranks h = omega (arith, ints, ranks)
+not_later x y Equal s ranks h = omega (arith, ints, ranks)
+not_later x y Greater s ranks h = cc h
+
+pub key_lt-instant : (a b : Key) → is_lt (key_cmp a b) ≡ true → a.instant ≤ℤ b.instant
+key_lt-instant a b h = not_later a.instant b.instant (int_cmp a.instant b.instant) _ (int_ranks a.instant b.instant) h
+
+pub key_lt-earlier : (a b : Key) → a.instant <ℤ b.instant → is_lt (key_cmp a b) ≡ true
+key_lt-earlier a b h = rw (sym (int_cmp_is a.instant b.instant Less h)) refl

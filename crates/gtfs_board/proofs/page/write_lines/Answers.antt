@@ -1,0 +1,21 @@
+use Rattle.std.proofs.Common.{◌∙◌, cond, ap, arith, ℕ, subst, sym}
+use Rattle.gtfs_board.specs.Page.{AreWritten}
+use Rattle.gtfs_board.proofs.Pages.{page-faults, written-more}
+use Rattle.gtfs_board.proofs.page.write_lines.Goals as goal
+
+pub loop-lines-preserved : goal.loop-lines-preserved
+loop-lines-preserved g c =
+    let h = c.loop-lines.invariant in
+    let sent = rw (h.zone, c.if-not-branch.false) at c.in_ok-write_next.ensures.sent in
+    record {
+      written = written-more _ _ _ _ _ _ _ _ _ h.written sent.written;
+      within = omega arith;
+      zone = c.write_next.ensures.zone ∙ h.zone;
+      keeps = λ start kept. c.write_next.ensures.keeps start (h.keeps start kept);
+      grows = omega (arith, h.grows, c.write_next.ensures.grows);
+    }
+
+pub returns-in_err-write_next-clause-fault : goal.returns-in_err-write_next-clause-fault
+returns-in_err-write_next-clause-fault g c =
+    let h = c.loop-lines.invariant in
+    page-faults c.from_residual.result _ _ _ _ _ _ _ _ _ _ _ c.from_residual.ensures.1 h.written h.zone c.loop-lines-test.true c.in_err-write_next.ensures.fault

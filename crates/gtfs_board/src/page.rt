@@ -1,0 +1,85 @@
+//! Pages of a board.
+ghost use Rattle.std.specs.Prelude.{◌≡◌, ◌≤◌, IfOk, IfErr};
+ghost use Rattle.gtfs_board.specs.PageFaults.{EndsLine, EndsPage, IsCounted, IsLineSent};
+ghost use Rattle.gtfs_board.specs.Page.{IsPage};
+
+mod listing;
+
+use crate::line::push_line;
+use gtfs_table::{Out, write_text};
+use listing::Listing;
+use std::alloc::Global;
+use thiserror::Error;
+
+/// Why a page ends early. Each tells how many whole lines went out; a board that is opened after the key of the last of them
+/// goes on with the next.
+#[derive(Clone, Copy, Debug, PartialEq, Eq, Error)]
+pub enum PageFault {
+    /// The output failed, and its count of failures rose. After the whole lines a beginning of the next may have gone out.
+    #[error("output failed after {0} lines")]
+    Out(u64),
+    /// Memory ran out. Nothing but whole lines went out.
+    #[error("out of memory after {0} lines")]
+    OutOfMemory(u64),
+}
+
+// Writes the lines of the next departures, at most `limit`, and answers how many they were: fewer only where none is left.
+// Each line is sent out before the next departure is taken.
+//
+// Errors: `Out` where the output failed, `OutOfMemory` where memory ran out.
+pub(crate) fn write_lines<'a, B: Listing<'a>, O: Out>(
+    alloc: Global,
+    board: &mut B,
+    limit: u64,
+    out: &mut O,
+) -> Result<u64, PageFault>
+    ensures page { IfOk result (IsPage (B.clocks board.old) limit (B.rest board.old) (B.rest board.new)
+        (O.told out.old) (O.told out.new)) }
+    ensures fault { IfErr result (EndsPage (B.clocks board.old) limit (B.rest board.old) (B.rest board.new)
+        (O.told out.old) (O.told out.new)) }
+    ensures counted { IfErr result (IsCounted (O.failure_count out.old) (O.failure_count out.new)) }
+    ensures grows { O.failure_count out.old ≤ O.failure_count out.new }
+    ensures keeps { (start : B) → B.Keeps start board.old → B.Keeps start board.new }
+{
+    let mut line = String::new(alloc);
+    let mut lines = 0;
+    while lines < limit {
+        if !write_next(alloc, board, &mut line, lines, out)? {
+            return Ok(lines);
+        }
+        lines += 1;
+    }
+    Ok(lines)
+}
+
+// Writes the line of the next departure, in a text that was used before, after so many lines. Answers whether there was one.
+fn write_next<'a, B: Listing<'a>, O: Out>(
+    alloc: Global,
+    board: &mut B,
+    line: &mut String,
+    lines: u64,
+    out: &mut O,
+) -> Result<bool, PageFault>
+    ensures sent { IfOk result (IsLineSent (B.clocks board.old) (B.rest board.old) (B.rest board.new)
+        (O.told out.old) (O.told out.new)) }
+    ensures fault { IfErr result (EndsLine (B.clocks board.old) lines (B.rest board.old) (B.rest board.new)
+        (O.told out.old) (O.told out.new)) }
+    ensures counted { IfErr result (IsCounted (O.failure_count out.old) (O.failure_count out.new)) }
+    ensures grows { O.failure_count out.old ≤ O.failure_count out.new }
+    ensures zone { B.clocks board.new ≡ B.clocks board.old }
+    ensures keeps { (start : B) → B.Keeps start board.old → B.Keeps start board.new }
+{
+    let departure = match board.next() {
+        Ok(Some(departure)) => departure,
+        Ok(None) => return Ok(false),
+        Err(_) => return Err(PageFault::OutOfMemory(lines)),
+    };
+    line.clear();
+    if push_line(alloc, line, board.zone(), &departure).is_err() {
+        return Err(PageFault::OutOfMemory(lines));
+    }
+    match write_text(out, line.as_bytes()) {
+        Ok(()) => Ok(true),
+        Err(_) => Err(PageFault::Out(lines)),
+    }
+}

@@ -1,0 +1,276 @@
+-- Rows by their ids: look-ups in a list of rows, and in rows that stand by id.
+use Rattle.std.proofs.Common.{◌≡◌, ℕ, Bool, true, false, cond, T, List, [], ◌∷◌, Some, None, Option, Less, Equal, Greater, Ordering, refl, sym, ap, ◌∙◌, subst, inl, inr, ◌⊎◌, ◌≤◌, zero-add, eqb-true, unwrap_or, arith, length, map, bytes_eq, find, option_map, count_by, is_some}
+use Rattle.std.specs.Prelude.{◌&&◌, ◌||◌, ◌==◌, ◌+◌}
+use Rattle.std.specs.List.{list_any, list_all}
+use Rattle.std.specs.Ordering.{is_lt, is_eq, eq_by_cmp}
+use Rattle.std.specs.Cmp.Lexicographic.{nat_list_cmp_total, nat_list_eq_equiv, texts_ties, bytes_decides}
+use Rattle.std.specs.FinMap as table
+use Rattle.std.proofs.lemmas.Bool.{and_parts, or_cases, or_left, or_right, true≢false, false_from_ne_true}
+use Rattle.std.proofs.lemmas.List.Sums.{sum_by-cons}
+use Rattle.gtfs_table.specs.Folder.{text_cmp}
+use Rattle.gtfs_merge.specs.Merged.{by_id}
+
+-- ---- texts
+
+pub same_bytes : (x y : List ℕ) → bytes_eq x y ≡ true → x ≡ y
+same_bytes x y e = (bytes_decides x y).0 e
+
+pub bytes_same : (x y : List ℕ) → x ≡ y → bytes_eq x y ≡ true
+bytes_same x y e = (bytes_decides x y).1 e
+
+pub bytes_flip : (x y : List ℕ) → bytes_eq x y ≡ bytes_eq y x
+bytes_flip x y = nat_list_eq_equiv.symm x y
+
+-- two tests that follow from each other are one
+pub same_tests : (a b : Bool) → (a ≡ true → b ≡ true) → (b ≡ true → a ≡ true) → a ≡ b
+same_tests true b f g = sym (f refl)
+same_tests false true f g = g refl
+same_tests false false f g = refl
+
+-- ---- membership
+
+abbrev pub In : {X : Type 0} → X → List X → Type 0
+In x [] = ⊥
+In x (y ∷ ys) = (y ≡ x) ⊎ In x ys
+
+-- an element that passes a test
+pub list_any-In : {X : Type 0} (p : X → Bool) (xs : List X) → list_any p xs ≡ true → (x : X) × In x xs × (p x ≡ true)
+list_any-In p [] e = absurd (true≢false (sym e))
+list_any-In {X = X} p (x ∷ xs) e =
+    elim (or_cases (p x) (list_any p xs) e) as (λ w. (y : X) × In y (x ∷ xs) × (p y ≡ true)) [
+      | inl h ↦ (x, inl refl, h)
+      | inr h ↦ let r = list_any-In p xs h in (r.0, inr r.1, r.2)
+    ]
+
+pub In-list_any : {X : Type 0} (p : X → Bool) (xs : List X) (x : X) → In x xs → p x ≡ true → list_any p xs ≡ true
+In-list_any p [] x i h = elim i [ ]
+In-list_any p (y ∷ ys) x (inl e) h = or_left _ _ (ap p e ∙ h)
+In-list_any p (y ∷ ys) x (inr i) h = or_right _ _ (In-list_any p ys x i h)
+
+pub list_any-map : {X Y : Type 0} (p : Y → Bool) (f : X → Y) (xs : List X) → list_any p (map f xs) ≡ list_any (λ x. p (f x)) xs
+list_any-map p f [] = refl
+list_any-map p f (x ∷ xs) = ap (λ b. p (f x) || b) (list_any-map p f xs)
+
+-- tests that agree at each element
+pub list_any-alike : {X : Type 0} (p q : X → Bool) (xs : List X) → ((x : X) → In x xs → p x ≡ q x) → list_any p xs ≡ list_any q xs
+list_any-alike p q [] h = refl
+list_any-alike p q (x ∷ xs) h = λ i. h x (inl refl) i || list_any-alike p q xs (λ y k. h y (inr k)) i
+
+pub find-alike : {X : Type 0} (p q : X → Bool) (xs : List X) → ((x : X) → In x xs → p x ≡ q x) → find p xs ≡ find q xs
+find-alike p q [] h = refl
+find-alike p q (x ∷ xs) h = λ i. cond (h x (inl refl) i) (Some x) (find-alike p q xs (λ y k. h y (inr k)) i)
+
+pub find-map : {X Y : Type 0} (p : Y → Bool) (f : X → Y) (xs : List X) → find p (map f xs) ≡ option_map f (find (λ x. p (f x)) xs)
+find-map p f [] = refl
+find-map p f (x ∷ xs) = elim (p (f x)) as (λ b. cond b (Some (f x)) (find p (map f xs)) ≡ option_map f (cond b (Some x) (find (λ x. p (f x)) xs))) [ true ↦ refl | false ↦ find-map p f xs ]
+
+pub list_all-In : {X : Type 0} (p : X → Bool) (xs : List X) → list_all p xs ≡ true → (x : X) → In x xs → p x ≡ true
+list_all-In p [] e x i = elim i [ ]
+list_all-In p (y ∷ ys) e x (inl h) = ap p (sym h) ∙ (and_parts _ _ e).0
+list_all-In p (y ∷ ys) e x (inr h) = list_all-In p ys (and_parts _ _ e).1 x h
+
+Some-same : {X : Type 0} (x y : X) → Some x ≡ Some y → x ≡ y
+Some-same x y e = ap (λ o. unwrap_or o x) e
+
+Some-not-None : {X : Type 0} (x : X) → Some x ≡ None → ⊥
+Some-not-None x e = true≢false (ap is_some e)
+
+-- what a look-up found stands in the list and passes
+pub find-In : {X : Type 0} (p : X → Bool) (xs : List X) (x : X) → find p xs ≡ Some x → In x xs × (p x ≡ true)
+find-In p [] x = λ e. absurd (Some-not-None x (sym e))
+find-In p (y ∷ ys) x =
+    elim (p y) as (λ b. p y ≡ b → cond b (Some y) (find p ys) ≡ Some x → In x (y ∷ ys) × (p x ≡ true)) [
+      | true ↦ λ t e. (inl (Some-same _ _ e), ap p (sym (Some-same _ _ e)) ∙ t)
+      | false ↦ λ t e. let r = find-In p ys x e in (inr r.0, r.1)
+    ] refl
+
+pub find-Some : {X : Type 0} (p : X → Bool) (xs : List X) → list_any p xs ≡ true → (x : X) × (find p xs ≡ Some x)
+find-Some p [] = λ e. absurd (true≢false (sym e))
+find-Some {X = X} p (y ∷ ys) =
+    elim (p y) as (λ b. (b || list_any p ys) ≡ true → (x : X) × (cond b (Some y) (find p ys) ≡ Some x)) [
+      | true ↦ λ e. (y, refl)
+      | false ↦ λ e. find-Some p ys e
+    ]
+
+pub find-None : {X : Type 0} (p : X → Bool) (xs : List X) → list_any p xs ≡ false → find p xs ≡ None
+find-None p [] = λ e. refl
+find-None p (y ∷ ys) =
+    elim (p y) as (λ b. (b || list_any p ys) ≡ false → cond b (Some y) (find p ys) ≡ None) [
+      | true ↦ λ e. absurd (true≢false e)
+      | false ↦ λ e. find-None p ys e
+    ]
+
+-- ---- look-ups by id
+
+-- a test of what was found, false where nothing was
+abbrev pub holds_at : {X : Type 0} → Option X → (X → Bool) → Bool
+holds_at None p = false
+holds_at (Some x) p = p x
+
+pub holds_at-map : {X Y : Type 0} (f : X → Y) (o : Option X) (p : Y → Bool) → holds_at (option_map f o) p ≡ holds_at o (λ x. p (f x))
+holds_at-map f None p = refl
+holds_at-map f (Some x) p = refl
+
+pub holds_at-Some : {X : Type 0} (o : Option X) (p : X → Bool) → holds_at o p ≡ true → (x : X) × (o ≡ Some x) × (p x ≡ true)
+holds_at-Some None p e = absurd (true≢false (sym e))
+holds_at-Some (Some x) p e = (x, refl, e)
+
+T-true : (b : Bool) → T b → b ≡ true
+T-true true h = refl
+T-true false h = absurd h
+
+true-T : (b : Bool) → b ≡ true → T b
+true-T b e = subst T (sym e) tt
+
+less_not_equal : (r : Ordering) → is_lt r ≡ true → is_eq r ≡ true → ⊥
+less_not_equal Less a b = true≢false (sym b)
+less_not_equal Equal a b = true≢false (sym a)
+less_not_equal Greater a b = true≢false (sym a)
+
+or-false : (b : Bool) → (b || false) ≡ b
+or-false true = refl
+or-false false = refl
+
+one_left : (b : Bool) (n : ℕ) → b ≡ true → cond b 1 0 + n ≤ 1 → n ≡ 0
+one_left true n e h = omega arith
+one_left false n e h = absurd (true≢false (sym e))
+
+fewer : (b : Bool) (n : ℕ) → cond b 1 0 + n ≤ 1 → n ≤ 1
+fewer true n h = omega arith
+fewer false n h = omega arith
+
+module _ {X : Type 0} (id : X → List ℕ) where
+  -- the first row with the id
+  abbrev pub look : List X → List ℕ → Option X
+  look rows q = find (λ r. bytes_eq (id r) q) rows
+
+  -- a row with the id that passes a test
+  abbrev pub look_any : List X → List ℕ → (X → Bool) → Bool
+  look_any rows q p = list_any (λ r. bytes_eq (id r) q && p r) rows
+
+  -- each id names one row at most
+  abbrev pub IsKeyed : List X → Type 0
+  IsKeyed rows = (q : List ℕ) (p : X → Bool) → look_any rows q p ≡ holds_at (look rows q) p
+
+  -- ---- entries of a map from ids to rows
+
+  abbrev OwnKeys : List (List ℕ × X) → Type 0
+  OwnKeys [] = Unit {0}
+  OwnKeys (e ∷ es) = (id e.1 ≡ e.0) × OwnKeys es
+
+  OwnKeys-put : (k : List ℕ) (v : X) (es : List (List ℕ × X)) → id v ≡ k → OwnKeys es → OwnKeys (table.put text_cmp k v es)
+  OwnKeys-put k v [] e h = (e, tt)
+  OwnKeys-put k v (x ∷ xs) e h =
+      elim (text_cmp k x.0) as (λ r. text_cmp k x.0 ≡ r → OwnKeys (table.Entries.by_order r ((k, v) ∷ x ∷ xs) ((x.0, v) ∷ xs) (x ∷ table.put text_cmp k v xs))) [
+        | Less ↦ λ t. (e, h)
+        | Equal ↦ λ t. (e ∙ table.slice_cmp-IsAntisymmetric table.nat_cmp-IsAntisymmetric k x.0 t, h.1)
+        | Greater ↦ λ t. (h.0, OwnKeys-put k v xs e h.1)
+      ] refl
+
+  abbrev entry : X → List ℕ × X
+  entry r = (id r, r)
+
+  no_entries : (es : List (List ℕ × X)) → length es ≡ 0 → OwnKeys es
+  no_entries [] e = tt
+  no_entries (x ∷ xs) e = absurd (omega arith)
+
+  OwnKeys-from_entries : (rows : List X) → OwnKeys (table.entries (table.from_entries {R = text_cmp} (map entry rows)))
+  OwnKeys-from_entries [] = no_entries _ (sym (table.len-entries (table.empty {X = X} {R = text_cmp})) ∙ table.len-empty text_cmp X)
+  OwnKeys-from_entries (r ∷ rs) =
+      let m = table.from_entries {R = text_cmp} (map entry rs) in
+      subst OwnKeys (sym (table.entries-insert nat_list_cmp_total m (id r) r)) (OwnKeys-put (id r) r _ refl (OwnKeys-from_entries rs))
+
+  -- the key's test, both ways
+  ties : (q x : List ℕ) → eq_by_cmp text_cmp q x ≡ bytes_eq x q
+  ties q x = sym (texts_ties q x) ∙ bytes_flip q x
+
+  look-own : (q : List ℕ) (es : List (List ℕ × X)) → OwnKeys es → look (map (λ e. e.1) es) q ≡ table.find text_cmp q es
+  look-own q [] h = refl
+  look-own q (e ∷ es) h = λ i. cond ((ap (λ x. bytes_eq x q) h.0 ∙ sym (ties q e.0)) i) (Some e.1) (look-own q es h.1 i)
+
+  look-rows : (rows : List X) (q : List ℕ) → table.find text_cmp q (map entry rows) ≡ look rows q
+  look-rows [] q = refl
+  look-rows (r ∷ rs) q = λ i. cond (ties q (id r) i) (Some r) (look-rows rs q i)
+
+  -- a look-up in rows by id finds the first row of the list that they were made of
+  pub look-by_id : (rows : List X) (q : List ℕ) → look (by_id id rows) q ≡ look rows q
+  look-by_id rows q =
+      let m = table.from_entries {R = text_cmp} (map entry rows) in
+      look-own q (table.entries m) (OwnKeys-from_entries rows) ∙ sym (table.get-entries m q) ∙ table.get-from_entries nat_list_cmp_total (map entry rows) q ∙ look-rows rows q
+
+  -- lists in which look-ups agree make the same rows by id
+  pub by_id-same : (xs ys : List X) → ((q : List ℕ) → look xs q ≡ look ys q) → by_id id xs ≡ by_id id ys
+  by_id-same xs ys h = ap table.values (table.same_map nat_list_cmp_total (table.slice_cmp-IsAntisymmetric table.nat_cmp-IsAntisymmetric)
+      (table.from_entries {R = text_cmp} (map entry xs)) (table.from_entries {R = text_cmp} (map entry ys))
+      (λ q. table.get-from_entries nat_list_cmp_total (map entry xs) q ∙ look-rows xs q ∙ h q ∙ sym (look-rows ys q) ∙ sym (table.get-from_entries nat_list_cmp_total (map entry ys) q)))
+
+  -- rows by id stay as they are when they are ordered again
+  pub by_id-again : (rows : List X) → by_id id (by_id id rows) ≡ by_id id rows
+  by_id-again rows = by_id-same (by_id id rows) rows (look-by_id rows)
+
+  below-missed : (x : List ℕ) (es : List (List ℕ × X)) → OwnKeys es → T (table.Entries.below_all text_cmp x es) → (q : List ℕ) → bytes_eq x q ≡ true → (p : X → Bool) → look_any (map (λ e. e.1) es) q p ≡ false
+  below-missed x [] own h q t p = refl
+  below-missed x (e ∷ es) own h q t p =
+      let parts = and_parts _ _ (T-true _ h) in
+      let apart : bytes_eq (id e.1) q ≡ false = false_from_ne_true _ (λ s.
+      let at : x ≡ e.0 = same_bytes x q t ∙ sym (same_bytes _ q s) ∙ own.0 in
+      less_not_equal (text_cmp x e.0) parts.0 (sym (texts_ties x e.0) ∙ bytes_same x e.0 at)) in
+      (λ i. (apart i && p e.1) || look_any (map (λ e. e.1) es) q p) ∙ below-missed x es own.1 (true-T _ parts.1) q t p
+
+  keyed-own : (es : List (List ℕ × X)) → OwnKeys es → T (table.is_sorted text_cmp es) → IsKeyed (map (λ e. e.1) es)
+  keyed-own [] own h q p = refl
+  keyed-own (e ∷ es) own h q p =
+      let parts = and_parts _ _ (T-true _ h) in
+      let rest = look_any (map (λ e. e.1) es) q p in
+      elim (bytes_eq (id e.1) q) as (λ b. bytes_eq (id e.1) q ≡ b → ((b && p e.1) || rest) ≡ holds_at (cond b (Some e.1) (look (map (λ e. e.1) es) q)) p) [
+        | true ↦ λ t. ap (λ r. p e.1 || r) (below-missed e.0 es own.1 (true-T _ parts.0) q (ap (λ x. bytes_eq x q) (sym own.0) ∙ t) p) ∙ or-false (p e.1)
+        | false ↦ λ t. keyed-own es own.1 (true-T _ parts.1) q p
+      ] refl
+
+  pub keyed-by_id : (rows : List X) → IsKeyed (by_id id rows)
+  keyed-by_id rows = let m = table.from_entries {R = text_cmp} (map entry rows) in keyed-own (table.entries m) (OwnKeys-from_entries rows) (table.entries_sorted m)
+
+  -- ---- rows whose ids are distinct
+
+  count-cons : (x y : List ℕ) (ys : List (List ℕ)) → count_by (bytes_eq x) (y ∷ ys) ≡ cond (bytes_eq x y) 1 0 + count_by (bytes_eq x) ys
+  count-cons x y ys = sum_by-cons (λ z. cond (bytes_eq x z) 1 0) y ys
+
+  -- no row of the list has the id
+  unnamed : (x : List ℕ) (rows : List X) (p : X → Bool) → count_by (bytes_eq x) (map id rows) ≡ 0 → look_any rows x p ≡ false
+  unnamed x [] p = λ e. refl
+  unnamed x (r ∷ rs) p = λ e0.
+      elim (bytes_eq x (id r)) as (λ b. bytes_eq x (id r) ≡ b → cond b 1 0 + count_by (bytes_eq x) (map id rs) ≡ 0 → ((bytes_eq (id r) x && p r) || look_any rs x p) ≡ false) [
+        | true ↦ λ t e. absurd (omega arith)
+        | false ↦ λ t e. (λ i. ((bytes_flip (id r) x ∙ t) i && p r) || look_any rs x p) ∙ unnamed x rs p (omega arith)
+      ] refl (sym (count-cons x (id r) (map id rs)) ∙ e0)
+
+  -- each id stands at most once
+  abbrev AtMostOnce : List X → Type 0
+  AtMostOnce rows = (x : List ℕ) → count_by (bytes_eq x) (map id rows) ≤ 1
+
+  keyed-once : (rows : List X) → AtMostOnce rows → IsKeyed rows
+  keyed-once [] h q p = refl
+  keyed-once (r ∷ rs) h q p =
+      elim (bytes_eq (id r) q) as (λ b. bytes_eq (id r) q ≡ b → ((b && p r) || look_any rs q p) ≡ holds_at (cond b (Some r) (look rs q)) p) [
+        | true ↦ λ t. ap (λ b. p r || b) (unnamed q rs p (one_left (bytes_eq q (id r)) _ (bytes_flip q (id r) ∙ t) (subst (λ n. n ≤ 1) (count-cons q (id r) (map id rs)) (h q)))) ∙ or-false (p r)
+        | false ↦ λ t. keyed-once rs (λ x. fewer (bytes_eq x (id r)) _ (subst (λ n. n ≤ 1) (count-cons x (id r) (map id rs)) (h x))) q p
+      ] refl
+
+  some_count : (x : List ℕ) (xs : List (List ℕ)) → list_any (bytes_eq x) xs ≡ false → count_by (bytes_eq x) xs ≡ 0
+  some_count x [] = λ e. refl
+  some_count x (y ∷ ys) = λ e0. count-cons x y ys ∙
+      elim (bytes_eq x y) as (λ b. (b || list_any (bytes_eq x) ys) ≡ false → cond b 1 0 + count_by (bytes_eq x) ys ≡ 0) [
+        | true ↦ λ e. absurd (true≢false e)
+        | false ↦ λ e. zero-add _ ∙ some_count x ys e
+      ] e0
+
+  count-alike : (x y : List ℕ) (xs : List (List ℕ)) → bytes_eq x y ≡ true → count_by (bytes_eq x) xs ≡ count_by (bytes_eq y) xs
+  count-alike x y xs e = ap (λ z. count_by (bytes_eq z) xs) (same_bytes x y e)
+
+  pub keyed-distinct : (rows : List X) → list_all (λ x. count_by (bytes_eq x) (map id rows) == 1) (map id rows) ≡ true → IsKeyed rows
+  keyed-distinct rows h = keyed-once rows (λ x. elim (list_any (bytes_eq x) (map id rows)) as (λ b. list_any (bytes_eq x) (map id rows) ≡ b → count_by (bytes_eq x) (map id rows) ≤ 1) [
+    | true ↦ λ t. let r = list_any-In (bytes_eq x) (map id rows) t in
+        let e : count_by (bytes_eq r.0) (map id rows) ≡ 1 = eqb-true _ _ (list_all-In _ _ h r.0 r.1) in
+        let f = count-alike x r.0 (map id rows) r.2 in omega arith
+    | false ↦ λ t. let e = some_count x (map id rows) t in omega arith
+  ] refl)

@@ -1,0 +1,7 @@
+pub mod Departures
+pub mod Law
+pub mod Merged
+pub mod Near
+pub mod Renaming
+pub mod Report
+pub mod Same

@@ -1,0 +1,83 @@
+-- What lies above an event or a seek lies above with all that follow.
+use Rattle.std.proofs.Common.{◌≡◌, true, false, refl, sym, ◌∙◌, ap, rules, ℕ, ◌<◌, arith}
+use Rattle.std.specs.Prelude.{ℤ, pos, ◌<ℤ◌}
+use Rattle.std.proofs.lemmas.Int.{ints}
+use Rattle.std.proofs.lemmas.Bool.{true≢false, false≢true}
+use Rattle.std.proofs.lemmas.Bool.Decides.{nat_tests}
+use Rattle.std.specs.Cmp.{IsTotalOrder, alike_right}
+use Rattle.std.specs.Cmp.Rules.{comparing}
+use Rattle.std.specs.declared.cmp.Ordering.{Ordering}
+use Rattle.std.specs.declared.cmp.Ordering.TheVariants.{Less, Equal, Greater}
+use Rattle.std.specs.Ordering.{is_lt, is_gt, ordering_then, nat_cmp, int_cmp}
+use Rattle.gtfs_runs.specs.declared.event.Event.{Event}
+use Rattle.gtfs_runs.specs.declared.seek.Seek.{Seek}
+use Rattle.gtfs_runs.specs.Order.{event_cmp, seek_cmp, seek_of, is_later, is_above, IsFrom}
+
+pub less : (r : Ordering) → is_lt r ≡ true → r ≡ Less
+less Less h = refl
+less Equal h = absurd (false≢true h)
+less Greater h = absurd (false≢true h)
+
+pub events_total : IsTotalOrder event_cmp
+events_total = search (comparing, rules) depth 20
+
+pub seeks_total : IsTotalOrder seek_cmp
+seeks_total = search (comparing, rules) depth 20
+
+-- whole numbers that are natural compare as such
+same_cmp : (a b : ℕ) → int_cmp (pos a) (pos b) ≡ nat_cmp a b
+same_cmp a b = grind (arith, nat_tests)
+
+-- an order of which the last part is left out
+without_last : (a b c d e : Ordering) → ordering_then a (ordering_then b (ordering_then c (ordering_then d e))) ≡ Less → is_gt (ordering_then a (ordering_then b (ordering_then c d))) ≡ false
+without_last Less b c d e h = refl
+without_last Greater b c d e h = absurd (cc)
+without_last Equal Less c d e h = refl
+without_last Equal Greater c d e h = absurd (cc)
+without_last Equal Equal Less d e h = refl
+without_last Equal Equal Greater d e h = absurd (cc)
+without_last Equal Equal Equal Less e h = refl
+without_last Equal Equal Equal Equal e h = refl
+without_last Equal Equal Equal Greater e h = absurd (cc)
+
+pub places-rise : (x y : Event) → event_cmp x y ≡ Less → is_gt (seek_cmp (seek_of x) (seek_of y)) ≡ false
+places-rise x y h =
+    rw (same_cmp x.at y.at, same_cmp x.seq y.seq) (without_last (nat_cmp x.at y.at) (nat_cmp x.trip.0 y.trip.0) (nat_cmp x.run y.run) (nat_cmp x.seq y.seq) (nat_cmp x.row y.row) h)
+
+module _ {K : Type 0} {R : K → K → Ordering} (o : IsTotalOrder R) where
+  upto : (x y z : K) (r : Ordering) → R x y ≡ Less → R y z ≡ r → is_gt r ≡ false → R x z ≡ Less
+  upto x y z Less below is le = o.trans x y z below is
+  upto x y z Equal below is le = sym (alike_right o y z x is) ∙ below
+  upto x y z Greater below is le = absurd (true≢false le)
+
+-- what follows an event that lies above lies above
+pub later-upward : (e x y : Event) → event_cmp x y ≡ Less → is_later e x ≡ true → is_later e y ≡ true
+later-upward e x y rises above = ap is_lt (events_total.trans e x y (less _ above) rises)
+
+pub above-upward : (s : Seek) (x y : Event) → event_cmp x y ≡ Less → is_above s x ≡ true → is_above s y ≡ true
+above-upward s x y rises above = ap is_lt (upto seeks_total s (seek_of x) (seek_of y) _ (less _ above) refl (places-rise x y rises))
+
+int-greater : (a b : ℤ) → b <ℤ a → int_cmp a b ≡ Greater
+int-greater a b h = grind (arith, ints)
+
+int-less : (a b : ℤ) → a <ℤ b → int_cmp a b ≡ Less
+int-less a b h = grind (arith, ints)
+
+nat-greater : (a b : ℕ) → b < a → nat_cmp a b ≡ Greater
+nat-greater a b h = grind (arith, nat_tests)
+
+nat-less : (a b : ℕ) → a < b → nat_cmp a b ≡ Less
+nat-less a b h = grind (arith, nat_tests)
+
+-- time decides first
+pub above-from : (s : Seek) → IsFrom s.at (is_above s)
+above-from s = record {
+  before = λ e h. rw (int-greater s.at (pos e.at) h) refl;
+  after = λ e h. rw (int-less s.at (pos e.at) h) refl;
+}
+
+pub later-from : (x : Event) → IsFrom (pos x.at) (is_later x)
+later-from x = record {
+  before = λ e h. rw (nat-greater x.at e.at (omega (arith, ints))) refl;
+  after = λ e h. rw (nat-less x.at e.at (omega (arith, ints))) refl;
+}

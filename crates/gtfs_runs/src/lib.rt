@@ -1,0 +1,22 @@
+//! What passes a stop, and when, without unfolding a day.
+//!
+//! - An [`Event`] is a run of a trip that passes a row at which riders can leave a stop: when, after the origin of
+//!   whichever service day. Events have an order, and a [`Seek`] is a place between them.
+//! - A [`Lane`] tells events of one service, each after the one before: a [`ListLane`] those of a list, a [`StepLane`]
+//!   those of a row of `frequencies.txt`, which it does not list.
+//! - [`Steps`] counts how often a lane was asked.
+#![tactic(auto)]
+
+mod event;
+mod lane;
+mod list_lane;
+mod seek;
+mod step_lane;
+mod steps;
+
+pub use event::Event;
+pub use lane::Lane;
+pub use list_lane::ListLane;
+pub use seek::Seek;
+pub use step_lane::StepLane;
+pub use steps::Steps;

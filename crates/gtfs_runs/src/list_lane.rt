@@ -1,0 +1,52 @@
+ghost use Rattle.std.specs.Prelude.{◌≡◌};
+ghost use Rattle.std.specs.List.{slice_get};
+ghost use Rattle.gtfs_rows.specs.Order.{Ascends};
+ghost use Rattle.gtfs_runs.specs.Order.{event_cmp};
+
+use crate::event::Event;
+use crate::lane::Lane;
+use crate::seek::Seek;
+use crate::steps::Steps;
+use gtfs_feed::Feed;
+use gtfs_rows::ServiceNo;
+
+/// The events of trips without frequencies that have one list of stops and one service, at one position in that list.
+#[derive(Debug, Drop)]
+pub struct ListLane {
+    service: ServiceNo,
+    events: Vec<Event>,
+    ghost ascending: { Ascends event_cmp events.items },
+}
+
+impl Lane for ListLane {
+    ghost serves = { λ lane. lane.service.0 };
+
+    ghost events = { λ lane. lane.events.items };
+
+    ghost ascending = { λ lane. lane.ascending };
+
+    fn service(&self) -> ServiceNo {
+        self.service
+    }
+
+    fn first_after(&self, _feed: &Feed, seek: &Seek, steps: &mut Steps) -> Option<Event> {
+        steps.add_one();
+        let place = self.events.partition_point(|event| !seek.is_below(event));
+        self.event(place)
+    }
+
+    fn next(&self, _feed: &Feed, event: &Event, steps: &mut Steps) -> Option<Event> {
+        steps.add_one();
+        let place = self.events.partition_point(|other| !event.is_below(other));
+        self.event(place)
+    }
+}
+
+impl ListLane {
+    // The event at a place in the list, if there is one.
+    fn event(&self, place: usize) -> Option<Event>
+        ensures { result ≡ slice_get self.now.events.items place }
+    {
+        self.events.get(place).copied()
+    }
+}
