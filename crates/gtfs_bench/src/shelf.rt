@@ -35,6 +35,9 @@ impl Folders for Shelf {
 
     ghost failure_count = { λ _. 0 };
 
+    // No list of bytes is longer.
+    ghost limit = { λ _. 9_223_372_036_854_775_807 };
+
     fn names(&mut self, alloc: Global, _dir: &str) -> Result<Vec<String>, FolderFault> {
         Ok(Vec::new(alloc))
     }
