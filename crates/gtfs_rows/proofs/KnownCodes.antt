@@ -63,7 +63,7 @@ id_given t = elim (cases_Bool (is_empty t)) [
   | inr filled ↦ rw filled refl
 ]
 
-id_text : (t : List ℕ) → cell_text id (id_cell t) ≡ t
+pub id_text : (t : List ℕ) → cell_text id (id_cell t) ≡ t
 id_text t = elim (cases_Bool (is_empty t)) [
   | inl empty ↦ rw empty (sym (no_text t empty))
   | inr filled ↦ rw filled refl

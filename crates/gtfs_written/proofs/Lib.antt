@@ -1,0 +1,4 @@
+pub mod Items
+pub mod TableFacts
+pub mod Taken
+pub mod Weeks

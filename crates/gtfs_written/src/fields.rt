@@ -1,0 +1,179 @@
+ghost use Rattle.std.specs.Prelude.{◌≡◌, ℕ, List, if◌then◌else◌, option_map, OnOk, true, [], Some, None, ◌∷◌};
+ghost use Rattle.gtfs_field.specs.Canonical.{colour_text, coordinate_text, count_text, date_text, time_text};
+ghost use Rattle.gtfs_field.specs.declared.coord.Axis.{Axis};
+ghost use Rattle.gtfs_columns.specs.Columns.{Kind, choice, coordinate, count, time};
+ghost use Rattle.gtfs_columns.specs.Values.{amount, word};
+ghost use Rattle.gtfs_rows.specs.Cells.{cell_text};
+ghost use Rattle.gtfs_rows.specs.RowCells.{number as numbered};
+
+use crate::sink::Sink;
+use crate::table_rows::TableRows;
+use gtfs_field::{
+    Clock, Colour, Coord, Day, OutOfMemory, Text, push_colour, push_coord, push_count, push_date,
+    push_time,
+};
+use gtfs_table::File;
+use std::alloc::Global;
+use std::marker::Model;
+
+// The fields of rows as canonical texts. Numbers are written into one buffer that is used again.
+pub(crate) struct Fields<S> {
+    rows: S,
+    buffer: String,
+    alloc: Global,
+}
+
+impl<S> Model for Fields<S> {
+    ghost Value = { S };
+
+    ghost view = { λ f. f.rows };
+}
+
+impl<S: Sink> Fields<S> {
+    pub(crate) fn new(alloc: Global, rows: S) -> Fields<S>
+        ensures { result ≡ rows }
+    {
+        Fields {
+            rows,
+            buffer: String::new(alloc),
+            alloc,
+        }
+    }
+
+    pub(crate) fn into_rows(self) -> S
+        ensures { result ≡ self }
+    {
+        let Fields {
+            rows,
+            buffer: _,
+            alloc: _,
+        } = self;
+        rows
+    }
+
+    pub(crate) fn first(&mut self, field: &str) -> Result<(), OutOfMemory>
+        ensures { OnOk result (self.new ≡ S.takes.first self.old field.now) }
+    {
+        self.rows.first(field)
+    }
+
+    pub(crate) fn last(&mut self) -> Result<(), OutOfMemory>
+        ensures { OnOk result (self.new ≡ S.takes.last self.old) }
+    {
+        self.rows.last()
+    }
+
+    pub(crate) fn text(&mut self, field: &str) -> Result<(), OutOfMemory>
+        ensures { OnOk result (self.new ≡ S.takes.next self.old field.now) }
+    {
+        self.rows.next(field)
+    }
+
+    pub(crate) fn optional_text(&mut self, field: &Option<Text>) -> Result<(), OutOfMemory>
+        ensures { OnOk result ((kind : Kind)
+            → self.new ≡ S.takes.next self.old (cell_text kind (option_map word field.now))) }
+    {
+        match field {
+            Some(text) => self.text(text.as_str()),
+            None => self.text(""),
+        }
+    }
+
+    pub(crate) fn number(&mut self, number: u32) -> Result<(), OutOfMemory>
+        ensures { OnOk result (self.new ≡ S.takes.next self.old (count_text number)) }
+    {
+        self.buffer.clear();
+        push_count(self.alloc, &mut self.buffer, number)?;
+        self.rows.next(self.buffer.as_str())
+    }
+
+    pub(crate) fn optional_count(&mut self, number: Option<u32>) -> Result<(), OutOfMemory>
+        ensures { OnOk result
+            (self.new ≡ S.takes.next self.old (cell_text count (option_map numbered number))) }
+    {
+        match number {
+            Some(number) => self.number(number),
+            None => self.text(""),
+        }
+    }
+
+    pub(crate) fn optional_choice(&mut self, number: Option<u32>) -> Result<(), OutOfMemory>
+        ensures { OnOk result ((ranges : List (ℕ × ℕ))
+            → self.new ≡ S.takes.next self.old
+            (cell_text (choice ranges) (option_map numbered number))) }
+    {
+        match number {
+            Some(number) => self.number(number),
+            None => self.text(""),
+        }
+    }
+
+    pub(crate) fn time(&mut self, clock: Clock) -> Result<(), OutOfMemory>
+        ensures { OnOk result (self.new ≡ S.takes.next self.old (time_text clock)) }
+    {
+        self.buffer.clear();
+        push_time(self.alloc, &mut self.buffer, clock)?;
+        self.rows.next(self.buffer.as_str())
+    }
+
+    pub(crate) fn optional_time(&mut self, clock: Option<Clock>) -> Result<(), OutOfMemory>
+        ensures { OnOk result
+            (self.new ≡ S.takes.next self.old (cell_text time (option_map numbered clock))) }
+    {
+        match clock {
+            Some(clock) => self.time(clock),
+            None => self.text(""),
+        }
+    }
+
+    pub(crate) fn date(&mut self, day: Day) -> Result<(), OutOfMemory>
+        ensures { OnOk result (self.new ≡ S.takes.next self.old (date_text day)) }
+    {
+        self.buffer.clear();
+        push_date(self.alloc, &mut self.buffer, day)?;
+        self.rows.next(self.buffer.as_str())
+    }
+
+    pub(crate) fn colour(&mut self, colour: Colour) -> Result<(), OutOfMemory>
+        ensures { OnOk result (self.new ≡ S.takes.next self.old (colour_text colour)) }
+    {
+        self.buffer.clear();
+        push_colour(self.alloc, &mut self.buffer, colour)?;
+        self.rows.next(self.buffer.as_str())
+    }
+
+    pub(crate) fn optional_coord(&mut self, coord: Option<Coord>) -> Result<(), OutOfMemory>
+        ensures { OnOk result ((axis : Axis)
+            → self.new ≡ S.takes.next self.old
+            (cell_text (coordinate axis) (option_map amount coord))) }
+    {
+        match coord {
+            Some(coord) => self.coord(coord),
+            None => self.text(""),
+        }
+    }
+
+    fn coord(&mut self, coord: Coord) -> Result<(), OutOfMemory>
+        ensures { OnOk result (self.new ≡ S.takes.next self.old (coordinate_text coord)) }
+    {
+        self.buffer.clear();
+        push_coord(self.alloc, &mut self.buffer, coord)?;
+        self.rows.next(self.buffer.as_str())
+    }
+
+    pub(crate) fn flag(&mut self, flag: bool) -> Result<(), OutOfMemory>
+        ensures { OnOk result
+            (self.new ≡ S.takes.next self.old (count_text (if flag then 1 else 0))) }
+    {
+        self.number(u32::from(flag))
+    }
+}
+
+impl Fields<TableRows> {
+    // From here on the rows are those of this file.
+    pub(crate) fn go_to(&mut self, file: File)
+        ensures { self.new ≡ record self.old { file = file } }
+    {
+        self.rows.file = file;
+    }
+}
