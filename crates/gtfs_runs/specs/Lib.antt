@@ -5,3 +5,4 @@ pub mod Counts
 pub mod Periods
 pub mod Events
 pub mod Lanes
+pub mod Patterns

@@ -4,12 +4,17 @@
 //!   whichever service day. Events have an order, and a [`Seek`] is a place between them.
 //! - A [`Lane`] tells events of one service, each after the one before: a [`ListLane`] those of a list, a [`StepLane`]
 //!   those of a row of `frequencies.txt`, which it does not list.
+//! - A [`Pattern`] has the trips of a route that go in one direction along one list of stops; [`patterns`] has them all.
 //! - [`Steps`] counts how often a lane was asked.
 #![tactic(auto)]
 
+mod departure_row;
+mod departures;
 mod event;
 mod lane;
 mod list_lane;
+mod pattern;
+mod place;
 mod seek;
 mod step_lane;
 mod steps;
@@ -17,6 +22,7 @@ mod steps;
 pub use event::Event;
 pub use lane::Lane;
 pub use list_lane::ListLane;
+pub use pattern::{Pattern, patterns};
 pub use seek::Seek;
 pub use step_lane::StepLane;
 pub use steps::Steps;

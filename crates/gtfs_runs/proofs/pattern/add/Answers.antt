@@ -1,0 +1,16 @@
+use Rattle.std.proofs.Common.{refl, sym, ◌∙◌}
+use Rattle.gtfs_runs.specs.Patterns.{entry_value}
+use Rattle.gtfs_runs.proofs.Grouping.{groups-more, same-heading, told-more}
+use Rattle.gtfs_runs.proofs.pattern.add.Goals as goal
+
+pub returns-in_ok-push-3-clause-told : goal.returns-in_ok-push-3-clause-told
+returns-in_ok-push-3-clause-told c =
+    let same = same-heading _ _ (sym c.leads.ensures ∙ c.if-leads.true) in
+    told-more _ _ c.pop.new.self.items c.in-Some.last _ (entry_value c.args.trip) c.in-Some.ensures.items c.in_ok-push-3.ensures.items
+    refl c.in_ok-push-2.ensures.items same
+
+pub returns-in_ok-push-5-clause-groups : goal.returns-in_ok-push-5-clause-groups
+returns-in_ok-push-5-clause-groups c =
+    groups-more _ _ _ c.pop.new.self.items c.in-Some.last c.in_ok-first_of-2.field-0 (entry_value c.args.trip).heading
+    c.in-Some.ensures.items c.in_ok-push-4.ensures.items c.in_ok-push-5.ensures.items (sym c.leads.ensures ∙ c.if-leads.false)
+    c.in_ok-first_of-2.ensures.heading c.in_ok-first_of-2.ensures.filled

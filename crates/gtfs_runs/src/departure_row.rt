@@ -1,0 +1,39 @@
+ghost use Rattle.std.specs.Prelude.{◌≡◌, ◌<◌, ◌&&◌, AllPairs, List, length, slice_index_or};
+ghost use Rattle.gtfs_feed.specs.Trips.{left_at};
+ghost use Rattle.gtfs_rows.specs.Views.{stop_row_of, trip_of};
+ghost use Rattle.gtfs_rows.specs.declared.frequency.Frequency.{Frequency};
+ghost use Rattle.gtfs_rows.specs.declared.parts.Parts.{Parts};
+ghost use Rattle.gtfs_rows.specs.declared.stop_row.StopRow.{StopRow as StopTime};
+ghost use Rattle.gtfs_rows.specs.declared.trip.Trip.{Trip};
+ghost use Rattle.gtfs_runs.specs.Trips.{allows_boarding, is_departure_row, is_timed};
+
+use gtfs_field::Clock;
+use gtfs_rows::StopRow;
+
+// Whether riders can leave a stop at the stop time of this position among those of a trip.
+//
+// GTFS Schedule Reference, stop_times.txt.
+pub(crate) fn is_departure_row(rows: &[StopRow], position: usize) -> bool
+    requires within { position < length rows.now }
+    requires ascend { AllPairs (λ r s. r.stop_sequence < s.stop_sequence) rows.now }
+    ensures { (p : Parts) (t : Trip) (fs : List Frequency) (d : StopTime) → result
+        ≡ is_departure_row (trip_of p t rows.now fs)
+        (stop_row_of p (slice_index_or rows.now position d)) }
+{
+    position < rows.len() - 1 && lets_board(&rows[position])
+}
+
+// Whether riders can board, where the trip goes on: the stop time has a time, and its pick-up type is not 1.
+fn lets_board(row: &StopRow) -> bool
+    ensures { (p : Parts) → result
+        ≡ (is_timed (stop_row_of p row.now) && allows_boarding (stop_row_of p row.now)) }
+{
+    departure(row).is_some() && row.pickup_type.number() != 1
+}
+
+// When a vehicle leaves: its departure time, or where there is none its arrival time.
+pub(crate) fn departure(row: &StopRow) -> Option<Clock>
+    ensures { result ≡ left_at row.now }
+{
+    row.departure_time.get().or(row.arrival_time.get())
+}
