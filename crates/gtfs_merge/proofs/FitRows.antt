@@ -1,41 +1,31 @@
 -- Cells of a sound feed's rows stay inside their columns under names that fit.
-use Rattle.std.proofs.Common.{◌≡◌, ℕ, zero, suc, Bool, true, false, not, List, [], ◌∷◌, ◌++◌, Some, None, Option, refl, sym, ap, ◌∙◌, subst, inl, inr, ◌⊎◌, map, length, bytes_eq, option_map, is_some, unwrap_or, slice_get, true≢false}
-use Rattle.std.specs.Prelude.{◌&&◌, ◌||◌, ◌==◌, flat_map, All}
-use Rattle.std.specs.List.{list_any, list_all}
-use Rattle.std.specs.Ordering.{nat_cmp, int_cmp, on}
-use Rattle.std.specs.Cmp.Lexicographic.{nat_list_cmp_total}
-use Rattle.std.proofs.lemmas.Bool.{and_parts, and_from, not-false}
+use Rattle.std.proofs.Common.{◌≡◌, ℕ, Bool, true, List, [], ◌∷◌, Some, None, Option, refl, sym, ap, ◌∙◌, subst, inl, inr, map, option_map, is_some, unwrap_or, true≢false}
+use Rattle.std.specs.Prelude.{flat_map}
+use Rattle.std.specs.List.{list_all}
+use Rattle.std.proofs.lemmas.Bool.{and_parts, and_from}
 use Rattle.std.proofs.lemmas.List.Concat.{flat_map-cons}
-use Rattle.gtfs_table.specs.Folder.{text_cmp}
-use Rattle.gtfs_table.specs.declared.file.File.{File}
 use Rattle.gtfs_table.specs.declared.file.File.TheVariants as file
 use Prim.Native.String.{String as Literal}
 use Rattle.gtfs_columns.specs.Columns.{Column, columns_of, id, optional}
 use Rattle.gtfs_columns.specs.Values.{word}
-use Rattle.gtfs_rows.specs.Cells.{Cell, are_cells, is_cell, is_filled}
+use Rattle.gtfs_rows.specs.Cells.{Cell, are_cells, is_cell}
 use Rattle.gtfs_rows.specs.Content.{Content}
-use Rattle.gtfs_rows.specs.Order.{Ascends, transfer_key, transfer_key_cmp}
-use Rattle.gtfs_rows.specs.RowCells.{agency_cells, stop_cells, route_cells, trip_cells, stop_time_cells, week_cells, exception_cells, frequency_cells, transfer_cells, held_by, week_list, stop_times_of, weeks_of, exceptions_of, frequencies_of, cells_in}
-use Rattle.gtfs_rows.specs.Rows.{Agency, Stop, Route, ServiceRow, StopRow, Frequency, Trip, Transfer}
-use Rattle.gtfs_rows.specs.Sound.{IsSound, IsInOrder, has_id as has_row, if_given, is_stop_of, is_sound_agency, is_sound_stop, is_sound_route, is_sound_service, is_sound_trip, is_sound_transfer}
-use Rattle.gtfs_rows.proofs.ContentAgain.{transfer_total}
-use Rattle.gtfs_rows.proofs.SameElements.{pairs-map}
-use Rattle.gtfs_merge.specs.Law.{AreFew, IsNearness}
-use Rattle.gtfs_merge.specs.Merged.{merged, zones_differ, zone_text, agency_with, service_with, transfer_with}
-use Rattle.gtfs_merge.specs.Renaming.{Names, Nearness, Renaming, has_id, ids, renaming, names_a, names_b, stop_with, route_with, stop_row_with, trip_with}
+use Rattle.gtfs_rows.specs.RowCells.{agency_cells, stop_cells, route_cells, trip_cells, stop_time_cells, week_cells, exception_cells, frequency_cells, transfer_cells, held_by, week_list, stop_times_of, weeks_of, exceptions_of, frequencies_of}
+use Rattle.gtfs_rows.specs.Rows.{Agency, Stop, Route, ServiceRow, Trip, Transfer}
+use Rattle.gtfs_rows.specs.Sound.{IsSound, has_id as has_row, if_given, is_stop_of, is_sound_route, is_sound_trip, is_sound_transfer}
+use Rattle.gtfs_merge.specs.Merged.{agency_with, service_with, transfer_with}
+use Rattle.gtfs_merge.specs.Renaming.{Names, has_id, ids, renaming, stop_with, route_with, stop_row_with, trip_with}
 use Rattle.gtfs_merge.specs.declared.kind.Kind.{Kind}
 use Rattle.gtfs_merge.specs.declared.kind.Kind.TheVariants as kind
-use Rattle.gtfs_merge.proofs.Lookups.{In, list_any-In, list_all-In, same_bytes, bytes_same}
-use Rattle.gtfs_merge.proofs.Equal.{exact-text}
+use Rattle.gtfs_merge.proofs.Lookups.{In, list_all-In}
 use Rattle.gtfs_merge.proofs.MergedRows.{has_own, has_found}
 use Rattle.gtfs_merge.proofs.Carried.{trip_id_of, service_id_of}
 use Rattle.gtfs_merge.proofs.Stops.{stop_id_of, HasPlaces}
 use Rattle.gtfs_merge.proofs.Premises.{row-id, of_type-found, sound-places}
-use Rattle.gtfs_merge.proofs.Kept.{list_all-from, In-map, map-In, In-append, In-left, In-right, In-by_key, all-from, all-In, ascends-by_key}
+use Rattle.gtfs_merge.proofs.Kept.{list_all-from, In-map, map-In, In-append, In-left, In-right}
 use Rattle.gtfs_merge.proofs.FitCells.{fit-cells, stays}
-use Rattle.gtfs_merge.proofs.Fitting.{Fits, fit-stop, fit-route, fit-trip, fit-transfer}
-use Rattle.gtfs_merge.proofs.NewNames.{either}
-use Rattle.gtfs_merge.proofs.MergedNames.{cells-at, cell-clean, id_part, part-a, part-b, fits-a, fits-b}
+use Rattle.gtfs_merge.proofs.Fitting.{Fits}
+use Rattle.gtfs_merge.proofs.MergedNames.{cells-at, cell-clean}
 
 -- ---- what rows hold
 

@@ -110,7 +110,7 @@ In-tries base a (suc n) q i = elim i as (λ w. (m : ℕ) × In m (range_with_len
 ]
 
 -- one more number than there are ids: some number is free
-some_free : (taken : List (List ℕ)) (base : List ℕ) → length taken + 2 < limit → list_any (λ n. not (has_id taken (merged_id base n))) (range_with_len 1 (length taken + 1)) ≡ true
+pub some_free : (taken : List (List ℕ)) (base : List ℕ) → length taken + 2 < limit → list_any (λ n. not (has_id taken (merged_id base n))) (range_with_len 1 (length taken + 1)) ≡ true
 some_free taken base h =
     elim (list_any (λ n. not (has_id taken (merged_id base n))) (range_with_len 1 (length taken + 1)))
     as (λ b. list_any (λ n. not (has_id taken (merged_id base n))) (range_with_len 1 (length taken + 1)) ≡ b → b ≡ true) [

@@ -1,5 +1,6 @@
 pub mod Lookups
 pub mod Fresh
+pub mod FreeSearch
 pub mod Equal
 pub mod MergedRows
 pub mod Clean

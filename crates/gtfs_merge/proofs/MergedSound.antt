@@ -1,14 +1,12 @@
 -- The merged content of two sound feeds with one zone text is sound.
-use Rattle.std.proofs.Common.{◌≡◌, ℕ, suc, Bool, true, false, not, List, [], ◌∷◌, ◌++◌, Some, refl, sym, ap, ◌∙◌, subst, inl, inr, ◌⊎◌, map, length, bytes_eq, option_map, unwrap_or, slice_get, true≢false, ne_eqb, arith}
-use Rattle.std.specs.Prelude.{◌&&◌, ◌||◌, ◌==◌}
+use Rattle.std.proofs.Common.{◌≡◌, ℕ, suc, true, false, not, List, [], ◌∷◌, ◌++◌, Some, refl, sym, ap, ◌∙◌, subst, inl, inr, map, length, bytes_eq, option_map, unwrap_or, slice_get, true≢false, ne_eqb, arith}
+use Rattle.std.specs.Prelude.{◌==◌}
 use Rattle.std.specs.List.{list_all}
 use Rattle.std.specs.Ordering.{nat_cmp, int_cmp, on}
 use Rattle.std.specs.Cmp.Lexicographic.{nat_list_cmp_total}
 use Rattle.std.specs.declared.cmp.Ordering.TheVariants.{Less}
 use Rattle.std.proofs.lemmas.Bool.{and_parts, and_from, not-false}
-use Rattle.std.specs.List.{list_any}
 use Rattle.gtfs_table.specs.Folder.{text_cmp}
-use Rattle.gtfs_table.specs.Rows.{is_empty}
 use Rattle.gtfs_table.specs.declared.file.File.{File}
 use Rattle.gtfs_table.specs.declared.file.File.TheVariants as file
 use Rattle.gtfs_columns.specs.Columns.{columns_of}

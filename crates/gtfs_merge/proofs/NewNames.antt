@@ -1,9 +1,9 @@
 -- Ids of merged rows, and that new names are texts that a field holds.
-use Rattle.std.proofs.Common.{◌≡◌, ℕ, suc, ◌+◌, ◌<◌, ◌^◌, Bool, true, false, cond, not, List, [], ◌∷◌, ◌++◌, refl, sym, ap, ◌∙◌, subst, inl, inr, ◌⊎◌, map, length, bytes_eq, count_by, codes, true≢false, eqb-true, arith, length-append}
-use Rattle.std.specs.Prelude.{◌&&◌, ◌||◌, ◌==◌, if◌then◌else◌}
-use Rattle.std.specs.List.{list_any, list_all}
+use Rattle.std.proofs.Common.{◌≡◌, ℕ, ◌+◌, ◌<◌, ◌^◌, Bool, true, false, cond, not, List, [], ◌∷◌, ◌++◌, refl, sym, ap, ◌∙◌, subst, inl, inr, ◌⊎◌, map, length, bytes_eq, count_by, codes, length-append}
+use Rattle.std.specs.Prelude.{◌||◌, ◌==◌, if◌then◌else◌}
+use Rattle.std.specs.List.{list_all}
 use Rattle.std.specs.Cmp.Lexicographic.{nat_list_cmp_total, texts_ties}
-use Rattle.std.proofs.lemmas.Bool.{and_parts, and_from, or_cases, or_left, cases_Bool, not-true}
+use Rattle.std.proofs.lemmas.Bool.{and_parts, not-true}
 use Rattle.std.proofs.lemmas.List.Sums.{sum_by-cons}
 use Rattle.gtfs_table.specs.Blanks.{without_first_blanks}
 use Rattle.gtfs_table.specs.Folder.{text_cmp}

@@ -1,6 +1,6 @@
 -- What the laws of a merge ask of a feed follows from its soundness.
 use Rattle.std.proofs.Common.{◌≡◌, ℕ, true, false, List, [], ◌∷◌, Some, None, Option, refl, sym, ap, ◌∙◌, subst, inl, inr, map, bytes_eq, find, true≢false, eqb-true}
-use Rattle.std.specs.Prelude.{◌&&◌, ◌||◌, ◌==◌, not, if◌then◌else◌}
+use Rattle.std.specs.Prelude.{◌==◌, not, if◌then◌else◌}
 use Rattle.std.specs.List.{list_any}
 use Rattle.std.specs.Ordering.{on}
 use Rattle.std.proofs.lemmas.Bool.{and_parts, or_cases}
@@ -13,11 +13,8 @@ use Rattle.gtfs_rows.specs.Rows.{Stop, StopRow, Trip}
 use Rattle.gtfs_rows.specs.Sound.{has_id as has_row, IsSound, is_sound_trip, is_sound_stop, is_sound_in, is_sound_stop_row, is_stop_of, has_right_parent}
 use Rattle.gtfs_rows.proofs.ByKey.{by_key_is}
 use Rattle.gtfs_rows.proofs.Held.{text_antisymmetric}
-use Rattle.gtfs_rows.proofs.SameElements.{SameElements}
-use Rattle.gtfs_runs.specs.Places.{is_plain_stop}
-use Rattle.gtfs_merge.specs.declared.kind.Kind.TheVariants as kind
 use Rattle.gtfs_merge.specs.Merged.{by_id}
-use Rattle.gtfs_merge.specs.Renaming.{has_id, ids}
+use Rattle.gtfs_merge.specs.Renaming.{has_id}
 use Rattle.gtfs_merge.proofs.Lookups.{In, list_all-In, list_any-map, list_any-alike, bytes_flip, look, IsKeyed, keyed-by_id}
 use Rattle.gtfs_merge.proofs.MergedRows.{has_found, found_id}
 use Rattle.gtfs_merge.proofs.Carried.{trip_id_of, service_id_of, HasKeys, NamesServices}

@@ -10,6 +10,10 @@
 
 mod kind;
 mod law;
+mod new_ids;
+mod same_rows;
+mod same_services;
+mod same_values;
 
 pub use kind::{Kind, Side};
 pub use law::merges_keep_departures;

@@ -1,0 +1,62 @@
+ghost use Rattle.std.specs.Prelude.{◌≡◌, ◌<◌, ◌+◌, ◌^◌, ◌++◌, IfOk, length, string_bytes};
+ghost use Rattle.gtfs_merge.specs.Numbered.{known_ids};
+ghost use Rattle.gtfs_merge.specs.Renaming.{free_id, has_id, merged_id};
+
+use crate::kind::Kind;
+use gtfs_feed::Feed;
+use gtfs_field::OutOfMemory;
+use itoa::Buffer;
+use std::alloc::Global;
+
+// The new id of this number: the old one, `_merged_` and the number.
+pub(crate) fn numbered_id(alloc: Global, base: &str, number: u64) -> Result<String, OutOfMemory>
+    ensures { IfOk result (λ id. string_bytes id ≡ merged_id base.now number) }
+{
+    let mut id = String::from_str(alloc, base)?;
+    id.push_str("_merged_")?;
+    id.push_str(Buffer::new().format(number))?;
+    Ok(id)
+}
+
+// Whether a feed has this id of a kind.
+pub(crate) fn has_this_id(feed: &Feed, kind: Kind, id: &str) -> bool
+    ensures { result ≡ has_id (known_ids kind feed.now) id.now }
+{
+    match kind {
+        Kind::Agency => feed.agency(id).is_some(),
+        Kind::Stop => feed.stop(id).is_some(),
+        Kind::Route => feed.route(id).is_some(),
+        Kind::Service => feed.service(id).is_some(),
+        Kind::Trip => feed.trip(id).is_some(),
+    }
+}
+
+// The first new id that neither feed has.
+pub(crate) fn free_id(
+    alloc: Global,
+    a: &Feed,
+    b: &Feed,
+    kind: Kind,
+    base: &str,
+) -> Result<String, OutOfMemory>
+    requires { length (known_ids kind a.now ++ known_ids kind b.now) + 2 < 2 ^ 64 }
+    ensures { IfOk result (λ id. string_bytes id
+        ≡ free_id (known_ids kind a.now ++ known_ids kind b.now) base.now) }
+{
+    let mut number = 1;
+    loop {
+        let id = numbered_id(alloc, base, number)?;
+        if !is_taken(a, b, kind, id.as_str()) {
+            return Ok(id);
+        }
+        number += 1;
+    }
+}
+
+// Whether one of the feeds has this id of a kind.
+#[tactic(auto, using(crate::proofs::FreeSearch::has_both))]
+fn is_taken(a: &Feed, b: &Feed, kind: Kind, id: &str) -> bool
+    ensures { result ≡ has_id (known_ids kind a.now ++ known_ids kind b.now) id.now }
+{
+    has_this_id(a, kind, id) || has_this_id(b, kind, id)
+}
