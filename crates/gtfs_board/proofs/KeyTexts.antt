@@ -1,9 +1,8 @@
 -- The text of a key reads back, and what a text reads as.
-use Rattle.std.proofs.Common.{◌≡◌, ℕ, zero, suc, ◌+◌, ◌^◌, ◌<◌, ◌≤◌, ◌==◌, ◌&&◌, ◌||◌, not, Bool, true, false, if◌then◌else◌, List, [], ◌∷◌, ◌++◌, length, get_or, drop, Result, Ok, Err, ℤ, pos, negsuc, neg_ℤ, unsigned_abs, nat_le, ◌⊎◌, inl, inr, arith, refl, sym, ap, ◌∙◌, append_assoc, lit<}
+use Rattle.std.proofs.Common.{◌≡◌, ℕ, suc, ◌+◌, ◌^◌, ◌<◌, ◌≤◌, ◌==◌, ◌&&◌, ◌||◌, not, Bool, true, false, if◌then◌else◌, List, [], ◌∷◌, ◌++◌, length, get_or, drop, Result, Ok, Err, ℤ, pos, negsuc, neg_ℤ, unsigned_abs, nat_le, ◌⊎◌, inl, inr, arith, refl, ap, ◌∙◌, append_assoc, lit<}
 use Rattle.std.specs.Prelude.{slice_index}
 use Rattle.std.specs.Char.{is_ascii_digit}
 use Rattle.std.specs.Fmt.{decimal, signed_decimal}
-use Rattle.std.specs.List.{list_any}
 use Rattle.std.specs.Str.{all_ascii_digits}
 use Rattle.std.proofs.lemmas.Bool.{and_from, and_parts, and_right, cases_lt, or_left, or_right}
 use Rattle.std.proofs.lemmas.Bool.Decides.{nat_tests}
@@ -11,9 +10,9 @@ use Rattle.std.proofs.lemmas.Fmt.{decimal_digit, decimal_nonempty, first_decimal
 use Rattle.gtfs_field.specs.Calendar.{date_of_day}
 use Rattle.gtfs_field.specs.Canonical.{date_text}
 use Rattle.gtfs_field.specs.Digits.{is_number, number, wide}
-use Rattle.gtfs_field.specs.Kinds.{count_of, date_of, instant_of, is_minus, is_plain_number, shaped, within}
+use Rattle.gtfs_field.specs.Kinds.{date_of, instant_of, is_minus, is_plain_number, shaped, within}
 use Rattle.gtfs_field.specs.declared.fault.FieldFault.{FieldFault}
-use Rattle.gtfs_field.specs.declared.fault.FieldFault.TheVariants.{Form, Range}
+use Rattle.gtfs_field.specs.declared.fault.FieldFault.TheVariants.{Form}
 use Rattle.gtfs_field.proofs.Dates.{date_of-text}
 use Rattle.gtfs_field.proofs.Numerals.{digits-append}
 use Rattle.gtfs_field.proofs.Texts.{decimal-digits, decimal-is_number, number-decimal}

@@ -9,7 +9,7 @@ use Rattle.std.proofs.lemmas.Map.Views.{list_any-from_Contains}
 use Rattle.gtfs_rows.specs.Content.{Content}
 use Rattle.gtfs_rows.proofs.ByKey.{by_key_is}
 use Rattle.gtfs_rows.proofs.SameElements.{SameElements, contains-first, contains-later}
-use Rattle.gtfs_board.specs.Departures.{Origins, IsAscending, IsBoard, is_member}
+use Rattle.gtfs_board.specs.Departures.{Origins, IsBoard, is_member}
 use Rattle.gtfs_board.specs.Key.{Key, key_cmp}
 use Rattle.gtfs_board.proofs.KeyOrder.{key_cmp_total, key_cmp-IsAntisymmetric}
 

@@ -1,5 +1,5 @@
 -- Texts that are cut at slashes.
-use Rattle.std.proofs.Common.{◌≡◌, ◌≢◌, ℕ, zero, suc, ◌+◌, ◌-◌, ◌<◌, ◌≤◌, ◌==◌, ◌||◌, not, cond, Bool, true, false, List, [], ◌∷◌, ◌++◌, length, get_or, take, drop, arith, refl, sym, ap, ◌∙◌, length-append, zero-add, take-append-drop, ap₂, subst, lit<, Option, Some, None, MatchOption}
+use Rattle.std.proofs.Common.{◌≡◌, ◌≢◌, ℕ, zero, suc, ◌+◌, ◌-◌, ◌<◌, ◌≤◌, ◌==◌, not, cond, Bool, true, false, List, [], ◌∷◌, ◌++◌, length, get_or, take, drop, arith, refl, sym, ap, ◌∙◌, length-append, zero-add, take-append-drop, ap₂, subst, lit<, Option, Some, None, MatchOption}
 use Rattle.std.specs.Prelude.{nat_le, slice_index, count_by}
 use Rattle.std.specs.Borrow.{Bor}
 use Rattle.std.specs.Char.{is_ascii_digit}
@@ -7,11 +7,11 @@ use Rattle.std.specs.List.{list_any, before_first, after_first, before_last, aft
 use Rattle.std.specs.Str.{all_ascii_digits}
 use Rattle.std.proofs.lemmas.Bool.{and_parts, and_left, and_right, and_from, or_parts, or_from}
 use Rattle.std.proofs.lemmas.Bool.Decides.{nat_tests}
-use Rattle.std.proofs.lemmas.List.{get_or-append_right, take-append-le, drop-append-le}
+use Rattle.std.proofs.lemmas.List.{get_or-append_right}
 use Rattle.std.specs.Str.Pattern.{RFindsChar, SplitsAroundMatch}
 use Rattle.std.proofs.lemmas.Str.Pattern.{IsSplitOnceResult, split_parts, NoCharPasses-char, drop_at_char}
 use Rattle.std.proofs.lemmas.List.Sums.{sum_by-append, sum_by-cons, suffix_len_is}
-use Rattle.gtfs_board.specs.KeyTexts.{is_slash, has_key_shape, instant_part, after_instant, before_day, before_sequence, trip_part, run_part, sequence_part, day_part}
+use Rattle.gtfs_board.specs.KeyTexts.{is_slash, has_key_shape, after_instant, before_day, before_sequence}
 use Rattle.gtfs_board.specs.Parts.{LacksSlash, IsCutAtFirst, IsCutAtLast, AreTexts}
 
 -- ---- texts without slashes

@@ -1,6 +1,6 @@
 -- Texts of dates, keys, clocks and lines, computed from their definitions.
 use Rattle.std.specs.Prelude.{◌<◌, ◌++◌}
-use Rattle.std.proofs.Common.{◌≡◌, ◌∷◌, [], codes, refl, sym, ap, ◌∙◌, arith, ℕ, pos, negsuc, ◌+ℤ◌, Some, None, Ok, Err, lit<, lit≤}
+use Rattle.std.proofs.Common.{◌≡◌, [], codes, refl, sym, ap, ◌∙◌, arith, ℕ, pos, negsuc, ◌+ℤ◌, Ok, Err, lit<, lit≤}
 use Rattle.std.specs.Fmt.{digits}
 use Rattle.jiff_core.specs.Calendar.{days_from_civil, day_count, days_of_years, days_of_months}
 use Rattle.jiff_core.specs.Date.{epoch_day}

@@ -1,5 +1,4 @@
-use Rattle.std.proofs.Common.{◌∙◌, cond, ap, arith, ℕ, subst, sym}
-use Rattle.gtfs_board.specs.Page.{AreWritten}
+use Rattle.std.proofs.Common.{◌∙◌, arith}
 use Rattle.gtfs_board.proofs.Pages.{page-faults, written-more}
 use Rattle.gtfs_board.proofs.page.write_lines.Goals as goal
 
