@@ -1,6 +1,6 @@
 -- The rows of ids, as they are listed, are the ids by their numbers.
 use Rattle.std.proofs.Common.{◌≡◌, ℕ, zero, suc, ◌+◌, ◌<◌, ◌≤◌, ◌∷◌, [], List, map, length, get_or, option_map, cond, true, false, Bool, Option, Some, None, refl, sym, ap, ◌∙◌, arith, inl, inr}
-use Rattle.std.specs.Prelude.{◌&&◌, ◌||◌, bytes_eq, is_some, nat_lt, not, slice_get}
+use Rattle.std.specs.Prelude.{◌&&◌, bytes_eq, is_some, nat_lt, not, slice_get}
 use Rattle.std.specs.Cmp.Lexicographic.{nat_list_cmp_total}
 use Rattle.std.specs.FinMap as table
 use Rattle.std.specs.FinMap.{nat_cmp-IsAntisymmetric, slice_cmp-IsAntisymmetric}
@@ -9,7 +9,7 @@ use Rattle.std.specs.List.{AllByRecursion, find as find_first, list_any, positio
 use Rattle.std.specs.List.Sorted.{IsStrictlySortedBy}
 use Rattle.std.specs.Ordering.{eq_by_cmp, is_lt, on}
 use Rattle.std.specs.declared.cmp.Ordering.TheVariants.{Less}
-use Rattle.std.proofs.lemmas.Bool.{cases_Bool}
+use Rattle.std.proofs.lemmas.Bool.{cases_Bool, cases_lt}
 use Rattle.std.proofs.lemmas.Bool.Decides.{nat_tests}
 use Rattle.std.proofs.lemmas.List.{length-map}
 use Rattle.std.proofs.lemmas.Map.Text.{is_eq-slice_cmp}
@@ -19,7 +19,7 @@ use Rattle.gtfs_columns.specs.declared.id_row.IdRow.{IdRow}
 use Rattle.gtfs_columns.specs.IdNumbers.{first_rows}
 use Rattle.gtfs_columns.specs.Rows.{text_in}
 use Rattle.gtfs_columns.specs.steps.IdRows.{id_of, listed_row}
-use Rattle.gtfs_columns.specs.steps.Ids.{IdColumn, IsIdIndex, first_row_with, ids_of, number_with}
+use Rattle.gtfs_columns.specs.steps.Ids.{IdColumn, IsIdIndex, first_row_with, ids_of, number_with, rows_by_number}
 use Rattle.gtfs_columns.proofs.IdFacts.{earlier, id_and_row, paired_numbers, paired_rows, row_paired}
 use Rattle.std.proofs.lemmas.List.Quantifiers.{position-Some}
 use Rattle.std.proofs.lemmas.Option.{slice_get-get_or}
@@ -72,6 +72,16 @@ module _ (i : IdColumn) (listed : List IdRow) (index : IsIdIndex i listed) where
   listed_ids = ap table.keys as_map
       ∙ ap (map (λ e. e.0)) (table.entries-from_sorted text_cmp (map id_and_row listed) (rw (ascend listed index.ascending) tt))
       ∙ keys_listed listed
+
+  rows_listed : (rs : List IdRow) → map (λ e. e.1) (map id_and_row rs) ≡ map (λ r. r.row) rs
+  rows_listed [] = refl
+  rows_listed (r ∷ rs) = ap (λ ns. r.row ∷ ns) (rows_listed rs)
+
+  -- and their rows
+  pub listed_rows : rows_by_number i ≡ map (λ r. r.row) listed
+  listed_rows = ap table.values as_map
+      ∙ ap (map (λ e. e.1)) (table.entries-from_sorted text_cmp (map id_and_row listed) (rw (ascend listed index.ascending) tt))
+      ∙ rows_listed listed
 
 -- ---- the place of an id is its number
 
@@ -137,11 +147,23 @@ module _ (i : IdColumn) (listed : List IdRow) (index : IsIdIndex i listed) (id :
 
 -- ---- ids that are there
 
-any_placed : {X : Type 0} (p : X → Bool) (xs : List X) → list_any p xs ≡ true → position_or_len p xs < length xs
-any_placed p [] e = cc e
-any_placed p (x ∷ xs) e = elim (cases_Bool (p x)) [
-  | inl here ↦ rw here (omega arith)
-  | inr later ↦ let rest = any_placed p xs (sym (ap (λ b. b || list_any p xs) later) ∙ e) in rw later (omega (arith, rest))
+both_more : (a b : ℕ) → nat_lt (1 + a) (suc b) ≡ nat_lt a b
+both_more a b = elim (cases_lt a b) [
+  | inl below ↦
+      let later : nat_lt (1 + a) (suc b) ≡ true = grind (arith, nat_tests, below) in
+      let now : nat_lt a b ≡ true = grind (arith, nat_tests, below) in
+      later ∙ sym now
+  | inr past ↦
+      let later : nat_lt (1 + a) (suc b) ≡ false = grind (arith, nat_tests, past) in
+      let now : nat_lt a b ≡ false = grind (arith, nat_tests, past) in
+      later ∙ sym now
+]
+
+is_placed : {X : Type 0} (p : X → Bool) (xs : List X) → nat_lt (position_or_len p xs) (length xs) ≡ list_any p xs
+is_placed p [] = refl
+is_placed p (x ∷ xs) = elim (cases_Bool (p x)) [
+  | inl here ↦ (let below : nat_lt 0 (length (x ∷ xs)) ≡ true = grind (arith, nat_tests) in rw (here, below) refl)
+  | inr later ↦ rw later (both_more (position_or_len p xs) (length xs) ∙ is_placed p xs)
 ]
 
 module _ (i : IdColumn) (id : List ℕ) where
@@ -155,13 +177,20 @@ module _ (i : IdColumn) (id : List ℕ) where
   same_test : (k : List ℕ) → eq_by_cmp text_cmp id k ≡ bytes_eq k id
   same_test k = is_eq-slice_cmp id k ∙ text_turned id k
 
-  -- an id that a row has has a number
+  some_if : (b : Bool) (n : ℕ) → is_some (cond b (Some n) None) ≡ b
+  some_if true n = refl
+  some_if false n = refl
+
+  -- an id has a number where a row has it
+  pub number_known : is_some (number_with i id) ≡ is_some (first_row_with i id)
+  number_known =
+      some_if (nat_lt (position_or_len (λ k. bytes_eq k id) (ids_of i)) (length (ids_of i))) (position_or_len (λ k. bytes_eq k id) (ids_of i))
+      ∙ is_placed (λ k. bytes_eq k id) (ids_of i)
+      ∙ any_alike (λ k. bytes_eq k id) (eq_by_cmp text_cmp id) (ids_of i) (λ k. sym (same_test k))
+      ∙ key_there
+
   pub number_there : is_some (first_row_with i id) ≡ true → is_some (number_with i id) ≡ true
-  number_there there =
-      let here : list_any (λ k. bytes_eq k id) (ids_of i) ≡ true = any_alike (λ k. bytes_eq k id) (eq_by_cmp text_cmp id) (ids_of i) (λ k. sym (same_test k)) ∙ key_there ∙ there in
-      let below = any_placed (λ k. bytes_eq k id) (ids_of i) here in
-      let within : nat_lt (position_or_len (λ k. bytes_eq k id) (ids_of i)) (length (ids_of i)) ≡ true = grind (arith, nat_tests, below) in
-      ap (λ b. is_some (cond b (Some (position_or_len (λ k. bytes_eq k id) (ids_of i))) None)) within
+  number_there there = number_known ∙ there
 
   -- the number of an id is that of no other
   pub id_of_number : (n : ℕ) → number_with i id ≡ Some n → slice_get (ids_of i) n ≡ Some id

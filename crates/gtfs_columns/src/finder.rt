@@ -18,16 +18,16 @@ pub struct FoundId {
 /// Finds ids of a column that are asked for one after the other.
 ///
 /// Rows that stand together often name one row, and rows in turn; and in a large file most ids were asked for
-/// before. So before a search is made, three numbers are tried: that of the last answer, that of an id with
-/// the same last bytes that was found, and the next. What they hold is compared with the id, so that no choice of
-/// ids can make an answer wrong, or cost more than the search.
+/// before. So before a search is made, three numbers are tried: that of the last answer, that of an id of the same
+/// slot that was found, and the next. What they hold is compared with the id, so that no choice of ids can make an
+/// answer wrong, or cost more than the search.
 #[derive(Drop)]
 pub struct Finder<'a> {
     /// The ids that are searched.
     pub ids: &'a Ids<'a>,
     last: usize,
     // By slot, the number that was found for an id of this slot: none where there is no slot yet.
-    numbers: Vec<usize>,
+    numbers: Vec<u32>,
 }
 
 impl<'a> Finder<'a> {
@@ -97,13 +97,13 @@ impl<'a> Finder<'a> {
     // The number that was found for an id of this slot.
     #[inline(always)]
     fn number_of(&self, slot: usize) -> usize {
-        self.numbers.get(slot).copied().unwrap_or(0)
+        self.numbers.get(slot).copied().unwrap_or(0) as usize
     }
 
-    // The slot of an id, by its last bytes.
+    // The slot of an id, by all of its bytes.
     #[inline(always)]
     fn slot(&self, id: &str) -> usize {
-        let mixed = last_bytes(id.as_bytes()).wrapping_mul(SPREAD) >> 32;
+        let mixed = mix(id.as_bytes()) >> 32;
         mixed as usize & self.numbers.len().saturating_sub(1)
     }
 
@@ -116,11 +116,26 @@ impl<'a> Finder<'a> {
         {
             self.numbers = numbers;
         }
-        if let Some(found) = self.numbers.get_mut(slot) {
+        if let Some(found) = self.numbers.get_mut(slot)
+            && let Ok(number) = u32::try_from(number)
+        {
             *found = number;
         }
         self.last = number;
     }
+}
+
+// A number that depends on each byte: those of eight after eight, and of the last eight, which may overlap.
+#[inline(always)]
+fn mix(bytes: &[u8]) -> u64 {
+    let mut mixed = last_bytes(bytes).wrapping_mul(SPREAD);
+    let mut left = bytes;
+    while let [a, b, c, d, e, f, g, h, rest @ ..] = left {
+        let eight = u64::from_be_bytes([*a, *b, *c, *d, *e, *f, *g, *h]);
+        mixed = (mixed.rotate_left(29) ^ eight).wrapping_mul(SPREAD);
+        left = rest;
+    }
+    mixed
 }
 
 // The last eight bytes as one number, the last one lowest, where it moves the slot most. Of fewer bytes the first and

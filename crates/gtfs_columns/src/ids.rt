@@ -1,5 +1,5 @@
-ghost use Rattle.std.specs.Prelude.{◌≡◌, ◌<◌, ◌^◌, length, option_map, IfOk, IfSome, Some};
-ghost use Rattle.gtfs_columns.specs.steps.Ids.{first_row_with, number_with, ids_in, ids_of, ListsFirstRows};
+ghost use Rattle.std.specs.Prelude.{◌≡◌, ◌<◌, ◌^◌, length, option_map, slice_index_or, IfOk, IfSome, Some};
+ghost use Rattle.gtfs_columns.specs.steps.Ids.{first_row_with, number_with, ids_in, ids_of, rows_by_number, ListsFirstRows};
 
 use crate::finder::FoundId;
 use crate::id_row::IdRow;
@@ -61,6 +61,14 @@ impl<'a> Ids<'a> {
         self.rows.len()
     }
 
+    /// The first row of the id that has this number.
+    pub fn row(&self, number: usize) -> usize
+        requires { number < length (ids_of self.now) }
+        ensures { result ≡ slice_index_or (rows_by_number self.now) number 0 }
+    {
+        self.rows[number].row
+    }
+
     // The number of this id and its first row.
     pub(crate) fn find(&self, id: &str) -> Option<FoundId>
         ensures row { option_map (λ found. found.row) result ≡ first_row_with self.now id.now }
@@ -76,7 +84,7 @@ impl<'a> Ids<'a> {
     }
 
     // Eight numbers and more for each id, all of them 0: as many as a power of two.
-    pub(crate) fn numbers(&self) -> Result<Vec<usize>, OutOfMemory> {
+    pub(crate) fn numbers(&self) -> Result<Vec<u32>, OutOfMemory> {
         let mut numbers = Vec::new(self.alloc);
         let count = self.rows.len().saturating_mul(8);
         numbers.resize(count.checked_next_power_of_two().unwrap_or(0), 0)?;
@@ -84,7 +92,7 @@ impl<'a> Ids<'a> {
     }
 
     // No numbers, which take no memory.
-    pub(crate) fn no_numbers(&self) -> Vec<usize> {
+    pub(crate) fn no_numbers(&self) -> Vec<u32> {
         Vec::new(self.alloc)
     }
 

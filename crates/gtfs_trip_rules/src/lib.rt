@@ -6,6 +6,8 @@
 //! - [`report_overlaps`] judges the periods of the frequencies of a trip, and [`report_services`]
 //!   the days on which a service runs.
 //!
+//! [`RowsById`] has the rows of a file by an id that several may have.
+//!
 //! Each call adds to what was found exactly those of its problems that the dataset has.
 #![tactic(auto)]
 
@@ -15,6 +17,7 @@ mod stop_times;
 mod trips;
 
 pub use periods::report_overlaps;
+pub use services::by_id::RowsById;
 pub use services::report_services;
 pub use stop_times::report_stop_times;
 pub use trips::counts::report_counts;

@@ -8,7 +8,7 @@ ghost use Rattle.gtfs_trip_rules.specs.ServiceRows.{calendars_in};
 ghost use Rattle.gtfs_trip_rules.specs.ServiceView.{are_idle, file_of, first_of, is_reported, reported_row};
 ghost use Rattle.gtfs_columns.specs.declared.code.Code.TheVariants as code;
 
-mod by_id;
+pub(crate) mod by_id;
 mod dates;
 mod idle;
 mod source;

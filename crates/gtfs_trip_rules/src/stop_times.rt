@@ -49,7 +49,8 @@ pub fn report_stop_times<'a, 'i>(
 {
     let columns = StopTimeColumns::of(tables);
     let mut named = NamedRows::new(&*ids, types);
-    let mut notes = TripNotes::new(alloc, &ids.trips);
+    let count = tables.records(File::StopTimes);
+    let mut notes = TripNotes::with_room(alloc, &ids.trips, count)?;
     for (row, record) in tables.rows(File::StopTimes) {
         let stop_time = columns.stop_time(row, &record);
         let names = report_row(&columns, &mut named, &stop_time, found)?;

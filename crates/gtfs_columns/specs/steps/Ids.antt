@@ -1,5 +1,6 @@
 -- The ids of one column of one file, and the first row of each.
 use Rattle.std.specs.Prelude.{◌≡◌, ℕ, List, Option}
+use Rattle.std.specs.FinMap as table
 use Rattle.std.specs.List.Sorted.{IsStrictlySortedBy}
 use Rattle.std.specs.Ordering.{on}
 use Rattle.gtfs_table.specs.Folder.{text_cmp}
@@ -7,7 +8,7 @@ use Rattle.gtfs_table.specs.Tables.{Dataset}
 use Rattle.gtfs_table.specs.declared.file.File.{File}
 use Rattle.gtfs_columns.specs.declared.id_row.IdRow.{IdRow}
 use Rattle.gtfs_columns.specs.steps.IdRows.{id_of, listed_row}
-use Rattle.gtfs_columns.specs.IdNumbers.{ids_by_bytes, number_in}
+use Rattle.gtfs_columns.specs.IdNumbers.{first_rows, ids_by_bytes, number_in}
 use Rattle.gtfs_columns.specs.Rows.{row_with}
 
 -- a column of a file of a dataset
@@ -26,6 +27,10 @@ first_row_with i id = row_with i.dataset i.file i.column id
 -- the ids by their numbers
 abbrev pub ids_of : IdColumn → List (List ℕ)
 ids_of i = ids_by_bytes i.dataset i.file i.column
+
+-- the first row of each id, by their numbers
+abbrev pub rows_by_number : IdColumn → List ℕ
+rows_by_number i = table.values (first_rows i.dataset i.file i.column)
 
 -- the number of an id
 abbrev pub number_with : IdColumn → List ℕ → Option ℕ

@@ -7,9 +7,9 @@ use gtfs_table::{File, Tables};
 use std::alloc::Global;
 use std::marker::Model;
 
-// The rows of a file by their ids, those with one id in the order of the file.
+/// The rows of a file by the ids of one of its columns: those with one id stand in the order of the file.
 #[derive(Drop)]
-pub(crate) struct RowsById<'a> {
+pub struct RowsById<'a> {
     rows: Vec<(&'a str, usize)>,
 }
 
@@ -25,7 +25,11 @@ impl<'a> Model for RowsById<'a> {
 }
 
 impl<'a> RowsById<'a> {
-    pub(crate) fn new(
+    /// The rows of a file of these tables, by the ids of the column with this index. They borrow the ids from the tables.
+    ///
+    /// # Errors
+    /// `OutOfMemory` where the list of rows cannot grow, or there is no room to sort it.
+    pub fn new(
         alloc: Global,
         tables: &'a Tables,
         file: File,
@@ -39,8 +43,8 @@ impl<'a> RowsById<'a> {
         Ok(RowsById { rows })
     }
 
-    // The rows with an id: they stand in a row.
-    pub(crate) fn of(&self, id: &str) -> &[(&'a str, usize)]
+    /// The rows with an id, each beside it, in the order of the file.
+    pub fn of(&self, id: &str) -> &[(&'a str, usize)]
         ensures { map (λ r. r.1) result.now ≡ rows_of self.now id.now }
     {
         let rows = self.rows.as_slice();

@@ -1,4 +1,4 @@
-ghost use Rattle.std.specs.Prelude.{◌≡◌, ◌∷◌, ◌++◌, [], true, List, ℕ, OnOk};
+ghost use Rattle.std.specs.Prelude.{◌≡◌, ◌∷◌, ◌++◌, [], true, List, ℕ, IfOk, OnOk};
 ghost use Rattle.std.specs.List.{All};
 ghost use Rattle.gtfs_columns.specs.steps.Ids.{ids_of, number_with};
 ghost use Rattle.gtfs_table.specs.Tables.{Dataset};
@@ -62,18 +62,23 @@ impl<'a> Model for TripNotes<'a> {
 }
 
 impl<'a> TripNotes<'a> {
-    // No notes, about the trips of trips.txt and others.
-    pub(crate) fn new(alloc: Global, trips: &'a Ids<'a>) -> TripNotes<'a>
-        ensures { result ≡ record { trips = trips.now; notes = []; rows = [] } }
+    // No notes yet, and room for those of this many rows, about the trips of trips.txt and others.
+    pub(crate) fn with_room(
+        alloc: Global,
+        trips: &'a Ids<'a>,
+        rows: usize,
+    ) -> Result<TripNotes<'a>, OutOfMemory>
+        ensures { IfOk result (λ notes. notes
+            ≡ record { trips = trips.now; notes = []; rows = [] }) }
     {
-        TripNotes {
+        Ok(TripNotes {
             trips,
-            rows: Vec::new(alloc),
+            rows: Vec::with_capacity(alloc, rows)?,
             are_sequenced: true,
             names: Vec::new(alloc),
             numbers: BTreeMap::new(alloc),
             counts: Vec::new(alloc),
-        }
+        })
     }
 
     // Takes note of one more row.

@@ -16,9 +16,9 @@ pub loop-row-init : goal.loop-row-init
 loop-row-init c = record {
   named = c.new-named.ensures c.args.tables.now c.requires.ids c.requires.types;
   reported = reported_none c.args.tables.now in_rows c.args.found.now;
-  trips = ap (λ v. v.trips) c.new-notes.ensures ∙ c.requires.ids.trips;
-  notes = ap (λ v. v.notes) c.new-notes.ensures;
-  kept = subst (AllKeep c.args.tables.now) (sym (ap (λ v. v.rows) c.new-notes.ensures)) (λ k d below. absurd (omega (arith, below)));
+  trips = ap (λ v. v.trips) c.in_ok-notes.ensures ∙ c.requires.ids.trips;
+  notes = ap (λ v. v.notes) c.in_ok-notes.ensures;
+  kept = subst (AllKeep c.args.tables.now) (sym (ap (λ v. v.rows) c.in_ok-notes.ensures)) (λ k d below. absurd (omega (arith, below)));
 }
 
 pub take_note-requires : goal.take_note-requires

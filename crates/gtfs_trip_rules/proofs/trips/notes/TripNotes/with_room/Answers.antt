@@ -2,14 +2,14 @@ use Rattle.std.proofs.Common.{◌≡◌, ℕ, List, refl, None, arith}
 use Rattle.gtfs_columns.specs.steps.Ids.{ids_of}
 use Rattle.gtfs_trip_rules.specs.TripNumbers.{other_number}
 use Rattle.gtfs_trip_rules.proofs.TripNumberFacts.{first_named}
-use Rattle.gtfs_trip_rules.proofs.trips.notes.TripNotes.new.Goals as goal
+use Rattle.gtfs_trip_rules.proofs.trips.notes.TripNotes.with_room.Goals as goal
 
 pub invariant_of-result : goal.invariant_of-result
 invariant_of-result c =
-    let none : (id : List ℕ) → other_number c.new-3.result id ≡ None = λ id. rw c.new-3.ensures.empty refl in
-    rw (c.new.ensures.items, c.new-2.ensures.items, c.new-4.ensures.items) (record {
+    let none : (id : List ℕ) → other_number c.new-2.result id ≡ None = λ id. rw c.new-2.ensures.empty refl in
+    rw (c.in_ok-with_capacity.ensures.items, c.new.ensures.items, c.new-3.ensures.items) (record {
       numbered = record {
-        named = first_named (ids_of c.args.trips.now) c.new-3.result none;
+        named = first_named (ids_of c.args.trips.now) c.new-2.result none;
         numbered = λ k d below. absurd (omega (arith, below));
       };
       counted = λ n. refl;
