@@ -36,7 +36,7 @@ known_in others c x xs cells are sound column filled id is t =
     ∙ some_range (λ m. bytes_eq (text_in (written_beside others c) x m (codes column)) t) (λ r. bytes_eq (id r) t) 2 xs
     (record { at = λ k e h. ap (λ u. bytes_eq u t) (text_at' others c x xs cells are sound k e h (codes column) filled ∙ is (get_or xs k e)) })
 
-same_code : (w n : ℕ) → (w == n) ≡ int_eq (pos n) (pos w)
+pub same_code : (w n : ℕ) → (w == n) ≡ int_eq (pos n) (pos w)
 same_code w n = same_test (w == n) (int_eq (pos n) (pos w))
     (λ e. (Decides-int_eq (pos n) (pos w)).1 (ap pos (sym (eqb-true w n e))))
     (λ e. eq-eqb w n (ap unsigned_abs (sym ((Decides-int_eq (pos n) (pos w)).0 e))))

@@ -32,7 +32,7 @@ use Rattle.gtfs_rows.proofs.Views.{rows_are, value_at, word_at, amounts_at, empt
 
 -- ---- tests
 
-both_numbers : (a b : Option ℕ) → if_both (option_map pos a) (option_map pos b) int_lt ≡ if_both a b nat_lt
+pub both_numbers : (a b : Option ℕ) → if_both (option_map pos a) (option_map pos b) int_lt ≡ if_both a b nat_lt
 both_numbers None b = refl
 both_numbers (Some m) None = refl
 both_numbers (Some m) (Some n) = refl
@@ -40,7 +40,7 @@ both_numbers (Some m) (Some n) = refl
 pub contained : {X : Type 0} (p : X → Bool) (xs : List X) (x : X) → list_all p xs ≡ true → Contains xs x → p x ≡ true
 contained p xs x all at = ap p (sym at.2) ∙ all_at p xs at.0 x all at.1
 
-or_numbers : (a b : Option ℕ) → option_or (option_map pos a) (option_map pos b) ≡ option_map pos (option_or a b)
+pub or_numbers : (a b : Option ℕ) → option_or (option_map pos a) (option_map pos b) ≡ option_map pos (option_or a b)
 or_numbers None b = refl
 or_numbers (Some m) b = refl
 
@@ -52,7 +52,7 @@ clear_cell : (v : Cell) → (is_some v || is_none v) ≡ true
 clear_cell None = refl
 clear_cell (Some x) = refl
 
-if_clear : (a b : Bool) (o : Option ℤ) → a ≡ true → b ≡ true → (if a && b then o else None) ≡ o
+pub if_clear : (a b : Bool) (o : Option ℤ) → a ≡ true → b ≡ true → (if a && b then o else None) ≡ o
 if_clear a b o p q = rw (p, q) refl
 
 timed_cells : (a b : Option ℕ) → is_some (option_or b a) ≡ true → (is_none (option_map number a) && is_none (option_map number b)) ≡ false

@@ -6,7 +6,7 @@
 //!   place of an id among all ids of its kind, by bytes, from 0. A row's own id is a text in the row.
 //! - [`StopRow`] and [`Frequency`] are small and `Copy`. A time that may be missing is an [`OptionalClock`] of four bytes,
 //!   and a headsign an [`OptionalHeadsign`], a number in the feed's list of headsigns.
-//! - [`Parts`] are all rows of a feed, each list in the order of its keys.
+//! - [`Parts`] are all rows of a feed, each list in the order of its keys; [`stretch`] finds the rows of one trip.
 //!
 //! ```text
 //! let row = StopRow { stop_id: StopNo(3), arrival_time: OptionalClock::NONE, .. };
@@ -28,6 +28,7 @@ mod route;
 mod service;
 mod stop;
 mod stop_row;
+mod stretches;
 mod transfer;
 mod trip;
 
@@ -44,5 +45,6 @@ pub use route::{Route, RouteType};
 pub use service::ServiceRow;
 pub use stop::Stop;
 pub use stop_row::StopRow;
+pub use stretches::stretch;
 pub use transfer::Transfer;
 pub use trip::Trip;
