@@ -1,4 +1,7 @@
 pub mod Items
+pub mod Quotes
 pub mod TableFacts
 pub mod Taken
+pub mod TextAgain
+pub mod TextFacts
 pub mod Weeks

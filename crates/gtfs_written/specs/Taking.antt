@@ -1,5 +1,7 @@
--- How fields and rows are taken, one after the other, into a table.
-use Rattle.std.specs.Prelude.{ℕ, ◌==◌, if◌then◌else◌, List, [], ◌∷◌, length, map}
+-- How fields and rows are taken, one after the other: into a text, into the room for a text, or into a table.
+use Rattle.std.specs.Prelude.{ℕ, suc, ◌==◌, ◌-◌, ◌++◌, nat_lt, if◌then◌else◌, List, [], ◌∷◌, length, map, Option, Some, None}
+use Rattle.csv.specs.Writing.{default_writer, comma, field_text}
+use Rattle.csv.specs.Machine.{line_feed}
 use Rattle.gtfs_table.specs.Tables.{Records, Table, table_of, table_records, with_record, with_field, with_table}
 use Rattle.gtfs_table.specs.declared.file.File.{File}
 use Rattle.gtfs_columns.specs.Columns.{columns_of}
@@ -28,6 +30,29 @@ with_row t s (f ∷ fs) = t.last (with_fields t (t.first s f) fs)
 abbrev pub with_rows : {S : Type 0} → Taking S → S → Records → S
 with_rows t s [] = s
 with_rows t s (r ∷ rs) = with_rows t (with_row t s r) rs
+
+-- ---- into a text: a comma before each further field, and a line feed after each row (RFC 4180, section 2)
+
+abbrev pub into_text : Taking (List ℕ)
+into_text = record {
+  first = λ t f. t ++ field_text default_writer f;
+  next = λ t f. t ++ comma ∷ field_text default_writer f;
+  last = λ t. t ++ line_feed ∷ [];
+}
+
+-- ---- into the room for a text: what such a text leaves of it
+
+-- what this many bytes leave of a room, and none where they do not fit
+abbrev pub room_after : Option ℕ → ℕ → Option ℕ
+room_after None n = None
+room_after (Some room) n = if nat_lt room n then None else Some (room - n)
+
+abbrev pub into_room : Taking (Option ℕ)
+into_room = record {
+  first = λ s f. room_after s (length (field_text default_writer f));
+  next = λ s f. room_after s (suc (length (field_text default_writer f)));
+  last = λ s. room_after s 1;
+}
 
 -- ---- into the table of a file
 

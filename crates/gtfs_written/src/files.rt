@@ -71,7 +71,11 @@ fn write_table(parts: &Parts, file: File, rows: &mut Fields<TableRows>) -> Resul
 }
 
 // The header of a file and its rows.
-fn write_file<S: Sink>(parts: &Parts, file: File, rows: &mut Fields<S>) -> Result<(), OutOfMemory>
+pub(crate) fn write_file<S: Sink>(
+    parts: &Parts,
+    file: File,
+    rows: &mut Fields<S>,
+) -> Result<(), OutOfMemory>
     requires { IsSoundParts parts.now }
     ensures { OnOk result (rows.new ≡ with_rows S.takes rows.old
         (records_of_cells file (cells_in (content_of_parts parts.now) file))) }

@@ -8,9 +8,8 @@ ghost use Rattle.gtfs_written.specs.Taking.{rows_in, with_row, with_rows};
 
 use crate::fields::Fields;
 use crate::sink::Sink;
-use crate::stretch::stretch;
 use gtfs_field::OutOfMemory;
-use gtfs_rows::{Frequency, Parts};
+use gtfs_rows::{Frequency, Parts, stretch};
 
 // The rows of frequencies.txt, trip after trip.
 pub(crate) fn write_frequencies<S: Sink>(

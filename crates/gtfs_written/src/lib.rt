@@ -1,33 +1,42 @@
 //! The written form of a feed: the nine files of a GTFS Schedule dataset, each with the header of its kept columns and a
 //! row for each row of the feed, its values as canonical texts.
 //!
-//! [`tables`] are all nine files as tables. The text of a file is what
-//! [`Tables::write`](gtfs_table::Tables::write) gives of its table.
+//! - [`tables`] are all nine files as tables.
+//! - [`file_text`] is the text of one, made without a table: what [`Tables::write`](gtfs_table::Tables::write) gives of
+//!   its table.
+//! - [`has_longer_file`] tells whether the text of some file is longer than a limit, and makes none.
 //!
 //! ```text
-//! let tables = tables(alloc, &parts)?;
-//! let text = tables.write(alloc, File::Stops)?;
+//! for file in &File::ALL {
+//!     let text = file_text(alloc, &parts, *file)?;
+//!     folders.write(alloc, dir, file.name(), text.as_bytes())?;
+//! }
 //! ```
 //!
 //! What the written form of a content is stands in `specs/Written.antt` of `gtfs_rows`, and what is promised of it in
-//! `specs/WrittenForm.antt` there. `specs/Taking.antt` says how rows are taken, field by field, into a table.
+//! `specs/WrittenForm.antt` there. `specs/Taking.antt` says how rows are taken, field by field, into a table or a
+//! text.
 #![tactic(auto)]
 
 mod agencies;
 mod calendar;
 mod calendar_dates;
 mod fields;
+mod file_texts;
 mod files;
 mod frequencies;
 mod headers;
 mod names;
+mod quoting;
+mod room_rows;
 mod routes;
 mod sink;
 mod stop_times;
 mod stops;
-mod stretch;
 mod table_rows;
+mod text_rows;
 mod transfers;
 mod trips;
 
+pub use file_texts::{file_text, has_longer_file};
 pub use files::tables;

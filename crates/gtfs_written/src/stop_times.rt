@@ -10,9 +10,8 @@ ghost use Rattle.gtfs_written.specs.Taking.{rows_in, with_row, with_rows};
 use crate::fields::Fields;
 use crate::names::{headsign_if_any, stop_id};
 use crate::sink::Sink;
-use crate::stretch::stretch;
 use gtfs_field::OutOfMemory;
-use gtfs_rows::{Parts, StopRow, Timepoint};
+use gtfs_rows::{Parts, StopRow, Timepoint, stretch};
 
 // The rows of stop_times.txt, trip after trip.
 pub(crate) fn write_stop_times<S: Sink>(
