@@ -1,0 +1,14 @@
+mod ByIds
+mod CalendarFacts
+mod Cuts
+mod Fields
+mod FrequencyFacts
+mod IdTexts
+mod PlainTexts
+mod ReferenceFacts
+mod RowKeys
+mod RowsAlike
+mod ServiceFacts
+mod SortedKeys
+mod StopTimesAdded
+mod TransferFacts

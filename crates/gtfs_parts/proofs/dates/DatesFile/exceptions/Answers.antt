@@ -1,0 +1,9 @@
+use Rattle.std.proofs.Common.{◌∙◌, []}
+use Rattle.gtfs_columns.specs.Calendars.{exception_in}
+use Rattle.gtfs_parts.proofs.Fields.{read_next}
+use Rattle.gtfs_parts.proofs.dates.DatesFile.exceptions.Goals as goal
+
+pub loop-row-preserved : goal.loop-row-preserved
+loop-row-preserved c = c.in_ok-push.ensures.items
+    ∙ read_next (exception_in c.args.self.now) c.args.rows.now c.loop-row.row-index c.loop-row.exceptions.items _ (record { ref_ptr = (0, 0); now = [] }, 0) c.loop-row-test.true
+    c.loop-row.invariant c.exception.ensures

@@ -1,0 +1,10 @@
+use Rattle.std.proofs.Common.{◌≡◌, ◌++◌, ◌+◌, ◌≤◌, length, string_bytes, string_len}
+use Rattle.std.specs.String.{string_capacity}
+use Rattle.gtfs_columns.specs.Values.{plain}
+use Rattle.gtfs_parts.proofs.texts.push_plain.Given as goal
+
+abbrev pub invariant-loop-character : goal.invariant-loop-character
+invariant-loop-character l = record {
+  grown : string_bytes l.shown ++ plain l.character-iterator.rest.now ≡ string_bytes l.initial.shown ++ plain l.text;
+  room : string_len l.shown + length l.character-iterator.rest.now ≤ string_capacity l.shown;
+}

@@ -1,0 +1,15 @@
+pub mod AgencyColumns
+pub mod CalendarColumns
+pub mod CalendarRows
+pub mod Cuts
+pub mod DateColumns
+pub mod FeedRows
+pub mod FrequencyColumns
+pub mod Named
+pub mod Numbers
+pub mod RouteColumns
+pub mod ServiceIds
+pub mod StopColumns
+pub mod TransferColumns
+pub mod TransferEnds
+pub mod TripColumns

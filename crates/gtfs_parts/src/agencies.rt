@@ -1,0 +1,94 @@
+//! The rows of agency.txt (GTFS Schedule Reference, `agency.txt`).
+
+ghost use Rattle.std.specs.Prelude.{◌≡◌, IfOk, codes, map};
+ghost use Rattle.gtfs_columns.specs.Problems.{Passes};
+ghost use Rattle.gtfs_columns.specs.steps.Ids.{ids_in};
+ghost use Rattle.gtfs_rows.specs.Reading.{agency_in, content_of};
+ghost use Rattle.gtfs_rows.specs.Views.{agency_of};
+ghost use Rattle.gtfs_table.specs.declared.file.File.TheVariants as file;
+
+use crate::texts::{id, optional_text, text};
+use gtfs_columns::Ids;
+use gtfs_field::{List, OutOfMemory};
+use gtfs_rows::Agency;
+use gtfs_table::{File, Tables};
+use std::alloc::Global;
+use std::marker::Model;
+
+// The agencies by their ids.
+pub(crate) fn agencies(
+    alloc: Global,
+    tables: &Tables,
+    ids: &Ids<'_>,
+) -> Result<List<Agency>, OutOfMemory>
+    requires passes { Passes tables.now }
+    requires ids { ids.now ≡ ids_in tables.now file.Agency (codes "agency_id") }
+    ensures { IfOk result (λ rows. map agency_of rows ≡ (content_of tables.now).agencies) }
+{
+    let file = AgencyFile::new(tables);
+    let mut agencies = Vec::with_capacity(alloc, ids.len())?;
+    for number in 0..ids.len() {
+        agencies.push(file.agency(alloc, ids.row(number))?)?;
+    }
+    Ok(List::new(agencies))
+}
+
+// agency.txt with its columns found.
+#[derive(Drop)]
+struct AgencyFile<'a> {
+    tables: &'a Tables,
+    agency_id: Option<usize>,
+    agency_name: Option<usize>,
+    agency_url: Option<usize>,
+    agency_timezone: Option<usize>,
+    agency_lang: Option<usize>,
+    agency_phone: Option<usize>,
+    agency_fare_url: Option<usize>,
+    agency_email: Option<usize>,
+}
+
+impl<'a> Model for AgencyFile<'a> {
+    ghost use Rattle.gtfs_table.specs.Tables.{Dataset};
+    ghost use Rattle.gtfs_parts.specs.AgencyColumns.{AreAgencyColumns};
+
+    ghost Value = { Dataset };
+
+    ghost view = { λ f. f.tables.now };
+
+    ghost invariant = { AreAgencyColumns };
+}
+
+impl<'a> AgencyFile<'a> {
+    fn new(tables: &'a Tables) -> AgencyFile<'a>
+        ensures { result ≡ tables.now }
+    {
+        AgencyFile {
+            tables,
+            agency_id: tables.column(File::Agency, "agency_id"),
+            agency_name: tables.column(File::Agency, "agency_name"),
+            agency_url: tables.column(File::Agency, "agency_url"),
+            agency_timezone: tables.column(File::Agency, "agency_timezone"),
+            agency_lang: tables.column(File::Agency, "agency_lang"),
+            agency_phone: tables.column(File::Agency, "agency_phone"),
+            agency_fare_url: tables.column(File::Agency, "agency_fare_url"),
+            agency_email: tables.column(File::Agency, "agency_email"),
+        }
+    }
+
+    // The agency of a row.
+    fn agency(&self, alloc: Global, row: usize) -> Result<Agency, OutOfMemory>
+        ensures { IfOk result (λ a. agency_of a ≡ agency_in self.now row) }
+    {
+        let record = self.tables.record(File::Agency, row);
+        Ok(Agency {
+            agency_id: id(alloc, record.value(self.agency_id))?,
+            agency_name: text(alloc, record.value(self.agency_name))?,
+            agency_url: text(alloc, record.value(self.agency_url))?,
+            agency_timezone: id(alloc, record.value(self.agency_timezone))?,
+            agency_lang: optional_text(alloc, record.value(self.agency_lang))?,
+            agency_phone: optional_text(alloc, record.value(self.agency_phone))?,
+            agency_fare_url: optional_text(alloc, record.value(self.agency_fare_url))?,
+            agency_email: optional_text(alloc, record.value(self.agency_email))?,
+        })
+    }
+}

@@ -1,0 +1,39 @@
+//! Reads the typed rows of a feed out of tables that passed the validator.
+//!
+//! [`FeedRows::new`] reads all rows but the stop times of a [`Passed`](gtfs_rules::Passed), and
+//! [`FeedRows::with_stop_times`] makes [`Parts`](gtfs_rows::Parts) of them and the stop times.
+//!
+//! ```text
+//! let rows = FeedRows::new(alloc, &passed)?;
+//! let parts = rows.with_stop_times(stop_rows, stop_row_starts, headsigns);
+//! ```
+//!
+//! Each list stands in the order of its keys: ids by their bytes, transfers by the six parts of their keys, frequencies
+//! by trip and start. An id is looked up once and is its number in that order from then on; no row is looked for in a
+//! list from its beginning.
+//!
+//! Each file has a module, with its columns found once: `agencies`, `stops`, `routes`, `trips`, `transfers`,
+//! `frequencies`, and `calendar` and `dates`, of which `services` are made. `service_ids` has the ids of services, which
+//! come of two files. `texts`, `numbers`, `choices` and `references` read a field.
+//!
+//! What the rows are is said in `gtfs_rows`: `specs/Reading.antt` there has the content of a dataset. `specs/FeedRows.antt`
+//! here says that the lists are that content, and `specs/Named.antt` what a row with numbers stands for.
+#![tactic(auto)]
+
+mod agencies;
+mod calendar;
+mod choices;
+mod dates;
+mod feed_rows;
+mod frequencies;
+mod numbers;
+mod references;
+mod routes;
+mod service_ids;
+mod services;
+mod stops;
+mod texts;
+mod transfers;
+mod trips;
+
+pub use feed_rows::FeedRows;

@@ -1,0 +1,123 @@
+//! The rows of routes.txt (GTFS Schedule Reference, `routes.txt`).
+
+ghost use Rattle.std.specs.Prelude.{◌≡◌, IfOk, codes, map, true};
+ghost use Rattle.gtfs_columns.specs.Problems.{Passes};
+ghost use Rattle.gtfs_columns.specs.steps.Ids.{ids_in};
+ghost use Rattle.gtfs_parts.specs.Named.{ids_of, names_agency, route_named};
+ghost use Rattle.std.specs.List.{list_all};
+ghost use Rattle.gtfs_rows.specs.Reading.{content_of, route_in};
+ghost use Rattle.gtfs_table.specs.Rows.{is_row, records_in};
+ghost use Rattle.gtfs_table.specs.declared.file.File.TheVariants as file;
+
+use crate::choices::route_type;
+use crate::numbers::{colour, optional_count};
+use crate::references::number;
+use crate::texts::{id, optional_text};
+use gtfs_columns::{Finder, Ids};
+use gtfs_field::{List, OutOfMemory};
+use gtfs_rows::{AgencyNo, Route};
+use gtfs_table::{File, Tables};
+use std::alloc::Global;
+use std::marker::Model;
+
+// The routes by their ids.
+pub(crate) fn routes(
+    alloc: Global,
+    tables: &Tables,
+    agencies: &Ids<'_>,
+    ids: &Ids<'_>,
+) -> Result<List<Route>, OutOfMemory>
+    requires passes { Passes tables.now }
+    requires agencies { agencies.now ≡ ids_in tables.now file.Agency (codes "agency_id") }
+    requires ids { ids.now ≡ ids_in tables.now file.Routes (codes "route_id") }
+    ensures rows { IfOk result (λ rows. map (route_named (ids_of tables.now file.Agency "agency_id")) rows
+        ≡ (content_of tables.now).routes) }
+    ensures numbers { IfOk result (λ rows.
+        list_all (names_agency (ids_of tables.now file.Agency "agency_id")) rows ≡ true) }
+{
+    let file = RouteFile::new(tables);
+    let mut agencies = Finder::new(agencies);
+    let mut routes = Vec::with_capacity(alloc, ids.len())?;
+    for number in 0..ids.len() {
+        routes.push(file.route(alloc, ids.row(number), &mut agencies)?)?;
+    }
+    Ok(List::new(routes))
+}
+
+// routes.txt with its columns found.
+#[derive(Drop)]
+struct RouteFile<'a> {
+    tables: &'a Tables,
+    route_id: Option<usize>,
+    agency_id: Option<usize>,
+    route_short_name: Option<usize>,
+    route_long_name: Option<usize>,
+    route_desc: Option<usize>,
+    route_type: Option<usize>,
+    route_url: Option<usize>,
+    route_color: Option<usize>,
+    route_text_color: Option<usize>,
+    route_sort_order: Option<usize>,
+}
+
+impl<'a> Model for RouteFile<'a> {
+    ghost use Rattle.gtfs_table.specs.Tables.{Dataset};
+    ghost use Rattle.gtfs_parts.specs.RouteColumns.{AreRouteColumns};
+
+    ghost Value = { Dataset };
+
+    ghost view = { λ f. f.tables.now };
+
+    ghost invariant = { AreRouteColumns };
+}
+
+impl<'a> RouteFile<'a> {
+    fn new(tables: &'a Tables) -> RouteFile<'a>
+        ensures { result ≡ tables.now }
+    {
+        RouteFile {
+            tables,
+            route_id: tables.column(File::Routes, "route_id"),
+            agency_id: tables.column(File::Routes, "agency_id"),
+            route_short_name: tables.column(File::Routes, "route_short_name"),
+            route_long_name: tables.column(File::Routes, "route_long_name"),
+            route_desc: tables.column(File::Routes, "route_desc"),
+            route_type: tables.column(File::Routes, "route_type"),
+            route_url: tables.column(File::Routes, "route_url"),
+            route_color: tables.column(File::Routes, "route_color"),
+            route_text_color: tables.column(File::Routes, "route_text_color"),
+            route_sort_order: tables.column(File::Routes, "route_sort_order"),
+        }
+    }
+
+    // The route of a row. Where it names no agency its agency is the first one, which is then the only one.
+    fn route(
+        &self,
+        alloc: Global,
+        row: usize,
+        agencies: &mut Finder<'_>,
+    ) -> Result<Route, OutOfMemory>
+        requires passes { Passes self.now }
+        requires row { is_row (records_in self.now file.Routes) row ≡ true }
+        requires agencies { agencies.old.ids.now ≡ ids_in self.now file.Agency (codes "agency_id") }
+        ensures value { IfOk result (λ r. route_named (ids_of self.now file.Agency "agency_id") r ≡ route_in self.now row) }
+        ensures number { IfOk result (λ r.
+            names_agency (ids_of self.now file.Agency "agency_id") r ≡ true) }
+        ensures same { agencies.new.ids.now ≡ agencies.old.ids.now }
+    {
+        let record = self.tables.record(File::Routes, row);
+        let agency = number(agencies, record.value(self.agency_id));
+        Ok(Route {
+            route_id: id(alloc, record.value(self.route_id))?,
+            agency_id: AgencyNo(agency),
+            route_short_name: optional_text(alloc, record.value(self.route_short_name))?,
+            route_long_name: optional_text(alloc, record.value(self.route_long_name))?,
+            route_desc: optional_text(alloc, record.value(self.route_desc))?,
+            route_type: route_type(record.value(self.route_type)),
+            route_url: optional_text(alloc, record.value(self.route_url))?,
+            route_color: colour("FFFFFF", record.value(self.route_color)),
+            route_text_color: colour("000000", record.value(self.route_text_color)),
+            route_sort_order: optional_count(record.value(self.route_sort_order)),
+        })
+    }
+}

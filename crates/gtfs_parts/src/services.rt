@@ -1,0 +1,105 @@
+//! The services, with their rows of calendar.txt and calendar_dates.txt (GTFS Schedule Reference, both files).
+
+ghost use Rattle.std.specs.Prelude.{◌≡◌, IfOk, map, option_map};
+ghost use Rattle.gtfs_columns.specs.Calendars.{first_service_row, week_in};
+ghost use Rattle.gtfs_columns.specs.Problems.{Passes};
+ghost use Rattle.gtfs_days.specs.Service.{IsOrdered};
+ghost use Rattle.gtfs_parts.specs.ServiceIds.{service_ids};
+ghost use Rattle.gtfs_rows.specs.Reading.{content_of, service_row_in};
+ghost use Rattle.gtfs_rows.specs.Views.{service_of};
+ghost use Rattle.gtfs_table.specs.declared.file.File.TheVariants as file;
+
+use crate::calendar::CalendarFile;
+use crate::dates::DatesFile;
+use crate::service_ids::ServiceIds;
+use crate::texts::own;
+use gtfs_days::{Service, Week};
+use gtfs_field::{List, OutOfMemory};
+use gtfs_rows::ServiceRow;
+use gtfs_table::{File, Tables};
+use gtfs_trip_rules::RowsById;
+use std::alloc::Global;
+use std::marker::Model;
+
+// The services by their ids.
+pub(crate) fn services(
+    alloc: Global,
+    tables: &Tables,
+    ids: &ServiceIds<'_>,
+) -> Result<List<ServiceRow>, OutOfMemory>
+    requires passes { Passes tables.now }
+    requires ids { ids.now ≡ service_ids tables.now }
+    ensures { IfOk result (λ rows. map service_of rows ≡ (content_of tables.now).services) }
+{
+    let calendars = Calendars::new(alloc, tables)?;
+    let mut services = Vec::with_capacity(alloc, ids.len())?;
+    for number in 0..ids.len() {
+        services.push(calendars.service(alloc, ids.id(number))?)?;
+    }
+    Ok(List::new(services))
+}
+
+// Both calendar files with their rows by service.
+#[derive(Drop)]
+struct Calendars<'a> {
+    calendar: CalendarFile<'a>,
+    dates: DatesFile<'a>,
+    week_rows: RowsById<'a>,
+    date_rows: RowsById<'a>,
+}
+
+impl<'a> Model for Calendars<'a> {
+    ghost use Rattle.gtfs_table.specs.Tables.{Dataset};
+    ghost use Rattle.gtfs_parts.specs.CalendarRows.{AreCalendars};
+
+    ghost Value = { Dataset };
+
+    ghost view = { λ c. c.calendar };
+
+    ghost invariant = { AreCalendars };
+}
+
+impl<'a> Calendars<'a> {
+    fn new(alloc: Global, tables: &'a Tables) -> Result<Calendars<'a>, OutOfMemory>
+        ensures { IfOk result (λ calendars. calendars ≡ tables.now) }
+    {
+        let week_id = tables.column(File::Calendar, "service_id");
+        let date_id = tables.column(File::CalendarDates, "service_id");
+        let week_rows = RowsById::new(alloc, tables, File::Calendar, week_id)?;
+        let date_rows = RowsById::new(alloc, tables, File::CalendarDates, date_id)?;
+        let calendar = CalendarFile::new(tables);
+        let dates = DatesFile::new(tables);
+        Ok(Calendars {
+            calendar,
+            dates,
+            week_rows,
+            date_rows,
+        })
+    }
+
+    // The service of an id: its calendar row, if any, and its exceptions.
+    fn service(&self, alloc: Global, id: &str) -> Result<ServiceRow, OutOfMemory>
+        requires { Passes self.now }
+        ensures { IfOk result (λ s. service_of s ≡ service_row_in self.now id.now) }
+    {
+        let week = self.week(id);
+        let exceptions = self.dates.exceptions(alloc, self.date_rows.of(id))?;
+        Ok(ServiceRow {
+            service_id: own(alloc, id)?,
+            service: Service::new(alloc, week, &exceptions)?,
+        })
+    }
+
+    // The calendar row of a service.
+    fn week(&self, id: &str) -> Option<Week>
+        requires { Passes self.now }
+        ensures value { result
+            ≡ option_map (week_in self.now) (first_service_row self.now file.Calendar id.now) }
+        ensures ordered { IsOrdered result }
+    {
+        match self.week_rows.of(id) {
+            [] => None,
+            [first, ..] => Some(self.calendar.week(first.1)),
+        }
+    }
+}

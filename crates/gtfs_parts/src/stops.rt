@@ -1,0 +1,121 @@
+//! The rows of stops.txt (GTFS Schedule Reference, `stops.txt`).
+
+ghost use Rattle.std.specs.Prelude.{◌≡◌, IfOk, codes, map, true};
+ghost use Rattle.gtfs_columns.specs.Problems.{Passes};
+ghost use Rattle.gtfs_columns.specs.steps.Ids.{ids_in};
+ghost use Rattle.gtfs_parts.specs.Named.{ids_of, names_parent, stop_named};
+ghost use Rattle.std.specs.List.{list_all};
+ghost use Rattle.gtfs_rows.specs.Reading.{content_of, stop_in};
+ghost use Rattle.gtfs_table.specs.Rows.{is_row, records_in};
+ghost use Rattle.gtfs_table.specs.declared.file.File.TheVariants as file;
+
+use crate::choices::{location_type, wheelchair_boarding};
+use crate::references::stop_number;
+use crate::texts::{id, optional_text};
+use gtfs_columns::{Finder, Ids, values};
+use gtfs_field::{Axis, List, OutOfMemory};
+use gtfs_rows::Stop;
+use gtfs_table::{File, Tables};
+use std::alloc::Global;
+use std::marker::Model;
+
+// The stops by their ids.
+pub(crate) fn stops(
+    alloc: Global,
+    tables: &Tables,
+    ids: &Ids<'_>,
+) -> Result<List<Stop>, OutOfMemory>
+    requires passes { Passes tables.now }
+    requires ids { ids.now ≡ ids_in tables.now file.Stops (codes "stop_id") }
+    ensures rows { IfOk result (λ rows. map (stop_named (ids_of tables.now file.Stops "stop_id")) rows
+        ≡ (content_of tables.now).stops) }
+    ensures numbers { IfOk result (λ rows.
+        list_all (names_parent (ids_of tables.now file.Stops "stop_id")) rows ≡ true) }
+{
+    let file = StopFile::new(tables);
+    let mut finder = Finder::new(ids);
+    let mut stops = Vec::with_capacity(alloc, ids.len())?;
+    for number in 0..ids.len() {
+        stops.push(file.stop(alloc, ids.row(number), &mut finder)?)?;
+    }
+    Ok(List::new(stops))
+}
+
+// stops.txt with its columns found.
+#[derive(Drop)]
+struct StopFile<'a> {
+    tables: &'a Tables,
+    stop_id: Option<usize>,
+    stop_code: Option<usize>,
+    stop_name: Option<usize>,
+    tts_stop_name: Option<usize>,
+    stop_desc: Option<usize>,
+    stop_lat: Option<usize>,
+    stop_lon: Option<usize>,
+    stop_url: Option<usize>,
+    location_type: Option<usize>,
+    parent_station: Option<usize>,
+    wheelchair_boarding: Option<usize>,
+    platform_code: Option<usize>,
+}
+
+impl<'a> Model for StopFile<'a> {
+    ghost use Rattle.gtfs_table.specs.Tables.{Dataset};
+    ghost use Rattle.gtfs_parts.specs.StopColumns.{AreStopColumns};
+
+    ghost Value = { Dataset };
+
+    ghost view = { λ f. f.tables.now };
+
+    ghost invariant = { AreStopColumns };
+}
+
+impl<'a> StopFile<'a> {
+    fn new(tables: &'a Tables) -> StopFile<'a>
+        ensures { result ≡ tables.now }
+    {
+        StopFile {
+            tables,
+            stop_id: tables.column(File::Stops, "stop_id"),
+            stop_code: tables.column(File::Stops, "stop_code"),
+            stop_name: tables.column(File::Stops, "stop_name"),
+            tts_stop_name: tables.column(File::Stops, "tts_stop_name"),
+            stop_desc: tables.column(File::Stops, "stop_desc"),
+            stop_lat: tables.column(File::Stops, "stop_lat"),
+            stop_lon: tables.column(File::Stops, "stop_lon"),
+            stop_url: tables.column(File::Stops, "stop_url"),
+            location_type: tables.column(File::Stops, "location_type"),
+            parent_station: tables.column(File::Stops, "parent_station"),
+            wheelchair_boarding: tables.column(File::Stops, "wheelchair_boarding"),
+            platform_code: tables.column(File::Stops, "platform_code"),
+        }
+    }
+
+    // The stop of a row. Its parent is looked up among all stops.
+    fn stop(&self, alloc: Global, row: usize, stops: &mut Finder<'_>) -> Result<Stop, OutOfMemory>
+        requires passes { Passes self.now }
+        requires row { is_row (records_in self.now file.Stops) row ≡ true }
+        requires stops { stops.old.ids.now ≡ ids_in self.now file.Stops (codes "stop_id") }
+        ensures value { IfOk result (λ s. stop_named (ids_of self.now file.Stops "stop_id") s ≡ stop_in self.now row) }
+        ensures number { IfOk result (λ s.
+            names_parent (ids_of self.now file.Stops "stop_id") s ≡ true) }
+        ensures same { stops.new.ids.now ≡ stops.old.ids.now }
+    {
+        let record = self.tables.record(File::Stops, row);
+        let parent_station = stop_number(stops, record.value(self.parent_station));
+        Ok(Stop {
+            stop_id: id(alloc, record.value(self.stop_id))?,
+            stop_code: optional_text(alloc, record.value(self.stop_code))?,
+            stop_name: optional_text(alloc, record.value(self.stop_name))?,
+            tts_stop_name: optional_text(alloc, record.value(self.tts_stop_name))?,
+            stop_desc: optional_text(alloc, record.value(self.stop_desc))?,
+            stop_lat: values::coordinate(Axis::Latitude, record.value(self.stop_lat)),
+            stop_lon: values::coordinate(Axis::Longitude, record.value(self.stop_lon)),
+            stop_url: optional_text(alloc, record.value(self.stop_url))?,
+            location_type: location_type(record.value(self.location_type)),
+            parent_station,
+            wheelchair_boarding: wheelchair_boarding(record.value(self.wheelchair_boarding)),
+            platform_code: optional_text(alloc, record.value(self.platform_code))?,
+        })
+    }
+}

@@ -1,0 +1,76 @@
+//! Ids and texts of a row as its fields keep them.
+
+ghost use Rattle.std.specs.Prelude.{◌≡◌, ◌++◌, ◌≤◌, ◌+◌, [], if◌then◌else◌, length, string_bytes, string_len, unwrap_or, IfOk};
+ghost use Rattle.std.specs.String.{string_capacity};
+ghost use Rattle.gtfs_columns.specs.Columns as kind;
+ghost use Rattle.gtfs_columns.specs.Reads.{word_of};
+ghost use Rattle.gtfs_columns.specs.Values.{plain};
+ghost use Rattle.gtfs_table.specs.Blanks.{is_control};
+
+use gtfs_columns::{has_control, values};
+use gtfs_field::{OutOfMemory, Text};
+use std::alloc::Global;
+
+// An id, or the empty text where there is none.
+pub(crate) fn id(alloc: Global, text: &str) -> Result<Text, OutOfMemory>
+    ensures { IfOk result (λ t. t ≡ unwrap_or (word_of kind.id text.now) []) }
+{
+    own(alloc, values::id(text).unwrap_or(""))
+}
+
+// A text, a space in the place of each control character; the empty text where there is none.
+pub(crate) fn text(alloc: Global, text: &str) -> Result<Text, OutOfMemory>
+    ensures { IfOk result (λ t. t ≡ unwrap_or (word_of kind.text text.now) []) }
+{
+    plain(alloc, text)
+}
+
+// A text, a space in the place of each control character, or none.
+pub(crate) fn optional_text(alloc: Global, text: &str) -> Result<Option<Text>, OutOfMemory>
+    ensures { IfOk result (λ t. t ≡ word_of kind.text text.now) }
+{
+    if text.is_empty() {
+        return Ok(None);
+    }
+    Ok(Some(plain(alloc, text)?))
+}
+
+// The text as it stands.
+pub(crate) fn own(alloc: Global, text: &str) -> Result<Text, OutOfMemory>
+    ensures { IfOk result (λ t. t ≡ text.now) }
+{
+    Ok(Text::new(String::from_str(alloc, text)?))
+}
+
+// The text with a space in the place of each control character.
+fn plain(alloc: Global, text: &str) -> Result<Text, OutOfMemory>
+    ensures { IfOk result (λ t. t ≡ plain text.now) }
+{
+    if !has_control(text) {
+        return own(alloc, text);
+    }
+    let mut shown = String::with_capacity(alloc, text.len())?;
+    push_plain(&mut shown, text);
+    Ok(Text::new(shown))
+}
+
+// Appends a text with a space in the place of each control character.
+fn push_plain(shown: &mut String, text: &str)
+    requires { string_len shown.old + length text.now ≤ string_capacity shown.old }
+    ensures { string_bytes shown.new ≡ string_bytes shown.old ++ plain text.now }
+{
+    for character in text.chars() {
+        shown.push(plain_character(character)).unwrap();
+    }
+}
+
+// A space for a control character, and any other as it is.
+fn plain_character(character: char) -> char
+    ensures { result ≡ (if is_control character then 32 else character) }
+{
+    if character.is_ascii_control() {
+        ' '
+    } else {
+        character
+    }
+}

@@ -1,0 +1,11 @@
+pub mod Blank
+pub mod ContentIds
+pub mod Gathers
+pub mod HeadsignFacts
+pub mod Keyed
+pub mod OfParts
+pub mod PlainTexts
+pub mod RowSays
+pub mod Starts
+pub mod TimeBound
+pub mod TripRows

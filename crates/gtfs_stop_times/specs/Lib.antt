@@ -1,0 +1,4 @@
+pub mod Gathering
+pub mod Headsigns
+pub mod Lists
+pub mod Rows

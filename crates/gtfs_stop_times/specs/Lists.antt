@@ -1,0 +1,59 @@
+-- The stop times of a dataset as lists of a feed's parts: the rows of all trips, where those of each trip begin, and headsigns.
+-- GTFS Schedule Reference, stop_times.txt. Trips and stops have the numbers of their ids by bytes, from 0.
+use Rattle.std.specs.Prelude.{◌≡◌, ◌<◌, ◌==◌, ℕ, ◌&&◌, Bool, true, false, nat_lt, List, length, map, slice_index_or, Option, Some, None, option_map}
+use Rattle.std.specs.List.{list_all, list_any}
+use Rattle.csv.specs.Records.{Rising}
+use Rattle.gtfs_table.specs.Parts.{parts}
+use Rattle.gtfs_table.specs.Tables.{Dataset}
+use Rattle.gtfs_rows.specs.Choices.{drop_off_code, pickup_code, timepoint_code}
+use Rattle.gtfs_rows.specs.Reading.{content_of}
+use Rattle.gtfs_rows.specs.Rows.{StopRow}
+use Rattle.gtfs_rows.specs.Views.{is_within, text_of_number}
+use Rattle.gtfs_rows.specs.declared.stop_row.StopRow.{StopRow as RowByNumber}
+use Rattle.gtfs_stop_times.specs.Headsigns.{AreDistinct}
+use Rattle.gtfs_stop_times.specs.declared.stop_times.StopTimes.{StopTimes}
+
+-- the ids of the stops of the content, each at its number
+abbrev pub content_stop_ids : Dataset → List (List ℕ)
+content_stop_ids d = map (λ s. s.stop_id) (content_of d).stops
+
+-- what a row stands for, where these are the ids of all stops and all headsigns: as `stop_row_of` of parts that have them
+abbrev pub stop_row_named : List (List ℕ) → List (List ℕ) → RowByNumber → StopRow
+stop_row_named stop_ids headsigns r = record {
+  arrival_time = r.arrival_time;
+  departure_time = r.departure_time;
+  stop_id = text_of_number stop_ids r.stop_id.0;
+  stop_sequence = r.stop_sequence;
+  stop_headsign = option_map (text_of_number headsigns) r.stop_headsign;
+  pickup_type = pickup_code r.pickup_type;
+  drop_off_type = drop_off_code r.drop_off_type;
+  timepoint = option_map timepoint_code r.timepoint;
+}
+
+-- the number is there, and it is this one
+abbrev pub is_number : ℕ → Option ℕ → Bool
+is_number k None = false
+is_number k (Some n) = n == k
+
+-- its stop and its headsign lie within lists of these lengths
+abbrev pub has_numbers_below : ℕ → ℕ → RowByNumber → Bool
+has_numbers_below stops headsigns r = nat_lt r.stop_id.0 stops && is_within headsigns r.stop_headsign
+
+-- its headsign is the one of this number
+abbrev pub has_headsign : ℕ → RowByNumber → Bool
+has_headsign k r = is_number k r.stop_headsign
+
+-- the lists are the stop times of the content
+pub record AreStopTimesOf (d : Dataset) (lists : StopTimes) : Type 0 where
+  -- a stretch of rows for each trip: as many starts as trips, rising to the end, and nothing before the first
+  pub trips : length lists.stop_row_starts ≡ length (content_of d).trips
+  pub rising : Rising 0 lists.stop_row_starts (length lists.stop_rows)
+  pub from_first : slice_index_or lists.stop_row_starts 0 (length lists.stop_rows) ≡ 0
+  -- the stretch of a trip stands for the rows of the content's trip with that number
+  pub by_trip : map (map (stop_row_named (content_stop_ids d) lists.headsigns)) (parts lists.stop_row_starts lists.stop_rows)
+      ≡ map (λ t. t.stop_rows) (content_of d).trips
+  -- each number is that of a stop, or of a headsign
+  pub numbers : list_all (has_numbers_below (length (content_of d).stops) (length lists.headsigns)) lists.stop_rows ≡ true
+  -- no headsign is there twice, and each is that of a row
+  pub distinct : AreDistinct lists.headsigns
+  pub used : (k : ℕ) → k < length lists.headsigns → list_any (has_headsign k) lists.stop_rows ≡ true

@@ -1,0 +1,133 @@
+//! The headsigns of stop times by number.
+
+ghost use Rattle.std.specs.Prelude.{◌≡◌, [], IfOk, OnOk, Some, slice_get, true};
+ghost use Rattle.gtfs_columns.specs.Columns as kind;
+ghost use Rattle.gtfs_columns.specs.Reads.{word_of};
+ghost use Rattle.gtfs_columns.specs.Values.{plain};
+ghost use Rattle.gtfs_stop_times.specs.Headsigns.{AddsOnly, AreDistinct, KeepsHeadsigns, NamesHeadsign};
+
+use crate::plain::plain;
+use gtfs_columns::has_control;
+use gtfs_field::{List, OutOfMemory, Text};
+use gtfs_rows::{HeadsignNo, OptionalHeadsign};
+use indexmap::IndexSet;
+use std::alloc::Global;
+use std::hash::RandomState;
+use std::marker::Model;
+
+// Each headsign once, in the order in which they were met. A control character is a space.
+#[derive(Drop)]
+pub(crate) struct Headsigns {
+    alloc: Global,
+    texts: IndexSet<String, RandomState>,
+    // The place of the last one that was asked for: the stop times of a trip mostly have one headsign.
+    last: usize,
+}
+
+impl Model for Headsigns {
+    ghost use Rattle.std.specs.Prelude.{List as Sequence, ℕ, map, string_bytes};
+    ghost use Rattle.gtfs_stop_times.specs.Headsigns.{ArePlain};
+
+    ghost Value = { Sequence (Sequence ℕ) };
+
+    ghost view = { λ h. map string_bytes h.texts.keys };
+
+    ghost invariant = { λ h. ArePlain (map string_bytes h.texts.keys) };
+}
+
+impl Headsigns {
+    pub(crate) fn new(alloc: Global, random: RandomState) -> Headsigns
+        ensures { result ≡ [] }
+    {
+        Headsigns {
+            alloc,
+            texts: IndexSet::with_hasher(alloc, random),
+            last: 0,
+        }
+    }
+
+    // The number of a headsign as it stands in a field, or none where the field is empty.
+    pub(crate) fn number(&mut self, text: &str) -> Result<OptionalHeadsign, OutOfMemory>
+        ensures named { IfOk result
+            (λ n. NamesHeadsign self.new n (word_of kind.text text.now)) }
+        ensures added { IfOk result (λ n. AddsOnly self.old self.new n) }
+        ensures kept { KeepsHeadsigns self.old self.new }
+    {
+        if text.is_empty() {
+            return Ok(OptionalHeadsign::new(None));
+        }
+        let place = self.place(text)?;
+        headsign_at(place)
+    }
+
+    // The texts in their order.
+    pub(crate) fn into_list(self) -> Result<List<Text>, OutOfMemory>
+        ensures texts { IfOk result (λ texts. texts ≡ self) }
+        ensures distinct { OnOk result (AreDistinct self) }
+    {
+        let Headsigns {
+            alloc,
+            texts,
+            last: _,
+        } = self;
+        let mut list = Vec::with_capacity(alloc, texts.len())?;
+        for text in texts {
+            list.push(Text::new(text))?;
+        }
+        Ok(List::new(list))
+    }
+
+    // The place of a headsign, which is added where it is new.
+    fn place(&mut self, text: &str) -> Result<usize, OutOfMemory>
+        ensures place { IfOk result (λ k. slice_get self.new k ≡ Some (plain text.now)) }
+        ensures added { IfOk result (λ k. AddsOnly self.old self.new (Some k)) }
+        ensures kept { KeepsHeadsigns self.old self.new }
+    {
+        if self.is_at(self.last, text) {
+            return Ok(self.last);
+        }
+        let place = if has_control(text) {
+            let text = plain(self.alloc, text)?;
+            self.place_of_plain(text.as_str())?
+        } else {
+            self.place_of_plain(text)?
+        };
+        self.last = place;
+        Ok(place)
+    }
+
+    // The place of a text without control characters, which is added where it is new.
+    fn place_of_plain(&mut self, text: &str) -> Result<usize, OutOfMemory>
+        requires { plain text.now ≡ text.now }
+        ensures place { IfOk result (λ k. slice_get self.new k ≡ Some text.now) }
+        ensures added { IfOk result (λ k. AddsOnly self.old self.new (Some k)) }
+        ensures kept { KeepsHeadsigns self.old self.new }
+    {
+        if let Some(place) = self.texts.get_index_of(text) {
+            return Ok(place);
+        }
+        let place = self.texts.len();
+        self.texts.insert(String::from_str(self.alloc, text)?)?;
+        Ok(place)
+    }
+
+    // Whether the text at a place is this one.
+    fn is_at(&self, place: usize, text: &str) -> bool
+        ensures { result ≡ true → slice_get self.now place ≡ Some text.now }
+    {
+        match self.texts.get_index(place) {
+            Some(found) => found.as_str() == text,
+            None => false,
+        }
+    }
+}
+
+// The number of a place. No number is left for more than 4,294,967,295 headsigns.
+fn headsign_at(place: usize) -> Result<OptionalHeadsign, OutOfMemory>
+    ensures { IfOk result (λ n. n ≡ Some place) }
+{
+    match u32::try_from(place) {
+        Ok(number) if number < u32::MAX => Ok(OptionalHeadsign::new(Some(HeadsignNo(number)))),
+        _ => Err(OutOfMemory),
+    }
+}
