@@ -3,12 +3,11 @@ ghost use Rattle.gtfs_rows.specs.Views.{IsSoundParts, agency_ids, stop_ids, rout
 ghost use Rattle.gtfs_feed.specs.Trips.{stop_rows_by_trip, frequencies_by_trip};
 
 use crate::ids::Ids;
-use crate::stretches::stretch;
 use gtfs_days::Service;
 use gtfs_field::OutOfMemory;
 use gtfs_rows::{
     Agency, AgencyNo, Frequency, HeadsignNo, Parts, Route, RouteNo, ServiceNo, Stop, StopNo,
-    StopRow, Transfer, Trip, TripNo,
+    StopRow, Transfer, Trip, TripNo, stretch,
 };
 use std::alloc::Global;
 use std::hash::RandomState;

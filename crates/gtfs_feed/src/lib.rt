@@ -1,12 +1,15 @@
 //! The typed feed of a GTFS Schedule dataset.
 //!
 //! - [`Feed`] has the rows of a dataset by number: ids are numbered in the order of their bytes, from 0.
-//!   It is assembled of [`gtfs_rows::Parts`] that are sound.
+//!   [`Feed::new`] makes one of a dataset that passed the validator, and [`Feed::assemble`] of [`gtfs_rows::Parts`] that
+//!   are sound.
+//! - [`Feed::to_tables`] is its written form, and [`Feed::file_text`] the text of one file of it.
 #![tactic(auto)]
 
 mod feed;
 mod ids;
 mod named;
-mod stretches;
+mod reading;
+mod written;
 
 pub use feed::Feed;

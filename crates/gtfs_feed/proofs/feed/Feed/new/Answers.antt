@@ -1,0 +1,32 @@
+use Rattle.std.proofs.Common.{◌≡◌, ◌∙◌, ap, sym, subst, map, length}
+use Rattle.std.proofs.lemmas.Result.{IfOk-weaker}
+use Rattle.gtfs_table.specs.Parts.{parts}
+use Rattle.gtfs_rows.specs.Reading.{content_of as content_of_dataset}
+use Rattle.gtfs_rows.specs.Views.{content_of_parts, stop_row_of}
+use Rattle.gtfs_parts.specs.FeedRows.{AreRowsOf}
+use Rattle.gtfs_feed.specs.Content.{content_of}
+use Rattle.gtfs_feed.proofs.ReadRows.{content_is, counted, make_a_feed}
+use Rattle.gtfs_feed.proofs.feed.Feed.new.Goals as goal
+
+pub new-requires-2 : goal.new-requires-2
+new-requires-2 c = ap length c.as_slice-trips.ensures ∙ counted c.args.passed.now c.in_ok-rows.rows c.in_ok-rows.ensures.rows
+
+pub assemble-requires : goal.assemble-requires
+assemble-requires c =
+    let d = c.args.passed.now in
+    let w = c.joined-parts.ensures in
+    let p = c.joined-parts.result in
+    make_a_feed d c.new.ensures.passes p (subst (AreRowsOf d) (sym w.rows) c.in_ok-rows.ensures.rows) c.in_ok-stop_times.stop_times c.in_ok-stop_times.ensures
+    w.stop_rows w.starts w.headsigns
+    (λ h. w.content d c.in_ok-rows.ensures.rows ((λ i. map (map (stop_row_of p)) (parts (sym w.starts i) (sym w.stop_rows i))) ∙ h))
+
+pub returns : goal.returns
+returns c =
+    let d = c.args.passed.now in
+    let w = c.joined-parts.ensures in
+    let p = c.joined-parts.result in
+    let is : content_of_parts p ≡ content_of_dataset d =
+    content_is d c.new.ensures.passes p (subst (AreRowsOf d) (sym w.rows) c.in_ok-rows.ensures.rows) c.in_ok-stop_times.stop_times c.in_ok-stop_times.ensures
+    w.stop_rows w.starts w.headsigns
+    (λ h. w.content d c.in_ok-rows.ensures.rows ((λ i. map (map (stop_row_of p)) (parts (sym w.starts i) (sym w.stop_rows i))) ∙ h)) in
+    IfOk-weaker c.assemble.result (λ feed. feed ≡ p) (λ feed. content_of feed ≡ content_of_dataset d) (λ feed same. ap content_of_parts same ∙ is) c.assemble.ensures

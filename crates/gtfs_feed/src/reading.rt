@@ -1,0 +1,55 @@
+ghost use Rattle.std.specs.Prelude.{◌≡◌, IfOk, map};
+ghost use Rattle.gtfs_parts.specs.FeedRows.{AreRowsOf, rows_in};
+ghost use Rattle.gtfs_rows.specs.Reading.{content_of as content_of_dataset};
+ghost use Rattle.gtfs_rows.specs.Views.{content_of_parts, stop_row_of};
+ghost use Rattle.gtfs_table.specs.Parts.{parts};
+ghost use Rattle.gtfs_table.specs.Tables.{Dataset};
+ghost use Rattle.gtfs_feed.specs.Content.{content_of};
+
+use crate::feed::Feed;
+use gtfs_field::OutOfMemory;
+use gtfs_parts::FeedRows;
+use gtfs_rows::Parts;
+use gtfs_rules::Passed;
+use gtfs_stop_times::StopTimes;
+use std::alloc::Global;
+use std::hash::RandomState;
+
+impl Feed {
+    /// The feed of a dataset that passed the validator: its content with numbers in the place of ids (GTFS Schedule
+    /// Reference, "Dataset Files").
+    ///
+    /// Stop times were read when the dataset was checked, and are not read again. The dataset is lent and not changed, and
+    /// the feed lends nothing of it. No answer of the feed depends on the random state.
+    ///
+    /// # Errors
+    /// `OutOfMemory` where memory is refused, and where stop times have more than 4,294,967,295 different headsigns.
+    pub fn new(alloc: Global, random: RandomState, passed: &Passed<'_>) -> Result<Feed, OutOfMemory>
+        ensures { IfOk result (λ feed. content_of feed ≡ content_of_dataset passed.now) }
+    {
+        let rows = FeedRows::new(alloc, passed)?;
+        let trips = rows.trips.as_slice().len();
+        let stop_times = StopTimes::new(alloc, random, passed, trips)?;
+        let parts = joined(rows, stop_times);
+        Feed::assemble(alloc, random, parts)
+    }
+}
+
+// The rows of a feed, with its stop times.
+fn joined(rows: FeedRows, stop_times: StopTimes) -> Parts
+    ensures rows { rows_in result ≡ rows }
+    ensures stop_rows { result.stop_rows ≡ stop_times.stop_rows }
+    ensures starts { result.stop_row_starts ≡ stop_times.stop_row_starts }
+    ensures headsigns { result.headsigns ≡ stop_times.headsigns }
+    ensures content { (d : Dataset) → AreRowsOf d rows
+        → map (map (stop_row_of result)) (parts stop_times.stop_row_starts stop_times.stop_rows)
+        ≡ map (λ t. t.stop_rows) (content_of_dataset d).trips
+        → content_of_parts result ≡ content_of_dataset d }
+{
+    let StopTimes {
+        stop_rows,
+        stop_row_starts,
+        headsigns,
+    } = stop_times;
+    rows.with_stop_times(stop_rows, stop_row_starts, headsigns)
+}
