@@ -1,9 +1,8 @@
 -- The rows of a trip so far, with their positions.
-use Rattle.std.proofs.Common.{◌≡◌, ◌<◌, ◌≤◌, ◌+◌, ◌++◌, ◌∙◌, ℕ, zero, suc, Bool, true, false, List, [], ◌∷◌, length, map, take, get_or, add-one, refl, sym, ap, arith}
+use Rattle.std.proofs.Common.{◌≡◌, ◌<◌, ◌≤◌, ◌+◌, ◌++◌, ◌∙◌, ℕ, zero, suc, Bool, true, false, List, [], ◌∷◌, length, take, get_or, add-one, refl, ap, arith}
 use Rattle.std.specs.Prelude.{filter}
 use Rattle.std.specs.List.{enumerate_from}
 use Rattle.std.proofs.Math.Seq.{take-suc}
-use Rattle.std.proofs.lemmas.List.{map-append}
 use Rattle.std.proofs.lemmas.List.Elements.{filter-append}
 
 enumerate-append : {X : Type 0} (a : ℕ) (xs ys : List X) → enumerate_from a (xs ++ ys) ≡ enumerate_from a xs ++ enumerate_from (a + length xs) ys
@@ -38,16 +37,3 @@ row_fails q xs n d within fails =
     none : {Y : Type 0} (ys : List Y) → ys ++ [] ≡ ys
     none [] = refl
     none (y ∷ ys) = ap (λ zs. y ∷ zs) (none ys)
-
--- ---- the steps of the code: the positions of the rows that pass
-
-pub position_passes : {X : Type 0} (q : ℕ × X → Bool) (xs : List X) (n : ℕ) (d : X) (old new : List ℕ) (b : Bool) → n < length xs → b ≡ q (n, get_or xs n d) → b ≡ true
-    → old ≡ map (λ x. x.0) (filter q (enumerate_from 0 (take n xs))) → new ≡ old ++ n ∷ [] → new ≡ map (λ x. x.0) (filter q (enumerate_from 0 (take (n + 1) xs)))
-position_passes {X = X} q xs n d old new b within is holds so_far pushed =
-    pushed ∙ ap (λ ys. ys ++ n ∷ []) so_far ∙ sym (map-append {A = ℕ × X} {B = ℕ} (λ x. x.0) (filter q (enumerate_from 0 (take n xs))) ((n, get_or xs n d) ∷ []))
-    ∙ ap (map {A = ℕ × X} {B = ℕ} (λ x. x.0)) (sym (row_passes q xs n d within (sym is ∙ holds)))
-
-pub position_fails : {X : Type 0} (q : ℕ × X → Bool) (xs : List X) (n : ℕ) (d : X) (old new : List ℕ) (b : Bool) → n < length xs → b ≡ q (n, get_or xs n d) → b ≡ false
-    → old ≡ map (λ x. x.0) (filter q (enumerate_from 0 (take n xs))) → new ≡ old → new ≡ map (λ x. x.0) (filter q (enumerate_from 0 (take (n + 1) xs)))
-position_fails {X = X} q xs n d old new b within is fails so_far kept =
-    kept ∙ so_far ∙ ap (map {A = ℕ × X} {B = ℕ} (λ x. x.0)) (sym (row_fails q xs n d within (sym is ∙ fails)))

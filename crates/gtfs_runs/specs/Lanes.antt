@@ -33,7 +33,7 @@ has_periods t = not (length t.frequencies == 0)
 
 -- one list for each course of the trips without frequencies
 abbrev pub list_count : Content → List ℕ → ℕ
-list_count c s = length (set.items (set.from_list {R = course_cmp} (flat_map (courses_of c s) (filter (λ t. not (has_periods t)) c.trips))))
+list_count c s = set.len (set.from_list {R = course_cmp} (flat_map (courses_of c s) (filter (λ t. not (has_periods t)) c.trips)))
 
 -- one period for each frequency row and departure row of the others
 abbrev pub period_count : Content → List ℕ → ℕ

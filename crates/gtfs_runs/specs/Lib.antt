@@ -6,3 +6,6 @@ pub mod Periods
 pub mod Events
 pub mod Lanes
 pub mod Patterns
+pub mod StopLanes
+pub mod steps
+pub mod FlatEvents

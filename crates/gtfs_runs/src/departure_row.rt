@@ -1,4 +1,4 @@
-ghost use Rattle.std.specs.Prelude.{◌≡◌, ◌<◌, ◌&&◌, AllPairs, List, length, slice_index_or};
+ghost use Rattle.std.specs.Prelude.{◌≡◌, ◌<◌, ◌&&◌, All, AllPairs, List, false, length, slice_index_or};
 ghost use Rattle.gtfs_feed.specs.Trips.{left_at};
 ghost use Rattle.gtfs_rows.specs.Views.{stop_row_of, trip_of};
 ghost use Rattle.gtfs_rows.specs.declared.frequency.Frequency.{Frequency};
@@ -7,6 +7,7 @@ ghost use Rattle.gtfs_rows.specs.declared.stop_row.StopRow.{StopRow as StopTime}
 ghost use Rattle.gtfs_rows.specs.declared.trip.Trip.{Trip};
 ghost use Rattle.gtfs_runs.specs.Trips.{allows_boarding, is_departure_row, is_timed};
 
+use crate::place::Place;
 use gtfs_field::Clock;
 use gtfs_rows::StopRow;
 
@@ -36,4 +37,17 @@ pub(crate) fn departure(row: &StopRow) -> Option<Clock>
     ensures { result ≡ left_at row.now }
 {
     row.departure_time.get().or(row.arrival_time.get())
+}
+
+// Whether riders can leave the place at the stop time of this position.
+pub(crate) fn leaves_place(place: &Place, rows: &[StopRow], position: usize) -> bool
+    requires within { position < length rows.now }
+    requires stops { All (λ r. r.stop_id.0 < length place.now) rows.now }
+    requires ascend { AllPairs (λ r s. r.stop_sequence < s.stop_sequence) rows.now }
+    ensures { (p : Parts) (t : Trip) (fs : List Frequency) (d : StopTime) → result
+        ≡ (is_departure_row (trip_of p t rows.now fs)
+        (stop_row_of p (slice_index_or rows.now position d))
+        && slice_index_or place.now (slice_index_or rows.now position d).stop_id.0 false) }
+{
+    is_departure_row(rows, position) && place.has(rows[position].stop_id)
 }

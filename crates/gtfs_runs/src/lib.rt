@@ -5,12 +5,13 @@
 //! - A [`Lane`] tells events of one service, each after the one before: a [`ListLane`] those of a list, a [`StepLane`]
 //!   those of a row of `frequencies.txt`, which it does not list.
 //! - A [`Pattern`] has the trips of a route that go in one direction along one list of stops; [`patterns`] has them all.
+//! - [`StopLanes`] are the lanes of a stop. [`flat_events`] lists all of its events one by one, for tests.
 //! - [`Steps`] counts how often a lane was asked.
 #![tactic(auto)]
 
 mod departure_row;
-mod departures;
 mod event;
+mod flat;
 mod lane;
 mod list_lane;
 mod pattern;
@@ -18,11 +19,14 @@ mod place;
 mod seek;
 mod step_lane;
 mod steps;
+mod stop_lanes;
 
 pub use event::Event;
+pub use flat::flat_events;
 pub use lane::Lane;
 pub use list_lane::ListLane;
 pub use pattern::{Pattern, patterns};
 pub use seek::Seek;
 pub use step_lane::StepLane;
 pub use steps::Steps;
+pub use stop_lanes::StopLanes;

@@ -2,6 +2,7 @@ ghost use Rattle.std.specs.Prelude.{◌≡◌};
 ghost use Rattle.std.specs.List.{slice_get};
 ghost use Rattle.gtfs_rows.specs.Order.{Ascends};
 ghost use Rattle.gtfs_runs.specs.Order.{event_cmp};
+ghost use Rattle.gtfs_runs.specs.steps.Lists.{latest_of};
 
 use crate::event::Event;
 use crate::lane::Lane;
@@ -43,6 +44,25 @@ impl Lane for ListLane {
 }
 
 impl ListLane {
+    // The lane of these events.
+    pub(crate) fn new(service: ServiceNo, events: Vec<Event>) -> ListLane
+        requires { Ascends event_cmp events.items }
+        ensures service { result.service ≡ service }
+        ensures events { result.events.items ≡ events.items }
+    {
+        ListLane { service, events }
+    }
+
+    // The time of the last event, 0 where there is none.
+    pub(crate) fn latest(&self) -> u32
+        ensures { result ≡ latest_of self.now.events.items }
+    {
+        match self.events.last() {
+            Some(event) => event.at,
+            None => 0,
+        }
+    }
+
     // The event at a place in the list, if there is one.
     fn event(&self, place: usize) -> Option<Event>
         ensures { result ≡ slice_get self.now.events.items place }

@@ -5,6 +5,7 @@ ghost use Rattle.gtfs_rows.specs.Order.{Ascends};
 ghost use Rattle.gtfs_runs.specs.Order.{event_cmp, IsFrom, first_of_two};
 ghost use Rattle.gtfs_rows.specs.Views.{frequency_of};
 ghost use Rattle.gtfs_runs.specs.Counts.{is_same, tally};
+ghost use Rattle.gtfs_runs.specs.steps.Lists.{latest_of};
 ghost use Rattle.gtfs_runs.specs.Periods.{is_of_period, run_event, run_events};
 
 use crate::event::Event;
@@ -85,6 +86,16 @@ impl StepLane {
             first,
             headway: period.headway_secs,
             count: seconds.div_ceil(period.headway_secs),
+        }
+    }
+
+    // The time of the last event, 0 where there is none.
+    pub(crate) fn latest(&self) -> u32
+        ensures { result ≡ latest_of (run_events self.now.first self.now.headway self.now.count) }
+    {
+        match self.event(u64::from(self.count).saturating_sub(1)) {
+            Some(event) => event.at,
+            None => 0,
         }
     }
 

@@ -1,7 +1,7 @@
 use Rattle.std.proofs.Common.{◌≡◌, ◌&&◌, ◌∙◌, Bool, true, false, sym, ap}
 use Rattle.std.proofs.lemmas.List.{get_or_default}
 use Rattle.std.specs.List.{slice_index_or}
-use Rattle.gtfs_runs.proofs.departures.leaves_place.Goals as goal
+use Rattle.gtfs_runs.proofs.departure_row.leaves_place.Goals as goal
 
 second : (a b r : Bool) → a ≡ true → r ≡ b → r ≡ (a && b)
 second a b r holds is = rw holds is

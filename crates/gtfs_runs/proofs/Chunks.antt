@@ -1,0 +1,84 @@
+-- The events of one course, which stand first among sorted ones.
+use Rattle.std.proofs.Common.{◌≡◌, ◌≤◌, ◌<◌, ◌+◌, ◌-◌, ◌++◌, ◌∙◌, ℕ, false, List, [], ◌∷◌, length, map, take, drop, get_or, refl, sym, ap, subst, arith}
+use Rattle.std.specs.List.{All}
+use Rattle.std.specs.declared.cmp.Ordering.TheVariants.{Less}
+use Rattle.std.proofs.lemmas.List.{drop-drop, get_or_default, get_or-drop, get_or-map, get_or-take, length-drop, length-map, length-take-le, map-append, take-append-drop, take_rest}
+use Rattle.std.proofs.lemmas.List.Elements.{All-map}
+use Rattle.std.proofs.lemmas.Simd.{map-map}
+use Rattle.gtfs_rows.specs.Order.{Ascends}
+use Rattle.gtfs_runs.specs.Order.{event_cmp}
+use Rattle.gtfs_runs.specs.StopLanes.{LaneValue, events_of_service}
+use Rattle.gtfs_runs.specs.declared.stop_lanes.listed.Listed.{Listed}
+use Rattle.gtfs_runs.specs.steps.Courses.{CourseNo, Stopping, how_many, is_same_course, stopping_cmp, stopping_events, stopping_of}
+use Rattle.gtfs_runs.proofs.CourseOrder.{chunk_differs, lane_ascends, one_course, pairs-left, pairs-right, told_more}
+
+split : (n : ℕ) (xs : List Listed) → map stopping_of xs ≡ map stopping_of (take n xs) ++ map stopping_of (drop n xs)
+split n xs = ap (map stopping_of) (sym (take-append-drop n xs)) ∙ map-append stopping_of (take n xs) (drop n xs)
+
+pub drop_up : (n : ℕ) (xs : List Listed) → Ascends stopping_cmp (map stopping_of xs) → Ascends stopping_cmp (map stopping_of (drop n xs))
+drop_up n xs up =
+    pairs-right (λ a b. stopping_cmp a b ≡ Less) (map stopping_of (take n xs)) (map stopping_of (drop n xs)) (subst (λ l. Ascends stopping_cmp l) (split n xs) up)
+
+pub all_mapped : {X Y : Type 0} (P : Y → Type 0) (f : X → Y) (xs : List X) → All P (map f xs) → All (λ x. P (f x)) xs
+all_mapped P f xs all k d within = subst P (get_or-map f xs k d (f d) within) (all k (f d) (let size = length-map xs f in omega (arith, size, within)))
+
+module _ (xs : List Listed) (n : ℕ) (first : Listed) (some : 0 < n) (upto : n ≤ length xs) (up : Ascends stopping_cmp (map stopping_of xs))
+    (same : (k : ℕ) (d : Listed) → k < n → ◌≡◌ {A = CourseNo} (stopping_of (get_or xs k d)).course (stopping_of (get_or xs 0 d)).course) (head : first ≡ get_or xs 0 first) where
+  abbrev c : CourseNo
+  c = (stopping_of first).course
+
+  abbrev fs : List Stopping
+  fs = map stopping_of (take n xs)
+
+  abbrev bs : List Stopping
+  bs = map stopping_of (drop n xs)
+
+  size : length (map stopping_of (take n xs)) ≡ n
+  size = length-map (take n xs) stopping_of ∙ length-take-le n xs upto
+
+  pub one : All (λ z. z.course ≡ (stopping_of first).course) (map stopping_of (take n xs))
+  one =
+      All-map (λ z. z.course ≡ c) stopping_of (take n xs) (λ k d within.
+      let long = length-take-le n xs upto in
+      let below : k < n = omega (arith, long, within) in
+      let filled : 0 < length xs = omega (arith, some, upto) in
+      ap (λ x. (stopping_of x).course) (get_or-take n xs k d below) ∙ same k d below ∙ ap (λ x. (stopping_of x).course) (get_or_default xs 0 d first filled ∙ sym head))
+
+  pub lane_up : Ascends event_cmp (map (λ x. x.event) (take n xs))
+  lane_up =
+      subst (λ l. Ascends event_cmp l) (map-map (λ z. z.event) stopping_of (take n xs))
+      (lane_ascends fs c (pairs-left (λ a b. stopping_cmp a b ≡ Less) fs bs (subst (λ l. Ascends stopping_cmp l) (split n xs) up)) one)
+
+  module _ (ends : (d : Listed) → n < length xs → is_same_course (stopping_of (get_or xs 0 d)).course (stopping_of (get_or xs n d)).course ≡ false) where
+    differ : All (λ z. is_same_course (stopping_of first).course z.course ≡ false) (map stopping_of (drop n xs))
+    differ =
+        let filled : 0 < length fs = omega (arith, size, some) in
+        chunk_differs fs bs c filled (subst (λ l. Ascends stopping_cmp l) (split n xs) up) one (λ d more.
+        let left : length bs ≡ length xs - n = length-map (drop n xs) stopping_of ∙ length-drop n xs in
+        let inside : n < length xs = omega (arith, left, more) in
+        let here : 0 < length (drop n xs) = omega (arith, length-drop n xs, inside) in
+        let place : n + 0 ≡ n = omega arith in
+        let at : get_or bs 0 d ≡ stopping_of (get_or xs n first) =
+        get_or-map stopping_of (drop n xs) 0 first d here ∙ ap stopping_of (get_or-drop n xs 0 first ∙ ap (λ m. get_or xs m first) place) in
+        ap (λ z. is_same_course c z.course) at ∙ ap (λ x. is_same_course (stopping_of x).course (stopping_of (get_or xs n first)).course) head ∙ ends first inside)
+
+    pub fewer : how_many is_same_course (map (λ x. x.course) (map stopping_of xs)) ≡ how_many is_same_course (map (λ x. x.course) (map stopping_of (drop n xs))) + 1
+    fewer =
+        let filled : 0 < length fs = omega (arith, size, some) in
+        ap (λ l. how_many is_same_course (map (λ x. x.course) l)) (split n xs) ∙ one_course fs bs c filled one differ
+
+  pub told_list : (k : ℕ) (lanes new : List LaneValue) (lane : LaneValue) → new ≡ lanes ++ lane ∷ [] → lane.events ≡ map (λ x. x.event) (take n xs) → lane.service ≡ first.service.0
+      → events_of_service k new ++ stopping_events k (map stopping_of (drop n xs)) ≡ events_of_service k lanes ++ stopping_events k (map stopping_of xs)
+  told_list k lanes new lane pushed events serves =
+      told_more k lanes new lane fs bs (map stopping_of xs) (events_of_service k lanes ++ stopping_events k (map stopping_of xs)) pushed (split n xs)
+      (events ∙ sym (map-map (λ z. z.event) stopping_of (take n xs))) (λ j d within. ap (λ z. z.service) (one j d within) ∙ sym serves) refl
+
+-- ---- the steps of the code
+
+pub left_more : (xs : List Listed) (at n : ℕ) → drop n (take (length xs - at) (drop at xs)) ≡ drop (at + n) xs
+left_more xs at n = ap (drop n) (take_rest xs at) ∙ drop-drop n at xs
+
+pub upto_more : (xs : List Listed) (at n : ℕ) → at ≤ length xs → n ≤ length (take (length xs - at) (drop at xs)) → at + n ≤ length xs
+upto_more xs at n within upto =
+    let size : length (take (length xs - at) (drop at xs)) ≡ length xs - at = ap length (take_rest xs at) ∙ length-drop at xs in
+    omega (arith, size, within, upto)

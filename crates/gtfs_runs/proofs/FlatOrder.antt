@@ -1,0 +1,74 @@
+-- A sorted list in which no event stands twice ascends.
+use Rattle.std.proofs.Common.{◌≡◌, ◌≤◌, ◌∙◌, ◌==◌, ℕ, Bool, true, false, cond, List, get_or, refl, sym, ap, arith, rules}
+use Rattle.std.specs.List.Sorted.{IsPermutation, IsSorted}
+use Rattle.std.specs.Cmp.{IsTotalOrder, ranked}
+use Rattle.std.specs.Cmp.Derive.{both_true}
+use Rattle.std.specs.Cmp.Rules.{comparing}
+use Rattle.std.specs.declared.cmp.Ordering.{Ordering}
+use Rattle.std.specs.declared.cmp.Ordering.TheVariants.{Less, Equal, Greater}
+use Rattle.std.specs.Ordering.{is_eq, is_lt, ordering_reverse, ordering_then}
+use Rattle.std.proofs.lemmas.Bool.Decides.{nat_tests}
+use Rattle.std.proofs.lemmas.List.Sorted.{ranks_by, sorted_far}
+use Rattle.gtfs_rows.specs.Order.{Ascends}
+use Rattle.gtfs_rows.specs.declared.parts.Parts.{Parts}
+use Rattle.gtfs_runs.specs.Counts.{tally}
+use Rattle.gtfs_runs.specs.FlatEvents.{AreEvents, Served, is_event_of, is_served, served_cmp}
+use Rattle.gtfs_runs.specs.declared.event.Event.{Event}
+use Rattle.gtfs_runs.proofs.Counting.{same-self}
+use Rattle.gtfs_runs.proofs.Tallies.{any-tally, tally-permutation, two_at}
+
+served_total : IsTotalOrder served_cmp
+served_total = search (comparing, rules) depth 20
+
+itself : (n : ℕ) → (n == n) ≡ true
+itself n = grind (arith, nat_tests)
+
+first_tie : (r s : Ordering) → ordering_then r s ≡ Equal → r ≡ Equal
+first_tie Less s h = absurd (cc)
+first_tie Equal s h = refl
+first_tie Greater s h = absurd (cc)
+
+second_tie : (r s : Ordering) → ordering_then r s ≡ Equal → s ≡ Equal
+second_tie Less s h = absurd (cc)
+second_tie Equal s h = h
+second_tie Greater s h = absurd (cc)
+
+-- what ties with an event is that event under the same number
+tied : (x y : Served) → served_cmp x y ≡ Equal → is_served x.0.0 x.1 y ≡ true
+tied x y tie =
+    let number : x.0.0 ≡ y.0.0 = ranked x.0.0 y.0.0 Equal (sym (first_tie _ _ tie)) in
+    both_true (ap (λ n. n == x.0.0) (sym number) ∙ itself x.0.0) (ap is_eq (second_tie _ _ tie))
+
+below : (r q : Ordering) → q ≡ ordering_reverse r → is_lt q ≡ false → (r ≡ Equal → ⊥) → r ≡ Less
+below Less q turned far apart = refl
+below Equal q turned far apart = absurd (apart refl)
+below Greater q turned far apart = absurd (never (sym (ap is_lt turned) ∙ far))
+  where
+    never : true ≡ false → ⊥
+    never h = cc
+
+ascends : (xs : List Served) → IsSorted served_cmp xs → ((k : ℕ) (e : Event) → tally (is_served k e) xs ≤ 1) → Ascends served_cmp xs
+ascends xs up once i j d before within =
+    let a = get_or xs i d in
+    let b = get_or xs j d in
+    below (served_cmp a b) (served_cmp b a) (served_total.antisymm b a)
+    (sorted_far (λ x y. is_lt (served_cmp x y)) (ranks_by served_total (λ x. x)) xs up i j d (omega arith) within)
+    (λ tie. twice (tally (is_served a.0.0 a.1) xs) (two_at (is_served a.0.0 a.1) xs i j d before within (both_true (itself a.0.0) (same-self a.1)) (tied a b tie)) (once a.0.0 a.1))
+  where
+    twice : (n : ℕ) → 2 ≤ n → n ≤ 1 → ⊥
+    twice n two one = omega arith
+
+-- ---- all together
+
+pub are-events : (p : Parts) (s : ℕ) (found sorted : List Served) → ((k : ℕ) (e : Event) → tally (is_served k e) found ≡ cond (is_event_of p s k e) 1 0)
+    → IsPermutation found sorted → IsSorted served_cmp sorted → AreEvents p s sorted
+are-events p s found sorted told same up =
+    let every : (k : ℕ) (e : Event) → tally (is_served k e) sorted ≡ cond (is_event_of p s k e) 1 0 = λ k e. tally-permutation (is_served k e) found sorted same ∙ told k e in
+    record {
+      in_order = ascends sorted up (λ k e. most (is_event_of p s k e) (tally (is_served k e) sorted) (every k e));
+      all = λ k e. any-tally (is_served k e) sorted (is_event_of p s k e) (every k e);
+    }
+  where
+    most : (b : Bool) (n : ℕ) → n ≡ cond b 1 0 → n ≤ 1
+    most true n is = omega (arith, is)
+    most false n is = omega (arith, is)

@@ -1,0 +1,48 @@
+use Rattle.std.proofs.Common.{◌<◌, ◌++◌, ◌∙◌, length, map, get_or, sym, ap, subst}
+use Rattle.std.specs.List.{All, flat_map}
+use Rattle.std.proofs.lemmas.List.{length-map}
+use Rattle.std.proofs.lemmas.List.Elements.{All-map}
+use Rattle.std.proofs.lemmas.List.Sorted.{All-permutation}
+use Rattle.gtfs_rows.specs.Order.{Ascends}
+use Rattle.gtfs_runs.specs.Order.{event_cmp}
+use Rattle.gtfs_runs.specs.StopLanes.{list_value, period_value}
+use Rattle.gtfs_runs.specs.steps.Courses.{IsCourse, how_many, is_same_course, stopping_cmp, stopping_events, stopping_of}
+use Rattle.gtfs_runs.specs.steps.Lists.{latest_of}
+use Rattle.gtfs_runs.proofs.Chunks.{all_mapped}
+use Rattle.gtfs_runs.proofs.LatestEvents.{latest_is}
+use Rattle.gtfs_runs.proofs.WholeLanes.{are_lanes, strictly}
+use Rattle.gtfs_runs.proofs.stop_lanes.StopLanes.build.Goals as goal
+
+pub lists-requires : goal.lists-requires
+lists-requires c =
+    let p = c.args.feed.now in
+    let found = c.in_ok-found.ensures c.args.stop.0 c.in_ok-place.ensures in
+    subst (λ l. Ascends stopping_cmp (map stopping_of l)) (sym c.deref.ensures.value)
+    (strictly p c.args.stop.0 (map stopping_of c.in_ok-found.found.listed.items) (map period_value c.in_ok-found.found.periods.items) found
+    (map stopping_of c.sorted.result.items) c.sorted.ensures.same c.sorted.ensures.in_order)
+
+pub returns-clause-lanes : goal.returns-clause-lanes
+returns-clause-lanes c =
+    let p = c.args.feed.now in
+    let listed = map stopping_of c.in_ok-found.found.listed.items in
+    let periods = map period_value c.in_ok-found.found.periods.items in
+    let sorted = map stopping_of c.sorted.result.items in
+    let lists = c.in_ok-lists.lists.items in
+    let found = c.in_ok-found.ensures c.args.stop.0 c.in_ok-place.ensures in
+    let lent = ap (map stopping_of) c.deref.ensures.value in
+    let known : All (λ x. IsCourse p x.course) sorted = All-permutation (λ x. IsCourse p x.course) listed sorted c.sorted.ensures.same found.known in
+    let services : All (λ x. x.service.0 < length p.services) c.sorted.result.items =
+    λ k d h. (all_mapped (λ x. IsCourse p x.course) stopping_of c.sorted.result.items known k d h).service in
+    are_lanes p c.args.stop.0 listed periods found c.soundness.ensures sorted c.sorted.ensures.same (map list_value lists)
+    (λ k. c.in_ok-lists.ensures.told k ∙ ap (stopping_events k) lent)
+    (length-map lists list_value ∙ c.in_ok-lists.ensures.counted ∙ ap (λ l. how_many is_same_course (map (λ x. x.course) l)) lent)
+    (c.in_ok-lists.ensures.within (length p.services) (subst (λ l. All (λ x. x.service.0 < length p.services) l) (sym c.deref.ensures.value) services))
+    (All-map (λ lane. Ascends event_cmp lane.events) list_value lists (λ k d h. (get_or lists k d).ascending))
+    (All-map (λ lane. Ascends event_cmp lane.events) period_value c.in_ok-found.found.periods.items (λ k d h. (get_or c.in_ok-found.found.periods.items k d).ascending))
+
+pub returns-clause-greatest : goal.returns-clause-greatest
+returns-clause-greatest c =
+    let p = c.args.feed.now in
+    let lanes = map list_value c.in_ok-lists.lists.items ++ map period_value c.in_ok-found.found.periods.items in
+    c.latest-greatest.ensures ∙ (λ i. latest_of (flat_map (λ lane. lane.events) (map list_value (c.deref-2.ensures.value i) ++ map period_value (c.deref-3.ensures.value i))))
+    ∙ latest_is p c.soundness.ensures c.args.stop.0 lanes (returns-clause-lanes c)

@@ -1,0 +1,16 @@
+use Rattle.std.proofs.Common.{◌≡◌, ◌<◌, ◌+◌, ℕ, cond, length, map, take}
+use Rattle.std.specs.Prelude.{◌==◌}
+use Rattle.std.specs.List.{All}
+use Rattle.gtfs_runs.specs.StopLanes.{period_value}
+use Rattle.gtfs_runs.specs.declared.event.Event.{Event}
+use Rattle.gtfs_runs.specs.steps.Finds.{times_passed, times_told}
+use Rattle.gtfs_runs.proofs.stop_lanes.found.add_period.Given as goal
+
+-- the lanes of the stop times so far
+abbrev pub invariant-loop-passing : goal.invariant-loop-passing
+invariant-loop-passing l = record {
+  told : (k : ℕ) (e : Event) → times_told k e (map period_value l.periods.items)
+      ≡ times_told k e (map period_value l.fn.periods.items) + cond (l.service.0 == k) (times_passed l.trip.0 e (take l.passing-index l.passings) l.frequency) 0;
+  counted : length l.periods.items ≡ length l.fn.periods.items + l.passing-index;
+  within : (n : ℕ) → l.service.0 < n → All (λ lane. lane.service < n) (map period_value l.fn.periods.items) → All (λ lane. lane.service < n) (map period_value l.periods.items);
+}

@@ -1,0 +1,24 @@
+use Rattle.std.proofs.Common.{◌≡◌, ◌+◌, ◌==◌, ◌∙◌, cond, length, map, get_or, ap}
+use Rattle.std.proofs.lemmas.List.{get_or_default}
+use Rattle.gtfs_rows.specs.declared.frequency.Frequency.{Frequency}
+use Rattle.gtfs_runs.specs.StopLanes.{period_value}
+use Rattle.gtfs_runs.specs.steps.Finds.{times_passed, times_told}
+use Rattle.gtfs_runs.proofs.PlaceFacts.{some_of}
+use Rattle.gtfs_runs.proofs.LaneTallies.{lanes_counted, periods_more}
+use Rattle.gtfs_runs.proofs.stop_lanes.found.add_periods.Goals as goal
+
+pub loop-frequency-preserved : goal.loop-frequency-preserved
+loop-frequency-preserved c =
+    let fs = c.args.frequencies.now in
+    let n = c.loop-frequency.frequency-index in
+    let within = c.loop-frequency-test.true in
+    let d : Frequency = some_of fs n within in
+    let same : c.frequency-item.result ≡ get_or fs n d = c.frequency-item.is ∙ get_or_default fs n c.frequency-item.result d within in
+    let mid = map period_value c.loop-frequency.periods.items in
+    record {
+      told = λ k e.
+          periods_more k e c.args.service.0 c.args.trip.0 fs c.args.passings.now n d (map period_value c.args.periods.now.items) mid (map period_value c.add_period.new.periods.items) within (c.loop-frequency.invariant.told k e)
+          (c.in_ok-add_period.ensures.told k e ∙ ap (λ f. times_told k e mid + cond (c.args.service.0 == k) (times_passed c.args.trip.0 e c.args.passings.now f) 0) same);
+      counted = lanes_counted _ n (length c.args.passings.now) _ _ c.loop-frequency.invariant.counted c.in_ok-add_period.ensures.counted;
+      within = λ m serves known. c.in_ok-add_period.ensures.within m serves (c.loop-frequency.invariant.within m serves known);
+    }

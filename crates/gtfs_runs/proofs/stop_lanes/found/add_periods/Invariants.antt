@@ -1,0 +1,16 @@
+use Rattle.std.proofs.Common.{◌≡◌, ◌<◌, ◌+◌, ◌*◌, ℕ, cond, length, map, take}
+use Rattle.std.specs.Prelude.{◌==◌}
+use Rattle.std.specs.List.{All}
+use Rattle.gtfs_runs.specs.StopLanes.{period_value}
+use Rattle.gtfs_runs.specs.declared.event.Event.{Event}
+use Rattle.gtfs_runs.specs.steps.Finds.{times_passed_in, times_told}
+use Rattle.gtfs_runs.proofs.stop_lanes.found.add_periods.Given as goal
+
+-- the lanes of the periods so far
+abbrev pub invariant-loop-frequency : goal.invariant-loop-frequency
+invariant-loop-frequency l = record {
+  told : (k : ℕ) (e : Event) → times_told k e (map period_value l.periods.items)
+      ≡ times_told k e (map period_value l.fn.periods.items) + cond (l.service.0 == k) (times_passed_in l.trip.0 e l.passings (take l.frequency-index l.frequencies)) 0;
+  counted : length l.periods.items ≡ length l.fn.periods.items + l.frequency-index * length l.passings;
+  within : (n : ℕ) → l.service.0 < n → All (λ lane. lane.service < n) (map period_value l.fn.periods.items) → All (λ lane. lane.service < n) (map period_value l.periods.items);
+}

@@ -1,0 +1,29 @@
+use Rattle.std.proofs.Common.{◌∙◌, [], ◌∷◌, length, map, drop, sym, ap}
+use Rattle.std.proofs.lemmas.List.{length-append, map-append}
+use Rattle.gtfs_runs.specs.StopLanes.{list_value}
+use Rattle.gtfs_runs.specs.steps.Courses.{how_many, is_same_course, stopping_of}
+use Rattle.gtfs_runs.proofs.Chunks.{fewer, lane_up, told_list}
+use Rattle.gtfs_runs.proofs.CourseOrder.{count_more}
+use Rattle.gtfs_runs.proofs.stop_lanes.lists.add_list.Goals as goal
+
+pub list_lane-requires : goal.list_lane-requires
+list_lane-requires c =
+    let len = c.course_len-len in
+    lane_up c.args.listed.now len.result c.index-listed-0.result len.ensures.some len.ensures.within c.requires.sorted len.ensures.same c.index-listed-0.is
+
+pub returns-clause-told : goal.returns-clause-told
+returns-clause-told c = λ k.
+    let len = c.course_len-len in
+    let lane = c.in_ok-list.list in
+    let old = c.args.lists.now.items in
+    told_list c.args.listed.now len.result c.index-listed-0.result len.ensures.some len.ensures.within c.requires.sorted len.ensures.same c.index-listed-0.is
+    k (map list_value old) (map list_value c.push.new.self.items) (list_value lane) (ap (map list_value) c.in_ok-push.ensures.items ∙ map-append list_value old (lane ∷ []))
+    c.in_ok-list.ensures.events (ap (λ x. x.0) c.in_ok-list.ensures.service ∙ ap (λ x. x.service.0) (sym c.index-listed-0.is))
+
+pub returns-clause-counted : goal.returns-clause-counted
+returns-clause-counted c =
+    let len = c.course_len-len in
+    let more = ap length c.in_ok-push.ensures.items ∙ length-append c.args.lists.now.items (c.in_ok-list.list ∷ []) in
+    count_more (length c.args.lists.now.items) (length c.push.new.self.items) (how_many is_same_course (map (λ x. x.course) (map stopping_of (drop len.result c.args.listed.now))))
+    (how_many is_same_course (map (λ x. x.course) (map stopping_of c.args.listed.now))) more
+    (fewer c.args.listed.now len.result c.index-listed-0.result len.ensures.some len.ensures.within c.requires.sorted len.ensures.same c.index-listed-0.is len.ensures.ends)

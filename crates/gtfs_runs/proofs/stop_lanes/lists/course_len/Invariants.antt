@@ -1,0 +1,15 @@
+use Rattle.std.proofs.Common.{◌≡◌, ◌≤◌, ◌<◌, ◌-◌, ℕ, length, get_or}
+use Rattle.gtfs_runs.specs.declared.stop_lanes.listed.Listed.{Listed}
+use Rattle.gtfs_runs.specs.steps.Courses.{stopping_of}
+use Rattle.gtfs_runs.proofs.stop_lanes.lists.course_len.Given as goal
+
+-- those so far have one course
+abbrev pub invariant-loop-len : goal.invariant-loop-len
+invariant-loop-len l = record {
+  some : 0 < l.len;
+  within : l.len ≤ length l.listed;
+  same : (k : ℕ) (d : Listed) → k < l.len → (stopping_of (get_or l.listed k d)).course ≡ (stopping_of (get_or l.listed 0 d)).course;
+}
+
+abbrev pub decreases-loop-len : goal.decreases-loop-len
+decreases-loop-len l = length l.listed - l.len

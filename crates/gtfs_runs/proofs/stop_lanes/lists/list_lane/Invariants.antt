@@ -1,0 +1,6 @@
+use Rattle.std.proofs.Common.{◌≡◌, map, take}
+use Rattle.gtfs_runs.proofs.stop_lanes.lists.list_lane.Given as goal
+
+-- the events so far
+abbrev pub invariant-loop-stopping : goal.invariant-loop-stopping
+invariant-loop-stopping l = l.events.items ≡ map (λ x. x.event) (take l.stopping-index l.listed)

@@ -1,0 +1,4 @@
+pub mod Passings
+pub mod Courses
+pub mod Finds
+pub mod Lists

@@ -1,0 +1,68 @@
+-- The course of each event of trips without frequencies, by numbers, and the order that brings courses together.
+use Rattle.std.specs.Prelude.{◌<◌, ◌+◌, ◌==◌, ℕ, Bool, All, List, [], ◌∷◌, cond, filter, length, map}
+use Rattle.std.specs.List.{list_any}
+use Rattle.std.specs.Cmp.Lexicographic.{slice_cmp}
+use Rattle.std.specs.Ordering.{nat_cmp, on, then_cmp, is_eq}
+use Rattle.std.specs.declared.cmp.Ordering.{Ordering}
+use Rattle.gtfs_rows.specs.Views.{service_ids, stop_ids, text_of_number}
+use Rattle.gtfs_rows.specs.declared.parts.Parts.{Parts}
+use Rattle.gtfs_rows.specs.declared.stop_row.StopRow.{StopRow}
+use Rattle.gtfs_runs.specs.Lanes.{Course}
+use Rattle.gtfs_runs.specs.Order.{event_cmp}
+use Rattle.gtfs_runs.specs.declared.event.Event.{Event}
+use Rattle.gtfs_runs.specs.declared.stop_lanes.listed.Listed.{Listed}
+
+-- the service, the position of a stop time and the stops of a trip
+pub record CourseNo : Type 0 where
+  pub service : ℕ
+  pub row : ℕ
+  pub stops : List ℕ
+
+-- an event of a lane of this course
+pub record Stopping : Type 0 where
+  pub course : CourseNo
+  pub event : Event
+
+abbrev pub stops_in : List StopRow → List ℕ
+stops_in rows = map (λ row. row.stop_id.0) rows
+
+abbrev pub stopping_of : Listed → Stopping
+stopping_of x = record {
+  course = record { service = x.service.0; row = x.event.row; stops = stops_in x.rows.now };
+  event = x.event;
+}
+
+-- ---- order
+
+abbrev pub course_no_cmp : CourseNo → CourseNo → Ordering
+course_no_cmp = then_cmp (on (λ c. c.service) nat_cmp)
+    (then_cmp (on (λ c. c.row) nat_cmp)
+    (on (λ c. c.stops) (slice_cmp nat_cmp)))
+
+-- by course, then by event
+abbrev pub stopping_cmp : Stopping → Stopping → Ordering
+stopping_cmp = then_cmp (on (λ x. x.course) course_no_cmp) (on (λ x. x.event) event_cmp)
+
+-- ---- counts
+
+-- the events of one service
+abbrev pub stopping_events : ℕ → List Stopping → List Event
+stopping_events k xs = map (λ x. x.event) (filter (λ x. x.course.service == k) xs)
+
+abbrev pub is_same_course : CourseNo → CourseNo → Bool
+is_same_course x y = is_eq (course_no_cmp x y)
+
+-- how many are different
+abbrev pub how_many : {X : Type 0} → (X → X → Bool) → List X → ℕ
+how_many same [] = 0
+how_many same (x ∷ xs) = cond (list_any (same x) xs) (how_many same xs) (how_many same xs + 1)
+
+-- ---- by texts
+
+-- the numbers are those of a service and of stops
+pub record IsCourse (p : Parts) (c : CourseNo) : Type 0 where
+  pub service : c.service < length p.services
+  pub stops : All (λ n. n < length p.stops) c.stops
+
+abbrev pub course_of : Parts → CourseNo → Course
+course_of p c = (map (text_of_number (stop_ids p)) c.stops, c.row, text_of_number (service_ids p) c.service)

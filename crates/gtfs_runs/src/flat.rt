@@ -1,0 +1,217 @@
+ghost use Rattle.std.specs.Prelude.{◌≡◌, ◌≤◌, ◌<◌, ◌+◌, ◌++◌, ◌&&◌, ◌==◌, ℕ, List, All, AllPairs, IfOk, OnOk, Some, cond, length, map, slice_get, slice_index_or, unwrap_or};
+ghost use Rattle.gtfs_feed.specs.Content.{content_of};
+ghost use Rattle.gtfs_feed.specs.Trips.{ArePeriods, left_at, stop_rows_by_trip};
+ghost use Rattle.gtfs_rows.specs.Views.{frequency_of, stop_ids, stop_row_of, text_of_number, trip_of};
+ghost use Rattle.gtfs_rows.specs.declared.frequency.Frequency.{Frequency as FrequencyRow};
+ghost use Rattle.gtfs_rows.specs.declared.parts.Parts.{Parts};
+ghost use Rattle.gtfs_rows.specs.declared.stop_row.StopRow.{StopRow as StopTime};
+ghost use Rattle.gtfs_rows.specs.declared.trip.Trip.{Trip};
+ghost use Rattle.gtfs_runs.specs.Counts.{tally};
+ghost use Rattle.gtfs_runs.specs.FlatEvents.{AreEvents, is_event_of, is_served, served_at};
+ghost use Rattle.gtfs_runs.specs.Places.{members};
+ghost use Rattle.gtfs_runs.specs.Trips.{is_run, passes_at, starts_run};
+ghost use Rattle.gtfs_runs.specs.declared.event.Event.{Event as EventValue};
+
+use crate::departure_row::{departure, leaves_place};
+use crate::event::Event;
+use crate::place::Place;
+use gtfs_feed::Feed;
+use gtfs_field::OutOfMemory;
+use gtfs_rows::{Frequency, ServiceNo, StopNo, StopRow, TripNo};
+use std::alloc::Global;
+
+/// All events at the place of a stop, each once: by the service of their trips, and those of a service in their order.
+///
+/// This is the plain counterpart of lanes, for tests that compare with them. It unfolds every run, so one row of
+/// `frequencies.txt` can make millions of events. The stop's number is below [`Feed::stop_count`].
+///
+/// GTFS Schedule Reference, `stop_times.txt`, `frequencies.txt`, and `parent_station` of `stops.txt`.
+///
+/// # Errors
+/// [`OutOfMemory`] where memory ran out.
+pub fn flat_events(
+    alloc: Global,
+    feed: &Feed,
+    stop: StopNo,
+) -> Result<Vec<(ServiceNo, Event)>, OutOfMemory>
+    requires { stop.0 < length feed.now.stops }
+    ensures { IfOk result (λ events. AreEvents feed.now stop.0 events.items) }
+{
+    let mut events = gathered(alloc, feed, stop)?;
+    events.sort_unstable();
+    Ok(events)
+}
+
+// The events, trip after trip.
+fn gathered(
+    alloc: Global,
+    feed: &Feed,
+    stop: StopNo,
+) -> Result<Vec<(ServiceNo, Event)>, OutOfMemory>
+    requires { stop.0 < length feed.now.stops }
+    ensures { IfOk result (λ events. (service : ℕ) (e : EventValue) → tally (is_served service e) events.items
+        ≡ cond (is_event_of feed.now stop.0 service e) 1 0) }
+{
+    let place = Place::of_stop(alloc, feed, stop)?;
+    let mut events = Vec::new(alloc);
+    for number in 0..feed.trip_count() {
+        push_trip(alloc, feed, &place, TripNo(number), &mut events)?;
+    }
+    Ok(events)
+}
+
+// Adds the events of a trip.
+fn push_trip(
+    alloc: Global,
+    feed: &Feed,
+    place: &Place,
+    trip: TripNo,
+    events: &mut Vec<(ServiceNo, Event)>,
+) -> Result<(), OutOfMemory>
+    requires trip { trip.0 < length feed.now.trips }
+    requires place { length place.now ≡ length feed.now.stops }
+    ensures { OnOk result ((s service : ℕ) (e : EventValue)
+        → place.now ≡ members (content_of feed.now) (text_of_number (stop_ids feed.now) s)
+        → tally (is_served service e) events.new.items ≡ tally (is_served service e) events.old.items
+        + cond ((e.trip.0 == trip.0) && is_event_of feed.now s service e) 1 0) }
+{
+    feed.soundness();
+    let rows = feed.trip_rows(trip);
+    for position in 0..rows.len() {
+        push_row(alloc, feed, place, trip, position, events)?;
+    }
+    Ok(())
+}
+
+// Adds the events of a trip at the stop time of this position, if riders can leave the place there.
+fn push_row(
+    alloc: Global,
+    feed: &Feed,
+    place: &Place,
+    trip: TripNo,
+    position: usize,
+    events: &mut Vec<(ServiceNo, Event)>,
+) -> Result<(), OutOfMemory>
+    requires trip { trip.0 < length feed.now.trips }
+    requires place { length place.now ≡ length feed.now.stops }
+    requires within { (rows : List StopTime)
+        → slice_get (stop_rows_by_trip feed.now) trip.0 ≡ Some rows → position < length rows }
+    ensures { OnOk result ((s service : ℕ) (e : EventValue)
+        → place.now ≡ members (content_of feed.now) (text_of_number (stop_ids feed.now) s)
+        → tally (is_served service e) events.new.items ≡ tally (is_served service e) events.old.items
+        + cond ((e.trip.0 == trip.0) && (e.row == position) && is_event_of feed.now s service e) 1 0) }
+{
+    feed.soundness();
+    let row = feed.trip_by_number(trip);
+    let rows = feed.trip_rows(trip);
+    let periods = feed.trip_frequencies(trip);
+    if !leaves_place(place, rows, position) {
+        return Ok(());
+    }
+    let runs = starts(alloc, rows, periods)?;
+    push_runs(
+        row.service_id,
+        trip,
+        rows,
+        position,
+        runs.as_slice(),
+        events,
+    )?;
+    Ok(())
+}
+
+// Adds an event for each run at the stop time of this position.
+fn push_runs(
+    service: ServiceNo,
+    trip: TripNo,
+    rows: &[StopRow],
+    position: usize,
+    runs: &[u32],
+    events: &mut Vec<(ServiceNo, Event)>,
+) -> Result<(), OutOfMemory>
+    requires within { position < length rows.now }
+    requires early { All (λ r. r < 7_200_000) runs.now }
+    requires ascend { (d : StopTime) → unwrap_or (left_at (slice_index_or rows.now 0 d)) 0
+        ≤ unwrap_or (left_at (slice_index_or rows.now position d)) 0 }
+    ensures { OnOk result ((p : Parts) (t : Trip) (fs : List FrequencyRow) (d : StopTime)
+        → t.service_id ≡ service → events.new.items ≡ events.old.items
+        ++ map (served_at p t rows.now fs trip.0 position (slice_index_or rows.now position d)) runs.now) }
+{
+    for run in runs {
+        events.push((service, event_at(trip, rows, position, *run)))?;
+    }
+    Ok(())
+}
+
+// The event of a run at the stop time of this position.
+fn event_at(trip: TripNo, rows: &[StopRow], position: usize, run: u32) -> Event
+    requires within { position < length rows.now }
+    requires early { run < 7_200_000 }
+    requires ascend { (d : StopTime) → unwrap_or (left_at (slice_index_or rows.now 0 d)) 0
+        ≤ unwrap_or (left_at (slice_index_or rows.now position d)) 0 }
+    ensures at { (p : Parts) (t : Trip) (fs : List FrequencyRow) (d : StopTime) → result.at
+        ≡ passes_at (trip_of p t rows.now fs) run
+        (stop_row_of p (slice_index_or rows.now position d)) }
+    ensures trip { result.trip ≡ trip }
+    ensures run { result.run ≡ run }
+    ensures seq { (d : StopTime) → result.seq ≡ (slice_index_or rows.now position d).stop_sequence }
+    ensures row { result.row ≡ position }
+{
+    let row = &rows[position];
+    Event {
+        at: run + leaves(row) - leaves(&rows[0]),
+        trip,
+        run,
+        seq: row.stop_sequence,
+        row: position,
+    }
+}
+
+// When a vehicle leaves, 0 where there is no time.
+fn leaves(row: &StopRow) -> u32
+    ensures value { result ≡ unwrap_or (left_at row.now) 0 }
+    ensures bound { result < 7_200_000 }
+{
+    match departure(row) {
+        Some(time) => time.seconds(),
+        None => 0,
+    }
+}
+
+// The seconds at which the runs of a trip start, of its stop times, of which there is one, and its frequencies.
+fn starts(alloc: Global, rows: &[StopRow], periods: &[Frequency]) -> Result<Vec<u32>, OutOfMemory>
+    requires filled { 0 < length rows.now }
+    requires moves { All (λ f. 0 < f.headway_secs) periods.now }
+    requires apart { ArePeriods periods.now }
+    ensures runs { IfOk result (λ starts. (p : Parts) (t : Trip) (r : ℕ) → tally (λ x. r == x) starts.items
+        ≡ cond (is_run (trip_of p t rows.now periods.now) r) 1 0) }
+    ensures early { IfOk result (λ starts. All (λ r. r < 7_200_000) starts.items) }
+{
+    let mut starts = Vec::new(alloc);
+    if periods.is_empty() {
+        starts.push(leaves(&rows[0]))?;
+        return Ok(starts);
+    }
+    for period in periods {
+        push_starts(period, &mut starts)?;
+    }
+    Ok(starts)
+}
+
+// Adds the seconds at which the runs of a period start.
+fn push_starts(period: &Frequency, starts: &mut Vec<u32>) -> Result<(), OutOfMemory>
+    requires moves { 0 < period.now.headway_secs }
+    requires lasts { period.now.start_time < period.now.end_time }
+    ensures runs { OnOk result ((r : ℕ) → tally (λ x. r == x) starts.new.items
+        ≡ tally (λ x. r == x) starts.old.items + cond (starts_run (frequency_of period.now) r) 1 0) }
+    ensures early { OnOk result (All (λ r. r < 7_200_000) starts.old.items
+        → All (λ r. r < 7_200_000) starts.new.items) }
+{
+    let start = period.start_time.seconds();
+    for second in start..period.end_time.seconds() {
+        if (second - start) % period.headway_secs == 0 {
+            starts.push(second)?;
+        }
+    }
+    Ok(())
+}

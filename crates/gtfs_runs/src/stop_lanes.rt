@@ -1,0 +1,109 @@
+ghost use Rattle.std.specs.Prelude.{◌≡◌, ◌<◌, IfOk, length, map};
+ghost use Rattle.gtfs_feed.specs.Content.{content_of};
+ghost use Rattle.gtfs_rows.specs.Views.{service_ids, stop_ids, text_of_number};
+ghost use Rattle.gtfs_runs.specs.Lanes.{latest};
+ghost use Rattle.gtfs_runs.specs.StopLanes.{AreLanesOf, lanes_of, list_value, period_value};
+
+mod found;
+mod latest;
+mod listed;
+mod lists;
+mod passing;
+
+use crate::list_lane::ListLane;
+use crate::place::Place;
+use crate::step_lane::StepLane;
+use crate::steps::Steps;
+use crate::stop_lanes::found::Found;
+use crate::stop_lanes::latest::latest;
+use crate::stop_lanes::listed::sorted;
+use crate::stop_lanes::lists::lists;
+use gtfs_feed::Feed;
+use gtfs_field::OutOfMemory;
+use gtfs_rows::StopNo;
+use std::alloc::Global;
+use std::marker::Model;
+
+/// The lanes of the place of a stop: the stop, and each stop or platform whose parent it is.
+///
+/// Each run of a trip that passes a stop time there at which riders can leave is an event of one lane of the trip's
+/// service. Trips without frequencies that have one list of stops and one service share a lane for each position in that
+/// list; a row of `frequencies.txt` has one for each such stop time of its trip.
+#[derive(Debug, Drop)]
+pub struct StopLanes {
+    lists: Vec<ListLane>,
+    periods: Vec<StepLane>,
+    greatest: u32,
+}
+
+impl Model for StopLanes {
+    ghost use Rattle.std.specs.Prelude.{map};
+    ghost use Rattle.gtfs_runs.specs.StopLanes.{StopLanesValue, list_value, period_value};
+
+    ghost Value = { StopLanesValue };
+
+    ghost view = { λ s. record {
+      lists = map list_value s.lists.items;
+      periods = map period_value s.periods.items;
+      greatest = s.greatest;
+    } };
+}
+
+impl StopLanes {
+    /// The lanes of the place of a stop, whose number is below [`Feed::stop_count`], and a count of steps, which begins at 0:
+    /// nothing else makes one.
+    ///
+    /// It looks at each stop time of the feed once, and sorts the events of trips without frequencies there. A row of
+    /// `frequencies.txt` takes the same memory however many runs it has.
+    ///
+    /// GTFS Schedule Reference, `stop_times.txt`, `frequencies.txt`, and `parent_station` of `stops.txt`.
+    ///
+    /// # Errors
+    /// [`OutOfMemory`] where memory ran out.
+    pub fn build(
+        alloc: Global,
+        feed: &Feed,
+        stop: StopNo,
+    ) -> Result<(StopLanes, Steps), OutOfMemory>
+        requires { stop.0 < length feed.now.stops }
+        ensures lanes { IfOk result (λ built. AreLanesOf (content_of feed.now)
+            (text_of_number (stop_ids feed.now) stop.0) (service_ids feed.now) (lanes_of built.0)) }
+        ensures greatest { IfOk result (λ built. built.0.greatest
+            ≡ latest (content_of feed.now) (text_of_number (stop_ids feed.now) stop.0)) }
+        ensures steps { IfOk result (λ built. built.1 ≡ 0) }
+    {
+        feed.soundness();
+        let place = Place::of_stop(alloc, feed, stop)?;
+        let found = Found::at_place(alloc, feed, &place)?;
+        let lists = lists(alloc, &sorted(found.listed))?;
+        let greatest = latest(&lists, &found.periods);
+        let lanes = StopLanes {
+            lists,
+            periods: found.periods,
+            greatest,
+        };
+        Ok((lanes, Steps::new()))
+    }
+
+    /// The lanes of trips without frequencies: one for each list of stops, position in it and service.
+    pub fn lists(&self) -> &[ListLane]
+        ensures { map list_value result.now ≡ self.now.lists }
+    {
+        &self.lists
+    }
+
+    /// The lanes of the rows of `frequencies.txt`: one for each row and each of these stop times of its trip.
+    pub fn periods(&self) -> &[StepLane]
+        ensures { map period_value result.now ≡ self.now.periods }
+    {
+        &self.periods
+    }
+
+    /// The latest second from the origin of a service day at which a run passes one of these stop times, 0 to 7,199,997, and
+    /// 0 where there is none.
+    pub fn greatest(&self) -> u32
+        ensures { result ≡ self.now.greatest }
+    {
+        self.greatest
+    }
+}

@@ -1,0 +1,157 @@
+ghost use Rattle.std.specs.Prelude.{◌≡◌, ◌≤◌, ◌<◌, ◌+◌, ◌*◌, ◌++◌, ◌==◌, ℕ, All, IfOk, OnOk, cond, length, map};
+ghost use Rattle.gtfs_feed.specs.Content.{content_of};
+ghost use Rattle.gtfs_rows.specs.Views.{stop_ids, text_of_number};
+ghost use Rattle.gtfs_runs.specs.Places.{members};
+ghost use Rattle.gtfs_runs.specs.StopLanes.{period_value};
+ghost use Rattle.gtfs_runs.specs.declared.event.Event.{Event as EventValue};
+ghost use Rattle.gtfs_runs.specs.steps.Courses.{stopping_of, stops_in};
+ghost use Rattle.gtfs_runs.specs.steps.Finds.{AreFound, HasRuns, stopping_at, times_passed, times_passed_in, times_told};
+ghost use Rattle.gtfs_runs.specs.steps.Passings.{first_left};
+
+use crate::place::Place;
+use crate::step_lane::StepLane;
+use crate::stop_lanes::listed::Listed;
+use crate::stop_lanes::passing::{Passing, passings, trip_start};
+use gtfs_feed::Feed;
+use gtfs_field::OutOfMemory;
+use gtfs_rows::{Frequency, ServiceNo, StopRow, TripNo};
+use std::alloc::Global;
+
+// What leaves the place of a stop.
+#[derive(Drop)]
+pub(crate) struct Found<'a> {
+    // The events of trips without frequencies.
+    pub(crate) listed: Vec<Listed<'a>>,
+    // A lane for each row of frequencies.txt and each stop time of its trip there.
+    pub(crate) periods: Vec<StepLane>,
+}
+
+impl<'a> Found<'a> {
+    // What leaves the place, of all trips.
+    pub(crate) fn at_place(
+        alloc: Global,
+        feed: &'a Feed,
+        place: &Place,
+    ) -> Result<Found<'a>, OutOfMemory>
+        requires { length place.now ≡ length feed.now.stops }
+        ensures { IfOk result (λ found. (s : ℕ)
+            → place.now ≡ members (content_of feed.now) (text_of_number (stop_ids feed.now) s)
+            → AreFound feed.now s (length feed.now.trips) (map stopping_of found.listed.items) (map period_value found.periods.items)) }
+    {
+        let mut listed = Vec::new(alloc);
+        let mut periods = Vec::new(alloc);
+        for number in 0..feed.trip_count() {
+            add_trip(
+                alloc,
+                feed,
+                place,
+                TripNo(number),
+                &mut listed,
+                &mut periods,
+            )?;
+        }
+        Ok(Found { listed, periods })
+    }
+}
+
+// Adds what leaves the place of one trip.
+fn add_trip<'a>(
+    alloc: Global,
+    feed: &'a Feed,
+    place: &Place,
+    trip: TripNo,
+    listed: &mut Vec<Listed<'a>>,
+    periods: &mut Vec<StepLane>,
+) -> Result<(), OutOfMemory>
+    requires trip { trip.0 < length feed.now.trips }
+    requires stops { length place.now ≡ length feed.now.stops }
+    ensures { OnOk result ((s : ℕ)
+        → place.now ≡ members (content_of feed.now) (text_of_number (stop_ids feed.now) s)
+        → AreFound feed.now s trip.0 (map stopping_of listed.old.items) (map period_value periods.old.items)
+        → AreFound feed.now s (trip.0 + 1) (map stopping_of listed.new.items) (map period_value periods.new.items)) }
+{
+    feed.soundness();
+    let service = feed.trip_by_number(trip).service_id;
+    let frequencies = feed.trip_frequencies(trip);
+    let passings = passings(alloc, feed, place, trip)?;
+    if frequencies.is_empty() {
+        add_listed(service, trip, feed.trip_rows(trip), &passings, listed)?;
+    } else {
+        add_periods(service, trip, frequencies, &passings, periods)?;
+    }
+    Ok(())
+}
+
+// Adds the events of a trip without frequencies.
+fn add_listed<'a>(
+    service: ServiceNo,
+    trip: TripNo,
+    rows: &'a [StopRow],
+    passings: &[Passing],
+    listed: &mut Vec<Listed<'a>>,
+) -> Result<(), OutOfMemory>
+    requires { All (λ x. x.after ≤ 3_599_999) passings.now }
+    ensures { OnOk result (map stopping_of listed.new.items ≡ map stopping_of listed.old.items
+        ++ map (stopping_at (stops_in rows.now) service.0 trip.0 (first_left rows.now)) passings.now) }
+{
+    let start = trip_start(rows);
+    for passing in passings {
+        listed.push(Listed {
+            service,
+            rows,
+            event: passing.event(trip, start),
+        })?;
+    }
+    Ok(())
+}
+
+// Adds the lanes of the frequencies of a trip.
+fn add_periods(
+    service: ServiceNo,
+    trip: TripNo,
+    frequencies: &[Frequency],
+    passings: &[Passing],
+    periods: &mut Vec<StepLane>,
+) -> Result<(), OutOfMemory>
+    requires runs { All HasRuns frequencies.now }
+    requires after { All (λ x. x.after ≤ 3_599_999) passings.now }
+    ensures told { OnOk result ((k : ℕ) (e : EventValue) → times_told k e (map period_value periods.new.items)
+        ≡ times_told k e (map period_value periods.old.items)
+        + cond (service.0 == k) (times_passed_in trip.0 e passings.now frequencies.now) 0) }
+    ensures counted { OnOk result (length periods.new.items
+        ≡ length periods.old.items + length frequencies.now * length passings.now) }
+    ensures within { OnOk result ((n : ℕ) → service.0 < n
+        → All (λ lane. lane.service < n) (map period_value periods.old.items)
+        → All (λ lane. lane.service < n) (map period_value periods.new.items)) }
+{
+    for frequency in frequencies {
+        add_period(service, trip, frequency, passings, periods)?;
+    }
+    Ok(())
+}
+
+// Adds the lanes of one row of frequencies.txt.
+fn add_period(
+    service: ServiceNo,
+    trip: TripNo,
+    frequency: &Frequency,
+    passings: &[Passing],
+    periods: &mut Vec<StepLane>,
+) -> Result<(), OutOfMemory>
+    requires runs { HasRuns frequency.now }
+    requires after { All (λ x. x.after ≤ 3_599_999) passings.now }
+    ensures told { OnOk result ((k : ℕ) (e : EventValue) → times_told k e (map period_value periods.new.items)
+        ≡ times_told k e (map period_value periods.old.items)
+        + cond (service.0 == k) (times_passed trip.0 e passings.now frequency.now) 0) }
+    ensures counted { OnOk result (length periods.new.items
+        ≡ length periods.old.items + length passings.now) }
+    ensures within { OnOk result ((n : ℕ) → service.0 < n
+        → All (λ lane. lane.service < n) (map period_value periods.old.items)
+        → All (λ lane. lane.service < n) (map period_value periods.new.items)) }
+{
+    for passing in passings {
+        let first = passing.event(trip, frequency.start_time.seconds());
+        periods.push(StepLane::of_period(service, first, frequency))?;
+    }
+    Ok(())
+}

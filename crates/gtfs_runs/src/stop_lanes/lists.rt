@@ -1,0 +1,87 @@
+ghost use Rattle.std.specs.Prelude.{◌≡◌, ◌≤◌, ◌<◌, ◌+◌, ◌++◌, ℕ, All, IfOk, drop, false, length, map, slice_index_or};
+ghost use Rattle.gtfs_rows.specs.Order.{Ascends};
+ghost use Rattle.gtfs_runs.specs.Order.{event_cmp};
+ghost use Rattle.gtfs_runs.specs.StopLanes.{events_of_service, list_value};
+ghost use Rattle.gtfs_runs.specs.declared.stop_lanes.listed.Listed.{Listed as ListedValue};
+ghost use Rattle.gtfs_runs.specs.steps.Courses.{how_many, is_same_course, stopping_cmp, stopping_events, stopping_of};
+
+use crate::list_lane::ListLane;
+use crate::stop_lanes::listed::{Listed, course_order};
+use gtfs_field::OutOfMemory;
+use gtfs_rows::ServiceNo;
+use std::alloc::Global;
+
+// A lane for each course of these events, which are sorted.
+pub(crate) fn lists(alloc: Global, listed: &[Listed<'_>]) -> Result<Vec<ListLane>, OutOfMemory>
+    requires { Ascends stopping_cmp (map stopping_of listed.now) }
+    ensures told { IfOk result (λ lists. (k : ℕ) → events_of_service k (map list_value lists.items)
+        ≡ stopping_events k (map stopping_of listed.now)) }
+    ensures counted { IfOk result (λ lists. length lists.items
+        ≡ how_many is_same_course (map (λ x. x.course) (map stopping_of listed.now))) }
+    ensures within { IfOk result (λ lists. (n : ℕ) → All (λ x. x.service.0 < n) listed.now
+        → All (λ lane. lane.service < n) (map list_value lists.items)) }
+{
+    let mut lists = Vec::new(alloc);
+    let mut at = 0;
+    while at < listed.len() {
+        at += add_list(alloc, &listed[at..], &mut lists)?;
+    }
+    Ok(lists)
+}
+
+// Adds the lane of the first course of these events, which are sorted. Answers how many they are.
+fn add_list(
+    alloc: Global,
+    listed: &[Listed<'_>],
+    lists: &mut Vec<ListLane>,
+) -> Result<usize, OutOfMemory>
+    requires some { 0 < length listed.now }
+    requires sorted { Ascends stopping_cmp (map stopping_of listed.now) }
+    ensures some { IfOk result (λ n. 0 < n) }
+    ensures upto { IfOk result (λ n. n ≤ length listed.now) }
+    ensures told { IfOk result (λ n. (k : ℕ) → events_of_service k (map list_value lists.new.items) ++ stopping_events k (map stopping_of (drop n listed.now))
+        ≡ events_of_service k (map list_value lists.old.items) ++ stopping_events k (map stopping_of listed.now)) }
+    ensures counted { IfOk result (λ n. length lists.new.items + how_many is_same_course (map (λ x. x.course) (map stopping_of (drop n listed.now)))
+        ≡ length lists.old.items + how_many is_same_course (map (λ x. x.course) (map stopping_of listed.now))) }
+    ensures within { IfOk result (λ n. (m : ℕ) → All (λ x. x.service.0 < m) listed.now
+        → All (λ lane. lane.service < m) (map list_value lists.old.items) → All (λ lane. lane.service < m) (map list_value lists.new.items)) }
+{
+    let len = course_len(listed);
+    let list = list_lane(alloc, listed[0].service, &listed[..len])?;
+    lists.push(list)?;
+    Ok(len)
+}
+
+// How many events at the beginning have the course of the first.
+fn course_len(listed: &[Listed<'_>]) -> usize
+    requires { 0 < length listed.now }
+    ensures some { 0 < result }
+    ensures within { result ≤ length listed.now }
+    ensures same { (k : ℕ) (d : ListedValue) → k < result
+        → (stopping_of (slice_index_or listed.now k d)).course ≡ (stopping_of (slice_index_or listed.now 0 d)).course }
+    ensures ends { (d : ListedValue) → result < length listed.now
+        → is_same_course (stopping_of (slice_index_or listed.now 0 d)).course (stopping_of (slice_index_or listed.now result d)).course ≡ false }
+{
+    let mut len = 1;
+    while len < listed.len() && course_order(&listed[0], &listed[len]).is_eq() {
+        len += 1;
+    }
+    len
+}
+
+// The lane of these events.
+fn list_lane(
+    alloc: Global,
+    service: ServiceNo,
+    listed: &[Listed<'_>],
+) -> Result<ListLane, OutOfMemory>
+    requires { Ascends event_cmp (map (λ x. x.event) listed.now) }
+    ensures service { IfOk result (λ lane. lane.service ≡ service) }
+    ensures events { IfOk result (λ lane. lane.events.items ≡ map (λ x. x.event) listed.now) }
+{
+    let mut events = Vec::with_capacity(alloc, listed.len())?;
+    for stopping in listed {
+        events.push(stopping.event)?;
+    }
+    Ok(ListLane::new(service, events))
+}

@@ -1,0 +1,101 @@
+ghost use Rattle.std.specs.Prelude.{◌≡◌, ◌≤◌, ◌<◌, ◌-◌, ℕ, All, IfOk, List, Some, length, slice_get, unwrap_or};
+ghost use Rattle.gtfs_feed.specs.Content.{content_of};
+ghost use Rattle.gtfs_feed.specs.Trips.{left_at, stop_rows_by_trip};
+ghost use Rattle.gtfs_rows.specs.Views.{stop_ids, text_of_number};
+ghost use Rattle.gtfs_rows.specs.declared.frequency.Frequency.{Frequency};
+ghost use Rattle.gtfs_rows.specs.declared.stop_row.StopRow.{StopRow as StopTime};
+ghost use Rattle.gtfs_rows.specs.declared.trip.Trip.{Trip};
+ghost use Rattle.gtfs_runs.specs.Places.{members};
+ghost use Rattle.gtfs_runs.specs.steps.Passings.{first_left, passing_at, passing_event, passings_of};
+
+use crate::departure_row::{departure, leaves_place};
+use crate::event::Event;
+use crate::place::Place;
+use gtfs_feed::Feed;
+use gtfs_field::OutOfMemory;
+use gtfs_rows::{StopRow, TripNo};
+use std::alloc::Global;
+
+// A stop time at which riders can leave the place of a stop, and how many seconds after its start a run passes it.
+#[derive(Clone, Copy, Debug)]
+pub(crate) struct Passing {
+    pub(crate) after: u32,
+    // `stop_sequence`.
+    pub(crate) seq: u32,
+    // The position among the stop times of the trip.
+    pub(crate) row: usize,
+}
+
+impl Passing {
+    // The event of the run that starts at this second.
+    pub(crate) fn event(&self, trip: TripNo, run: u32) -> Event
+        requires after { self.now.after ≤ 3_599_999 }
+        requires run { run ≤ 7_199_999 }
+        ensures { result ≡ passing_event trip.0 run self.now }
+    {
+        Event {
+            at: run + self.after,
+            trip,
+            run,
+            seq: self.seq,
+            row: self.row,
+        }
+    }
+}
+
+// When a vehicle leaves the first of the stop times of a trip, 0 where there is none.
+pub(crate) fn trip_start(rows: &[StopRow]) -> u32
+    ensures value { result ≡ first_left rows.now }
+    ensures bound { result ≤ 7_199_999 }
+{
+    rows.first().map_or(0, left)
+}
+
+// When a vehicle leaves, 0 where the stop time has no time.
+fn left(row: &StopRow) -> u32
+    ensures value { result ≡ unwrap_or (left_at row.now) 0 }
+    ensures bound { result ≤ 7_199_999 }
+{
+    departure(row).map_or(0, |clock| clock.seconds())
+}
+
+// The stop times of a trip at which riders can leave the place of a stop, by position.
+pub(crate) fn passings(
+    alloc: Global,
+    feed: &Feed,
+    place: &Place,
+    trip: TripNo,
+) -> Result<Vec<Passing>, OutOfMemory>
+    requires trip { trip.0 < length feed.now.trips }
+    requires stops { length place.now ≡ length feed.now.stops }
+    ensures passings { IfOk result (λ found. (s : ℕ) (t : Trip) (rows : List StopTime) (fs : List Frequency)
+        → place.now ≡ members (content_of feed.now) (text_of_number (stop_ids feed.now) s)
+        → slice_get (stop_rows_by_trip feed.now) trip.0 ≡ Some rows
+        → found.items ≡ passings_of feed.now s t rows fs) }
+    ensures after { IfOk result (λ found. All (λ x. x.after ≤ 3_599_999) found.items) }
+{
+    feed.soundness();
+    let rows = feed.trip_rows(trip);
+    let start = trip_start(rows);
+    let mut found = Vec::new(alloc);
+    for position in 0..rows.len() {
+        if leaves_place(place, rows, position) {
+            found.push(passed(&rows[position], start, position))?;
+        }
+    }
+    Ok(found)
+}
+
+// The stop time of this position, at which a vehicle leaves no earlier than the trip starts.
+fn passed(row: &StopRow, start: u32, position: usize) -> Passing
+    requires from { start ≤ unwrap_or (left_at row.now) 0 }
+    requires to { unwrap_or (left_at row.now) 0 ≤ 3_599_999 }
+    ensures value { result ≡ passing_at start (position, row.now) }
+    ensures after { result.after ≤ 3_599_999 }
+{
+    Passing {
+        after: left(row) - start,
+        seq: row.stop_sequence,
+        row: position,
+    }
+}
