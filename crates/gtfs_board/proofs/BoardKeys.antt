@@ -68,7 +68,7 @@ member-in ids k (c ∷ cs) h = elim (or_cases (is_eq (key_cmp k (key_among ids c
   | inr later ↦ let r = member-in ids k cs later in (r.0, (inr r.1.0, r.1.1))
 ]
 
-in-member : (ids : List (List ℕ)) (k : Key) (cs : List Candidate) (c : Candidate) → In c cs → key_among ids c ≡ k → is_member k (map (key_among ids) cs) ≡ true
+pub in-member : (ids : List (List ℕ)) (k : Key) (cs : List Candidate) (c : Candidate) → In c cs → key_among ids c ≡ k → is_member k (map (key_among ids) cs) ≡ true
 in-member ids k [] c there is = absurd there
 in-member ids k (d ∷ cs) c there is = elim there [
   | inl e ↦

@@ -18,5 +18,17 @@ pub mod OneBoard
 pub mod CandidateKeys
 pub mod BoardKeys
 pub mod Pages
+pub mod Seeks
+pub mod LaneDays
+pub mod ServiceDays
+pub mod EventFacts
+pub mod StopBoards
+pub mod Timely
+pub mod Floors
+pub mod Opened
+pub mod ShownRows
+pub mod Results
+mod SheetTexts
 mod TextVectors
 mod BoardVectors
+mod SheetExamples

@@ -9,7 +9,7 @@ use Rattle.std.proofs.lemmas.List.Sorted.{sum_by-IsPermutation}
 use Rattle.gtfs_board.specs.declared.merge.candidate.Candidate.{Candidate}
 use Rattle.gtfs_board.specs.merge.Order.{In, Each, IsUpward, same, tally}
 use Rattle.gtfs_board.specs.merge.Lanes.{Events, AreLanes, AreHeads, AreAll, IsStopped, IsFrom, IsStartDay, AreStepsFew, is_reached, is_opened, rest_of}
-use Rattle.gtfs_board.specs.merge.Candidates.{candidate_lt, least_from, day_of, lane_of, instant_of, IsWithin, AreGathered, position, IsFirst, IsWaiting, head_of}
+use Rattle.gtfs_board.specs.merge.Candidates.{candidate_lt, least_from, day_of, lane_of, instant_of, IsWithin, AreGathered, position, IsAside, IsFirst, IsWaiting, head_of}
 use Rattle.gtfs_board.proofs.Orders.{Each-in, find-in, find-least}
 use Rattle.gtfs_board.proofs.Ints.{cases_int, int_lt-true}
 use Rattle.gtfs_board.proofs.Heads.{in-from_tally, head-waits, least_of_all, heads_taken, head-found, find-passes}
@@ -20,7 +20,7 @@ use Rattle.gtfs_board.proofs.Rests.{rest_taken, rest_empty, in-in_order, in-filt
 use Rattle.gtfs_board.proofs.Candidates.{candidates_strict, not_lt-instant}
 use Rattle.gtfs_board.proofs.Gathers.{least_from-is, least_from-above}
 
-tally_sum : {C : Type 0} (p : C → Bool) (xs : List C) → sum_by (λ x. cond (p x) 1 0) xs ≡ tally p xs
+pub tally_sum : {C : Type 0} (p : C → Bool) (xs : List C) → sum_by (λ x. cond (p x) 1 0) xs ≡ tally p xs
 tally_sum p [] = refl
 tally_sum p (x ∷ xs) = sum_by-cons (λ x. cond (p x) 1 0) x xs ∙ ap (λ n. cond (p x) 1 0 + n) (tally_sum p xs)
 
@@ -296,3 +296,17 @@ steps_opened_from n low last y y2 start mark day days before after from few ey =
     let b = opened-reached low day y days in
     let b2 = times_le n (tally (is_opened low day y) days) (tally (is_reached low y) days) b in
     rw ey (omega (arith, h, b2))
+
+-- a floor stays aside on later days
+pub aside_later : (floor : Candidate) (a b : ℤ) (n : ℕ) → a ≤ℤ b → IsAside floor a n → IsAside floor b n
+aside_later floor a b n up aside = elim aside [
+  | inl earlier ↦ inl (omega (arith, ints, up, earlier))
+  | inr outside ↦ inr outside
+]
+
+-- the day of each candidate that waits is opened
+pub first_opened : {count latest : ℕ} {events : Events Candidate} → AreLanes candidate_lt instant_of day_of lane_of count latest events
+    → (floor : Candidate) (queue : List Candidate) (day : ℤ) → AreHeads candidate_lt day_of lane_of events day (candidate_lt floor) queue
+    → (c : Candidate) → In c queue → c.day <ℤ day
+first_opened ls floor queue day heads c there =
+    (head-found candidates_strict ls day (candidate_lt floor) c (waits-head candidates_strict ls day (candidate_lt floor) queue heads c there)).0

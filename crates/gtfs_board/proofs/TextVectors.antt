@@ -33,7 +33,7 @@ april = record {
   day_in = (lit≤ tt, lit≤ tt);
 }
 
-date : date_text (pos 19814) ≡ codes "20240401"
+pub date : date_text (pos 19814) ≡ codes "20240401"
 unfolding april days_from_civil day_count days_of_years days_of_months
 date = same_digits april 45381 (lit< tt) refl
 

@@ -1,10 +1,12 @@
 //! Pages of a board.
 ghost use Rattle.std.specs.Prelude.{◌≡◌, ◌≤◌, IfOk, IfErr};
+ghost use Rattle.gtfs_board.specs.Board.{IsQueued, SameSettings};
 ghost use Rattle.gtfs_board.specs.PageFaults.{EndsLine, EndsPage, IsCounted, IsLineSent};
 ghost use Rattle.gtfs_board.specs.Page.{IsPage};
 
 mod listing;
 
+use crate::board::Board;
 use crate::line::push_line;
 use gtfs_table::{Out, write_text};
 use listing::Listing;
@@ -21,6 +23,32 @@ pub enum PageFault {
     /// Memory ran out. Nothing but whole lines went out.
     #[error("out of memory after {0} lines")]
     OutOfMemory(u64),
+}
+
+/// Writes the lines of the next departures of a board, at most `limit`, and answers how many they were: fewer only where none
+/// is left. What is written is taken from the board, each line before the next departure is looked for, and no page is
+/// gathered in memory.
+///
+/// # Errors
+/// `Out` where the output failed, and its count of failures rose: of one more line, whose departure is gone too, at most a
+/// beginning went out. `OutOfMemory` where memory ran out: whole lines went out, and at most one departure more is gone. Each
+/// tells how many whole lines went out.
+pub fn write_page<O: Out>(
+    alloc: Global,
+    board: &mut Board<'_>,
+    limit: u64,
+    out: &mut O,
+) -> Result<u64, PageFault>
+    ensures page { IfOk result (IsPage board.old.zone limit board.old.rest board.new.rest
+        (O.told out.old) (O.told out.new)) }
+    ensures fault { IfErr result (EndsPage board.old.zone limit board.old.rest board.new.rest
+        (O.told out.old) (O.told out.new)) }
+    ensures counted { IfErr result (IsCounted (O.failure_count out.old) (O.failure_count out.new)) }
+    ensures grows { O.failure_count out.old ≤ O.failure_count out.new }
+    ensures settings { SameSettings board.old board.new }
+    ensures queued { IsQueued board.old → IsQueued board.new }
+{
+    write_lines(alloc, board, limit, out)
 }
 
 // Writes the lines of the next departures, at most `limit`, and answers how many they were: fewer only where none is left.

@@ -1,11 +1,11 @@
 -- The order of candidates.
 use Rattle.std.specs.Option.{option_to_list}
 use Rattle.std.specs.BinaryHeap.{IsHeap}
-use Rattle.std.specs.Prelude.{◌≡◌, ◌≤◌, ◌+◌, ◌*◌, ◌/◌, ◌∷◌, length, Bool, false, ℕ, ℤ, List, [], Option, Some, None, MatchOption, map, ◌++◌, pos, ◌+ℤ◌, ◌-ℤ◌, ◌*ℤ◌, ◌≤ℤ◌}
+use Rattle.std.specs.Prelude.{◌≡◌, ◌≤◌, ◌+◌, ◌*◌, ◌/◌, ◌∷◌, length, Bool, false, ℕ, ℤ, List, [], Option, Some, None, MatchOption, map, ◌++◌, pos, ◌+ℤ◌, ◌-ℤ◌, ◌*ℤ◌, ◌≤ℤ◌, ◌<ℤ◌, ◌⊎◌}
 use Rattle.gtfs_board.specs.merge.Order.{In, Each, tally, same}
 use Rattle.std.specs.List.{find, filter_map, range_with_len, fold}
 use Rattle.std.specs.Int.{int_min}
-use Rattle.gtfs_board.specs.merge.Lanes.{Events, AreHeads, AreLanes, IsStopped, IsFrom, is_reached, rest_of}
+use Rattle.gtfs_board.specs.merge.Lanes.{Events, AreAll, AreHeads, AreLanes, IsStopped, IsFrom, is_reached, rest_of}
 use Rattle.std.specs.declared.cmp.Ordering.{Ordering}
 use Rattle.std.specs.Ordering.{nat_cmp, int_cmp, is_lt, on, then_cmp, flip_args}
 use Rattle.gtfs_board.specs.declared.merge.candidate.Candidate.{Candidate}
@@ -74,6 +74,18 @@ IsWithin mark c = (c.day *ℤ pos 86_400) ≤ℤ (mark +ℤ pos 93_599)
 abbrev pub AreCandidateLanes : ℕ → ℕ → Events Candidate → Type 0
 AreCandidateLanes count latest events = AreLanes candidate_lt instant_of day_of lane_of count latest events
 
+-- what a source of candidates keeps, which tells the events of `count` lanes on the days from the first to the last
+pub record IsSource (count latest : ℕ) (end first last : ℤ) (days : List ℤ) (events : Events Candidate) (all : List Candidate) : Type 0 where
+  -- no event lies beyond the end
+  pub ends : (i : ℕ) (d : ℤ) → EndsBy end (events i d)
+  -- the days from the first to the last are the service days, and no other day has events
+  pub listed : (d : ℤ) → first ≤ℤ d → d ≤ℤ last → In d days
+  pub within : (d : ℤ) → In d days → d ≤ℤ last
+  pub before : (i : ℕ) (d : ℤ) → d <ℤ first → events i d ≡ []
+  pub beyond : (i : ℕ) (d : ℤ) → last <ℤ d → events i d ≡ []
+  pub lanes : AreLanes candidate_lt instant_of day_of lane_of count latest events
+  pub whole : AreAll day_of lane_of events all
+
 -- the first events above a floor wait, of each lane on each day before `day`
 abbrev pub AreHeadsAbove : Events Candidate → Candidate → ℤ → List Candidate → Type 0
 AreHeadsAbove events floor day queue = AreHeads candidate_lt day_of lane_of events day (candidate_lt floor) queue
@@ -100,6 +112,10 @@ position end (Some c) = c.instant
 abbrev pub IsFirst : Option Candidate → List Candidate → Type 0
 IsFirst None others = others ≡ []
 IsFirst (Some c) others = Each (λ y. candidate_lt y c ≡ false) others
+
+-- the floor lies on an earlier day, or belongs to none of the lanes
+abbrev pub IsAside : Candidate → ℤ → ℕ → Type 0
+IsAside floor day count = (floor.day <ℤ day) ⊎ (count ≤ floor.lane)
 
 -- what a board keeps: the heads of the days before `day` wait, the least of them first, and every later day lies above it
 pub record IsWaiting (events : Events Candidate) (end last : ℤ) (floor : Candidate) (first : Option Candidate) (others : List Candidate) (day : ℤ) : Type 0 where

@@ -4,7 +4,7 @@ ghost use Rattle.std.specs.BinaryHeap.{heap_items, IsHeap};
 ghost use Rattle.std.specs.Ordering.{flip_args};
 ghost use Rattle.gtfs_board.specs.merge.Order.{Each, tally};
 ghost use Rattle.gtfs_board.specs.merge.Lanes.{IsStopped, AreStepsFew, IsStartDay};
-ghost use Rattle.gtfs_board.specs.merge.Candidates.{AreGathered, AreHeadsAbove, AreWithinLeast, candidate_cmp, heads_on, least_from, with_head};
+ghost use Rattle.gtfs_board.specs.merge.Candidates.{AreGathered, AreHeadsAbove, AreWithinLeast, IsAside, candidate_cmp, heads_on, least_from, with_head};
 
 use crate::merge::candidate::Candidate;
 use crate::merge::source::Source;
@@ -43,6 +43,7 @@ pub(super) fn gather<S: Source>(
     requires heads { AreHeadsAbove (S.events source.now) floor.now day
         (with_head (heap_items queue.now) head) }
     requires within { AreWithinLeast (S.end source.now) (with_head (heap_items queue.now) head) }
+    requires aside { IsAside floor.now day (S.count source.now) }
     requires from { S.first source.now ≤ℤ day }
     requires to { day ≤ℤ (S.last source.now +ℤ pos 1) }
     ensures gathered { IfOk result (λ r. AreGathered (S.events source.now) floor.now (S.end source.now)
@@ -53,6 +54,7 @@ pub(super) fn gather<S: Source>(
         steps.old day (least_from (S.end source.now) (with_head (heap_items queue.now) head))
         steps.new r.day r.least) }
 {
+    source.laws();
     let mut fresh = Vec::new(alloc);
     let waiting = least_waiting(queue, source.end());
     let mut least = keep(&mut fresh, head, waiting)?;
@@ -85,6 +87,7 @@ fn open_day<S: Source>(
     mut least: i64,
     steps: &mut Steps,
 ) -> Result<i64, AllocError>
+    requires { IsAside floor.now day (S.count source.now) }
     ensures heads { OnOk result (fresh.new.items
         ≡ fresh.old.items ++ heads_on (S.events source.now) floor.now day (S.count source.now)) }
     ensures least { IfOk result (λ t. t

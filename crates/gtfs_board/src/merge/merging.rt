@@ -1,5 +1,5 @@
 ghost use Rattle.std.specs.Prelude.{◌≡◌, ℤ, negsuc, ◌≤ℤ◌, ◌≤◌, ◌+◌, ◌*◌, length, IfOk, OnOk, OnErr};
-ghost use Rattle.gtfs_board.specs.merge.Candidates.{AreStepsWithin, HasSettings, IsQueued, KeepsLists, SameSettings, TakesFirst, reach, rest_above};
+ghost use Rattle.gtfs_board.specs.merge.Candidates.{AreStepsWithin, HasSettings, IsAside, IsQueued, KeepsLists, SameSettings, TakesFirst, reach, rest_above};
 
 use crate::merge::candidate::Candidate;
 use crate::merge::gathering::{first_due, gather};
@@ -31,7 +31,7 @@ impl<S: Source> Model for Merge<S> {
     ghost use Rattle.std.specs.Prelude.{◌++◌, ◌+◌, pos, ◌-ℤ◌};
     ghost use Rattle.std.specs.Option.{option_to_list};
     ghost use Rattle.std.specs.BinaryHeap.{heap_items};
-    ghost use Rattle.gtfs_board.specs.merge.Candidates.{MergeValue, IsMerge, rest_above};
+    ghost use Rattle.gtfs_board.specs.merge.Candidates.{MergeValue, IsMerge, IsSource, rest_above};
 
     ghost Value = { MergeValue };
 
@@ -46,7 +46,9 @@ impl<S: Source> Model for Merge<S> {
       steps = b.steps;
     } };
 
-    ghost invariant = { λ b. IsMerge (S.events b.source) (S.end b.source) (S.first b.source)
+    ghost invariant = { λ b. IsSource (S.count b.source) (S.latest b.source) (S.end b.source)
+        (S.first b.source) (S.last b.source) (S.days b.source) (S.events b.source) (S.all b.source)
+        × IsMerge (S.events b.source) (S.end b.source) (S.first b.source)
         (S.last b.source) b.floor b.first (heap_items b.others) b.day
         (b.start -ℤ pos (S.latest b.source + 93_599)) };
 }
@@ -59,13 +61,15 @@ impl<S: Source + Drop> Merge<S> {
         floor: Candidate,
         mut steps: Steps,
     ) -> Result<Merge<S>, AllocError>
-        requires { negsuc 999_999_999_999 ≤ℤ floor.instant }
+        requires instant { negsuc 999_999_999_999 ≤ℤ floor.instant }
+        requires aside { IsAside floor (S.first source) (S.count source) }
         ensures rest { IfOk result (λ b. b.rest ≡ rest_above (S.all source) floor) }
         ensures queued { IfOk result IsQueued }
         ensures settings { IfOk result (HasSettings (S.count source) (S.latest source) floor.instant
             (S.end source) (S.days source)) }
         ensures steps { IfOk result (λ b. b.steps ≤ steps + b.lanes * reach b) }
     {
+        source.laws();
         let start = floor.instant;
         let from = first_due(source.first(), source.last(), start, source.latest());
         let day = source.next_day(from);

@@ -1,7 +1,6 @@
 ghost use Rattle.std.specs.Prelude.{◌≡◌, ℕ, ℤ, List, ◌≤◌, ◌<◌, ◌+◌, pos, negsuc, ◌≤ℤ◌, ◌<ℤ◌, ◌+ℤ◌, IfOk, []};
-ghost use Rattle.gtfs_board.specs.merge.Candidates.{AreCandidateLanes, EndsBy, day_of, first_above, lane_of, slot_of};
+ghost use Rattle.gtfs_board.specs.merge.Candidates.{IsAside, IsSource, first_above, slot_of};
 ghost use Rattle.gtfs_board.specs.merge.Order.{In};
-ghost use Rattle.gtfs_board.specs.merge.Lanes.{AreAll};
 
 use crate::merge::candidate::Candidate;
 use gtfs_runs::Steps;
@@ -65,7 +64,8 @@ pub trait Source {
         ensures within { result ≤ℤ (last self.now +ℤ pos 1) }
         ensures skips { (i : ℕ) (d : ℤ) → day ≤ℤ d → d <ℤ result → events self.now i d ≡ [] };
 
-    // The first event of a lane on a day above a floor. It may ask the lane once.
+    // The first event of a lane on a day above a floor, which lies on an earlier day or belongs to no lane. It may ask the
+    // lane once.
     fn head(
         &self,
         lane: usize,
@@ -73,7 +73,8 @@ pub trait Source {
         floor: &Candidate,
         steps: &mut Steps,
     ) -> Result<Option<Candidate>, AllocError>
-        requires { lane < count self.now }
+        requires inside { lane < count self.now }
+        requires aside { IsAside floor.now day (count self.now) }
         ensures first { IfOk result (λ o. o ≡ first_above floor.now (events self.now lane day)) }
         ensures steps { steps.new ≤ steps.old + 1 };
 
@@ -83,19 +84,8 @@ pub trait Source {
         ensures next { result ≡ first_above event.now (slot_of (events self.now) event.now) }
         ensures steps { steps.new ≤ steps.old + 1 };
 
-    // No event lies beyond the end.
-    ghost ends: { (s : Self) (i : ℕ) (d : ℤ) → EndsBy (end s) (events s i d) };
-
-    // The days from the first to the last are the service days, and no other day has events.
-    ghost listed: { (s : Self) (d : ℤ) → first s ≤ℤ d → d ≤ℤ last s → In d (days s) };
-
-    ghost within: { (s : Self) (d : ℤ) → In d (days s) → d ≤ℤ last s };
-
-    ghost before: { (s : Self) (i : ℕ) (d : ℤ) → d <ℤ first s → events s i d ≡ [] };
-
-    ghost beyond: { (s : Self) (i : ℕ) (d : ℤ) → last s <ℤ d → events s i d ≡ [] };
-
-    ghost lanes: { (s : Self) → AreCandidateLanes (count s) (latest s) (events s) };
-
-    ghost whole: { (s : Self) → AreAll day_of lane_of (events s) (all s) };
+    // What every source keeps, for proofs. It does nothing.
+    fn laws(&self)
+        ensures { IsSource (count self.now) (latest self.now) (end self.now) (first self.now)
+            (last self.now) (days self.now) (events self.now) (all self.now) };
 }

@@ -1,9 +1,11 @@
 ghost use Rattle.std.specs.Prelude.{◌≡◌, ◌∷◌, [], List, IfOk, IfSome, OnErr, MatchOption};
 ghost use Rattle.gtfs_days.specs.Zone.{IsInstant};
 ghost use Rattle.gtfs_days.specs.declared.zone.Zone.{Zone as Clocks};
+ghost use Rattle.gtfs_board.specs.Board.{Keeps};
 ghost use Rattle.gtfs_board.specs.Lent.{listed};
 ghost use Rattle.gtfs_board.specs.Lines.{Listed};
 
+use crate::board::Board;
 use crate::departure::Departure;
 use gtfs_days::Zone;
 use gtfs_field::OutOfMemory;
@@ -31,4 +33,20 @@ pub trait Listing<'a> {
     // The zone of the lines.
     fn zone(&self) -> &Zone
         ensures { result.now ≡ clocks self.now };
+}
+
+impl<'a> Listing<'a> for Board<'a> {
+    ghost rest = { λ b. b.rest };
+
+    ghost clocks = { λ b. b.zone };
+
+    ghost Keeps = { Keeps };
+
+    fn next(&mut self) -> Result<Option<Departure<'a>>, OutOfMemory> {
+        Board::next(self)
+    }
+
+    fn zone(&self) -> &Zone {
+        Board::zone(self)
+    }
 }

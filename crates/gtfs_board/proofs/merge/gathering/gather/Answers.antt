@@ -4,6 +4,7 @@ use Rattle.std.specs.Option.{option_to_list}
 use Rattle.std.proofs.lemmas.Int.{to_z-of_z, ints}
 use Rattle.gtfs_board.specs.merge.Candidates.{least_from}
 use Rattle.gtfs_board.proofs.Ints.{closer, up_more, le_chain}
+use Rattle.gtfs_board.proofs.Merges.{aside_later}
 use Rattle.gtfs_board.proofs.Gathers.{gathered_first, gathered_more, steps_few_more}
 use Rattle.gtfs_board.proofs.merge.gathering.gather.Goals as goal
 
@@ -32,6 +33,9 @@ loop-fresh-init g c =
       to = rw day_is c.requires.to;
       steps = λ low from. rw (least_is, r.1) (omega arith);
     }
+
+pub open_day-requires : goal.open_day-requires
+open_day-requires g c = aside_later c.args.floor.now c.args.day (to_z w32 c.loop-fresh.day-bits) (g.S.Source.count c.args.source.now) (rw (to_z-of_z w32 c.args.day c.ranges.day) at c.loop-fresh.invariant.up) c.requires.aside
 
 pub next_day-day-requires : goal.next_day-day-requires
 next_day-day-requires g c =
@@ -75,12 +79,12 @@ loop-fresh-preserved g c =
     let plus : to_z w32 (of_z w32 (day +ℤ pos 1)) ≡ day +ℤ pos 1 = omega (arith, ints, due, i.last, i.up, last.low, last.high, c.requires.from) in
     let up : (day +ℤ pos 1) ≤ℤ next_day = rw plus at next.up in
     let skips = rw plus at next.skips in
-    let more = gathered_more (g.met.S.Source.lanes source) c.args.floor.now (g.S.Source.end source) (heap_items c.args.queue.now)
+    let more = gathered_more (c.laws.ensures.lanes) c.args.floor.now (g.S.Source.end source) (heap_items c.args.queue.now)
     c.loop-fresh.fresh.items c.open_day.new.fresh.items day next_day mark falls i.gathered due.1 step.heads step.least up skips in
     let day_is = to_z-of_z w32 c.args.day c.ranges.day in
     let since = rw day_is at i.up in
     let in_time = rw i.last at due.0 in
-    let there = g.met.S.Source.listed source day (le_chain _ c.args.day day c.requires.from since) in_time in
+    let there = c.laws.ensures.listed day (le_chain _ c.args.day day c.requires.from since) in_time in
     let begins = least_from (g.S.Source.end source) (heap_items c.args.queue.now ++ option_to_list c.args.head) in
     let few = rw day_is at i.steps in
     let steps = steps_few_more (g.S.Source.last source) day next_day mark falls (g.S.Source.days source) (g.S.Source.count source) _ _ _ c.args.day begins few there since in_time up more.1 more.2 step.steps in

@@ -7,7 +7,7 @@ use Rattle.gtfs_board.specs.merge.Candidates.{candidate_lt, least_from}
 use Rattle.gtfs_board.proofs.Ints.{le_chain}
 use Rattle.gtfs_board.proofs.Opening.{heads_skipped}
 use Rattle.gtfs_board.proofs.Candidates.{candidates_strict}
-use Rattle.gtfs_board.proofs.Merges.{heads_start, start_past, still_from, committed_either, queued, waiting_bound, steps_opened_from}
+use Rattle.gtfs_board.proofs.Merges.{aside_later, heads_start, start_past, still_from, committed_either, queued, waiting_bound, steps_opened_from}
 use Rattle.gtfs_board.proofs.merge.merging.Merge.open.Goals as goal
 
 pub gather-requires-clause-heads : goal.gather-requires-clause-heads
@@ -26,11 +26,24 @@ gather-requires-clause-heads g c =
     let next_day = c.next_day-day.result in
     let next_fits : SFits w32 next_day = search rules in
     let up1 = rw (to_z-of_z w32 begin begin_fits) at c.next_day-day.ensures.up in
-    let past = start_past (g.met.S.Source.lanes s) (g.S.Source.first s) (g.S.Source.last s) begin (g.met.S.Source.before s) floor began in
+    let past = start_past (c.laws.ensures.lanes) (g.S.Source.first s) (g.S.Source.last s) begin (c.laws.ensures.before) floor began in
     let start = heads_start (g.S.Source.events s) floor begin past in
     let skips = rw (to_z-of_z w32 begin begin_fits) at c.next_day-day.ensures.skips in
-    let skipped = heads_skipped candidates_strict (g.met.S.Source.lanes s) (candidate_lt floor) begin next_day [] up1 skips start in
+    let skipped = heads_skipped candidates_strict (c.laws.ensures.lanes) (candidate_lt floor) begin next_day [] up1 skips start in
     rw (c.new-others.ensures.items, to_z-of_z w32 next_day next_fits) skipped
+
+pub gather-requires-clause-aside : goal.gather-requires-clause-aside
+gather-requires-clause-aside g c =
+    let s = c.args.source in
+    let begin = c.first_due-from.result in
+    let begin_fits : SFits w32 begin = search rules in
+    let first_fits : SFits w32 c.first.result = search rules in
+    let first_is : to_z w32 (of_z w32 c.first.result) ≡ g.S.Source.first s = to_z-of_z w32 c.first.result first_fits ∙ c.first.ensures.value in
+    let next_day = c.next_day-day.result in
+    let next_fits : SFits w32 next_day = search rules in
+    let up1 = rw (to_z-of_z w32 begin begin_fits) at c.next_day-day.ensures.up in
+    let from = rw first_is at c.first_due-from.ensures.from in
+    rw (to_z-of_z w32 next_day next_fits) (aside_later c.args.floor (g.S.Source.first s) next_day (g.S.Source.count s) (le_chain (g.S.Source.first s) begin next_day from up1) c.requires.aside)
 
 pub gather-requires-clause-from : goal.gather-requires-clause-from
 gather-requires-clause-from g c =
@@ -74,16 +87,19 @@ invariant_of-result g c =
     let day_fits : SFits w32 day = search rules in
     let up2 = rw (to_z-of_z w32 next_day next_fits) at got.range.0 in
     let up = le_chain begin next_day day up1 up2 in
-    let r = committed_either (g.met.S.Source.lanes s) (g.S.Source.end s) (g.S.Source.last s) (g.met.S.Source.ends s) (g.met.S.Source.beyond s)
+    let r = committed_either (c.laws.ensures.lanes) (g.S.Source.end s) (g.S.Source.last s) (c.laws.ensures.ends) (c.laws.ensures.beyond)
     floor (heap_items c.new-others.result) c.in_ok-gathered.gathered.fresh.items (heap_items c.join.new.others) c.in_ok-first.first day c.in_ok-gathered.gathered.least
     got.gathered got.stopped j.counts j.first in
-    rw (to_z-of_z w32 day day_fits, to_z-of_z w64 floor.instant instant_fits) (record {
-      waiting = r.0;
-      ordered = j.ordered;
-      low_in = still_from _ (g.S.Source.last s) begin day began.unopened up;
-      from_in = le_chain (g.S.Source.first s) begin day from up;
-      to_in = got.range.1;
-    })
+    rw (to_z-of_z w32 day day_fits, to_z-of_z w64 floor.instant instant_fits) (
+      c.laws.ensures,
+      record {
+        waiting = r.0;
+        ordered = j.ordered;
+        low_in = still_from _ (g.S.Source.last s) begin day began.unopened up;
+        from_in = le_chain (g.S.Source.first s) begin day from up;
+        to_in = got.range.1;
+      },
+    )
 
 pub returns-clause-queued : goal.returns-clause-queued
 returns-clause-queued g c =
@@ -91,11 +107,11 @@ returns-clause-queued g c =
     let got = c.in_ok-gathered.ensures in
     let j = c.in_ok-first.ensures in
     let day = c.in_ok-gathered.gathered.day in
-    let r = committed_either (g.met.S.Source.lanes s) (g.S.Source.end s) (g.S.Source.last s) (g.met.S.Source.ends s) (g.met.S.Source.beyond s)
+    let r = committed_either (c.laws.ensures.lanes) (g.S.Source.end s) (g.S.Source.last s) (c.laws.ensures.ends) (c.laws.ensures.beyond)
     c.args.floor (heap_items c.new-others.result) c.in_ok-gathered.gathered.fresh.items (heap_items c.join.new.others) c.in_ok-first.first day c.in_ok-gathered.gathered.least
     got.gathered got.stopped j.counts j.first in
-    let q = queued (g.met.S.Source.lanes s) (g.S.Source.end s) (g.S.Source.last s) (g.met.S.Source.ends s) (g.met.S.Source.beyond s) (g.S.Source.all s) (g.met.S.Source.whole s) c.args.floor c.in_ok-first.first (heap_items c.join.new.others) day r.0 in
-    let b = waiting_bound (g.met.S.Source.lanes s) (g.S.Source.end s) (g.S.Source.last s) (g.met.S.Source.ends s) (g.met.S.Source.beyond s) c.args.floor c.in_ok-first.first (heap_items c.join.new.others) day r.0 in
+    let q = queued (c.laws.ensures.lanes) (g.S.Source.end s) (g.S.Source.last s) (c.laws.ensures.ends) (c.laws.ensures.beyond) (g.S.Source.all s) (c.laws.ensures.whole) c.args.floor c.in_ok-first.first (heap_items c.join.new.others) day r.0 in
+    let b = waiting_bound (c.laws.ensures.lanes) (g.S.Source.end s) (g.S.Source.last s) (c.laws.ensures.ends) (c.laws.ensures.beyond) c.args.floor c.in_ok-first.first (heap_items c.join.new.others) day r.0 in
     record { within = q.2; same_first = q.0; bounded = b }
 
 pub returns-clause-steps : goal.returns-clause-steps
@@ -119,10 +135,10 @@ returns-clause-steps g c =
     let day = c.in_ok-gathered.gathered.day in
     let least = c.in_ok-gathered.gathered.least in
     let low = floor.instant -ℤ pos (g.S.Source.latest s + 93_599) in
-    let r = committed_either (g.met.S.Source.lanes s) (g.S.Source.end s) (g.S.Source.last s) (g.met.S.Source.ends s) (g.met.S.Source.beyond s)
+    let r = committed_either (c.laws.ensures.lanes) (g.S.Source.end s) (g.S.Source.last s) (c.laws.ensures.ends) (c.laws.ensures.beyond)
     floor (heap_items c.new-others.result) c.in_ok-gathered.gathered.fresh.items (heap_items c.join.new.others) c.in_ok-first.first day least
     got.gathered got.stopped j.counts j.first in
-    let q = queued (g.met.S.Source.lanes s) (g.S.Source.end s) (g.S.Source.last s) (g.met.S.Source.ends s) (g.met.S.Source.beyond s) (g.S.Source.all s) (g.met.S.Source.whole s) floor c.in_ok-first.first (heap_items c.join.new.others) day r.0 in
+    let q = queued (c.laws.ensures.lanes) (g.S.Source.end s) (g.S.Source.last s) (c.laws.ensures.ends) (c.laws.ensures.beyond) (g.S.Source.all s) (c.laws.ensures.whole) floor c.in_ok-first.first (heap_items c.join.new.others) day r.0 in
     let few = rw (to_z-of_z w32 next_day next_fits) at got.steps in
     let mark = least_from (g.S.Source.end s) (heap_items c.new-others.result ++ option_to_list None) in
     let began_next = still_from low (g.S.Source.last s) begin next_day began.unopened up1 in

@@ -1,0 +1,51 @@
+-- A board that was opened.
+use Rattle.std.specs.Prelude.{◌≡◌, ◌≤◌, ◌*◌, ℕ, List, All, Option, map, pos, ◌+ℤ◌}
+use Rattle.gtfs_days.specs.Service.{service_days}
+use Rattle.gtfs_days.specs.Zone.{zone_origin}
+use Rattle.gtfs_days.specs.declared.zone.Zone.{Zone}
+use Rattle.gtfs_rows.specs.Content.{Content}
+use Rattle.gtfs_rows.specs.declared.parts.Parts.{Parts}
+use Rattle.gtfs_runs.specs.Lanes.{lane_count, latest}
+use Rattle.gtfs_board.specs.Board.{BoardValue, IsQueued, keys_of, position, reach, start_of}
+use Rattle.gtfs_board.specs.Departures.{IsBoard}
+use Rattle.gtfs_board.specs.Key.{Key}
+use Rattle.gtfs_board.specs.Showing.{IsOfFeed, key_in, listed_in}
+use Rattle.gtfs_board.specs.Shown.{IsShown}
+use Rattle.gtfs_board.specs.declared.span.Span.{Span}
+use Rattle.gtfs_board.specs.merge.Candidates.{MergeValue, candidate_lt}
+use Rattle.gtfs_board.specs.merge.Order.{Each, IsAscending}
+
+-- what contracts see of a board, from the candidates that are left
+abbrev pub board_value : Parts → Zone → MergeValue → BoardValue
+board_value p z v = record {
+  rest = map (listed_in p) v.rest;
+  queue = map (key_in p) v.queue;
+  lanes = v.lanes;
+  latest = v.latest;
+  start = v.start;
+  until = v.end +ℤ pos 1;
+  zone = z;
+  steps = v.steps;
+}
+
+-- what a board keeps: its candidates are departures of the feed, in order
+pub record IsOpen (p : Parts) (v : MergeValue) : Type 0 where
+  pub of_feed : Each (IsOfFeed p) v.rest
+  pub ascending : IsAscending candidate_lt v.rest
+  pub days : v.days ≡ service_days
+
+-- with what a board was opened, for a stop of a feed in a zone
+pub record HasSettings (f : Content) (z : Zone) (s : List ℕ) (span : Span) (after : Option Key) (b : BoardValue) : Type 0 where
+  pub lanes : b.lanes ≡ lane_count f s
+  pub latest : b.latest ≡ latest f s
+  pub start : b.start ≡ start_of span.from after
+  pub until : b.until ≡ span.until
+  pub zone : b.zone ≡ z
+
+-- the board of a stop, as it was opened
+pub record IsOpened (f : Content) (z : Zone) (s : List ℕ) (span : Span) (after : Option Key) (b : BoardValue) : Type 0 where
+  pub board : IsBoard f (zone_origin z) s span.from span.until after (keys_of b.rest)
+  pub shown : All (IsShown f) b.rest
+  pub queued : IsQueued b
+  pub settings : HasSettings f z s span after b
+  pub steps : b.steps ≤ b.lanes * reach b.latest b.start (position b)

@@ -1,0 +1,197 @@
+//! Boards of stops.
+ghost use Rattle.std.specs.Prelude.{◌≡◌, ◌≢◌, ◌<◌, ◌≤◌, ◌+◌, ◌*◌, ◌∷◌, ◌↔◌, [], IfErr, All, true, false, length, IfOk, IfSome, IsErrOf, OnErr, OnOk, MatchOption, option_map};
+ghost use Rattle.gtfs_days.specs.Zone.{IsInstant, zone_origin};
+ghost use Rattle.gtfs_feed.specs.Content.{content_of};
+ghost use Rattle.gtfs_rows.specs.Views.{stop_ids, text_of_number};
+ghost use Rattle.gtfs_board.specs.Board.{IsQueued, SameSettings, is_stop, keys_of, position, reach};
+ghost use Rattle.gtfs_board.specs.Departures.{IsBoard};
+ghost use Rattle.gtfs_board.specs.Lent.{listed, plain_key};
+ghost use Rattle.gtfs_board.specs.Opening.{HasSettings, IsOpened};
+ghost use Rattle.gtfs_board.specs.Shown.{IsShown};
+ghost use Rattle.gtfs_board.specs.Span.{is_span};
+
+use crate::departure::Departure;
+use crate::floor::floor_of;
+use crate::key::Key;
+use crate::merge::{Merge, Source};
+use crate::service_days::Days;
+use crate::showing::departure_of;
+use crate::span::Span;
+use gtfs_days::Zone;
+use gtfs_feed::Feed;
+use gtfs_field::OutOfMemory;
+use gtfs_rows::StopNo;
+use gtfs_runs::StopLanes;
+use std::alloc::Global;
+use std::marker::Model;
+use thiserror::Error;
+
+/// Why no board is opened.
+#[derive(Clone, Copy, Debug, PartialEq, Eq, Error)]
+pub enum BoardFault {
+    /// The feed has no stop of this id, which is judged first.
+    #[error("unknown stop")]
+    UnknownStop = 1,
+    /// The span ends before it begins, or one of its instants has more than twelve digits.
+    #[error("bad span")]
+    BadSpan = 2,
+    /// Memory ran out.
+    #[error("out of memory")]
+    OutOfMemory = 3,
+}
+
+/// The departures of a stop in order: those of its place, from one instant until another, on each service day.
+///
+/// Each departure is taken away as it is told. What waits in memory does not grow with the span: a service day is
+/// looked at only once it can hold a departure before all those that wait.
+#[derive(Drop)]
+pub struct Board<'a> {
+    feed: &'a Feed,
+    zone: &'a Zone,
+    departures: Merge<Days<'a>>,
+}
+
+impl<'a> Model for Board<'a> {
+    ghost use Rattle.gtfs_board.specs.Board.{BoardValue};
+    ghost use Rattle.gtfs_board.specs.Opening.{IsOpen, board_value};
+
+    ghost Value = { BoardValue };
+
+    ghost view = { λ b. board_value b.feed.now b.zone.now b.departures };
+
+    ghost invariant = { λ b. IsOpen b.feed.now b.departures };
+}
+
+impl<'a> Board<'a> {
+    /// The board of a stop over a span, or of what lies above a key there. The key need not be that of a departure.
+    ///
+    /// The departures of a station are also those of its stops and platforms. A run that starts on one service day may
+    /// depart on the next, and is listed by its instant (GTFS Schedule Reference, `stop_times.txt`).
+    ///
+    /// # Errors
+    /// `UnknownStop` where the feed has no stop of this id. Else `BadSpan` where the span is not valid, as
+    /// [`Span::is_valid`] says. `OutOfMemory` where memory is refused.
+    pub fn open(
+        alloc: Global,
+        feed: &'a Feed,
+        zone: &'a Zone,
+        stop: &str,
+        span: Span,
+        after: Option<&Key<'_>>,
+    ) -> Result<Board<'a>, BoardFault>
+        ensures unknown { IsErrOf result BoardFault.UnknownStop
+            ↔ (is_stop (content_of feed.now) stop.now ≡ false) }
+        ensures bad { IsErrOf result BoardFault.BadSpan
+            ↔ ((is_stop (content_of feed.now) stop.now ≡ true) × (is_span span ≡ false)) }
+        ensures board { IfOk result (λ b. IsBoard (content_of feed.now) (zone_origin zone.now) stop.now
+            span.from span.until (option_map (λ k. plain_key k.now) after.entry) (keys_of b.rest)) }
+        ensures shown { IfOk result (λ b. All (IsShown (content_of feed.now)) b.rest) }
+        ensures queued { IfOk result IsQueued }
+        ensures settings { IfOk result (HasSettings (content_of feed.now) zone.now stop.now span
+            (option_map (λ k. plain_key k.now) after.entry)) }
+        ensures steps { IfOk result (λ b. b.steps
+            ≤ b.lanes * reach b.latest b.start (position b)) }
+    {
+        match feed.stop(stop) {
+            Some(number) => Board::over(alloc, feed, zone, number, span, after),
+            None => Err(BoardFault::UnknownStop),
+        }
+    }
+
+    // The board of the stop of a number, if the span is valid.
+    fn over(
+        alloc: Global,
+        feed: &'a Feed,
+        zone: &'a Zone,
+        stop: StopNo,
+        span: Span,
+        after: Option<&Key<'_>>,
+    ) -> Result<Board<'a>, BoardFault>
+        requires { stop.0 < length feed.now.stops }
+        ensures known { IfErr result (λ e. e ≢ BoardFault.UnknownStop) }
+        ensures bad { IsErrOf result BoardFault.BadSpan ↔ (is_span span ≡ false) }
+        ensures opened { IfOk result (IsOpened (content_of feed.now) zone.now
+            (text_of_number (stop_ids feed.now) stop.0) span
+            (option_map (λ k. plain_key k.now) after.entry)) }
+    {
+        if !span.is_valid() {
+            return Err(BoardFault::BadSpan);
+        }
+        match Board::of_stop(alloc, feed, zone, stop, span, after) {
+            Ok(board) => Ok(board),
+            Err(_) => Err(BoardFault::OutOfMemory),
+        }
+    }
+
+    // The board of the stop of a number.
+    fn of_stop(
+        alloc: Global,
+        feed: &'a Feed,
+        zone: &'a Zone,
+        stop: StopNo,
+        span: Span,
+        after: Option<&Key<'_>>,
+    ) -> Result<Board<'a>, OutOfMemory>
+        requires stop { stop.0 < length feed.now.stops }
+        requires span { is_span span ≡ true }
+        ensures { IfOk result (IsOpened (content_of feed.now) zone.now
+            (text_of_number (stop_ids feed.now) stop.0) span
+            (option_map (λ k. plain_key k.now) after.entry)) }
+    {
+        feed.soundness();
+        let (lanes, steps) = StopLanes::build(alloc, feed, stop)?;
+        let days = Days::new(alloc, feed, zone, lanes, span.until - 1);
+        let floor = floor_of(feed, days.count(), span.from, after);
+        let departures = Merge::open(alloc, days, floor, steps)?;
+        Ok(Board {
+            feed,
+            zone,
+            departures,
+        })
+    }
+
+    /// Takes the next departure away: None exactly where none is left, and from then on always.
+    ///
+    /// # Errors
+    /// `OutOfMemory` where memory is refused; what is left is then as it was.
+    pub fn next(&mut self) -> Result<Option<Departure<'a>>, OutOfMemory>
+        ensures first { IfOk result (λ o. MatchOption o ((self.old.rest ≡ []) × (self.new.rest ≡ []))
+            (λ d. self.old.rest ≡ listed d ∷ self.new.rest)) }
+        ensures instant { IfOk result (λ o. IfSome o (λ d. IsInstant d.key.instant)) }
+        ensures kept { OnErr result ((self.new.rest ≡ self.old.rest) × (self.new.queue ≡ self.old.queue)) }
+        ensures settings { SameSettings self.old self.new }
+        ensures queued { IsQueued self.new }
+        ensures steps { OnOk result
+            (self.new.steps + self.old.lanes * reach self.old.latest self.old.start (position self.old)
+            ≤ self.old.steps + 1
+            + self.old.lanes * reach self.new.latest self.new.start (position self.new)) }
+    {
+        self.feed.soundness();
+        match self.departures.next()? {
+            Some(candidate) => Ok(Some(departure_of(self.feed, &candidate))),
+            None => Ok(None),
+        }
+    }
+
+    /// How many departures wait in memory: at most as many as the stop has lanes, times the number of days in a row that
+    /// can hold departures at one instant.
+    pub fn held(&self) -> usize
+        ensures { result ≡ length self.now.queue }
+    {
+        self.departures.held()
+    }
+
+    /// How often lanes were asked for a departure.
+    pub fn steps(&self) -> u64
+        ensures { result ≡ self.now.steps }
+    {
+        self.departures.steps()
+    }
+
+    // The zone of the lines.
+    pub(crate) fn zone(&self) -> &Zone
+        ensures { result.now ≡ self.now.zone }
+    {
+        self.zone
+    }
+}

@@ -1,0 +1,297 @@
+//! The departures of the lanes of a stop, day by day.
+ghost use Rattle.std.specs.Prelude.{◌≡◌, ◌<◌, ◌≤◌, ◌+◌, ℤ, false, length, pos, negsuc, ◌+ℤ◌, ◌≤ℤ◌, ◌<ℤ◌, find, true, IfOk, None, Some, option_map, slice_get, if◌then◌else◌};
+ghost use Rattle.gtfs_days.specs.Service.{first_service_day, is_service_day, last_service_day, service_days};
+ghost use Rattle.gtfs_days.specs.Zone.{zone_origin};
+ghost use Rattle.gtfs_runs.specs.Order.{is_above, is_later};
+ghost use Rattle.gtfs_runs.specs.StopLanes.{lanes_of};
+ghost use Rattle.gtfs_board.specs.LaneDays.{AreAscending, AreTimely, HaveServices, departing, departures_on, all_departures, ends_by, event_of, lane_at, serves_on};
+ghost use Rattle.gtfs_board.specs.merge.Candidates.{IsAside, first_above};
+
+mod seeking;
+
+use crate::merge::{Candidate, Source};
+use gtfs_days::{FIRST_SERVICE_DAY, LAST_SERVICE_DAY, Service, Zone};
+use gtfs_feed::Feed;
+use gtfs_field::Day;
+use gtfs_rows::{ServiceNo, TripNo};
+use gtfs_runs::{Event, Lane, Seek, Steps, StopLanes};
+use seeking::seek_from;
+use std::alloc::{AllocError, Global};
+
+// The departures of the lanes of a stop on each service day, up to an instant.
+#[derive(Drop)]
+pub(crate) struct Days<'a> {
+    alloc: Global,
+    feed: &'a Feed,
+    zone: &'a Zone,
+    // First the lanes of lists, then those of periods.
+    lanes: StopLanes,
+    // The last instant.
+    end: i64,
+    ghost served: { HaveServices feed.now lanes },
+    ghost ascending: { AreAscending lanes },
+    ghost timely: { AreTimely lanes },
+}
+
+impl<'a> Days<'a> {
+    // The departures of these lanes of the feed that lie at or before an instant.
+    pub(crate) fn new(
+        alloc: Global,
+        feed: &'a Feed,
+        zone: &'a Zone,
+        lanes: StopLanes,
+        end: i64,
+    ) -> Days<'a>
+        requires served { HaveServices feed.now lanes }
+        requires ascending { AreAscending lanes }
+        requires timely { AreTimely lanes }
+        ensures feed { result.feed.now ≡ feed.now }
+        ensures zone { result.zone.now ≡ zone.now }
+        ensures lanes { result.lanes ≡ lanes }
+        ensures end { result.end ≡ end }
+    {
+        Days {
+            alloc,
+            feed,
+            zone,
+            lanes,
+            end,
+        }
+    }
+
+    // The number of the service of a lane.
+    fn service_no(&self, lane: usize) -> ServiceNo
+        requires { lane < length (lanes_of self.now.lanes) }
+        ensures { result.0 ≡ (lane_at self.now.lanes lane).service }
+    {
+        let lists = self.lanes.lists();
+        match lists.get(lane) {
+            Some(list) => list.service(),
+            None => self.lanes.periods()[lane - lists.len()].service(),
+        }
+    }
+
+    // The service of a lane.
+    fn service(&self, lane: usize) -> &Service
+        requires { lane < length (lanes_of self.now.lanes) }
+        ensures { option_map (λ s. s.service)
+            (slice_get self.now.feed.now.services (lane_at self.now.lanes lane).service)
+            ≡ Some result.now }
+    {
+        self.feed.service_by_number(self.service_no(lane))
+    }
+
+    // The first event of a lane above a place.
+    fn first_after(&self, lane: usize, seek: &Seek, steps: &mut Steps) -> Option<Event>
+        requires { lane < length (lanes_of self.now.lanes) }
+        ensures first { result ≡ find (is_above seek.now) (lane_at self.now.lanes lane).events }
+        ensures steps { steps.new ≤ steps.old + 1 }
+    {
+        let lists = self.lanes.lists();
+        match lists.get(lane) {
+            Some(list) => list.first_after(self.feed, seek, steps),
+            None => {
+                let period = &self.lanes.periods()[lane - lists.len()];
+                period.first_after(self.feed, seek, steps)
+            }
+        }
+    }
+
+    // The first event of a lane above another.
+    fn next_after(&self, lane: usize, event: &Event, steps: &mut Steps) -> Option<Event>
+        requires { lane < length (lanes_of self.now.lanes) }
+        ensures next { result ≡ find (is_later event.now) (lane_at self.now.lanes lane).events }
+        ensures steps { steps.new ≤ steps.old + 1 }
+    {
+        let lists = self.lanes.lists();
+        match lists.get(lane) {
+            Some(list) => list.next(self.feed, event, steps),
+            None => {
+                let period = &self.lanes.periods()[lane - lists.len()];
+                period.next(self.feed, event, steps)
+            }
+        }
+    }
+
+    // The origin of a day, if the service of a lane runs on it.
+    fn origin(&self, lane: usize, day: i32) -> Result<Option<i64>, AllocError>
+        requires { lane < length (lanes_of self.now.lanes) }
+        ensures { IfOk result (λ o. o
+            ≡ (if serves_on self.now.feed.now (lane_at self.now.lanes lane).service day
+            then Some (zone_origin self.now.zone.now day) else None)) }
+    {
+        if !is_service_day(day) {
+            return Ok(None);
+        }
+        let date = Day::from_number(day);
+        if !self.service(lane).active(date) {
+            return Ok(None);
+        }
+        Ok(Some(self.zone.origin(self.alloc, date)?))
+    }
+
+    // The first day from this one on on which the service of a lane runs: the one after the last where there is none.
+    fn next_active(&self, lane: usize, day: i32) -> i32
+        requires lane { lane < length (lanes_of self.now.lanes) }
+        requires day { day ≤ℤ (last_service_day +ℤ pos 1) }
+        ensures up { day ≤ℤ result }
+        ensures within { result ≤ℤ (last_service_day +ℤ pos 1) }
+        ensures skips { (d : ℤ) → day ≤ℤ d → d <ℤ result
+            → serves_on self.now.feed.now (lane_at self.now.lanes lane).service d ≡ false }
+    {
+        let from = Day::from_number(day.max(FIRST_SERVICE_DAY));
+        match self.service(lane).next_active(from) {
+            Some(next) => next.number(),
+            None => LAST_SERVICE_DAY + 1,
+        }
+    }
+
+    // The first departure of a lane above a floor, on a day with this origin on which the service of the lane runs.
+    fn head_on(
+        &self,
+        lane: usize,
+        day: i32,
+        origin: i64,
+        floor: &Candidate,
+        steps: &mut Steps,
+    ) -> Option<Candidate>
+        requires inside { lane < length (lanes_of self.now.lanes) }
+        requires aside { IsAside floor.now day (length (lanes_of self.now.lanes)) }
+        requires runs { serves_on self.now.feed.now (lane_at self.now.lanes lane).service day ≡ true }
+        requires origin { origin ≡ zone_origin self.now.zone.now day }
+        ensures first { result ≡ first_above floor.now (departures_on self.now.feed.now
+            (zone_origin self.now.zone.now) self.now.lanes self.now.end lane day) }
+        ensures steps { steps.new ≤ steps.old + 1 }
+    {
+        let seek = seek_from(floor, origin, day);
+        match self.first_after(lane, &seek, steps) {
+            Some(event) => self.by_end(departing(origin, day, lane, event)),
+            None => None,
+        }
+    }
+
+    // The departure, if it lies at or before the end.
+    fn by_end(&self, departure: Candidate) -> Option<Candidate>
+        ensures { result ≡ (if ends_by self.now.end departure then Some departure else None) }
+    {
+        if departure.instant <= self.end {
+            Some(departure)
+        } else {
+            None
+        }
+    }
+}
+
+// Whether services can run on the day.
+fn is_service_day(day: i32) -> bool
+    ensures { result ≡ is_service_day day }
+{
+    FIRST_SERVICE_DAY <= day && day <= LAST_SERVICE_DAY
+}
+
+// The departure that an event of a lane is on a day with this origin.
+fn departing(origin: i64, day: i32, lane: usize, event: Event) -> Candidate
+    requires low { negsuc 999_999_999_999 ≤ℤ origin }
+    requires high { origin ≤ℤ pos 999_999_999_999 }
+    ensures { result ≡ departing origin day lane event }
+{
+    Candidate {
+        instant: origin + i64::from(event.at),
+        trip: event.trip.0,
+        lane,
+        row: event.row,
+        run: event.run,
+        sequence: event.seq,
+        day,
+        at: event.at,
+    }
+}
+
+// The event of its lane that a departure is.
+fn event_of(departure: &Candidate) -> Event
+    ensures { result ≡ event_of departure.now }
+{
+    Event {
+        at: departure.at,
+        trip: TripNo(departure.trip),
+        run: departure.run,
+        seq: departure.sequence,
+        row: departure.row,
+    }
+}
+
+impl Source for Days<'_> {
+    ghost count = { λ s. length (lanes_of s.lanes) };
+
+    ghost latest = { λ s. s.lanes.greatest };
+
+    ghost end = { λ s. s.end };
+
+    ghost first = { λ s. first_service_day };
+
+    ghost last = { λ s. last_service_day };
+
+    ghost days = { λ s. service_days };
+
+    ghost events = { λ s. departures_on s.feed.now (zone_origin s.zone.now) s.lanes s.end };
+
+    ghost all = { λ s. all_departures s.feed.now (zone_origin s.zone.now) s.lanes s.end };
+
+    fn count(&self) -> usize {
+        self.lanes.lists().len() + self.lanes.periods().len()
+    }
+
+    fn latest(&self) -> u32 {
+        self.lanes.greatest()
+    }
+
+    fn end(&self) -> i64 {
+        self.end
+    }
+
+    fn first(&self) -> i32 {
+        FIRST_SERVICE_DAY
+    }
+
+    fn last(&self) -> i32 {
+        LAST_SERVICE_DAY
+    }
+
+    fn laws(&self) {
+        let _lanes = &self.lanes;
+    }
+
+    fn next_day(&self, day: i32) -> i32 {
+        let mut first = LAST_SERVICE_DAY + 1;
+        for lane in 0..self.count() {
+            first = first.min(self.next_active(lane, day));
+            // No day comes earlier.
+            if first == day {
+                return day;
+            }
+        }
+        first
+    }
+
+    fn head(
+        &self,
+        lane: usize,
+        day: i32,
+        floor: &Candidate,
+        steps: &mut Steps,
+    ) -> Result<Option<Candidate>, AllocError> {
+        let origin = self.origin(lane, day)?;
+        match origin {
+            Some(origin) => Ok(self.head_on(lane, day, origin, floor, steps)),
+            None => Ok(None),
+        }
+    }
+
+    fn after(&self, departure: &Candidate, steps: &mut Steps) -> Option<Candidate> {
+        let origin = departure.instant - i64::from(departure.at);
+        match self.next_after(departure.lane, &event_of(departure), steps) {
+            Some(event) => self.by_end(departing(origin, departure.day, departure.lane, event)),
+            None => None,
+        }
+    }
+}
