@@ -20,7 +20,7 @@ lt-more m n = let e : 1 + m ≡ suc m = omega arith in ap (λ k. nat_lt k (suc n
 lt-zero : (n : ℕ) → nat_lt 0 (suc n) ≡ true
 lt-zero n = lt-ltb 0 (suc n) (omega arith)
 
-before-any : {X : Type 0} (p : X → Bool) (xs : List X) → nat_lt (position_or_len p xs) (length xs) ≡ list_any p xs
+pub before-any : {X : Type 0} (p : X → Bool) (xs : List X) → nat_lt (position_or_len p xs) (length xs) ≡ list_any p xs
 before-any p [] = refl
 before-any p (x ∷ xs) = elim (p x) as (λ b. nat_lt (cond (not b) (1 + position_or_len p xs) 0) (suc (length xs)) ≡ (b || list_any p xs)) [ true ↦ lt-zero (length xs) | false ↦ lt-more (position_or_len p xs) (length xs) ∙ before-any p xs ]
 

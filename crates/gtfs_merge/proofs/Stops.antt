@@ -51,7 +51,7 @@ module _ (near : Nearness) (nearness : IsNearness near) (a b : Content) (places_
     joined-is : (r : Renaming) → joined_stop_under r a b x ≡ list_any (λ row. bytes_eq row.stop_id x && same_stop row (stop_with r y)) a.stops
     joined-is r = λ i. list_any (λ row. bytes_eq row.stop_id x && (places_b.keyed x (λ other. same_stop row (stop_with r other)) ∙ ap (λ o. holds_at o (λ other. same_stop row (stop_with r other))) e) i) a.stops
 
-    joined-same : joined_stop_under r a b x ≡ joined_stop_under s a b x
+    pub joined-same : joined_stop_under r a b x ≡ joined_stop_under s a b x
     joined-same = joined-is r ∙ (λ i. list_any (λ row. bytes_eq row.stop_id x && same_stop row (record y { parent_station = p i })) a.stops) ∙ sym (joined-is s)
 
     near-same : near_stop_under near r a b x ≡ near_stop_under near s a b x

@@ -1,8 +1,11 @@
 pub mod Departures
+pub mod Joined
 pub mod Law
 pub mod Merged
+pub mod Names
 pub mod Near
 pub mod Numbered
+pub mod Order
 pub mod Renaming
 pub mod Report
 pub mod Same

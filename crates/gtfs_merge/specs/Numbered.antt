@@ -1,14 +1,17 @@
 -- Rows of two feeds, as their parts keep them by number, compared once the references of the second feed are renamed.
-use Rattle.std.specs.Prelude.{ℕ, Bool, List, bytes_eq, option_map}
+use Rattle.std.specs.Prelude.{ℕ, Bool, List, bytes_eq, map, option_map}
+use Rattle.std.specs.Cmp.Lexicographic.{pointwise}
+use Rattle.gtfs_rows.specs.declared.frequency.Frequency.{Frequency}
 use Rattle.gtfs_rows.specs.declared.parts.Parts.{Parts}
 use Rattle.gtfs_rows.specs.declared.route.Route.{Route}
 use Rattle.gtfs_rows.specs.declared.stop.Stop.{Stop}
 use Rattle.gtfs_rows.specs.declared.stop_row.StopRow.{StopRow}
-use Rattle.gtfs_rows.specs.Views.{route_of, stop_of, stop_row_of, agency_ids, stop_ids, route_ids, service_ids, trip_ids}
+use Rattle.gtfs_rows.specs.declared.trip.Trip.{Trip}
+use Rattle.gtfs_rows.specs.Views.{frequency_of, route_of, stop_of, stop_row_of, text_of_number, trip_of, agency_ids, stop_ids, route_ids, service_ids, trip_ids}
 use Rattle.gtfs_merge.specs.declared.kind.Kind.{Kind}
 use Rattle.gtfs_merge.specs.declared.kind.Kind.TheVariants as kind
-use Rattle.gtfs_merge.specs.Renaming.{Renaming, kept_as_is, route_with, stop_with, stop_row_with}
-use Rattle.gtfs_merge.specs.Same.{same_stop, same_route, same_stop_row, same_text}
+use Rattle.gtfs_merge.specs.Renaming.{Renaming, kept_as_is, route_with, stop_with, stop_row_with, trip_with}
+use Rattle.gtfs_merge.specs.Same.{same_frequency, same_stop, same_route, same_stop_row, same_text, same_trip}
 
 -- ---- stops
 
@@ -47,3 +50,20 @@ known_ids kind.Stop p = stop_ids p
 known_ids kind.Route p = route_ids p
 known_ids kind.Service p = service_ids p
 known_ids kind.Trip p = trip_ids p
+
+-- ---- trips, with their stop times and frequencies
+
+abbrev pub same_trip_in : Parts → Parts → Renaming → Renaming → Renaming → Trip → List StopRow → List Frequency → Trip → List StopRow → List Frequency → Bool
+same_trip_in p q route service stop x xs us y ys vs = same_trip (trip_of p x xs us) (trip_with kept_as_is route service stop (trip_of q y ys vs))
+
+abbrev pub same_route_id_in : Parts → Parts → Renaming → Trip → Trip → Bool
+same_route_id_in p q rename x y = bytes_eq (text_of_number (route_ids p) x.route_id.0) (rename (text_of_number (route_ids q) y.route_id.0))
+
+abbrev pub same_service_id_in : Parts → Parts → Renaming → Trip → Trip → Bool
+same_service_id_in p q rename x y = bytes_eq (text_of_number (service_ids p) x.service_id.0) (rename (text_of_number (service_ids q) y.service_id.0))
+
+abbrev pub same_stop_rows_in : Parts → Parts → Renaming → List StopRow → List StopRow → Bool
+same_stop_rows_in p q rename xs ys = pointwise same_stop_row (map (stop_row_of p) xs) (map (stop_row_with rename) (map (stop_row_of q) ys))
+
+abbrev pub same_frequencies_in : List Frequency → List Frequency → Bool
+same_frequencies_in us vs = pointwise same_frequency (map frequency_of us) (map frequency_of vs)

@@ -1,19 +1,37 @@
 //! Merging two feeds of a region into one.
 //!
 //! - [`Kind`] names the kinds of ids, and [`Side`] the two feeds.
+//! - [`Names`] tells what each id of either feed becomes, and which ids are joined.
+//! - [`zones_differ`] tells whether two feeds cannot be merged, since their times are in different zones.
 //! - [`merges_keep_departures`] states what a merge keeps: every departure of both feeds, and every board.
 //!
 //! An id of the second feed stays where the first feed has no such id, or where both have the same row under it: such an
-//! id is *joined*. Every other id of the second feed gets a new name. `specs/Renaming.antt` says which, `specs/Merged.antt`
+//! id is *joined*. Rows are compared once their references are renamed, so a trip is joined with its stop times and its
+//! frequencies. Every other id of the second feed gets a new name. `specs/Renaming.antt` says which, `specs/Merged.antt`
 //! what the merged content is, and `specs/Report.antt` what is told of it.
 #![tactic(auto)]
 
+mod few;
+mod joined;
+mod joined_routes;
+mod joined_stops;
+mod joined_trips;
+mod joins;
 mod kind;
+mod kinds;
 mod law;
+mod names;
 mod new_ids;
+mod new_names;
+mod order;
+mod renamed;
 mod same_rows;
 mod same_services;
+mod same_stop_times;
 mod same_values;
+mod zones;
 
 pub use kind::{Kind, Side};
 pub use law::merges_keep_departures;
+pub use names::Names;
+pub use zones::zones_differ;

@@ -9,7 +9,7 @@ use itoa::Buffer;
 use std::alloc::Global;
 
 // The new id of this number: the old one, `_merged_` and the number.
-pub(crate) fn numbered_id(alloc: Global, base: &str, number: u64) -> Result<String, OutOfMemory>
+pub(crate) fn numbered_id(alloc: Global, base: &str, number: u128) -> Result<String, OutOfMemory>
     ensures { IfOk result (λ id. string_bytes id ≡ merged_id base.now number) }
 {
     let mut id = String::from_str(alloc, base)?;
@@ -39,11 +39,11 @@ pub(crate) fn free_id(
     kind: Kind,
     base: &str,
 ) -> Result<String, OutOfMemory>
-    requires { length (known_ids kind a.now ++ known_ids kind b.now) + 2 < 2 ^ 64 }
+    requires { length (known_ids kind a.now ++ known_ids kind b.now) + 2 < 2 ^ 128 }
     ensures { IfOk result (λ id. string_bytes id
         ≡ free_id (known_ids kind a.now ++ known_ids kind b.now) base.now) }
 {
-    let mut number = 1;
+    let mut number: u128 = 1;
     loop {
         let id = numbered_id(alloc, base, number)?;
         if !is_taken(a, b, kind, id.as_str()) {

@@ -1,12 +1,14 @@
-ghost use Rattle.std.specs.Prelude.{◌≡◌};
+ghost use Rattle.std.specs.Prelude.{◌≡◌, ◌&&◌, List};
 ghost use Rattle.gtfs_rows.specs.Views.{agency_of, frequency_of};
+ghost use Rattle.gtfs_rows.specs.declared.frequency.Frequency.{Frequency as FrequencyOf};
+ghost use Rattle.gtfs_rows.specs.declared.stop_row.StopRow.{StopRow as StopRowOf};
 ghost use Rattle.gtfs_rows.specs.declared.parts.Parts.{Parts};
-ghost use Rattle.gtfs_merge.specs.Numbered.{same_agency_in, same_headsign_in, same_parent_in, same_route_in, same_stop_id_in, same_stop_in, same_stop_row_in};
+ghost use Rattle.gtfs_merge.specs.Numbered.{same_agency_in, same_headsign_in, same_parent_in, same_route_in, same_stop_id_in, same_frequencies_in, same_route_id_in, same_service_id_in, same_stop_in, same_stop_row_in, same_stop_rows_in, same_trip_in};
 ghost use Rattle.gtfs_merge.specs.Renaming.{Renaming};
 ghost use Rattle.gtfs_merge.specs.Same.{same_agency, same_frequency};
 
 use crate::same_values::{is_same_degrees, is_same_number, is_same_text, is_same_time};
-use gtfs_rows::{Agency, Frequency, Route, Stop, StopRow, Timepoint};
+use gtfs_rows::{Agency, Direction, Frequency, Route, Stop, StopRow, Timepoint, Trip};
 
 // Whether two agencies are the same, their ids apart.
 pub(crate) fn is_same_agency(a: &Agency, b: &Agency) -> bool
@@ -21,10 +23,10 @@ pub(crate) fn is_same_agency(a: &Agency, b: &Agency) -> bool
         && is_same_text(&a.agency_email, &b.agency_email)
 }
 
-// Whether two stops are the same, their ids apart, where `parent` tells whether their parents are.
-pub(crate) fn is_same_stop(a: &Stop, b: &Stop, parent: bool) -> bool
-    ensures { (p q : Parts) (rename : Renaming) → same_parent_in p q rename a.now b.now ≡ parent
-        → result ≡ same_stop_in p q rename a.now b.now }
+// Whether two stops are the same, their ids and their parents apart.
+pub(crate) fn is_alike_stop(a: &Stop, b: &Stop) -> bool
+    ensures { (p q : Parts) (rename : Renaming) → same_stop_in p q rename a.now b.now
+        ≡ (result && same_parent_in p q rename a.now b.now) }
 {
     is_same_text(&a.stop_code, &b.stop_code)
         && is_same_text(&a.stop_name, &b.stop_name)
@@ -34,7 +36,6 @@ pub(crate) fn is_same_stop(a: &Stop, b: &Stop, parent: bool) -> bool
         && is_same_degrees(a.stop_lon, b.stop_lon)
         && is_same_text(&a.stop_url, &b.stop_url)
         && a.location_type.number() == b.location_type.number()
-        && parent
         && a.wheelchair_boarding.number() == b.wheelchair_boarding.number()
         && is_same_text(&a.platform_code, &b.platform_code)
 }
@@ -54,6 +55,28 @@ pub(crate) fn is_same_route(a: &Route, b: &Route, agency: bool) -> bool
         && a.route_color.bits() == b.route_color.bits()
         && a.route_text_color.bits() == b.route_text_color.bits()
         && is_same_number(a.route_sort_order, b.route_sort_order)
+}
+
+// Whether two trips are the same, their ids, their stop times and their frequencies apart, where `route` and `service` tell
+// whether their routes and their services are.
+pub(crate) fn is_same_trip(a: &Trip, b: &Trip, route: bool, service: bool) -> bool
+    ensures { (p q : Parts) (rename_route rename_service rename_stop : Renaming)
+        (xs ys : List StopRowOf) (us vs : List FrequencyOf)
+        → same_route_id_in p q rename_route a.now b.now ≡ route
+        → same_service_id_in p q rename_service a.now b.now ≡ service
+        → same_trip_in p q rename_route rename_service rename_stop a.now xs us b.now ys vs
+        ≡ (result && same_stop_rows_in p q rename_stop xs ys && same_frequencies_in us vs) }
+{
+    route
+        && service
+        && is_same_text(&a.trip_headsign, &b.trip_headsign)
+        && is_same_text(&a.trip_short_name, &b.trip_short_name)
+        && is_same_number(
+            a.direction_id.map(Direction::number),
+            b.direction_id.map(Direction::number),
+        )
+        && a.wheelchair_accessible.number() == b.wheelchair_accessible.number()
+        && a.bikes_allowed.number() == b.bikes_allowed.number()
 }
 
 // Whether two stop times are the same, where `stop` and `headsign` tell whether their stops and their headsigns are.
@@ -82,4 +105,19 @@ pub(crate) fn is_same_frequency(a: Frequency, b: Frequency) -> bool
         && a.end_time.seconds() == b.end_time.seconds()
         && a.headway_secs == b.headway_secs
         && a.exact_times.number() == b.exact_times.number()
+}
+
+// Whether the frequencies of two trips are the same, one by one.
+pub(crate) fn are_same_frequencies(a: &[Frequency], b: &[Frequency]) -> bool
+    ensures { result ≡ same_frequencies_in a.now b.now }
+{
+    if a.len() != b.len() {
+        return false;
+    }
+    for number in 0..a.len() {
+        if !is_same_frequency(a[number], b[number]) {
+            return false;
+        }
+    }
+    true
 }

@@ -1,0 +1,134 @@
+-- Agencies of two feeds have one new id exactly where they are joined.
+use Rattle.std.proofs.Common.{◌≡◌, ◌<◌, ◌+◌, ◌^◌, ℕ, Bool, true, false, not, List, [], ◌∷◌, ◌++◌, refl, sym, ap, ◌∙◌, subst, inl, inr, length, bytes_eq, codes, true≢false, length-append, arith}
+use Rattle.std.specs.Prelude.{◌&&◌, ◌||◌, ◌==◌, if◌then◌else◌}
+use Rattle.std.proofs.lemmas.Bool.{and_parts, and_from, cases_Bool, or_left, or_parts}
+use Rattle.gtfs_rows.specs.Content.{Content}
+use Rattle.gtfs_rows.specs.Sound.{IsSound}
+use Rattle.gtfs_merge.specs.Renaming.{ids, has_id, free_id, renamed_b, agency_a, agency_b, joined_agency}
+use Rattle.gtfs_merge.specs.declared.kind.Kind.TheVariants as kind
+use Rattle.gtfs_merge.proofs.Apart.{no-text, one-agency}
+use Rattle.gtfs_merge.proofs.Fresh.{free_number-free, joined_stays, renamed_into_a}
+use Rattle.gtfs_merge.proofs.FreeSearch.{has_both}
+use Rattle.gtfs_merge.proofs.Lookups.{bytes_same, same_bytes, same_tests}
+
+module _ (a b : Content) (sound_a : IsSound a) (few : length (ids kind.Agency a) + length (ids kind.Agency b) < 2 ^ 65) where
+  abbrev ids_a : List (List ℕ)
+  ids_a = ids kind.Agency a
+
+  abbrev ids_b : List (List ℕ)
+  ids_b = ids kind.Agency b
+
+  abbrev taken : List (List ℕ)
+  taken = ids_a ++ ids_b
+
+  abbrev name : List ℕ
+  name = codes "agency"
+
+  -- the empty id that is not joined
+  abbrev is_named : List ℕ → Bool
+  is_named x = (length x == 0) && not (joined_agency a b x)
+
+  -- the ids that the new id of B's empty one keeps clear of
+  abbrev taken_b : List (List ℕ)
+  taken_b = if has_id ids_a [] then taken ++ agency_a a b [] ∷ [] else taken
+
+  abbrev rule : List ℕ → List ℕ
+  rule = renamed_b ids_a ids_b (joined_agency a b)
+
+  few_both : length ids_a + length ids_b + 2 < 10 ^ 64
+  few_both = omega arith
+
+  free_of : (xs : List (List ℕ)) → length xs + 2 < 10 ^ 64 → has_id xs (free_id xs name) ≡ false
+  free_of xs small = (free_number-free xs name small).0
+
+  few_taken : length taken + 2 < 10 ^ 64
+  few_taken = let e = length-append ids_a ids_b in omega arith
+
+  free : (has_id ids_a (free_id taken name) ≡ false) × (has_id ids_b (free_id taken name) ≡ false)
+  free = or_parts _ _ (sym (has_both ids_a ids_b (free_id taken name)) ∙ free_of taken few_taken)
+
+  few_more : (x : List ℕ) → length (taken ++ x ∷ []) + 2 < 10 ^ 64
+  few_more x = let e = length-append taken (x ∷ []) in let f = length-append ids_a ids_b in omega arith
+
+  free_more : (x : List ℕ) → (has_id taken (free_id (taken ++ x ∷ []) name) ≡ false) × (has_id (x ∷ []) (free_id (taken ++ x ∷ []) name) ≡ false)
+  free_more x = or_parts _ _ (sym (has_both taken (x ∷ []) (free_id (taken ++ x ∷ []) name)) ∙ free_of (taken ++ x ∷ []) (few_more x))
+
+  -- the new id of B's empty one is none of A's
+  free_b : has_id ids_a (free_id taken_b name) ≡ false
+  free_b = elim (has_id ids_a []) as (λ h. has_id ids_a (free_id (if h then taken ++ agency_a a b [] ∷ [] else taken) name) ≡ false) [
+    | true ↦ (or_parts _ _ (sym (has_both ids_a ids_b (free_id (taken ++ agency_a a b [] ∷ []) name)) ∙ (free_more (agency_a a b [])).0)).0
+    | false ↦ free.0
+  ]
+
+  named_a : (x : List ℕ) → is_named x ≡ true → agency_a a b x ≡ free_id taken name
+  named_a x e = ap (λ c. if c then free_id taken name else x) e
+
+  kept_a : (x : List ℕ) → is_named x ≡ false → agency_a a b x ≡ x
+  kept_a x e = ap (λ c. if c then free_id taken name else x) e
+
+  named_b : (x : List ℕ) → is_named x ≡ true → agency_b a b x ≡ free_id taken_b name
+  named_b x e = ap (λ c. if c then free_id taken_b name else rule x) e
+
+  ruled_b : (x : List ℕ) → is_named x ≡ false → agency_b a b x ≡ rule x
+  ruled_b x e = ap (λ c. if c then free_id taken_b name else rule x) e
+
+  and-false : (c : Bool) → (c && false) ≡ false
+  and-false true = refl
+  and-false false = refl
+
+  joined_kept : (x : List ℕ) → joined_agency a b x ≡ true → is_named x ≡ false
+  joined_kept x j = ap (λ c. (length x == 0) && not c) j ∙ and-false (length x == 0)
+
+  not_named_joined : (x : List ℕ) → is_named x ≡ false → (length x == 0) ≡ true → joined_agency a b x ≡ true
+  not_named_joined x n z = elim (cases_Bool (joined_agency a b x)) as (λ w. joined_agency a b x ≡ true) [
+    | inl j ↦ j
+    | inr j ↦ absurd (true≢false ((λ i. sym z i && not (sym j i)) ∙ n))
+  ]
+
+  -- the free id of A's empty one is no new id of B
+  never-free : (s t : List ℕ) → has_id ids_a s ≡ true → has_id ids_b t ≡ true → is_named s ≡ true → free_id taken name ≡ agency_b a b t → ⊥
+  never-free s t hs ht named e =
+      let parts = and_parts (length s == 0) (not (joined_agency a b s)) named in
+      let empty : s ≡ [] = no-text s parts.0 in
+      let has_empty : has_id ids_a [] ≡ true = subst (λ x. has_id ids_a x ≡ true) empty hs in
+      let is : agency_a a b [] ≡ free_id taken name = ap (agency_a a b) (sym empty) ∙ named_a s named in
+      elim (cases_Bool (is_named t)) as (λ w. ⊥) [
+        | inl n ↦
+            let more : free_id taken_b name ≡ free_id (taken ++ agency_a a b [] ∷ []) name = ap (λ h. free_id (if h then taken ++ agency_a a b [] ∷ [] else taken) name) has_empty in
+            let same : agency_a a b [] ≡ free_id (taken ++ agency_a a b [] ∷ []) name = is ∙ e ∙ named_b t n ∙ more in
+            let at : has_id (agency_a a b [] ∷ []) (free_id (taken ++ agency_a a b [] ∷ []) name) ≡ true =
+            or_left _ _ (bytes_same _ _ (sym same)) in
+            true≢false (sym at ∙ (free_more (agency_a a b [])).1)
+        | inr n ↦ elim (cases_Bool (has_id ids_a t)) as (λ w. ⊥) [
+          | inl h ↦
+              let t_empty : t ≡ [] = one-agency a sound_a has_empty t h in
+              let same : s ≡ t = empty ∙ sym t_empty in
+              true≢false (sym named ∙ ap is_named same ∙ n)
+          | inr h ↦
+              let stays : rule t ≡ t = ap (λ h. if not h || joined_agency a b t then t else free_id taken t) h in
+              true≢false (sym ht ∙ ap (has_id ids_b) (sym stays ∙ sym (ruled_b t n) ∙ sym e) ∙ free.1)
+        ]
+      ]
+
+  -- an id of A and one of B become one exactly where they are one that is joined
+  pub agencies-meet : (s t : List ℕ) → has_id ids_a s ≡ true → has_id ids_b t ≡ true → bytes_eq (agency_a a b s) (agency_b a b t) ≡ (joined_agency a b t && bytes_eq s t)
+  agencies-meet s t hs ht = same_tests _ _ (λ e. forth (same_bytes _ _ e)) (λ e. let parts = and_parts (joined_agency a b t) (bytes_eq s t) e in back parts.0 (same_bytes s t parts.1))
+    where
+      forth : agency_a a b s ≡ agency_b a b t → (joined_agency a b t && bytes_eq s t) ≡ true
+      forth e = elim (cases_Bool (is_named s)) as (λ w. (joined_agency a b t && bytes_eq s t) ≡ true) [
+        | inl n ↦ absurd (never-free s t hs ht n (sym (named_a s n) ∙ e))
+        | inr n ↦
+            let is : s ≡ agency_b a b t = sym (kept_a s n) ∙ e in
+            elim (cases_Bool (is_named t)) as (λ w. (joined_agency a b t && bytes_eq s t) ≡ true) [
+              | inl m ↦ absurd (true≢false (sym hs ∙ ap (has_id ids_a) (is ∙ named_b t m) ∙ free_b))
+              | inr m ↦
+                  let into = renamed_into_a ids_a ids_b (joined_agency a b) few_both t (subst (λ x. has_id ids_a x ≡ true) (is ∙ ruled_b t m) hs) in
+                  and_from _ _ into.1 (bytes_same s t (is ∙ ruled_b t m ∙ into.0))
+            ]
+      ]
+
+      back : joined_agency a b t ≡ true → s ≡ t → bytes_eq (agency_a a b s) (agency_b a b t) ≡ true
+      back j e =
+          let first : agency_a a b s ≡ s = kept_a s (joined_kept s (ap (joined_agency a b) e ∙ j)) in
+          let second : agency_b a b t ≡ t = ruled_b t (joined_kept t j) ∙ joined_stays ids_a ids_b (joined_agency a b) few_both t j in
+          bytes_same _ _ (first ∙ e ∙ sym second)

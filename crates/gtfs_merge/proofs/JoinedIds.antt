@@ -1,0 +1,79 @@
+-- Ids that are joined are ids of both feeds.
+use Rattle.std.proofs.Common.{◌≡◌, ℕ, Bool, true, false, cond, List, [], Some, None, refl, sym, ap, ◌∙◌, subst, length, map, get_or, bytes_eq, is_some, true≢false}
+use Rattle.std.specs.Prelude.{◌&&◌}
+use Rattle.std.specs.List.{list_any, position, position_or_len}
+use Rattle.std.proofs.lemmas.Bool.{and_parts, false_from_ne_true}
+use Rattle.std.proofs.lemmas.List.{get_or-map, length-map}
+use Rattle.std.proofs.lemmas.List.Quantifiers.{position-Some}
+use Rattle.gtfs_rows.specs.Content.{Content}
+use Rattle.gtfs_rows.specs.declared.parts.Parts.{Parts}
+use Rattle.gtfs_rows.specs.Views.{IsSoundParts, content_of_parts}
+use Rattle.gtfs_merge.specs.Joined.{joined_number, joined_numbers, joined_rows, number_if, of_kind}
+use Rattle.gtfs_merge.specs.Numbered.{known_ids}
+use Rattle.gtfs_merge.specs.Renaming.{Nearness, has_id, ids, is_joined, joined_by, never_near}
+use Rattle.gtfs_merge.specs.declared.kind.Kind.{Kind}
+use Rattle.gtfs_merge.specs.declared.kind.Kind.TheVariants as kind
+use Rattle.gtfs_merge.proofs.FreeSearch.{before-any}
+use Rattle.gtfs_merge.proofs.JoinedKinds.{ids-known}
+use Rattle.gtfs_merge.proofs.Lookups.{list_any-In, same_bytes}
+use Rattle.gtfs_merge.proofs.MergedRows.{has_own}
+
+module _ {X : Type 0} (id : X → List ℕ) (same : X → X → Bool) (rows_a rows_b : List X) (x : List ℕ) (joined : joined_by id same rows_a rows_b x ≡ true) where
+  by-has : (has_id (map id rows_a) x ≡ true) × (has_id (map id rows_b) x ≡ true)
+  by-has =
+      let r = list_any-In (λ row. bytes_eq (id row) x && list_any (λ other. bytes_eq (id other) x && same row other) rows_b) rows_a joined in
+      let first = and_parts (bytes_eq (id r.0) x) (list_any (λ other. bytes_eq (id other) x && same r.0 other) rows_b) r.2 in
+      let s = list_any-In (λ other. bytes_eq (id other) x && same r.0 other) rows_b first.1 in
+      let second = and_parts (bytes_eq (id s.0) x) (same r.0 s.0) s.2 in (
+        subst (λ y. has_id (map id rows_a) y ≡ true) (same_bytes (id r.0) x first.0) (has_own id rows_a r.0 r.1),
+        subst (λ y. has_id (map id rows_b) y ≡ true) (same_bytes (id s.0) x second.0) (has_own id rows_b s.0 s.1),
+      )
+
+pub joined-has : (near : Nearness) (k : Kind) (a b : Content) (x : List ℕ) → is_joined near k a b x ≡ true → (has_id (ids k a) x ≡ true) × (has_id (ids k b) x ≡ true)
+joined-has near kind.Agency a b x j = by-has (λ r. r.agency_id) _ a.agencies b.agencies x j
+joined-has near kind.Stop a b x j = by-has (λ s. s.stop_id) _ a.stops b.stops x j
+joined-has near kind.Route a b x j = by-has (λ r. r.route_id) _ a.routes b.routes x j
+joined-has near kind.Service a b x j = by-has (λ s. s.service_id) _ a.services b.services x j
+joined-has near kind.Trip a b x j = by-has (λ t. t.trip_id) _ a.trips b.trips x j
+
+placed : (b : Bool) (n : ℕ) → is_some (cond b (Some n) None) ≡ b
+placed true n = refl
+placed false n = refl
+
+-- an id has a number where it is there
+pub has-number : (xs : List (List ℕ)) (x : List ℕ) → is_some (position (bytes_eq x) xs) ≡ has_id xs x
+has-number xs x = placed _ (position_or_len (bytes_eq x) xs) ∙ before-any (bytes_eq x) xs
+
+pub number-tells : (j : Bool) (xs : List (List ℕ)) (x : List ℕ) → (j ≡ true → has_id xs x ≡ true) → is_some (number_if j xs x) ≡ j
+number-tells true xs x has = has-number xs x ∙ has refl
+number-tells false xs x has = refl
+
+pub of-kind : (p q : Parts) (k : Kind) → of_kind (joined_rows p q) k ≡ joined_numbers k p q
+of-kind p q kind.Agency = refl
+of-kind p q kind.Stop = refl
+of-kind p q kind.Route = refl
+of-kind p q kind.Service = refl
+of-kind p q kind.Trip = refl
+
+pub of-kind-length : (p q : Parts) (k : Kind) → length (of_kind (joined_rows p q) k) ≡ length (known_ids k q)
+of-kind-length p q k = ap length (of-kind p q k) ∙ length-map (known_ids k q) (joined_number k p q)
+
+module _ (p q : Parts) (sound_p : IsSoundParts p) (sound_q : IsSoundParts q) (k : Kind) (x : List ℕ) where
+  abbrev a : Content
+  a = content_of_parts p
+
+  abbrev b : Content
+  b = content_of_parts q
+
+  pub told-there : (n : ℕ) → position (bytes_eq x) (known_ids k q) ≡ Some n → (result : Bool) → result ≡ is_some (get_or (of_kind (joined_rows p q) k) n None) → result ≡ is_joined never_near k a b x
+  told-there n place result is =
+      let there = position-Some (bytes_eq x) (known_ids k q) n [] place in
+      let own : x ≡ get_or (known_ids k q) n [] = same_bytes x _ there.1 in
+      is ∙ ap (λ xs. is_some (get_or xs n None)) (of-kind p q k) ∙ ap is_some (get_or-map (joined_number k p q) (known_ids k q) n [] None there.0)
+      ∙ ap (λ y. is_some (joined_number k p q y)) (sym own)
+      ∙ number-tells (is_joined never_near k a b x) (known_ids k p) x (λ j. subst (λ xs. has_id xs x ≡ true) (ids-known k p sound_p) (joined-has never_near k a b x j).0)
+
+  pub told-not-there : position (bytes_eq x) (known_ids k q) ≡ None → false ≡ is_joined never_near k a b x
+  told-not-there place = sym (false_from_ne_true _ (λ j.
+      let has : has_id (known_ids k q) x ≡ true = subst (λ xs. has_id xs x ≡ true) (ids-known k q sound_q) (joined-has never_near k a b x j).1 in
+      true≢false (sym has ∙ sym (has-number (known_ids k q) x) ∙ ap is_some place)))

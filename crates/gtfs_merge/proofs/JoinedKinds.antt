@@ -1,0 +1,78 @@
+-- Rows of two feeds that are joined, kind by kind.
+use Rattle.std.proofs.Common.{◌≡◌, ◌<◌, ◌+◌, ◌^◌, ℕ, Bool, List, [], ◌∷◌, Some, None, Option, refl, sym, ap, ◌∙◌, length, map, get_or, bytes_eq, option_map, arith}
+use Rattle.std.specs.Prelude.{if◌then◌else◌}
+use Rattle.std.specs.List.{slice_get, position}
+use Rattle.std.proofs.lemmas.List.{get_or-map}
+use Rattle.std.proofs.lemmas.Option.{get_or_from_slice_get, slice_get_within}
+use Rattle.std.proofs.lemmas.Simd.{map-map}
+use Rattle.gtfs_table.specs.Parts.{parts}
+use Rattle.gtfs_table.proofs.PartFacts.{length-parts}
+use Rattle.gtfs_days.specs.Service.{ServiceDates}
+use Rattle.gtfs_rows.specs.declared.agency.Agency.{Agency}
+use Rattle.gtfs_rows.specs.declared.frequency.Frequency.{Frequency}
+use Rattle.gtfs_rows.specs.declared.parts.Parts.{Parts}
+use Rattle.gtfs_rows.specs.declared.stop_row.StopRow.{StopRow}
+use Rattle.gtfs_rows.specs.declared.trip.Trip.{Trip}
+use Rattle.gtfs_rows.specs.Views.{IsSoundParts, content_of_parts, agency_of, route_of, service_of, stop_of, trips_of, agency_ids, service_ids}
+use Rattle.gtfs_merge.specs.Joined.{joined_number}
+use Rattle.gtfs_merge.specs.Numbered.{known_ids}
+use Rattle.gtfs_merge.specs.Renaming.{ids}
+use Rattle.gtfs_merge.specs.Same.{same_agency, same_service}
+use Rattle.gtfs_merge.specs.declared.kind.Kind.{Kind}
+use Rattle.gtfs_merge.specs.declared.kind.Kind.TheVariants as kind
+use Rattle.gtfs_merge.proofs.JoinedRows.{row-map, number-same}
+
+-- the id of a row by its number
+pub id-at : {X : Type 0} (id : X → List ℕ) (xs : List X) (k : ℕ) (x : X) → slice_get xs k ≡ Some x → get_or (map id xs) k [] ≡ id x
+id-at id xs k x at = get_or-map id xs k x [] (slice_get_within xs k x at) ∙ ap id (get_or_from_slice_get xs k x x at)
+
+-- ---- ids of the content
+
+trip_ids-kept : (p : Parts) (ts : List Trip) (rs : List (List StopRow)) (fs : List (List Frequency)) → length rs ≡ length ts → length fs ≡ length ts
+    → map (λ t. t.trip_id) (trips_of p ts rs fs) ≡ map (λ t. t.trip_id) ts
+trip_ids-kept p [] rs fs r f = refl
+trip_ids-kept p (t ∷ ts) [] fs r f = absurd (omega (arith, r))
+trip_ids-kept p (t ∷ ts) (x ∷ rs) [] r f = absurd (omega (arith, f))
+trip_ids-kept p (t ∷ ts) (x ∷ rs) (y ∷ fs) r f = ap (λ ids. t.trip_id ∷ ids) (trip_ids-kept p ts rs fs (omega (arith, r)) (omega (arith, f)))
+
+pub ids-known : (k : Kind) (p : Parts) → IsSoundParts p → ids k (content_of_parts p) ≡ known_ids k p
+ids-known kind.Agency p sound = map-map (λ a. a.agency_id) agency_of p.agencies
+ids-known kind.Stop p sound = map-map (λ s. s.stop_id) (stop_of p) p.stops
+ids-known kind.Route p sound = map-map (λ r. r.route_id) (route_of p) p.routes
+ids-known kind.Service p sound = map-map (λ s. s.service_id) service_of p.services
+ids-known kind.Trip p sound = trip_ids-kept p p.trips (parts p.stop_row_starts p.stop_rows) (parts p.frequency_starts p.frequencies)
+    (length-parts p.stop_row_starts p.stop_rows ∙ sound.stop_rows.0) (length-parts p.frequency_starts p.frequencies ∙ sound.frequencies.0)
+
+pub few-known : (k : Kind) (p q : Parts) → IsSoundParts p → IsSoundParts q → length (known_ids k p) < 2 ^ 64 → length (known_ids k q) < 2 ^ 64 → length (ids k (content_of_parts p)) + length (ids k (content_of_parts q)) < 2 ^ 65
+few-known k p q sound_p sound_q small_p small_q =
+    let e : length (ids k (content_of_parts p)) ≡ length (known_ids k p) = ap length (ids-known k p sound_p) in
+    let f : length (ids k (content_of_parts q)) ≡ length (known_ids k q) = ap length (ids-known k q sound_q) in
+    omega arith
+
+-- ---- rows
+
+module _ (p q : Parts) (sound_p : IsSoundParts p) (sound_q : IsSoundParts q) where
+  pub agency-joined : (k n : ℕ) (y x : Agency) (same : Bool) → slice_get q.agencies k ≡ Some y → Some n ≡ position (bytes_eq y.agency_id) (agency_ids p) → slice_get p.agencies n ≡ Some x
+      → same ≡ same_agency (agency_of x) (agency_of y) → joined_number kind.Agency p q (get_or (agency_ids q) k []) ≡ (if same then Some n else None)
+  agency-joined k n y x same at place found is =
+      ap (joined_number kind.Agency p q) (id-at (λ a. a.agency_id) q.agencies k y at)
+      ∙ number-same (λ a. a.agency_id) same_agency (content_of_parts p).agencies (content_of_parts q).agencies sound_p.content.in_order.agencies sound_q.content.in_order.agencies
+      k (agency_of y) (row-map agency_of q.agencies k y at) (agency_ids p) (ids-known kind.Agency p sound_p) n (agency_of x) (sym place) (row-map agency_of p.agencies n x found)
+      ∙ ap (λ b. if b then Some n else None) (sym is)
+
+  held : {X Y : Type 0} (f : X → Y) (o : Option X) (v : Y) → option_map f o ≡ Some v → (x : X) × (o ≡ Some x) × (f x ≡ v)
+  held f None v e = cc
+  held f (Some x) v e = (x, refl, cc)
+
+  pub service-joined : (k n : ℕ) (t : List ℕ) (v u : ServiceDates) (same : Bool) → option_map (λ s. s.service) (slice_get q.services k) ≡ Some v → get_or (service_ids q) k [] ≡ t
+      → Some n ≡ position (bytes_eq t) (service_ids p) → option_map (λ s. s.service) (slice_get p.services n) ≡ Some u
+      → same ≡ same_service u v → joined_number kind.Service p q (get_or (service_ids q) k []) ≡ (if same then Some n else None)
+  service-joined k n t v u same at named place found is =
+      let y = held (λ s. s.service) (slice_get q.services k) v at in
+      let x = held (λ s. s.service) (slice_get p.services n) u found in
+      let named_y : y.0.service_id ≡ t = sym (id-at (λ s. s.service_id) q.services k y.0 y.1) ∙ named in
+      ap (joined_number kind.Service p q) (named ∙ sym named_y)
+      ∙ number-same (λ s. s.service_id) (λ row other. same_service row.service other.service) (content_of_parts p).services (content_of_parts q).services sound_p.content.in_order.services sound_q.content.in_order.services
+      k (service_of y.0) (row-map service_of q.services k y.0 y.1) (service_ids p) (ids-known kind.Service p sound_p) n (service_of x.0)
+      (ap (λ w. position (bytes_eq w) (service_ids p)) named_y ∙ sym place) (row-map service_of p.services n x.0 x.1)
+      ∙ ap (λ b. if b then Some n else None) ((λ i. same_service (x.2 i) (y.2 i)) ∙ sym is)

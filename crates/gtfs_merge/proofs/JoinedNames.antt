@@ -1,0 +1,87 @@
+-- References of two feeds, compared by their numbers.
+use Rattle.std.proofs.Common.{◌≡◌, ◌<◌, ◌+◌, ◌^◌, ℕ, zero, suc, Bool, true, false, List, [], ◌∷◌, Some, None, Option, refl, sym, ap, ◌∙◌, subst, length, map, get_or, bytes_eq, nat_eq, option_map, arith}
+use Rattle.std.specs.Prelude.{◌&&◌, if◌then◌else◌}
+use Rattle.std.specs.List.{slice_get, position}
+use Rattle.std.specs.Option.{option_eq}
+use Rattle.std.specs.Ordering.{on}
+use Rattle.std.proofs.lemmas.Bool.{or_right}
+use Rattle.std.proofs.lemmas.List.{get_or-map, length-map}
+use Rattle.gtfs_columns.proofs.SiteFacts.{text_itself}
+use Rattle.gtfs_table.specs.Folder.{text_cmp}
+use Rattle.gtfs_rows.specs.Content.{Content}
+use Rattle.gtfs_rows.specs.Order.{Ascends}
+use Rattle.gtfs_rows.specs.declared.parts.Parts.{Parts}
+use Rattle.gtfs_rows.specs.declared.route.Route.{Route}
+use Rattle.gtfs_rows.specs.Views.{IsSoundParts, content_of_parts, route_of, agency_ids, route_ids}
+use Rattle.gtfs_feed.proofs.NumberFacts.{route_agency}
+use Rattle.gtfs_feed.proofs.SoundOrder.{in_order}
+use Rattle.gtfs_merge.specs.Joined.{joined_number, joined_numbers, number_if}
+use Rattle.gtfs_merge.specs.Numbered.{known_ids, same_agency_in, same_route_in}
+use Rattle.gtfs_merge.specs.Renaming.{Renaming, has_id, ids, kept_as_is, renamed_b, agency_a, agency_b, joined_agency, route_with}
+use Rattle.gtfs_merge.specs.Same.{same_route}
+use Rattle.gtfs_merge.specs.declared.kind.Kind.{Kind}
+use Rattle.gtfs_merge.specs.declared.kind.Kind.TheVariants as kind
+use Rattle.gtfs_merge.proofs.JoinedAgencies.{agencies-meet}
+use Rattle.gtfs_merge.proofs.JoinedKinds.{id-at, ids-known}
+use Rattle.gtfs_merge.proofs.JoinedRows.{row-map, number-same}
+use Rattle.gtfs_merge.proofs.JoinedStops.{by-number, renamed-number}
+
+-- an id at a place is one of the list
+pub has-at : (xs : List (List ℕ)) (m : ℕ) → m < length xs → has_id xs (get_or xs m []) ≡ true
+has-at [] m within = absurd (omega arith)
+has-at (x ∷ xs) zero within = rw (text_itself x) refl
+has-at (x ∷ xs) (suc m) within = or_right (bytes_eq (get_or xs m []) x) _ (has-at xs m (omega arith))
+
+-- what a list of joined rows has at a place
+pub joined-at-place : {T : Type 0} (number : T → ℕ) (k : Kind) (p q : Parts) (joined : List (Option T)) (j : ℕ) → map (option_map number) joined ≡ joined_numbers k p q → j < length (known_ids k q)
+    → get_or (map (option_map number) joined) j None ≡ joined_number k p q (get_or (known_ids k q) j [])
+joined-at-place number k p q joined j is within = ap (λ xs. get_or xs j None) is ∙ get_or-map (joined_number k p q) (known_ids k q) j [] None within
+
+pub joined-length : {T : Type 0} (number : T → ℕ) (k : Kind) (p q : Parts) (joined : List (Option T)) → map (option_map number) joined ≡ joined_numbers k p q → length joined ≡ length (known_ids k q)
+joined-length number k p q joined is = sym (length-map joined (option_map number)) ∙ ap length is ∙ length-map (known_ids k q) (joined_number k p q)
+
+-- by the rule of all kinds
+pub rule-meets : {X : Type 0} (id : X → List ℕ) (rows : List X) → Ascends (on id text_cmp) rows → (ids_a ids_b : List (List ℕ)) → ids_a ≡ map id rows → (is_joined : List ℕ → Bool)
+    → length ids_a + length ids_b + 2 < 10 ^ 64 → (m : ℕ) → m < length rows → (t : List ℕ)
+    → bytes_eq (get_or (map id rows) m []) (renamed_b ids_a ids_b is_joined t) ≡ option_eq nat_eq (Some m) (number_if (is_joined t) (map id rows) t)
+rule-meets id rows up ids_a ids_b named is_joined few m within t =
+    by-number id rows up m within (renamed_b ids_a ids_b is_joined t)
+    ∙ ap (option_eq nat_eq (Some m)) (ap (position (bytes_eq (renamed_b ids_a ids_b is_joined t))) (sym named) ∙ renamed-number ids_a ids_b is_joined few t ∙ ap (λ xs. number_if (is_joined t) xs t) named)
+
+joined-first : (j : Bool) (m : ℕ) (o : Option ℕ) → (j && option_eq nat_eq (Some m) o) ≡ option_eq nat_eq (Some m) (if j then o else None)
+joined-first true m o = refl
+joined-first false m o = refl
+
+module _ (p q : Parts) (sound_p : IsSoundParts p) (sound_q : IsSoundParts q) where
+  abbrev a : Content
+  a = content_of_parts p
+
+  abbrev b : Content
+  b = content_of_parts q
+
+  agency-named : length (ids kind.Agency a) + length (ids kind.Agency b) < 2 ^ 65 → (m j : ℕ) → m < length p.agencies → j < length q.agencies
+      → bytes_eq (agency_a a b (get_or (agency_ids p) m [])) (agency_b a b (get_or (agency_ids q) j [])) ≡ option_eq nat_eq (Some m) (joined_number kind.Agency p q (get_or (agency_ids q) j []))
+  agency-named few m j within_p within_q =
+      let s = get_or (agency_ids p) m [] in
+      let t = get_or (agency_ids q) j [] in
+      let has_s : has_id (ids kind.Agency a) s ≡ true = subst (λ xs. has_id xs s ≡ true) (sym (ids-known kind.Agency p sound_p)) (has-at (agency_ids p) m (omega (arith, length-map p.agencies (λ r. r.agency_id)))) in
+      let has_t : has_id (ids kind.Agency b) t ≡ true = subst (λ xs. has_id xs t ≡ true) (sym (ids-known kind.Agency q sound_q)) (has-at (agency_ids q) j (omega (arith, length-map q.agencies (λ r. r.agency_id)))) in
+      agencies-meet a b sound_p.content few s t has_s has_t
+      ∙ ap (λ c. joined_agency a b t && c) (by-number (λ r. r.agency_id) p.agencies (in_order p sound_p).agencies m within_p t)
+      ∙ joined-first (joined_agency a b t) m (position (bytes_eq t) (agency_ids p))
+
+  pub route-joined : length (ids kind.Agency a) + length (ids kind.Agency b) < 2 ^ 65 → {T : Type 0} (number : T → ℕ) (agencies : List (Option T)) → map (option_map number) agencies ≡ joined_numbers kind.Agency p q
+      → (k n : ℕ) (y x : Route) (agency same : Bool) → slice_get q.routes k ≡ Some y → position (bytes_eq y.route_id) (route_ids p) ≡ Some n → slice_get p.routes n ≡ Some x
+      → agency ≡ option_eq nat_eq (Some x.agency_id.0) (get_or (map (option_map number) agencies) y.agency_id.0 None)
+      → ((ra rb : Renaming) → same_agency_in p q ra rb x y ≡ agency → same ≡ same_route_in p q ra rb x y)
+      → joined_number kind.Route p q (get_or (route_ids q) k []) ≡ (if same then Some n else None)
+  route-joined few number agencies known k n y x agency same at place found agency_is same_is =
+      let within_y = route_agency q sound_q k y at in
+      let at_place = joined-at-place number kind.Agency p q agencies y.agency_id.0 known (omega (arith, length-map q.agencies (λ r. r.agency_id))) in
+      let agency_same : same_agency_in p q (agency_a a b) (agency_b a b) x y ≡ agency =
+      agency-named few x.agency_id.0 y.agency_id.0 (route_agency p sound_p n x found) within_y ∙ ap (option_eq nat_eq (Some x.agency_id.0)) (sym at_place) ∙ sym agency_is in
+      ap (joined_number kind.Route p q) (id-at (λ r. r.route_id) q.routes k y at)
+      ∙ number-same (λ r. r.route_id) (λ row other. same_route (route_with kept_as_is (agency_a a b) row) (route_with kept_as_is (agency_b a b) other)) a.routes b.routes
+      sound_p.content.in_order.routes sound_q.content.in_order.routes k (route_of q y) (row-map (route_of q) q.routes k y at) (route_ids p) (ids-known kind.Route p sound_p) n (route_of p x)
+      place (row-map (route_of p) p.routes n x found)
+      ∙ ap (λ c. if c then Some n else None) (sym (same_is (agency_a a b) (agency_b a b) agency_same))

@@ -1,0 +1,170 @@
+-- Stops that are joined, by their numbers.
+use Rattle.std.proofs.Common.{◌≡◌, ◌<◌, ◌+◌, ◌^◌, ℕ, suc, Bool, true, false, cond, List, [], ◌∷◌, Some, None, Option, refl, sym, ap, ◌∙◌, subst, inl, inr, length, map, get_or, bytes_eq, nat_eq, eqb-true, true≢false, find, option_map, option_and_then, unwrap_or, arith}
+use Rattle.std.specs.Prelude.{◌&&◌, if◌then◌else◌, IfSome}
+use Rattle.std.specs.List.{slice_get, position, position_or_len}
+use Rattle.std.specs.Option.{option_eq}
+use Rattle.std.specs.Ordering.{on}
+use Rattle.std.proofs.lemmas.Bool.{cases_Bool}
+use Rattle.std.proofs.lemmas.List.{get_or-map}
+use Rattle.std.proofs.lemmas.List.Quantifiers.{position-Some}
+use Rattle.std.proofs.lemmas.Option.{slice_get-get_or}
+use Rattle.gtfs_table.specs.Folder.{text_cmp}
+use Rattle.gtfs_rows.specs.Content.{Content}
+use Rattle.gtfs_rows.specs.Order.{Ascends}
+use Rattle.gtfs_rows.specs.Rows.{Stop}
+use Rattle.gtfs_rows.specs.Views.{IsSoundParts, content_of_parts, stop_of, stop_ids, text_of_number}
+use Rattle.gtfs_rows.specs.declared.numbers.StopNo.{StopNo}
+use Rattle.gtfs_rows.specs.declared.parts.Parts.{Parts}
+use Rattle.gtfs_rows.specs.declared.stop.Stop.{Stop as StopByNumber}
+use Rattle.gtfs_feed.proofs.SoundOrder.{in_order}
+use Rattle.gtfs_feed.proofs.NumberFacts.{own_number, stop_parent}
+use Rattle.gtfs_merge.specs.Joined.{became, is_same_parent, joined_number, number_if, parent_became}
+use Rattle.gtfs_merge.specs.Numbered.{same_parent_in, same_stop_in}
+use Rattle.gtfs_merge.specs.Same.{same_stop, same_text}
+use Rattle.gtfs_merge.specs.Law.{AreFew}
+use Rattle.gtfs_merge.specs.Renaming.{Renaming, ids, has_id, renamed_b, never_near, near_stop_under, joined_stop, joined_stop_under, stop_b, stop_under, stop_with, stop_within}
+use Rattle.gtfs_merge.specs.declared.kind.Kind.TheVariants as kind
+use Rattle.gtfs_merge.proofs.Lookups.{bytes_flip, same_bytes, same_tests}
+use Rattle.gtfs_merge.proofs.Fresh.{joined_stays, renamed_into_a}
+use Rattle.gtfs_merge.proofs.FreeSearch.{before-any}
+use Rattle.gtfs_merge.proofs.JoinedKinds.{id-at, ids-known}
+use Rattle.gtfs_merge.proofs.JoinedRows.{row-map, number-same}
+
+-- ---- numbers of texts
+
+-- a text that is not there has no number
+pub not-placed : (xs : List (List ℕ)) (q : List ℕ) → has_id xs q ≡ false → position (bytes_eq q) xs ≡ None
+not-placed xs q e = ap (λ b. cond b (Some (position_or_len (bytes_eq q) xs)) None) (before-any (bytes_eq q) xs ∙ e)
+
+-- a text has the number of its place
+own_text : {X : Type 0} (id : X → List ℕ) (rows : List X) (m : ℕ) → Ascends (on id text_cmp) rows → m < length rows → position (bytes_eq (get_or (map id rows) m [])) (map id rows) ≡ Some m
+own_text id [] m up within = absurd (omega arith)
+own_text id (r ∷ rs) m up within =
+    let row = get_or (r ∷ rs) m r in
+    ap (λ t. position (bytes_eq t) (map id (r ∷ rs))) (get_or-map id (r ∷ rs) m r [] within)
+    ∙ own_number id (r ∷ rs) m row up (slice_get-get_or (r ∷ rs) m r within)
+
+-- the text of a number is another text exactly where that is its number
+pub by-number : {X : Type 0} (id : X → List ℕ) (rows : List X) → Ascends (on id text_cmp) rows → (m : ℕ) → m < length rows → (t : List ℕ)
+    → bytes_eq (get_or (map id rows) m []) t ≡ option_eq nat_eq (Some m) (position (bytes_eq t) (map id rows))
+by-number id rows up m within t = same_tests _ _ forth (λ e. back (position (bytes_eq t) (map id rows)) refl e)
+  where
+    itself : (n : ℕ) → nat_eq n n ≡ true
+    itself n = grind arith
+
+    own : position (bytes_eq (get_or (map id rows) m [])) (map id rows) ≡ Some m
+    own = own_text id rows m up within
+
+    forth : bytes_eq (get_or (map id rows) m []) t ≡ true → option_eq nat_eq (Some m) (position (bytes_eq t) (map id rows)) ≡ true
+    forth e =
+        let is : get_or (map id rows) m [] ≡ t = same_bytes _ _ e in
+        ap (option_eq nat_eq (Some m)) (sym (ap (λ q. position (bytes_eq q) (map id rows)) is) ∙ own) ∙ itself m
+
+    back : (o : Option ℕ) → position (bytes_eq t) (map id rows) ≡ o → option_eq nat_eq (Some m) o ≡ true → bytes_eq (get_or (map id rows) m []) t ≡ true
+    back None p e = absurd (true≢false (sym e))
+    back (Some n) p e =
+        let there = position-Some (bytes_eq t) (map id rows) n [] p in
+        let is : m ≡ n = eqb-true m n e in
+        bytes_flip (get_or (map id rows) m []) t ∙ ap (λ k. bytes_eq t (get_or (map id rows) k [])) is ∙ there.1
+
+-- a new name by the rule of all kinds is an id of A exactly where the id is joined
+pub renamed-number : (ids_a ids_b : List (List ℕ)) (is_joined : List ℕ → Bool) → length ids_a + length ids_b + 2 < 10 ^ 64 → (x : List ℕ)
+    → became ids_a (renamed_b ids_a ids_b is_joined) x ≡ number_if (is_joined x) ids_a x
+renamed-number ids_a ids_b is_joined few x = by (is_joined x) refl
+  where
+    by : (j : Bool) → is_joined x ≡ j → position (bytes_eq (renamed_b ids_a ids_b is_joined x)) ids_a ≡ number_if (is_joined x) ids_a x
+    by true e = ap (λ q. position (bytes_eq q) ids_a) (joined_stays ids_a ids_b is_joined few x e) ∙ ap (λ j. number_if j ids_a x) (sym e)
+    by false e = elim (cases_Bool (has_id ids_a (renamed_b ids_a ids_b is_joined x))) as (λ w. position (bytes_eq (renamed_b ids_a ids_b is_joined x)) ids_a ≡ number_if (is_joined x) ids_a x) [
+      | inl h ↦ absurd (true≢false (sym (renamed_into_a ids_a ids_b is_joined few x h).1 ∙ e))
+      | inr n ↦ not-placed ids_a (renamed_b ids_a ids_b is_joined x) n ∙ ap (λ j. number_if j ids_a x) (sym e)
+    ]
+
+-- ---- stops, of which none is near another
+
+nobody : (xs : List Stop) → find (λ z. false) xs ≡ None
+nobody [] = refl
+nobody (z ∷ zs) = nobody zs
+
+none-near : (rename : Renaming) (a b : Content) (x : List ℕ) → near_stop_under never_near rename a b x ≡ None
+none-near rename a b x = by (find (λ y. bytes_eq y.stop_id x) b.stops)
+  where
+    by : (o : Option Stop) → option_and_then (λ y. option_map (λ s. s.stop_id) (find (λ z. false) a.stops)) o ≡ None
+    by None = refl
+    by (Some y) = ap (option_map (λ s. s.stop_id)) (nobody a.stops)
+
+-- a joined stop stays by the rule of all kinds, too
+pub stop-ruled : (rename : Renaming) (a b : Content) → AreFew kind.Stop a b → (x : List ℕ) → stop_under never_near rename a b x ≡ renamed_b (ids kind.Stop a) (ids kind.Stop b) (joined_stop_under rename a b) x
+stop-ruled rename a b few x = by (joined_stop_under rename a b x) refl
+  where
+    by : (j : Bool) → joined_stop_under rename a b x ≡ j → stop_under never_near rename a b x ≡ renamed_b (ids kind.Stop a) (ids kind.Stop b) (joined_stop_under rename a b) x
+    by true e = ap (λ j. if j then x else unwrap_or (near_stop_under never_near rename a b x) (renamed_b (ids kind.Stop a) (ids kind.Stop b) (joined_stop_under rename a b) x)) e
+        ∙ sym (joined_stays (ids kind.Stop a) (ids kind.Stop b) (joined_stop_under rename a b) few x e)
+    by false e = λ i. if e i then x else unwrap_or (none-near rename a b x i) (renamed_b (ids kind.Stop a) (ids kind.Stop b) (joined_stop_under rename a b) x)
+
+pub stop-number : (rename : Renaming) (a b : Content) → AreFew kind.Stop a b → (x : List ℕ)
+    → became (ids kind.Stop a) (stop_under never_near rename a b) x ≡ number_if (joined_stop_under rename a b x) (ids kind.Stop a) x
+stop-number rename a b few x = ap (λ q. position (bytes_eq q) (ids kind.Stop a)) (stop-ruled rename a b few x) ∙ renamed-number (ids kind.Stop a) (ids kind.Stop b) (joined_stop_under rename a b) few x
+
+-- ---- one stop of B and its parent
+
+module _ (p q : Parts) (sound_p : IsSoundParts p) (sound_q : IsSoundParts q) where
+  abbrev a : Content
+  a = content_of_parts p
+
+  abbrev b : Content
+  b = content_of_parts q
+
+  same-parent : (rename : Renaming) (n : ℕ) (x y : StopByNumber) (parent : Option ℕ) → slice_get p.stops n ≡ Some x → parent ≡ parent_became p q rename y
+      → same_parent_in p q rename x y ≡ is_same_parent (option_map (λ m. m.0) x.parent_station) (option_map (λ m. m.0) y.parent_station) parent
+  same-parent rename n x y parent at = by x.parent_station y.parent_station (stop_parent p sound_p n x at)
+    where
+      by : (o u : Option StopNo) → IfSome (option_map (λ m. m.0) o) (λ m. m < length p.stops) → parent ≡ option_and_then (λ m. became (stop_ids p) rename (text_of_number (stop_ids q) m.0)) u
+          → same_text (option_map (λ m. text_of_number (stop_ids p) m.0) o) (option_map rename (option_map (λ m. text_of_number (stop_ids q) m.0) u)) ≡ is_same_parent (option_map (λ m. m.0) o) (option_map (λ m. m.0) u) parent
+      by None None within is = refl
+      by None (Some j) within is = refl
+      by (Some m) None within is = refl
+      by (Some m) (Some j) within is =
+          by-number (λ s. s.stop_id) p.stops (in_order p sound_p).stops m.0 within (rename (text_of_number (stop_ids q) j.0)) ∙ ap (option_eq nat_eq (Some m.0)) (sym is)
+
+  -- the number of the row of A that is the same, once parents are renamed so
+  stop-number-same : (rename : Renaming) (k n : ℕ) (y x : StopByNumber) (parent : Option ℕ) (alike parents : Bool) → slice_get q.stops k ≡ Some y → parent ≡ parent_became p q rename y
+      → position (bytes_eq y.stop_id) (stop_ids p) ≡ Some n → slice_get p.stops n ≡ Some x
+      → same_stop_in p q rename x y ≡ (alike && same_parent_in p q rename x y) → is_same_parent (option_map (λ m. m.0) x.parent_station) (option_map (λ m. m.0) y.parent_station) parent ≡ parents
+      → number_if (joined_stop_under rename a b y.stop_id) (stop_ids p) y.stop_id ≡ (if alike && parents then Some n else None)
+  stop-number-same rename k n y x parent alike parents at became_so place found alike_is parents_is =
+      number-same (λ s. s.stop_id) (λ row other. same_stop row (stop_with rename other)) a.stops b.stops sound_p.content.in_order.stops sound_q.content.in_order.stops
+      k (stop_of q y) (row-map (stop_of q) q.stops k y at) (stop_ids p) (ids-known kind.Stop p sound_p) n (stop_of p x) place (row-map (stop_of p) p.stops n x found)
+      ∙ ap (λ c. if c then Some n else None) (alike_is ∙ ap (λ c. alike && c) (same-parent rename n x y parent found became_so ∙ parents_is))
+
+  pub stop-joined : (rename : Renaming) (k n : ℕ) (y row x : StopByNumber) (parent : Option ℕ) (alike parents : Bool) → slice_get q.stops k ≡ Some y → slice_get q.stops k ≡ Some row
+      → parent ≡ parent_became p q rename row → position (bytes_eq y.stop_id) (stop_ids p) ≡ Some n → slice_get p.stops n ≡ Some x
+      → same_stop_in p q rename x y ≡ (alike && same_parent_in p q rename x y) → is_same_parent (option_map (λ m. m.0) x.parent_station) (option_map (λ m. m.0) y.parent_station) parent ≡ parents
+      → number_if (joined_stop_under rename a b row.stop_id) (stop_ids p) row.stop_id ≡ (if alike && parents then Some n else None)
+  stop-joined rename k n y row x parent alike parents at at_row became_so place found alike_is parents_is =
+      let e : y ≡ row = cc in
+      subst (λ r. parent ≡ parent_became p q rename r → number_if (joined_stop_under rename a b r.stop_id) (stop_ids p) r.stop_id ≡ (if alike && parents then Some n else None)) e
+      (λ rel. stop-number-same rename k n y x parent alike parents at rel place found alike_is parents_is) became_so
+
+  pub own-generation : (k g : ℕ) (y : StopByNumber) (o : Option ℕ) → slice_get q.stops k ≡ Some y → g ≡ 0 → o ≡ position (bytes_eq y.stop_id) (stop_ids p)
+      → o ≡ became (stop_ids p) (stop_within never_near g a b) (get_or (stop_ids q) k [])
+  own-generation k g y o at none is =
+      is ∙ (λ i. position (bytes_eq (sym (id-at (λ s. s.stop_id) q.stops k y at) i)) (stop_ids p)) ∙ ap (λ n. became (stop_ids p) (stop_within never_near n a b) (get_or (stop_ids q) k [])) (sym none)
+
+  -- one generation more
+  pub next-generation : AreFew kind.Stop a b → (k g h : ℕ) (y : StopByNumber) (o : Option ℕ) → slice_get q.stops k ≡ Some y → g ≡ suc h
+      → o ≡ number_if (joined_stop_under (stop_within never_near h a b) a b y.stop_id) (stop_ids p) y.stop_id
+      → o ≡ became (stop_ids p) (stop_within never_near g a b) (get_or (stop_ids q) k [])
+  next-generation few k g h y o at more is =
+      let known = ids-known kind.Stop p sound_p in
+      is ∙ ap (λ ids. number_if (joined_stop_under (stop_within never_near h a b) a b y.stop_id) ids y.stop_id) (sym known)
+      ∙ sym (stop-number (stop_within never_near h a b) a b few y.stop_id)
+      ∙ ap (λ ids. became ids (stop_within never_near (suc h) a b) y.stop_id) known
+      ∙ (λ i. became (stop_ids p) (stop_within never_near (sym more i) a b) (sym (id-at (λ s. s.stop_id) q.stops k y at) i))
+
+  pub last-generation : AreFew kind.Stop a b → (x : List ℕ) → became (stop_ids p) (stop_within never_near 4 a b) x ≡ joined_number kind.Stop p q x
+  last-generation few x =
+      let known = ids-known kind.Stop p sound_p in
+      ap (λ ids. became ids (stop_within never_near 4 a b) x) (sym known) ∙ stop-number (stop_b never_near a b) a b few x ∙ ap (λ ids. number_if (joined_stop never_near a b x) ids x) known
+
+pub parent-within : (q : Parts) → IsSoundParts q → (k : ℕ) (y : StopByNumber) (parent : StopNo) → slice_get q.stops k ≡ Some y → y.parent_station ≡ Some parent → parent.0 < length q.stops
+parent-within q sound k y parent at is = subst (λ o. IfSome (option_map (λ s. s.0) o) (λ s. s < length q.stops)) is (stop_parent q sound k y at)

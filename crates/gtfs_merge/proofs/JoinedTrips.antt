@@ -1,0 +1,123 @@
+-- Trips that are joined, with their stop times and frequencies.
+use Rattle.std.proofs.Common.{◌≡◌, ◌<◌, ◌+◌, ◌^◌, ℕ, zero, suc, Bool, true, List, [], ◌∷◌, Some, None, Option, sym, ap, ◌∙◌, inl, inr, length, map, get_or, bytes_eq, nat_eq, option_map, arith}
+use Rattle.std.specs.Prelude.{if◌then◌else◌}
+use Rattle.std.specs.List.{All, slice_get, position}
+use Rattle.std.specs.Option.{option_eq}
+use Rattle.std.proofs.lemmas.Bool.{and_parts}
+use Rattle.std.proofs.lemmas.List.{length-map}
+use Rattle.std.proofs.lemmas.List.Quantifiers.{position-Some}
+use Rattle.std.proofs.lemmas.Option.{get_or_from_slice_get, slice_get-get_or}
+use Rattle.gtfs_rows.specs.Content.{Content}
+use Rattle.gtfs_rows.specs.Rows.{Trip}
+use Rattle.gtfs_rows.specs.Sound.{is_stop_of}
+use Rattle.gtfs_rows.specs.declared.frequency.Frequency.{Frequency}
+use Rattle.gtfs_rows.specs.declared.parts.Parts.{Parts}
+use Rattle.gtfs_rows.specs.declared.stop_row.StopRow.{StopRow}
+use Rattle.gtfs_rows.specs.declared.trip.Trip.{Trip as TripRow}
+use Rattle.gtfs_rows.specs.Views.{IsSoundParts, content_of_parts, stop_row_of, stop_ids, text_of_number, route_ids, service_ids, trip_ids, trip_of}
+use Rattle.gtfs_feed.specs.Trips.{stop_rows_by_trip, frequencies_by_trip}
+use Rattle.gtfs_feed.proofs.SoundOrder.{in_order}
+use Rattle.gtfs_feed.proofs.TripsAt.{content_trip}
+use Rattle.gtfs_merge.specs.Joined.{joined_number, joined_numbers}
+use Rattle.gtfs_merge.specs.Numbered.{same_route_id_in, same_service_id_in, same_trip_in}
+use Rattle.gtfs_merge.specs.Renaming.{Renaming, ids, kept_as_is, never_near, joined_route, joined_service, route_b, service_b, stop_b, trip_with}
+use Rattle.gtfs_merge.specs.Same.{same_trip}
+use Rattle.gtfs_merge.specs.declared.kind.Kind.TheVariants as kind
+use Rattle.gtfs_merge.proofs.JoinedKinds.{id-at, ids-known}
+use Rattle.gtfs_merge.proofs.JoinedNames.{joined-at-place, rule-meets}
+use Rattle.gtfs_merge.proofs.JoinedRows.{row-map, number-same}
+use Rattle.gtfs_merge.proofs.Lookups.{In}
+use Rattle.gtfs_merge.proofs.Premises.{sound-row}
+
+-- an element of a list that is not empty
+some_of : {X : Type 0} (xs : List X) (k : ℕ) → k < length xs → X
+some_of [] k within = absurd (omega arith)
+some_of (x ∷ xs) k within = x
+
+in-at : {X : Type 0} (xs : List X) (k : ℕ) (x : X) → slice_get xs k ≡ Some x → In x xs
+in-at [] k x at = cc
+in-at (y ∷ ys) zero x at = inl (get_or_from_slice_get (y ∷ ys) 0 x y at)
+in-at (y ∷ ys) (suc k) x at = inr (in-at ys k x at)
+
+module _ (q : Parts) (sound_q : IsSoundParts q) where
+  abbrev b : Content
+  b = content_of_parts q
+
+  -- each trip stands in the content
+  pub content-at : (k : ℕ) → k < length q.trips → (t : Trip) × (slice_get b.trips k ≡ Some t)
+  content-at k within =
+      let named : length b.trips ≡ length q.trips = sym (length-map b.trips (λ t. t.trip_id)) ∙ ap length (ids-known kind.Trip q sound_q) ∙ length-map q.trips (λ t. t.trip_id) in
+      let inside : k < length b.trips = omega arith in
+      let d = some_of b.trips k inside in
+      (get_or b.trips k d, slice_get-get_or b.trips k d inside)
+
+  pub content-id : (k : ℕ) (t : Trip) → slice_get b.trips k ≡ Some t → get_or (trip_ids q) k [] ≡ t.trip_id
+  content-id k t at = ap (λ xs. get_or xs k []) (sym (ids-known kind.Trip q sound_q)) ∙ id-at (λ t. t.trip_id) b.trips k t at
+
+  -- vehicles call at stops and platforms
+  pub rows-plain : (k : ℕ) (y : TripRow) (ys : List StopRow) (vs : List Frequency) → slice_get q.trips k ≡ Some y → slice_get (stop_rows_by_trip q) k ≡ Some ys → slice_get (frequencies_by_trip q) k ≡ Some vs
+      → All (λ r. is_stop_of b (0 ∷ []) (text_of_number (stop_ids q) r.stop_id.0) ≡ true) ys
+  rows-plain k y ys vs at at_rows at_periods i d within =
+      let t = trip_of q y ys vs in
+      let there : In t b.trips = in-at b.trips k t (content_trip q k y ys vs at at_rows at_periods) in
+      let r = get_or ys i d in
+      let row : In (stop_row_of q r) t.stop_rows = in-at (map (stop_row_of q) ys) i (stop_row_of q r) (row-map (stop_row_of q) ys i r (slice_get-get_or ys i d within)) in
+      (and_parts (is_stop_of b (0 ∷ []) (stop_row_of q r).stop_id) _ (sound-row b sound_q.content t there (stop_row_of q r) row)).0
+
+module _ (p q : Parts) (sound_p : IsSoundParts p) (sound_q : IsSoundParts q) where
+  abbrev a : Content
+  a = content_of_parts p
+
+  abbrev c : Content
+  c = content_of_parts q
+
+  abbrev IsSmall : Type 0
+  IsSmall = (length (ids kind.Route a) + length (ids kind.Route c) < 2 ^ 65) × (length (ids kind.Service a) + length (ids kind.Service c) < 2 ^ 65)
+
+  -- a route of A and one of B have one new id exactly where they are joined
+  pub route-meets : {T : Type 0} (number : T → ℕ) (routes : List (Option T)) → map (option_map number) routes ≡ joined_numbers kind.Route p q → length (ids kind.Route a) + length (ids kind.Route c) < 2 ^ 65
+      → (x y : TripRow) → x.route_id.0 < length p.routes → y.route_id.0 < length q.routes → (same : Bool) → same ≡ option_eq nat_eq (Some x.route_id.0) (get_or (map (option_map number) routes) y.route_id.0 None)
+      → same_route_id_in p q (route_b a c) x y ≡ same
+  route-meets number routes known few x y within_p within_q same is =
+      let t = text_of_number (route_ids q) y.route_id.0 in
+      rule-meets (λ r. r.route_id) p.routes (in_order p sound_p).routes (ids kind.Route a) (ids kind.Route c) (ids-known kind.Route p sound_p) (joined_route a c) (omega arith) x.route_id.0 within_p t
+      ∙ ap (option_eq nat_eq (Some x.route_id.0)) (sym (joined-at-place number kind.Route p q routes y.route_id.0 known (omega (arith, length-map q.routes (λ r. r.route_id)))))
+      ∙ sym is
+
+  pub service-meets : {T : Type 0} (number : T → ℕ) (services : List (Option T)) → map (option_map number) services ≡ joined_numbers kind.Service p q → length (ids kind.Service a) + length (ids kind.Service c) < 2 ^ 65
+      → (x y : TripRow) → x.service_id.0 < length p.services → y.service_id.0 < length q.services → (same : Bool) → same ≡ option_eq nat_eq (Some x.service_id.0) (get_or (map (option_map number) services) y.service_id.0 None)
+      → same_service_id_in p q (service_b a c) x y ≡ same
+  service-meets number services known few x y within_p within_q same is =
+      let t = text_of_number (service_ids q) y.service_id.0 in
+      rule-meets (λ r. r.service_id) p.services (in_order p sound_p).services (ids kind.Service a) (ids kind.Service c) (ids-known kind.Service p sound_p) (joined_service a c) (omega arith) x.service_id.0 within_p t
+      ∙ ap (option_eq nat_eq (Some x.service_id.0)) (sym (joined-at-place number kind.Service p q services y.service_id.0 known (omega (arith, length-map q.services (λ r. r.service_id)))))
+      ∙ sym is
+
+  -- a trip of the content is its row with its stop times and frequencies
+  pub trip-same : (m k : ℕ) (x y : TripRow) (xs ys : List StopRow) (us vs : List Frequency) (s t : Trip) → slice_get p.trips m ≡ Some x → slice_get (stop_rows_by_trip p) m ≡ Some xs → slice_get (frequencies_by_trip p) m ≡ Some us
+      → slice_get q.trips k ≡ Some y → slice_get (stop_rows_by_trip q) k ≡ Some ys → slice_get (frequencies_by_trip q) k ≡ Some vs
+      → slice_get a.trips m ≡ Some s → slice_get c.trips k ≡ Some t → (route service stop : Renaming) (result : Bool) → same_trip_in p q route service stop x xs us y ys vs ≡ result
+      → result ≡ same_trip s (trip_with kept_as_is route service stop t)
+  trip-same m k x y xs ys us vs s t at_x at_xs at_us at_y at_ys at_vs at_s at_t route service stop result is =
+      let e : trip_of p x xs us ≡ s = cc (content_trip p m x xs us at_x at_xs at_us) in
+      let f : trip_of q y ys vs ≡ t = cc (content_trip q k y ys vs at_y at_ys at_vs) in
+      sym is ∙ (λ i. same_trip (e i) (trip_with kept_as_is route service stop (f i)))
+
+  pub trip-joined : (n k : ℕ) (id : List ℕ) (s t : Trip) (same : Bool) → slice_get a.trips n ≡ Some s → slice_get c.trips k ≡ Some t → get_or (trip_ids q) k [] ≡ id → position (bytes_eq id) (trip_ids p) ≡ Some n
+      → same ≡ same_trip s (trip_with kept_as_is (route_b a c) (service_b a c) (stop_b never_near a c) t)
+      → joined_number kind.Trip p q (get_or (trip_ids q) k []) ≡ (if same then Some n else None)
+  trip-joined n k id s t same at_s at_t named place is =
+      let own = content-id q sound_q k t at_t in
+      ap (joined_number kind.Trip p q) own
+      ∙ number-same (λ t. t.trip_id) (λ row other. same_trip row (trip_with kept_as_is (route_b a c) (service_b a c) (stop_b never_near a c) other)) a.trips c.trips
+      sound_p.content.in_order.trips sound_q.content.in_order.trips k t at_t (trip_ids p) (ids-known kind.Trip p sound_p) n s
+      (ap (λ x. position (bytes_eq x) (trip_ids p)) (sym own ∙ named) ∙ place) at_s
+      ∙ ap (λ z. if z then Some n else None) (sym is)
+
+-- the number of a text that was found is that of a row
+pub number-below : {X : Type 0} (texts : List (List ℕ)) (x : List ℕ) (n : ℕ) → position (bytes_eq x) texts ≡ Some n → (rows : List X) (id : X → List ℕ) → texts ≡ map id rows → n < length rows
+number-below texts x n place rows id named =
+    let there = position-Some (bytes_eq x) texts n [] place in
+    let e : length texts ≡ length rows = ap length named ∙ length-map rows id in
+    let below : n < length texts = there.0 in
+    omega arith

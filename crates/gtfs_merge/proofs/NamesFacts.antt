@@ -1,0 +1,57 @@
+-- Tables of names tell what each id became.
+use Rattle.std.proofs.Common.{◌≡◌, ◌<◌, ◌+◌, ◌++◌, ℕ, Bool, true, false, List, [], ◌∷◌, Some, None, Option, refl, sym, ap, ◌∙◌, length, map, filter, take, get_or, bytes_eq, is_some, option_and_then, add-one, arith}
+use Rattle.std.specs.Prelude.{if◌then◌else◌}
+use Rattle.std.specs.List.{position, slice_get}
+use Rattle.std.proofs.Math.Seq.{take-suc}
+use Rattle.std.proofs.lemmas.List.{get_or-map, length-map}
+use Rattle.std.proofs.lemmas.List.Quantifiers.{position-Some}
+use Rattle.std.proofs.lemmas.Option.{slice_get-get_or}
+use Rattle.gtfs_rows.specs.Content.{Content}
+use Rattle.gtfs_rows.specs.declared.parts.Parts.{Parts}
+use Rattle.gtfs_rows.specs.Views.{IsSoundParts, content_of_parts}
+use Rattle.gtfs_merge.specs.Departures.{StaysApart}
+use Rattle.gtfs_merge.specs.Names.{new_id, new_ids}
+use Rattle.gtfs_merge.specs.Numbered.{known_ids}
+use Rattle.gtfs_merge.specs.Renaming.{has_id, ids, name_of, Names, Renaming, renaming}
+use Rattle.gtfs_merge.specs.declared.kind.Kind.{Kind}
+use Rattle.gtfs_merge.proofs.JoinedIds.{has-number}
+use Rattle.gtfs_merge.proofs.JoinedKinds.{ids-known}
+use Rattle.gtfs_merge.proofs.Lookups.{same_bytes}
+
+looked-up : (rename : Renaming) (xs : List (List ℕ)) (x : List ℕ) → new_id (new_ids rename xs) x ≡ (if has_id xs x then Some (rename x) else None)
+looked-up rename xs x = by (position (bytes_eq x) xs) refl
+  where
+    by : (o : Option ℕ) → position (bytes_eq x) xs ≡ o → option_and_then (slice_get (map rename xs)) (position (bytes_eq x) xs) ≡ (if has_id xs x then Some (rename x) else None)
+    by None e = ap (option_and_then (slice_get (map rename xs))) e ∙ ap (λ h. if h then Some (rename x) else None) (sym (ap is_some e) ∙ has-number xs x)
+    by (Some n) e =
+        let there = position-Some (bytes_eq x) xs n [] e in
+        let within : n < length (map rename xs) = omega (arith, there.0, length-map xs rename) in
+        ap (option_and_then (slice_get (map rename xs))) e
+        ∙ slice_get-get_or (map rename xs) n [] within
+        ∙ ap Some (get_or-map rename xs n [] [] there.0 ∙ ap rename (sym (same_bytes x (get_or xs n []) there.1)))
+        ∙ ap (λ h. if h then Some (rename x) else None) (sym (ap is_some e) ∙ has-number xs x)
+
+pub named : (n : Names) (k : Kind) (p : Parts) → IsSoundParts p → (x : List ℕ) → new_id (new_ids (renaming n k) (known_ids k p)) x ≡ name_of n k (content_of_parts p) x
+named n k p sound x = looked-up (renaming n k) (known_ids k p) x ∙ ap (λ xs. if has_id xs x then Some (renaming n k x) else None) (sym (ids-known k p sound))
+
+filter-append : {X : Type 0} (p : X → Bool) (xs ys : List X) → filter p (xs ++ ys) ≡ filter p xs ++ filter p ys
+filter-append p [] ys = refl
+filter-append p (x ∷ xs) ys = by (p x) (filter-append p xs ys)
+  where
+    by : (t : Bool) → filter p (xs ++ ys) ≡ filter p xs ++ filter p ys → (if t then x ∷ filter p (xs ++ ys) else filter p (xs ++ ys)) ≡ (if t then x ∷ filter p xs else filter p xs) ++ filter p ys
+    by true h = ap (λ zs. x ∷ zs) h
+    by false h = h
+
+pub joined-more : (p : List ℕ → Bool) (xs : List (List ℕ)) (n : ℕ) (before after : List (List ℕ)) (x : List ℕ) → n < length xs → before ≡ filter p (take n xs) → after ≡ before ++ filter p (x ∷ []) → x ≡ get_or xs n []
+    → after ≡ filter p (take (n + 1) xs)
+joined-more p xs n before after x within so_far added own =
+    added ∙ (λ i. so_far i ++ filter p (own i ∷ [])) ∙ sym (filter-append p (take n xs) (get_or xs n [] ∷ [])) ∙ ap (filter p) (sym (ap (λ m. take m xs) (add-one n) ∙ take-suc xs n [] within))
+
+-- ids that stay apart have names that tell them
+pub apart-names : (n : Names) (k : Kind) (f : Content) → StaysApart k f n → (x y name : List ℕ) → name_of n k f x ≡ Some name → name_of n k f y ≡ Some name → x ≡ y
+apart-names n k f apart x y name = by (has_id (ids k f) x) refl (has_id (ids k f) y) refl
+  where
+    by : (h : Bool) → has_id (ids k f) x ≡ h → (g : Bool) → has_id (ids k f) y ≡ g → (if h then Some (renaming n k x) else None) ≡ Some name → (if g then Some (renaming n k y) else None) ≡ Some name → x ≡ y
+    by true has_x true has_y first second = let same : renaming n k x ≡ renaming n k y = cc in apart x y has_x has_y same
+    by true has_x false has_y first second = cc
+    by false has_x g has_y first second = cc

@@ -1,0 +1,53 @@
+-- Rows that are gathered by their numbers, and sorted.
+use Rattle.std.proofs.Common.{◌≡◌, ◌<◌, ◌+◌, ◌++◌, ℕ, zero, suc, Bool, true, false, List, [], ◌∷◌, refl, sym, ap, ◌∙◌, subst, length, map, filter, get_or, append_assoc, arith}
+use Rattle.std.specs.Prelude.{if◌then◌else◌}
+use Rattle.std.specs.List.{range_with_len}
+use Rattle.std.specs.List.Sorted.{IsSorted}
+use Rattle.std.specs.Ordering.{is_lt}
+use Rattle.std.proofs.lemmas.List.{get_or-map, length-map, map-append}
+use Rattle.gtfs_merge.specs.Order.{entry_cmp, entry_value}
+use Rattle.gtfs_merge.specs.declared.order.MergedRow.{MergedRow}
+
+range-more : (a n : ℕ) → range_with_len a (suc n) ≡ range_with_len a n ++ (a + n) ∷ []
+range-more a zero = let e : a ≡ a + 0 = omega arith in ap (λ j. j ∷ []) e
+range-more a (suc n) =
+    let e : (a + 1) + n ≡ a + suc n = omega arith in
+    ap (λ l. a ∷ l) (range-more (a + 1) n) ∙ ap (λ j. a ∷ (range_with_len (a + 1) n ++ j ∷ [])) e
+
+range-next : (n : ℕ) → range_with_len 0 (n + 1) ≡ range_with_len 0 n ++ n ∷ []
+range-next n =
+    let next : n + 1 ≡ suc n = omega arith in
+    let last : 0 + n ≡ n = omega arith in
+    ap (range_with_len 0) next ∙ range-more 0 n ∙ ap (λ j. range_with_len 0 n ++ j ∷ []) last
+
+filter-append : {X : Type 0} (p : X → Bool) (xs ys : List X) → filter p (xs ++ ys) ≡ filter p xs ++ filter p ys
+filter-append p [] ys = refl
+filter-append p (x ∷ xs) ys = by (p x) (filter-append p xs ys)
+  where
+    by : (t : Bool) → filter p (xs ++ ys) ≡ filter p xs ++ filter p ys → (if t then x ∷ filter p (xs ++ ys) else filter p (xs ++ ys)) ≡ (if t then x ∷ filter p xs else filter p xs) ++ filter p ys
+    by true h = ap (λ zs. x ∷ zs) h
+    by false h = h
+
+-- one more number, whose row was added
+pub rows-more : {X : Type 0} (f : ℕ → X) (n : ℕ) (olds news : List X) → olds ≡ map f (range_with_len 0 n) → news ≡ olds ++ f n ∷ [] → news ≡ map f (range_with_len 0 (n + 1))
+rows-more f n olds news old new =
+    new ∙ ap (λ l. l ++ f n ∷ []) old ∙ sym (map-append f (range_with_len 0 n) (n ∷ [])) ∙ ap (map f) (sym (range-next n))
+
+-- one more number, whose row was added if it passes
+pub passing-more : {X : Type 0} (p : ℕ → Bool) (f : ℕ → X) (n : ℕ) (start olds news : List X) → olds ≡ start ++ map f (filter p (range_with_len 0 n)) → news ≡ olds ++ map f (filter p (n ∷ []))
+    → news ≡ start ++ map f (filter p (range_with_len 0 (n + 1)))
+passing-more p f n start olds news old new =
+    new ∙ ap (λ l. l ++ map f (filter p (n ∷ []))) old
+    ∙ append_assoc start (map f (filter p (range_with_len 0 n))) (map f (filter p (n ∷ [])))
+    ∙ ap (λ l. start ++ l) (sym (map-append f (filter p (range_with_len 0 n)) (filter p (n ∷ []))) ∙ ap (map f) (sym (filter-append p (range_with_len 0 n) (n ∷ [])) ∙ ap (filter p) (sym (range-next n))))
+
+pub sorted-values : (xs : List MergedRow) → IsSorted (λ x y. entry_cmp (entry_value x) (entry_value y)) xs → IsSorted entry_cmp (map entry_value xs)
+sorted-values [] up k d from within = let none : k + 1 < 0 = within in absurd (omega (arith, none))
+sorted-values (x ∷ xs) up k d from within =
+    let inside : k + 1 < length (x ∷ xs) = subst (λ m. k + 1 < m) (length-map (x ∷ xs) entry_value) within in
+    let before : k < length (x ∷ xs) = omega (arith, inside) in
+    let first = get_or-map entry_value (x ∷ xs) (k + 1) x d inside in
+    let second = get_or-map entry_value (x ∷ xs) k x d before in
+    ap (λ a. is_lt (entry_cmp a (get_or (map entry_value (x ∷ xs)) k d))) first
+    ∙ ap (λ b. is_lt (entry_cmp (entry_value (get_or (x ∷ xs) (k + 1) x)) b)) second
+    ∙ up k x from inside

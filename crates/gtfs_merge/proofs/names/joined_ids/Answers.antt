@@ -1,0 +1,14 @@
+use Rattle.std.proofs.Common.{◌≤◌, ◌∙◌, ap, arith, filter, length, sym}
+use Rattle.std.proofs.lemmas.List.{take_all}
+use Rattle.gtfs_rows.specs.Views.{content_of_parts}
+use Rattle.gtfs_merge.specs.Numbered.{known_ids}
+use Rattle.gtfs_merge.specs.Renaming.{is_joined, never_near}
+use Rattle.gtfs_merge.proofs.JoinedKinds.{ids-known}
+use Rattle.gtfs_merge.proofs.names.joined_ids.Goals as goal
+
+pub returns : goal.returns
+returns c =
+    let ids = known_ids c.args.kind c.args.a.now in
+    let past : length ids ≤ c.loop-number.number = omega (arith, c.count_of-number-end.ensures) in
+    c.loop-number.invariant ∙ ap (filter (is_joined never_near c.args.kind (content_of_parts c.args.a.now) (content_of_parts c.args.b.now)))
+    (take_all c.loop-number.number ids past ∙ sym (ids-known c.args.kind c.args.a.now c.soundness.ensures))

@@ -1,0 +1,18 @@
+use Rattle.std.proofs.Common.{◌<◌, ◌∙◌, ap, arith, length}
+use Rattle.gtfs_rows.specs.Views.{content_of_parts}
+use Rattle.gtfs_merge.specs.Numbered.{known_ids}
+use Rattle.gtfs_merge.specs.Renaming.{has_id, names_b, never_near, renaming}
+use Rattle.gtfs_merge.proofs.JoinedNames.{has-at}
+use Rattle.gtfs_merge.proofs.RenamedLists.{known-fresh}
+use Rattle.gtfs_merge.proofs.renamed.Renamed.of_b.Goals as goal
+
+pub new_id_of_b-requires-clause-there : goal.new_id_of_b-requires-clause-there
+new_id_of_b-requires-clause-there c =
+    let within : c.loop-number.number < length (known_ids c.args.kind c.args.b.now) = omega (arith, c.count_of-number-end.ensures) in
+    ap (has_id (known_ids c.args.kind c.args.b.now)) c.id_of-id.ensures ∙ has-at (known_ids c.args.kind c.args.b.now) c.loop-number.number within
+
+pub push-requires : goal.push-requires
+push-requires c =
+    let within : c.loop-number.number < length (known_ids c.args.kind c.args.b.now) = omega (arith, c.count_of-number-end.ensures) in
+    known-fresh c.args.kind c.args.b.now c.soundness.ensures c.loop-number.number (renaming (names_b never_near (content_of_parts c.args.a.now) (content_of_parts c.args.b.now)) c.args.kind) _ _ within
+    c.loop-number.invariant (c.in_ok-from_str.ensures.ok ∙ c.id_of-id.ensures)

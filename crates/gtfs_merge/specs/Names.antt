@@ -1,0 +1,69 @@
+-- What ids became.
+use Rattle.std.specs.Prelude.{◌≡◌, ℕ, ◌==◌, Bool, false, List, ◌∷◌, ◌++◌, [], length, map, bytes_eq, position, slice_get, Option, Some, option_and_then}
+use Rattle.gtfs_rows.specs.declared.parts.Parts.{Parts}
+use Rattle.gtfs_rows.specs.Views.{content_of_parts}
+use Rattle.gtfs_merge.specs.Numbered.{known_ids}
+use Rattle.gtfs_merge.specs.Renaming.{Renaming, joined_ids, names_a, names_b, never_near, renaming}
+use Rattle.gtfs_merge.specs.declared.kind.Kind.{Kind}
+use Rattle.gtfs_merge.specs.declared.kind.Kind.TheVariants as kind
+use Rattle.gtfs_merge.specs.declared.kind.Side.{Side}
+use Rattle.gtfs_merge.specs.declared.kind.Side.TheVariants as side
+
+-- an agency may have an empty id
+abbrev pub is_nameless : Kind → List ℕ → Bool
+is_nameless kind.Agency x = length x == 0
+is_nameless kind.Stop x = false
+is_nameless kind.Route x = false
+is_nameless kind.Service x = false
+is_nameless kind.Trip x = false
+
+-- the ids of one kind of a feed, and what each became
+pub record NewIds : Type 0 where
+  pub ids : List (List ℕ)
+  pub names : List (List ℕ)
+
+abbrev pub new_ids : Renaming → List (List ℕ) → NewIds
+new_ids rename ids = record { ids = ids; names = map rename ids }
+
+abbrev pub with_id : NewIds → List ℕ → List ℕ → NewIds
+with_id n id name = record { ids = n.ids ++ id ∷ []; names = n.names ++ name ∷ [] }
+
+-- what an id became, nothing where it is not there
+abbrev pub new_id : NewIds → List ℕ → Option (List ℕ)
+new_id n x = option_and_then (slice_get n.names) (position (bytes_eq x) n.ids)
+
+-- no two ids became one
+abbrev pub AreApart : NewIds → Type 0
+AreApart n = (x y name : List ℕ) → new_id n x ≡ Some name → new_id n y ≡ Some name → x ≡ y
+
+-- ---- both feeds
+
+pub record NamesOfKind : Type 0 where
+  pub a : NewIds
+  pub b : NewIds
+  pub joined : List (List ℕ)
+
+pub record AllNames : Type 0 where
+  pub agencies : NamesOfKind
+  pub stops : NamesOfKind
+  pub routes : NamesOfKind
+  pub services : NamesOfKind
+  pub trips : NamesOfKind
+
+abbrev pub in_kind : AllNames → Kind → NamesOfKind
+in_kind n kind.Agency = n.agencies
+in_kind n kind.Stop = n.stops
+in_kind n kind.Route = n.routes
+in_kind n kind.Service = n.services
+in_kind n kind.Trip = n.trips
+
+abbrev pub of_side : NamesOfKind → Side → NewIds
+of_side n side.A = n.a
+of_side n side.B = n.b
+
+abbrev pub kind_names : Kind → Parts → Parts → NamesOfKind
+kind_names k p q = record {
+  a = new_ids (renaming (names_a (content_of_parts p) (content_of_parts q)) k) (known_ids k p);
+  b = new_ids (renaming (names_b never_near (content_of_parts p) (content_of_parts q)) k) (known_ids k q);
+  joined = joined_ids never_near k (content_of_parts p) (content_of_parts q);
+}

@@ -1,0 +1,76 @@
+ghost use Rattle.std.specs.Prelude.{◌≡◌, ◌<◌, [], IfOk, length, map, option_map, slice_index_or};
+ghost use Rattle.gtfs_rows.specs.Views.{agency_ids, service_ids};
+ghost use Rattle.gtfs_merge.specs.Joined.{joined_number, joined_numbers};
+ghost use Rattle.gtfs_merge.specs.declared.kind.Kind.TheVariants as kind;
+
+use crate::same_rows::is_same_agency;
+use crate::same_services::is_same_service;
+use gtfs_feed::Feed;
+use gtfs_field::OutOfMemory;
+use gtfs_rows::{AgencyNo, ServiceNo};
+use std::alloc::Global;
+
+// For each agency of B the agency of A that it is joined with.
+pub(crate) fn joined_agencies(
+    alloc: Global,
+    a: &Feed,
+    b: &Feed,
+) -> Result<Vec<Option<AgencyNo>>, OutOfMemory>
+    ensures { IfOk result (λ joined. map (option_map (λ n. n.0)) joined.items
+        ≡ joined_numbers kind.Agency a.now b.now) }
+{
+    let mut joined = Vec::with_capacity(alloc, b.agency_count())?;
+    for number in 0..b.agency_count() {
+        joined.push(joined_agency(a, b, AgencyNo(number)))?;
+    }
+    Ok(joined)
+}
+
+// The agency of A that an agency of B is joined with.
+fn joined_agency(a: &Feed, b: &Feed, agency: AgencyNo) -> Option<AgencyNo>
+    requires { agency.0 < length b.now.agencies }
+    ensures { option_map (λ n. n.0) result
+        ≡ joined_number kind.Agency a.now b.now (slice_index_or (agency_ids b.now) agency.0 []) }
+{
+    a.soundness();
+    b.soundness();
+    let row = b.agency_by_number(agency);
+    let other = a.agency(row.agency_id.as_str())?;
+    if is_same_agency(a.agency_by_number(other), row) {
+        Some(other)
+    } else {
+        None
+    }
+}
+
+// For each service of B the service of A that it is joined with.
+pub(crate) fn joined_services(
+    alloc: Global,
+    a: &Feed,
+    b: &Feed,
+) -> Result<Vec<Option<ServiceNo>>, OutOfMemory>
+    ensures { IfOk result (λ joined. map (option_map (λ n. n.0)) joined.items
+        ≡ joined_numbers kind.Service a.now b.now) }
+{
+    let mut joined = Vec::with_capacity(alloc, b.service_count())?;
+    for number in 0..b.service_count() {
+        joined.push(joined_service(a, b, ServiceNo(number)))?;
+    }
+    Ok(joined)
+}
+
+// The service of A that a service of B is joined with.
+fn joined_service(a: &Feed, b: &Feed, service: ServiceNo) -> Option<ServiceNo>
+    requires { service.0 < length b.now.services }
+    ensures { option_map (λ n. n.0) result
+        ≡ joined_number kind.Service a.now b.now (slice_index_or (service_ids b.now) service.0 []) }
+{
+    a.soundness();
+    b.soundness();
+    let other = a.service(b.service_id(service))?;
+    if is_same_service(a.service_by_number(other), b.service_by_number(service)) {
+        Some(other)
+    } else {
+        None
+    }
+}

@@ -1,0 +1,91 @@
+ghost use Rattle.std.specs.Prelude.{◌≡◌, ◌<◌, IfOk, None, is_some, length, slice_index_or};
+ghost use Rattle.gtfs_merge.specs.Joined.{joined_rows, of_kind};
+
+use crate::joined::{joined_agencies, joined_services};
+use crate::joined_routes::joined_routes;
+use crate::joined_stops::joined_stops;
+use crate::joined_trips::joined_trips;
+use crate::kind::Kind;
+use gtfs_feed::Feed;
+use gtfs_field::OutOfMemory;
+use gtfs_rows::{AgencyNo, RouteNo, ServiceNo, StopNo, TripNo};
+use std::alloc::Global;
+use std::marker::Model;
+
+// For each row of B, by its number, the row of A that it is joined with.
+pub(crate) struct Joined {
+    agencies: Vec<Option<AgencyNo>>,
+    stops: Vec<Option<StopNo>>,
+    routes: Vec<Option<RouteNo>>,
+    services: Vec<Option<ServiceNo>>,
+    trips: Vec<Option<TripNo>>,
+}
+
+impl Model for Joined {
+    ghost use Rattle.std.specs.Prelude.{map, option_map};
+    ghost use Rattle.gtfs_merge.specs.Joined.{JoinedRows};
+
+    ghost Value = { JoinedRows };
+
+    ghost view = { λ j. record {
+      agencies = map (option_map (λ n. n.0)) j.agencies.items;
+      stops = map (option_map (λ n. n.0)) j.stops.items;
+      routes = map (option_map (λ n. n.0)) j.routes.items;
+      services = map (option_map (λ n. n.0)) j.services.items;
+      trips = map (option_map (λ n. n.0)) j.trips.items;
+    } };
+}
+
+// Written out, so that a function that lets it go has one call to prove.
+impl Drop for Joined {
+    fn drop(self) {
+        let Joined {
+            agencies: _,
+            stops: _,
+            routes: _,
+            services: _,
+            trips: _,
+        } = self;
+    }
+}
+
+impl Joined {
+    // The joined rows of two feeds.
+    pub(crate) fn of_feeds(alloc: Global, a: &Feed, b: &Feed) -> Result<Joined, OutOfMemory>
+        ensures { IfOk result (λ joined. joined ≡ joined_rows a.now b.now) }
+    {
+        let agencies = joined_agencies(alloc, a, b)?;
+        let services = joined_services(alloc, a, b)?;
+        let stops = joined_stops(alloc, a, b)?;
+        let routes = joined_routes(alloc, a, b, agencies.as_slice())?;
+        let trips = joined_trips(
+            alloc,
+            a,
+            b,
+            routes.as_slice(),
+            services.as_slice(),
+            stops.as_slice(),
+        )?;
+        Ok(Joined {
+            agencies,
+            stops,
+            routes,
+            services,
+            trips,
+        })
+    }
+
+    // Whether the row of a number is joined.
+    pub(crate) fn has(&self, kind: Kind, number: usize) -> bool
+        requires { number < length (of_kind self.now kind) }
+        ensures { result ≡ is_some (slice_index_or (of_kind self.now kind) number None) }
+    {
+        match kind {
+            Kind::Agency => self.agencies[number].is_some(),
+            Kind::Stop => self.stops[number].is_some(),
+            Kind::Route => self.routes[number].is_some(),
+            Kind::Service => self.services[number].is_some(),
+            Kind::Trip => self.trips[number].is_some(),
+        }
+    }
+}

@@ -1,0 +1,119 @@
+ghost use Rattle.std.specs.Prelude.{◌≡◌, ◌&&◌, [], IfOk, false, not, string_bytes, true};
+ghost use Rattle.gtfs_feed.specs.Content.{content_of};
+ghost use Rattle.gtfs_merge.specs.Joined.{joined_rows};
+ghost use Rattle.gtfs_merge.specs.Names.{is_nameless};
+ghost use Rattle.gtfs_merge.specs.Numbered.{known_ids};
+ghost use Rattle.gtfs_merge.specs.Renaming.{agency_b, has_id, is_joined, joined_agency, names_a, names_b, never_near, renaming};
+ghost use Rattle.gtfs_merge.specs.declared.kind.Kind.TheVariants as kind;
+
+use crate::few::are_few;
+use crate::joins::Joined;
+use crate::kind::Kind;
+use crate::kinds::number_of;
+use crate::new_ids::{free_id, has_this_id, numbered_id};
+use gtfs_feed::Feed;
+use gtfs_field::OutOfMemory;
+use std::alloc::Global;
+
+// What an agency without an id is called, before the number.
+const AGENCY: &str = "agency";
+
+// Whether an id is joined.
+pub(crate) fn is_joined_id(a: &Feed, b: &Feed, joined: &Joined, kind: Kind, id: &str) -> bool
+    requires { joined.now ≡ joined_rows a.now b.now }
+    ensures { result ≡ is_joined never_near kind (content_of a.now) (content_of b.now) id.now }
+{
+    a.soundness();
+    b.soundness();
+    match number_of(b, kind, id) {
+        Some(number) => joined.has(kind, number),
+        None => false,
+    }
+}
+
+// Whether it is the empty id of an agency that is not joined.
+fn is_left_nameless(a: &Feed, b: &Feed, joined: &Joined, kind: Kind, id: &str) -> bool
+    requires { joined.now ≡ joined_rows a.now b.now }
+    ensures { result ≡ (is_nameless kind id.now
+        && not (is_joined never_near kind (content_of a.now) (content_of b.now) id.now)) }
+{
+    is_nameless(kind, id) && !is_joined_id(a, b, joined, kind, id)
+}
+
+// Whether it is the id of an agency that has none.
+fn is_nameless(kind: Kind, id: &str) -> bool
+    ensures { result ≡ is_nameless kind id.now }
+{
+    match kind {
+        Kind::Agency => id.is_empty(),
+        _ => false,
+    }
+}
+
+// What an id of A becomes: only an agency's empty id that is not joined gets another.
+pub(crate) fn new_id_of_a(
+    alloc: Global,
+    a: &Feed,
+    b: &Feed,
+    joined: &Joined,
+    kind: Kind,
+    id: &str,
+) -> Result<String, OutOfMemory>
+    requires { joined.now ≡ joined_rows a.now b.now }
+    ensures { IfOk result (λ new. string_bytes new
+        ≡ renaming (names_a (content_of a.now) (content_of b.now)) kind id.now) }
+{
+    a.soundness();
+    b.soundness();
+    are_few(a, b);
+    if is_left_nameless(a, b, joined, kind, id) {
+        return free_id(alloc, a, b, Kind::Agency, AGENCY);
+    }
+    Ok(String::from_str(alloc, id)?)
+}
+
+// What an id of B becomes: it stays where A lacks it or it is joined.
+pub(crate) fn new_id_of_b(
+    alloc: Global,
+    a: &Feed,
+    b: &Feed,
+    joined: &Joined,
+    kind: Kind,
+    id: &str,
+) -> Result<String, OutOfMemory>
+    requires joined { joined.now ≡ joined_rows a.now b.now }
+    requires there { has_id (known_ids kind b.now) id.now ≡ true }
+    ensures { IfOk result (λ new. string_bytes new
+        ≡ renaming (names_b never_near (content_of a.now) (content_of b.now)) kind id.now) }
+{
+    a.soundness();
+    b.soundness();
+    are_few(a, b);
+    if is_left_nameless(a, b, joined, kind, id) {
+        return new_agency_id_of_b(alloc, a, b);
+    }
+    if !has_this_id(a, kind, id) {
+        return Ok(String::from_str(alloc, id)?);
+    }
+    if is_joined_id(a, b, joined, kind, id) {
+        return Ok(String::from_str(alloc, id)?);
+    }
+    free_id(alloc, a, b, kind, id)
+}
+
+// What the empty id of B's agency becomes where it is not joined.
+fn new_agency_id_of_b(alloc: Global, a: &Feed, b: &Feed) -> Result<String, OutOfMemory>
+    requires there { has_id (known_ids kind.Agency b.now) [] ≡ true }
+    requires apart { joined_agency (content_of a.now) (content_of b.now) [] ≡ false }
+    ensures { IfOk result (λ new. string_bytes new
+        ≡ agency_b (content_of a.now) (content_of b.now) []) }
+{
+    a.soundness();
+    b.soundness();
+    are_few(a, b);
+    // An agency without an id is alone in its feed: where A has one, too, that one took the first number.
+    if has_this_id(a, Kind::Agency, "") {
+        return numbered_id(alloc, AGENCY, 2);
+    }
+    free_id(alloc, a, b, Kind::Agency, AGENCY)
+}

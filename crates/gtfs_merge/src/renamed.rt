@@ -1,0 +1,120 @@
+ghost use Rattle.std.specs.Prelude.{◌≡◌, [], ◌∷◌, ◌++◌, IfOk, OnOk, bytes_eq, false, option_map, string_bytes};
+ghost use Rattle.std.specs.List.{list_any};
+ghost use Rattle.gtfs_feed.specs.Content.{content_of};
+ghost use Rattle.gtfs_merge.specs.Joined.{joined_rows};
+ghost use Rattle.gtfs_merge.specs.Names.{new_id, new_ids, with_id};
+ghost use Rattle.gtfs_merge.specs.Numbered.{known_ids};
+ghost use Rattle.gtfs_merge.specs.Renaming.{names_a, names_b, never_near, renaming};
+
+use crate::joins::Joined;
+use crate::kind::Kind;
+use crate::kinds::{count_of, id_of};
+use crate::new_names::{new_id_of_a, new_id_of_b};
+use gtfs_feed::Feed;
+use gtfs_field::OutOfMemory;
+use indexmap::IndexSet;
+use std::alloc::Global;
+use std::hash::RandomState;
+use std::marker::Model;
+
+// The ids of one kind of a feed, by number, and what each became.
+#[derive(Drop)]
+pub(crate) struct Renamed {
+    ids: IndexSet<String, RandomState>,
+    names: Vec<String>,
+}
+
+impl Model for Renamed {
+    ghost use Rattle.std.specs.Prelude.{map, string_bytes};
+    ghost use Rattle.gtfs_merge.specs.Names.{NewIds};
+
+    ghost Value = { NewIds };
+
+    ghost view = { λ r. record {
+      ids = map string_bytes r.ids.keys;
+      names = map string_bytes r.names.items;
+    } };
+}
+
+impl Renamed {
+    // What the ids of A became.
+    pub(crate) fn of_a(
+        alloc: Global,
+        random: RandomState,
+        a: &Feed,
+        b: &Feed,
+        joined: &Joined,
+        kind: Kind,
+    ) -> Result<Renamed, OutOfMemory>
+        requires { joined.now ≡ joined_rows a.now b.now }
+        ensures { IfOk result (λ ids. ids ≡ new_ids
+            (renaming (names_a (content_of a.now) (content_of b.now)) kind)
+            (known_ids kind a.now)) }
+    {
+        a.soundness();
+        let mut ids = Renamed::with_room(alloc, random, count_of(a, kind))?;
+        for number in 0..count_of(a, kind) {
+            let id = id_of(a, kind, number);
+            let name = new_id_of_a(alloc, a, b, joined, kind, id)?;
+            ids.push(String::from_str(alloc, id)?, name)?;
+        }
+        Ok(ids)
+    }
+
+    // What the ids of B became.
+    pub(crate) fn of_b(
+        alloc: Global,
+        random: RandomState,
+        a: &Feed,
+        b: &Feed,
+        joined: &Joined,
+        kind: Kind,
+    ) -> Result<Renamed, OutOfMemory>
+        requires { joined.now ≡ joined_rows a.now b.now }
+        ensures { IfOk result (λ ids. ids ≡ new_ids
+            (renaming (names_b never_near (content_of a.now) (content_of b.now)) kind)
+            (known_ids kind b.now)) }
+    {
+        b.soundness();
+        let mut ids = Renamed::with_room(alloc, random, count_of(b, kind))?;
+        for number in 0..count_of(b, kind) {
+            let id = id_of(b, kind, number);
+            let name = new_id_of_b(alloc, a, b, joined, kind, id)?;
+            ids.push(String::from_str(alloc, id)?, name)?;
+        }
+        Ok(ids)
+    }
+
+    // What an id became, None where it is not there.
+    pub(crate) fn name(&self, id: &str) -> Option<&str>
+        ensures { option_map (λ s. s.now) result ≡ new_id self.now id.now }
+    {
+        match self.ids.get_index_of(id) {
+            Some(number) => match self.names.get(number) {
+                Some(name) => Some(name.as_str()),
+                None => None,
+            },
+            None => None,
+        }
+    }
+
+    // No ids yet, and room for this many.
+    fn with_room(alloc: Global, random: RandomState, count: usize) -> Result<Renamed, OutOfMemory>
+        ensures { IfOk result (λ ids. ids ≡ record { ids = []; names = [] }) }
+    {
+        Ok(Renamed {
+            ids: IndexSet::with_capacity_and_hasher(alloc, count, random)?,
+            names: Vec::with_capacity(alloc, count)?,
+        })
+    }
+
+    // Adds an id that is not there, which takes the next number, and what it became.
+    fn push(&mut self, id: String, name: String) -> Result<(), OutOfMemory>
+        requires { list_any (bytes_eq (string_bytes id)) self.old.ids ≡ false }
+        ensures { OnOk result (self.new ≡ with_id self.old (string_bytes id) (string_bytes name)) }
+    {
+        self.ids.insert(id)?;
+        self.names.push(name)?;
+        Ok(())
+    }
+}
