@@ -3,6 +3,7 @@
 
 mod check;
 mod count;
+mod feed;
 mod memory;
 mod shelf;
 mod speed;
@@ -10,13 +11,16 @@ mod speed;
 use anyhow::{Result, bail};
 use std::env;
 use std::process::ExitCode;
+use std::random::RandomSource;
 use std::rt::Runtime;
 
 const USAGE: &str = "usage: gtfs_bench WORD DIR
   tables DIR         the time to read the tables of the feed in DIR, and that of a bare csv loop
   tables-memory DIR  the memory that reading these tables takes
   check DIR          the time to check the tables of the feed in DIR, and that of a bare csv loop
-  check-memory DIR   the memory that reading and checking these tables takes";
+  check-memory DIR   the memory that reading and checking these tables takes
+  feed DIR           the time to make the feed of checked tables and the lanes of its busiest stop, and a bare csv loop
+  feed-memory DIR    the memory that the feed takes";
 
 fn main(rt: HostRuntime) -> ExitCode {
     match run(&rt) {
@@ -28,7 +32,7 @@ fn main(rt: HostRuntime) -> ExitCode {
     }
 }
 
-fn run<R: Runtime + AllocGlobal>(rt: &R) -> Result<()> {
+fn run<R: Runtime + AllocGlobal + RandomSource>(rt: &R) -> Result<()> {
     let words = env::args(rt)?.collect::<Vec<String>>(rt.alloc())?;
     match words.as_slice() {
         [] | [_] => Ok(rt.println(USAGE)?),
@@ -37,12 +41,14 @@ fn run<R: Runtime + AllocGlobal>(rt: &R) -> Result<()> {
     }
 }
 
-fn measure<R: Runtime + AllocGlobal>(rt: &R, word: &str, dir: &str) -> Result<()> {
+fn measure<R: Runtime + AllocGlobal + RandomSource>(rt: &R, word: &str, dir: &str) -> Result<()> {
     match word {
         "tables" => speed::measure(rt, dir),
         "tables-memory" => memory::measure(rt, dir),
         "check" => check::measure(rt, dir),
         "check-memory" => check::measure_memory(rt, dir),
+        "feed" => feed::measure(rt, dir),
+        "feed-memory" => feed::measure_memory(rt, dir),
         _ => bail!("no such measurement: {word}"),
     }
 }
