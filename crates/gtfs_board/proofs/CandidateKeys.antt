@@ -16,7 +16,7 @@ use Rattle.gtfs_board.specs.merge.Candidates.{candidate_lt, departure_cmp, lane_
 use Rattle.gtfs_board.proofs.KeyOrder.{key_cmp-IsAntisymmetric}
 
 -- numbers compare as the texts for which they stand
-numbers : (ids : List (List ℕ)) (i j : ℕ) → Ascends text_cmp ids → i < length ids → j < length ids → nat_cmp i j ≡ text_cmp (text_of_number ids i) (text_of_number ids j)
+pub numbers : (ids : List (List ℕ)) (i j : ℕ) → Ascends text_cmp ids → i < length ids → j < length ids → nat_cmp i j ≡ text_cmp (text_of_number ids i) (text_of_number ids j)
 numbers ids i j up in_i in_j = elim (cases_order i j) [
   | inl same ↦
       sym (nat_cmp_is i j Equal same)

@@ -32,3 +32,9 @@ mod SheetTexts
 mod TextVectors
 mod BoardVectors
 mod SheetExamples
+mod SheetColumns
+mod SheetLists
+mod SheetPatterns
+mod SheetRuns
+mod SheetStarts
+mod Sheets

@@ -1,7 +1,7 @@
 -- What contracts see of a sheet whose texts are lent.
 use Rattle.std.specs.Prelude.{map}
 use Rattle.gtfs_board.specs.Timetable.{Sheet}
-use Rattle.gtfs_board.specs.declared.timetable.Sheet.{Sheet as LentSheet}
+use Rattle.gtfs_board.specs.declared.sheet.Sheet.{Sheet as LentSheet}
 
 abbrev pub plain_sheet : LentSheet → Sheet
 plain_sheet s = record {

@@ -13,6 +13,7 @@ pub mod Page
 pub mod PageFaults
 pub mod Parts
 pub mod Showing
+pub mod SheetSteps
 pub mod Shown
 pub mod Span
 pub mod Timetable

@@ -1,11 +1,10 @@
 -- The timetable of a route on a day: its sheets, and the text of a sheet.
 -- GTFS Schedule Reference, trips.txt, stop_times.txt, frequencies.txt, calendar.txt and calendar_dates.txt.
 use Rattle.std.specs.Prelude.{ℕ, ◌+◌, ◌-◌, ◌++◌, ◌==◌, ◌&&◌, not, Bool, true, if◌then◌else◌, bytes_eq, List, length, map, filter, find, zip, slice_get, codes, decimal, Option, Some, None, option_and_then, ℤ}
-use Rattle.std.specs.List.{flat_map, range_with_len}
+use Rattle.std.specs.List.{flat_map, list_any, range_with_len}
 use Rattle.std.specs.declared.cmp.Ordering.{Ordering}
-use Rattle.std.specs.Ordering.{nat_cmp, is_eq, on, then_cmp}
+use Rattle.std.specs.Ordering.{nat_cmp, is_eq, is_lt, on, then_cmp}
 use Rattle.std.specs.Cmp.Lexicographic.{slice_cmp}
-use Rattle.std.specs.FinSet as set
 use Rattle.gtfs_field.specs.Canonical.{date_text, time_text}
 use Rattle.gtfs_table.specs.Folder.{text_cmp}
 use Rattle.gtfs_rows.specs.Content.{Content}
@@ -13,6 +12,7 @@ use Rattle.gtfs_rows.specs.Rows.{StopRow, Trip}
 use Rattle.gtfs_runs.specs.Lanes.{stops_of}
 use Rattle.gtfs_runs.specs.Trips.{is_timed, passes_at, runs}
 use Rattle.gtfs_board.specs.Departures.{runs_on}
+use Rattle.gtfs_board.specs.merge.Order.{in_order}
 
 -- a run of a sheet: the second at which it starts, and its trip
 abbrev pub Run : Type 0
@@ -20,6 +20,9 @@ Run = ℕ × List ℕ
 
 abbrev pub run_cmp : Run → Run → Ordering
 run_cmp = then_cmp (on (λ r. r.0) nat_cmp) (on (λ r. r.1) text_cmp)
+
+abbrev pub is_run_before : Run → Run → Bool
+is_run_before x y = is_lt (run_cmp x y)
 
 -- ---- what the trips of a sheet share: a direction and the stops of their rows
 
@@ -37,6 +40,9 @@ direction_at n = if n == 0 then None else Some (n - 1)
 abbrev pub heading_cmp : Heading → Heading → Ordering
 heading_cmp = then_cmp (on (λ h. h.0) nat_cmp) (on (λ h. h.1) (slice_cmp text_cmp))
 
+abbrev pub is_heading_before : Heading → Heading → Bool
+is_heading_before x y = is_lt (heading_cmp x y)
+
 abbrev pub heading_of : Trip → Heading
 heading_of t = (direction_place t.direction_id, stops_of t)
 
@@ -45,25 +51,39 @@ has_heading h t = is_eq (heading_cmp h (heading_of t))
 
 -- ---- the trips of a timetable
 
+-- the id is that of a route of the feed
+abbrev pub is_route : Content → List ℕ → Bool
+is_route f id = list_any (λ r. bytes_eq r.route_id id) f.routes
+
 -- a trip goes in the direction, where one is given
 abbrev pub wants : Option ℕ → Trip → Bool
 wants None t = true
 wants (Some d) t = direction_place t.direction_id == d + 1
 
+-- a trip has a run on the day
+abbrev pub has_run_on : Content → ℤ → Trip → Bool
+has_run_on f d t = runs_on f t d && not (length (runs t) == 0)
+
 -- the trips of the route, in this direction if one is given, that have a run on the day
 abbrev pub running : Content → List ℕ → Option ℕ → ℤ → List Trip
-running f route direction d =
-    filter (λ t. bytes_eq t.route_id route && wants direction t && runs_on f t d && not (length (runs t) == 0)) f.trips
+running f route direction d = filter (λ t. bytes_eq t.route_id route && wants direction t && has_run_on f d t) f.trips
 
--- the headings of these trips, by direction, then by their stops
+-- the headings of these trips, each once, by direction, then by their stops
 abbrev pub headings : List Trip → List Heading
-headings trips = set.items (set.from_list {R = heading_cmp} (map heading_of trips))
+headings trips = in_order is_heading_before (map heading_of trips)
 
 -- ---- a sheet
 
--- the runs under a heading, each once, by their start, then by the trip's id
+-- the runs of a trip, with its id
+abbrev pub named_runs : Trip → List Run
+named_runs t = map (λ r. (r, t.trip_id)) (runs t)
+
+-- the runs of trips, each once, by their start, then by the trip's id
+abbrev pub runs_of : List Trip → List Run
+runs_of trips = in_order is_run_before (flat_map named_runs trips)
+
 abbrev pub runs_under : Heading → List Trip → List Run
-runs_under h trips = set.items (set.from_list {R = run_cmp} (flat_map (λ t. map (λ r. (r, t.trip_id)) (runs t)) (filter (has_heading h) trips)))
+runs_under h trips = runs_of (filter (has_heading h) trips)
 
 -- the row of a trip at a place; the trips of a sheet have as many
 abbrev pub row_at : Trip → ℕ → Option StopRow

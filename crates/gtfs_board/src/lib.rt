@@ -3,7 +3,8 @@
 //! - A [`Board`] lists the departures of a stop over a [`Span`] one after another; [`write_page`] writes their lines.
 //! - A [`Departure`] is what a board lists, and its [`Key`] its place there. [`push_line`] appends its line to a text.
 //! - [`read_key`] and [`push_key`] read and write the text of a key, after which a board can be opened again.
-//! - A [`Sheet`] is a timetable of a route in one direction along one list of stops on a day; [`push_sheet`] appends its text.
+//! - [`timetable`] makes the sheets of a route on a day. A [`Sheet`] has the runs in one direction along one list of stops;
+//!   [`push_sheet`] appends its text.
 //! - The module `merge` finds the next departure of many lanes. It looks at a service day only once
 //!   that day can hold a departure before all those that wait, so a board may span years.
 //!
@@ -27,9 +28,9 @@ mod merge;
 mod page;
 mod pieces;
 mod service_days;
+mod sheet;
 mod showing;
 mod span;
-mod timetable;
 
 pub use board::{Board, BoardFault};
 pub use departure::{Departure, Mark};
@@ -37,5 +38,5 @@ pub use key::{Key, push_key, read_key};
 pub use law::boards_are_one;
 pub use line::push_line;
 pub use page::{PageFault, write_page};
+pub use sheet::{Sheet, TableFault, push_sheet, timetable};
 pub use span::Span;
-pub use timetable::{Sheet, push_sheet};

@@ -50,7 +50,7 @@ fn key_of<'a>(feed: &'a Feed, candidate: &Candidate) -> Key<'a>
 }
 
 // The id of a trip.
-fn trip_id(feed: &Feed, trip: TripNo) -> &str
+pub(crate) fn trip_id(feed: &Feed, trip: TripNo) -> &str
     requires { trip.0 < length feed.now.trips }
     ensures { result.now ≡ text_of_number (trip_ids feed.now) trip.0 }
 {
@@ -58,7 +58,7 @@ fn trip_id(feed: &Feed, trip: TripNo) -> &str
 }
 
 // The id of a stop.
-fn stop_id(feed: &Feed, stop: StopNo) -> &str
+pub(crate) fn stop_id(feed: &Feed, stop: StopNo) -> &str
     requires { stop.0 < length feed.now.stops }
     ensures { result.now ≡ text_of_number (stop_ids feed.now) stop.0 }
 {

@@ -1,0 +1,182 @@
+//! The timetable of a route: a sheet for each of its patterns that has a run on the day.
+ghost use Rattle.std.specs.Prelude.{◌≡◌, ◌≢◌, ◌<◌, ◌++◌, ◌↔◌, All, IfErr, IfOk, IsErrOf, OnOk, false, length, map};
+ghost use Rattle.std.specs.List.{filter, flat_map};
+ghost use Rattle.gtfs_feed.specs.Content.{content_of};
+ghost use Rattle.gtfs_rows.specs.Views.{route_ids, stop_ids, text_of_number};
+ghost use Rattle.gtfs_board.specs.LentSheets.{plain_sheet};
+ghost use Rattle.gtfs_board.specs.SheetSteps.{IsPattern, IsShownAlong, goes, named_column, sheet_of_columns, sheets_along};
+ghost use Rattle.gtfs_board.specs.Timetable.{is_route, sheets};
+
+use crate::sheet::columns::{Column, columns};
+use crate::sheet::times::times;
+use crate::sheet::{Sheet, TableFault};
+use crate::showing::{stop_id, trip_id};
+use gtfs_feed::Feed;
+use gtfs_field::{Day, OutOfMemory};
+use gtfs_rows::{RouteNo, StopNo};
+use gtfs_runs::{Pattern, patterns};
+use std::alloc::Global;
+
+/// The timetable of a route on a day: a sheet for each direction and list of stops along which a trip of the route runs on
+/// that day, by direction, none before 0 and 0 before 1, and then by the ids of the stops. With a direction given only the
+/// trips count that have this one.
+///
+/// GTFS Schedule Reference, `trips.txt`, `stop_times.txt`, `frequencies.txt`, `calendar.txt` and `calendar_dates.txt`.
+///
+/// # Errors
+/// `UnknownRoute`, judged first, exactly where the feed has no such route, and `OutOfMemory`.
+pub fn timetable<'a>(
+    alloc: Global,
+    feed: &'a Feed,
+    route: &str,
+    direction: Option<u8>,
+    day: Day,
+) -> Result<Vec<Sheet<'a>>, TableFault>
+    ensures unknown { IsErrOf result TableFault.UnknownRoute
+        ↔ (is_route (content_of feed.now) route.now ≡ false) }
+    ensures sheets { IfOk result (λ found. map plain_sheet found.items
+        ≡ sheets (content_of feed.now) route.now direction day) }
+{
+    match feed.route(route) {
+        Some(number) => sheets_of_route(alloc, feed, number, direction, day),
+        None => Err(TableFault::UnknownRoute),
+    }
+}
+
+// The timetable of the route of a number.
+fn sheets_of_route<'a>(
+    alloc: Global,
+    feed: &'a Feed,
+    route: RouteNo,
+    direction: Option<u8>,
+    day: Day,
+) -> Result<Vec<Sheet<'a>>, TableFault>
+    requires { route.0 < length feed.now.routes }
+    ensures known { IfErr result (λ e. e ≢ TableFault.UnknownRoute) }
+    ensures sheets { IfOk result (λ found. map plain_sheet found.items
+        ≡ sheets (content_of feed.now) (text_of_number (route_ids feed.now) route.0) direction day) }
+{
+    feed.soundness();
+    let id = feed.route_by_number(route).route_id.as_str();
+    let patterns = patterns(alloc, feed, route)?;
+    let found = sheets_of(alloc, feed, id, direction, day, patterns.as_slice())?;
+    Ok(found)
+}
+
+// The sheets of the patterns that have the direction, if one is given.
+fn sheets_of<'a>(
+    alloc: Global,
+    feed: &'a Feed,
+    route: &'a str,
+    direction: Option<u8>,
+    day: Day,
+    patterns: &[Pattern],
+) -> Result<Vec<Sheet<'a>>, OutOfMemory>
+    requires { All (IsPattern feed.now) patterns.now }
+    ensures { IfOk result (λ found. map plain_sheet found.items
+        ≡ flat_map (sheets_along feed.now route.now day) (filter (goes direction) patterns.now)) }
+{
+    let mut found = Vec::new(alloc);
+    for pattern in patterns {
+        if goes(pattern, direction) {
+            push_pattern(alloc, feed, route, day, pattern, &mut found)?;
+        }
+    }
+    Ok(found)
+}
+
+// Whether the trips of a pattern have the direction, if one is given.
+fn goes(pattern: &Pattern, direction: Option<u8>) -> bool
+    ensures { result ≡ goes direction pattern.now }
+{
+    match direction {
+        Some(number) => pattern.direction == Some(number),
+        None => true,
+    }
+}
+
+// Adds the sheet of a pattern if one of its trips runs on the day.
+fn push_pattern<'a>(
+    alloc: Global,
+    feed: &'a Feed,
+    route: &'a str,
+    day: Day,
+    pattern: &Pattern,
+    found: &mut Vec<Sheet<'a>>,
+) -> Result<(), OutOfMemory>
+    requires { IsPattern feed.now pattern.now }
+    ensures { OnOk result (map plain_sheet found.new.items
+        ≡ map plain_sheet found.old.items ++ sheets_along feed.now route.now day pattern.now) }
+{
+    feed.soundness();
+    let trips = pattern.trips.as_slice();
+    let columns = columns(alloc, feed, day, trips)?;
+    let shown = columns.as_slice();
+    if shown.is_empty() {
+        return Ok(());
+    }
+    let sheet = sheet_of(alloc, feed, route, day, pattern, shown)?;
+    found.push(sheet)?;
+    Ok(())
+}
+
+// The sheet of a pattern with these columns.
+fn sheet_of<'a>(
+    alloc: Global,
+    feed: &'a Feed,
+    route: &'a str,
+    day: Day,
+    pattern: &Pattern,
+    columns: &[Column],
+) -> Result<Sheet<'a>, OutOfMemory>
+    requires stops { All (λ s. s.0 < length feed.now.stops) pattern.now.stops.items }
+    requires shown { All (IsShownAlong feed.now (length pattern.now.stops.items)) columns.now }
+    ensures { IfOk result (λ sheet. plain_sheet sheet
+        ≡ sheet_of_columns feed.now route.now day pattern.now columns.now) }
+{
+    let stops = stop_texts(alloc, feed, pattern.stops.as_slice())?;
+    let runs = named(alloc, feed, columns)?;
+    let times = times(alloc, feed, pattern.stops.len(), columns)?;
+    Ok(Sheet {
+        route,
+        direction: pattern.direction,
+        day,
+        stops,
+        runs,
+        times,
+    })
+}
+
+// The ids of stops.
+fn stop_texts<'a>(
+    alloc: Global,
+    feed: &'a Feed,
+    stops: &[StopNo],
+) -> Result<Vec<&'a str>, OutOfMemory>
+    requires { All (λ s. s.0 < length feed.now.stops) stops.now }
+    ensures { IfOk result (λ ids. map (λ id. id.now) ids.items
+        ≡ map (λ s. text_of_number (stop_ids feed.now) s.0) stops.now) }
+{
+    let mut ids = Vec::with_capacity(alloc, stops.len())?;
+    for stop in stops {
+        ids.push(stop_id(feed, *stop))?;
+    }
+    Ok(ids)
+}
+
+// The runs, each with the id of its trip.
+fn named<'a>(
+    alloc: Global,
+    feed: &'a Feed,
+    columns: &[Column],
+) -> Result<Vec<(u32, &'a str)>, OutOfMemory>
+    requires { All (λ c. c.trip.0 < length feed.now.trips) columns.now }
+    ensures { IfOk result (λ runs. map (λ run. (run.0, run.1.now)) runs.items
+        ≡ map (named_column feed.now) columns.now) }
+{
+    let mut runs = Vec::with_capacity(alloc, columns.len())?;
+    for column in columns {
+        runs.push((column.start, trip_id(feed, column.trip)))?;
+    }
+    Ok(runs)
+}

@@ -1,0 +1,98 @@
+//! The times of a sheet: when each run passes each stop time of its trip.
+ghost use Rattle.std.specs.Prelude.{◌≡◌, ◌<◌, ◌≤◌, ◌+◌, All, IfOk, List, true, is_some, length, map, option_and_then, slice_index_or, unwrap_or};
+ghost use Rattle.gtfs_feed.specs.Content.{content_of};
+ghost use Rattle.gtfs_feed.specs.Trips.{left_at};
+ghost use Rattle.gtfs_rows.specs.Views.{stop_row_of, trip_of};
+ghost use Rattle.gtfs_rows.specs.declared.frequency.Frequency.{Frequency as PeriodRow};
+ghost use Rattle.gtfs_rows.specs.declared.parts.Parts.{Parts};
+ghost use Rattle.gtfs_rows.specs.declared.stop_row.StopRow.{StopRow as StopTime};
+ghost use Rattle.gtfs_rows.specs.declared.trip.Trip.{Trip};
+ghost use Rattle.gtfs_runs.specs.Trips.{passes_at};
+ghost use Rattle.gtfs_board.specs.SheetSteps.{IsShownAlong, column_times, time_of_column};
+ghost use Rattle.gtfs_board.specs.Timetable.{row_at, time_at};
+
+use crate::sheet::columns::{Column, leaves, seconds_left};
+use gtfs_feed::Feed;
+use gtfs_field::{Clock, OutOfMemory};
+use gtfs_rows::StopRow;
+use std::alloc::Global;
+
+// The times of the runs at each of this many stop times.
+pub(super) fn times(
+    alloc: Global,
+    feed: &Feed,
+    places: usize,
+    columns: &[Column],
+) -> Result<Vec<Vec<Option<Clock>>>, OutOfMemory>
+    requires { All (IsShownAlong feed.now places) columns.now }
+    ensures { IfOk result (λ lines. map (λ line. line.items) lines.items
+        ≡ column_times (content_of feed.now) places columns.now) }
+{
+    let mut lines = Vec::with_capacity(alloc, places)?;
+    for place in 0..places {
+        lines.push(times_at(alloc, feed, place, columns)?)?;
+    }
+    Ok(lines)
+}
+
+// The times of the runs at a stop time.
+fn times_at(
+    alloc: Global,
+    feed: &Feed,
+    place: usize,
+    columns: &[Column],
+) -> Result<Vec<Option<Clock>>, OutOfMemory>
+    requires { All (IsShownAlong feed.now (place + 1)) columns.now }
+    ensures { IfOk result (λ times. times.items
+        ≡ map (time_of_column (content_of feed.now) place) columns.now) }
+{
+    let mut times = Vec::with_capacity(alloc, columns.len())?;
+    for column in columns {
+        times.push(time_at(feed, *column, place))?;
+    }
+    Ok(times)
+}
+
+// When a run passes the stop time of this place among those of its trip, None where that is untimed.
+fn time_at(feed: &Feed, column: Column, place: usize) -> Option<Clock>
+    requires { IsShownAlong feed.now (place + 1) column }
+    ensures { result ≡ time_of_column (content_of feed.now) place column }
+{
+    feed.soundness();
+    let rows = feed.trip_rows(column.trip);
+    time_among(rows, column.start, place)
+}
+
+// The same by the stop times of the trip.
+fn time_among(rows: &[StopRow], start: u32, place: usize) -> Option<Clock>
+    requires within { place < length rows.now }
+    requires early { start < 3_600_000 }
+    requires late { (d : StopTime)
+        → unwrap_or (left_at (slice_index_or rows.now place d)) 0 ≤ 3_599_999 }
+    requires later { (d : StopTime) → is_some (left_at (slice_index_or rows.now place d)) ≡ true
+        → unwrap_or (left_at (slice_index_or rows.now 0 d)) 0
+        ≤ unwrap_or (left_at (slice_index_or rows.now place d)) 0 }
+    ensures { (p : Parts) (t : Trip) (fs : List PeriodRow) → result
+        ≡ option_and_then (time_at (trip_of p t rows.now fs) start)
+        (row_at (trip_of p t rows.now fs) place) }
+{
+    match leaves(&rows[place]) {
+        Some(_) => Some(passes(rows, start, place)),
+        None => None,
+    }
+}
+
+// When a run that starts at a second passes the stop time of this place.
+fn passes(rows: &[StopRow], start: u32, place: usize) -> Clock
+    requires within { place < length rows.now }
+    requires early { start < 3_600_000 }
+    requires late { (d : StopTime)
+        → unwrap_or (left_at (slice_index_or rows.now place d)) 0 ≤ 3_599_999 }
+    requires ascend { (d : StopTime) → unwrap_or (left_at (slice_index_or rows.now 0 d)) 0
+        ≤ unwrap_or (left_at (slice_index_or rows.now place d)) 0 }
+    ensures { (p : Parts) (t : Trip) (fs : List PeriodRow) (d : StopTime) → result
+        ≡ passes_at (trip_of p t rows.now fs) start
+        (stop_row_of p (slice_index_or rows.now place d)) }
+{
+    Clock::from_seconds(start + seconds_left(&rows[place]) - seconds_left(&rows[0]))
+}
