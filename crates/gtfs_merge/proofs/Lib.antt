@@ -31,3 +31,12 @@ pub mod NewNames
 pub mod MergedNames
 pub mod FitRows
 pub mod MergedSound
+pub mod ByNewIds
+pub mod Distinct
+pub mod MergedOrder
+pub mod MergesOfKinds
+pub mod NewNumbers
+pub mod NumberTables
+pub mod MergedLists
+pub mod ServiceCopies
+pub mod IdRowFacts

@@ -3,9 +3,10 @@ use Rattle.std.proofs.Common.{◌≡◌, ◌<◌, ◌+◌, ◌++◌, ℕ, zero, 
 use Rattle.std.specs.Prelude.{if◌then◌else◌}
 use Rattle.std.specs.List.{range_with_len}
 use Rattle.std.specs.List.Sorted.{IsSorted}
-use Rattle.std.specs.Ordering.{is_lt}
+use Rattle.std.specs.Ordering.{is_lt, on}
 use Rattle.std.proofs.lemmas.List.{get_or-map, length-map, map-append}
-use Rattle.gtfs_merge.specs.Order.{entry_cmp, entry_value}
+use Rattle.gtfs_table.specs.Folder.{text_cmp}
+use Rattle.gtfs_merge.specs.Order.{Entry, entry_value}
 use Rattle.gtfs_merge.specs.declared.order.MergedRow.{MergedRow}
 
 range-more : (a n : ℕ) → range_with_len a (suc n) ≡ range_with_len a n ++ (a + n) ∷ []
@@ -41,13 +42,16 @@ passing-more p f n start olds news old new =
     ∙ append_assoc start (map f (filter p (range_with_len 0 n))) (map f (filter p (n ∷ [])))
     ∙ ap (λ l. start ++ l) (sym (map-append f (filter p (range_with_len 0 n)) (filter p (n ∷ []))) ∙ ap (map f) (sym (filter-append p (range_with_len 0 n) (n ∷ [])) ∙ ap (filter p) (sym (range-next n))))
 
-pub sorted-values : (xs : List MergedRow) → IsSorted (λ x y. entry_cmp (entry_value x) (entry_value y)) xs → IsSorted entry_cmp (map entry_value xs)
+abbrev pub entry_id : Entry → List ℕ
+entry_id e = e.id
+
+pub sorted-values : (xs : List MergedRow) → IsSorted (λ x y. text_cmp (entry_value x).id (entry_value y).id) xs → IsSorted (on entry_id text_cmp) (map entry_value xs)
 sorted-values [] up k d from within = let none : k + 1 < 0 = within in absurd (omega (arith, none))
 sorted-values (x ∷ xs) up k d from within =
     let inside : k + 1 < length (x ∷ xs) = subst (λ m. k + 1 < m) (length-map (x ∷ xs) entry_value) within in
     let before : k < length (x ∷ xs) = omega (arith, inside) in
     let first = get_or-map entry_value (x ∷ xs) (k + 1) x d inside in
     let second = get_or-map entry_value (x ∷ xs) k x d before in
-    ap (λ a. is_lt (entry_cmp a (get_or (map entry_value (x ∷ xs)) k d))) first
-    ∙ ap (λ b. is_lt (entry_cmp (entry_value (get_or (x ∷ xs) (k + 1) x)) b)) second
+    ap (λ a. is_lt (text_cmp (entry_id a) (entry_id (get_or (map entry_value (x ∷ xs)) k d)))) first
+    ∙ ap (λ b. is_lt (text_cmp (entry_value (get_or (x ∷ xs) (k + 1) x)).id (entry_id b))) second
     ∙ up k x from inside

@@ -28,7 +28,7 @@ texts-fresh (t ∷ ts) (suc i) up within =
     let inside : i < length ts = omega arith in
     rw (apart_turned t (get_or ts i []) (pairs-head (λ s t. text_cmp s t ≡ Less) t ts up i [] inside)) (texts-fresh ts i (pairs-tail (λ s t. text_cmp s t ≡ Less) t ts up) inside)
 
-ascend : (k : Kind) (p : Parts) → IsSoundParts p → AllPairs (λ s t. text_cmp s t ≡ Less) (known_ids k p)
+pub ascend : (k : Kind) (p : Parts) → IsSoundParts p → AllPairs (λ s t. text_cmp s t ≡ Less) (known_ids k p)
 ascend kind.Agency p sound = pairs-map (λ r. r.agency_id) (λ s t. text_cmp s t ≡ Less) p.agencies (in_order p sound).agencies
 ascend kind.Stop p sound = pairs-map (λ r. r.stop_id) (λ s t. text_cmp s t ≡ Less) p.stops (in_order p sound).stops
 ascend kind.Route p sound = pairs-map (λ r. r.route_id) (λ s t. text_cmp s t ≡ Less) p.routes (in_order p sound).routes

@@ -1,11 +1,16 @@
 pub mod Departures
+pub mod IdRows
 pub mod Joined
+pub mod KindRows
 pub mod Law
 pub mod Merged
+pub mod MergedKinds
 pub mod Names
 pub mod Near
 pub mod Numbered
 pub mod Order
 pub mod Renaming
+pub mod Renumbered
 pub mod Report
 pub mod Same
+pub mod Sides

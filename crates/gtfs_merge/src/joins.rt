@@ -75,6 +75,20 @@ impl Joined {
         })
     }
 
+    // The number of the row of A that the row of a number is joined with.
+    pub(crate) fn of(&self, kind: Kind, number: usize) -> Option<usize>
+        requires { number < length (of_kind self.now kind) }
+        ensures { result ≡ slice_index_or (of_kind self.now kind) number None }
+    {
+        match kind {
+            Kind::Agency => self.agencies[number].map(|agency| agency.0),
+            Kind::Stop => self.stops[number].map(|stop| stop.0),
+            Kind::Route => self.routes[number].map(|route| route.0),
+            Kind::Service => self.services[number].map(|service| service.0),
+            Kind::Trip => self.trips[number].map(|trip| trip.0),
+        }
+    }
+
     // Whether the row of a number is joined.
     pub(crate) fn has(&self, kind: Kind, number: usize) -> bool
         requires { number < length (of_kind self.now kind) }

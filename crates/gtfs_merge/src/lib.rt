@@ -11,24 +11,35 @@
 //! what the merged content is, and `specs/Report.antt` what is told of it.
 #![tactic(auto)]
 
+mod copies;
 mod few;
+mod id_rows;
 mod joined;
 mod joined_routes;
 mod joined_stops;
 mod joined_trips;
 mod joins;
 mod kind;
+mod kind_rows;
 mod kinds;
 mod law;
+mod merged_agencies;
+mod merged_kinds;
+mod merged_routes;
+mod merged_services;
+mod merged_stops;
+mod merged_trips;
 mod names;
 mod new_ids;
 mod new_names;
 mod order;
 mod renamed;
+mod renumbered;
 mod same_rows;
 mod same_services;
 mod same_stop_times;
 mod same_values;
+mod sides;
 mod zones;
 
 pub use kind::{Kind, Side};

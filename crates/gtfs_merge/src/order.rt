@@ -1,25 +1,29 @@
 ghost use Rattle.std.specs.List.Sorted.{IsPermutation, IsSorted};
+ghost use Rattle.std.specs.Ordering.{on};
 ghost use Rattle.std.specs.Prelude.{◌≡◌, ◌<◌, ◌∷◌, ◌++◌, [], IfOk, OnOk, filter, length, map};
+ghost use Rattle.gtfs_table.specs.Folder.{text_cmp};
 ghost use Rattle.gtfs_merge.specs.Joined.{joined_rows};
+ghost use Rattle.gtfs_merge.specs.MergedKinds.{AreMergedRows};
 ghost use Rattle.gtfs_merge.specs.Numbered.{known_ids};
-ghost use Rattle.gtfs_merge.specs.Order.{entry_cmp, entry_of_b, entry_value, is_apart, rows_of_a, rows_of_b};
+ghost use Rattle.gtfs_merge.specs.Order.{entry_of, entry_value, is_apart, rows_of_a, rows_of_b};
+ghost use Rattle.gtfs_merge.specs.declared.kind.Side.TheVariants as side;
 
+use crate::few::are_few;
 use crate::joins::Joined;
-use crate::kind::Kind;
+use crate::kind::{Kind, Side};
 use crate::kinds::{count_of, id_of};
 use crate::new_names::{is_joined_id, new_id_of_a, new_id_of_b};
 use gtfs_feed::Feed;
 use gtfs_field::OutOfMemory;
 use std::alloc::Global;
+use std::cmp::Ordering;
 
-// A row of the merged feed under its new id. The order of the fields is that of merged rows.
-#[derive(Debug, Drop, PartialEq, Eq, PartialOrd, Ord)]
+// A row of the merged feed under its new id, by its number on one side. A joined row is that of A.
+#[derive(Debug, Drop)]
 pub(crate) struct MergedRow {
-    id: String,
-    // The number of A's row.
-    first: Option<usize>,
-    // The number of B's row, where A has none.
-    second: Option<usize>,
+    pub(crate) id: String,
+    pub(crate) side: Side,
+    pub(crate) number: usize,
 }
 
 // The rows of a kind of the merged feed, by their new ids: all of A's and those of B's that are not joined.
@@ -31,11 +35,11 @@ pub(crate) fn merged_rows(
     kind: Kind,
 ) -> Result<Vec<MergedRow>, OutOfMemory>
     requires { joined.now ≡ joined_rows a.now b.now }
-    ensures same { IfOk result (λ rows. IsPermutation
-        (rows_of_a kind a.now b.now ++ rows_of_b kind a.now b.now)
-        (map entry_value rows.items)) }
-    ensures in_order { IfOk result (λ rows. IsSorted entry_cmp (map entry_value rows.items)) }
+    ensures { IfOk result (λ rows. AreMergedRows kind a.now b.now (map entry_value rows.items)) }
 {
+    a.soundness();
+    b.soundness();
+    are_few(a, b);
     let mut rows = of_a(alloc, a, b, joined, kind)?;
     add_of_b(alloc, a, b, joined, kind, &mut rows)?;
     Ok(sorted(rows))
@@ -57,8 +61,8 @@ fn of_a(
         let id = new_id_of_a(alloc, a, b, joined, kind, id_of(a, kind, number))?;
         rows.push(MergedRow {
             id,
-            first: Some(number),
-            second: None,
+            side: Side::A,
+            number,
         })?;
     }
     Ok(rows)
@@ -96,14 +100,14 @@ fn add_if_apart(
     requires joined { joined.now ≡ joined_rows a.now b.now }
     requires within { number < length (known_ids kind b.now) }
     ensures { OnOk result (map entry_value rows.new.items ≡ map entry_value rows.old.items
-        ++ map (entry_of_b kind a.now b.now) (filter (is_apart kind a.now b.now) (number ∷ []))) }
+        ++ map (entry_of side.B kind a.now b.now) (filter (is_apart kind a.now b.now) (number ∷ []))) }
 {
     let id = id_of(b, kind, number);
     if !is_joined_id(a, b, joined, kind, id) {
         rows.push(MergedRow {
             id: new_id_of_b(alloc, a, b, joined, kind, id)?,
-            first: None,
-            second: Some(number),
+            side: Side::B,
+            number,
         })?;
     }
     Ok(())
@@ -112,8 +116,14 @@ fn add_if_apart(
 // The rows by their new ids.
 fn sorted(mut rows: Vec<MergedRow>) -> Vec<MergedRow>
     ensures same { IsPermutation (map entry_value rows.items) (map entry_value result.items) }
-    ensures in_order { IsSorted entry_cmp (map entry_value result.items) }
+    ensures in_order { IsSorted (on (λ e. e.id) text_cmp) (map entry_value result.items) }
 {
-    rows.sort_unstable();
+    rows.sort_unstable_by(|a, b| order(a, b));
     rows
+}
+
+fn order(a: &MergedRow, b: &MergedRow) -> Ordering
+    ensures { result ≡ text_cmp (entry_value a.now).id (entry_value b.now).id }
+{
+    a.id.cmp(&b.id)
 }

@@ -1,0 +1,69 @@
+use Rattle.std.proofs.Common.{◌≡◌, ◌<◌, ◌≤◌, ◌∙◌, List, ℕ, Some, ap, arith, get_or, length, map, slice_get, subst, sym}
+use Rattle.std.specs.List.{list_all}
+use Rattle.std.proofs.lemmas.List.{length-map}
+use Rattle.gtfs_parts.specs.Named.{names_agency, route_named}
+use Rattle.gtfs_rows.specs.Views.{agency_ids}
+use Rattle.gtfs_rows.specs.declared.parts.Parts.{Parts}
+use Rattle.gtfs_merge.specs.MergedKinds.{AreMergedRows, route_from}
+use Rattle.gtfs_merge.specs.Renumbered.{numbers_of}
+use Rattle.gtfs_merge.specs.Sides.{merged_ids, merged_parts, side_names, side_parts}
+use Rattle.gtfs_merge.specs.declared.kind.Kind.TheVariants as kind
+use Rattle.gtfs_merge.proofs.MergedLists.{agency-inside, all-more, numbers-long, route-row, row-named, row-within, rows-all, rows-more, side-sound}
+use Rattle.gtfs_merge.proofs.merged_routes.merged_routes.Goals as goal
+
+pub route_by_number-source-requires : goal.route_by_number-source-requires
+route_by_number-source-requires c =
+    let p = c.args.a.now in
+    let q = c.args.b.now in
+    let row = c.index-rows-place.result in
+    let are = subst (AreMergedRows kind.Route p q) (sym c.rows-rows.ensures) c.requires.routes.rows in
+    let within = row-within kind.Route p q c.rows-rows.result.now are c.loop-place.place c.loop-place-test.true row c.index-rows-place.is in
+    subst (λ (f : Parts). row.number < length f.routes) (sym c.side_of.ensures) (omega (arith, within, length-map (side_parts row.side p q).routes (λ s. s.route_id)))
+
+pub renumbered-agency-requires : goal.renumbered-agency-requires
+renumbered-agency-requires c =
+    let p = c.args.a.now in
+    let q = c.args.b.now in
+    let row = c.index-rows-place.result in
+    let source = c.route_by_number-source.result.now in
+    let f = side_parts row.side p q in
+    let at = subst (λ (f : Parts). slice_get f.routes row.number ≡ Some source) c.side_of.ensures c.route_by_number-source.ensures in
+    let inside = agency-inside f (side-sound row.side p q c.soundness.ensures c.soundness-2.ensures) row.number source at in
+    let long = ap length c.numbers.ensures ∙ numbers-long (merged_ids kind.Agency p q) (side_names row.side p q).agency (agency_ids f) (numbers_of c.args.agencies.now.numbers row.side) (c.requires.agencies.numbers row.side) in
+    subst (λ (m : ℕ). source.agency_id.0 < m) (sym long) inside
+
+pub loop-place-preserved : goal.loop-place-preserved
+loop-place-preserved c =
+    let p = c.args.a.now in
+    let q = c.args.b.now in
+    let rows = c.rows-rows.result.now in
+    let place = c.loop-place.place in
+    let row = c.index-rows-place.result in
+    let items = c.loop-place.list.items in
+    let source = c.route_by_number-source.result.now in
+    let made = c.in_ok-with_id.field-0 in
+    let are = subst (AreMergedRows kind.Route p q) (sym c.rows-rows.ensures) c.requires.routes.rows in
+    let numbers = numbers_of c.args.agencies.now.numbers row.side in
+    let f = side_parts row.side p q in
+    let at = subst (λ (f : Parts). slice_get f.routes row.number ≡ Some source) c.side_of.ensures c.route_by_number-source.ensures in
+    let inside = agency-inside f (side-sound row.side p q c.soundness.ensures c.soundness-2.ensures) row.number source at in
+    let named = row-named kind.Route p q rows are place c.loop-place-test.true row c.index-rows-place.is in
+    let agency = c.renumbered-agency.ensures ∙ ap (λ (ns : List ℕ). get_or ns source.agency_id.0 0) c.numbers.ensures in
+    let both = route-row p q row.side row.number c.as_str.result.now numbers (c.requires.agencies.numbers row.side) source made c.renumbered-agency.result at (c.as_str.ensures.value ∙ named) agency inside c.in_ok-with_id.ensures in
+    record {
+      listed = rows-more (route_named (merged_ids kind.Agency p q)) (route_from p q) rows place items _ made row c.loop-place-test.true c.loop-place.invariant.listed c.in_ok-push.ensures.items c.index-rows-place.is both.0;
+      within = all-more (names_agency (merged_ids kind.Agency p q)) items _ made c.loop-place.invariant.within c.in_ok-push.ensures.items both.1;
+    }
+
+pub returns-clause-rows : goal.returns-clause-rows
+returns-clause-rows c =
+    let p = c.args.a.now in
+    let q = c.args.b.now in
+    let rows = c.rows-rows.result.now in
+    let are = subst (AreMergedRows kind.Route p q) (sym c.rows-rows.ensures) c.requires.routes.rows in
+    let past : length rows ≤ c.loop-place.place = omega (arith, c.loop-place-test.false) in
+    ap (map (route_named (merged_ids kind.Agency p q))) c.new.ensures
+    ∙ rows-all (route_named (merged_ids kind.Agency p q)) (route_from p q) rows c.loop-place.place c.loop-place.list.items (merged_parts p q).routes past c.loop-place.invariant.listed are.rows
+
+pub returns-clause-agencies : goal.returns-clause-agencies
+returns-clause-agencies c = ap (list_all (names_agency (merged_ids kind.Agency c.args.a.now c.args.b.now))) c.new.ensures ∙ c.loop-place.invariant.within

@@ -1,0 +1,70 @@
+use Rattle.std.proofs.Common.{◌≡◌, ◌<◌, ◌≤◌, ◌∙◌, List, ℕ, Some, ap, arith, get_or, length, map, option_map, slice_get, subst, sym}
+use Rattle.std.specs.Prelude.{IfSome}
+use Rattle.std.specs.List.{list_all}
+use Rattle.std.proofs.lemmas.List.{length-map}
+use Rattle.gtfs_parts.specs.Named.{names_parent, stop_named}
+use Rattle.gtfs_rows.specs.Views.{stop_ids}
+use Rattle.gtfs_rows.specs.declared.parts.Parts.{Parts}
+use Rattle.gtfs_merge.specs.MergedKinds.{AreMergedRows, stop_from}
+use Rattle.gtfs_merge.specs.Renumbered.{numbers_of}
+use Rattle.gtfs_merge.specs.Sides.{merged_ids, merged_parts, side_names, side_parts}
+use Rattle.gtfs_merge.specs.declared.kind.Kind.TheVariants as kind
+use Rattle.gtfs_merge.proofs.MergedLists.{all-more, numbers-long, parent-inside, row-named, row-within, rows-all, rows-more, side-sound, stop-row}
+use Rattle.gtfs_merge.proofs.merged_stops.merged_stops.Goals as goal
+
+pub stop_by_number-source-requires : goal.stop_by_number-source-requires
+stop_by_number-source-requires c =
+    let p = c.args.a.now in
+    let q = c.args.b.now in
+    let row = c.index-rows-place.result in
+    let are = subst (AreMergedRows kind.Stop p q) (sym c.rows-rows.ensures) c.requires.rows in
+    let within = row-within kind.Stop p q c.rows-rows.result.now are c.loop-place.place c.loop-place-test.true row c.index-rows-place.is in
+    subst (λ (f : Parts). row.number < length f.stops) (sym c.side_of.ensures) (omega (arith, within, length-map (side_parts row.side p q).stops (λ s. s.stop_id)))
+
+pub renumbered-parent-requires : goal.renumbered-parent-requires
+renumbered-parent-requires c =
+    let p = c.args.a.now in
+    let q = c.args.b.now in
+    let row = c.index-rows-place.result in
+    let source = c.stop_by_number-source.result.now in
+    let f = side_parts row.side p q in
+    let at = subst (λ (f : Parts). slice_get f.stops row.number ≡ Some source) c.side_of.ensures c.stop_by_number-source.ensures in
+    let inside = parent-inside f (side-sound row.side p q c.soundness.ensures c.soundness-2.ensures) row.number source at in
+    let long = ap length c.numbers.ensures ∙ numbers-long (merged_ids kind.Stop p q) (side_names row.side p q).stop (stop_ids f) (numbers_of c.args.stops.now.numbers row.side) (c.requires.numbers row.side) in
+    subst (λ (m : ℕ). IfSome source.parent_station (λ n. n.0 < m)) (sym long) inside
+
+pub loop-place-preserved : goal.loop-place-preserved
+loop-place-preserved c =
+    let p = c.args.a.now in
+    let q = c.args.b.now in
+    let rows = c.rows-rows.result.now in
+    let place = c.loop-place.place in
+    let row = c.index-rows-place.result in
+    let items = c.loop-place.list.items in
+    let source = c.stop_by_number-source.result.now in
+    let made = c.in_ok-with_id.field-0 in
+    let are = subst (AreMergedRows kind.Stop p q) (sym c.rows-rows.ensures) c.requires.rows in
+    let numbers = numbers_of c.args.stops.now.numbers row.side in
+    let f = side_parts row.side p q in
+    let at = subst (λ (f : Parts). slice_get f.stops row.number ≡ Some source) c.side_of.ensures c.stop_by_number-source.ensures in
+    let inside = parent-inside f (side-sound row.side p q c.soundness.ensures c.soundness-2.ensures) row.number source at in
+    let named = row-named kind.Stop p q rows are place c.loop-place-test.true row c.index-rows-place.is in
+    let parent = c.renumbered-parent.ensures ∙ ap (λ (ns : List ℕ). option_map (λ n. get_or ns n.0 0) source.parent_station) c.numbers.ensures in
+    let both = stop-row p q row.side row.number c.as_str.result.now numbers (c.requires.numbers row.side) source made c.renumbered-parent.result at (c.as_str.ensures.value ∙ named) parent inside c.in_ok-with_id.ensures in
+    record {
+      listed = rows-more (stop_named (merged_ids kind.Stop p q)) (stop_from p q) rows place items _ made row c.loop-place-test.true c.loop-place.invariant.listed c.in_ok-push.ensures.items c.index-rows-place.is both.0;
+      within = all-more (names_parent (merged_ids kind.Stop p q)) items _ made c.loop-place.invariant.within c.in_ok-push.ensures.items both.1;
+    }
+
+pub returns-clause-rows : goal.returns-clause-rows
+returns-clause-rows c =
+    let p = c.args.a.now in
+    let q = c.args.b.now in
+    let rows = c.rows-rows.result.now in
+    let are = subst (AreMergedRows kind.Stop p q) (sym c.rows-rows.ensures) c.requires.rows in
+    let past : length rows ≤ c.loop-place.place = omega (arith, c.loop-place-test.false) in
+    ap (map (stop_named (merged_ids kind.Stop p q))) c.new.ensures
+    ∙ rows-all (stop_named (merged_ids kind.Stop p q)) (stop_from p q) rows c.loop-place.place c.loop-place.list.items (merged_parts p q).stops past c.loop-place.invariant.listed are.rows
+
+pub returns-clause-parents : goal.returns-clause-parents
+returns-clause-parents c = ap (list_all (names_parent (merged_ids kind.Stop c.args.a.now c.args.b.now))) c.new.ensures ∙ c.loop-place.invariant.within

@@ -1,0 +1,86 @@
+use Rattle.std.proofs.Common.{◌≡◌, ◌<◌, ◌≤◌, ◌∙◌, List, ℕ, Some, ap, arith, get_or, length, map, option_map, slice_get, subst, sym}
+use Rattle.std.specs.List.{list_all}
+use Rattle.std.proofs.lemmas.List.{length-map}
+use Rattle.gtfs_parts.specs.Named.{names_route_and_service, trip_named, without_rows}
+use Rattle.gtfs_rows.specs.Views.{route_ids, service_ids}
+use Rattle.gtfs_rows.specs.declared.parts.Parts.{Parts}
+use Rattle.gtfs_merge.specs.MergedKinds.{AreMergedRows, trip_from}
+use Rattle.gtfs_merge.specs.Order.{entry_value}
+use Rattle.gtfs_merge.specs.Renumbered.{numbers_of}
+use Rattle.gtfs_merge.specs.Sides.{merged_ids, merged_parts, side_names, side_parts}
+use Rattle.gtfs_merge.specs.declared.kind.Kind.TheVariants as kind
+use Rattle.gtfs_merge.proofs.MergedLists.{all-more, numbers-long, plain-rows, route-inside, row-named, row-within, rows-all, rows-more, service-inside, side-sound, trip-row}
+use Rattle.gtfs_merge.proofs.merged_trips.merged_trips.Goals as goal
+
+pub trip_by_number-source-requires : goal.trip_by_number-source-requires
+trip_by_number-source-requires c =
+    let p = c.args.a.now in
+    let q = c.args.b.now in
+    let row = c.index-rows-place.result in
+    let are = subst (AreMergedRows kind.Trip p q) (sym c.rows-rows.ensures) c.requires.trips.rows in
+    let within = row-within kind.Trip p q c.rows-rows.result.now are c.loop-place.place c.loop-place-test.true row c.index-rows-place.is in
+    subst (λ (f : Parts). row.number < length f.trips) (sym c.side_of.ensures) (omega (arith, within, length-map (side_parts row.side p q).trips (λ s. s.trip_id)))
+
+pub renumbered_route-route-requires : goal.renumbered_route-route-requires
+renumbered_route-route-requires c =
+    let p = c.args.a.now in
+    let q = c.args.b.now in
+    let row = c.index-rows-place.result in
+    let source = c.trip_by_number-source.result.now in
+    let f = side_parts row.side p q in
+    let at = subst (λ (f : Parts). slice_get f.trips row.number ≡ Some source) c.side_of.ensures c.trip_by_number-source.ensures in
+    let inside = route-inside f (side-sound row.side p q c.soundness.ensures c.soundness-2.ensures) row.number source at in
+    let long = ap length c.numbers-route_numbers.ensures ∙ numbers-long (merged_ids kind.Route p q) (side_names row.side p q).route (route_ids f) (numbers_of c.args.routes.now.numbers row.side) (c.requires.routes.numbers row.side) in
+    subst (λ (m : ℕ). source.route_id.0 < m) (sym long) inside
+
+pub renumbered_service-service-requires : goal.renumbered_service-service-requires
+renumbered_service-service-requires c =
+    let p = c.args.a.now in
+    let q = c.args.b.now in
+    let row = c.index-rows-place.result in
+    let source = c.trip_by_number-source.result.now in
+    let f = side_parts row.side p q in
+    let at = subst (λ (f : Parts). slice_get f.trips row.number ≡ Some source) c.side_of.ensures c.trip_by_number-source.ensures in
+    let inside = service-inside f (side-sound row.side p q c.soundness.ensures c.soundness-2.ensures) row.number source at in
+    let long = ap length c.numbers-service_numbers.ensures ∙ numbers-long (merged_ids kind.Service p q) (side_names row.side p q).service (service_ids f) (numbers_of c.args.services.now.numbers row.side) (c.requires.services.numbers row.side) in
+    subst (λ (m : ℕ). source.service_id.0 < m) (sym long) inside
+
+pub loop-place-preserved : goal.loop-place-preserved
+loop-place-preserved c =
+    let p = c.args.a.now in
+    let q = c.args.b.now in
+    let rows = c.rows-rows.result.now in
+    let place = c.loop-place.place in
+    let row = c.index-rows-place.result in
+    let items = c.loop-place.list.items in
+    let source = c.trip_by_number-source.result.now in
+    let made = c.in_ok-with_id.field-0 in
+    let are = subst (AreMergedRows kind.Trip p q) (sym c.rows-rows.ensures) c.requires.trips.rows in
+    let routes = numbers_of c.args.routes.now.numbers row.side in
+    let services = numbers_of c.args.services.now.numbers row.side in
+    let f = side_parts row.side p q in
+    let sound = side-sound row.side p q c.soundness.ensures c.soundness-2.ensures in
+    let at = subst (λ (f : Parts). slice_get f.trips row.number ≡ Some source) c.side_of.ensures c.trip_by_number-source.ensures in
+    let named = row-named kind.Trip p q rows are place c.loop-place-test.true row c.index-rows-place.is in
+    let route = c.renumbered_route-route.ensures ∙ ap (λ (ns : List ℕ). get_or ns source.route_id.0 0) c.numbers-route_numbers.ensures in
+    let service = c.renumbered_service-service.ensures ∙ ap (λ (ns : List ℕ). get_or ns source.service_id.0 0) c.numbers-service_numbers.ensures in
+    let both = trip-row p q row.side row.number c.as_str.result.now sound routes services (c.requires.routes.numbers row.side) (c.requires.services.numbers row.side) source made _ _ at (c.as_str.ensures.value ∙ named)
+    route (route-inside f sound row.number source at) service (service-inside f sound row.number source at) c.in_ok-with_id.ensures in
+    record {
+      listed = rows-more (trip_named (merged_ids kind.Route p q) (merged_ids kind.Service p q)) (λ e. option_map without_rows (trip_from p q e)) rows place items _ made row c.loop-place-test.true c.loop-place.invariant.listed c.in_ok-push.ensures.items c.index-rows-place.is both.0;
+      within = all-more (names_route_and_service (merged_ids kind.Route p q) (merged_ids kind.Service p q)) items _ made c.loop-place.invariant.within c.in_ok-push.ensures.items both.1;
+    }
+
+pub returns-clause-rows : goal.returns-clause-rows
+returns-clause-rows c =
+    let p = c.args.a.now in
+    let q = c.args.b.now in
+    let rows = c.rows-rows.result.now in
+    let are = subst (AreMergedRows kind.Trip p q) (sym c.rows-rows.ensures) c.requires.trips.rows in
+    let past : length rows ≤ c.loop-place.place = omega (arith, c.loop-place-test.false) in
+    ap (map (trip_named (merged_ids kind.Route p q) (merged_ids kind.Service p q))) c.new.ensures
+    ∙ rows-all (trip_named (merged_ids kind.Route p q) (merged_ids kind.Service p q)) (λ e. option_map without_rows (trip_from p q e)) rows c.loop-place.place c.loop-place.list.items (map without_rows (merged_parts p q).trips) past
+    c.loop-place.invariant.listed (plain-rows p q (map entry_value rows) are.rows)
+
+pub returns-clause-references : goal.returns-clause-references
+returns-clause-references c = ap (list_all (names_route_and_service (merged_ids kind.Route c.args.a.now c.args.b.now) (merged_ids kind.Service c.args.a.now c.args.b.now))) c.new.ensures ∙ c.loop-place.invariant.within

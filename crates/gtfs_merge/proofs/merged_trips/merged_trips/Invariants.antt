@@ -1,0 +1,15 @@
+use Rattle.std.proofs.Common.{◌≡◌, Some, map, option_map, take, true}
+use Rattle.std.specs.List.{list_all}
+use Rattle.gtfs_parts.specs.Named.{names_route_and_service, trip_named, without_rows}
+use Rattle.gtfs_merge.specs.MergedKinds.{trip_from}
+use Rattle.gtfs_merge.specs.Order.{entry_value}
+use Rattle.gtfs_merge.specs.Sides.{merged_ids}
+use Rattle.gtfs_merge.specs.declared.kind.Kind.TheVariants as kind
+use Rattle.gtfs_merge.proofs.merged_trips.merged_trips.Given as goal
+
+-- the trips so far
+abbrev pub invariant-loop-place : goal.invariant-loop-place
+invariant-loop-place l = record {
+  listed : map (λ r. Some (trip_named (merged_ids kind.Route l.a l.b) (merged_ids kind.Service l.a l.b) r)) l.list.items ≡ map (λ e. option_map without_rows (trip_from l.a l.b e)) (take l.place (map entry_value l.rows));
+  within : list_all (names_route_and_service (merged_ids kind.Route l.a l.b) (merged_ids kind.Service l.a l.b)) l.list.items ≡ true;
+}

@@ -1,0 +1,49 @@
+-- The numbers that the rows of both sides have in the merged feed.
+use Rattle.std.specs.Prelude.{◌≡◌, ◌<◌, ℕ, List, All, length, map, slice_index_or, slice_set, Option, None, Some}
+use Rattle.gtfs_rows.specs.Views.{text_of_number}
+use Rattle.gtfs_rows.specs.declared.parts.Parts.{Parts}
+use Rattle.gtfs_merge.specs.Numbered.{known_ids}
+use Rattle.gtfs_merge.specs.Order.{Entry}
+use Rattle.gtfs_merge.specs.Renaming.{Renaming, renaming}
+use Rattle.gtfs_merge.specs.Sides.{merged_ids, side_names, side_parts}
+use Rattle.gtfs_merge.specs.declared.kind.Kind.{Kind}
+use Rattle.gtfs_merge.specs.declared.kind.Side.{Side}
+use Rattle.gtfs_merge.specs.declared.kind.Side.TheVariants as side
+
+-- the new numbers of one kind: at a row's number that in the merged feed
+pub record NewNumbers : Type 0 where
+  pub a : List ℕ
+  pub b : List ℕ
+
+abbrev pub numbers_of : NewNumbers → Side → List ℕ
+numbers_of n side.A = n.a
+numbers_of n side.B = n.b
+
+-- the merged feed has at each new number what the id of that row became
+pub record AreNewNumbers (merged : List (List ℕ)) (rename : Renaming) (olds : List (List ℕ)) (numbers : List ℕ) : Type 0 where
+  pub within : All (λ n. n < length merged) numbers
+  pub named : map (text_of_number merged) numbers ≡ map rename olds
+
+abbrev pub AreRenumbered : Kind → Parts → Parts → NewNumbers → Type 0
+AreRenumbered k p q n = (s : Side) → AreNewNumbers (merged_ids k p q) (renaming (side_names s p q) k) (known_ids k (side_parts s p q)) (numbers_of n s)
+
+-- ---- how they are found
+
+abbrev pub with_number : NewNumbers → Side → ℕ → ℕ → NewNumbers
+with_number n side.A number place = record n { a = slice_set n.a number place }
+with_number n side.B number place = record n { b = slice_set n.b number place }
+
+-- the place of an entry of the same side and number
+pub record IsPlaceOf (all : List Entry) (e : Entry) (place : ℕ) : Type 0 where
+  pub within : place < length all
+  pub side : (d : Entry) → (slice_index_or all place d).side ≡ e.side
+  pub number : (d : Entry) → (slice_index_or all place d).number ≡ e.number
+
+-- the new number of each of these entries is such a place
+abbrev pub ArePlaced : List Entry → NewNumbers → List Entry → Type 0
+ArePlaced all n es = All (λ e. IsPlaceOf all e (slice_index_or (numbers_of n e.side) e.number 0)) es
+
+-- the new number of a row of B: that of the row of A that it is joined with, else its own
+abbrev pub number_or : List ℕ → Option ℕ → ℕ → ℕ
+number_or numbers None own = own
+number_or numbers (Some first) own = slice_index_or numbers first 0

@@ -1,0 +1,28 @@
+ghost use Rattle.std.specs.Prelude.{◌≡◌, IfOk};
+
+use gtfs_field::{OutOfMemory, Text};
+use std::alloc::Global;
+
+// A text of these characters.
+pub(crate) fn own(alloc: Global, text: &str) -> Result<Text, OutOfMemory>
+    ensures { IfOk result (λ t. t ≡ text.now) }
+{
+    Ok(Text::new(String::from_str(alloc, text)?))
+}
+
+// The same text once more.
+pub(crate) fn copied(alloc: Global, text: &Text) -> Result<Text, OutOfMemory>
+    ensures { IfOk result (λ t. t ≡ text.now) }
+{
+    own(alloc, text.as_str())
+}
+
+// The same text once more, if there is one.
+pub(crate) fn copied_if_any(alloc: Global, text: &Option<Text>) -> Result<Option<Text>, OutOfMemory>
+    ensures { IfOk result (λ t. t ≡ text.now) }
+{
+    match text {
+        Some(text) => Ok(Some(copied(alloc, text)?)),
+        None => Ok(None),
+    }
+}

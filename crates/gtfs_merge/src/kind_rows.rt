@@ -1,0 +1,72 @@
+ghost use Rattle.std.specs.Prelude.{◌≡◌, IfOk, map};
+ghost use Rattle.gtfs_merge.specs.Joined.{joined_rows};
+ghost use Rattle.gtfs_merge.specs.KindRows.{AreKindRows};
+ghost use Rattle.gtfs_merge.specs.Order.{entry_value};
+ghost use Rattle.gtfs_merge.specs.Renumbered.{numbers_of};
+
+use crate::joins::Joined;
+use crate::kind::{Kind, Side};
+use crate::order::{MergedRow, merged_rows};
+use crate::renumbered::Numbers;
+use gtfs_feed::Feed;
+use gtfs_field::OutOfMemory;
+use std::alloc::Global;
+use std::marker::Model;
+
+// The merged rows of one kind, and the numbers that the rows of both sides have among them.
+pub(crate) struct KindRows {
+    rows: Vec<MergedRow>,
+    numbers: Numbers,
+}
+
+impl Model for KindRows {
+    ghost use Rattle.std.specs.Prelude.{map};
+    ghost use Rattle.gtfs_merge.specs.KindRows.{KindEntries};
+    ghost use Rattle.gtfs_merge.specs.Order.{entry_value};
+
+    ghost Value = { KindEntries };
+
+    ghost view = { λ r. record { rows = map entry_value r.rows.items; numbers = r.numbers } };
+}
+
+// Written out, so that a function that lets rows go has one call to prove.
+impl Drop for KindRows {
+    fn drop(self) {
+        let KindRows {
+            rows: _,
+            numbers: _,
+        } = self;
+    }
+}
+
+impl KindRows {
+    // The merged rows of a kind.
+    pub(crate) fn of_feeds(
+        alloc: Global,
+        a: &Feed,
+        b: &Feed,
+        joined: &Joined,
+        kind: Kind,
+    ) -> Result<KindRows, OutOfMemory>
+        requires { joined.now ≡ joined_rows a.now b.now }
+        ensures { IfOk result (AreKindRows kind a.now b.now) }
+    {
+        let rows = merged_rows(alloc, a, b, joined, kind)?;
+        let numbers = Numbers::of_rows(alloc, a, b, joined, kind, rows.as_slice())?;
+        Ok(KindRows { rows, numbers })
+    }
+
+    // The rows in the order of their new ids.
+    pub(crate) fn rows(&self) -> &[MergedRow]
+        ensures { map entry_value result.now ≡ self.now.rows }
+    {
+        self.rows.as_slice()
+    }
+
+    // The new number of each row of a side.
+    pub(crate) fn numbers(&self, side: Side) -> &[usize]
+        ensures { result.now ≡ numbers_of self.now.numbers side }
+    {
+        self.numbers.of(side)
+    }
+}

@@ -1,0 +1,49 @@
+ghost use Rattle.std.specs.Prelude.{◌≡◌, IfOk, map};
+ghost use Rattle.gtfs_rows.specs.Views.{agency_of};
+ghost use Rattle.gtfs_merge.specs.KindRows.{AreKindRows};
+ghost use Rattle.gtfs_merge.specs.Sides.{merged_parts};
+ghost use Rattle.gtfs_merge.specs.declared.kind.Kind.TheVariants as kind;
+
+use crate::copies::{copied, copied_if_any, own};
+use crate::kind_rows::KindRows;
+use crate::sides::side_of;
+use gtfs_feed::Feed;
+use gtfs_field::{List, OutOfMemory};
+use gtfs_rows::{Agency, AgencyNo};
+use std::alloc::Global;
+
+// The agencies of the merged feed.
+pub(crate) fn merged_agencies(
+    alloc: Global,
+    a: &Feed,
+    b: &Feed,
+    agencies: &KindRows,
+) -> Result<List<Agency>, OutOfMemory>
+    requires { AreKindRows kind.Agency a.now b.now agencies.now }
+    ensures { IfOk result (λ list. map agency_of list ≡ (merged_parts a.now b.now).agencies) }
+{
+    let rows = agencies.rows();
+    let mut list = Vec::with_capacity(alloc, rows.len())?;
+    for place in 0..rows.len() {
+        let row = &rows[place];
+        let source = side_of(a, b, row.side).agency_by_number(AgencyNo(row.number));
+        list.push(with_id(alloc, source, row.id.as_str())?)?;
+    }
+    Ok(List::new(list))
+}
+
+// The agency under another id.
+fn with_id(alloc: Global, agency: &Agency, id: &str) -> Result<Agency, OutOfMemory>
+    ensures { IfOk result (λ other. other ≡ record agency.now { agency_id = id.now }) }
+{
+    Ok(Agency {
+        agency_id: own(alloc, id)?,
+        agency_name: copied(alloc, &agency.agency_name)?,
+        agency_url: copied(alloc, &agency.agency_url)?,
+        agency_timezone: copied(alloc, &agency.agency_timezone)?,
+        agency_lang: copied_if_any(alloc, &agency.agency_lang)?,
+        agency_phone: copied_if_any(alloc, &agency.agency_phone)?,
+        agency_fare_url: copied_if_any(alloc, &agency.agency_fare_url)?,
+        agency_email: copied_if_any(alloc, &agency.agency_email)?,
+    })
+}

@@ -1,0 +1,73 @@
+ghost use Rattle.std.specs.Prelude.{◌≡◌, IfOk};
+ghost use Rattle.gtfs_merge.specs.Joined.{joined_rows};
+ghost use Rattle.gtfs_merge.specs.KindRows.{AreMergedKinds};
+
+use crate::joins::Joined;
+use crate::kind::Kind;
+use crate::kind_rows::KindRows;
+use gtfs_feed::Feed;
+use gtfs_field::OutOfMemory;
+use std::alloc::Global;
+use std::marker::Model;
+
+// The merged rows of all kinds of ids.
+pub(crate) struct MergedKinds {
+    pub(crate) agencies: KindRows,
+    pub(crate) stops: KindRows,
+    pub(crate) routes: KindRows,
+    pub(crate) services: KindRows,
+    pub(crate) trips: KindRows,
+}
+
+impl Model for MergedKinds {
+    ghost use Rattle.gtfs_merge.specs.KindRows.{AllEntries};
+
+    ghost Value = { AllEntries };
+
+    ghost view = { λ m. record {
+      agencies = m.agencies;
+      stops = m.stops;
+      routes = m.routes;
+      services = m.services;
+      trips = m.trips;
+    } };
+}
+
+// Written out, so that a function that lets rows go has one call to prove.
+impl Drop for MergedKinds {
+    fn drop(self) {
+        let MergedKinds {
+            agencies: _,
+            stops: _,
+            routes: _,
+            services: _,
+            trips: _,
+        } = self;
+    }
+}
+
+impl MergedKinds {
+    // The merged rows of two feeds.
+    pub(crate) fn of_feeds(
+        alloc: Global,
+        a: &Feed,
+        b: &Feed,
+        joined: &Joined,
+    ) -> Result<MergedKinds, OutOfMemory>
+        requires { joined.now ≡ joined_rows a.now b.now }
+        ensures { IfOk result (AreMergedKinds a.now b.now) }
+    {
+        let agencies = KindRows::of_feeds(alloc, a, b, joined, Kind::Agency)?;
+        let stops = KindRows::of_feeds(alloc, a, b, joined, Kind::Stop)?;
+        let routes = KindRows::of_feeds(alloc, a, b, joined, Kind::Route)?;
+        let services = KindRows::of_feeds(alloc, a, b, joined, Kind::Service)?;
+        let trips = KindRows::of_feeds(alloc, a, b, joined, Kind::Trip)?;
+        Ok(MergedKinds {
+            agencies,
+            stops,
+            routes,
+            services,
+            trips,
+        })
+    }
+}

@@ -1,0 +1,69 @@
+ghost use Rattle.std.specs.Prelude.{◌≡◌, ◌<◌, IfOk, length, map, slice_index_or, true};
+ghost use Rattle.std.specs.List.{list_all};
+ghost use Rattle.gtfs_parts.specs.Named.{names_agency, route_named};
+ghost use Rattle.gtfs_merge.specs.KindRows.{AreKindRows};
+ghost use Rattle.gtfs_merge.specs.Sides.{merged_ids, merged_parts};
+ghost use Rattle.gtfs_merge.specs.declared.kind.Kind.TheVariants as kind;
+
+use crate::copies::{copied_if_any, own};
+use crate::kind_rows::KindRows;
+use crate::sides::side_of;
+use gtfs_feed::Feed;
+use gtfs_field::{List, OutOfMemory};
+use gtfs_rows::{AgencyNo, Route, RouteNo};
+use std::alloc::Global;
+
+// The routes of the merged feed.
+pub(crate) fn merged_routes(
+    alloc: Global,
+    a: &Feed,
+    b: &Feed,
+    routes: &KindRows,
+    agencies: &KindRows,
+) -> Result<List<Route>, OutOfMemory>
+    requires routes { AreKindRows kind.Route a.now b.now routes.now }
+    requires agencies { AreKindRows kind.Agency a.now b.now agencies.now }
+    ensures rows { IfOk result (λ list. map (route_named (merged_ids kind.Agency a.now b.now)) list
+        ≡ (merged_parts a.now b.now).routes) }
+    ensures agencies { IfOk result (λ list.
+        list_all (names_agency (merged_ids kind.Agency a.now b.now)) list ≡ true) }
+{
+    a.soundness();
+    b.soundness();
+    let rows = routes.rows();
+    let mut list = Vec::with_capacity(alloc, rows.len())?;
+    for place in 0..rows.len() {
+        let row = &rows[place];
+        let source = side_of(a, b, row.side).route_by_number(RouteNo(row.number));
+        let agency = renumbered(source.agency_id, agencies.numbers(row.side));
+        list.push(with_id(alloc, source, row.id.as_str(), agency)?)?;
+    }
+    Ok(List::new(list))
+}
+
+// What the number of an agency became.
+fn renumbered(agency: AgencyNo, numbers: &[usize]) -> AgencyNo
+    requires { agency.0 < length numbers.now }
+    ensures { result.0 ≡ slice_index_or numbers.now agency.0 0 }
+{
+    AgencyNo(numbers[agency.0])
+}
+
+// The route under another id, with this agency.
+fn with_id(alloc: Global, route: &Route, id: &str, agency: AgencyNo) -> Result<Route, OutOfMemory>
+    ensures { IfOk result (λ other. other
+        ≡ record route.now { route_id = id.now; agency_id = agency }) }
+{
+    Ok(Route {
+        route_id: own(alloc, id)?,
+        agency_id: agency,
+        route_short_name: copied_if_any(alloc, &route.route_short_name)?,
+        route_long_name: copied_if_any(alloc, &route.route_long_name)?,
+        route_desc: copied_if_any(alloc, &route.route_desc)?,
+        route_type: route.route_type,
+        route_url: copied_if_any(alloc, &route.route_url)?,
+        route_color: route.route_color,
+        route_text_color: route.route_text_color,
+        route_sort_order: route.route_sort_order,
+    })
+}

@@ -1,0 +1,45 @@
+ghost use Rattle.std.specs.Prelude.{◌≡◌, IfOk, map};
+ghost use Rattle.gtfs_rows.specs.Views.{service_of};
+ghost use Rattle.gtfs_merge.specs.KindRows.{AreKindRows};
+ghost use Rattle.gtfs_merge.specs.Sides.{merged_parts};
+ghost use Rattle.gtfs_merge.specs.declared.kind.Kind.TheVariants as kind;
+
+use crate::copies::own;
+use crate::kind_rows::KindRows;
+use crate::sides::side_of;
+use gtfs_days::Service;
+use gtfs_feed::Feed;
+use gtfs_field::{List, OutOfMemory};
+use gtfs_rows::{ServiceNo, ServiceRow};
+use std::alloc::Global;
+
+// The services of the merged feed.
+pub(crate) fn merged_services(
+    alloc: Global,
+    a: &Feed,
+    b: &Feed,
+    services: &KindRows,
+) -> Result<List<ServiceRow>, OutOfMemory>
+    requires { AreKindRows kind.Service a.now b.now services.now }
+    ensures { IfOk result (λ list. map service_of list ≡ (merged_parts a.now b.now).services) }
+{
+    let rows = services.rows();
+    let mut list = Vec::with_capacity(alloc, rows.len())?;
+    for place in 0..rows.len() {
+        let row = &rows[place];
+        let source = side_of(a, b, row.side).service_by_number(ServiceNo(row.number));
+        list.push(with_id(alloc, source, row.id.as_str())?)?;
+    }
+    Ok(List::new(list))
+}
+
+// A service under this id.
+fn with_id(alloc: Global, service: &Service, id: &str) -> Result<ServiceRow, OutOfMemory>
+    ensures { IfOk result (λ other. other
+        ≡ record { service_id = id.now; service = service.now }) }
+{
+    Ok(ServiceRow {
+        service_id: own(alloc, id)?,
+        service: Service::new(alloc, service.week().copied(), service.exceptions())?,
+    })
+}

@@ -1,0 +1,78 @@
+ghost use Rattle.std.specs.Prelude.{◌≡◌, ◌<◌, IfOk, IfSome, length, map, option_map, slice_index_or, true};
+ghost use Rattle.std.specs.List.{list_all};
+ghost use Rattle.gtfs_parts.specs.Named.{names_parent, stop_named};
+ghost use Rattle.gtfs_merge.specs.KindRows.{AreKindRows};
+ghost use Rattle.gtfs_merge.specs.Sides.{merged_ids, merged_parts};
+ghost use Rattle.gtfs_merge.specs.declared.kind.Kind.TheVariants as kind;
+
+use crate::copies::{copied_if_any, own};
+use crate::kind_rows::KindRows;
+use crate::sides::side_of;
+use gtfs_feed::Feed;
+use gtfs_field::{List, OutOfMemory};
+use gtfs_rows::{Stop, StopNo};
+use std::alloc::Global;
+
+// The stops of the merged feed.
+pub(crate) fn merged_stops(
+    alloc: Global,
+    a: &Feed,
+    b: &Feed,
+    stops: &KindRows,
+) -> Result<List<Stop>, OutOfMemory>
+    requires { AreKindRows kind.Stop a.now b.now stops.now }
+    ensures rows { IfOk result (λ list. map (stop_named (merged_ids kind.Stop a.now b.now)) list
+        ≡ (merged_parts a.now b.now).stops) }
+    ensures parents { IfOk result (λ list.
+        list_all (names_parent (merged_ids kind.Stop a.now b.now)) list ≡ true) }
+{
+    a.soundness();
+    b.soundness();
+    let rows = stops.rows();
+    let mut list = Vec::with_capacity(alloc, rows.len())?;
+    for place in 0..rows.len() {
+        let row = &rows[place];
+        let source = side_of(a, b, row.side).stop_by_number(StopNo(row.number));
+        let parent = renumbered(source.parent_station, stops.numbers(row.side));
+        list.push(with_id(alloc, source, row.id.as_str(), parent)?)?;
+    }
+    Ok(List::new(list))
+}
+
+// What the number of a stop became, if there is one.
+fn renumbered(stop: Option<StopNo>, numbers: &[usize]) -> Option<StopNo>
+    requires { IfSome stop (λ n. n.0 < length numbers.now) }
+    ensures { option_map (λ n. n.0) result
+        ≡ option_map (λ n. slice_index_or numbers.now n.0 0) stop }
+{
+    match stop {
+        Some(stop) => Some(StopNo(numbers[stop.0])),
+        None => None,
+    }
+}
+
+// The stop under another id, with this parent.
+fn with_id(
+    alloc: Global,
+    stop: &Stop,
+    id: &str,
+    parent: Option<StopNo>,
+) -> Result<Stop, OutOfMemory>
+    ensures { IfOk result (λ other. other
+        ≡ record stop.now { stop_id = id.now; parent_station = parent }) }
+{
+    Ok(Stop {
+        stop_id: own(alloc, id)?,
+        stop_code: copied_if_any(alloc, &stop.stop_code)?,
+        stop_name: copied_if_any(alloc, &stop.stop_name)?,
+        tts_stop_name: copied_if_any(alloc, &stop.tts_stop_name)?,
+        stop_desc: copied_if_any(alloc, &stop.stop_desc)?,
+        stop_lat: stop.stop_lat,
+        stop_lon: stop.stop_lon,
+        stop_url: copied_if_any(alloc, &stop.stop_url)?,
+        location_type: stop.location_type,
+        parent_station: parent,
+        wheelchair_boarding: stop.wheelchair_boarding,
+        platform_code: copied_if_any(alloc, &stop.platform_code)?,
+    })
+}

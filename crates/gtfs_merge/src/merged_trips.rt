@@ -1,0 +1,87 @@
+ghost use Rattle.std.specs.Prelude.{◌≡◌, ◌<◌, IfOk, length, map, slice_index_or, true};
+ghost use Rattle.std.specs.List.{list_all};
+ghost use Rattle.gtfs_parts.specs.Named.{names_route_and_service, trip_named, without_rows};
+ghost use Rattle.gtfs_merge.specs.KindRows.{AreKindRows};
+ghost use Rattle.gtfs_merge.specs.Sides.{merged_ids, merged_parts};
+ghost use Rattle.gtfs_merge.specs.declared.kind.Kind.TheVariants as kind;
+
+use crate::copies::{copied_if_any, own};
+use crate::kind_rows::KindRows;
+use crate::sides::side_of;
+use gtfs_feed::Feed;
+use gtfs_field::{List, OutOfMemory};
+use gtfs_rows::{RouteNo, ServiceNo, Trip, TripNo};
+use std::alloc::Global;
+
+// The trips of the merged feed.
+pub(crate) fn merged_trips(
+    alloc: Global,
+    a: &Feed,
+    b: &Feed,
+    trips: &KindRows,
+    routes: &KindRows,
+    services: &KindRows,
+) -> Result<List<Trip>, OutOfMemory>
+    requires trips { AreKindRows kind.Trip a.now b.now trips.now }
+    requires routes { AreKindRows kind.Route a.now b.now routes.now }
+    requires services { AreKindRows kind.Service a.now b.now services.now }
+    ensures rows { IfOk result (λ list. map (trip_named (merged_ids kind.Route a.now b.now)
+        (merged_ids kind.Service a.now b.now)) list
+        ≡ map without_rows (merged_parts a.now b.now).trips) }
+    ensures references { IfOk result (λ list. list_all (names_route_and_service
+        (merged_ids kind.Route a.now b.now) (merged_ids kind.Service a.now b.now)) list ≡ true) }
+{
+    a.soundness();
+    b.soundness();
+    let rows = trips.rows();
+    let mut list = Vec::with_capacity(alloc, rows.len())?;
+    for place in 0..rows.len() {
+        let row = &rows[place];
+        let source = side_of(a, b, row.side).trip_by_number(TripNo(row.number));
+        let route_numbers = routes.numbers(row.side);
+        let route = renumbered_route(source.route_id, route_numbers);
+        let service_numbers = services.numbers(row.side);
+        let service = renumbered_service(source.service_id, service_numbers);
+        list.push(with_id(alloc, source, row.id.as_str(), route, service)?)?;
+    }
+    Ok(List::new(list))
+}
+
+// What the number of a route became.
+fn renumbered_route(route: RouteNo, numbers: &[usize]) -> RouteNo
+    requires { route.0 < length numbers.now }
+    ensures { result.0 ≡ slice_index_or numbers.now route.0 0 }
+{
+    RouteNo(numbers[route.0])
+}
+
+// What the number of a service became.
+fn renumbered_service(service: ServiceNo, numbers: &[usize]) -> ServiceNo
+    requires { service.0 < length numbers.now }
+    ensures { result.0 ≡ slice_index_or numbers.now service.0 0 }
+{
+    ServiceNo(numbers[service.0])
+}
+
+// The trip under another id, with this route and this service.
+fn with_id(
+    alloc: Global,
+    trip: &Trip,
+    id: &str,
+    route: RouteNo,
+    service: ServiceNo,
+) -> Result<Trip, OutOfMemory>
+    ensures { IfOk result (λ other. other
+        ≡ record trip.now { trip_id = id.now; route_id = route; service_id = service }) }
+{
+    Ok(Trip {
+        route_id: route,
+        service_id: service,
+        trip_id: own(alloc, id)?,
+        trip_headsign: copied_if_any(alloc, &trip.trip_headsign)?,
+        trip_short_name: copied_if_any(alloc, &trip.trip_short_name)?,
+        direction_id: trip.direction_id,
+        wheelchair_accessible: trip.wheelchair_accessible,
+        bikes_allowed: trip.bikes_allowed,
+    })
+}
