@@ -1,0 +1,120 @@
+//! The lanes of a stop, walked from their beginnings, beside the plain list of its events.
+
+use gtfs_feed::Feed;
+use gtfs_field::OutOfMemory;
+use gtfs_rows::{ServiceNo, StopNo, TripNo};
+use gtfs_runs::{Event, Lane, Seek, Steps, StopLanes, flat_events};
+use std::alloc::Global;
+use std::process::Abort;
+use std::test::Fail;
+
+/// How many lanes of each kind there are, and the latest second of an event.
+#[derive(Clone, Copy, Debug, PartialEq, Eq)]
+pub(crate) struct Wanted {
+    pub(crate) lists: usize,
+    pub(crate) periods: usize,
+    pub(crate) greatest: u32,
+}
+
+impl Wanted {
+    /// Of a stop that nothing leaves.
+    pub(crate) const NONE: Wanted = Wanted {
+        lists: 0,
+        periods: 0,
+        greatest: 0,
+    };
+}
+
+// Before every event.
+const BEGINNING: Seek = Seek {
+    at: i64::MIN,
+    trip: TripNo(0),
+    run: 0,
+    seq: -1,
+};
+
+// No lane of a test has more events.
+const MOST: usize = 100_000;
+
+// The place of an event, or of this sequence beside it.
+fn seek_at(event: &Event, seq: i64) -> Seek {
+    Seek {
+        at: i64::from(event.at),
+        trip: event.trip,
+        run: event.run,
+        seq,
+    }
+}
+
+// A lane's events, one after the other: one call for the first, and three for each event. A seek at an event finds the
+// next one, and a seek at the sequence before finds the event.
+fn walk<L: Lane>(
+    rt: &impl Abort,
+    feed: &Feed,
+    lane: &L,
+    steps: &mut Steps,
+    events: &mut Vec<(ServiceNo, Event)>,
+) -> Result<(), OutOfMemory> {
+    let mut found = lane.first_after(feed, &BEGINNING, steps);
+    for _ in 0..MOST {
+        let Some(event) = found else {
+            return Ok(());
+        };
+        events.push((lane.service(), event))?;
+        found = lane.next(feed, &event, steps);
+        let seq = i64::from(event.seq);
+        assert_eq!(rt; lane.first_after(feed, &seek_at(&event, seq), steps), found);
+        assert_eq!(rt;
+            lane.first_after(feed, &seek_at(&event, seq - 1), steps),
+            Some(event)
+        );
+    }
+    Ok(())
+}
+
+// The events of all lanes, in the order of the plain list.
+fn walk_all(
+    rt: &impl Abort,
+    alloc: Global,
+    feed: &Feed,
+    lanes: &StopLanes,
+    steps: &mut Steps,
+) -> Result<Vec<(ServiceNo, Event)>, OutOfMemory> {
+    let mut events = Vec::new(alloc);
+    for lane in lanes.lists() {
+        walk(rt, feed, lane, steps, &mut events)?;
+    }
+    for lane in lanes.periods() {
+        walk(rt, feed, lane, steps, &mut events)?;
+    }
+    events.sort_unstable();
+    Ok(events)
+}
+
+/// The stop has as many lanes as is wanted, which together have its events, each once, and count each call.
+pub(crate) fn assert_lanes(
+    rt: &impl Abort,
+    alloc: Global,
+    feed: &Feed,
+    stop: StopNo,
+    wanted: Wanted,
+    what: &str,
+) -> Result<(), Fail> {
+    assert!(rt; stop.0 < feed.stop_count());
+    let (lanes, mut steps) = StopLanes::build(alloc, feed, stop)?;
+    let found = Wanted {
+        lists: lanes.lists().len(),
+        periods: lanes.periods().len(),
+        greatest: lanes.greatest(),
+    };
+    assert_eq!(rt; found, wanted, "{what}");
+    assert_eq!(rt; steps.count(), 0, "{what}");
+    let events = walk_all(rt, alloc, feed, &lanes, &mut steps)?;
+    assert!(rt; events == flat_events(alloc, feed, stop)?, "{what}");
+    let calls = events.len().saturating_mul(3);
+    let calls = calls
+        .saturating_add(wanted.lists)
+        .saturating_add(wanted.periods);
+    assert_eq!(rt; steps.count(), calls as u64, "{what}");
+    Ok(())
+}

@@ -1,0 +1,37 @@
+//! The tests of the feed and of what passes its stops (`gtfs_feed`, `gtfs_runs` and the crates below them down to
+//! `gtfs_rows`), in a crate of their own: a crate with tests is proved twice, with them and without. They call public
+//! functions alone.
+//!
+//! - `dataset` is a small dataset, and makes feeds of it and of changes to it.
+//! - `full` is one with a value in every column, in texts and orders other than those that are written.
+//! - `ids` has the numbers of ids, `orders` rows in every order, and `rows` what the rows of a feed say.
+//! - `written` has the written form of feeds, and `again` feeds that are written and read again.
+//! - `events` has what passes a stop, by worked cases, and `lanes` walks the lanes of each of them; `seeks` asks a lane
+//!   from places between its events, and `unions` all lanes of each stop together.
+//! - `patterns` compares the patterns of a route with those that a slow plain search finds.
+#![tactic(auto)]
+
+#[cfg(test)]
+mod again;
+#[cfg(test)]
+mod dataset;
+#[cfg(test)]
+mod events;
+#[cfg(test)]
+mod full;
+#[cfg(test)]
+mod ids;
+#[cfg(test)]
+mod lanes;
+#[cfg(test)]
+mod orders;
+#[cfg(test)]
+mod patterns;
+#[cfg(test)]
+mod rows;
+#[cfg(test)]
+mod seeks;
+#[cfg(test)]
+mod unions;
+#[cfg(test)]
+mod written;

@@ -1,0 +1,87 @@
+//! A lane that is asked from places before, at, between and past its events.
+
+use crate::dataset::{feed_with, stop_named};
+use gtfs_feed::Feed;
+use gtfs_rows::TripNo;
+use gtfs_runs::{Lane, Seek, Steps, StopLanes};
+use std::process::Abort;
+use std::test::Fail;
+
+// A second, a trip, a run and a sequence, with the second of the least event above.
+type Asked = (i64, usize, u32, i64, Option<u32>);
+
+fn assert_first<L: Lane>(
+    rt: &impl Abort,
+    feed: &Feed,
+    lane: &L,
+    steps: &mut Steps,
+    asked: &[Asked],
+) {
+    for (at, trip, run, seq, wanted) in asked {
+        let seek = Seek {
+            at: *at,
+            trip: TripNo(*trip),
+            run: *run,
+            seq: *seq,
+        };
+        let found = lane.first_after(feed, &seek, steps);
+        assert_eq!(rt; found.map(|event| event.at), *wanted, "{seek:?}");
+    }
+}
+
+// Runs at 21,600 and 23,400 with sequence 1.
+const OF_A_PERIOD: &[Asked] = &[
+    (i64::MIN, 0, 0, -1, Some(21_600)),
+    (21_599, 9, 0, 0, Some(21_600)),
+    (21_600, 0, 0, 0, Some(21_600)),
+    (21_600, 0, 21_600, 0, Some(21_600)),
+    (21_600, 0, 21_600, 1, Some(23_400)),
+    (21_600, 0, 21_601, 0, Some(23_400)),
+    (21_600, 1, 0, -1, Some(23_400)),
+    (23_399, 0, 0, 0, Some(23_400)),
+    (23_400, 0, 23_400, 0, Some(23_400)),
+    (23_400, 0, 23_400, 1, None),
+    (23_401, 0, 0, -1, None),
+    (i64::MAX, 0, 0, -1, None),
+];
+
+#[test]
+fn a_period_is_asked_from_any_place(rt: HostRuntime) -> Result<(), Fail> {
+    let frequencies = "trip_id,start_time,end_time,headway_secs\nT1,06:00:00,07:00:00,1800\n";
+    let feed = feed_with(&rt, rt.alloc(), &[("frequencies.txt", frequencies)])?;
+    let stop = stop_named(&rt, &feed, "S1");
+    let (lanes, mut steps) = StopLanes::build(rt.alloc(), &feed, stop)?;
+    let [lane] = lanes.periods() else {
+        panic!(rt; "{} periods", lanes.periods().len());
+    };
+    assert_first(&rt, &feed, lane, &mut steps, OF_A_PERIOD);
+    Ok(())
+}
+
+// The trips T10 and T2 at 90,600, with the numbers 0 and 1.
+const OF_A_LIST: &[Asked] = &[
+    (i64::MIN, 0, 0, -1, Some(90_600)),
+    (90_600, 0, 90_600, 1, Some(90_600)),
+    (90_600, 1, 90_600, 0, Some(90_600)),
+    (90_600, 1, 90_600, 1, None),
+    (90_600, 2, 0, -1, None),
+    (90_601, 0, 0, -1, None),
+    (i64::MAX, 0, 0, -1, None),
+];
+
+#[test]
+fn a_list_is_asked_from_any_place(rt: HostRuntime) -> Result<(), Fail> {
+    let trips = "route_id,service_id,trip_id\nR1,C1,T2\nR1,C1,T10\n";
+    let stop_times = "trip_id,arrival_time,departure_time,stop_id,stop_sequence\n\
+T2,25:10:00,25:10:00,S1,1\nT2,25:20:00,25:20:00,S2,2\nT10,25:10:00,25:10:00,S1,1\nT10,25:20:00,25:20:00,S2,2\n";
+    let files = [("trips.txt", trips), ("stop_times.txt", stop_times)];
+    let feed = feed_with(&rt, rt.alloc(), &files)?;
+    let stop = stop_named(&rt, &feed, "S1");
+    let (lanes, mut steps) = StopLanes::build(rt.alloc(), &feed, stop)?;
+    let [lane] = lanes.lists() else {
+        panic!(rt; "{} lists", lanes.lists().len());
+    };
+    assert_first(&rt, &feed, lane, &mut steps, OF_A_LIST);
+    assert_eq!(rt; steps.count(), OF_A_LIST.len() as u64);
+    Ok(())
+}
