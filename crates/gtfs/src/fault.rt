@@ -1,6 +1,6 @@
 //! What the program itself has to say.
 ghost use Rattle.std.specs.Prelude.{◌≡◌};
-ghost use Rattle.gtfs.specs.declared.fault.Fault.TheVariants.{BadWords, OutputFailed, OutOfMemory};
+ghost use Rattle.gtfs.specs.declared.fault.Fault.TheVariants.{BadWords, NoRandomSource, OutputFailed, OutOfMemory};
 
 use thiserror::Error;
 
@@ -10,6 +10,9 @@ pub enum Fault {
     /// A word is not UTF-8.
     #[error("bad words")]
     BadWords,
+    /// The system gives no random bytes.
+    #[error("no random source")]
+    NoRandomSource,
     /// The buffer of the standard output could not be flushed.
     #[error("output failed")]
     OutputFailed,
@@ -23,6 +26,7 @@ impl Fault {
     pub fn line(self) -> &'static str {
         match self {
             Fault::BadWords => "gtfs: bad words\n",
+            Fault::NoRandomSource => "gtfs: no random source\n",
             Fault::OutputFailed => "gtfs: output failed\n",
             Fault::OutOfMemory => "gtfs: out of memory\n",
         }
@@ -31,12 +35,13 @@ impl Fault {
     /// The exit status.
     pub fn status(self) -> u8
         ensures words { self ≡ BadWords → result ≡ 2 }
+        ensures random { self ≡ NoRandomSource → result ≡ 3 }
         ensures output { self ≡ OutputFailed → result ≡ 3 }
         ensures memory { self ≡ OutOfMemory → result ≡ 4 }
     {
         match self {
             Fault::BadWords => 2,
-            Fault::OutputFailed => 3,
+            Fault::NoRandomSource | Fault::OutputFailed => 3,
             Fault::OutOfMemory => 4,
         }
     }

@@ -1,6 +1,6 @@
 //! The program `gtfs`: the library `gtfs_cli` over the words of the command line, the disk, the standard output
-//! and the error output. Two things it reports itself: what keeps it from calling that library, and a buffer of the
-//! standard output that could not be flushed.
+//! and the error output. Two things it reports itself: what keeps it from calling that library, as words that are
+//! not UTF-8 or a system without random bytes, and a buffer of the standard output that could not be flushed.
 #![tactic(auto)]
 
 ghost use Rattle.std.specs.Prelude.{◌≡◌, ◌≤◌, [], IfOk, IfErr, OnOk, OnErr};
@@ -15,9 +15,11 @@ mod words;
 use fault::Fault;
 use gtfs_cli::run;
 use gtfs_table::{DiskFolders, Out, WriteOut, write_text};
+use std::hash::RandomState;
 use std::io;
 use std::io::{BufWriter, Write};
 use std::process::ExitCode;
+use std::random::RandomSource;
 use std::rt::Runtime;
 use words::read_words;
 
@@ -33,13 +35,17 @@ fn main(rt: HostRuntime) -> ExitCode {
 }
 
 /// Answers the words of the command line, and gives the status.
-fn answer<R: Runtime + AllocGlobal, E: Out>(rt: &R, err: &mut E) -> Result<u8, Fault> {
+fn answer<R: Runtime + RandomSource + AllocGlobal, E: Out>(
+    rt: &R,
+    err: &mut E,
+) -> Result<u8, Fault> {
     let alloc = rt.alloc();
     let words = read_words(rt)?;
+    let random = RandomState::new(rt).map_err(|_| Fault::NoRandomSource)?;
     let writer = BufWriter::new(alloc, io::writer(rt)).map_err(|_| Fault::OutOfMemory)?;
     let mut out = WriteOut::new(writer);
     let mut disk = DiskFolders::new(rt);
-    let status = run(alloc, words.as_slice(), &mut disk, &mut out, err);
+    let status = run(alloc, random, words.as_slice(), &mut disk, &mut out, err);
     close(&mut out, status)
 }
 

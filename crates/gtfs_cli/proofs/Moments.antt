@@ -16,8 +16,8 @@ use Rattle.gtfs_field.specs.declared.fault.FieldFault.{FieldFault}
 use Rattle.gtfs_days.specs.Service.{first_service_day, is_service_day, last_service_day}
 use Rattle.clap.specs.Lexer.{strip_byte}
 use Rattle.gtfs_cli.specs.Running.{after_at, service_day}
-use Rattle.gtfs_cli.specs.Board.{is_span}
-use Rattle.gtfs_cli.specs.declared.board.span.Span.{Span}
+use Rattle.gtfs_board.specs.Span.{is_span}
+use Rattle.gtfs_board.specs.declared.span.Span.{Span}
 
 shaped-ok : {V : Type 0} (b : Bool) (r : Result V FieldFault) (v : V) → shaped b r ≡ Ok v → (b ≡ true) × (r ≡ Ok v)
 shaped-ok true r v h = (refl, h)

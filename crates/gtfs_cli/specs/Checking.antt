@@ -3,11 +3,11 @@ use Rattle.std.specs.Prelude.{◌≡◌, ℕ, ◌+◌, Bool, not, List, ◌++◌
 use Rattle.std.specs.Io.KnownBytes.{Appends}
 use Rattle.gtfs_table.specs.Device.{Rises}
 use Rattle.gtfs_table.specs.Folder.{Store}
-use Rattle.gtfs_table.specs.Reading.{HoldsDataset}
 use Rattle.gtfs_table.specs.Tables.{Dataset}
 use Rattle.gtfs_columns.specs.Codes.{code_name, code_text}
 use Rattle.gtfs_columns.specs.Problems.{Problem, name_bytes, passes, IsReport}
 use Rattle.gtfs_rules.specs.Report.{report_text}
+use Rattle.gtfs_cli.specs.Running.{HoldsTables}
 use Rattle.gtfs_cli.specs.declared.commands.refusal.Refusal.{Refusal}
 use Rattle.gtfs_cli.specs.declared.commands.refusal.Refusal.TheVariants.{Words, BadValue, NotThere, Unreadable, OverLimit, HasErrors, NoZone, UnknownStop, UntilBeforeFrom, OutputFailed, OutOfMemory}
 
@@ -25,10 +25,10 @@ pub record Prints (before after : Option (List ℕ)) (ps : List Problem) (failed
   pub answer : failed ≡ not (passes ps)
 
 -- that of the report of the dataset that the folder holds
-pub record IsReportOf (held : Option Store) (dir : List ℕ) (before after : Option (List ℕ)) (failed : Bool) : Type 0 where
+pub record IsReportOf (limit : ℕ) (held : Option Store) (dir : List ℕ) (before after : Option (List ℕ)) (failed : Bool) : Type 0 where
   pub dataset : Dataset
   pub problems : List Problem
-  pub holds : HoldsDataset held dir dataset
+  pub holds : HoldsTables limit held dir dataset
   pub is_report : IsReport dataset problems
   pub prints : Prints before after problems failed
 

@@ -1,18 +1,17 @@
 -- Why a command was not done: each refusal, its status and when it comes.
-use Rattle.std.specs.Prelude.{◌≡◌, ◌⊎◌, ◌<◌, ◌^◌, ℕ, true, false, List, Option, Some, unsigned_abs, ⊤}
-use Rattle.clap.specs.Words.{Text, takes}
+use Rattle.std.specs.Prelude.{◌≡◌, ◌⊎◌, ◌<◌, ◌^◌, ℕ, true, List, Option, Some, unsigned_abs, ⊤}
+use Rattle.clap.specs.Words.{Text}
 use Rattle.gtfs_days.specs.Service.{is_service_day}
 use Rattle.gtfs_table.specs.Device.{Rises}
 use Rattle.gtfs_table.specs.Folder.{Store}
 use Rattle.gtfs_table.specs.declared.folders.FolderFault.{FolderFault}
 use Rattle.gtfs_table.specs.declared.folders.FolderFault.TheVariants as faults
-use Rattle.gtfs_cli.specs.CommandLine.{gtfs_app}
-use Rattle.gtfs_cli.specs.Running.{moment_of, AsksCheck, AsksFor, EndsBeforeItBegins, Failures, HasBadValue, HoldsFile, HoldsKeptFile, HoldsNoZone, LacksFeed, LacksFile, NamesNoFile}
+use Rattle.gtfs_cli.specs.CommandLine.{AreForHelp, AreRefused, BoardTexts}
+use Rattle.gtfs_cli.specs.Running.{first_bad, AsksCheck, AsksFor, EndsBeforeItBegins, Failures, HasValues, HoldsErrors, HoldsFile, HoldsKeptFile, HoldsNoZone, HoldsPassing, LacksFeed, LacksFile, LacksStop, NamesNoFile}
 use Rattle.gtfs_cli.specs.declared.commands.moments.Moment.{Moment}
 use Rattle.gtfs_cli.specs.declared.commands.moments.Moment.TheVariants.{Instant, ServiceDay}
 use Rattle.gtfs_cli.specs.declared.commands.refusal.Refusal.{Refusal}
 use Rattle.gtfs_cli.specs.declared.commands.refusal.Refusal.TheVariants.{Words, BadValue, NotThere, Unreadable, OverLimit, HasErrors, NoZone, UnknownStop, UntilBeforeFrom, OutputFailed, OutOfMemory}
-use Rattle.gtfs_cli.specs.declared.words.BoardWords.{BoardWords}
 
 abbrev pub status_of : Refusal → ℕ
 status_of (Words text) = 2
@@ -27,37 +26,45 @@ status_of UntilBeforeFrom = 2
 status_of OutputFailed = 3
 status_of OutOfMemory = 4
 
--- when a refusal comes where the words ask for a board
-abbrev pub IsCause : Option Store → BoardWords → Failures → Failures → Refusal → Type 0
-IsCause held words before after (Words text) = ⊥
-IsCause held words before after (BadValue option) = HasBadValue words
-IsCause held words before after (NotThere path) = LacksFeed held words.dir.now ⊎ LacksFile held words.zone.now
-IsCause held words before after (Unreadable path) = Rises before.folders after.folders ⊎ NamesNoFile words.zone.now
-IsCause held words before after (OverLimit path) = HoldsKeptFile held words.dir.now ⊎ HoldsFile held words.zone.now
-IsCause held words before after (HasErrors path) = ⊤
-IsCause held words before after (NoZone path) = HoldsNoZone held words.zone.now
-IsCause held words before after UnknownStop = ⊤
-IsCause held words before after UntilBeforeFrom = EndsBeforeItBegins held words
-IsCause held words before after OutputFailed = Rises before.output after.output
-IsCause held words before after OutOfMemory = ⊤
+-- when a refusal comes where the words ask for a board: that it names the option or the path that is at fault, and that all that is
+-- judged before was found good
+abbrev pub IsCause : ℕ → Option Store → BoardTexts → Failures → Failures → Refusal → Type 0
+IsCause limit held asked before after (Words text) = ⊥
+IsCause limit held asked before after (BadValue option) = first_bad asked ≡ Some option.now
+IsCause limit held asked before after (NotThere path) = HasValues asked × (
+    ((path.now ≡ asked.dir) × LacksFeed held asked.dir)
+    ⊎ ((path.now ≡ asked.zone) × HoldsPassing limit held asked.dir × LacksFile held asked.zone))
+IsCause limit held asked before after (Unreadable path) = HasValues asked × (
+    ((path.now ≡ asked.dir) × Rises before.folders after.folders)
+    ⊎ ((path.now ≡ asked.zone) × HoldsPassing limit held asked.dir × (Rises before.folders after.folders ⊎ NamesNoFile asked.zone)))
+IsCause limit held asked before after (OverLimit path) = HasValues asked × (
+    ((path.now ≡ asked.dir) × HoldsKeptFile limit held asked.dir)
+    ⊎ ((path.now ≡ asked.zone) × HoldsPassing limit held asked.dir × HoldsFile limit held asked.zone))
+IsCause limit held asked before after (HasErrors path) = HasValues asked × (path.now ≡ asked.dir) × HoldsErrors limit held asked.dir
+IsCause limit held asked before after (NoZone path) =
+    HasValues asked × (path.now ≡ asked.zone) × HoldsPassing limit held asked.dir × HoldsNoZone limit held asked.zone
+IsCause limit held asked before after UnknownStop = LacksStop limit held asked
+IsCause limit held asked before after UntilBeforeFrom = EndsBeforeItBegins limit held asked
+IsCause limit held asked before after OutputFailed = Rises before.output after.output
+IsCause limit held asked before after OutOfMemory = ⊤
 
 -- when a refusal comes where the folder is to be checked, and that it names that folder
-abbrev pub IsCheckCause : Option Store → List ℕ → Failures → Failures → Refusal → Type 0
-IsCheckCause held dir before after (Words text) = ⊥
-IsCheckCause held dir before after (BadValue option) = ⊥
-IsCheckCause held dir before after (NotThere path) = (path.now ≡ dir) × LacksFeed held dir
-IsCheckCause held dir before after (Unreadable path) = (path.now ≡ dir) × Rises before.folders after.folders
-IsCheckCause held dir before after (OverLimit path) = (path.now ≡ dir) × HoldsKeptFile held dir
-IsCheckCause held dir before after (HasErrors path) = ⊥
-IsCheckCause held dir before after (NoZone path) = ⊥
-IsCheckCause held dir before after UnknownStop = ⊥
-IsCheckCause held dir before after UntilBeforeFrom = ⊥
-IsCheckCause held dir before after OutputFailed = Rises before.output after.output
-IsCheckCause held dir before after OutOfMemory = ⊤
+abbrev pub IsCheckCause : ℕ → Option Store → List ℕ → Failures → Failures → Refusal → Type 0
+IsCheckCause limit held dir before after (Words text) = ⊥
+IsCheckCause limit held dir before after (BadValue option) = ⊥
+IsCheckCause limit held dir before after (NotThere path) = (path.now ≡ dir) × LacksFeed held dir
+IsCheckCause limit held dir before after (Unreadable path) = (path.now ≡ dir) × Rises before.folders after.folders
+IsCheckCause limit held dir before after (OverLimit path) = (path.now ≡ dir) × HoldsKeptFile limit held dir
+IsCheckCause limit held dir before after (HasErrors path) = ⊥
+IsCheckCause limit held dir before after (NoZone path) = ⊥
+IsCheckCause limit held dir before after UnknownStop = ⊥
+IsCheckCause limit held dir before after UntilBeforeFrom = ⊥
+IsCheckCause limit held dir before after OutputFailed = Rises before.output after.output
+IsCheckCause limit held dir before after OutOfMemory = ⊤
 
--- the same of the words alone
-abbrev pub IsCauseInWords : List Text → Failures → Failures → Refusal → Type 0
-IsCauseInWords texts before after (Words text) = takes gtfs_app texts ≡ false
+-- when a refusal comes for words alone, which ask for help or are no usage; the counts are those of the output's failures, before and after
+abbrev pub IsCauseInWords : List Text → ℕ → ℕ → Refusal → Type 0
+IsCauseInWords texts before after (Words text) = AreRefused texts
 IsCauseInWords texts before after (BadValue option) = ⊥
 IsCauseInWords texts before after (NotThere path) = ⊥
 IsCauseInWords texts before after (Unreadable path) = ⊥
@@ -66,31 +73,38 @@ IsCauseInWords texts before after (HasErrors path) = ⊥
 IsCauseInWords texts before after (NoZone path) = ⊥
 IsCauseInWords texts before after UnknownStop = ⊥
 IsCauseInWords texts before after UntilBeforeFrom = ⊥
-IsCauseInWords texts before after OutputFailed = Rises before.output after.output
+IsCauseInWords texts before after OutputFailed = AreForHelp texts × Rises before after
 IsCauseInWords texts before after OutOfMemory = ⊤
 
 -- when a refusal comes
-abbrev pub IsCauseOf : List Text → Option Store → Failures → Failures → Refusal → Type 0
-IsCauseOf texts held before after refusal =
-    IsCauseInWords texts before after refusal
-    ⊎ (AsksCheck texts (λ dir. IsCheckCause held dir before after refusal) ⊎ AsksFor texts (λ words. IsCause held words before after refusal))
+abbrev pub IsCauseOf : List Text → ℕ → Option Store → Failures → Failures → Refusal → Type 0
+IsCauseOf texts limit held before after refusal =
+    IsCauseInWords texts before.output after.output refusal
+    ⊎ (AsksCheck texts (λ dir. IsCheckCause limit held dir before after refusal) ⊎ AsksFor texts (λ asked. IsCause limit held asked before after refusal))
 
--- when a fault of the folders comes, by what it is told as
-abbrev pub IsFaultCause : Option Store → BoardWords → Failures → Failures → FolderFault → Type 0
-IsFaultCause held words before after faults.Read = Rises before.folders after.folders
-IsFaultCause held words before after faults.TooLarge = HoldsKeptFile held words.dir.now ⊎ HoldsFile held words.zone.now
-IsFaultCause held words before after faults.OutOfMemory = ⊤
-IsFaultCause held words before after faults.NoFolder = LacksFeed held words.dir.now ⊎ LacksFile held words.zone.now
-IsFaultCause held words before after faults.Write = ⊥
+-- why the file of a path is not read
+abbrev pub IsFileCause : ℕ → Option Store → List ℕ → Failures → Failures → FolderFault → Type 0
+IsFileCause limit held path before after faults.Read = Rises before.folders after.folders
+IsFileCause limit held path before after faults.TooLarge = HoldsFile limit held path
+IsFileCause limit held path before after faults.OutOfMemory = ⊤
+IsFileCause limit held path before after faults.NoFolder = LacksFile held path
+IsFileCause limit held path before after faults.Write = ⊥
 
 -- an instant of at most twelve digits, or a service day
 abbrev pub IsSound : Moment → Type 0
 IsSound (Instant x) = unsigned_abs x < 10 ^ 12
 IsSound (ServiceDay d) = is_service_day d ≡ true
 
--- the moments are those of the words
-pub record AreOf (words : BoardWords) (from until : Moment) : Type 0 where
-  pub from_says : moment_of words.from.now ≡ Some from
-  pub until_says : moment_of words.until.now ≡ Some until
-  pub from_sound : IsSound from
-  pub until_sound : IsSound until
+-- the refusal is for the first option whose value is bad
+abbrev pub IsFirstBad : BoardTexts → Refusal → Type 0
+IsFirstBad asked (Words text) = ⊥
+IsFirstBad asked (BadValue option) = first_bad asked ≡ Some option.now
+IsFirstBad asked (NotThere path) = ⊥
+IsFirstBad asked (Unreadable path) = ⊥
+IsFirstBad asked (OverLimit path) = ⊥
+IsFirstBad asked (HasErrors path) = ⊥
+IsFirstBad asked (NoZone path) = ⊥
+IsFirstBad asked UnknownStop = ⊥
+IsFirstBad asked UntilBeforeFrom = ⊥
+IsFirstBad asked OutputFailed = ⊥
+IsFirstBad asked OutOfMemory = ⊥

@@ -1,11 +1,11 @@
 -- How the program ends: what is the matter where it ends with status 2 (usage) or 3 (folders, files and output).
 -- These definitions say nothing about folders whose contents are unknown, such as those of a disk.
-use Rattle.std.specs.Prelude.{◌≡◌, ◌≢◌, ◌<◌, ◌++◌, ◌⊎◌, ⊤, ℕ, slice_index, ◌==◌, false, if◌then◌else◌, codes, length, List, [], ◌∷◌, Option, Some, None, option_map, Result, Ok, Err, ℤ, ◌<ℤ◌}
+use Rattle.std.specs.Prelude.{◌≡◌, ◌≢◌, ◌<◌, ◌≤◌, ◌++◌, ◌⊎◌, ℕ, slice_index, ◌==◌, Bool, not, false, true, is_some, IsSome, if◌then◌else◌, codes, length, List, [], ◌∷◌, find, Option, Some, None, option_map, Result, Ok, Err, ℤ, ◌<ℤ◌}
 use Rattle.std.specs.Borrow.{Bor}
 use Rattle.std.specs.Result.{result_ok}
 use Rattle.std.specs.Path.{slash}
 use Rattle.clap.specs.Words.{Text, subcommand_of, takes}
-use Rattle.gtfs_field.specs.Kinds.{date_of, instant_of}
+use Rattle.gtfs_field.specs.Kinds.{count_of, date_of, instant_of}
 use Rattle.gtfs_field.specs.declared.fault.FieldFault.{FieldFault}
 use Rattle.gtfs_days.specs.Service.{is_service_day}
 use Rattle.gtfs_days.specs.Zone.{zone_origin, IsUnreadable, IsZoneOf}
@@ -13,11 +13,16 @@ use Rattle.gtfs_days.specs.declared.zone.Zone.{Zone}
 use Rattle.gtfs_table.specs.Device.{Rises}
 use Rattle.gtfs_table.specs.Files.{file_name}
 use Rattle.gtfs_table.specs.Folder.{Store, Finds, HasFileOver, LacksFolder}
+use Rattle.gtfs_table.specs.Reading.{kept_files, AllHoldWithin, HoldsDataset}
+use Rattle.gtfs_table.specs.Tables.{Dataset}
 use Rattle.gtfs_table.specs.declared.file.File.{File}
-use Rattle.gtfs_table.specs.declared.folders.FolderFault.{FolderFault}
-use Rattle.gtfs_table.specs.declared.folders.FolderFault.TheVariants as faults
-use Rattle.gtfs_cli.specs.CommandLine.{gtfs_app, IsCommandOf}
-use Rattle.gtfs_cli.specs.Departures.{Origins}
+use Rattle.gtfs_columns.specs.Problems.{Passes}
+use Rattle.gtfs_rows.specs.Reading.{content_of}
+use Rattle.gtfs_board.specs.Board.{is_stop}
+use Rattle.gtfs_board.specs.Departures.{Origins}
+use Rattle.gtfs_board.specs.Key.{Key}
+use Rattle.gtfs_board.specs.KeyTexts.{key_of}
+use Rattle.gtfs_cli.specs.CommandLine.{gtfs_app, texts_of, AreRefused, BoardTexts, IsCommandOf}
 use Rattle.gtfs_cli.specs.declared.commands.moments.Moment.{Moment}
 use Rattle.gtfs_cli.specs.declared.commands.moments.Moment.TheVariants.{Instant, ServiceDay}
 use Rattle.gtfs_cli.specs.declared.words.BoardWords.{BoardWords}
@@ -48,9 +53,46 @@ abbrev pub instant_at : Origins → Moment → ℤ
 instant_at origin (Instant x) = x
 instant_at origin (ServiceDay d) = origin d
 
--- one of the two says nothing
-abbrev pub HasBadValue : BoardWords → Type 0
-HasBadValue words = (moment_of words.from.now ≡ None) ⊎ (moment_of words.until.now ≡ None)
+-- ---- the values of `--limit` and `--after`
+
+-- the most lines that go out: a count, and without one more than any output takes
+abbrev pub limit_of : Option (List ℕ) → Option ℕ
+limit_of None = Some 18_446_744_073_709_551_615
+limit_of (Some text) = result_ok (count_of text)
+
+-- the key after which the lines begin, if any; the text of a key has to be one
+abbrev pub after_of : Option (List ℕ) → Option (Option Key)
+after_of None = Some None
+after_of (Some text) = option_map Some (result_ok (key_of text))
+
+-- ---- the values of all options
+
+-- the options whose texts are judged, in the order of the usage, and whether each has a value
+abbrev pub judged : BoardTexts → List (Text × Bool)
+judged asked = (codes "--from", is_some (moment_of asked.from)) ∷ (codes "--until", is_some (moment_of asked.until))
+    ∷ (codes "--limit", is_some (limit_of asked.limit)) ∷ (codes "--after", is_some (after_of asked.after)) ∷ []
+
+-- the first of them that has none
+abbrev pub first_bad : BoardTexts → Option Text
+first_bad asked = option_map (λ o. o.0) (find (λ o. not o.1) (judged asked))
+
+-- one of them has none
+abbrev pub HasBadValue : BoardTexts → Type 0
+HasBadValue asked = IsSome (first_bad asked)
+
+-- what the options ask for
+pub record Request : Type 0 where
+  pub from : Moment
+  pub until : Moment
+  pub limit : ℕ
+  pub after : Option Key
+
+-- each is the value of its text
+pub record IsRequest (asked : BoardTexts) (r : Request) : Type 0 where
+  pub from : moment_of asked.from ≡ Some r.from
+  pub until : moment_of asked.until ≡ Some r.until
+  pub limit : limit_of asked.limit ≡ Some r.limit
+  pub after : after_of asked.after ≡ Some r.after
 
 -- ---- the file that a path names
 
@@ -71,17 +113,17 @@ pub record OfFile (path : List ℕ) (Fact : List ℕ → List ℕ → Type 0) : 
   pub file : IsFileOf path folder name
   pub fact : Fact folder name
 
--- the folders hold these bytes under the path
-abbrev pub HoldsBytes : Option Store → List ℕ → List ℕ → Type 0
-HoldsBytes held path bytes = OfFile path (λ folder name. Finds held folder name (Some bytes))
+-- the file has a name, under which the folders hold these bytes
+abbrev pub HasBytes : Option Store → List ℕ → List ℕ → List ℕ → Type 0
+HasBytes held bytes folder name = (0 < length name) × Finds held folder name (Some bytes)
 
--- they hold a file of that name which is longer than some limit
-abbrev pub HasLongFile : Option Store → List ℕ → List ℕ → Type 0
-HasLongFile held folder name = (limit : ℕ) × HasFileOver limit held folder name
+-- the folders hold these bytes under the path, and no more than the limit
+abbrev pub HoldsBytes : ℕ → Option Store → List ℕ → List ℕ → Type 0
+HoldsBytes limit held path bytes = OfFile path (HasBytes held bytes) × (length bytes ≤ limit)
 
--- they hold a file under the path which a device refuses to read, as it is over its limit
-abbrev pub HoldsFile : Option Store → List ℕ → Type 0
-HoldsFile held path = OfFile path (λ folder name. HasLongFile held folder name)
+-- they hold a file over the limit under the path
+abbrev pub HoldsFile : ℕ → Option Store → List ℕ → Type 0
+HoldsFile limit held path = OfFile path (λ folder name. HasFileOver limit held folder name)
 
 -- there is no such file, or not its folder
 abbrev pub LacksFile : Option Store → List ℕ → Type 0
@@ -92,15 +134,15 @@ abbrev pub NamesNoFile : List ℕ → Type 0
 NamesNoFile path = OfFile path (λ folder name. name ≡ [])
 
 -- the zone is that of the bytes under the path
-pub record HoldsZone (held : Option Store) (path : List ℕ) (zone : Zone) : Type 0 where
+pub record HoldsZone (limit : ℕ) (held : Option Store) (path : List ℕ) (zone : Zone) : Type 0 where
   pub bytes : List ℕ
-  pub holds : HoldsBytes held path bytes
+  pub holds : HoldsBytes limit held path bytes
   pub is_zone : IsZoneOf bytes zone
 
 -- the bytes under the path are no zone file
-pub record HoldsNoZone (held : Option Store) (path : List ℕ) : Type 0 where
+pub record HoldsNoZone (limit : ℕ) (held : Option Store) (path : List ℕ) : Type 0 where
   pub bytes : List ℕ
-  pub holds : HoldsBytes held path bytes
+  pub holds : HoldsBytes limit held path bytes
   pub unreadable : IsUnreadable bytes
 
 -- ---- the folder of the feed
@@ -109,57 +151,83 @@ pub record HoldsNoZone (held : Option Store) (path : List ℕ) : Type 0 where
 abbrev pub LacksFeed : Option Store → List ℕ → Type 0
 LacksFeed held dir = (dir ≡ []) ⊎ LacksFolder held dir
 
--- it holds one of the files that are read, which a device refuses to read, as it is over its limit
-abbrev pub HoldsKeptFile : Option Store → List ℕ → Type 0
-HoldsKeptFile held dir = (x : File) × HasLongFile held dir (file_name x)
+-- it holds one of the files that are read, and that is over the limit
+abbrev pub HoldsKeptFile : ℕ → Option Store → List ℕ → Type 0
+HoldsKeptFile limit held dir = (x : File) × HasFileOver limit held dir (file_name x)
 
--- why the files of a folder are not read
-abbrev pub RefusesFeed : FolderFault → Option Store → List ℕ → ℕ → ℕ → Type 0
-RefusesFeed faults.Read held dir before after = Rises before after
-RefusesFeed faults.TooLarge held dir before after = HoldsKeptFile held dir
-RefusesFeed faults.OutOfMemory held dir before after = ⊤
-RefusesFeed faults.NoFolder held dir before after = LacksFolder held dir
-RefusesFeed faults.Write held dir before after = ⊥
+-- the folder has a name, it holds this dataset, and none of its files is over the limit
+pub record HoldsTables (limit : ℕ) (held : Option Store) (dir : List ℕ) (d : Dataset) : Type 0 where
+  pub named : 0 < length dir
+  pub holds : HoldsDataset held dir d
+  pub within : AllHoldWithin limit held dir kept_files
 
--- ---- status 2
+-- ---- what is judged before
 
--- until lies before from in the zone of the file
-pub record EndsBeforeItBegins (held : Option Store) (words : BoardWords) : Type 0 where
+-- each option has its value
+abbrev pub HasValues : BoardTexts → Type 0
+HasValues asked = (r : Request) × IsRequest asked r
+
+-- the dataset of the folder passes
+abbrev pub HoldsPassing : ℕ → Option Store → List ℕ → Type 0
+HoldsPassing limit held dir = (d : Dataset) × HoldsTables limit held dir d × Passes d
+
+-- ---- a board, and status 2
+
+-- what a board is made of: the dataset that the folder holds and that passes, the zone of the file, and the values of the options
+pub record Setting (limit : ℕ) (held : Option Store) (asked : BoardTexts) : Type 0 where
+  pub dataset : Dataset
   pub zone : Zone
-  pub from : Moment
-  pub until : Moment
-  pub holds : HoldsZone held words.zone.now zone
-  pub from_says : moment_of words.from.now ≡ Some from
-  pub until_says : moment_of words.until.now ≡ Some until
-  pub before : instant_at (zone_origin zone) until <ℤ instant_at (zone_origin zone) from
+  pub request : Request
+  pub holds : HoldsTables limit held asked.dir dataset
+  pub passes : Passes dataset
+  pub holds_zone : HoldsZone limit held asked.zone zone
+  pub is_request : IsRequest asked request
 
--- the words ask for the check of the feed in a folder, and this is so of the folder
+-- until lies before from in the zone
+abbrev pub LiesBefore : Zone → Request → Type 0
+LiesBefore z r = instant_at (zone_origin z) r.until <ℤ instant_at (zone_origin z) r.from
+
+-- no stop of the dataset has the id
+abbrev pub LacksStop : ℕ → Option Store → BoardTexts → Type 0
+LacksStop limit held asked = (s : Setting limit held asked) × (is_stop (content_of s.dataset) asked.stop ≡ false)
+
+-- one has it, and until lies before from
+abbrev pub EndsBeforeItBegins : ℕ → Option Store → BoardTexts → Type 0
+EndsBeforeItBegins limit held asked = (s : Setting limit held asked) × (is_stop (content_of s.dataset) asked.stop ≡ true) × LiesBefore s.zone s.request
+
+-- the dataset that the folder holds does not pass
+abbrev pub HoldsErrors : ℕ → Option Store → List ℕ → Type 0
+HoldsErrors limit held dir = (d : Dataset) × HoldsTables limit held dir d × (Passes d → ⊥)
+
+-- `clap` takes the words, they ask for the check of the feed in a folder, and this is so of the folder
 pub record AsksCheck (texts : List Text) (Fact : Text → Type 0) : Type 0 where
   pub dir : Bor Text
+  pub taken : takes gtfs_app texts ≡ true
   pub asks : IsCommandOf (subcommand_of gtfs_app texts) (Check dir)
   pub fact : Fact dir.now
 
--- the words ask for a board, and this is so of them
-pub record AsksFor (texts : List Text) (Fact : BoardWords → Type 0) : Type 0 where
+-- `clap` takes the words, they ask for a board, and this is so of them
+pub record AsksFor (texts : List Text) (Fact : BoardTexts → Type 0) : Type 0 where
   pub words : BoardWords
+  pub taken : takes gtfs_app texts ≡ true
   pub asks : IsCommandOf (subcommand_of gtfs_app texts) (Board words)
-  pub fact : Fact words
+  pub fact : Fact (texts_of words)
 
--- `clap` does not take the words, or a value is bad, or until lies before from
-abbrev pub IsBadUsage : List Text → Option Store → Type 0
-IsBadUsage texts held = (takes gtfs_app texts ≡ false) ⊎ AsksFor texts (λ words. HasBadValue words ⊎ EndsBeforeItBegins held words)
+-- `clap` does not take the words, which do not ask for help, or a value is bad, or until lies before from
+abbrev pub IsBadUsage : List Text → ℕ → Option Store → Type 0
+IsBadUsage texts limit held = AreRefused texts ⊎ AsksFor texts (λ asked. HasBadValue asked ⊎ EndsBeforeItBegins limit held asked)
 
 -- ---- status 3
 
 -- what can be the matter with folders that did not fail, for a check
-abbrev pub KeepsFromChecking : Option Store → Text → Type 0
-KeepsFromChecking held dir = LacksFeed held dir ⊎ HoldsKeptFile held dir
+abbrev pub KeepsFromChecking : ℕ → Option Store → Text → Type 0
+KeepsFromChecking limit held dir = LacksFeed held dir ⊎ HoldsKeptFile limit held dir
 
 -- and for a board
-abbrev pub KeepsFromReading : Option Store → BoardWords → Type 0
-KeepsFromReading held words =
-    LacksFeed held words.dir.now ⊎ (HoldsKeptFile held words.dir.now ⊎ (LacksFile held words.zone.now
-    ⊎ (NamesNoFile words.zone.now ⊎ (HoldsFile held words.zone.now ⊎ HoldsNoZone held words.zone.now))))
+abbrev pub KeepsFromReading : ℕ → Option Store → BoardTexts → Type 0
+KeepsFromReading limit held asked =
+    LacksFeed held asked.dir ⊎ (HoldsKeptFile limit held asked.dir ⊎ (LacksFile held asked.zone
+    ⊎ (NamesNoFile asked.zone ⊎ (HoldsFile limit held asked.zone ⊎ HoldsNoZone limit held asked.zone))))
 
 -- counts of failures, of the folders and of the output
 pub record Failures : Type 0 where
@@ -167,7 +235,7 @@ pub record Failures : Type 0 where
   pub output : ℕ
 
 -- the folders or the output failed, or what the folders hold keeps the words from their check or their board
-abbrev pub IsDeviceFault : List Text → Option Store → Failures → Failures → Type 0
-IsDeviceFault texts held before after =
+abbrev pub IsDeviceFault : List Text → ℕ → Option Store → Failures → Failures → Type 0
+IsDeviceFault texts limit held before after =
     (Rises before.folders after.folders ⊎ Rises before.output after.output)
-    ⊎ (AsksCheck texts (KeepsFromChecking held) ⊎ AsksFor texts (KeepsFromReading held))
+    ⊎ (AsksCheck texts (KeepsFromChecking limit held) ⊎ AsksFor texts (KeepsFromReading limit held))

@@ -1,9 +1,15 @@
 //! The commands of the program, and how each ends.
-ghost use Rattle.std.specs.Prelude.{◌≡◌, ◌≤◌, List, ℕ, map, IfOk, IfErr, OnErr};
+ghost use Rattle.std.specs.Prelude.{◌≡◌, ◌≤◌, List, ℕ, false, map, IfOk, IfErr, IsErrAnd, OnErr};
+ghost use Rattle.std.specs.Io.KnownBytes.{Keeps};
+ghost use Rattle.clap.specs.Words.{Text, takes};
 ghost use Rattle.gtfs_cli.specs.Checking.{IsReportOf};
+ghost use Rattle.gtfs_cli.specs.BoardRun.{AsksBoardOf, IsBoardRun, IsListed, IsUnlisted};
+ghost use Rattle.gtfs_cli.specs.CommandLine.{gtfs_app, no_memory, AreRefused, BoardTexts, IsFaultOf};
 ghost use Rattle.gtfs_cli.specs.CheckRun.{AsksCheckOf, IsCheckRun, IsCheckTold, IsCutShort};
 ghost use Rattle.gtfs_cli.specs.Running.{IsBadUsage, IsDeviceFault};
-ghost use Rattle.gtfs_cli.specs.Refusals.{IsCauseOf, IsCheckCause};
+ghost use Rattle.gtfs_cli.specs.Refusals.{IsCauseInWords, IsCauseOf, IsCheckCause};
+ghost use Rattle.gtfs_cli.specs.WordsRun.{IsHelped, IsUntakenRun};
+ghost use Rattle.gtfs_cli.specs.declared.commands.refusal.Refusal.TheVariants.{OutOfMemory};
 
 mod board;
 mod check;
@@ -12,12 +18,14 @@ mod messages;
 mod moments;
 mod paths;
 mod refusal;
+mod values;
 
 use crate::words::{Command, WordsFault, read_words};
 use gtfs_table::{Folders, Out, write_text};
 use refusal::Refusal;
 use std::alloc::Global;
 use std::convert::AsStr;
+use std::hash::RandomState;
 
 /// Does what the words of a command line ask for, of which the first is the program's name, and answers the status with
 /// which the program is to end.
@@ -31,29 +39,50 @@ use std::convert::AsStr;
 ///
 /// - 0: done.
 /// - 1: the feed has errors, or no stop of that id.
-/// - 2: `clap` does not take the words, or the value of `--from` or `--until` is neither `@` and an instant nor a service
-///   day, or the board would end before it begins.
+/// - 2: `clap` does not take the words, the value of `--from` or `--until` is neither `@` and an instant nor a service day,
+///   that of `--limit` is no count, that of `--after` is no key, or the board would end before it begins.
 /// - 3: the folder, the zone file or its folder is not there, cannot be read or holds a file over the limit, the zone file
 ///   is none, or the output failed.
 /// - 4: memory ran out.
 ///
-/// A check ends with 0 or 1 only where its whole report went out, and else with what went out of it before.
+/// A check ends with 0 or 1 only where its whole report went out, and else with what went out of it before. A board ends
+/// with 0 only where a page of it went out: all its lines, or as many as `--limit` says. What is printed does not depend on
+/// the random state.
 pub fn run<S: AsStr, F: Folders, O: Out, E: Out>(
     alloc: Global,
+    random: RandomState,
     words: &[S],
     folders: &mut F,
     out: &mut O,
     err: &mut E,
 ) -> u8
-    ensures usage { result ≡ 2 → IsBadUsage (map S.text words.now) (F.held folders.old) }
-    ensures device { result ≡ 3 → IsDeviceFault (map S.text words.now) (F.held folders.old)
+    ensures usage { result ≡ 2 → IsBadUsage (map S.text words.now)
+        (F.limit folders.old) (F.held folders.old) }
+    ensures device { result ≡ 3 → IsDeviceFault (map S.text words.now)
+        (F.limit folders.old) (F.held folders.old)
         (record { folders = F.failure_count folders.old; output = O.failure_count out.old })
         (record { folders = F.failure_count folders.new; output = O.failure_count out.new }) }
     ensures checked { (dir : List ℕ) → AsksCheckOf (map S.text words.now) dir
-        → IsCheckRun (F.held folders.old) dir (O.told out.old) (O.told out.new) result }
-    ensures told { (dir : List ℕ) → AsksCheckOf (map S.text words.now) dir → IsCheckTold (F.held folders.old) dir
+        → IsCheckRun (F.limit folders.old) (F.held folders.old) dir
+        (O.told out.old) (O.told out.new) result }
+    ensures told { (dir : List ℕ) → AsksCheckOf (map S.text words.now) dir → IsCheckTold
+        (F.limit folders.old) (F.held folders.old) dir
         (record { folders = F.failure_count folders.old; output = O.failure_count out.old })
         (record { folders = F.failure_count folders.new; output = O.failure_count out.new })
+        (record { told = E.told err.old; failures = E.failure_count err.old })
+        (record { told = E.told err.new; failures = E.failure_count err.new }) result }
+    ensures listed { (asked : BoardTexts) → AsksBoardOf (map S.text words.now) asked
+        → IsBoardRun (F.limit folders.old) (F.held folders.old) asked
+        (record { folders = F.failure_count folders.old; output = O.failure_count out.old })
+        (record { folders = F.failure_count folders.new; output = O.failure_count out.new })
+        (O.told out.old) (O.told out.new)
+        (record { told = E.told err.old; failures = E.failure_count err.old })
+        (record { told = E.told err.new; failures = E.failure_count err.new }) result }
+    ensures untaken { takes gtfs_app (map S.text words.now) ≡ false → IsUntakenRun
+        (map S.text words.now)
+        (record { folders = F.failure_count folders.old; output = O.failure_count out.old })
+        (record { folders = F.failure_count folders.new; output = O.failure_count out.new })
+        (O.told out.old) (O.told out.new)
         (record { told = E.told err.old; failures = E.failure_count err.old })
         (record { told = E.told err.new; failures = E.failure_count err.new }) result }
     ensures statuses { result ≤ 4 }
@@ -61,7 +90,7 @@ pub fn run<S: AsStr, F: Folders, O: Out, E: Out>(
     ensures folders_grow { F.failure_count folders.old ≤ F.failure_count folders.new }
     ensures output_grows { O.failure_count out.old ≤ O.failure_count out.new }
 {
-    match command(alloc, words, folders, out) {
+    match command(alloc, random, words, folders, out) {
         Ok(has_errors) => u8::from(has_errors),
         Err(refusal) => {
             // Nobody is left who could be told that this failed.
@@ -74,20 +103,42 @@ pub fn run<S: AsStr, F: Folders, O: Out, E: Out>(
 // Does what the words ask for, and answers whether a check found an error.
 fn command<'w, S: AsStr, F: Folders, O: Out>(
     alloc: Global,
+    random: RandomState,
     words: &'w [S],
     folders: &mut F,
     out: &mut O,
 ) -> Result<bool, Refusal<'w>>
-    ensures refused { IfErr result (IsCauseOf (map S.text words.entry.now) (F.held folders.old)
+    ensures refused { IfErr result (IsCauseOf (map S.text words.entry.now)
+        (F.limit folders.old) (F.held folders.old)
         (record { folders = F.failure_count folders.old; output = O.failure_count out.old })
         (record { folders = F.failure_count folders.new; output = O.failure_count out.new })) }
     ensures checked { (dir : List ℕ) → AsksCheckOf (map S.text words.entry.now) dir
-        → IfOk result (IsReportOf (F.held folders.old) dir (O.told out.old) (O.told out.new)) }
+        → IfOk result (IsReportOf (F.limit folders.old) (F.held folders.old) dir
+        (O.told out.old) (O.told out.new)) }
     ensures cut_short { (dir : List ℕ) → AsksCheckOf (map S.text words.entry.now) dir
-        → OnErr result (IsCutShort (F.held folders.old) dir (O.told out.old) (O.told out.new)) }
-    ensures unchecked { (dir : List ℕ) → AsksCheckOf (map S.text words.entry.now) dir → IfErr result (IsCheckCause (F.held folders.old) dir
+        → OnErr result (IsCutShort (F.limit folders.old) (F.held folders.old) dir
+        (O.told out.old) (O.told out.new)) }
+    ensures unchecked { (dir : List ℕ) → AsksCheckOf (map S.text words.entry.now) dir
+        → IfErr result (IsCheckCause (F.limit folders.old) (F.held folders.old) dir
         (record { folders = F.failure_count folders.old; output = O.failure_count out.old })
         (record { folders = F.failure_count folders.new; output = O.failure_count out.new })) }
+    ensures listed { (asked : BoardTexts) → AsksBoardOf (map S.text words.entry.now) asked
+        → IfOk result (IsListed (F.limit folders.old) (F.held folders.old) asked
+        (O.told out.old) (O.told out.new)) }
+    ensures unlisted { (asked : BoardTexts) → AsksBoardOf (map S.text words.entry.now) asked
+        → IfErr result (IsUnlisted (F.limit folders.old) (F.held folders.old) asked
+        (record { folders = F.failure_count folders.old; output = O.failure_count out.old })
+        (record { folders = F.failure_count folders.new; output = O.failure_count out.new })
+        (O.told out.old) (O.told out.new)) }
+    ensures helped { takes gtfs_app (map S.text words.entry.now) ≡ false
+        → IfOk result (IsHelped (map S.text words.entry.now)) }
+    ensures unhelped { takes gtfs_app (map S.text words.entry.now) ≡ false
+        → IfErr result (IsCauseInWords (map S.text words.entry.now)
+        (O.failure_count out.old) (O.failure_count out.new)) }
+    ensures nothing { AreRefused (map S.text words.entry.now) → Keeps (O.told out.old)
+        (O.told out.new) }
+    ensures untouched { takes gtfs_app (map S.text words.entry.now) ≡ false
+        → F.failure_count folders.new ≡ F.failure_count folders.old }
     ensures unchanged { F.held folders.new ≡ F.held folders.old }
     ensures folders_grow { F.failure_count folders.old ≤ F.failure_count folders.new }
     ensures output_grows { O.failure_count out.old ≤ O.failure_count out.new }
@@ -95,13 +146,31 @@ fn command<'w, S: AsStr, F: Folders, O: Out>(
     match read_words(alloc, words) {
         Ok(Command::Check(dir)) => check::print_report(alloc, dir, folders, out),
         Ok(Command::Board(given)) => {
-            board::print_board(alloc, &given, folders, out).map(|()| false)
+            board::print_board(alloc, random, &given, folders, out)?;
+            Ok(false)
         }
-        Err(WordsFault::Help(text)) => {
+        Err(fault) => answer_fault(fault, out),
+    }
+}
+
+// Prints the help that was asked for, and refuses all other words that name no command.
+fn answer_fault<'w, O: Out>(fault: WordsFault, out: &mut O) -> Result<bool, Refusal<'w>>
+    ensures helped { (texts : List Text) → IsFaultOf texts fault
+        → IfOk result (IsHelped texts) }
+    ensures refused { (texts : List Text) → IsFaultOf texts fault → IfErr result
+        (IsCauseInWords texts (O.failure_count out.old) (O.failure_count out.new)) }
+    ensures nothing { (texts : List Text) → IsFaultOf texts fault → AreRefused texts
+        → Keeps (O.told out.old) (O.told out.new) }
+    ensures memory { fault ≡ no_memory → IsErrAnd result (λ refusal. refusal ≡ OutOfMemory) }
+    ensures unsent { fault ≡ no_memory → Keeps (O.told out.old) (O.told out.new) }
+    ensures grows { O.failure_count out.old ≤ O.failure_count out.new }
+{
+    match fault {
+        WordsFault::Help(text) => {
             write_text(out, text.as_bytes())?;
             Ok(false)
         }
-        Err(WordsFault::Refused(text)) => Err(Refusal::Words(text)),
-        Err(WordsFault::OutOfMemory) => Err(Refusal::OutOfMemory),
+        WordsFault::Refused(text) => Err(Refusal::Words(text)),
+        WordsFault::OutOfMemory => Err(Refusal::OutOfMemory),
     }
 }

@@ -11,25 +11,22 @@
 //!
 //! `gtfs check DIR` prints what is wrong with the feed in a folder.
 //!
-//! `gtfs board DIR --zone FILE --stop ID --from T --until T` prints the departures at a stop, in the order of their keys, a
-//! line each. T is `@` and an instant in seconds since 1970-01-01T00:00:00Z, or a service day YYYYMMDD, which stands for its
-//! origin in the zone: noon less twelve hours. Trips with rows in frequencies.txt are left out.
+//! `gtfs board DIR --zone FILE --stop ID --from T --until T [--limit N] [--after KEY]` prints the departures at a stop, in the
+//! order of their keys, a line each: at most N, and only those above the key. T is `@` and an instant in seconds since
+//! 1970-01-01T00:00:00Z, or a service day YYYYMMDD, which stands for its origin in the zone: noon less twelve hours. A feed
+//! with errors has no boards.
 //!
 //! Where a command cannot be done, one line on the error output says why.
 //!
 //! ```text
 //! let mut folders = DiskFolders::new();
 //! let words = ["gtfs", "board", "feed", "--zone", "Berlin", "--stop", "S1", "--from", "20240401", "--until", "20240402"];
-//! let status = run(alloc, &words, &mut folders, &mut out, &mut err);
+//! let status = run(alloc, random, &words, &mut folders, &mut out, &mut err);
 //! ```
 #![tactic(auto)]
 
-mod board;
 mod commands;
-mod feed;
 mod report;
-mod runs;
 mod words;
 
-pub use board::boards_are_one;
 pub use commands::run;

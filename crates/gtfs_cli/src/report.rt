@@ -1,6 +1,7 @@
 //! The text of a report: a line for each problem, and one with their counts.
 mod counts;
 mod line;
+mod pieces;
 mod plain;
 
 pub(crate) use counts::push_counts;

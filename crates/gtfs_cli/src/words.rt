@@ -1,7 +1,7 @@
 //! What the words of the command line ask for, read by `clap`.
 ghost use Rattle.std.specs.Prelude.{◌≡◌, map, option_map, true, IfOk, IfErr, IfSome, IsSome};
 ghost use Rattle.clap.specs.Words.{first_of, found_of, kind_of, rows_of, subcommand_of, subcommand_rows_of, takes};
-ghost use Rattle.gtfs_cli.specs.CommandLine.{gtfs_app, no_memory, HasBoard, IsBoardOf, IsCommandOf, IsFaultOf, IsToldOf, IsWhole};
+ghost use Rattle.gtfs_cli.specs.CommandLine.{gtfs_app, no_memory, texts_of, HasBoard, IsBoardOf, IsCommandOf, IsFaultOf, IsToldOf, IsWhole};
 
 mod definitions;
 
@@ -32,6 +32,10 @@ pub(crate) struct BoardWords<'w> {
     pub(crate) from: &'w str,
     // Where the board ends.
     pub(crate) until: &'w str,
+    // How many lines are printed at most.
+    pub(crate) limit: Option<&'w str>,
+    // The key after which the lines begin.
+    pub(crate) after: Option<&'w str>,
 }
 
 // Why the words name no command.
@@ -63,7 +67,8 @@ pub(crate) fn read_words<'w, S: AsStr>(
     ensures read { IfOk result (IsCommandOf (subcommand_of gtfs_app (map S.text words.entry.now))) }
     ensures taken { IfOk result (λ _. takes gtfs_app (map S.text words.entry.now) ≡ true) }
     ensures fault { IfErr result (IsFaultOf (map S.text words.entry.now)) }
-    ensures memory { takes gtfs_app (map S.text words.entry.now) ≡ true → IfErr result (λ fault. fault ≡ no_memory) }
+    ensures memory { takes gtfs_app (map S.text words.entry.now) ≡ true → IfErr result
+        (λ fault. fault ≡ no_memory) }
 {
     let definition = definitions::gtfs(alloc)?;
     match definition.try_get_matches_from(words) {
@@ -99,7 +104,8 @@ fn command_of<'w>(matches: &ArgMatches<'w>) -> Option<Command<'w>>
 }
 
 fn board_words<'w>(given: &ArgMatches<'w>) -> Option<BoardWords<'w>>
-    ensures value { IfSome result (IsBoardOf (rows_of (found_of given.now))) }
+    ensures value { IfSome result (λ words. IsBoardOf (rows_of (found_of given.now))
+        (texts_of words)) }
     ensures given { HasBoard (rows_of (found_of given.now)) → IsSome result }
 {
     Some(BoardWords {
@@ -108,12 +114,15 @@ fn board_words<'w>(given: &ArgMatches<'w>) -> Option<BoardWords<'w>>
         stop: given_text(given, "stop")?,
         from: given_text(given, "from")?,
         until: given_text(given, "until")?,
+        limit: given_text(given, "limit"),
+        after: given_text(given, "after"),
     })
 }
 
 // The text that was given for an id.
 fn given_text<'w>(given: &ArgMatches<'w>, id: &str) -> Option<&'w str>
-    ensures { option_map (λ text. text.now) result ≡ first_of id.now (rows_of (found_of given.now)) }
+    ensures { option_map (λ text. text.now) result ≡ first_of id.now
+        (rows_of (found_of given.now)) }
 {
     given.get_str(id)
 }

@@ -1,4 +1,3 @@
 mod WorkedWords
 mod WorkedLines
-mod WorkedBoards
 mod WorkedReports

@@ -8,10 +8,10 @@ use Rattle.jiff_core.proofs.DateLemmas.{epoch_day_injective}
 use Rattle.jiff_core.proofs.SignedLemmas.{signed_arith}
 use Rattle.gtfs_field.specs.Calendar.{date_after, date_after-number}
 use Rattle.gtfs_field.specs.Canonical.{digits_of_date, date_text}
-use Rattle.gtfs_cli.specs.declared.board.departure.Mark.TheVariants as mark
-use Rattle.gtfs_cli.specs.Key.{Key}
-use Rattle.gtfs_cli.specs.KeyTexts.{key_text}
-use Rattle.gtfs_cli.specs.Lines.{clock_text, line_text}
+use Rattle.gtfs_board.specs.declared.departure.Mark.TheVariants as mark
+use Rattle.gtfs_board.specs.Key.{Key}
+use Rattle.gtfs_board.specs.KeyTexts.{key_text}
+use Rattle.gtfs_board.specs.Lines.{clock_text, line_text}
 
 -- ---- 1 April 2024 is day 19814
 

@@ -1,10 +1,11 @@
 -- Worked words: what they ask for, what is the matter with them, computed.
-use Rattle.std.specs.Prelude.{◌≡◌, List, [], ◌∷◌, Option, Some, option_map, codes, true, false}
+use Rattle.std.specs.Prelude.{◌≡◌, List, [], ◌∷◌, Option, Some, None, option_map, codes, true, false}
 use Rattle.std.proofs.Common.{refl}
 use Rattle.clap.specs.Words.{Text, fault_of, first_of, subcommand_of, takes}
 use Rattle.clap.specs.declared.error.kind.ErrorKind.TheVariants as kind
 use Rattle.clap.proofs.OnLiterals.{clap_on_literals}
-use Rattle.gtfs_cli.specs.CommandLine.{gtfs_app}
+use Rattle.gtfs_cli.specs.BoardRun.{AsksBoardOf}
+use Rattle.gtfs_cli.specs.CommandLine.{gtfs_app, BoardTexts}
 use Rattle.gtfs_cli.specs.CheckRun.{AsksCheckOf}
 
 abbrev given : List Text → Text → Option (Option Text)
@@ -41,6 +42,58 @@ board_from = refl
 board_until : given board_words (codes "until") ≡ Some (Some (codes "@5"))
 unfolding clap_on_literals
 board_until = refl
+
+board_limit : given board_words (codes "limit") ≡ Some None
+unfolding clap_on_literals
+board_limit = refl
+
+board_after : given board_words (codes "after") ≡ Some None
+unfolding clap_on_literals
+board_after = refl
+
+abbrev board_texts : BoardTexts
+board_texts = record {
+  dir = codes "feed";
+  zone = codes "Z";
+  stop = codes "S1";
+  from = codes "20240401";
+  until = codes "@5";
+  limit = None;
+  after = None;
+}
+
+board_asked : AsksBoardOf board_words board_texts
+unfolding clap_on_literals
+board_asked = record {
+  taken = refl;
+  asks = (refl, record { dir = refl; zone = refl; stop = refl; from = refl; until = refl; limit = refl; after = refl });
+}
+
+-- a page after a key
+abbrev page_words : List Text
+page_words = codes "gtfs" ∷ codes "board" ∷ codes "feed" ∷ codes "--zone" ∷ codes "Z" ∷ codes "--stop=S1" ∷ codes "--from" ∷ codes "20240401" ∷ codes "--until" ∷ codes "@5"
+    ∷ codes "--limit" ∷ codes "2" ∷ codes "--after=@4/T/0/1/20240401" ∷ []
+
+page_taken : takes gtfs_app page_words ≡ true
+unfolding clap_on_literals
+page_taken = refl
+
+page_limit : given page_words (codes "limit") ≡ Some (Some (codes "2"))
+unfolding clap_on_literals
+page_limit = refl
+
+page_after : given page_words (codes "after") ≡ Some (Some (codes "@4/T/0/1/20240401"))
+unfolding clap_on_literals
+page_after = refl
+
+-- a limit that stands twice
+abbrev limit_twice : List Text
+limit_twice = codes "gtfs" ∷ codes "board" ∷ codes "feed" ∷ codes "--zone" ∷ codes "Z" ∷ codes "--stop=S1" ∷ codes "--from" ∷ codes "20240401" ∷ codes "--until" ∷ codes "@5"
+    ∷ codes "--limit=2" ∷ codes "--limit=3" ∷ []
+
+limit_refused : fault_of gtfs_app limit_twice ≡ kind.ArgumentConflict ∷ []
+unfolding clap_on_literals
+limit_refused = refl
 
 -- a check
 abbrev check_words : List Text

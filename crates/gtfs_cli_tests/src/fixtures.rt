@@ -6,7 +6,10 @@ use gtfs_cli::run;
 use gtfs_field::OutOfMemory;
 use gtfs_table::{MemoryFolders, MemoryOut};
 use std::alloc::Global;
+use std::hash::RandomState;
+use std::io;
 use std::process::Abort;
+use std::random::RandomSource;
 use std::test::Fail;
 
 // Room for all that is written in these tests but where an output is to fail.
@@ -57,6 +60,37 @@ pub(super) fn asked<'w>(dir: &'w str, zone: &'w str, stop: &'w str) -> [&'w str;
         "gtfs", "board", dir, "--zone", zone, "--stop", stop, "--from", "20240401", "--until",
         "20240402",
     ]
+}
+
+// The words that ask for a board of the feed with one more option.
+pub(super) fn asked_with<'w>(option: &'w str, value: &'w str) -> [&'w str; 13] {
+    [
+        "gtfs", "board", "f1", "--zone", "z1", "--stop", "S1", "--from", "20240401", "--until",
+        "20240402", option, value,
+    ]
+}
+
+// A source whose bytes are all the same.
+#[derive(Clone, Copy)]
+struct Same(u8);
+
+impl RandomSource for Same {
+    fn fill_bytes(&self, buf: &mut [u8]) -> io::Result<()> {
+        for byte in buf {
+            *byte = self.0;
+        }
+        Ok(())
+    }
+}
+
+// The random state that comes of such bytes.
+pub(super) fn state_of(byte: u8) -> io::Result<RandomState> {
+    RandomState::new(&Same(byte))
+}
+
+// The same random state at each call.
+pub(super) fn fixed() -> io::Result<RandomState> {
+    state_of(0)
 }
 
 // The feed in the folder f1, and in the folder `.` the zone file z1, of UTC.
@@ -113,7 +147,7 @@ pub(super) fn assert_ends(
 ) -> Result<(), Fail> {
     let mut out = MemoryOut::new(alloc, ROOM)?;
     let mut err = MemoryOut::new(alloc, ROOM)?;
-    let ended = run(alloc, words, folders, &mut out, &mut err);
+    let ended = run(alloc, fixed()?, words, folders, &mut out, &mut err);
     assert_eq!(rt; str::from_utf8(err.bytes())?, told);
     assert_eq!(rt; str::from_utf8(out.bytes())?, printed);
     assert_eq!(rt; ended, status);

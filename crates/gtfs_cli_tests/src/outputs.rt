@@ -1,6 +1,6 @@
 //! Outputs that take less than the whole, or the whole by single bytes.
 
-use crate::fixtures::{CHECK, FIRST_LINE, ROOM, asked, folders};
+use crate::fixtures::{CHECK, FIRST_LINE, ROOM, asked, asked_with, fixed, folders};
 use gtfs_cli::run;
 use gtfs_table::{MemoryFolders, MemoryOut, WriteOut};
 use std::alloc::Global;
@@ -20,7 +20,7 @@ fn assert_cut(
     for room in 0..text.len() {
         let mut out = MemoryOut::new(alloc, room)?;
         let mut err = MemoryOut::new(alloc, ROOM)?;
-        let status = run(alloc, words, folders, &mut out, &mut err);
+        let status = run(alloc, fixed()?, words, folders, &mut out, &mut err);
         let taken = text.as_bytes().get(..room).ok_or("past the end")?;
         assert_eq!(rt; out.bytes(), taken);
         assert_eq!(rt; str::from_utf8(err.bytes())?, "gtfs: output failed\n");
@@ -34,6 +34,19 @@ fn a_board_may_be_cut_at_each_byte(rt: HostRuntime) -> Result<(), Fail> {
     let mut folders = folders(rt.alloc())?;
     let words = asked("f1", "z1", "S1");
     assert_cut(&rt, rt.alloc(), &mut folders, &words, FIRST_LINE)
+}
+
+const HALF_HOURS: &str = "trip_id,start_time,end_time,headway_secs\nT1,06:00:00,08:00:00,1800\n";
+
+const TWO_RUNS: &str = "@1711951200/T1/21600/1/20240401\t2024-04-01 06:00:00+00:00\tS1\t10\t\tf\n\
+@1711953000/T1/23400/1/20240401\t2024-04-01 06:30:00+00:00\tS1\t10\t\tf\n";
+
+#[test]
+fn a_page_may_be_cut_at_each_byte(rt: HostRuntime) -> Result<(), Fail> {
+    let mut folders = folders(rt.alloc())?;
+    folders.put("f1", "frequencies.txt", HALF_HOURS.as_bytes())?;
+    let words = asked_with("--limit", "2");
+    assert_cut(&rt, rt.alloc(), &mut folders, &words, TWO_RUNS)
 }
 
 const TWO_BAD_TIMES: &str = "trip_id,arrival_time,departure_time,stop_id,stop_sequence\n\
@@ -58,7 +71,14 @@ fn help_may_be_cut(rt: HostRuntime) -> Result<(), Fail> {
     let mut out = MemoryOut::new(rt.alloc(), 4)?;
     let mut err = MemoryOut::new(rt.alloc(), ROOM)?;
     let words = ["gtfs", "--help"];
-    let status = run(rt.alloc(), &words, &mut folders, &mut out, &mut err);
+    let status = run(
+        rt.alloc(),
+        fixed()?,
+        &words,
+        &mut folders,
+        &mut out,
+        &mut err,
+    );
     assert_eq!(&rt; out.bytes().len(), 4);
     assert_eq!(&rt; str::from_utf8(err.bytes())?, "gtfs: output failed\n");
     assert_eq!(&rt; status, 3);
@@ -112,6 +132,7 @@ fn outputs_may_take_a_byte_a_call(rt: HostRuntime) -> Result<(), Fail> {
         let words = asked("f1", "z1", stop);
         let ended = run(
             rt.alloc(),
+            fixed()?,
             &words,
             &mut folders,
             &mut trickling(&mut out),
@@ -132,7 +153,14 @@ fn an_error_output_that_fails_changes_no_status(rt: HostRuntime) -> Result<(), F
     for room in 0..line.len() {
         let mut out = MemoryOut::new(rt.alloc(), ROOM)?;
         let mut err = MemoryOut::new(rt.alloc(), room)?;
-        let status = run(rt.alloc(), &words, &mut folders, &mut out, &mut err);
+        let status = run(
+            rt.alloc(),
+            fixed()?,
+            &words,
+            &mut folders,
+            &mut out,
+            &mut err,
+        );
         let taken = line.get(..room).ok_or("past the end")?;
         assert_eq!(&rt; err.bytes(), taken);
         assert!(&rt; out.bytes().is_empty());
@@ -151,7 +179,7 @@ fn assert_no_command(
     for room in [0, ROOM] {
         let mut out = MemoryOut::new(alloc, ROOM)?;
         let mut err = MemoryOut::new(alloc, room)?;
-        let status = run(alloc, words, folders, &mut out, &mut err);
+        let status = run(alloc, fixed()?, words, folders, &mut out, &mut err);
         let told = str::from_utf8(err.bytes())?;
         assert!(rt; told.contains("requires a subcommand") == (room > 0));
         assert!(rt; out.bytes().is_empty());

@@ -1,20 +1,25 @@
-ghost use Rattle.std.specs.Prelude.{◌≡◌, ◌≤◌, IfOk, IfErr, Option};
+ghost use Rattle.std.specs.Prelude.{◌≡◌, ◌≤◌, ℕ, Option, IfOk, IfErr, OnOk};
 ghost use Rattle.gtfs_days.specs.Zone.{IsZoneOf};
+ghost use Rattle.gtfs_feed.specs.Content.{content_of};
 ghost use Rattle.gtfs_table.specs.Folder.{Store};
-ghost use Rattle.gtfs_cli.specs.Running.{Failures, HoldsBytes, HoldsZone};
-ghost use Rattle.gtfs_cli.specs.declared.words.BoardWords.{BoardWords as Given};
-ghost use Rattle.gtfs_cli.specs.Refusals.{AreOf, IsCause};
+ghost use Rattle.gtfs_board.specs.Page.{IsPage};
+ghost use Rattle.gtfs_cli.specs.Boards.{request_of, AreValues, EndsBoard, EndsLines, HoldsFeed, IsFeedCause, IsFeedOf, IsLinesCause, IsOpeningCause, ListsBoard, OfBoard, PrintsBoard};
+ghost use Rattle.gtfs_cli.specs.CommandLine.{texts_of};
+ghost use Rattle.gtfs_cli.specs.Running.{Failures, HasValues, HoldsBytes, HoldsPassing, HoldsZone};
+ghost use Rattle.gtfs_cli.specs.Refusals.{IsCause};
 
-use crate::board::{Board, BoardFault, Span, push_line};
 use crate::commands::folder::{of_folder, read_tables};
-use crate::commands::moments::{Moment, read_moment};
 use crate::commands::paths::cut_path;
 use crate::commands::refusal::Refusal;
-use crate::feed::{Feed, FeedFault};
+use crate::commands::values::{Values, read_values};
 use crate::words::BoardWords;
+use gtfs_board::{Board, BoardFault, PageFault, Span, write_page};
 use gtfs_days::{Zone, ZoneFault};
-use gtfs_table::{Folders, Out, Tables, write_text};
+use gtfs_feed::Feed;
+use gtfs_rules::check;
+use gtfs_table::{Folders, Out, Tables};
 use std::alloc::Global;
+use std::hash::RandomState;
 
 // Prints the board that the words ask for.
 // Errors: In the order in which they are judged: `BadValue`; `NotThere`, `Unreadable`, `OverLimit` and `HasErrors` of
@@ -22,50 +27,64 @@ use std::alloc::Global;
 // any line. `OutOfMemory` at any point.
 pub(super) fn print_board<'w, F: Folders, O: Out>(
     alloc: Global,
+    random: RandomState,
     words: &BoardWords<'w>,
     folders: &mut F,
     out: &mut O,
 ) -> Result<(), Refusal<'w>>
-    ensures refused { IfErr result (IsCause (F.held folders.old) words.now
+    ensures printed { OnOk result (PrintsBoard (F.limit folders.old) (F.held folders.old)
+        (texts_of words.now) (O.told out.old) (O.told out.new)) }
+    ensures cut_short { IfErr result (EndsBoard (F.limit folders.old) (F.held folders.old)
+        (texts_of words.now) (O.told out.old) (O.told out.new)) }
+    ensures refused { IfErr result (IsCause
+        (F.limit folders.old) (F.held folders.old) (texts_of words.now)
         (record { folders = F.failure_count folders.old; output = O.failure_count out.old })
         (record { folders = F.failure_count folders.new; output = O.failure_count out.new })) }
     ensures unchanged { F.held folders.new ≡ F.held folders.old }
     ensures folders_grow { F.failure_count folders.old ≤ F.failure_count folders.new }
     ensures output_grows { O.failure_count out.old ≤ O.failure_count out.new }
 {
-    let (from, until) = read_moments(words)?;
-    let tables = read_tables(alloc, folders, words.dir)?;
-    let feed = read_feed(alloc, &tables, words.dir)?;
+    let values = read_values(words)?;
+    let feed = read_feed(alloc, random, folders, words)?;
     let zone = read_zone(alloc, folders, words)?;
-    let mut board = open(alloc, &feed, &zone, words, from, until)?;
-    print_lines(alloc, &zone, &mut board, out)
+    print_lines(alloc, &feed, &zone, words, &values, out)
 }
 
-// When the board begins and when it ends.
-fn read_moments<'w>(words: &BoardWords<'w>) -> Result<(Moment, Moment), Refusal<'w>>
-    ensures read { IfOk result (λ moments. AreOf words.now moments.0 moments.1) }
-    ensures refused { IfErr result (λ refusal. (held : Option Store) (before after : Failures) → IsCause held words.now before after refusal) }
-{
-    let Some(from) = read_moment(words.from) else {
-        return Err(Refusal::BadValue("--from"));
-    };
-    let Some(until) = read_moment(words.until) else {
-        return Err(Refusal::BadValue("--until"));
-    };
-    Ok((from, until))
-}
-
-fn read_feed<'w, 'a>(
+// The feed of the folder, whose tables are let go again.
+fn read_feed<'w, F: Folders>(
     alloc: Global,
-    tables: &'a Tables,
-    dir: &'w str,
-) -> Result<Feed<'a>, Refusal<'w>>
-    ensures { IfErr result (λ refusal. (held : Option Store) (words : Given) (before after : Failures) → IsCause held words before after refusal) }
+    random: RandomState,
+    folders: &mut F,
+    words: &BoardWords<'w>,
+) -> Result<Feed, Refusal<'w>>
+    ensures read { IfOk result
+        (HoldsFeed (F.limit folders.old) (F.held folders.old) words.now.dir.now) }
+    ensures refused { IfErr result (λ refusal. (before after : Failures)
+        → before.folders ≤ F.failure_count folders.old → F.failure_count folders.new ≤ after.folders
+        → HasValues (texts_of words.now)
+        → IsCause (F.limit folders.old) (F.held folders.old) (texts_of words.now)
+        before after refusal) }
+    ensures unchanged { F.held folders.new ≡ F.held folders.old }
+    ensures same_limit { F.limit folders.new ≡ F.limit folders.old }
+    ensures grows { F.failure_count folders.old ≤ F.failure_count folders.new }
 {
-    match Feed::read(alloc, tables) {
-        Ok(feed) => Ok(feed),
-        Err(FeedFault::Unreadable) => Err(Refusal::HasErrors(dir)),
-        Err(FeedFault::OutOfMemory) => Err(Refusal::OutOfMemory),
+    let tables = read_tables(alloc, folders, words.dir)?;
+    feed_of(alloc, random, &tables, words.dir)
+}
+
+// The feed of the tables of a folder.
+fn feed_of<'w>(
+    alloc: Global,
+    random: RandomState,
+    tables: &Tables,
+    dir: &'w str,
+) -> Result<Feed, Refusal<'w>>
+    ensures read { IfOk result (IsFeedOf tables.now) }
+    ensures refused { IfErr result (IsFeedCause tables.now dir.now) }
+{
+    match check(alloc, tables)?.passed() {
+        Ok(passed) => Ok(Feed::new(alloc, random, &passed)?),
+        Err(_) => Err(Refusal::HasErrors(dir)),
     }
 }
 
@@ -75,9 +94,14 @@ fn read_zone<'w, F: Folders>(
     folders: &mut F,
     words: &BoardWords<'w>,
 ) -> Result<Zone, Refusal<'w>>
-    ensures read { IfOk result (HoldsZone (F.held folders.old) words.now.zone.now) }
-    ensures refused { IfErr result (λ refusal. (before after : Failures) → before.folders ≤ F.failure_count folders.old
-        → F.failure_count folders.new ≤ after.folders → IsCause (F.held folders.old) words.now before after refusal) }
+    ensures read { IfOk result
+        (HoldsZone (F.limit folders.old) (F.held folders.old) words.now.zone.now) }
+    ensures refused { IfErr result (λ refusal. (before after : Failures)
+        → before.folders ≤ F.failure_count folders.old → F.failure_count folders.new ≤ after.folders
+        → HasValues (texts_of words.now)
+        → HoldsPassing (F.limit folders.old) (F.held folders.old) words.now.dir.now
+        → IsCause (F.limit folders.old) (F.held folders.old) (texts_of words.now)
+        before after refusal) }
     ensures unchanged { F.held folders.new ≡ F.held folders.old }
     ensures grows { F.failure_count folders.old ≤ F.failure_count folders.new }
 {
@@ -86,70 +110,78 @@ fn read_zone<'w, F: Folders>(
         return Err(Refusal::Unreadable(words.zone));
     }
     match folders.read(alloc, folder, name) {
-        Ok(Some(bytes)) => zone_of(alloc, bytes.as_slice(), words.zone),
+        Ok(Some(bytes)) => zone_of(alloc, bytes.as_slice(), words),
         Ok(None) => Err(Refusal::NotThere(words.zone)),
         Err(fault) => Err(of_folder(fault, words.zone)),
     }
 }
 
-fn zone_of<'w>(alloc: Global, bytes: &[u8], path: &'w str) -> Result<Zone, Refusal<'w>>
+// The zone of the bytes of the zone file.
+fn zone_of<'w>(alloc: Global, bytes: &[u8], words: &BoardWords<'w>) -> Result<Zone, Refusal<'w>>
     ensures read { IfOk result (IsZoneOf bytes.now) }
-    ensures refused { IfErr result (λ refusal. (held : Option Store) (words : Given) (before after : Failures) → HoldsBytes held words.zone.now bytes.now
-        → IsCause held words before after refusal) }
+    ensures refused { IfErr result
+        (λ refusal. (limit : ℕ) (held : Option Store) (before after : Failures)
+        → HasValues (texts_of words.now) → HoldsPassing limit held words.now.dir.now
+        → HoldsBytes limit held words.now.zone.now bytes.now
+        → IsCause limit held (texts_of words.now) before after refusal) }
 {
     match Zone::read(alloc, bytes) {
         Ok(zone) => Ok(zone),
-        Err(ZoneFault::Unreadable) => Err(Refusal::NoZone(path)),
+        Err(ZoneFault::Unreadable) => Err(Refusal::NoZone(words.zone)),
         Err(ZoneFault::OutOfMemory) => Err(Refusal::OutOfMemory),
     }
 }
 
-// The board of the stop from the one moment until the other.
-fn open<'w, 'a>(
+// Prints the board of a feed in a zone: a page of as many lines as are asked for, each sent out whole before the next
+// is looked for.
+fn print_lines<'w, O: Out>(
     alloc: Global,
-    feed: &Feed<'a>,
+    feed: &Feed,
     zone: &Zone,
     words: &BoardWords<'w>,
-    from: Moment,
-    until: Moment,
+    values: &Values<'w>,
+    out: &mut O,
+) -> Result<(), Refusal<'w>>
+    requires { AreValues (texts_of words.now) values.now }
+    ensures printed { OnOk result (OfBoard IsPage (content_of feed.now) zone.now words.now.stop.now
+        (request_of values.now) (O.told out.old) (O.told out.new)) }
+    ensures cut_short { IfErr result (EndsLines (content_of feed.now) zone.now words.now.stop.now
+        (request_of values.now) (O.told out.old) (O.told out.new)) }
+    ensures refused { IfErr result (IsLinesCause (content_of feed.now) zone.now words.now.stop.now
+        (request_of values.now) (O.failure_count out.old) (O.failure_count out.new)) }
+    ensures grows { O.failure_count out.old ≤ O.failure_count out.new }
+{
+    let mut board = open(alloc, feed, zone, words, values)?;
+    match write_page(alloc, &mut board, values.limit, out) {
+        Ok(_) => Ok(()),
+        Err(PageFault::Out(_)) => Err(Refusal::OutputFailed),
+        Err(PageFault::OutOfMemory(_)) => Err(Refusal::OutOfMemory),
+    }
+}
+
+// The board of the stop, over the span and after the key that are asked for.
+fn open<'a, 'w>(
+    alloc: Global,
+    feed: &'a Feed,
+    zone: &'a Zone,
+    words: &BoardWords<'w>,
+    values: &Values<'w>,
 ) -> Result<Board<'a>, Refusal<'w>>
-    requires { AreOf words.now from until }
-    ensures { IfErr result (λ refusal. (held : Option Store) (before after : Failures) → HoldsZone held words.now.zone.now zone.now
-        → IsCause held words.now before after refusal) }
+    requires { AreValues (texts_of words.now) values.now }
+    ensures board { IfOk result (λ board. ListsBoard (content_of feed.now) zone.now
+        words.now.stop.now (request_of values.now) board.rest) }
+    ensures zone { IfOk result (λ board. board.zone ≡ zone.now) }
+    ensures refused { IfErr result (IsOpeningCause (content_of feed.now) zone.now words.now.stop.now
+        (request_of values.now)) }
 {
     let span = Span {
-        from: from.instant(alloc, zone)?,
-        until: until.instant(alloc, zone)?,
+        from: values.from.instant(alloc, zone)?,
+        until: values.until.instant(alloc, zone)?,
     };
-    match Board::open(alloc, feed, zone, words.stop, span) {
+    match Board::open(alloc, feed, zone, words.stop, span, values.after.as_ref()) {
         Ok(board) => Ok(board),
         Err(BoardFault::UnknownStop) => Err(Refusal::UnknownStop),
         Err(BoardFault::BadSpan) => Err(Refusal::UntilBeforeFrom),
         Err(BoardFault::OutOfMemory) => Err(Refusal::OutOfMemory),
-    }
-}
-
-// The lines of a board, each sent out whole before the next is made.
-fn print_lines<'w, O: Out>(
-    alloc: Global,
-    zone: &Zone,
-    board: &mut Board<'_>,
-    out: &mut O,
-) -> Result<(), Refusal<'w>>
-    ensures refused { IfErr result (λ refusal. (held : Option Store) (words : Given) (before after : Failures) → before.output ≤ O.failure_count out.old
-        → O.failure_count out.new ≤ after.output → IsCause held words before after refusal) }
-    ensures grows { O.failure_count out.old ≤ O.failure_count out.new }
-{
-    let mut line = String::new(alloc);
-    'lines: loop {
-        match board.next() {
-            Ok(Some(departure)) => {
-                line.clear();
-                push_line(alloc, &mut line, zone, &departure)?;
-                write_text(out, line.as_bytes())?;
-            }
-            Ok(None) => return Ok(()),
-            Err(_) => return Err(Refusal::OutOfMemory),
-        }
     }
 }

@@ -25,9 +25,11 @@ pub(super) fn print_report<'w, F: Folders, O: Out>(
     folders: &mut F,
     out: &mut O,
 ) -> Result<bool, Refusal<'w>>
-    ensures printed { IfOk result (IsReportOf (F.held folders.old) dir.now (O.told out.old) (O.told out.new)) }
-    ensures cut_short { OnErr result (IsCutShort (F.held folders.old) dir.now (O.told out.old) (O.told out.new)) }
-    ensures refused { IfErr result (IsCheckCause (F.held folders.old) dir.now
+    ensures printed { IfOk result (IsReportOf (F.limit folders.old) (F.held folders.old) dir.now
+        (O.told out.old) (O.told out.new)) }
+    ensures cut_short { OnErr result (IsCutShort (F.limit folders.old) (F.held folders.old) dir.now
+        (O.told out.old) (O.told out.new)) }
+    ensures refused { IfErr result (IsCheckCause (F.limit folders.old) (F.held folders.old) dir.now
         (record { folders = F.failure_count folders.old; output = O.failure_count out.old })
         (record { folders = F.failure_count folders.new; output = O.failure_count out.new })) }
     ensures unchanged { F.held folders.new ≡ F.held folders.old }
@@ -46,9 +48,12 @@ fn print_problems<'w, O: Out>(
     problems: &[Problem<'_>],
     out: &mut O,
 ) -> Result<bool, Refusal<'w>>
-    ensures printed { IfOk result (Prints (O.told out.old) (O.told out.new) (map problem_of problems.now)) }
-    ensures cut_short { OnErr result (SendsBeginning (O.told out.old) (O.told out.new) (report_text (map problem_of problems.now))) }
-    ensures refused { IfErr result (IsSendingCause (O.failure_count out.old) (O.failure_count out.new)) }
+    ensures printed { IfOk result (Prints (O.told out.old) (O.told out.new)
+        (map problem_of problems.now)) }
+    ensures cut_short { OnErr result (SendsBeginning (O.told out.old) (O.told out.new)
+        (report_text (map problem_of problems.now))) }
+    ensures refused { IfErr result (IsSendingCause (O.failure_count out.old)
+        (O.failure_count out.new)) }
     ensures grows { O.failure_count out.old ≤ O.failure_count out.new }
 {
     let mut line = String::new(alloc);
@@ -66,9 +71,12 @@ fn print_problem<'w, O: Out>(
     problem: &Problem<'_>,
     out: &mut O,
 ) -> Result<(), Refusal<'w>>
-    ensures sent { OnOk result (Appends (O.told out.old) (O.told out.new) (problem_line (problem_of problem.now))) }
-    ensures cut_short { OnErr result (SendsBeginning (O.told out.old) (O.told out.new) (problem_line (problem_of problem.now))) }
-    ensures refused { IfErr result (IsSendingCause (O.failure_count out.old) (O.failure_count out.new)) }
+    ensures sent { OnOk result (Appends (O.told out.old) (O.told out.new)
+        (problem_line (problem_of problem.now))) }
+    ensures cut_short { OnErr result (SendsBeginning (O.told out.old) (O.told out.new)
+        (problem_line (problem_of problem.now))) }
+    ensures refused { IfErr result (IsSendingCause (O.failure_count out.old)
+        (O.failure_count out.new)) }
     ensures grows { O.failure_count out.old ≤ O.failure_count out.new }
 {
     line.clear();
@@ -83,9 +91,12 @@ fn print_counts<'w, O: Out>(
     warnings: usize,
     out: &mut O,
 ) -> Result<(), Refusal<'w>>
-    ensures sent { OnOk result (Appends (O.told out.old) (O.told out.new) (counts_text errors warnings)) }
-    ensures cut_short { OnErr result (SendsBeginning (O.told out.old) (O.told out.new) (counts_text errors warnings)) }
-    ensures refused { IfErr result (IsSendingCause (O.failure_count out.old) (O.failure_count out.new)) }
+    ensures sent { OnOk result (Appends (O.told out.old) (O.told out.new)
+        (counts_text errors warnings)) }
+    ensures cut_short { OnErr result (SendsBeginning (O.told out.old) (O.told out.new)
+        (counts_text errors warnings)) }
+    ensures refused { IfErr result (IsSendingCause (O.failure_count out.old)
+        (O.failure_count out.new)) }
     ensures grows { O.failure_count out.old ≤ O.failure_count out.new }
 {
     line.clear();

@@ -1,9 +1,9 @@
-ghost use Rattle.std.specs.Prelude.{◌≡◌, ◌≤◌, Option, IfOk, IfErr};
+ghost use Rattle.std.specs.Prelude.{◌≡◌, ◌≤◌, ℕ, Option, IfOk, IfErr};
 ghost use Rattle.gtfs_table.specs.Folder.{Store};
-ghost use Rattle.gtfs_table.specs.Reading.{HoldsDataset};
-ghost use Rattle.gtfs_cli.specs.Running.{Failures, RefusesFeed};
-ghost use Rattle.gtfs_cli.specs.declared.words.BoardWords.{BoardWords as Given};
-ghost use Rattle.gtfs_cli.specs.Refusals.{IsCause, IsCheckCause, IsFaultCause};
+ghost use Rattle.gtfs_table.specs.Reading.{HoldsDataset, RefusesDataset};
+ghost use Rattle.gtfs_cli.specs.CommandLine.{BoardTexts};
+ghost use Rattle.gtfs_cli.specs.Running.{Failures, HasValues, HoldsPassing, HoldsTables};
+ghost use Rattle.gtfs_cli.specs.Refusals.{IsCause, IsCheckCause, IsFileCause};
 
 use crate::commands::refusal::Refusal;
 use gtfs_table::{FolderFault, Folders, Tables};
@@ -17,9 +17,14 @@ pub(super) fn read_tables<'w, F: Folders>(
     dir: &'w str,
 ) -> Result<Tables, Refusal<'w>>
     ensures read { IfOk result (λ tables. HoldsDataset (F.held folders.old) dir.now tables) }
-    ensures refused { IfErr result (λ refusal. (before after : Failures) → before.folders ≤ F.failure_count folders.old
-        → F.failure_count folders.new ≤ after.folders → IsCheckCause (F.held folders.old) dir.now before after refusal) }
+    ensures whole { IfOk result (λ tables. HoldsTables (F.limit folders.old)
+        (F.held folders.old) dir.now tables) }
+    ensures refused { IfErr result (λ refusal. (before after : Failures)
+        → before.folders ≤ F.failure_count folders.old
+        → F.failure_count folders.new ≤ after.folders
+        → IsCheckCause (F.limit folders.old) (F.held folders.old) dir.now before after refusal) }
     ensures unchanged { F.held folders.new ≡ F.held folders.old }
+    ensures same_limit { F.limit folders.new ≡ F.limit folders.old }
     ensures grows { F.failure_count folders.old ≤ F.failure_count folders.new }
 {
     if dir.is_empty() {
@@ -33,9 +38,13 @@ pub(super) fn read_tables<'w, F: Folders>(
 
 // What a fault of the folders means for the path that was asked for.
 pub(super) fn of_folder(fault: FolderFault, path: &str) -> Refusal<'_>
-    ensures board { (held : Option Store) (words : Given) (before after : Failures) → IsFaultCause held words before after fault → IsCause held words before after result }
-    ensures check { (held : Option Store) (before after : Failures) → RefusesFeed fault held path.now before.folders after.folders
-        → IsCheckCause held path.now before after result }
+    ensures board { (limit : ℕ) (held : Option Store) (asked : BoardTexts) (before after : Failures)
+        → path.now ≡ asked.zone → HasValues asked → HoldsPassing limit held asked.dir
+        → IsFileCause limit held asked.zone before after fault
+        → IsCause limit held asked before after result }
+    ensures check { (limit : ℕ) (held : Option Store) (before after : Failures)
+        → RefusesDataset fault limit held path.now before.folders after.folders
+        → IsCheckCause limit held path.now before after result }
 {
     match fault {
         FolderFault::NoFolder => Refusal::NotThere(path),

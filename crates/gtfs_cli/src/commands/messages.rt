@@ -14,7 +14,8 @@ impl Refusal<'_> {
     // Writes what is told of the refusal: `clap`'s text, or a line that begins `gtfs: `. It takes no memory.
     pub(super) fn write<E: Out>(&self, err: &mut E) -> Result<(), OutFault>
         ensures whole { OnOk result (Appends (E.told err.old) (E.told err.new) (message self.now)) }
-        ensures cut_short { OnErr result (SendsBeginning (E.told err.old) (E.told err.new) (message self.now)) }
+        ensures cut_short { OnErr result (SendsBeginning (E.told err.old) (E.told err.new)
+            (message self.now)) }
         ensures counted { OnErr result (Rises (E.failure_count err.old) (E.failure_count err.new)) }
         ensures grows { E.failure_count err.old ≤ E.failure_count err.new }
     {
@@ -36,8 +37,10 @@ impl Refusal<'_> {
 
 // A line of two texts.
 fn write_line<E: Out>(err: &mut E, first: &str, second: &str) -> Result<(), OutFault>
-    ensures whole { OnOk result (Appends (E.told err.old) (E.told err.new) (line_of first.now second.now)) }
-    ensures cut_short { OnErr result (SendsBeginning (E.told err.old) (E.told err.new) (line_of first.now second.now)) }
+    ensures whole { OnOk result (Appends (E.told err.old) (E.told err.new)
+        (line_of first.now second.now)) }
+    ensures cut_short { OnErr result (SendsBeginning (E.told err.old) (E.told err.new)
+        (line_of first.now second.now)) }
     ensures counted { OnErr result (Rises (E.failure_count err.old) (E.failure_count err.new)) }
     ensures grows { E.failure_count err.old ≤ E.failure_count err.new }
 {
@@ -50,7 +53,8 @@ fn write_line<E: Out>(err: &mut E, first: &str, second: &str) -> Result<(), OutF
 // A text with a space in place of each control character, so that it cannot end the line or move the cursor.
 fn write_shown<E: Out>(err: &mut E, text: &[u8]) -> Result<(), OutFault>
     ensures whole { OnOk result (Appends (E.told err.old) (E.told err.new) (plain text.now)) }
-    ensures cut_short { OnErr result (SendsBeginning (E.told err.old) (E.told err.new) (plain text.now)) }
+    ensures cut_short { OnErr result (SendsBeginning (E.told err.old) (E.told err.new)
+        (plain text.now)) }
     ensures counted { OnErr result (Rises (E.failure_count err.old) (E.failure_count err.new)) }
     ensures grows { E.failure_count err.old ≤ E.failure_count err.new }
 {

@@ -2,7 +2,7 @@ ghost use Rattle.std.specs.Prelude.{◌≡◌, ◌++◌, ◌≤◌, ◌+◌, str
 ghost use Rattle.std.specs.String.{string_capacity};
 ghost use Rattle.gtfs_cli.specs.Checking.{counts_text};
 
-use crate::board::push_piece;
+use crate::report::pieces::push_piece;
 use gtfs_field::OutOfMemory;
 use itoa::Buffer;
 
@@ -16,7 +16,8 @@ pub(crate) fn push_counts(
     errors: usize,
     warnings: usize,
 ) -> Result<(), OutOfMemory>
-    ensures appended { OnOk result (string_bytes text.new ≡ string_bytes text.old ++ counts_text errors warnings) }
+    ensures appended { OnOk result (string_bytes text.new
+        ≡ string_bytes text.old ++ counts_text errors warnings) }
     ensures unchanged { OnErr result (string_bytes text.new ≡ string_bytes text.old) }
 {
     text.reserve(COUNTS_ROOM)?;

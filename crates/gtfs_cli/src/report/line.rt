@@ -5,7 +5,7 @@ ghost use Rattle.gtfs_columns.specs.Values.{plain};
 ghost use Rattle.gtfs_columns.specs.View.{problem_of};
 ghost use Rattle.gtfs_cli.specs.Checking.{names_len};
 
-use crate::board::push_piece;
+use crate::report::pieces::push_piece;
 use crate::report::plain::push_plain;
 use gtfs_field::OutOfMemory;
 use gtfs_rules::Problem;
@@ -19,7 +19,8 @@ const LINE_ROOM: usize = 26;
 // each control character of a name.
 // Errors: `OutOfMemory` where the text cannot grow; it is then as it was.
 pub(crate) fn push_problem(text: &mut String, problem: &Problem<'_>) -> Result<(), OutOfMemory>
-    ensures appended { OnOk result (string_bytes text.new ≡ string_bytes text.old ++ problem_line (problem_of problem.now)) }
+    ensures appended { OnOk result (string_bytes text.new ≡ string_bytes text.old ++ problem_line
+        (problem_of problem.now)) }
     ensures unchanged { OnErr result (string_bytes text.new ≡ string_bytes text.old) }
 {
     text.reserve(room_for(problem))?;
@@ -41,7 +42,8 @@ fn room_for(problem: &Problem<'_>) -> usize
 // Appends the line of a problem, for which there is room.
 fn write_problem(text: &mut String, problem: &Problem<'_>)
     requires { string_len text.old + (26 + names_len (problem_of problem.now)) ≤ string_capacity text.old }
-    ensures { string_bytes text.new ≡ string_bytes text.old ++ problem_line (problem_of problem.now) }
+    ensures { string_bytes text.new ≡ string_bytes text.old ++ problem_line
+        (problem_of problem.now) }
 {
     push_piece(text, problem.code.name(), " ");
     push_plain(text, problem.file.as_str());

@@ -1,11 +1,13 @@
+use Rattle.std.proofs.Common.{refl}
+use Rattle.gtfs_cli.specs.CommandLine.{texts_of}
 use Rattle.gtfs_cli.proofs.Endings.{cause-file}
 use Rattle.gtfs_cli.proofs.commands.board.read_zone.Goals as goal
 
 pub returns-in-Err-clause-refused : goal.returns-in-Err-clause-refused
-returns-in-Err-clause-refused g c = λ before after first last.
+returns-in-Err-clause-refused g c = λ before after first last values passing.
     let limit = g.F.Folders.limit c.args.folders.now in
     let held = g.F.Folders.held c.args.folders.now in
     let x = g.F.Folders.failure_count c.args.folders.now in
     let y = g.F.Folders.failure_count c.read.new.self in
-    c.of_folder.ensures.board held c.args.words.now before after
-    (cause-file limit held c.args.words.now before after x y c.cut_path.result.0.now c.cut_path.result.1.now c.in-Err.fault first last c.cut_path.ensures c.in-Err.ensures.refused)
+    c.of_folder.ensures.board limit held (texts_of c.args.words.now) before after refl values passing
+    (cause-file limit held c.args.words.now.zone.now before after x y c.cut_path.result.0.now c.cut_path.result.1.now c.in-Err.fault first last c.cut_path.ensures c.in-Err.ensures.refused)

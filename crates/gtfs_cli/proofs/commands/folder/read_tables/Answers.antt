@@ -7,5 +7,5 @@ returns-in-Err-clause-refused g c = λ before after first last.
     let held = g.F.Folders.held c.args.folders.now in
     let x = g.F.Folders.failure_count c.args.folders.now in
     let y = g.F.Folders.failure_count c.read.new.folders in
-    c.of_folder.ensures.check held before after
+    c.of_folder.ensures.check limit held before after
     (refuses-longer limit held c.args.dir.now before after x y c.in-Err.fault first last c.in-Err.ensures.refused)

@@ -1,0 +1,193 @@
+-- What was printed of a board, and why there is none.
+use Rattle.std.proofs.Common.{◌≡◌, ℕ, ◌≤◌, refl, subst, inl, inr, true, false, List, Option, Some, None, codes, arith}
+use Rattle.std.specs.Io.KnownBytes.{Keeps}
+use Rattle.gtfs_days.specs.declared.zone.Zone.{Zone}
+use Rattle.gtfs_table.specs.Folder.{Store}
+use Rattle.gtfs_table.specs.Tables.{Dataset}
+use Rattle.gtfs_rows.specs.Content.{Content}
+use Rattle.gtfs_feed.specs.Content.{content_of as content_of_feed}
+use Rattle.gtfs_feed.specs.declared.feed.Feed.{Feed}
+use Rattle.gtfs_board.specs.Board.{is_stop}
+use Rattle.gtfs_board.specs.Page.{IsCutShort, IsStopped}
+use Rattle.gtfs_cli.specs.Boards.{request_of, AreValues, EndsBoard, EndsLines, GoesOut, HoldsFeed, IsFeedCause, IsLinesCause, IsOpeningCause, Lists, OfBoard}
+use Rattle.gtfs_cli.specs.CommandLine.{BoardTexts}
+use Rattle.gtfs_cli.specs.Refusals.{IsCause, IsFirstBad}
+use Rattle.gtfs_cli.specs.Running.{after_of, first_bad, limit_of, moment_of, Failures, HasValues, HoldsPassing, HoldsTables, HoldsZone, Request, Setting}
+use Rattle.gtfs_cli.specs.declared.commands.moments.Moment.{Moment}
+use Rattle.gtfs_cli.specs.declared.commands.refusal.Refusal.{Refusal}
+use Rattle.gtfs_cli.specs.declared.commands.refusal.Refusal.TheVariants.{Words, BadValue, NotThere, Unreadable, OverLimit, HasErrors, NoZone, UnknownStop, UntilBeforeFrom, OutputFailed, OutOfMemory}
+use Rattle.gtfs_cli.specs.declared.commands.values.Values.{Values}
+
+-- nothing went out
+pub kept : (a : Option (List ℕ)) → Keeps a a
+kept None = tt
+kept (Some xs) = refl
+
+-- ---- values of options
+
+pub first-bad-cause : (limit : ℕ) (held : Option Store) (asked : BoardTexts) (before after : Failures) (r : Refusal) → IsFirstBad asked r → IsCause limit held asked before after r
+first-bad-cause limit held asked before after (Words text) h = absurd h
+first-bad-cause limit held asked before after (BadValue option) h = h
+first-bad-cause limit held asked before after (NotThere path) h = absurd h
+first-bad-cause limit held asked before after (Unreadable path) h = absurd h
+first-bad-cause limit held asked before after (OverLimit path) h = absurd h
+first-bad-cause limit held asked before after (HasErrors path) h = absurd h
+first-bad-cause limit held asked before after (NoZone path) h = absurd h
+first-bad-cause limit held asked before after UnknownStop h = absurd h
+first-bad-cause limit held asked before after UntilBeforeFrom h = absurd h
+first-bad-cause limit held asked before after OutputFailed h = absurd h
+first-bad-cause limit held asked before after OutOfMemory h = absurd h
+
+-- ---- what went out
+
+-- the refusal has a cause whatever the output did
+abbrev pub CauseAside : ℕ → Option Store → BoardTexts → ℕ → ℕ → Refusal → Type 0
+CauseAside limit held asked x y r = (before after : Failures) → before.folders ≤ x → y ≤ after.folders → IsCause limit held asked before after r
+
+abbrev counts : ℕ → Failures
+counts folders = record { folders = folders; output = 0 }
+
+same : (n : ℕ) → n ≤ n
+same n = omega arith
+
+-- then nothing went out
+pub none-out : (limit : ℕ) (held : Option Store) (asked : BoardTexts) (x y : ℕ) (r : Refusal) (old new : Option (List ℕ)) → CauseAside limit held asked x y r → Keeps old new
+    → EndsBoard limit held asked old new r
+none-out limit held asked x y (Words text) old new h keeps = keeps
+none-out limit held asked x y (BadValue option) old new h keeps = keeps
+none-out limit held asked x y (NotThere path) old new h keeps = keeps
+none-out limit held asked x y (Unreadable path) old new h keeps = keeps
+none-out limit held asked x y (OverLimit path) old new h keeps = keeps
+none-out limit held asked x y (HasErrors path) old new h keeps = keeps
+none-out limit held asked x y (NoZone path) old new h keeps = keeps
+none-out limit held asked x y UnknownStop old new h keeps = keeps
+none-out limit held asked x y UntilBeforeFrom old new h keeps = keeps
+none-out limit held asked x y OutputFailed old new h keeps = absurd (omega (arith, h (counts x) (counts y) (same x) (same y)))
+none-out limit held asked x y OutOfMemory old new h keeps = inl keeps
+
+-- ---- what was judged before
+
+pub has-values : (asked : BoardTexts) (v : Values) → AreValues asked v → HasValues asked
+has-values asked v are = (request_of v, are.request)
+
+pub has-passing : (limit : ℕ) (held : Option Store) (dir : List ℕ) (feed : Feed) → HoldsFeed limit held dir feed → HoldsPassing limit held dir
+has-passing limit held dir feed h = (h.dataset, h.holds, h.is_feed.0)
+
+-- what is so of folders is so of the same folders later
+pub moved : (P : ℕ → Option Store → Type 0) (l m : ℕ) (h k : Option Store) → l ≡ m → h ≡ k → P l h → P m k
+moved P l m h k same_limit same_held x = subst (λ (a : ℕ). P a k) same_limit (subst (λ (b : Option Store). P l b) same_held x)
+
+-- the refusal has a cause where the options have values, whatever the output did
+abbrev pub FeedCause : ℕ → Option Store → BoardTexts → ℕ → ℕ → Refusal → Type 0
+FeedCause limit held asked x y r =
+    (before after : Failures) → before.folders ≤ x → y ≤ after.folders → HasValues asked → IsCause limit held asked before after r
+
+-- ---- from a feed and a zone to what the folders hold
+
+module _ (limit : ℕ) (held : Option Store) (asked : BoardTexts) (feed : Feed) (z : Zone) (v : Values) (h : HoldsFeed limit held asked.dir feed) (hz : HoldsZone limit held asked.zone z)
+    (are : AreValues asked v) where
+  abbrev setting : Setting limit held asked
+  setting = record {
+    dataset = h.dataset;
+    zone = z;
+    request = request_of v;
+    holds = h.holds;
+    passes = h.is_feed.0;
+    holds_zone = hz;
+    is_request = are.request;
+  }
+
+  pub lists-of : (Out : GoesOut) (old new : Option (List ℕ)) → OfBoard Out (content_of_feed feed) z asked.stop (request_of v) old new → Lists Out limit held asked old new
+  lists-of Out old new out = (setting, subst (λ (f : Content). OfBoard Out f z asked.stop (request_of v) old new) h.is_feed.1 out)
+
+  pub ends-of : (old new : Option (List ℕ)) (r : Refusal) → EndsLines (content_of_feed feed) z asked.stop (request_of v) old new r → EndsBoard limit held asked old new r
+  ends-of old new (Words text) e = e
+  ends-of old new (BadValue option) e = e
+  ends-of old new (NotThere path) e = e
+  ends-of old new (Unreadable path) e = e
+  ends-of old new (OverLimit path) e = e
+  ends-of old new (HasErrors path) e = e
+  ends-of old new (NoZone path) e = e
+  ends-of old new UnknownStop e = e
+  ends-of old new UntilBeforeFrom e = e
+  ends-of old new OutputFailed e = lists-of IsCutShort old new e
+  ends-of old new OutOfMemory (inl e) = inl e
+  ends-of old new OutOfMemory (inr e) = inr (lists-of IsStopped old new e)
+
+  pub cause-of : (before after : Failures) (r : Refusal) → IsLinesCause (content_of_feed feed) z asked.stop (request_of v) before.output after.output r
+      → IsCause limit held asked before after r
+  cause-of before after (Words text) e = absurd e
+  cause-of before after (BadValue option) e = absurd e
+  cause-of before after (NotThere path) e = absurd e
+  cause-of before after (Unreadable path) e = absurd e
+  cause-of before after (OverLimit path) e = absurd e
+  cause-of before after (HasErrors path) e = absurd e
+  cause-of before after (NoZone path) e = absurd e
+  cause-of before after UnknownStop e = (setting, subst (λ (f : Content). is_stop f asked.stop ≡ false) h.is_feed.1 e)
+  cause-of before after UntilBeforeFrom e = (setting, subst (λ (f : Content). is_stop f asked.stop ≡ true) h.is_feed.1 e.0, e.1)
+  cause-of before after OutputFailed e = e
+  cause-of before after OutOfMemory e = tt
+
+-- ---- where no board is opened
+
+pub opening-ends : (f : Content) (z : Zone) (stop : List ℕ) (r : Request) (old new : Option (List ℕ)) (refusal : Refusal) → IsOpeningCause f z stop r refusal → Keeps old new
+    → EndsLines f z stop r old new refusal
+opening-ends f z stop r old new (Words text) e keeps = absurd e
+opening-ends f z stop r old new (BadValue option) e keeps = absurd e
+opening-ends f z stop r old new (NotThere path) e keeps = absurd e
+opening-ends f z stop r old new (Unreadable path) e keeps = absurd e
+opening-ends f z stop r old new (OverLimit path) e keeps = absurd e
+opening-ends f z stop r old new (HasErrors path) e keeps = absurd e
+opening-ends f z stop r old new (NoZone path) e keeps = absurd e
+opening-ends f z stop r old new UnknownStop e keeps = keeps
+opening-ends f z stop r old new UntilBeforeFrom e keeps = keeps
+opening-ends f z stop r old new OutputFailed e keeps = absurd e
+opening-ends f z stop r old new OutOfMemory e keeps = inl keeps
+
+pub opening-cause : (f : Content) (z : Zone) (stop : List ℕ) (r : Request) (before after : ℕ) (refusal : Refusal) → IsOpeningCause f z stop r refusal
+    → IsLinesCause f z stop r before after refusal
+opening-cause f z stop r before after (Words text) e = e
+opening-cause f z stop r before after (BadValue option) e = e
+opening-cause f z stop r before after (NotThere path) e = e
+opening-cause f z stop r before after (Unreadable path) e = e
+opening-cause f z stop r before after (OverLimit path) e = e
+opening-cause f z stop r before after (HasErrors path) e = e
+opening-cause f z stop r before after (NoZone path) e = e
+opening-cause f z stop r before after UnknownStop e = e
+opening-cause f z stop r before after UntilBeforeFrom e = e
+opening-cause f z stop r before after OutputFailed e = absurd e
+opening-cause f z stop r before after OutOfMemory e = tt
+
+-- ---- where there is no feed
+
+pub feed-cause : (limit : ℕ) (held : Option Store) (asked : BoardTexts) (before after : Failures) (d : Dataset) (r : Refusal) → HasValues asked → HoldsTables limit held asked.dir d
+    → IsFeedCause d asked.dir r → IsCause limit held asked before after r
+feed-cause limit held asked before after d (Words text) v holds e = absurd e
+feed-cause limit held asked before after d (BadValue option) v holds e = absurd e
+feed-cause limit held asked before after d (NotThere path) v holds e = absurd e
+feed-cause limit held asked before after d (Unreadable path) v holds e = absurd e
+feed-cause limit held asked before after d (OverLimit path) v holds e = absurd e
+feed-cause limit held asked before after d (HasErrors path) v holds e = (v, e.0, (d, holds, e.1))
+feed-cause limit held asked before after d (NoZone path) v holds e = absurd e
+feed-cause limit held asked before after d UnknownStop v holds e = absurd e
+feed-cause limit held asked before after d UntilBeforeFrom v holds e = absurd e
+feed-cause limit held asked before after d OutputFailed v holds e = absurd e
+feed-cause limit held asked before after d OutOfMemory v holds e = tt
+
+pub first-bad-ends : (limit : ℕ) (held : Option Store) (asked : BoardTexts) (r : Refusal) (old new : Option (List ℕ)) → IsFirstBad asked r → Keeps old new → EndsBoard limit held asked old new r
+first-bad-ends limit held asked r old new h keeps = none-out limit held asked 0 0 r old new (λ before after _ _. first-bad-cause limit held asked before after r h) keeps
+
+-- the first option that is bad
+pub bad-from : (asked : BoardTexts) → moment_of asked.from ≡ None → first_bad asked ≡ Some (codes "--from")
+bad-from asked from = rw from refl
+
+pub bad-until : (asked : BoardTexts) (a : Moment) → moment_of asked.from ≡ Some a → moment_of asked.until ≡ None → first_bad asked ≡ Some (codes "--until")
+bad-until asked a from until = rw (from, until) refl
+
+pub bad-limit : (asked : BoardTexts) (a b : Moment) → moment_of asked.from ≡ Some a → moment_of asked.until ≡ Some b → limit_of asked.limit ≡ None
+    → first_bad asked ≡ Some (codes "--limit")
+bad-limit asked a b from until limit = rw (from, until, limit) refl
+
+pub bad-after : (asked : BoardTexts) (a b : Moment) (n : ℕ) → moment_of asked.from ≡ Some a → moment_of asked.until ≡ Some b → limit_of asked.limit ≡ Some n
+    → after_of asked.after ≡ None → first_bad asked ≡ Some (codes "--after")
+bad-after asked a b n from until limit after = rw (from, until, limit, after) refl
