@@ -1,0 +1,197 @@
+"""Cases: a folder with feeds and zone files, and words. Each is made from its name alone."""
+import copy
+import os
+from random import Random
+
+from boards import Key, departures
+from commands import Ended, feed, moment_of, zone_of
+from feed_maker import BASES, file_bytes, make_feed
+from oddities import DIFFERENCES, ODDITIES, change
+from values import LAST_SERVICE_DAY, Form, Range, date_text
+from words import COMMANDS
+from zone_maker import make_zone, no_zone
+from zones import DAY, midnight
+
+
+def put(path, files):
+    os.makedirs(path, exist_ok=True)
+    for name, held in files.items():
+        with open(os.path.join(path, name), "wb") as file:
+            file.write(held)
+
+
+def put_feed(random, folder, oddities):
+    """A feed in a folder, with so many odd changes."""
+    made = make_feed(random, random.choice(BASES))
+    change(random, made, ODDITIES, oddities)
+    put(folder, file_bytes(random, made))
+    if random.random() < 0.03:
+        # (a folder of the name of a kept file and a name that is not UTF-8 cannot be read)
+        name = random.choice([b"notes.d", b"levels.txt", b"transfers.txt", b"\xff"])
+        if name not in os.listdir(os.fsencode(folder)):
+            os.mkdir(os.path.join(os.fsencode(folder), name))
+    return made
+
+
+# ---- values of options
+
+ODD_MOMENTS = [
+    "@", "", "@01", "@-0", "@-1", "@1e3", "20240230", "99990101", "18991231", "2024041", "@1000000000000", " 20240401",
+    "19000101", "99981231",
+]
+ODD_KEYS = [
+    "", "@", "@0", "x", "@0/T1/0/1", "@0//0/1/20240401", "@0/T1/00/1/20240401", "@0/T1/0/1/20240230",
+    "@-0/T1/0/1/20240401", "@0/T1/3600000/1/20240401", "@0/T1/0/2147483648/20240401", "@5/a/b/c/0/1/99991231",
+]
+ODD_ZONES = ["zones/bad", "zones/bad", "none", "zones", "zones/", "z/z", "", "no/z", "z\t"]
+
+# How long a span is, in seconds, for most draws.
+LENGTHS = [0, 1, 3600, *(days * DAY for days in range(1, 8))]
+
+
+def near(random, made):
+    """An instant near the days of a feed."""
+    return midnight(made.base) + random.randint(-3 * DAY, 2 * DAY)
+
+
+def moment(random, made):
+    form = random.random()
+    if form < 0.45:
+        return date_text(made.base)
+    if form < 0.97:
+        return f"@{near(random, made)}"
+    return random.choice(ODD_MOMENTS)
+
+
+def later(random, text):
+    """A moment after another one, for most draws."""
+    try:
+        return f"@{start_of(text) + random.choice(LENGTHS)}"
+    except (Form, Range):
+        return text
+
+
+def start_of(text):
+    """The instant of a moment, a service day's in UTC."""
+    moment = moment_of(text)
+    return moment if isinstance(moment, int) else midnight(moment)
+
+
+def odd_key(random):
+    return random.choice(ODD_KEYS)
+
+
+def key_near(random, zone, stop, begin):
+    """The key of a departure of the board, or one beside it."""
+    try:
+        start = start_of(begin)
+        keys = [found[0] for found in departures(feed("f"), zone_of(zone), stop, start - DAY, start + 3 * DAY)]
+    except (Ended, Form, Range):
+        keys = []
+    if random.random() < 0.1:
+        return odd_key(random)
+    key = random.choice(keys) if keys else Key(random.randint(-5, 10**10), "T1", 28800, 2, LAST_SERVICE_DAY)
+    sequence = max(0, key.sequence + random.choice([0, 0, 0, 1, -1]))
+    return f"@{key.instant}/{key.trip}/{key.run}/{sequence}/{date_text(key.date)}"
+
+
+def one_of(random, ids, unknown):
+    return random.choice(ids) if ids and random.random() < 0.93 else unknown
+
+
+# ---- the texts of each command
+
+
+def folder_word(random):
+    """The folder of the feed, or at times something else."""
+    return "f" if random.random() < 0.94 else random.choice(["none", "", "z", "z/f", "f/", "./f", "a\tb", "none/f"])
+
+
+def given_check(random):
+    put_feed(random, "f", random.choice([0, 1, 1, 2, 3, 5]))
+    put(".", {"z": b""})
+    return {"DIR": folder_word(random)}
+
+
+def given_board(random):
+    made = put_feed(random, "f", random.choice([0, 0, 0, 0, 0, 1, 2]))
+    put("zones", {"z": make_zone(random, midnight(made.base)), "bad": no_zone(random)})
+    put(".", {"z": b"no folder"})
+    zone = "zones/z" if random.random() < 0.93 else random.choice(ODD_ZONES)
+    called = made.ids("stop_times.txt", "stop_id") + made.ids("stops.txt", "parent_station")
+    stop = one_of(random, called if random.random() < 0.8 else made.ids("stops.txt", "stop_id"), "S99")
+    begin = moment(random, made)
+    end = later(random, begin) if random.random() < 0.85 else moment(random, made)
+    given = {"DIR": folder_word(random), "zone": zone, "stop": stop, "from": begin, "until": end}
+    if random.random() < 0.35:
+        limits = ["2147483648", "x", "", "+1"] if random.random() < 0.1 else ["0", "1", "2", "3", "007", "2147483647"]
+        given["limit"] = random.choice(limits)
+    if random.random() < 0.4:
+        given["after"] = key_near(random, zone, stop, begin)
+    return given
+
+
+def given_timetable(random):
+    made = put_feed(random, "f", random.choice([0, 0, 0, 0, 0, 1, 2]))
+    put(".", {"z": b"no folder"})
+    dates = made.ids("calendar.txt", "start_date") * 2 + made.ids("calendar_dates.txt", "date") + [date_text(made.base)]
+    date = random.choice(dates)
+    if random.random() < 0.1:
+        date = random.choice(["", "@5", "99991231", "19000101", "18991231", "20240230", "2024-04-01", "20230229"])
+    route = one_of(random, made.ids("trips.txt", "route_id"), "R99")
+    given = {"DIR": folder_word(random), "route": route, "date": date}
+    if random.random() < 0.4:
+        given["direction"] = random.choice("01" if random.random() < 0.8 else ["2", "00", "", "+1", "01"])
+    return given
+
+
+def given_merge(random):
+    made = put_feed(random, "a", random.choice([0, 0, 0, 0, 0, 1]))
+    if random.random() < 0.6:
+        other = copy.deepcopy(made)
+        change(random, other, DIFFERENCES, random.randint(0, 4))
+        put("b", file_bytes(random, other))
+    else:
+        put_feed(random, "b", random.choice([0, 0, 0, 0, 1]))
+    put(".", {"z": b"no folder"})
+    a, b = (name if random.random() < 0.96 else random.choice(["none", "", "z"]) for name in "ab")
+    return {"A": a, "B": b, "OUT": random.choice(["out", "out", "out/deep/er", "a", "b", "b", "z/out", "z", ""])}
+
+
+GIVEN = {"check": given_check, "board": given_board, "timetable": given_timetable, "merge": given_merge}
+
+
+# ---- words
+
+
+def words_of(random, command, given):
+    """Words that give these texts, the options in any order and place."""
+    positions = COMMANDS[command][0]
+    options = [name for name in given if name not in positions]
+    random.shuffle(options)
+    groups = [[given[name]] for name in positions if name in given]
+    for name in options:
+        text = given[name]
+        joined = text.startswith("-") or (text and random.random() < 0.3)
+        groups.insert(random.randint(0, len(groups)), [f"--{name}={text}"] if joined else [f"--{name}", text])
+    return [command, *(word for group in groups for word in group)]
+
+
+def odd_words(random, command, given):
+    """Words that are refused, or that ask for help."""
+    words = words_of(random, command, given)
+    lost = random.choice(list(given))
+    less = words_of(random, command, {name: text for name, text in given.items() if name != lost})
+    return random.choice([
+        [], ["--help"], ["-h"], [command, "--help"], [command, "-h"], [*words, "--help"], ["help"], ["Check", "f"],
+        ["--version"], [*words, "--foo"], [*words, "more"], [*words, "--foo", "--help"], [*words, "--zone"], ["--foo"],
+        ["-x", *words], [*words, "\udcff"], [*words, "--"], [*words, "--", "--help"], ["check", "--", "-d"], less, less,
+    ])
+
+
+def make_case(name):
+    """Makes the case of this name, as `1-17-board`, in the folder where this runs, and gives its words."""
+    random = Random(name)
+    command = name.split("-")[-1]
+    given = GIVEN[command](random)
+    return odd_words(random, command, given) if random.random() < 0.04 else words_of(random, command, given)

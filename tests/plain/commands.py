@@ -1,0 +1,190 @@
+"""What the program gives for its words: the output, the line on the error output, the status and the files written."""
+import os
+import re
+from dataclasses import dataclass, field
+
+import boards
+import merging
+import timetables
+from content import content_of
+from problems import passes, problems, report
+from tables import NotThere, Unreadable, read_tables
+from values import FIRST_SERVICE_DAY, LAST_SERVICE_DAY, Form, Range, plain, read_count, read_date, shaped
+from words import Help, NotUtf8, Refused, read_words
+from zones import NoZone, read_zone
+
+# A text that is there and is not fixed.
+SOME = object()
+
+
+@dataclass
+class Outcome:
+    """How a run of the program ends. `written` has the files that a merge leaves in its folder."""
+
+    status: int
+    out: object = ""
+    err: object = ""
+    written: dict = field(default_factory=dict)
+
+
+class Ended(Exception):
+    """The command cannot be done: a line on the error output, and a status."""
+
+    def __init__(self, status, line):
+        super().__init__(line)
+        self.outcome = Outcome(status, err=f"gtfs: {plain(line)}\n")
+
+
+# ---- the values of options
+
+
+def instant_of(text):
+    """Seconds since 1970-01-01T00:00:00Z, as a key has them."""
+    found = shaped("-?(0|[1-9][0-9]*)", text)[0]
+    if found == "-0":
+        raise Form
+    if len(found.lstrip("-")) > 12:
+        raise Range
+    return int(found)
+
+
+def number_of(text, greatest):
+    """A number of a key, without leading zeros."""
+    number = int(shaped("0|[1-9][0-9]*", text)[0])
+    if number > greatest:
+        raise Range
+    return number
+
+
+def moment_of(text):
+    """An instant as a number, or a service day."""
+    if text.startswith("@"):
+        return instant_of(text[1:])
+    date = read_date(text)
+    if not FIRST_SERVICE_DAY <= date <= LAST_SERVICE_DAY:
+        raise Range
+    return date
+
+
+def key_of(text):
+    """The key of a departure. Its trip id may hold slashes."""
+    found = re.fullmatch("@([^/]*)/(.*)/([^/]*)/([^/]*)/([^/]*)", text, re.DOTALL)
+    if not found:
+        raise Form
+    instant, trip, run, sequence, date = found.groups()
+    start, place = number_of(run, 3_599_999), number_of(sequence, 2_147_483_647)
+    return boards.Key(instant_of(instant), trip, start, place, read_date(date))
+
+
+def direction_of(text):
+    if text not in ("0", "1"):
+        raise Form
+    return int(text)
+
+
+def value(given, name, reader):
+    """The value of an option, none where it is not given."""
+    if name not in given:
+        return None
+    try:
+        return reader(given[name])
+    except (Form, Range):
+        raise Ended(2, f"bad value of --{name}") from None
+
+
+# ---- folders and files
+
+
+def dataset(folder):
+    try:
+        return read_tables(folder)
+    except NotThere:
+        raise Ended(3, f"{folder} is not there") from None
+    except Unreadable:
+        raise Ended(3, f"{folder} cannot be read") from None
+
+
+def feed(folder):
+    tables = dataset(folder)
+    if not passes(tables):
+        raise Ended(1, f"{folder} has errors")
+    return content_of(tables)
+
+
+def zone_of(path):
+    try:
+        with open(path, "rb") as file:
+            return read_zone(file.read())
+    except FileNotFoundError:
+        # (an empty path, and one that ends in a slash, name no file)
+        ending = "is not there" if path.rpartition("/")[2] else "cannot be read"
+        raise Ended(3, f"{path} {ending}") from None
+    except OSError:
+        raise Ended(3, f"{path} cannot be read") from None
+    except NoZone:
+        raise Ended(3, f"{path} is no zone file") from None
+
+
+def can_be_written(folder):
+    """Whether the nine files can be written into a folder, whose missing levels are made."""
+    if not folder:
+        return False
+    while not os.path.lexists(folder):
+        folder = os.path.dirname(folder) or "."
+    return os.path.isdir(folder)
+
+
+# ---- the commands
+
+
+def check(given):
+    out, has_errors = report(problems(dataset(given["DIR"])))
+    return Outcome(1 if has_errors else 0, out)
+
+
+def board(given):
+    begin, end = value(given, "from", moment_of), value(given, "until", moment_of)
+    limit, after = value(given, "limit", read_count), value(given, "after", key_of)
+    content = feed(given["DIR"])
+    zone = zone_of(given["zone"])
+    if given["stop"] not in content.stops:
+        raise Ended(1, "unknown stop")
+    begin, end = (at if isinstance(at, int) else zone.origin(at) for at in (begin, end))
+    if end < begin:
+        raise Ended(2, "until lies before from")
+    return Outcome(0, boards.board(content, zone, given["stop"], begin, end, limit, after))
+
+
+def timetable(given):
+    date, direction = value(given, "date", read_date), value(given, "direction", direction_of)
+    content = feed(given["DIR"])
+    if given["route"] not in content.routes:
+        raise Ended(1, "unknown route")
+    return Outcome(0, timetables.timetable(content, given["route"], direction, date))
+
+
+def merge(given):
+    a = feed(given["A"])
+    b = feed(given["B"])
+    try:
+        merged, names = merging.merge(a, b)
+    except merging.ZonesDiffer:
+        raise Ended(1, "zones differ") from None
+    if not can_be_written(given["OUT"]):
+        raise Ended(3, f"{given['OUT']} cannot be written")
+    return Outcome(0, merging.report(names), written={given["OUT"]: merging.written_files(merged)})
+
+
+def outcome(words):
+    """What the program gives for the words behind its name, in the folder where this runs. It changes nothing there."""
+    try:
+        command, given = read_words(words)
+        return {"check": check, "board": board, "timetable": timetable, "merge": merge}[command](given)
+    except Help:
+        return Outcome(0, out=SOME)
+    except Refused:
+        return Outcome(2, err=SOME)
+    except NotUtf8:
+        return Ended(2, "bad words").outcome
+    except Ended as ended:
+        return ended.outcome

@@ -1,0 +1,60 @@
+"""The words of the command line: what they ask for, what they are refused for, and when they ask for help."""
+
+# Of each command the words by position, the options that it needs and those that it may have.
+COMMANDS = {
+    "check": (["DIR"], [], []),
+    "board": (["DIR"], ["zone", "stop", "from", "until"], ["limit", "after"]),
+    "timetable": (["DIR"], ["route", "date"], ["direction"]),
+    "merge": (["A", "B", "OUT"], [], []),
+}
+
+
+class Help(Exception):
+    """The words ask for help before anything is wrong with them."""
+
+
+class NotUtf8(Exception):
+    """A word is not UTF-8."""
+
+
+class Refused(Exception):
+    """Something is wrong with the words first."""
+
+
+def read_words(words):
+    """The command and the text of each position and option. The words stand behind the program's name."""
+    if any("\udc80" <= char <= "\udcff" for word in words for char in word):
+        raise NotUtf8
+    if not words:
+        raise Refused
+    if words[0] in ("--help", "-h"):
+        raise Help
+    if words[0] not in COMMANDS:
+        raise Refused
+    positions, needed, free = COMMANDS[words[0]]
+    given, options_end = {}, False
+    rest = list(words[1:])
+    while rest:
+        word = rest.pop(0)
+        if word in ("--help", "-h") and not options_end:
+            raise Help
+        if word == "--" and not options_end:
+            options_end = True
+            continue
+        if word.startswith("--") and not options_end:
+            name, equals, text = word[2:].partition("=")
+            if name not in needed + free or name in given:
+                raise Refused
+            if not equals:
+                if not rest or rest[0].startswith("-"):
+                    raise Refused
+                text = rest.pop(0)
+        else:
+            left = [position for position in positions if position not in given]
+            if (word.startswith("-") and not options_end) or not left:
+                raise Refused
+            name, text = left[0], word
+        given[name] = text
+    if not all(name in given for name in positions + needed):
+        raise Refused
+    return words[0], given
