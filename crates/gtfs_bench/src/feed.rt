@@ -93,7 +93,7 @@ fn time_lanes<R: AllocGlobal + Clock>(rt: &R, feed: &Feed, least: &mut Measured)
 }
 
 /// The stop that most stop times name.
-fn busiest(alloc: Global, feed: &Feed) -> Result<StopNo> {
+pub fn busiest(alloc: Global, feed: &Feed) -> Result<StopNo> {
     let mut counts: Vec<usize> = Vec::new(alloc);
     counts.resize(feed.stop_count(), 0)?;
     for trip in 0..feed.trip_count() {
@@ -127,7 +127,7 @@ pub fn measure_memory<R: Files + Alloc + AllocGlobal + Clone + Drop + Print + Ra
     Ok(())
 }
 
-fn read_feed<R: Files + Alloc + AllocGlobal + Clone + Drop + RandomSource>(
+pub fn read_feed<R: Files + Alloc + AllocGlobal + Clone + Drop + RandomSource>(
     rt: &R,
     dir: &str,
 ) -> Result<Feed> {

@@ -1,6 +1,7 @@
 //! Measures the crates of this repository over a feed on disk. `bench/run` runs it, and reads what it prints.
 #![tactic(auto)]
 
+mod board;
 mod check;
 mod count;
 mod feed;
@@ -20,7 +21,8 @@ const USAGE: &str = "usage: gtfs_bench WORD DIR
   check DIR          the time to check the tables of the feed in DIR, and that of a bare csv loop
   check-memory DIR   the memory that reading and checking these tables takes
   feed DIR           the time to make the feed of checked tables and the lanes of its busiest stop, and a bare csv loop
-  feed-memory DIR    the memory that the feed takes";
+  feed-memory DIR    the memory that the feed takes
+  board DIR ZONE     the time to take all departures at the busiest stop of the feed, and to write their lines";
 
 fn main(rt: HostRuntime) -> ExitCode {
     match run(&rt) {
@@ -37,6 +39,7 @@ fn run<R: Runtime + AllocGlobal + RandomSource>(rt: &R) -> Result<()> {
     match words.as_slice() {
         [] | [_] => Ok(rt.println(USAGE)?),
         [_, word, dir] => measure(rt, word.as_str(), dir.as_str()),
+        [_, word, dir, zone] if word.as_str() == "board" => board::measure(rt, dir.as_str(), zone.as_str()),
         _ => bail!("one word and a folder are wanted"),
     }
 }
