@@ -31,6 +31,17 @@ pub mod NewNames
 pub mod MergedNames
 pub mod FitRows
 pub mod MergedSound
+pub mod KeyedMaps
+pub mod KeyedOrders
+pub mod InTurn
+pub mod HeadsignNumbers
+pub mod ReferenceNumbers
+pub mod MergedStopTimes
+pub mod TransferOrder
+pub mod MergedTransfers
+pub mod MergedFeed
+pub mod TripPlaces
+pub mod FileLimit
 pub mod ByNewIds
 pub mod Distinct
 pub mod MergedOrder

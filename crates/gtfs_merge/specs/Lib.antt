@@ -1,10 +1,13 @@
 pub mod Departures
+pub mod Headsigns
 pub mod IdRows
 pub mod Joined
 pub mod KindRows
 pub mod Law
 pub mod Merged
 pub mod MergedKinds
+pub mod MergedLists
+pub mod Merging
 pub mod Names
 pub mod Near
 pub mod Numbered
@@ -14,3 +17,5 @@ pub mod Renumbered
 pub mod Report
 pub mod Same
 pub mod Sides
+pub mod Transfers
+pub mod TripRows

@@ -1,16 +1,19 @@
 ghost use Rattle.std.specs.Prelude.{◌≡◌, IfOk};
 ghost use Rattle.gtfs_merge.specs.IdRows.{AreIdRows};
 ghost use Rattle.gtfs_merge.specs.KindRows.{AreMergedKinds};
+ghost use Rattle.gtfs_merge.specs.MergedLists.{parts_with};
 
 use crate::merged_agencies::merged_agencies;
+use crate::merged_frequencies::Frequencies;
 use crate::merged_kinds::MergedKinds;
 use crate::merged_routes::merged_routes;
 use crate::merged_services::merged_services;
+use crate::merged_stop_times::StopTimes;
 use crate::merged_stops::merged_stops;
 use crate::merged_trips::merged_trips;
 use gtfs_feed::Feed;
-use gtfs_field::{List, OutOfMemory};
-use gtfs_rows::{Agency, Route, ServiceRow, Stop, Trip};
+use gtfs_field::{List, OutOfMemory, Text};
+use gtfs_rows::{Agency, Parts, Route, ServiceRow, Stop, Transfer, Trip};
 use std::alloc::Global;
 
 // The rows with ids of a merged feed, in the order of their new ids.
@@ -58,5 +61,45 @@ impl IdRows {
             services,
             trips,
         })
+    }
+
+    // All lists of a feed.
+    pub(crate) fn with_lists(
+        self,
+        transfers: List<Transfer>,
+        stop_times: StopTimes,
+        frequencies: Frequencies,
+        headsigns: List<Text>,
+    ) -> Parts
+        ensures { result ≡ parts_with self transfers stop_times frequencies headsigns }
+    {
+        let IdRows {
+            agencies,
+            stops,
+            routes,
+            services,
+            trips,
+        } = self;
+        let StopTimes {
+            rows: stop_rows,
+            starts: stop_row_starts,
+        } = stop_times;
+        let Frequencies {
+            rows: frequencies,
+            starts: frequency_starts,
+        } = frequencies;
+        Parts {
+            agencies,
+            stops,
+            routes,
+            services,
+            trips,
+            transfers,
+            stop_rows: List::new(stop_rows),
+            stop_row_starts: List::new(stop_row_starts),
+            frequencies: List::new(frequencies),
+            frequency_starts: List::new(frequency_starts),
+            headsigns,
+        }
     }
 }

@@ -1,5 +1,6 @@
 //! Merging two feeds of a region into one.
 //!
+//! - [`merge`] makes one [`Feed`](gtfs_feed::Feed) of two.
 //! - [`Kind`] names the kinds of ids, and [`Side`] the two feeds.
 //! - [`Names`] tells what each id of either feed becomes, and which ids are joined.
 //! - [`zones_differ`] tells whether two feeds cannot be merged, since their times are in different zones.
@@ -13,6 +14,7 @@
 
 mod copies;
 mod few;
+mod headsigns;
 mod id_rows;
 mod joined;
 mod joined_routes;
@@ -24,11 +26,16 @@ mod kind_rows;
 mod kinds;
 mod law;
 mod merged_agencies;
+mod merged_frequencies;
 mod merged_kinds;
+mod merged_parts;
 mod merged_routes;
 mod merged_services;
+mod merged_stop_times;
 mod merged_stops;
+mod merged_transfers;
 mod merged_trips;
+mod merging;
 mod names;
 mod new_ids;
 mod new_names;
@@ -44,5 +51,6 @@ mod zones;
 
 pub use kind::{Kind, Side};
 pub use law::merges_keep_departures;
+pub use merging::{MergeFault, Merged, Options, merge};
 pub use names::Names;
 pub use zones::zones_differ;

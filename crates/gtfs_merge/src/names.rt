@@ -78,15 +78,37 @@ impl Names {
         ensures joined { IfOk result (λ names. (kind : KindOf) → (in_kind names kind).joined
             ≡ joined_ids never_near kind (content_of a.now) (content_of b.now)) }
     {
+        let joined = Joined::of_feeds(alloc, a, b)?;
+        Names::of_joined(alloc, random, a, b, &joined)
+    }
+
+    // What the ids become where these rows are joined.
+    pub(crate) fn of_joined(
+        alloc: Global,
+        random: RandomState,
+        a: &Feed,
+        b: &Feed,
+        joined: &Joined,
+    ) -> Result<Names, OutOfMemory>
+        requires { joined.now ≡ joined_rows a.now b.now }
+        ensures a { IfOk result (λ names. (kind : KindOf) (id : List ℕ) → new_id (in_kind names kind).a id
+            ≡ name_of (names_a (content_of a.now) (content_of b.now)) kind (content_of a.now) id) }
+        ensures b { IfOk result (λ names. (kind : KindOf) (id : List ℕ) → new_id (in_kind names kind).b id
+            ≡ name_of (names_b never_near (content_of a.now) (content_of b.now)) kind
+            (content_of b.now) id) }
+        ensures apart { IfOk result (λ names. (kind : KindOf) (side : SideOf)
+            → AreApart (of_side (in_kind names kind) side)) }
+        ensures joined { IfOk result (λ names. (kind : KindOf) → (in_kind names kind).joined
+            ≡ joined_ids never_near kind (content_of a.now) (content_of b.now)) }
+    {
         a.soundness();
         b.soundness();
         are_few(a, b);
-        let joined = Joined::of_feeds(alloc, a, b)?;
-        let agencies = KindNames::of_feeds(alloc, random, a, b, &joined, Kind::Agency)?;
-        let stops = KindNames::of_feeds(alloc, random, a, b, &joined, Kind::Stop)?;
-        let routes = KindNames::of_feeds(alloc, random, a, b, &joined, Kind::Route)?;
-        let services = KindNames::of_feeds(alloc, random, a, b, &joined, Kind::Service)?;
-        let trips = KindNames::of_feeds(alloc, random, a, b, &joined, Kind::Trip)?;
+        let agencies = KindNames::of_feeds(alloc, random, a, b, joined, Kind::Agency)?;
+        let stops = KindNames::of_feeds(alloc, random, a, b, joined, Kind::Stop)?;
+        let routes = KindNames::of_feeds(alloc, random, a, b, joined, Kind::Route)?;
+        let services = KindNames::of_feeds(alloc, random, a, b, joined, Kind::Service)?;
+        let trips = KindNames::of_feeds(alloc, random, a, b, joined, Kind::Trip)?;
         Ok(Names {
             agencies,
             stops,

@@ -9,7 +9,7 @@ use Rattle.gtfs_merge.specs.declared.kind.Kind.TheVariants as kind
 use Rattle.gtfs_merge.specs.declared.kind.Side.TheVariants as side
 use Rattle.gtfs_merge.proofs.Apart.{apart-a, apart-b}
 use Rattle.gtfs_merge.proofs.NamesFacts.{apart-names, named}
-use Rattle.gtfs_merge.proofs.names.Names.of_feeds.Goals as goal
+use Rattle.gtfs_merge.proofs.names.Names.of_joined.Goals as goal
 
 pub returns-clause-a : goal.returns-clause-a
 returns-clause-a c kind.Agency id = ap (λ n. new_id n.a id) c.in_ok-agencies.ensures ∙ named (names_a (content_of_parts c.args.a.now) (content_of_parts c.args.b.now)) kind.Agency c.args.a.now c.soundness.ensures id

@@ -1,0 +1,201 @@
+-- All lists of a merged feed stand for the merged content, and make a feed.
+use Rattle.std.proofs.Common.{◌≡◌, ◌<◌, ◌∙◌, ◌++◌, ℕ, List, [], ◌∷◌, true, false, Option, Some, length, map, get_or, refl, sym, ap, subst, arith}
+use Rattle.std.specs.Prelude.{◌&&◌, nat_lt, option_map}
+use Rattle.std.specs.List.{flat_map, list_all}
+use Rattle.std.specs.declared.cmp.Ordering.TheVariants.{Less}
+use Rattle.std.proofs.lemmas.List.{length-map}
+use Rattle.csv.specs.Records.{Rising}
+use Rattle.gtfs_parts.specs.Named.{names_agency, names_parent, names_route_and_service, route_named, stop_named, trip_named, without_rows}
+use Rattle.gtfs_parts.specs.TransferEnds.{names_ends, transfer_named}
+use Rattle.gtfs_rows.specs.Order.{Ascends}
+use Rattle.gtfs_rows.specs.Rows.{Trip}
+use Rattle.gtfs_rows.specs.Sound.{IsSound}
+use Rattle.gtfs_rows.specs.Views.{IsCut, IsSoundParts, agency_ids, agency_of, content_of_parts, frequency_of, is_within, route_ids, service_ids, service_of, stop_ids, stop_row_of, trip_ids, trip_of, trips_of}
+use Rattle.gtfs_rows.specs.declared.frequency.Frequency.{Frequency as FrequencyRow}
+use Rattle.gtfs_rows.specs.declared.parts.Parts.{Parts}
+use Rattle.gtfs_rows.specs.declared.stop_row.StopRow.{StopRow as StopTime}
+use Rattle.gtfs_rows.specs.declared.transfer.Transfer.{Transfer as TransferRow}
+use Rattle.gtfs_rows.specs.declared.trip.Trip.{Trip as TripRow}
+use Rattle.gtfs_rows.proofs.SameElements.{pairs-map}
+use Rattle.gtfs_stop_times.specs.Lists.{has_numbers_below, stop_row_named}
+use Rattle.gtfs_table.specs.Folder.{text_cmp}
+use Rattle.gtfs_table.specs.Parts.{parts}
+use Rattle.gtfs_merge.specs.Headsigns.{AreHeadsigns, HeadsignTable}
+use Rattle.gtfs_merge.specs.IdRows.{AreIdRows}
+use Rattle.gtfs_merge.specs.KindRows.{AllEntries, AreMergedKinds}
+use Rattle.gtfs_merge.specs.Law.{AreFew}
+use Rattle.gtfs_merge.specs.Merged.{zones_differ}
+use Rattle.gtfs_merge.specs.MergedLists.{parts_with}
+use Rattle.gtfs_merge.specs.Renaming.{ids, never_near}
+use Rattle.gtfs_merge.specs.Sides.{merged_ids, merged_parts}
+use Rattle.gtfs_merge.specs.Transfers.{merged_transfers}
+use Rattle.gtfs_merge.specs.TripRows.{StandInTurn, frequencies_from, stop_rows_from}
+use Rattle.gtfs_merge.specs.declared.id_rows.IdRows.{IdRows}
+use Rattle.gtfs_merge.specs.declared.kind.Kind.{Kind}
+use Rattle.gtfs_merge.specs.declared.kind.Kind.TheVariants as kind
+use Rattle.gtfs_merge.specs.declared.merged_frequencies.Frequencies.{Frequencies}
+use Rattle.gtfs_merge.specs.declared.merged_stop_times.StopTimes.{StopTimes}
+use Rattle.gtfs_merge.proofs.InTurn.{starts-in_turn}
+use Rattle.gtfs_merge.proofs.MergedSound.{merged-sound}
+use Rattle.gtfs_merge.proofs.MergedStopTimes.{merged-periods, merged-rows, merged-within}
+use Rattle.gtfs_merge.proofs.MergedTransfers.{transfers-named, transfers-within}
+use Rattle.gtfs_merge.proofs.Stops.{never-nearness}
+
+-- what is read of the rows is read of what they stand for
+read-alike : {X Y Z : Type 0} (f : X → Y) (x : X → Z) (y : Y → Z) → ((r : X) → x r ≡ y (f r)) → (rs : List X) → map x rs ≡ map y (map f rs)
+read-alike f x y same [] = refl
+read-alike f x y same (r ∷ rs) = λ i. same r i ∷ read-alike f x y same rs i
+
+-- ---- trips
+
+first-is : {X : Type 0} (x y : X) (xs ys : List X) → x ∷ xs ≡ y ∷ ys → x ≡ y
+first-is x y xs ys e = ap (λ l. get_or l 0 x) e
+
+abbrev rest_of : {X : Type 0} → List X → List X
+rest_of [] = []
+rest_of (x ∷ xs) = xs
+
+rest-is : {X : Type 0} (x y : X) (xs ys : List X) → x ∷ xs ≡ y ∷ ys → xs ≡ ys
+rest-is x y xs ys e = ap rest_of e
+
+module _ (p : Parts) where
+  abbrev as_named : TripRow → Trip
+  as_named = trip_named (route_ids p) (service_ids p)
+
+  -- a trip is its own row, its stop times and its frequencies
+  trip-made : (t : TripRow) (r : List StopTime) (f : List FrequencyRow) (u : Trip) → as_named t ≡ without_rows u → map (stop_row_of p) r ≡ u.stop_rows
+      → map frequency_of f ≡ u.frequencies → trip_of p t r f ≡ u
+  trip-made t r f u own rows periods = λ i. record {
+    route_id = (own i).route_id;
+    service_id = (own i).service_id;
+    trip_id = (own i).trip_id;
+    trip_headsign = (own i).trip_headsign;
+    trip_short_name = (own i).trip_short_name;
+    direction_id = (own i).direction_id;
+    wheelchair_accessible = (own i).wheelchair_accessible;
+    bikes_allowed = (own i).bikes_allowed;
+    stop_rows = rows i;
+    frequencies = periods i;
+  }
+
+  trips-made : (ts : List TripRow) (rs : List (List StopTime)) (fs : List (List FrequencyRow)) (us : List Trip)
+      → map as_named ts ≡ map without_rows us → map (map (stop_row_of p)) rs ≡ map (λ u. u.stop_rows) us → map (map frequency_of) fs ≡ map (λ u. u.frequencies) us
+      → trips_of p ts rs fs ≡ us
+  trips-made [] rs fs [] own rows periods = refl
+  trips-made [] rs fs (u ∷ us) own rows periods = cc own
+  trips-made (t ∷ ts) rs fs [] own rows periods = cc own
+  trips-made (t ∷ ts) [] fs (u ∷ us) own rows periods = cc rows
+  trips-made (t ∷ ts) (r ∷ rs) [] (u ∷ us) own rows periods = cc periods
+  trips-made (t ∷ ts) (r ∷ rs) (f ∷ fs) (u ∷ us) own rows periods = λ i.
+      trip-made t r f u (first-is _ _ _ _ own) (first-is _ _ _ _ rows) (first-is _ _ _ _ periods) i
+      ∷ trips-made ts rs fs us (rest-is _ _ _ _ own) (rest-is _ _ _ _ rows) (rest-is _ _ _ _ periods) i
+
+-- ---- the merged feed
+
+module _ (p q : Parts) (sound_p : IsSoundParts p) (sound_q : IsSoundParts q) (few : (c : Kind) → AreFew c (content_of_parts p) (content_of_parts q))
+    (zone : zones_differ (content_of_parts p) (content_of_parts q) ≡ false) (k : AllEntries) (are : AreMergedKinds p q k) (hs : HeadsignTable) (are_h : AreHeadsigns p q hs)
+    (r : IdRows) (are_r : AreIdRows p q r) (st : StopTimes) (are_st : StandInTurn (map (stop_rows_from p q k.stops.numbers hs) k.trips.rows) st.starts.items st.rows.items)
+    (fr : Frequencies) (are_fr : StandInTurn (map (frequencies_from p q) k.trips.rows) fr.starts.items fr.rows.items)
+    (ts : List TransferRow) (are_ts : ts ≡ merged_transfers p q k) where
+  abbrev m : Parts
+  m = parts_with r ts st fr hs.texts
+
+  content-sound : IsSound (merged_parts p q)
+  content-sound = merged-sound never_near never-nearness (content_of_parts p) (content_of_parts q) sound_p.content sound_q.content few zone
+
+  -- ---- ids
+
+  agencies-are : agency_ids m ≡ merged_ids kind.Agency p q
+  agencies-are = read-alike agency_of (λ a. a.agency_id) (λ a. a.agency_id) (λ a. refl) r.agencies ∙ ap (map (λ a. a.agency_id)) are_r.agencies
+
+  stops-are : stop_ids m ≡ merged_ids kind.Stop p q
+  stops-are = read-alike (stop_named (merged_ids kind.Stop p q)) (λ s. s.stop_id) (λ s. s.stop_id) (λ s. refl) r.stops ∙ ap (map (λ s. s.stop_id)) are_r.stops
+
+  routes-are : route_ids m ≡ merged_ids kind.Route p q
+  routes-are = read-alike (route_named (merged_ids kind.Agency p q)) (λ x. x.route_id) (λ x. x.route_id) (λ x. refl) r.routes ∙ ap (map (λ x. x.route_id)) are_r.routes
+
+  services-are : service_ids m ≡ merged_ids kind.Service p q
+  services-are = read-alike service_of (λ s. s.service_id) (λ s. s.service_id) (λ s. refl) r.services ∙ ap (map (λ s. s.service_id)) are_r.services
+
+  trips-are : trip_ids m ≡ merged_ids kind.Trip p q
+  trips-are =
+      read-alike (trip_named (merged_ids kind.Route p q) (merged_ids kind.Service p q)) (λ t. t.trip_id) (λ t. t.trip_id) (λ t. refl) r.trips
+      ∙ ap (map (λ t. t.trip_id)) are_r.trips ∙ sym (read-alike without_rows (λ t. t.trip_id) (λ t. t.trip_id) (λ t. refl) (merged_parts p q).trips)
+
+  -- ---- as many rows as ids
+
+  agency-count : length (merged_ids kind.Agency p q) ≡ length r.agencies
+  agency-count = sym (ap length agencies-are) ∙ length-map r.agencies (λ a. a.agency_id)
+
+  stop-count : length (merged_ids kind.Stop p q) ≡ length r.stops
+  stop-count = sym (ap length stops-are) ∙ length-map r.stops (λ s. s.stop_id)
+
+  route-count : length (merged_ids kind.Route p q) ≡ length r.routes
+  route-count = sym (ap length routes-are) ∙ length-map r.routes (λ x. x.route_id)
+
+  service-count : length (merged_ids kind.Service p q) ≡ length r.services
+  service-count = sym (ap length services-are) ∙ length-map r.services (λ s. s.service_id)
+
+  trip-count : length (merged_ids kind.Trip p q) ≡ length r.trips
+  trip-count = sym (ap length trips-are) ∙ length-map r.trips (λ t. t.trip_id)
+
+  -- ---- trips
+
+  trips-own : map (as_named m) r.trips ≡ map without_rows (merged_parts p q).trips
+  trips-own = (λ i. map (trip_named (routes-are i) (services-are i)) r.trips) ∙ are_r.trips
+
+  trips-rows : map (map (stop_row_of m)) (parts m.stop_row_starts m.stop_rows) ≡ map (λ u. u.stop_rows) (merged_parts p q).trips
+  trips-rows = (λ i. map (map (stop_row_named (stops-are i) hs.texts)) (are_st.stretches i)) ∙ merged-rows p q sound_p sound_q k are hs are_h
+
+  trips-periods : map (map frequency_of) (parts m.frequency_starts m.frequencies) ≡ map (λ u. u.frequencies) (merged_parts p q).trips
+  trips-periods = ap (map (map frequency_of)) are_fr.stretches ∙ merged-periods p q sound_p sound_q k are hs are_h
+
+  -- ---- transfers
+
+  stops-up : Ascends text_cmp (merged_ids kind.Stop p q)
+  stops-up = pairs-map (λ s. s.stop_id) (λ s t. text_cmp s t ≡ Less) (merged_parts p q).stops content-sound.in_order.stops
+
+  routes-up : Ascends text_cmp (merged_ids kind.Route p q)
+  routes-up = pairs-map (λ s. s.route_id) (λ s t. text_cmp s t ≡ Less) (merged_parts p q).routes content-sound.in_order.routes
+
+  trips-up : Ascends text_cmp (merged_ids kind.Trip p q)
+  trips-up = pairs-map (λ s. s.trip_id) (λ s t. text_cmp s t ≡ Less) (merged_parts p q).trips content-sound.in_order.trips
+
+  pub content-is : content_of_parts m ≡ merged_parts p q
+  content-is = λ i. record {
+    agencies = are_r.agencies i;
+    stops = ((λ j. map (stop_named (stops-are j)) r.stops) ∙ are_r.stops) i;
+    routes = ((λ j. map (route_named (agencies-are j)) r.routes) ∙ are_r.routes) i;
+    services = are_r.services i;
+    trips = trips-made m r.trips (parts m.stop_row_starts m.stop_rows) (parts m.frequency_starts m.frequencies) (merged_parts p q).trips trips-own trips-rows trips-periods i;
+    transfers = ((λ j. map (transfer_named (stops-are j) (routes-are j) (trips-are j)) (are_ts j)) ∙ transfers-named p q sound_p sound_q k are stops-up routes-up trips-up) i;
+  }
+
+  -- ---- a feed
+
+  entry-count : length k.trips.rows ≡ length r.trips
+  entry-count = sym (length-map k.trips.rows (λ e. e.id)) ∙ ap length (are kind.Trip).rows.ids ∙ trip-count
+
+  row-cut : IsCut m st.starts.items st.rows.items
+  row-cut = (starts-in_turn _ _ _ are_st ∙ length-map k.trips.rows (stop_rows_from p q k.stops.numbers hs) ∙ entry-count, are_st.rising, are_st.from_first)
+
+  period-cut : IsCut m fr.starts.items fr.rows.items
+  period-cut = (starts-in_turn _ _ _ are_fr ∙ length-map k.trips.rows (frequencies_from p q) ∙ entry-count, are_fr.rising, are_fr.from_first)
+
+  pub make-a-feed : IsSoundParts m
+  make-a-feed = record {
+    names_rows = record {
+      stops = subst (λ n. list_all (λ s. is_within n (option_map (λ x. x.0) s.parent_station)) r.stops ≡ true) stop-count are_r.parents;
+      routes = subst (λ n. list_all (λ x. nat_lt x.agency_id.0 n) r.routes ≡ true) agency-count are_r.route_agencies;
+      trips = subst (λ n. list_all (λ t. nat_lt t.route_id.0 n && nat_lt t.service_id.0 (length r.services)) r.trips ≡ true) route-count
+          (subst (λ n. list_all (λ t. nat_lt t.route_id.0 (length (merged_ids kind.Route p q)) && nat_lt t.service_id.0 n) r.trips ≡ true) service-count are_r.trip_references);
+      stop_rows = (λ i. list_all (has_numbers_below (sym stop-count i) (length hs.texts)) (are_st.whole i)) ∙ merged-within p q sound_p sound_q k are hs are_h;
+      transfers = (λ i. list_all (λ t. is_within (sym stop-count i) (option_map (λ n. n.0) t.from_stop_id) && is_within (sym stop-count i) (option_map (λ n. n.0) t.to_stop_id)
+          && is_within (sym route-count i) (option_map (λ n. n.0) t.from_route_id) && is_within (sym route-count i) (option_map (λ n. n.0) t.to_route_id)
+          && is_within (sym trip-count i) (option_map (λ n. n.0) t.from_trip_id) && is_within (sym trip-count i) (option_map (λ n. n.0) t.to_trip_id)) (are_ts i))
+          ∙ transfers-within p q sound_p sound_q k are;
+    };
+    stop_rows = row-cut;
+    frequencies = period-cut;
+    content = subst IsSound (sym content-is) content-sound;
+  }

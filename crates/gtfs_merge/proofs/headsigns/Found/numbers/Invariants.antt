@@ -1,0 +1,11 @@
+use Rattle.std.proofs.Common.{take}
+use Rattle.gtfs_stop_times.specs.Headsigns.{KeepsHeadsigns}
+use Rattle.gtfs_merge.specs.Headsigns.{AreNumbersOf}
+use Rattle.gtfs_merge.proofs.headsigns.Found.numbers.Given as goal
+
+-- the numbers so far
+abbrev pub invariant-loop-place : goal.invariant-loop-place
+invariant-loop-place l = record {
+  numbers : AreNumbersOf l.self (take l.place l.headsigns) l.numbers.items;
+  kept : KeepsHeadsigns l.initial.self l.self;
+}

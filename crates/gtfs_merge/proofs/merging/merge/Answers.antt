@@ -1,0 +1,23 @@
+use Rattle.std.proofs.Common.{◌<◌, ◌+◌, ◌^◌, length, arith}
+use Rattle.gtfs_rows.specs.Content.{Content}
+use Rattle.gtfs_rows.specs.Views.{content_of_parts}
+use Rattle.gtfs_merge.specs.Law.{AreFew}
+use Rattle.gtfs_merge.specs.Renaming.{ids, never_near}
+use Rattle.gtfs_merge.specs.declared.kind.Kind.{Kind}
+use Rattle.gtfs_merge.proofs.MergeLaws.{merge-boards, merge-shares-exactly, merge-union}
+use Rattle.gtfs_merge.proofs.Stops.{never-nearness}
+use Rattle.gtfs_merge.proofs.merging.merge.Goals as goal
+
+few-enough : (k : Kind) (a b : Content) → length (ids k a) + length (ids k b) < 2 ^ 65 → AreFew k a b
+few-enough k a b few = omega arith
+
+pub returns-clause-departures : goal.returns-clause-departures
+returns-clause-departures c =
+    let a = content_of_parts c.args.a.now in
+    let b = content_of_parts c.args.b.now in
+    let few = λ (k : Kind). few-enough k a b (c.are_few.ensures k) in
+    record {
+      union = merge-union never_near never-nearness a b c.soundness.ensures.content c.soundness-2.ensures.content few;
+      shares = merge-shares-exactly never_near never-nearness a b c.soundness.ensures.content c.soundness-2.ensures.content few;
+      boards = merge-boards never_near never-nearness a b c.soundness.ensures.content c.soundness-2.ensures.content few;
+    }

@@ -1,0 +1,9 @@
+use Rattle.gtfs_merge.proofs.merging.merged_feed.Goals as goal
+
+pub returns-clause-names : goal.returns-clause-names
+returns-clause-names c = record {
+  a = c.in_ok-names.ensures.a;
+  b = c.in_ok-names.ensures.b;
+  apart = c.in_ok-names.ensures.apart;
+  joined = c.in_ok-names.ensures.joined;
+}

@@ -1,0 +1,40 @@
+-- What a merge answers.
+use Rattle.std.specs.Prelude.{◌≡◌, ℕ, true, false, List}
+use Rattle.gtfs_feed.specs.Content.{content_of}
+use Rattle.gtfs_rows.specs.Content.{Content}
+use Rattle.gtfs_merge.specs.Departures.{HasBoards, HasUnion}
+use Rattle.gtfs_merge.specs.Law.{SharesExactly}
+use Rattle.gtfs_merge.specs.Merged.{is_too_large, merged, zones_differ}
+use Rattle.gtfs_merge.specs.Names.{AllNames, AreApart, in_kind, new_id, of_side}
+use Rattle.gtfs_merge.specs.Renaming.{joined_ids, name_of, names_a, names_b, never_near}
+use Rattle.gtfs_merge.specs.declared.kind.Kind.{Kind}
+use Rattle.gtfs_merge.specs.declared.kind.Side.{Side}
+use Rattle.gtfs_merge.specs.declared.merging.Merged.{Merged}
+use Rattle.gtfs_merge.specs.declared.merging.MergeFault.{MergeFault}
+use Rattle.gtfs_merge.specs.declared.merging.MergeFault.TheVariants as fault
+
+-- the names of both feeds, and the joined ids
+pub record AreNamesOf (first second : Content) (names : AllNames) : Type 0 where
+  pub a : (k : Kind) (id : List ℕ) → new_id (in_kind names k).a id ≡ name_of (names_a first second) k first id
+  pub b : (k : Kind) (id : List ℕ) → new_id (in_kind names k).b id ≡ name_of (names_b never_near first second) k second id
+  pub apart : (k : Kind) (s : Side) → AreApart (of_side (in_kind names k) s)
+  pub joined : (k : Kind) → (in_kind names k).joined ≡ joined_ids never_near k first second
+
+-- the merged feed: both feeds have one zone, and no written file is longer than the limit
+pub record IsMergeOf (a b : Content) (limit : ℕ) (m : Merged) : Type 0 where
+  pub zone : zones_differ a b ≡ false
+  pub small : is_too_large limit (merged never_near a b) ≡ false
+  pub content : content_of m.feed ≡ merged never_near a b
+  pub names : AreNamesOf a b m.names
+
+-- why two feeds are not merged; zones are judged first
+abbrev pub IsRefusal : Content → Content → ℕ → MergeFault → Type 0
+IsRefusal a b limit fault.ZoneDiffers = zones_differ a b ≡ true
+IsRefusal a b limit fault.TooLarge = (zones_differ a b ≡ false) × (is_too_large limit (merged never_near a b) ≡ true)
+IsRefusal a b limit fault.OutOfMemory = zones_differ a b ≡ false
+
+-- what the merged content keeps: every departure of both feeds, and every board
+pub record KeepsDepartures (a b : Content) : Type 0 where
+  pub union : HasUnion never_near a b
+  pub shares : SharesExactly never_near a b
+  pub boards : HasBoards never_near a b

@@ -1,0 +1,56 @@
+-- The transfers of a merged feed, by the numbers of what they name.
+use Rattle.std.specs.Prelude.{◌≡◌, ◌<◌, ℕ, List, ◌++◌, length, map, Option, IfSome, option_map, slice_index_or}
+use Rattle.std.specs.FinMap as table
+use Rattle.std.specs.Cmp.Lexicographic.{slice_cmp}
+use Rattle.std.specs.Option.{option_cmp}
+use Rattle.std.specs.Ordering.{nat_cmp}
+use Rattle.std.specs.declared.cmp.Ordering.{Ordering}
+use Rattle.gtfs_parts.specs.TransferEnds.{transfer_numbers}
+use Rattle.gtfs_rows.specs.Order.{by_key}
+use Rattle.gtfs_rows.specs.declared.parts.Parts.{Parts}
+use Rattle.gtfs_rows.specs.declared.transfer.Transfer.{Transfer}
+use Rattle.gtfs_merge.specs.KindRows.{AllEntries}
+use Rattle.gtfs_merge.specs.Renumbered.{numbers_of}
+use Rattle.gtfs_merge.specs.Sides.{side_parts}
+use Rattle.gtfs_merge.specs.declared.kind.Side.{Side}
+use Rattle.gtfs_merge.specs.declared.kind.Side.TheVariants as side
+
+-- a transfer whose stops, routes and trips have their new numbers
+abbrev pub renumbered_transfer : List ℕ → List ℕ → List ℕ → Transfer → Transfer
+renumbered_transfer stops routes trips t = record t {
+  from_stop_id = option_map (λ n. record { 0 = slice_index_or stops n.0 0 }) t.from_stop_id;
+  to_stop_id = option_map (λ n. record { 0 = slice_index_or stops n.0 0 }) t.to_stop_id;
+  from_route_id = option_map (λ n. record { 0 = slice_index_or routes n.0 0 }) t.from_route_id;
+  to_route_id = option_map (λ n. record { 0 = slice_index_or routes n.0 0 }) t.to_route_id;
+  from_trip_id = option_map (λ n. record { 0 = slice_index_or trips n.0 0 }) t.from_trip_id;
+  to_trip_id = option_map (λ n. record { 0 = slice_index_or trips n.0 0 }) t.to_trip_id;
+}
+
+abbrev pub transfer_on : AllEntries → Side → Transfer → Transfer
+transfer_on k s = renumbered_transfer (numbers_of k.stops.numbers s) (numbers_of k.routes.numbers s) (numbers_of k.trips.numbers s)
+
+abbrev pub transfers_on : Parts → Parts → AllEntries → Side → List Transfer
+transfers_on p q k s = map (transfer_on k s) (side_parts s p q).transfers
+
+-- by the numbers of what a transfer names, part by part; a part that is not there is the least
+abbrev pub ends_cmp : List (Option ℕ) → List (Option ℕ) → Ordering
+ends_cmp = slice_cmp (option_cmp nat_cmp)
+
+-- those of A and then those of B, ascending by their keys, the first of each key staying
+abbrev pub merged_transfers : Parts → Parts → AllEntries → List Transfer
+merged_transfers p q k = by_key ends_cmp transfer_numbers (transfers_on p q k side.A ++ transfers_on p q k side.B)
+
+-- ---- in code
+
+-- what a transfer of a side names has a new number
+pub record IsWithin (k : AllEntries) (s : Side) (t : Transfer) : Type 0 where
+  pub from_stop : IfSome t.from_stop_id (λ n. n.0 < length (numbers_of k.stops.numbers s))
+  pub to_stop : IfSome t.to_stop_id (λ n. n.0 < length (numbers_of k.stops.numbers s))
+  pub from_route : IfSome t.from_route_id (λ n. n.0 < length (numbers_of k.routes.numbers s))
+  pub to_route : IfSome t.to_route_id (λ n. n.0 < length (numbers_of k.routes.numbers s))
+  pub from_trip : IfSome t.from_trip_id (λ n. n.0 < length (numbers_of k.trips.numbers s))
+  pub to_trip : IfSome t.to_trip_id (λ n. n.0 < length (numbers_of k.trips.numbers s))
+
+-- the entries of a map into which these transfers were put, the first of each key staying
+abbrev pub AreEntriesOf : List Transfer → List (List (Option ℕ) × Transfer) → Type 0
+AreEntriesOf ts es = es ≡ table.entries (table.from_entries {R = ends_cmp} (map (λ t. (transfer_numbers t, t)) ts))

@@ -1,0 +1,45 @@
+ghost use Rattle.std.specs.Prelude.{◌≡◌, IfOk, false};
+ghost use Rattle.gtfs_feed.specs.Content.{content_of};
+ghost use Rattle.gtfs_rows.specs.Views.{IsSoundParts, content_of_parts};
+ghost use Rattle.gtfs_merge.specs.Joined.{joined_rows};
+ghost use Rattle.gtfs_merge.specs.Merged.{zones_differ};
+ghost use Rattle.gtfs_merge.specs.Sides.{merged_parts};
+
+use crate::few::are_few;
+use crate::headsigns::Headsigns;
+use crate::id_rows::IdRows;
+use crate::joins::Joined;
+use crate::merged_frequencies::merged_frequencies;
+use crate::merged_kinds::MergedKinds;
+use crate::merged_stop_times::merged_stop_times;
+use crate::merged_transfers::merged_transfers;
+use gtfs_feed::Feed;
+use gtfs_field::OutOfMemory;
+use gtfs_rows::Parts;
+use std::alloc::Global;
+use std::hash::RandomState;
+
+// All rows of the merged feed. What the lists stand for does not depend on the random state.
+pub(crate) fn merged_parts(
+    alloc: Global,
+    random: RandomState,
+    a: &Feed,
+    b: &Feed,
+    joined: &Joined,
+) -> Result<Parts, OutOfMemory>
+    requires joined { joined.now ≡ joined_rows a.now b.now }
+    requires zone { zones_differ (content_of a.now) (content_of b.now) ≡ false }
+    ensures sound { IfOk result IsSoundParts }
+    ensures content { IfOk result (λ parts. content_of_parts parts ≡ merged_parts a.now b.now) }
+{
+    a.soundness();
+    b.soundness();
+    are_few(a, b);
+    let kinds = MergedKinds::of_feeds(alloc, a, b, joined)?;
+    let headsigns = Headsigns::of_feeds(alloc, random, a, b)?;
+    let stop_times = merged_stop_times(alloc, a, b, &kinds, &headsigns)?;
+    let frequencies = merged_frequencies(alloc, a, b, &kinds)?;
+    let transfers = merged_transfers(alloc, a, b, &kinds)?;
+    let rows = IdRows::of_kinds(alloc, a, b, &kinds)?;
+    Ok(rows.with_lists(transfers, stop_times, frequencies, headsigns.into_texts()))
+}

@@ -1,0 +1,136 @@
+ghost use Rattle.std.specs.Prelude.{◌≡◌, IfErr, IfOk, false};
+ghost use Rattle.gtfs_feed.specs.Content.{content_of};
+ghost use Rattle.gtfs_merge.specs.Merged.{zones_differ};
+ghost use Rattle.gtfs_merge.specs.Merging.{AreNamesOf, IsMergeOf, IsRefusal, KeepsDepartures};
+ghost use Rattle.gtfs_merge.specs.Sides.{merged_parts};
+
+use crate::few::are_few;
+use crate::joins::Joined;
+use crate::merged_parts::merged_parts;
+use crate::names::Names;
+use crate::zones::zones_differ;
+use gtfs_feed::Feed;
+use gtfs_field::OutOfMemory;
+use std::alloc::Global;
+use std::hash::RandomState;
+use thiserror::Error;
+
+/// What a merge keeps to.
+#[derive(Clone, Copy, Debug, PartialEq, Eq)]
+pub struct Options {
+    /// How many bytes each file of the merged feed may have at most, as [`Feed::file_text`] gives it.
+    pub file_limit: u64,
+}
+
+/// Two feeds in one, and what their ids became.
+pub struct Merged {
+    /// The rows of both feeds under their new ids, those of joined ids once.
+    pub feed: Feed,
+    /// What the ids of both feeds became, and which are joined.
+    pub names: Names,
+}
+
+// Written out, so that a function that lets it go has one call to prove.
+impl Drop for Merged {
+    fn drop(self) {
+        let Merged { feed: _, names: _ } = self;
+    }
+}
+
+/// Why two feeds are not merged.
+#[derive(Clone, Copy, Debug, PartialEq, Eq, Error)]
+pub enum MergeFault {
+    /// The times of the two feeds are in zones of different names, which is judged first.
+    #[error("zones differ")]
+    ZoneDiffers = 1,
+    /// The text of some file of the merged feed is longer than the limit.
+    #[error("merged feed too large")]
+    TooLarge = 2,
+    /// Memory was refused, or stop times have more than 4,294,967,295 different headsigns.
+    #[error("out of memory")]
+    OutOfMemory = 3,
+}
+
+impl From<OutOfMemory> for MergeFault {
+    ghost use Rattle.std.specs.Prelude.{◌≡◌};
+    ghost use Rattle.gtfs_merge.specs.declared.merging.MergeFault.TheVariants.{OutOfMemory as no_memory};
+
+    ghost from_gives = { λ _ fault. fault ≡ no_memory };
+
+    fn from(_refused: OutOfMemory) -> MergeFault {
+        MergeFault::OutOfMemory
+    }
+}
+
+/// The two feeds in one: the rows of the first and then those of the second, each id and each key once, once the ids of
+/// both are what [`Names`] tells. Where both feeds have a transfer of one key, that of the first stays (GTFS Schedule
+/// Reference, primary key of `transfers.txt`).
+///
+/// Every departure of both feeds is one of the merged feed, that of a joined trip once, and nothing else is; the board of
+/// a stop lists what both feeds list of the stops that became it. The merged feed passes the validator. Both feeds are
+/// lent, and no answer depends on the random state.
+///
+/// # Errors
+/// In this order: `ZoneDiffers` exactly where the zones of the two feeds have different names; `TooLarge` only where the
+/// text of some file of the merged feed has more bytes than `file_limit`, and the feed is given only where none has;
+/// `OutOfMemory` where memory is refused.
+pub fn merge(
+    alloc: Global,
+    random: RandomState,
+    a: &Feed,
+    b: &Feed,
+    options: &Options,
+) -> Result<Merged, MergeFault>
+    ensures merged { IfOk result
+        (IsMergeOf (content_of a.now) (content_of b.now) options.now.file_limit) }
+    ensures refused { IfErr result
+        (IsRefusal (content_of a.now) (content_of b.now) options.now.file_limit) }
+    ensures departures { KeepsDepartures (content_of a.now) (content_of b.now) }
+{
+    a.soundness();
+    b.soundness();
+    are_few(a, b);
+    judged(alloc, random, a, b, options)
+}
+
+// The merged feed, or why there is none.
+fn judged(
+    alloc: Global,
+    random: RandomState,
+    a: &Feed,
+    b: &Feed,
+    options: &Options,
+) -> Result<Merged, MergeFault>
+    ensures merged { IfOk result
+        (IsMergeOf (content_of a.now) (content_of b.now) options.now.file_limit) }
+    ensures refused { IfErr result
+        (IsRefusal (content_of a.now) (content_of b.now) options.now.file_limit) }
+{
+    if zones_differ(a, b) {
+        return Err(MergeFault::ZoneDiffers);
+    }
+    let merged = merged_feed(alloc, random, a, b)?;
+    let is_too_large = merged.feed.has_longer_file(alloc, options.file_limit)?;
+    if is_too_large {
+        return Err(MergeFault::TooLarge);
+    }
+    Ok(merged)
+}
+
+// The merged feed of two feeds with one zone.
+fn merged_feed(
+    alloc: Global,
+    random: RandomState,
+    a: &Feed,
+    b: &Feed,
+) -> Result<Merged, OutOfMemory>
+    requires { zones_differ (content_of a.now) (content_of b.now) ≡ false }
+    ensures content { IfOk result (λ m. content_of m.feed ≡ merged_parts a.now b.now) }
+    ensures names { IfOk result (λ m. AreNamesOf (content_of a.now) (content_of b.now) m.names) }
+{
+    let joined = Joined::of_feeds(alloc, a, b)?;
+    let names = Names::of_joined(alloc, random, a, b, &joined)?;
+    let parts = merged_parts(alloc, random, a, b, &joined)?;
+    let feed = Feed::assemble(alloc, random, parts)?;
+    Ok(Merged { feed, names })
+}
