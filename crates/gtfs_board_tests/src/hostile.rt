@@ -1,0 +1,155 @@
+//! Boards over all service days, and long ones.
+
+use crate::clocks::Clocks;
+use crate::dataset::FileText;
+use crate::opening::Fixture;
+use gtfs_board::{Board, Span, push_key};
+use std::alloc::Global;
+use std::process::Abort;
+use std::test::Fail;
+
+// A run each second of every service day.
+const EACH_SECOND: [FileText; 2] = [
+    (
+        "calendar.txt",
+        "service_id,monday,tuesday,wednesday,thursday,friday,saturday,sunday,start_date,end_date\n\
+C1,1,1,1,1,1,1,1,19000101,99981231\n",
+    ),
+    (
+        "frequencies.txt",
+        "trip_id,start_time,end_time,headway_secs,exact_times\nT1,00:00:00,24:00:00,1,1\n",
+    ),
+];
+
+// From the origin of the first service day until that of the last in UTC.
+const ALL_DAYS: Span = Span {
+    from: -2_208_988_800,
+    until: 253_370_678_400,
+};
+
+const FIRST_LINES: &str = "@-2208988800/T1/0/1/19000101\t1900-01-01 00:00:00+00:00\tS1\t10\t\ts\n\
+@-2208988799/T1/1/1/19000101\t1900-01-01 00:00:01+00:00\tS1\t10\t\ts\n";
+
+const THIRD_LINE: &str = "@-2208988798/T1/2/1/19000101\t1900-01-01 00:00:02+00:00\tS1\t10\t\ts\n";
+
+#[test]
+fn a_board_of_all_days_begins_at_once(rt: HostRuntime) -> Result<(), Fail> {
+    let fixture = Fixture::of_files(&rt, rt.alloc(), &EACH_SECOND, Clocks::Utc)?;
+    let opening = fixture.opening("S1", ALL_DAYS);
+    let (_, text) = opening.page(&rt, rt.alloc(), "", 2)?;
+    assert_eq!(rt; text.as_str(), FIRST_LINES);
+    let (_, text) = opening.page(&rt, rt.alloc(), "@-2208988799/T1/1/1/19000101", 1)?;
+    assert_eq!(rt; text.as_str(), THIRD_LINE);
+    Ok(())
+}
+
+// Two days can hold each of the first three instants.
+#[test]
+fn the_bounds_of_a_board_of_all_days_are_small(rt: HostRuntime) -> Result<(), Fail> {
+    let fixture = Fixture::of_files(&rt, rt.alloc(), &EACH_SECOND, Clocks::Utc)?;
+    let bounds = fixture
+        .opening("S1", ALL_DAYS)
+        .bounds(&rt, rt.alloc(), None)?;
+    assert_eq!(rt; bounds.most_held(), 4);
+    assert_eq!(rt; bounds.most_steps(0, -2_208_988_800), 2);
+    assert_eq!(rt; bounds.most_steps(1, -2_208_988_799), 3);
+    assert_eq!(rt; bounds.most_steps(2, -2_208_988_798), 4);
+    Ok(())
+}
+
+#[test]
+fn a_call_of_next_makes_a_step_or_two(rt: HostRuntime) -> Result<(), Fail> {
+    let fixture = Fixture::of_files(&rt, rt.alloc(), &EACH_SECOND, Clocks::Utc)?;
+    let mut board = fixture.opening("S1", ALL_DAYS).board(&rt, rt.alloc(), "")?;
+    for most_steps in [2, 3, 4] {
+        assert!(rt; board.steps() <= most_steps);
+        assert!(rt; board.held() <= 4);
+        assert!(rt; matches!(board.next(), Ok(Some(_))));
+    }
+    Ok(())
+}
+
+// Takes so many departures, with at most four that wait, and gives the key of the last.
+fn last_key(
+    rt: &impl Abort,
+    alloc: Global,
+    board: &mut Board<'_>,
+    count: u64,
+) -> Result<String, Fail> {
+    let mut text = String::new(alloc);
+    for taken in 0..count {
+        assert!(rt; board.held() <= 4, "after {taken}");
+        match board.next() {
+            Ok(Some(departure)) => {
+                text.clear();
+                push_key(alloc, &mut text, &departure.key)?;
+            }
+            Ok(None) => panic!(rt; "none is left after {taken}"),
+            Err(fault) => panic!(rt; "{fault}"),
+        }
+    }
+    Ok(text)
+}
+
+#[test]
+fn a_million_departures_are_taken_and_few_wait(rt: HostRuntime) -> Result<(), Fail> {
+    let fixture = Fixture::of_files(&rt, rt.alloc(), &EACH_SECOND, Clocks::Utc)?;
+    let mut board = fixture.opening("S1", ALL_DAYS).board(&rt, rt.alloc(), "")?;
+    let key = last_key(&rt, rt.alloc(), &mut board, 1_000_000)?;
+    assert_eq!(rt; key.as_str(), "@-2207988801/T1/49599/1/19000112");
+    Ok(())
+}
+
+// Each day of three years: 1,096 of them.
+const THREE_YEARS: [FileText; 1] = [(
+    "calendar.txt",
+    "service_id,monday,tuesday,wednesday,thursday,friday,saturday,sunday,start_date,end_date\n\
+C1,1,1,1,1,1,1,1,20240401,20270401\n",
+)];
+
+// The lines of departures at 08:00:00 on one day after the other from an instant on, and the instant a day after the last.
+fn assert_daily(rt: &impl Abort, alloc: Global, lines: &str, from: i64) -> Result<i64, Fail> {
+    let mut instant = from;
+    for line in lines.lines() {
+        let beginning = format!(in alloc; "@{instant}/T1/28800/1/20")?;
+        assert!(rt; line.starts_with(beginning.as_str()), "{line}");
+        assert!(rt; line.ends_with(" 08:00:00+00:00\tS1\t10\t\ts"), "{line}");
+        instant = instant.saturating_add(86_400);
+    }
+    Ok(instant)
+}
+
+#[test]
+fn a_board_has_more_than_a_thousand_lines(rt: HostRuntime) -> Result<(), Fail> {
+    let fixture = Fixture::of_files(&rt, rt.alloc(), &THREE_YEARS, Clocks::Utc)?;
+    let (count, lines) = fixture
+        .opening("S1", ALL_DAYS)
+        .page(&rt, rt.alloc(), "", u64::MAX)?;
+    assert_eq!(rt; count, 1_096);
+    // until 2 April 2027
+    let until = assert_daily(&rt, rt.alloc(), lines.as_str(), 1_711_958_400)?;
+    assert_eq!(rt; until, 1_806_652_800);
+    Ok(())
+}
+
+// The last service day, and dates after it, on which nothing runs.
+const LAST_DAYS: [FileText; 1] = [(
+    "calendar.txt",
+    "service_id,monday,tuesday,wednesday,thursday,friday,saturday,sunday,start_date,end_date\n\
+C1,1,1,1,1,1,1,1,99981231,99991231\n",
+)];
+
+#[test]
+fn nothing_runs_after_the_last_service_day(rt: HostRuntime) -> Result<(), Fail> {
+    let span = Span {
+        from: 0,
+        until: 999_999_999_999,
+    };
+    let fixture = Fixture::of_files(&rt, rt.alloc(), &LAST_DAYS, Clocks::Utc)?;
+    let lines = fixture.opening("S1", span).listed(&rt, rt.alloc(), "")?;
+    assert_eq!(rt;
+        lines.as_str(),
+        "@253370707200/T1/28800/1/99981231\t9998-12-31 08:00:00+00:00\tS1\t10\t\ts\n"
+    );
+    Ok(())
+}

@@ -1,0 +1,175 @@
+//! The texts of keys, their order, and boards opened above keys that no departure has.
+
+use crate::cases::{FIRST_OF_APRIL, SMALL};
+use crate::opening::Fixture;
+use gtfs_board::{Key, push_key, read_key};
+use gtfs_field::{Day, FieldFault};
+use std::alloc::Global;
+use std::cmp::Ordering;
+use std::process::Abort;
+use std::test::Fail;
+
+#[test]
+fn a_key_is_cut_at_its_first_slash_and_its_last_three(rt: HostRuntime) {
+    match read_key("@1711837800/A/1/2/1800/5/20240331") {
+        Ok(key) => {
+            assert_eq!(rt; key.instant, 1_711_837_800);
+            assert_eq!(rt; key.trip, "A/1/2");
+            assert_eq!(rt; key.run, 1_800);
+            assert_eq!(rt; key.sequence, 5);
+            // 2024-03-31
+            assert_eq!(rt; key.day, Day::from_number(19_813));
+        }
+        Err(fault) => panic!(rt; "{fault}"),
+    }
+}
+
+// The text of the key that a text has, after this text.
+fn rewritten(rt: &impl Abort, alloc: Global, before: &str, text: &str) -> Result<String, Fail> {
+    let mut written = String::from_str(alloc, before)?;
+    match read_key(text) {
+        Ok(key) => push_key(alloc, &mut written, &key)?,
+        Err(fault) => panic!(rt; "{text}: {fault}"),
+    }
+    Ok(written)
+}
+
+#[test]
+fn texts_of_keys_read_back(rt: HostRuntime) -> Result<(), Fail> {
+    for text in [
+        "@1711837800/T1/1800/1/20240331",
+        "@1711837800/A/1/2/1800/5/20240331",
+        "@0//0/0/19000101",
+        "@-1/ /1/1/19700101",
+        "@-999999999999///3599999/2147483647/99991231",
+        "@999999999999/\u{e9}@\t/3599998/10/20240229",
+    ] {
+        let written = rewritten(&rt, rt.alloc(), "> ", text)?;
+        assert_eq!(rt; written.as_str().strip_prefix("> "), Some(text));
+    }
+    Ok(())
+}
+
+// Why a text is no key, if it is none.
+fn fault_of(text: &str) -> Option<FieldFault> {
+    match read_key(text) {
+        Ok(_) => None,
+        Err(fault) => Some(fault),
+    }
+}
+
+#[test]
+fn other_texts_are_no_keys(rt: HostRuntime) {
+    for (text, fault) in [
+        ("", FieldFault::Form),
+        ("@", FieldFault::Form),
+        ("1711837800/T1/1800/1/20240331", FieldFault::Form),
+        (" @1711837800/T1/1800/1/20240331", FieldFault::Form),
+        ("@1711837800/1800/1/20240331", FieldFault::Form),
+        ("@01711837800/T1/1800/5/20240331", FieldFault::Form),
+        ("@-0/T1/0/1/20240331", FieldFault::Form),
+        ("@+1/T1/0/1/20240331", FieldFault::Form),
+        ("@/T1/0/1/20240331", FieldFault::Form),
+        ("@1000000000000/T1/0/1/20240331", FieldFault::Range),
+        ("@0/T1/3600000/1/20240331", FieldFault::Range),
+        ("@0/T1/00/1/20240331", FieldFault::Form),
+        ("@0/T1//1/20240331", FieldFault::Form),
+        ("@0/T1/-1/1/20240331", FieldFault::Form),
+        ("@0/T1/0/2147483648/20240331", FieldFault::Range),
+        ("@0/T1/0/01/20240331", FieldFault::Form),
+        ("@0/T1/0/1/20240230", FieldFault::Range),
+        ("@0/T1/0/1/18991231", FieldFault::Range),
+        ("@0/T1/0/1/2024033", FieldFault::Form),
+        ("@0/T1/0/1/20240331 ", FieldFault::Form),
+        // the first fault is told
+        ("@x/T1/3600000/1/20240230", FieldFault::Form),
+        ("@1000000000000/T1/x/1/20240331", FieldFault::Range),
+        ("@0/T1/3600000/x/20240331", FieldFault::Range),
+        ("@0/T1/x/2147483648/20240331", FieldFault::Form),
+        ("@0/T1/0/2147483648/x", FieldFault::Range),
+    ] {
+        assert_eq!(rt; fault_of(text), Some(fault), "{text}");
+    }
+}
+
+// In order: by instant, trip, run, sequence and day.
+const ASCENDING: [&str; 12] = [
+    "@-11/T2/9/9/20240401",
+    "@-2/T2/9/9/20240401",
+    "@9//9/9/20240401",
+    "@9/T/9/9/20240401",
+    "@9/T1/9/9/20240401",
+    "@9/T10/2/9/20240401",
+    "@9/T10/10/1/20240401",
+    "@9/T2/10/2/20240401",
+    "@9/T2/10/10/19000101",
+    "@9/T2/10/10/20240401",
+    "@9/t/0/0/19000101",
+    "@10/A/0/0/19000101",
+];
+
+// How the key of a text stands to that of another, if both are keys.
+fn order(text: &str, other: &str) -> Option<Ordering> {
+    match read_key(text) {
+        Ok(key) => order_of(&key, other),
+        Err(_) => None,
+    }
+}
+
+fn order_of(key: &Key<'_>, other: &str) -> Option<Ordering> {
+    match read_key(other) {
+        Ok(other) => Some(key.cmp(&other)),
+        Err(_) => None,
+    }
+}
+
+#[test]
+fn keys_stand_by_their_parts(rt: HostRuntime) {
+    for (place, text) in ASCENDING.iter().enumerate() {
+        for (other_place, other) in ASCENDING.iter().enumerate() {
+            let wanted = Some(place.cmp(&other_place));
+            assert!(rt; order(text, other) == wanted, "{text} {other}");
+        }
+    }
+}
+
+// The small dataset has one departure, @1711958400/T1/28800/1/20240401: keys below it, and keys above.
+const BELOW: [&str; 10] = [
+    "@-999999999999/T1/28800/1/20240401",
+    "@1711958399/ZZ/28800/1/20240401",
+    "@1711958400//3599999/2147483647/99991231",
+    "@1711958400/T/28800/1/20240401",
+    "@1711958400/T0/28800/1/20240401",
+    "@1711958400/S9/28800/1/20240401",
+    "@1711958400/T1/0/2/20240402",
+    "@1711958400/T1/28799/2147483647/99991231",
+    "@1711958400/T1/28800/0/20240402",
+    "@1711958400/T1/28800/1/20240331",
+];
+
+const ABOVE: [&str; 9] = [
+    "@1711958400/T1/28800/1/20240401",
+    "@1711958400/T1/28800/1/20240402",
+    "@1711958400/T1/28800/2/19000101",
+    "@1711958400/T1/28801/0/19000101",
+    "@1711958400/T1 /0/0/19000101",
+    "@1711958400/T10/0/0/19000101",
+    "@1711958400/t1/0/0/19000101",
+    "@1711958401//0/0/19000101",
+    "@999999999999/T1/28800/1/20240401",
+];
+
+#[test]
+fn a_board_is_opened_above_any_key(rt: HostRuntime) -> Result<(), Fail> {
+    let fixture = Fixture::of_case(&rt, rt.alloc(), &SMALL)?;
+    let opening = fixture.opening("S1", FIRST_OF_APRIL);
+    for key in BELOW {
+        let lines = opening.listed(&rt, rt.alloc(), key)?;
+        assert_eq!(rt; lines.as_str(), SMALL.lines, "{key}");
+    }
+    for key in ABOVE {
+        let lines = opening.listed(&rt, rt.alloc(), key)?;
+        assert!(rt; lines.is_empty(), "{key}");
+    }
+    Ok(())
+}

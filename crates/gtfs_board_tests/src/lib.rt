@@ -1,0 +1,43 @@
+//! The tests of departure boards (`gtfs_board`, over feeds and lanes), in a crate of their own: a crate with tests is
+//! proved twice, with them and without. They call public functions alone.
+//!
+//! - `dataset` is a small dataset, and makes feeds of it and of changes to it; `made` makes others by throws of dice,
+//!   and `clocks` the zones.
+//! - `plain` lists a board the slow way: it unfolds every event on every day and sorts. `bounds` has what bounds a
+//!   board, and `opening` opens boards and holds them to both.
+//! - `cases` has worked boards, and `worked` compares them; `hostile` has boards of all service days and long ones, and
+//!   `against_plain` those of made feeds.
+//! - `keys` has the texts and the order of keys, `lines` lines and sheets, `pages` pages, `outputs` outputs that fail,
+//!   and `refused` a departure for which there is no memory.
+#![tactic(auto)]
+
+#[cfg(test)]
+mod against_plain;
+#[cfg(test)]
+mod bounds;
+#[cfg(test)]
+mod cases;
+#[cfg(test)]
+mod clocks;
+#[cfg(test)]
+mod dataset;
+#[cfg(test)]
+mod hostile;
+#[cfg(test)]
+mod keys;
+#[cfg(test)]
+mod lines;
+#[cfg(test)]
+mod made;
+#[cfg(test)]
+mod opening;
+#[cfg(test)]
+mod outputs;
+#[cfg(test)]
+mod pages;
+#[cfg(test)]
+mod plain;
+#[cfg(test)]
+mod refused;
+#[cfg(test)]
+mod worked;

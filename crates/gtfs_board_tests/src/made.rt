@@ -1,0 +1,198 @@
+//! Datasets by the throw of dice: trips at the same seconds, past midnight, with gaps, periods and exceptions.
+
+use crate::dataset::{FEED, read_feed};
+use gtfs_feed::Feed;
+use gtfs_field::OutOfMemory;
+use gtfs_table::MemoryFolders;
+use std::alloc::Global;
+use std::hash::RandomState;
+use std::process::Abort;
+use std::random::RandomSource;
+use std::test::Fail;
+
+/// The stops of a made dataset: a station, its two platforms, and two others.
+pub(crate) const STOPS: [&str; 5] = ["P", "P1", "P2", "Q", "R"];
+
+const STOP_TEXT: &str = "stop_id,stop_name,stop_lat,stop_lon,location_type,parent_station\n\
+Q,Quay,52.5,13.4,,\nP2,Park,52.6,13.5,,P\nP,Park,52.6,13.5,1,\nP1,Park,52.6,13.5,0,P\nR,Road,52.7,13.6,,\n";
+
+const ROUTES: &str = "route_id,route_short_name,route_long_name,route_type\nR2,,Long,3\nR1,10,,3\n";
+
+const CALENDAR: &str =
+    "service_id,monday,tuesday,wednesday,thursday,friday,saturday,sunday,start_date,end_date\n";
+
+// How many trips there are.
+const TRIPS: u64 = 12;
+
+// How many services: the last has no row in calendar.txt.
+const SERVICES: u64 = 4;
+
+// How many dates are spoken of, from 2011-12-24 on.
+const DATES: u64 = 16;
+
+// Dice, by a plain sequence of numbers.
+#[derive(Drop)]
+struct Dice {
+    state: u64,
+}
+
+impl Dice {
+    fn roll(&mut self, sides: u64) -> u64 {
+        self.state = self.state.wrapping_mul(6_364_136_223_846_793_005);
+        self.state = self.state.wrapping_add(1_442_695_040_888_963_407);
+        (self.state >> 33).checked_rem(sides).unwrap_or(0)
+    }
+
+    fn is_one_of(&mut self, sides: u64) -> bool {
+        self.roll(sides) == 0
+    }
+}
+
+/// The feed of a made dataset, another for each number.
+pub(crate) fn made_feed<R: Abort + RandomSource>(
+    rt: &R,
+    alloc: Global,
+    number: u64,
+) -> Result<Feed, Fail> {
+    let mut folders = made_folders(alloc, number)?;
+    read_feed(rt, alloc, RandomState::new(rt)?, &mut folders, "f1")
+}
+
+// Folders with a dataset in the folder f1, another for each number.
+fn made_folders(alloc: Global, number: u64) -> Result<MemoryFolders, OutOfMemory> {
+    let mut dice = Dice { state: number };
+    let mut folders = MemoryFolders::new(alloc, 100_000, None);
+    for (name, text) in &FEED {
+        folders.put("f1", name, text.as_bytes())?;
+    }
+    folders.put("f1", "stops.txt", STOP_TEXT.as_bytes())?;
+    folders.put("f1", "routes.txt", ROUTES.as_bytes())?;
+    let text = calendar(alloc, &mut dice)?;
+    folders.put("f1", "calendar.txt", text.as_bytes())?;
+    let text = calendar_dates(alloc, &mut dice)?;
+    folders.put("f1", "calendar_dates.txt", text.as_bytes())?;
+    let text = trips(alloc, &mut dice)?;
+    folders.put("f1", "trips.txt", text.as_bytes())?;
+    let text = stop_times(alloc, &mut dice)?;
+    folders.put("f1", "stop_times.txt", text.as_bytes())?;
+    let text = frequencies(alloc, &mut dice)?;
+    folders.put("f1", "frequencies.txt", text.as_bytes())?;
+    Ok(folders)
+}
+
+// The date so many days after 2011-12-24, at most 38.
+fn date(day: u64) -> u64 {
+    if day < 8 {
+        day.saturating_add(20_111_224)
+    } else {
+        day.saturating_add(20_120_093)
+    }
+}
+
+fn calendar(alloc: Global, dice: &mut Dice) -> Result<String, OutOfMemory> {
+    let mut text = String::from_str(alloc, CALENDAR)?;
+    for service in 1..SERVICES {
+        text.push_str(&format!(in alloc; "C{service}")?)?;
+        for _ in 0..7 {
+            text.push_str(if dice.is_one_of(3) { ",0" } else { ",1" })?;
+        }
+        let first = dice.roll(6);
+        let last = dice.roll(8).saturating_add(8);
+        let dates = format!(in alloc; ",{},{}\n", date(first), date(last))?;
+        text.push_str(&dates)?;
+    }
+    Ok(text)
+}
+
+// Each service has an exception, so that each is there.
+fn calendar_dates(alloc: Global, dice: &mut Dice) -> Result<String, OutOfMemory> {
+    let mut text = String::from_str(alloc, "service_id,date,exception_type\n")?;
+    for service in 1..=SERVICES {
+        for day in 0..DATES {
+            if day == service || dice.is_one_of(6) {
+                let exception = if dice.is_one_of(2) { "1" } else { "2" };
+                let line = format!(in alloc; "C{service},{},{exception}\n", date(day))?;
+                text.push_str(&line)?;
+            }
+        }
+    }
+    Ok(text)
+}
+
+fn trips(alloc: Global, dice: &mut Dice) -> Result<String, OutOfMemory> {
+    let mut text = String::from_str(alloc, "trip_id,route_id,service_id,trip_headsign\n")?;
+    for trip in 0..TRIPS {
+        let route = if dice.is_one_of(2) { "R1" } else { "R2" };
+        let service = dice.roll(SERVICES).saturating_add(1);
+        let headsign = if dice.is_one_of(2) { "" } else { "Town" };
+        let line = format!(in alloc; "T{trip},{route},C{service},{headsign}\n")?;
+        text.push_str(&line)?;
+    }
+    Ok(text)
+}
+
+fn stop_times(alloc: Global, dice: &mut Dice) -> Result<String, OutOfMemory> {
+    let header =
+        "trip_id,stop_sequence,stop_id,arrival_time,departure_time,stop_headsign,pickup_type\n";
+    let mut text = String::from_str(alloc, header)?;
+    for trip in 0..TRIPS {
+        push_stops(alloc, dice, trip, &mut text)?;
+    }
+    Ok(text)
+}
+
+// The stop times of a trip: two to five, of which the first and the last have a time.
+fn push_stops(
+    alloc: Global,
+    dice: &mut Dice,
+    trip: u64,
+    text: &mut String,
+) -> Result<(), OutOfMemory> {
+    let last = dice.roll(4).saturating_add(1);
+    let mut sequence = dice.roll(3);
+    let mut seconds = dice.roll(40).saturating_mul(2_400);
+    for place in 0..=last {
+        let stop = stop_of(dice);
+        let (hours, minutes) = (seconds / 3_600, seconds / 60 % 60);
+        let times = if place > 0 && place < last && dice.is_one_of(3) {
+            String::from_str(alloc, ",")?
+        } else {
+            format!(in alloc; "{hours}:{minutes:02}:00,{hours}:{minutes:02}:00")?
+        };
+        let headsign = if dice.is_one_of(3) { "Hill" } else { "" };
+        let pickup = if dice.is_one_of(4) { "1" } else { "" };
+        let line = format!(in alloc; "T{trip},{sequence},{stop},{times},{headsign},{pickup}\n")?;
+        text.push_str(&line)?;
+        sequence = sequence.saturating_add(dice.roll(3)).saturating_add(1);
+        seconds = seconds.saturating_add(dice.roll(3).saturating_mul(1_200));
+    }
+    Ok(())
+}
+
+// A stop at which trips may stop.
+fn stop_of(dice: &mut Dice) -> &'static str {
+    match dice.roll(4) {
+        0 => "P1",
+        1 => "P2",
+        2 => "Q",
+        _ => "R",
+    }
+}
+
+// One or two periods of every third trip.
+fn frequencies(alloc: Global, dice: &mut Dice) -> Result<String, OutOfMemory> {
+    let header = "trip_id,start_time,end_time,headway_secs,exact_times\n";
+    let mut text = String::from_str(alloc, header)?;
+    for third in 0..4u64 {
+        let trip = third.saturating_mul(3);
+        let mut start = dice.roll(28);
+        for exact in 0..=dice.roll(2) {
+            let end = start.saturating_add(dice.roll(4)).saturating_add(1);
+            let headway = dice.roll(4).saturating_mul(600).saturating_add(600);
+            let line = format!(in alloc; "T{trip},{start}:00:00,{end}:00:00,{headway},{exact}\n")?;
+            text.push_str(&line)?;
+            start = end;
+        }
+    }
+    Ok(text)
+}
