@@ -82,7 +82,9 @@ fn print<R: Print>(rt: &R, least: &Measured) -> Result<()> {
     let page = least.page.as_nanos();
     let steps = least.steps;
     let lines = least.lines;
-    println!(rt; "bare_ns={bare} departures_ns={departures} page_ns={page} steps={steps} lines={lines}")?;
+    println!(rt;
+        "bare_ns={bare} departures_ns={departures} page_ns={page} steps={steps} lines={lines}"
+    )?;
     Ok(())
 }
 

@@ -39,7 +39,11 @@ fn run<R: Runtime + AllocGlobal + RandomSource>(rt: &R) -> Result<()> {
     match words.as_slice() {
         [] | [_] => Ok(rt.println(USAGE)?),
         [_, word, dir] => measure(rt, word.as_str(), dir.as_str()),
-        [_, word, dir, zone] if word.as_str() == "board" => board::measure(rt, dir.as_str(), zone.as_str()),
+        [_, word, dir, zone] if word.as_str() == "board" => board::measure(
+            rt,
+            dir.as_str(),
+            zone.as_str(),
+        ),
         _ => bail!("one word and a folder are wanted"),
     }
 }

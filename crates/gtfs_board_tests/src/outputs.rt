@@ -45,8 +45,15 @@ fn assert_cut(
         "room {room}"
     );
     // At most the line that was cut is missing.
-    let missing = rest.as_str().lines().count().saturating_sub(left.as_str().lines().count());
-    assert!(rt; rest.as_str().ends_with(left.as_str()) && missing <= 1, "room {room}");
+    let missing = rest
+        .as_str()
+        .lines()
+        .count()
+        .saturating_sub(left.as_str().lines().count());
+    assert!(rt;
+        rest.as_str().ends_with(left.as_str()) && missing <= 1,
+        "room {room}"
+    );
     Ok(())
 }
 
