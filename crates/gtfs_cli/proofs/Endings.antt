@@ -8,7 +8,7 @@ use Rattle.gtfs_table.specs.declared.folders.FolderFault.{FolderFault}
 use Rattle.gtfs_table.specs.declared.folders.FolderFault.TheVariants as faults
 use Rattle.clap.specs.Words.{Text}
 use Rattle.gtfs_cli.specs.Running.{AsksCheck, AsksFor, Failures, IsBadUsage, IsDeviceFault, IsFileOf, HasValues, KeepsFromReading}
-use Rattle.gtfs_cli.specs.CommandLine.{texts_of, BoardTexts}
+use Rattle.gtfs_words.specs.Words.{texts_of, BoardTexts}
 use Rattle.gtfs_cli.specs.Refusals.{status_of, IsCause, IsCauseInWords, IsCauseOf, IsCheckCause, IsFileCause}
 use Rattle.gtfs_cli.specs.declared.commands.refusal.Refusal.{Refusal}
 use Rattle.gtfs_cli.specs.declared.commands.refusal.Refusal.TheVariants.{Words, BadValue, NotThere, Unreadable, OverLimit, HasErrors, NoZone, UnknownStop, UntilBeforeFrom, OutputFailed, OutOfMemory}

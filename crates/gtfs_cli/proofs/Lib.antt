@@ -1,7 +1,3 @@
-mod TakenWords
-mod GivenTexts
-mod HelpAlone
-pub mod GtfsWords
 mod Moments
 mod Paths
 mod Endings

@@ -10,7 +10,7 @@ use Rattle.gtfs_feed.specs.declared.feed.Feed.{Feed}
 use Rattle.gtfs_board.specs.Board.{is_stop}
 use Rattle.gtfs_board.specs.Page.{IsCutShort, IsStopped}
 use Rattle.gtfs_cli.specs.Boards.{request_of, AreValues, EndsBoard, EndsLines, GoesOut, HoldsFeed, IsFeedCause, IsLinesCause, IsOpeningCause, Lists, OfBoard}
-use Rattle.gtfs_cli.specs.CommandLine.{BoardTexts}
+use Rattle.gtfs_words.specs.Words.{BoardTexts}
 use Rattle.gtfs_cli.specs.Refusals.{IsCause, IsFirstBad}
 use Rattle.gtfs_cli.specs.Running.{after_of, first_bad, limit_of, moment_of, Failures, HasValues, HoldsPassing, HoldsTables, HoldsZone, Request, Setting}
 use Rattle.gtfs_cli.specs.declared.commands.moments.Moment.{Moment}

@@ -8,7 +8,7 @@ use Rattle.gtfs_table.specs.Folder.{Store}
 use Rattle.gtfs_cli.specs.BoardRun.{IsListed, IsUnlisted}
 use Rattle.gtfs_cli.specs.CheckRun.{IsCutShort}
 use Rattle.gtfs_cli.specs.Checking.{IsReportOf}
-use Rattle.gtfs_cli.specs.CommandLine.{AreRefused, BoardTexts}
+use Rattle.gtfs_words.specs.Words.{AreRefused, BoardTexts}
 use Rattle.gtfs_cli.specs.Messages.{message}
 use Rattle.gtfs_cli.specs.Refusals.{status_of, IsCauseInWords, IsCheckCause}
 use Rattle.gtfs_cli.specs.Running.{Failures}

@@ -1,27 +1,14 @@
 -- How `gtfs board` ends: what went out, what the error output is told, and the status.
-use Rattle.std.specs.Prelude.{◌≡◌, ◌≤◌, ℕ, Bool, true, false, codes, List, Option, Some, None}
+use Rattle.std.specs.Prelude.{◌≡◌, ◌≤◌, ℕ, Bool, false, List, Option}
 use Rattle.std.specs.Io.KnownBytes.{Keeps}
-use Rattle.clap.specs.Words.{Row, Text, subcommand_of, takes}
 use Rattle.gtfs_table.specs.Folder.{Store}
 use Rattle.gtfs_cli.specs.Boards.{EndsBoard, PrintsBoard}
-use Rattle.gtfs_cli.specs.CommandLine.{gtfs_app, BoardTexts, IsBoardOf}
+use Rattle.gtfs_words.specs.Words.{BoardTexts}
 use Rattle.gtfs_cli.specs.Messages.{message}
 use Rattle.gtfs_cli.specs.Refusals.{status_of, IsCause}
 use Rattle.gtfs_cli.specs.Running.{Failures}
 use Rattle.gtfs_cli.specs.Sending.{Output, Sends}
 use Rattle.gtfs_cli.specs.declared.commands.refusal.Refusal.{Refusal}
-
--- ---- the words
-
--- the subcommand with what was given for each of its ids is the board of these texts
-abbrev pub ForBoard : Option (Text × List Row) → BoardTexts → Type 0
-ForBoard None asked = ⊥
-ForBoard (Some found) asked = (found.0 ≡ codes "board") × IsBoardOf found.1 asked
-
--- `clap` takes the words, and they ask for the board of these texts
-pub record AsksBoardOf (texts : List Text) (asked : BoardTexts) : Type 0 where
-  pub taken : takes gtfs_app texts ≡ true
-  pub asks : ForBoard (subcommand_of gtfs_app texts) asked
 
 -- ---- how the command ends
 

@@ -17,7 +17,7 @@ use Rattle.gtfs_board.specs.Lent.{plain_key}
 use Rattle.gtfs_board.specs.Lines.{Listed}
 use Rattle.gtfs_board.specs.Page.{IsCutShort, IsPage, IsStopped}
 use Rattle.gtfs_board.specs.Shown.{IsShown}
-use Rattle.gtfs_cli.specs.CommandLine.{BoardTexts}
+use Rattle.gtfs_words.specs.Words.{BoardTexts}
 use Rattle.gtfs_cli.specs.Refusals.{IsSound}
 use Rattle.gtfs_cli.specs.Running.{instant_at, HoldsTables, IsRequest, LiesBefore, Request, Setting}
 use Rattle.gtfs_cli.specs.declared.commands.refusal.Refusal.{Refusal}

@@ -1,30 +1,16 @@
 -- How `gtfs check DIR` ends: what went out, what the error output is told, and the status.
-use Rattle.std.specs.Prelude.{◌≡◌, ◌≢◌, ◌≤◌, ◌⊎◌, ℕ, true, false, codes, List, Option, Some, None}
+use Rattle.std.specs.Prelude.{◌≡◌, ◌≢◌, ◌≤◌, ◌⊎◌, ℕ, true, false, List, Option}
 use Rattle.std.specs.Io.KnownBytes.{Keeps}
-use Rattle.clap.specs.Words.{Row, Text, subcommand_of, takes}
 use Rattle.gtfs_table.specs.Folder.{Store}
 use Rattle.gtfs_table.specs.Tables.{Dataset}
 use Rattle.gtfs_columns.specs.Problems.{Problem, IsReport}
 use Rattle.gtfs_rules.specs.Report.{report_text}
-use Rattle.gtfs_cli.specs.CommandLine.{gtfs_app, IsCheckOf}
 use Rattle.gtfs_cli.specs.Checking.{IsReportOf}
 use Rattle.gtfs_cli.specs.Messages.{message}
 use Rattle.gtfs_cli.specs.Refusals.{status_of, IsCheckCause}
 use Rattle.gtfs_cli.specs.Running.{Failures, HoldsTables}
 use Rattle.gtfs_cli.specs.Sending.{Output, Sends, SendsBeginning}
 use Rattle.gtfs_cli.specs.declared.commands.refusal.Refusal.{Refusal}
-
--- ---- the words
-
--- the subcommand with what was given for each of its ids is the check of this folder
-abbrev pub ChecksFolder : Option (Text × List Row) → Text → Type 0
-ChecksFolder None dir = ⊥
-ChecksFolder (Some found) dir = (found.0 ≡ codes "check") × IsCheckOf found.1 dir
-
--- `clap` takes the words, and they ask for the check of the feed in this folder
-pub record AsksCheckOf (texts : List Text) (dir : Text) : Type 0 where
-  pub taken : takes gtfs_app texts ≡ true
-  pub asks : ChecksFolder (subcommand_of gtfs_app texts) dir
 
 -- ---- what went out
 

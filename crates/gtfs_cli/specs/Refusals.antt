@@ -6,7 +6,7 @@ use Rattle.gtfs_table.specs.Device.{Rises}
 use Rattle.gtfs_table.specs.Folder.{Store}
 use Rattle.gtfs_table.specs.declared.folders.FolderFault.{FolderFault}
 use Rattle.gtfs_table.specs.declared.folders.FolderFault.TheVariants as faults
-use Rattle.gtfs_cli.specs.CommandLine.{AreForHelp, AreRefused, BoardTexts}
+use Rattle.gtfs_words.specs.Words.{AreForHelp, AreRefused, BoardTexts}
 use Rattle.gtfs_cli.specs.Running.{first_bad, AsksCheck, AsksFor, EndsBeforeItBegins, Failures, HasValues, HoldsErrors, HoldsFile, HoldsKeptFile, HoldsNoZone, HoldsPassing, LacksFeed, LacksFile, LacksStop, NamesNoFile}
 use Rattle.gtfs_cli.specs.declared.commands.moments.Moment.{Moment}
 use Rattle.gtfs_cli.specs.declared.commands.moments.Moment.TheVariants.{Instant, ServiceDay}

@@ -22,11 +22,11 @@ use Rattle.gtfs_board.specs.Board.{is_stop}
 use Rattle.gtfs_board.specs.Departures.{Origins}
 use Rattle.gtfs_board.specs.Key.{Key}
 use Rattle.gtfs_board.specs.KeyTexts.{key_of}
-use Rattle.gtfs_cli.specs.CommandLine.{gtfs_app, texts_of, AreRefused, BoardTexts, IsCommandOf}
+use Rattle.gtfs_words.specs.Words.{gtfs_app, texts_of, AreRefused, BoardTexts, IsCommandOf}
 use Rattle.gtfs_cli.specs.declared.commands.moments.Moment.{Moment}
 use Rattle.gtfs_cli.specs.declared.commands.moments.Moment.TheVariants.{Instant, ServiceDay}
-use Rattle.gtfs_cli.specs.declared.words.BoardWords.{BoardWords}
-use Rattle.gtfs_cli.specs.declared.words.Command.TheVariants.{Board, Check}
+use Rattle.gtfs_words.specs.declared.command.BoardWords.{BoardWords}
+use Rattle.gtfs_words.specs.declared.command.Command.TheVariants.{Board, Check}
 
 -- ---- the values of `--from` and `--until`
 

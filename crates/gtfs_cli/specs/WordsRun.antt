@@ -2,7 +2,7 @@
 use Rattle.std.specs.Prelude.{◌≡◌, ◌≤◌, ℕ, Bool, false, List, Option}
 use Rattle.std.specs.Io.KnownBytes.{Keeps}
 use Rattle.clap.specs.Words.{Text}
-use Rattle.gtfs_cli.specs.CommandLine.{AreForHelp, AreRefused}
+use Rattle.gtfs_words.specs.Words.{AreForHelp, AreRefused}
 use Rattle.gtfs_cli.specs.Messages.{message}
 use Rattle.gtfs_cli.specs.Refusals.{status_of, IsCauseInWords}
 use Rattle.gtfs_cli.specs.Running.{Failures}

@@ -3,9 +3,9 @@ ghost use Rattle.std.specs.Prelude.{◌≡◌, ◌≤◌, List, ℕ, false, map,
 ghost use Rattle.std.specs.Io.KnownBytes.{Keeps};
 ghost use Rattle.clap.specs.Words.{Text, takes};
 ghost use Rattle.gtfs_cli.specs.Checking.{IsReportOf};
-ghost use Rattle.gtfs_cli.specs.BoardRun.{AsksBoardOf, IsBoardRun, IsListed, IsUnlisted};
-ghost use Rattle.gtfs_cli.specs.CommandLine.{gtfs_app, no_memory, AreRefused, BoardTexts, IsFaultOf};
-ghost use Rattle.gtfs_cli.specs.CheckRun.{AsksCheckOf, IsCheckRun, IsCheckTold, IsCutShort};
+ghost use Rattle.gtfs_cli.specs.BoardRun.{IsBoardRun, IsListed, IsUnlisted};
+ghost use Rattle.gtfs_words.specs.Words.{gtfs_app, no_memory, AreRefused, AsksBoardOf, AsksCheckOf, BoardTexts, IsFaultOf};
+ghost use Rattle.gtfs_cli.specs.CheckRun.{IsCheckRun, IsCheckTold, IsCutShort};
 ghost use Rattle.gtfs_cli.specs.Running.{IsBadUsage, IsDeviceFault};
 ghost use Rattle.gtfs_cli.specs.Refusals.{IsCauseInWords, IsCauseOf, IsCheckCause};
 ghost use Rattle.gtfs_cli.specs.WordsRun.{IsHelped, IsUntakenRun};
@@ -20,8 +20,8 @@ mod paths;
 mod refusal;
 mod values;
 
-use crate::words::{Command, WordsFault, read_words};
 use gtfs_table::{Folders, Out, write_text};
+use gtfs_words::{Command, WordsFault, read_words};
 use refusal::Refusal;
 use std::alloc::Global;
 use std::convert::AsStr;

@@ -27,6 +27,5 @@
 
 mod commands;
 mod report;
-mod words;
 
 pub use commands::run;

@@ -1,3 +1,2 @@
-mod WorkedWords
 mod WorkedLines
 mod WorkedReports

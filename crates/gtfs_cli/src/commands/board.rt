@@ -4,7 +4,7 @@ ghost use Rattle.gtfs_feed.specs.Content.{content_of};
 ghost use Rattle.gtfs_table.specs.Folder.{Store};
 ghost use Rattle.gtfs_board.specs.Page.{IsPage};
 ghost use Rattle.gtfs_cli.specs.Boards.{request_of, AreValues, EndsBoard, EndsLines, HoldsFeed, IsFeedCause, IsFeedOf, IsLinesCause, IsOpeningCause, ListsBoard, OfBoard, PrintsBoard};
-ghost use Rattle.gtfs_cli.specs.CommandLine.{texts_of};
+ghost use Rattle.gtfs_words.specs.Words.{texts_of};
 ghost use Rattle.gtfs_cli.specs.Running.{Failures, HasValues, HoldsBytes, HoldsPassing, HoldsZone};
 ghost use Rattle.gtfs_cli.specs.Refusals.{IsCause};
 
@@ -12,12 +12,12 @@ use crate::commands::folder::{of_folder, read_tables};
 use crate::commands::paths::cut_path;
 use crate::commands::refusal::Refusal;
 use crate::commands::values::{Values, read_values};
-use crate::words::BoardWords;
 use gtfs_board::{Board, BoardFault, PageFault, Span, write_page};
 use gtfs_days::{Zone, ZoneFault};
 use gtfs_feed::Feed;
 use gtfs_rules::check;
 use gtfs_table::{Folders, Out, Tables};
+use gtfs_words::BoardWords;
 use std::alloc::Global;
 use std::hash::RandomState;
 

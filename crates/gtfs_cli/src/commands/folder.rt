@@ -1,7 +1,7 @@
 ghost use Rattle.std.specs.Prelude.{◌≡◌, ◌≤◌, ℕ, Option, IfOk, IfErr};
 ghost use Rattle.gtfs_table.specs.Folder.{Store};
 ghost use Rattle.gtfs_table.specs.Reading.{HoldsDataset, RefusesDataset};
-ghost use Rattle.gtfs_cli.specs.CommandLine.{BoardTexts};
+ghost use Rattle.gtfs_words.specs.Words.{BoardTexts};
 ghost use Rattle.gtfs_cli.specs.Running.{Failures, HasValues, HoldsPassing, HoldsTables};
 ghost use Rattle.gtfs_cli.specs.Refusals.{IsCause, IsCheckCause, IsFileCause};
 

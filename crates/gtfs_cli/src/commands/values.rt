@@ -1,15 +1,15 @@
 ghost use Rattle.std.specs.Prelude.{◌≡◌, None, Some, option_map, IfOk, IfErr};
 ghost use Rattle.gtfs_board.specs.Lent.{plain_key};
 ghost use Rattle.gtfs_cli.specs.Boards.{AreValues};
-ghost use Rattle.gtfs_cli.specs.CommandLine.{texts_of};
+ghost use Rattle.gtfs_words.specs.Words.{texts_of};
 ghost use Rattle.gtfs_cli.specs.Refusals.{IsFirstBad};
 ghost use Rattle.gtfs_cli.specs.Running.{after_of, limit_of};
 
 use crate::commands::moments::{Moment, read_moment};
 use crate::commands::refusal::Refusal;
-use crate::words::BoardWords;
 use gtfs_board::{Key, read_key};
 use gtfs_field::read_count;
+use gtfs_words::BoardWords;
 
 // The most lines where no limit is given: more than any output takes.
 const NO_LIMIT: u64 = u64::MAX;

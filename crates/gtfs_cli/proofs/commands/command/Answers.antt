@@ -2,10 +2,10 @@ use Rattle.std.proofs.Common.{map, subst, inl}
 use Rattle.std.proofs.lemmas.Result.{IfErr-weaker}
 use Rattle.clap.specs.Words.{subcommand_of}
 use Rattle.gtfs_cli.specs.BoardRun.{IsUnlisted}
-use Rattle.gtfs_cli.specs.CommandLine.{gtfs_app, IsCommandOf}
+use Rattle.gtfs_words.specs.Words.{gtfs_app, IsCommandOf}
 use Rattle.gtfs_cli.specs.Refusals.{IsCauseInWords, IsCauseOf}
 use Rattle.gtfs_cli.specs.Running.{Failures}
-use Rattle.gtfs_cli.specs.declared.words.Command.{Command}
+use Rattle.gtfs_words.specs.declared.command.Command.{Command}
 use Rattle.gtfs_cli.proofs.Asked.{board-listed, board-unlisted, no-check}
 use Rattle.gtfs_cli.proofs.Endings.{told-up}
 use Rattle.gtfs_cli.proofs.Untaken.{unread-cause, unread-checked, unread-cut, unread-listed, unread-unlisted}

@@ -2,7 +2,7 @@ use Rattle.std.proofs.Common.{ℕ, ◌≤◌, arith}
 use Rattle.std.proofs.lemmas.Result.{IfErr-weaker}
 use Rattle.gtfs_board.specs.Page.{IsPage}
 use Rattle.gtfs_cli.specs.Boards.{EndsBoard}
-use Rattle.gtfs_cli.specs.CommandLine.{texts_of}
+use Rattle.gtfs_words.specs.Words.{texts_of}
 use Rattle.gtfs_cli.specs.Running.{Failures, HoldsPassing, HoldsZone}
 use Rattle.gtfs_cli.specs.Refusals.{IsCause}
 use Rattle.gtfs_cli.proofs.Endings.{told-up}

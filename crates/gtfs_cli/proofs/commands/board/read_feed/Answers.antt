@@ -1,5 +1,5 @@
 use Rattle.std.proofs.lemmas.Result.{IfErr-weaker, IfOk-weaker}
-use Rattle.gtfs_cli.specs.CommandLine.{texts_of}
+use Rattle.gtfs_words.specs.Words.{texts_of}
 use Rattle.gtfs_cli.proofs.Endings.{board-cause, told-up}
 use Rattle.gtfs_cli.proofs.Printed.{feed-cause, FeedCause}
 use Rattle.gtfs_cli.proofs.commands.board.read_feed.Goals as goal

@@ -1,5 +1,5 @@
 use Rattle.std.proofs.Common.{refl}
-use Rattle.gtfs_cli.specs.CommandLine.{texts_of}
+use Rattle.gtfs_words.specs.Words.{texts_of}
 use Rattle.gtfs_cli.proofs.Endings.{cause-file}
 use Rattle.gtfs_cli.proofs.commands.board.read_zone.Goals as goal
 

@@ -9,12 +9,14 @@ use Rattle.clap.specs.Walk.{answers_to, nothing_held, rows_after, walk}
 use Rattle.clap.specs.declared.error.kind.ErrorKind.{ErrorKind}
 use Rattle.clap.specs.declared.error.kind.ErrorKind.TheVariants as kind
 use Rattle.clap.specs.declared.parser.matches.ArgMatches.{ArgMatches}
-use Rattle.gtfs_cli.specs.CommandLine.{board_app, check_app, gtfs_app, no_memory, HasBoard, HasCheck, IsFaultOf, IsToldOf, IsWhole}
-use Rattle.gtfs_cli.specs.declared.words.WordsFault.{WordsFault}
-use Rattle.gtfs_cli.specs.declared.words.WordsFault.TheVariants as fault
-use Rattle.gtfs_cli.proofs.HelpAlone.{alone, built_alone, only_help}
-use Rattle.gtfs_cli.proofs.TakenWords.{both, built_taken}
-use Rattle.gtfs_cli.proofs.GivenTexts.{are_filled, given_text, level_command, level_filled, level_given}
+use Rattle.gtfs_words.specs.Asked.{HasBoard, HasCheck, IsWhole}
+use Rattle.gtfs_words.specs.CommandLine.{board_app, check_app, gtfs_app}
+use Rattle.gtfs_words.specs.Untaken.{no_memory, IsFaultOf, IsToldOf}
+use Rattle.gtfs_words.specs.declared.fault.WordsFault.{WordsFault}
+use Rattle.gtfs_words.specs.declared.fault.WordsFault.TheVariants as fault
+use Rattle.gtfs_words.proofs.HelpAlone.{alone, built_alone, only_help}
+use Rattle.gtfs_words.proofs.TakenWords.{both, built_taken}
+use Rattle.gtfs_words.proofs.GivenTexts.{are_filled, given_text, level_command, level_filled, level_given}
 
 help_is_no_memory : kind.DisplayHelp ≡ kind.OutOfMemory → ⊥
 help_is_no_memory e = cc
@@ -23,11 +25,15 @@ help_is_no_memory e = cc
 pub taken : (words : List Text) → fault_of gtfs_app words ≡ [] → takes gtfs_app words ≡ true
 taken words e = built_taken (built gtfs_app) nothing_held (argument_words gtfs_app words) refl refl e
 
+-- a command as `clap` builds it below the program
+abbrev below : App → Shape
+below app = built_leaf (inherited (with_leaf_noted (marked_built gtfs_app.top)) app.top)
+
 abbrev check_built : Shape
-check_built = built_leaf (inherited (with_leaf_noted (marked_built gtfs_app.top)) check_app.top)
+check_built = below check_app
 
 abbrev board_built : Shape
-board_built = built_leaf (inherited (with_leaf_noted (marked_built gtfs_app.top)) board_app.top)
+board_built = below board_app
 
 are_two : (built gtfs_app).subs ≡ check_built ∷ board_built ∷ []
 are_two = refl
@@ -36,7 +42,7 @@ are_two = refl
 has_check : (rows : List Row) → are_filled rows ≡ true → (take.is_given (codes "DIR") rows && true) ≡ true → HasCheck rows
 has_check rows filled all = given_text (codes "DIR") rows filled (both (take.is_given (codes "DIR") rows) true all).0
 
--- and each id of `board`
+-- and each id that `board` needs
 has_board : (rows : List Row) → are_filled rows ≡ true
     → (take.is_given (codes "DIR") rows && (take.is_given (codes "zone") rows && (take.is_given (codes "stop") rows
     && (take.is_given (codes "from") rows && (take.is_given (codes "until") rows && true))))) ≡ true
@@ -62,7 +68,8 @@ has_board rows filled all =
 entered_whole : (stop : Option (Text × List Text)) → take.entered_passes (built gtfs_app) stop ≡ true → is_some (entered (built gtfs_app) stop) ≡ true
     → IsWhole (entered (built gtfs_app) stop)
 entered_whole None passes has = cc
-entered_whole (Some p) passes has = go (answers_to p.0 (label_of check_built)) (answers_to p.0 (label_of board_built)) passes has
+entered_whole (Some p) passes has =
+    go (answers_to p.0 (label_of check_built)) (answers_to p.0 (label_of board_built)) passes has
   where
     named : Bool → Bool → Option Shape
     named checks boards = if checks then Some check_built else (if boards then Some board_built else None)
@@ -74,7 +81,11 @@ entered_whole (Some p) passes has = go (answers_to p.0 (label_of check_built)) (
     go true boards passes has =
         inl (refl, has_check (rows_after check_built.rules [] p.1) (level_filled check_built [] p.1 false refl passes) (level_given check_built [] p.1 passes))
     go false true passes has =
-        inr (refl, has_board (rows_after board_built.rules [] p.1) (level_filled board_built [] p.1 false refl passes) (level_given board_built [] p.1 passes))
+        inr (
+          refl,
+          has_board (rows_after board_built.rules [] p.1) (level_filled board_built [] p.1 false refl passes)
+              (level_given board_built [] p.1 passes),
+        )
     go false false passes has = cc
 
 -- words that are taken name a command and give all that it needs

@@ -17,7 +17,7 @@ use Rattle.clap.specs.declared.builder.action.ArgAction.TheVariants as action
 use Rattle.clap.specs.declared.builder.value_parser.ValueParser.{ValueParser}
 use Rattle.clap.specs.declared.error.kind.ErrorKind.{ErrorKind}
 use Rattle.clap.specs.declared.error.kind.ErrorKind.TheVariants as kind
-use Rattle.gtfs_cli.proofs.TakenWords.{first_passes}
+use Rattle.gtfs_words.proofs.TakenWords.{first_passes}
 
 abbrev pub is_help : ErrorKind → Bool
 is_help kind.DisplayHelp = true

@@ -1,0 +1,5 @@
+mod TakenWords
+mod GivenTexts
+mod HelpAlone
+pub mod GtfsWords
+pub mod OneAsked

@@ -1,0 +1,30 @@
+-- What words ask for is one thing: two askings of one command have the same texts.
+use Rattle.std.proofs.Common.{◌≡◌, ◌∙◌, List, Option, Some, None, ap, sym}
+use Rattle.std.specs.Prelude.{unwrap_or}
+use Rattle.clap.specs.Words.{Row, Text}
+use Rattle.gtfs_words.specs.Asked.{AsksBoardOf, AsksCheckOf, BoardTexts, ForBoard, ForCheck}
+
+same : (o : Option Text) (x y : Text) → o ≡ Some x → o ≡ Some y → x ≡ y
+same o x y is_x is_y = ap (λ p. unwrap_or p x) (sym is_x ∙ is_y)
+
+pub same_check : (found : Option (Text × List Row)) (a b : Text) → ForCheck found a → ForCheck found b → a ≡ b
+same_check None a b is_a is_b = absurd is_a
+same_check (Some found) a b is_a is_b = same _ a b is_a.1 is_b.1
+
+pub same_board : (found : Option (Text × List Row)) (a b : BoardTexts) → ForBoard found a → ForBoard found b → a ≡ b
+same_board None a b is_a is_b = absurd is_a
+same_board (Some found) a b is_a is_b =
+    let dir : a.dir ≡ b.dir = same _ a.dir b.dir is_a.1.dir is_b.1.dir in
+    let zone : a.zone ≡ b.zone = same _ a.zone b.zone is_a.1.zone is_b.1.zone in
+    let stop : a.stop ≡ b.stop = same _ a.stop b.stop is_a.1.stop is_b.1.stop in
+    let from : a.from ≡ b.from = same _ a.from b.from is_a.1.from is_b.1.from in
+    let until : a.until ≡ b.until = same _ a.until b.until is_a.1.until is_b.1.until in
+    let limit : a.limit ≡ b.limit = sym is_a.1.limit ∙ is_b.1.limit in
+    let after : a.after ≡ b.after = sym is_a.1.after ∙ is_b.1.after in
+    λ i. record { dir = dir i; zone = zone i; stop = stop i; from = from i; until = until i; limit = limit i; after = after i }
+
+pub one_check : (words : List Text) (a b : Text) → AsksCheckOf words a → AsksCheckOf words b → a ≡ b
+one_check words a b is_a is_b = same_check _ a b is_a.asks is_b.asks
+
+pub one_board : (words : List Text) (a b : BoardTexts) → AsksBoardOf words a → AsksBoardOf words b → a ≡ b
+one_board words a b is_a is_b = same_board _ a b is_a.asks is_b.asks

@@ -1,0 +1,46 @@
+-- The command line of the program `gtfs`, as `clap` sees it.
+use Rattle.std.specs.Prelude.{Some, codes, true}
+use Rattle.clap.specs.Words.{App, Rule, Text, new_app, new_rule, with_rule, with_subcommand}
+use Rattle.clap.specs.declared.builder.ArgAction.TheVariants.{Set}
+
+-- a plain text that is set once
+abbrev pub text_rule : Text → Rule
+text_rule id = record (new_rule id) { action = Some Set }
+
+-- a text that must be given, known by its position among the words
+abbrev pub word_rule : Text → Rule
+word_rule id = record (text_rule id) { required = true }
+
+-- a text that must be given, as `--id text` or `--id=text`; help has one name for the text
+abbrev pub option_rule : Text → Rule
+option_rule id = record (word_rule id) { long = Some id; value_names = 1 }
+
+-- a text that may be given, as `--id text` or `--id=text`; help has one name for the text
+abbrev pub choice_rule : Text → Rule
+choice_rule id = record (text_rule id) { long = Some id; value_names = 1 }
+
+-- `check DIR`
+abbrev pub check_app : App
+check_app = with_rule (new_app (codes "check")) (word_rule (codes "DIR"))
+
+-- what `board` needs: `board DIR --zone FILE --stop ID --from T --until T`
+abbrev pub needed_board_app : App
+needed_board_app = with_rule (with_rule (with_rule (with_rule (with_rule (new_app (codes "board"))
+    (word_rule (codes "DIR"))) (option_rule (codes "zone"))) (option_rule (codes "stop")))
+    (option_rule (codes "from"))) (option_rule (codes "until"))
+
+-- `board DIR --zone FILE --stop ID --from T --until T [--limit N] [--after KEY]`
+abbrev pub board_app : App
+board_app = with_rule (with_rule needed_board_app (choice_rule (codes "limit"))) (choice_rule (codes "after"))
+
+-- `gtfs`, of which one of the commands must be named, and `help` is none of them
+abbrev pub gtfs_top : App
+gtfs_top = record (new_app (codes "gtfs")) {
+  top = record (new_app (codes "gtfs")).top {
+    subcommand_required = true;
+    disable_help_subcommand = true;
+  };
+}
+
+abbrev pub gtfs_app : App
+gtfs_app = with_subcommand (with_subcommand gtfs_top check_app.top) board_app.top

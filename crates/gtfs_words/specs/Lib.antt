@@ -1,0 +1,4 @@
+pub mod CommandLine
+pub mod Asked
+pub mod Untaken
+pub mod Words

@@ -1,0 +1,29 @@
+//! The commands, each with the texts that were given to it.
+
+/// What the words ask for. The texts are the words' own and not yet judged.
+#[derive(Clone, Copy)]
+pub enum Command<'w> {
+    /// `gtfs check`: what is wrong with the feed in this folder.
+    Check(&'w str),
+    /// `gtfs board`: the departures at a stop.
+    Board(BoardWords<'w>),
+}
+
+/// What was given to `gtfs board`, each a text as it stands in the words.
+#[derive(Clone, Copy)]
+pub struct BoardWords<'w> {
+    /// The folder of the feed.
+    pub dir: &'w str,
+    /// The file of the time zone.
+    pub zone: &'w str,
+    /// The `stop_id` of the stop.
+    pub stop: &'w str,
+    /// Where the board begins: `@` and an instant, or a service date.
+    pub from: &'w str,
+    /// The instant before which the board ends, written like `from`.
+    pub until: &'w str,
+    /// How many lines are printed at most, if this was said.
+    pub limit: Option<&'w str>,
+    /// The key after which the board begins, if one was given.
+    pub after: Option<&'w str>,
+}

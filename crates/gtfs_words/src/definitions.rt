@@ -1,0 +1,44 @@
+//! The command line as `clap` is told of it. A command is a module here, and a line in `gtfs`.
+ghost use Rattle.std.specs.Prelude.{◌≡◌, IfOk, true};
+ghost use Rattle.clap.specs.Words.{app_of, with_subcommand};
+ghost use Rattle.gtfs_words.specs.CommandLine.{gtfs_app, gtfs_top};
+
+mod board;
+mod check;
+mod rules;
+
+use board::board_command;
+use check::check_command;
+use clap::Command;
+use std::alloc::{AllocError, Global};
+
+// How all are called, a line each. Help has `Usage: ` before the first, and the others stand below it.
+const COMMANDS: &str = "gtfs check DIR\n       \
+    gtfs board DIR --zone FILE --stop ID --from T --until T [--limit N] [--after KEY]";
+
+// The program `gtfs` with all its commands. `--help` and `-h` ask for help, at the top and at each
+// command; there is no command `help`.
+pub(super) fn gtfs<'w>(alloc: Global) -> Result<Command<'w>, AllocError>
+    ensures { IfOk result (λ c. app_of c ≡ gtfs_app) }
+{
+    let checks = with_command(top(alloc), check_command(alloc)?)?;
+    with_command(checks, board_command(alloc)?)
+}
+
+fn top<'w>(alloc: Global) -> Command<'w>
+    ensures { app_of result ≡ gtfs_top }
+{
+    Command::new(alloc, "gtfs")
+        .about("Checks of GTFS Schedule feeds, and departure boards from them")
+        .override_usage(COMMANDS)
+        .subcommand_required(true)
+        .disable_help_subcommand(true)
+}
+
+// The program with one more command.
+fn with_command<'w>(program: Command<'w>, command: Command<'w>) -> Result<Command<'w>, AllocError>
+    ensures { (app_of command.entry).top.is_plain ≡ true
+        → IfOk result (λ c. app_of c ≡ with_subcommand (app_of program.entry) (app_of command.entry).top) }
+{
+    program.subcommand(command)
+}

@@ -1,0 +1,24 @@
+//! `gtfs check`, as `clap` is told of it.
+ghost use Rattle.std.specs.Prelude.{◌≡◌, IfOk};
+ghost use Rattle.clap.specs.Words.{app_of};
+ghost use Rattle.gtfs_words.specs.CommandLine.{check_app};
+
+use super::rules::{DIR, with_word};
+use clap::Command;
+use std::alloc::{AllocError, Global};
+
+const CHECK: &str = "gtfs check DIR";
+
+const LINES: &str =
+    "A line for each problem, as E05 trips.txt:7 route_id and what it means, and last\n\
+    errors N warnings N. The status is 1 where there is an error.";
+
+pub(super) fn check_command<'w>(alloc: Global) -> Result<Command<'w>, AllocError>
+    ensures { IfOk result (λ c. app_of c ≡ check_app) }
+{
+    let check = Command::new(alloc, "check")
+        .about("Print what is wrong with a feed")
+        .override_usage(CHECK)
+        .after_help(LINES);
+    with_word(check, alloc, "DIR", DIR)
+}

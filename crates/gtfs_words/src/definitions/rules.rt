@@ -1,0 +1,76 @@
+//! The texts that a command is given, as `clap` is told of them: plain texts, each set once.
+ghost use Rattle.std.specs.Prelude.{◌≡◌, IfOk, false};
+ghost use Rattle.clap.specs.Words.{app_of, rule_of, with_rule};
+ghost use Rattle.gtfs_words.specs.CommandLine.{choice_rule, option_rule, text_rule, word_rule};
+
+use clap::{Arg, ArgAction, Command};
+use std::alloc::{AllocError, Global};
+
+// What help says of the folder of a feed.
+pub(super) const DIR: &str = "The folder of the feed";
+
+// The command with one more text that must be given, known by its position among the words.
+pub(super) fn with_word<'w>(
+    command: Command<'w>,
+    alloc: Global,
+    id: &'w str,
+    help: &'w str,
+) -> Result<Command<'w>, AllocError>
+    ensures { IfOk result (λ c. app_of c ≡ with_rule (app_of command.entry) (word_rule id.entry.now)) }
+{
+    command.arg(needed_word(alloc, id, help))
+}
+
+// The command with one more text that must be given after `--id`; help names the text `value`.
+pub(super) fn with_option<'w>(
+    command: Command<'w>,
+    alloc: Global,
+    id: &'w str,
+    value: &'w str,
+    help: &'w str,
+) -> Result<Command<'w>, AllocError>
+    ensures { IfOk result (λ c. app_of c ≡ with_rule (app_of command.entry) (option_rule id.entry.now)) }
+{
+    command.arg(needed_option(alloc, id, value, help))
+}
+
+// The command with one more text that may be given after `--id`; help names the text `value`.
+pub(super) fn with_choice<'w>(
+    command: Command<'w>,
+    alloc: Global,
+    id: &'w str,
+    value: &'w str,
+    help: &'w str,
+) -> Result<Command<'w>, AllocError>
+    ensures { IfOk result (λ c. app_of c ≡ with_rule (app_of command.entry) (choice_rule id.entry.now)) }
+{
+    command.arg(free_option(alloc, id, value, help))
+}
+
+fn needed_word<'w>(alloc: Global, id: &'w str, help: &'w str) -> Arg<'w>
+    ensures rule { rule_of result ≡ word_rule id.entry.now }
+    ensures local { result.global ≡ false }
+{
+    text(alloc, id, help).required(true)
+}
+
+fn needed_option<'w>(alloc: Global, id: &'w str, value: &'w str, help: &'w str) -> Arg<'w>
+    ensures rule { rule_of result ≡ option_rule id.entry.now }
+    ensures local { result.global ≡ false }
+{
+    needed_word(alloc, id, help).long(id).value_name(value)
+}
+
+fn free_option<'w>(alloc: Global, id: &'w str, value: &'w str, help: &'w str) -> Arg<'w>
+    ensures rule { rule_of result ≡ choice_rule id.entry.now }
+    ensures local { result.global ≡ false }
+{
+    text(alloc, id, help).long(id).value_name(value)
+}
+
+fn text<'w>(alloc: Global, id: &'w str, help: &'w str) -> Arg<'w>
+    ensures rule { rule_of result ≡ text_rule id.entry.now }
+    ensures local { result.global ≡ false }
+{
+    Arg::new(alloc, id).action(ArgAction::Set).help(help)
+}

@@ -1,0 +1,40 @@
+//! Why words name no command.
+ghost use Rattle.std.specs.Prelude.{◌≡◌};
+ghost use Rattle.clap.specs.Words.{kind_of};
+ghost use Rattle.gtfs_words.specs.Untaken.{no_memory, IsToldOf};
+
+use clap::error::{Error, ErrorKind};
+use std::alloc::{AllocError, Global};
+
+/// Why the words name no command.
+#[derive(Drop)]
+pub enum WordsFault {
+    /// The words are not as the usage wants them: `clap`'s text, for the error output.
+    Refused(String),
+    /// Help was asked for: `clap`'s text, for the output.
+    Help(String),
+    /// Memory ran out.
+    OutOfMemory,
+}
+
+impl From<AllocError> for WordsFault {
+    ghost from_gives = { λ _ fault. fault ≡ no_memory };
+
+    fn from(_error: AllocError) -> WordsFault {
+        WordsFault::OutOfMemory
+    }
+}
+
+// What is said of words that `clap` does not take.
+pub(super) fn fault_of(alloc: Global, error: &Error) -> WordsFault
+    ensures { IsToldOf (kind_of error.now) result }
+{
+    if error.kind() == ErrorKind::OutOfMemory {
+        return WordsFault::OutOfMemory;
+    }
+    match format!(in alloc; "{error}") {
+        Ok(text) if error.kind() == ErrorKind::DisplayHelp => WordsFault::Help(text),
+        Ok(text) => WordsFault::Refused(text),
+        Err(_) => WordsFault::OutOfMemory,
+    }
+}

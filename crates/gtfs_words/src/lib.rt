@@ -1,0 +1,29 @@
+//! What the words of the command line of `gtfs` ask for, read by `clap`.
+//!
+//! ```text
+//! gtfs check DIR
+//! gtfs board DIR --zone FILE --stop ID --from T --until T [--limit N] [--after KEY]
+//! ```
+//!
+//! [`read_words`] answers a [`Command`] with the texts that were given, each as it stands in the words, or a
+//! [`WordsFault`]. It judges no text: whether a text is a date, an instant or a number is for the command to say.
+//!
+//! ```text
+//! match read_words(alloc, &["gtfs", "check", "feed"]) {
+//!     Ok(Command::Check(dir)) => .. the folder ..
+//!     Err(WordsFault::Help(text)) => .. the text, on the output ..
+//!     ..
+//! }
+//! ```
+#![tactic(auto)]
+
+mod command;
+mod definitions;
+mod fault;
+mod law;
+mod read;
+
+pub use command::{BoardWords, Command};
+pub use fault::WordsFault;
+pub use law::words_ask_for_one;
+pub use read::read_words;

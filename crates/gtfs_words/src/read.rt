@@ -1,0 +1,64 @@
+//! From the words to the command.
+ghost use Rattle.std.specs.Prelude.{◌≡◌, map, option_map, true, IfOk, IfErr, IfSome, IsSome};
+ghost use Rattle.clap.specs.Words.{first_of, found_of, rows_of, subcommand_of, subcommand_rows_of, takes};
+ghost use Rattle.gtfs_words.specs.Asked.{texts_of, HasBoard, IsBoardOf, IsCommandOf, IsWhole};
+ghost use Rattle.gtfs_words.specs.CommandLine.{gtfs_app};
+ghost use Rattle.gtfs_words.specs.Untaken.{no_memory, IsFaultOf};
+
+use crate::command::{BoardWords, Command};
+use crate::definitions::gtfs;
+use crate::fault::{WordsFault, fault_of};
+use clap::ArgMatches;
+use std::alloc::Global;
+use std::convert::AsStr;
+
+/// Reads the words of the command line, of which the first is the program's name.
+/// Errors: [`WordsFault::Help`] where the words ask for help before anything is wrong with them,
+/// [`WordsFault::Refused`] where something is wrong first, [`WordsFault::OutOfMemory`] where memory ran out. Words that
+/// `clap` takes only ever fail for want of memory.
+pub fn read_words<'w, S: AsStr>(alloc: Global, words: &'w [S]) -> Result<Command<'w>, WordsFault>
+    ensures read { IfOk result (IsCommandOf (subcommand_of gtfs_app (map S.text words.entry.now))) }
+    ensures taken { IfOk result (λ _. takes gtfs_app (map S.text words.entry.now) ≡ true) }
+    ensures fault { IfErr result (IsFaultOf (map S.text words.entry.now)) }
+    ensures memory { takes gtfs_app (map S.text words.entry.now) ≡ true → IfErr result (λ fault. fault ≡ no_memory) }
+{
+    let definition = gtfs(alloc)?;
+    match definition.try_get_matches_from(words) {
+        Ok(matches) => Ok(command_of(&matches).unwrap()),
+        Err(error) => Err(fault_of(alloc, &error)),
+    }
+}
+
+// The command that was named, if all that it needs was given.
+fn command_of<'w>(matches: &ArgMatches<'w>) -> Option<Command<'w>>
+    ensures value { IfSome result (IsCommandOf (subcommand_rows_of matches.now)) }
+    ensures given { IsWhole (subcommand_rows_of matches.now) → IsSome result }
+{
+    if let Some(given) = matches.subcommand_matches("check") {
+        return Some(Command::Check(given_text(given, "DIR")?));
+    }
+    let given = matches.subcommand_matches("board")?;
+    Some(Command::Board(board_words(given)?))
+}
+
+fn board_words<'w>(given: &ArgMatches<'w>) -> Option<BoardWords<'w>>
+    ensures value { IfSome result (λ words. IsBoardOf (rows_of (found_of given.now)) (texts_of words)) }
+    ensures given { HasBoard (rows_of (found_of given.now)) → IsSome result }
+{
+    Some(BoardWords {
+        dir: given_text(given, "DIR")?,
+        zone: given_text(given, "zone")?,
+        stop: given_text(given, "stop")?,
+        from: given_text(given, "from")?,
+        until: given_text(given, "until")?,
+        limit: given_text(given, "limit"),
+        after: given_text(given, "after"),
+    })
+}
+
+// The text that was given for an id.
+fn given_text<'w>(given: &ArgMatches<'w>, id: &str) -> Option<&'w str>
+    ensures { option_map (λ text. text.now) result ≡ first_of id.now (rows_of (found_of given.now)) }
+{
+    given.get_str(id)
+}

@@ -1,0 +1,121 @@
+-- Worked words: what they ask for, what is the matter with them, computed.
+use Rattle.std.specs.Prelude.{◌≡◌, List, [], ◌∷◌, Some, codes, true, false}
+use Rattle.std.proofs.Common.{refl}
+use Rattle.clap.specs.Words.{Text, fault_of, takes}
+use Rattle.clap.specs.declared.error.kind.ErrorKind.TheVariants as kind
+use Rattle.clap.proofs.OnLiterals.{clap_on_literals}
+use Rattle.gtfs_words.specs.Words.{gtfs_app, AreForHelp, AsksBoardOf, AsksCheckOf, BoardTexts}
+
+-- a check
+abbrev check_words : List Text
+check_words = codes "gtfs" ∷ codes "check" ∷ codes "f1" ∷ []
+
+check_asked : AsksCheckOf check_words (codes "f1")
+unfolding clap_on_literals
+check_asked = record { taken = refl; asks = (refl, refl) }
+
+-- a board with all its options
+abbrev board_words : List Text
+board_words = codes "gtfs" ∷ codes "board" ∷ codes "feed" ∷ codes "--zone" ∷ codes "Z" ∷ codes "--stop=S1" ∷ codes "--from" ∷ codes "20240401" ∷ codes "--until" ∷ codes "@5" ∷ codes "--limit" ∷ codes "3" ∷ codes "--after=@0/T/0/1/20240401" ∷ []
+
+abbrev board_texts : BoardTexts
+board_texts = record {
+  dir = codes "feed";
+  zone = codes "Z";
+  stop = codes "S1";
+  from = codes "20240401";
+  until = codes "@5";
+  limit = Some (codes "3");
+  after = Some (codes "@0/T/0/1/20240401");
+}
+
+board_asked : AsksBoardOf board_words board_texts
+unfolding clap_on_literals
+board_asked = record {
+  taken = refl;
+  asks = (refl, record { dir = refl; zone = refl; stop = refl; from = refl; until = refl; limit = refl; after = refl });
+}
+
+-- no command
+abbrev no_command : List Text
+no_command = codes "gtfs" ∷ []
+
+no_command_is : fault_of gtfs_app no_command ≡ kind.MissingSubcommand ∷ []
+unfolding clap_on_literals
+no_command_is = refl
+
+no_command_not_taken : takes gtfs_app no_command ≡ false
+unfolding clap_on_literals
+no_command_not_taken = refl
+
+-- `help` is no command, and there are no words by position
+abbrev help_command : List Text
+help_command = codes "gtfs" ∷ codes "help" ∷ []
+
+help_command_is : fault_of gtfs_app help_command ≡ kind.UnknownArgument ∷ kind.InvalidSubcommand ∷ []
+unfolding clap_on_literals
+help_command_is = refl
+
+help_command_not_taken : takes gtfs_app help_command ≡ false
+unfolding clap_on_literals
+help_command_not_taken = refl
+
+-- a board without its end
+abbrev without_until : List Text
+without_until = codes "gtfs" ∷ codes "board" ∷ codes "feed" ∷ codes "--zone" ∷ codes "Z" ∷ codes "--stop=S1" ∷ codes "--from" ∷ codes "@1" ∷ []
+
+without_until_is : fault_of gtfs_app without_until ≡ kind.MissingRequiredArgument ∷ []
+unfolding clap_on_literals
+without_until_is = refl
+
+without_until_not_taken : takes gtfs_app without_until ≡ false
+unfolding clap_on_literals
+without_until_not_taken = refl
+
+-- a limit that stands twice
+abbrev limit_twice : List Text
+limit_twice = codes "gtfs" ∷ codes "board" ∷ codes "feed" ∷ codes "--zone" ∷ codes "Z" ∷ codes "--stop=S1" ∷ codes "--from" ∷ codes "@1" ∷ codes "--until" ∷ codes "@5" ∷ codes "--limit=1" ∷ codes "--limit=2" ∷ []
+
+limit_twice_is : fault_of gtfs_app limit_twice ≡ kind.ArgumentConflict ∷ []
+unfolding clap_on_literals
+limit_twice_is = refl
+
+limit_twice_not_taken : takes gtfs_app limit_twice ≡ false
+unfolding clap_on_literals
+limit_twice_not_taken = refl
+
+-- what is wrong first is told, and not the help after it
+abbrev wrong_before_help : List Text
+wrong_before_help = codes "gtfs" ∷ codes "board" ∷ codes "--speed=1" ∷ codes "--help" ∷ []
+
+wrong_before_help_is : fault_of gtfs_app wrong_before_help ≡ kind.UnknownArgument ∷ []
+unfolding clap_on_literals
+wrong_before_help_is = refl
+
+wrong_before_help_not_taken : takes gtfs_app wrong_before_help ≡ false
+unfolding clap_on_literals
+wrong_before_help_not_taken = refl
+
+-- help
+abbrev help_asked : List Text
+help_asked = codes "gtfs" ∷ codes "--help" ∷ []
+
+help_asked_is : fault_of gtfs_app help_asked ≡ kind.DisplayHelp ∷ []
+unfolding clap_on_literals
+help_asked_is = refl
+
+help_asked_for_help : AreForHelp help_asked
+unfolding clap_on_literals
+help_asked_for_help = (refl, refl)
+
+-- help of a command, though its folder is missing
+abbrev board_help : List Text
+board_help = codes "gtfs" ∷ codes "board" ∷ codes "--help" ∷ []
+
+board_help_is : fault_of gtfs_app board_help ≡ kind.DisplayHelp ∷ []
+unfolding clap_on_literals
+board_help_is = refl
+
+board_help_for_help : AreForHelp board_help
+unfolding clap_on_literals
+board_help_for_help = (refl, refl)

@@ -1,0 +1,8 @@
+//! Tests of `gtfs_words`: what the words of each command ask for, and which words are refused or ask for help. The worked
+//! examples in `proofs/` compute what its definitions say of such words.
+#![tactic(auto)]
+
+#[cfg(test)]
+mod asked;
+#[cfg(test)]
+mod untaken;

@@ -1,0 +1,65 @@
+//! Words that ask for help, and words that are refused.
+
+use gtfs_words::{WordsFault, read_words};
+use std::alloc::Global;
+use std::process::Abort;
+use std::test::Fail;
+
+// The words ask for help, whose text has this line.
+fn assert_helped(rt: &impl Abort, alloc: Global, words: &[&str], line: &str) -> Result<(), Fail> {
+    let Err(WordsFault::Help(text)) = read_words(alloc, words) else {
+        return Err("no help".into());
+    };
+    assert!(rt; text.as_str().contains(line), "{line}");
+    Ok(())
+}
+
+// The words are refused, and some text says why.
+fn assert_refused(rt: &impl Abort, alloc: Global, words: &[&str]) -> Result<(), Fail> {
+    let Err(WordsFault::Refused(text)) = read_words(alloc, words) else {
+        return Err("not refused".into());
+    };
+    assert!(rt; !text.as_str().is_empty());
+    Ok(())
+}
+
+const BOARD: &str =
+    "gtfs board DIR --zone FILE --stop ID --from T --until T [--limit N] [--after KEY]";
+
+#[test]
+fn help_of_the_program_has_the_line_of_each_command(rt: HostRuntime) -> Result<(), Fail> {
+    for line in ["gtfs check DIR", BOARD] {
+        assert_helped(&rt, rt.alloc(), &["gtfs", "--help"], line)?;
+    }
+    Ok(())
+}
+
+#[test]
+fn help_of_a_command_has_examples_of_its_values(rt: HostRuntime) -> Result<(), Fail> {
+    assert_helped(
+        &rt,
+        rt.alloc(),
+        &["gtfs", "check", "--help"],
+        "E05 trips.txt:7 route_id",
+    )?;
+    assert_helped(
+        &rt,
+        rt.alloc(),
+        &["gtfs", "board", "f1", "-h"],
+        "@1711958400/T1/28800/3/20240401",
+    )
+}
+
+#[test]
+fn words_are_refused(rt: HostRuntime) -> Result<(), Fail> {
+    assert_refused(&rt, rt.alloc(), &["gtfs"])?;
+    assert_refused(&rt, rt.alloc(), &["gtfs", "help"])?;
+    assert_refused(&rt, rt.alloc(), &["gtfs", "check"])?;
+    assert_refused(&rt, rt.alloc(), &["gtfs", "board", "f1", "--stop", "S1"])?;
+    assert_refused(
+        &rt,
+        rt.alloc(),
+        &["gtfs", "merge", "north", "south", "both"],
+    )?;
+    assert_refused(&rt, rt.alloc(), &["gtfs", "check", "f1", "more", "--help"])
+}
