@@ -1,5 +1,5 @@
 -- Rows put into a map by their keys, the first row of each key staying.
-use Rattle.std.proofs.Common.{◌≡◌, ◌<◌, ◌+◌, ◌∙◌, ◌++◌, ◌∷◌, [], ℕ, Bool, true, false, cond, List, Option, Some, None, map, is_some, refl, sym, ap, subst, take, get_or, length, append_assoc, add-one, suc, arith}
+use Rattle.std.proofs.Common.{◌≡◌, ◌<◌, ◌+◌, ◌∙◌, ◌++◌, ◌∷◌, [], ℕ, true, false, cond, List, Option, Some, None, map, is_some, refl, sym, ap, subst, take, get_or, length, append_assoc, add-one, arith}
 use Rattle.std.proofs.Math.Seq.{take-suc}
 use Rattle.std.specs.FinMap as table
 use Rattle.std.specs.FinMap.Entries.{find_tied}

@@ -1,12 +1,11 @@
 -- All lists of a merged feed stand for the merged content, and make a feed.
-use Rattle.std.proofs.Common.{◌≡◌, ◌<◌, ◌∙◌, ◌++◌, ℕ, List, [], ◌∷◌, true, false, Option, Some, length, map, get_or, refl, sym, ap, subst, arith}
+use Rattle.std.proofs.Common.{◌≡◌, ◌∙◌, List, [], ◌∷◌, true, false, length, map, get_or, refl, sym, ap, subst}
 use Rattle.std.specs.Prelude.{◌&&◌, nat_lt, option_map}
-use Rattle.std.specs.List.{flat_map, list_all}
+use Rattle.std.specs.List.{list_all}
 use Rattle.std.specs.declared.cmp.Ordering.TheVariants.{Less}
 use Rattle.std.proofs.lemmas.List.{length-map}
-use Rattle.csv.specs.Records.{Rising}
-use Rattle.gtfs_parts.specs.Named.{names_agency, names_parent, names_route_and_service, route_named, stop_named, trip_named, without_rows}
-use Rattle.gtfs_parts.specs.TransferEnds.{names_ends, transfer_named}
+use Rattle.gtfs_parts.specs.Named.{route_named, stop_named, trip_named, without_rows}
+use Rattle.gtfs_parts.specs.TransferEnds.{transfer_named}
 use Rattle.gtfs_rows.specs.Order.{Ascends}
 use Rattle.gtfs_rows.specs.Rows.{Trip}
 use Rattle.gtfs_rows.specs.Sound.{IsSound}
@@ -26,7 +25,7 @@ use Rattle.gtfs_merge.specs.KindRows.{AllEntries, AreMergedKinds}
 use Rattle.gtfs_merge.specs.Law.{AreFew}
 use Rattle.gtfs_merge.specs.Merged.{zones_differ}
 use Rattle.gtfs_merge.specs.MergedLists.{parts_with}
-use Rattle.gtfs_merge.specs.Renaming.{ids, never_near}
+use Rattle.gtfs_merge.specs.Renaming.{never_near}
 use Rattle.gtfs_merge.specs.Sides.{merged_ids, merged_parts}
 use Rattle.gtfs_merge.specs.Transfers.{merged_transfers}
 use Rattle.gtfs_merge.specs.TripRows.{StandInTurn, frequencies_from, stop_rows_from}

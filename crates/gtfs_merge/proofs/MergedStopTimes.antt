@@ -1,29 +1,28 @@
 -- The stop times and the frequencies of a merged trip are those of its side's trip.
-use Rattle.std.proofs.Common.{◌≡◌, ◌<◌, ◌∙◌, ◌++◌, ℕ, zero, suc, List, [], ◌∷◌, true, Option, Some, None, length, map, get_or, refl, sym, ap, subst, arith}
-use Rattle.std.specs.Prelude.{◌&&◌, IfSome, nat_lt, option_map}
+use Rattle.std.proofs.Common.{◌≡◌, ◌<◌, ◌∙◌, ◌++◌, ℕ, List, [], ◌∷◌, true, Option, Some, None, length, map, get_or, refl, sym, ap, arith}
+use Rattle.std.specs.Prelude.{IfSome, option_map}
 use Rattle.std.specs.List.{All, flat_map, list_all, slice_get}
 use Rattle.std.proofs.lemmas.Bool.{and_from, and_parts, lt-ltb}
 use Rattle.std.proofs.lemmas.List.{length-map}
 use Rattle.std.proofs.lemmas.List.Elements.{All-head, All-tail}
-use Rattle.std.proofs.lemmas.Option.{get_or_from_slice_get, slice_get-get_or}
-use Rattle.gtfs_feed.specs.Trips.{AreStopTimes, frequencies_by_trip, stop_rows_by_trip}
+use Rattle.std.proofs.lemmas.Option.{slice_get-get_or}
+use Rattle.gtfs_feed.specs.Trips.{frequencies_by_trip, stop_rows_by_trip}
 use Rattle.gtfs_feed.proofs.TripFacts.{stop_times}
 use Rattle.gtfs_feed.proofs.TripsAt.{content_trip}
 use Rattle.gtfs_rows.specs.Rows.{StopRow, Trip}
 use Rattle.gtfs_rows.specs.Views.{IsSoundParts, content_of_parts, frequency_of, is_within, stop_ids, stop_row_of, trip_of}
-use Rattle.gtfs_rows.specs.declared.frequency.Frequency.{Frequency as FrequencyByNumber}
 use Rattle.gtfs_rows.specs.declared.parts.Parts.{Parts}
 use Rattle.gtfs_rows.specs.declared.stop_row.StopRow.{StopRow as RowByNumber}
 use Rattle.gtfs_rows.specs.declared.trip.Trip.{Trip as TripByNumber}
 use Rattle.gtfs_stop_times.specs.Lists.{has_numbers_below, stop_row_named}
 use Rattle.gtfs_table.proofs.PartFacts.{length-parts}
-use Rattle.gtfs_merge.specs.Headsigns.{AreHeadsigns, AreNumbersOf, HeadsignTable, numbers_on}
+use Rattle.gtfs_merge.specs.Headsigns.{AreHeadsigns, AreNumbersOf, HeadsignTable}
 use Rattle.gtfs_merge.specs.KindRows.{AllEntries, AreMergedKinds}
 use Rattle.gtfs_merge.specs.MergedKinds.{trip_from, trip_under}
 use Rattle.gtfs_merge.specs.Numbered.{known_ids}
 use Rattle.gtfs_merge.specs.Order.{Entry}
 use Rattle.gtfs_merge.specs.Renaming.{Renaming, stop_row_with}
-use Rattle.gtfs_merge.specs.Renumbered.{AreNewNumbers, numbers_of}
+use Rattle.gtfs_merge.specs.Renumbered.{AreNewNumbers}
 use Rattle.gtfs_merge.specs.Sides.{merged_ids, merged_parts, side_names, side_parts}
 use Rattle.gtfs_merge.specs.TripRows.{frequencies_from, renumbered_row, stop_rows_from}
 use Rattle.gtfs_merge.specs.declared.kind.Kind.TheVariants as kind

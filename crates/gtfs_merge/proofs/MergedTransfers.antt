@@ -1,20 +1,13 @@
 -- The merged transfers by number are the merged transfers by id.
-use Rattle.std.proofs.Common.{◌≡◌, ◌<◌, ◌∙◌, ◌++◌, ℕ, zero, suc, List, [], ◌∷◌, Bool, true, false, cond, Option, Some, None, length, map, get_or, refl, sym, ap, subst, inl, inr, arith, is_some}
-use Rattle.std.specs.Prelude.{◌&&◌, IfSome, nat_lt, option_map}
-use Rattle.std.specs.Cmp.{IsTotalOrder, nat_cmp_total, tied_itself}
-use Rattle.std.specs.Cmp.Lexicographic.{lists_total, nat_list_cmp_total, options_total, slice_cmp}
-use Rattle.std.specs.FinMap as table
+use Rattle.std.proofs.Common.{◌≡◌, ◌<◌, ◌∙◌, ◌++◌, ℕ, List, [], ◌∷◌, true, Option, Some, None, length, map, get_or, refl, sym, ap, subst, inl, inr}
+use Rattle.std.specs.Prelude.{◌&&◌, IfSome, option_map}
 use Rattle.std.specs.List.{list_all}
-use Rattle.std.specs.Option.{option_cmp}
-use Rattle.std.specs.Ordering.{eq_by_cmp, is_eq, nat_cmp, on, ordering_reverse, ordering_then}
-use Rattle.std.specs.declared.cmp.Ordering.{Ordering}
-use Rattle.std.specs.declared.cmp.Ordering.TheVariants.{Less, Equal, Greater}
 use Rattle.std.proofs.lemmas.Bool.{and_from, and_parts, ltb-true}
 use Rattle.std.proofs.lemmas.List.{length-map, map-append}
 use Rattle.gtfs_parts.specs.TransferEnds.{names_ends, transfer_named, transfer_numbers}
-use Rattle.gtfs_rows.specs.Order.{Ascends, by_key, transfer_key, transfer_key_cmp}
+use Rattle.gtfs_rows.specs.Order.{Ascends, transfer_key, transfer_key_cmp}
 use Rattle.gtfs_rows.specs.Rows.{Transfer}
-use Rattle.gtfs_rows.specs.Views.{IsSoundParts, is_within, names_route, names_stop, names_trip, route_ids, stop_ids, text_of_number, transfer_names_rows, transfer_of, trip_ids}
+use Rattle.gtfs_rows.specs.Views.{IsSoundParts, is_within, names_route, names_stop, names_trip, route_ids, stop_ids, transfer_names_rows, transfer_of, trip_ids}
 use Rattle.gtfs_rows.specs.declared.numbers.RouteNo.{RouteNo}
 use Rattle.gtfs_rows.specs.declared.numbers.StopNo.{StopNo}
 use Rattle.gtfs_rows.specs.declared.numbers.TripNo.{TripNo}
@@ -24,14 +17,13 @@ use Rattle.gtfs_rows.proofs.ContentAgain.{transfer_total}
 use Rattle.gtfs_table.specs.Folder.{text_cmp}
 use Rattle.gtfs_merge.specs.KindRows.{AllEntries, AreMergedKinds}
 use Rattle.gtfs_merge.specs.Merged.{by_transfer, transfer_with}
-use Rattle.gtfs_merge.specs.Renaming.{Names, Renaming}
-use Rattle.gtfs_merge.specs.Renumbered.{AreNewNumbers, numbers_of}
+use Rattle.gtfs_merge.specs.Renumbered.{numbers_of}
 use Rattle.gtfs_merge.specs.Sides.{merged_ids, merged_parts, side_names, side_parts}
 use Rattle.gtfs_merge.specs.Transfers.{IsWithin, ends_cmp, merged_transfers, transfer_on, transfers_on}
 use Rattle.gtfs_merge.specs.declared.kind.Kind.TheVariants as kind
 use Rattle.gtfs_merge.specs.declared.kind.Side.{Side}
 use Rattle.gtfs_merge.specs.declared.kind.Side.TheVariants as side
-use Rattle.gtfs_merge.proofs.Kept.{In-append, In-by_key, In-map, ascends-by_key, list_all-from}
+use Rattle.gtfs_merge.proofs.Kept.{In-append, In-by_key, In-map, list_all-from}
 use Rattle.gtfs_merge.proofs.KeyedOrders.{by_key-carried}
 use Rattle.gtfs_merge.proofs.Lookups.{In, list_all-In}
 use Rattle.gtfs_merge.proofs.MergedStopTimes.{side-sound}

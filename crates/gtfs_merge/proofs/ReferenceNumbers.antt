@@ -1,5 +1,5 @@
 -- What a new number stands for, and what the number of a headsign does.
-use Rattle.std.proofs.Common.{◌≡◌, ◌<◌, ◌∙◌, ℕ, zero, suc, List, [], ◌∷◌, Option, Some, None, length, map, get_or, true, refl, sym, ap, arith}
+use Rattle.std.proofs.Common.{◌≡◌, ◌<◌, ◌∙◌, ℕ, zero, suc, List, [], ◌∷◌, Option, Some, None, length, get_or, true, refl, sym, ap, arith}
 use Rattle.std.specs.Prelude.{IfSome, nat_lt, option_and_then, option_map}
 use Rattle.std.specs.List.{slice_get}
 use Rattle.std.proofs.lemmas.Bool.{lt-ltb}

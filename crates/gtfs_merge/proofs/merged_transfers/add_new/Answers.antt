@@ -1,7 +1,7 @@
-use Rattle.std.proofs.Common.{◌≡◌, ◌≤◌, ◌∙◌, ◌++◌, List, length, map, take, get_or, ap, subst, sym, arith}
+use Rattle.std.proofs.Common.{◌∙◌, ◌++◌, map, ap, sym}
 use Rattle.std.proofs.lemmas.List.{take_all}
 use Rattle.gtfs_parts.specs.TransferEnds.{transfer_numbers}
-use Rattle.gtfs_merge.specs.Transfers.{IsWithin, ends_cmp, transfer_on}
+use Rattle.gtfs_merge.specs.Transfers.{ends_cmp, transfer_on}
 use Rattle.gtfs_merge.proofs.KeyedMaps.{entries_of, turn-new, turn-old}
 use Rattle.gtfs_merge.proofs.MergedTransfers.{within-place}
 use Rattle.gtfs_merge.proofs.TransferOrder.{ends_antisymmetric, ends_total}
