@@ -1,4 +1,4 @@
-use Rattle.std.proofs.Common.{◌≡◌, ◌<◌, length, arith}
+use Rattle.std.proofs.Common.{◌<◌, length, arith}
 use Rattle.std.proofs.lemmas.Bool.Decides.{nat_tests}
 use Rattle.gtfs_table.proofs.BlankFacts.{none-cut, nothing-cut}
 use Rattle.gtfs_table.proofs.blanks.has_visible_ends.Goals as goal
