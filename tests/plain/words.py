@@ -21,6 +21,11 @@ class Refused(Exception):
     """Something is wrong with the words first."""
 
 
+def looks_like_option(word):
+    """A dash alone is a text as any other."""
+    return word.startswith("-") and word != "-"
+
+
 def read_words(words):
     """The command and the text of each position and option. The words stand behind the program's name."""
     if any("\udc80" <= char <= "\udcff" for word in words for char in word):
@@ -46,12 +51,12 @@ def read_words(words):
             if name not in needed + free or name in given:
                 raise Refused
             if not equals:
-                if not rest or rest[0].startswith("-"):
+                if not rest or looks_like_option(rest[0]):
                     raise Refused
                 text = rest.pop(0)
         else:
             left = [position for position in positions if position not in given]
-            if (word.startswith("-") and not options_end) or not left:
+            if (looks_like_option(word) and not options_end) or not left:
                 raise Refused
             name, text = left[0], word
         given[name] = text
