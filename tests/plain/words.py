@@ -21,6 +21,11 @@ class Refused(Exception):
     """Something is wrong with the words first."""
 
 
+def asks_for_help(word):
+    """Letters behind one dash are options of a letter each, of which the first decides."""
+    return word == "--help" or word.startswith("-h")
+
+
 def looks_like_option(word):
     """A dash alone is a text as any other."""
     return word.startswith("-") and word != "-"
@@ -32,7 +37,7 @@ def read_words(words):
         raise NotUtf8
     if not words:
         raise Refused
-    if words[0] in ("--help", "-h"):
+    if asks_for_help(words[0]):
         raise Help
     if words[0] not in COMMANDS:
         raise Refused
@@ -41,7 +46,7 @@ def read_words(words):
     rest = list(words[1:])
     while rest:
         word = rest.pop(0)
-        if word in ("--help", "-h") and not options_end:
+        if asks_for_help(word) and not options_end:
             raise Help
         if word == "--" and not options_end:
             options_end = True
