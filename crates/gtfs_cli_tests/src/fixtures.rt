@@ -95,20 +95,25 @@ pub(super) fn fixed() -> io::Result<RandomState> {
 
 // The feed in the folder f1, and in the folder `.` the zone file z1, of UTC.
 pub(super) fn folders(alloc: Global) -> Result<MemoryFolders, OutOfMemory> {
-    filled(alloc, None)
+    filled(alloc, LIMIT, None)
+}
+
+// The same on a device that reads no file of more bytes.
+pub(super) fn folders_within(alloc: Global, limit: u64) -> Result<MemoryFolders, OutOfMemory> {
+    filled(alloc, limit, None)
 }
 
 // The same, of whose calls the one with this number, from 1, fails.
 pub(super) fn folders_failing_at(alloc: Global, call: u64) -> Result<MemoryFolders, OutOfMemory>
     requires { call < 2 ^ 64 - 1 }
 {
-    filled(alloc, Some(call))
+    filled(alloc, LIMIT, Some(call))
 }
 
-fn filled(alloc: Global, fail: Option<u64>) -> Result<MemoryFolders, OutOfMemory>
+fn filled(alloc: Global, limit: u64, fail: Option<u64>) -> Result<MemoryFolders, OutOfMemory>
     requires { ForSome fail (λ call. call < 2 ^ 64 - 1) }
 {
-    let mut folders = MemoryFolders::new(alloc, LIMIT, fail);
+    let mut folders = MemoryFolders::new(alloc, limit, fail);
     for (name, text) in FEED {
         folders.put("f1", name, text.as_bytes())?;
     }
