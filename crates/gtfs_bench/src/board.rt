@@ -1,7 +1,5 @@
-use crate::count::Count;
 use crate::feed::{busiest, read_feed};
-use crate::shelf::Shelf;
-use crate::speed::count_all;
+use crate::speed::time_loop;
 use anyhow::{Context, Result, anyhow, ensure};
 use gtfs_board::{Board, Span, write_page};
 use gtfs_days::Zone;
@@ -70,7 +68,7 @@ pub fn measure<R: Files + Alloc + AllocGlobal + Clone + Drop + Clock + Print + R
         lines: 0,
     };
     for _ in 0..TURNS {
-        time_loop(rt, dir, &mut least)?;
+        least.bare = least.bare.min(time_loop(rt, dir)?);
         time_board(rt, &feed, &zone, &mut least)?;
     }
     print(rt, &least)
@@ -85,19 +83,6 @@ fn print<R: Print>(rt: &R, least: &Measured) -> Result<()> {
     println!(rt;
         "bare_ns={bare} departures_ns={departures} page_ns={page} steps={steps} lines={lines}"
     )?;
-    Ok(())
-}
-
-fn time_loop<R: Files + AllocGlobal + Clock>(
-    rt: &R,
-    dir: &str,
-    least: &mut Measured,
-) -> Result<()> {
-    let shelf = Shelf::load(rt, dir).context(format_args!("reading {dir}"))?;
-    let start = Instant::now(rt)?;
-    let looped = count_all(rt.alloc(), &shelf)?;
-    least.bare = least.bare.min(start.elapsed(rt)?);
-    ensure!(looped != Count::NOTHING, "no feed in {dir}");
     Ok(())
 }
 

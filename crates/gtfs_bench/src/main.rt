@@ -6,6 +6,7 @@ mod check;
 mod count;
 mod feed;
 mod memory;
+mod merge;
 mod shelf;
 mod speed;
 
@@ -22,7 +23,9 @@ const USAGE: &str = "usage: gtfs_bench WORD DIR
   check-memory DIR   the memory that reading and checking these tables takes
   feed DIR           the time to make the feed of checked tables and the lanes of its busiest stop, and a bare csv loop
   feed-memory DIR    the memory that the feed takes
-  board DIR ZONE     the time to take all departures at the busiest stop of the feed, and to write their lines";
+  board DIR ZONE     the time to take all departures at the busiest stop of the feed, and to write their lines
+  merge DIR OTHER    the time to read both feeds, to merge them and to make the files of the merge, and of bare csv loops
+  merge-memory DIR OTHER  the memory that this takes";
 
 fn main(rt: HostRuntime) -> ExitCode {
     match run(&rt) {
@@ -39,12 +42,8 @@ fn run<R: Runtime + AllocGlobal + RandomSource>(rt: &R) -> Result<()> {
     match words.as_slice() {
         [] | [_] => Ok(rt.println(USAGE)?),
         [_, word, dir] => measure(rt, word.as_str(), dir.as_str()),
-        [_, word, dir, zone] if word.as_str() == "board" => board::measure(
-            rt,
-            dir.as_str(),
-            zone.as_str(),
-        ),
-        _ => bail!("one word and a folder are wanted"),
+        [_, word, dir, other] => measure_with(rt, word.as_str(), dir.as_str(), other.as_str()),
+        _ => bail!("a word and a folder are wanted, and a zone or another folder for some"),
     }
 }
 
@@ -56,6 +55,20 @@ fn measure<R: Runtime + AllocGlobal + RandomSource>(rt: &R, word: &str, dir: &st
         "check-memory" => check::measure_memory(rt, dir),
         "feed" => feed::measure(rt, dir),
         "feed-memory" => feed::measure_memory(rt, dir),
-        _ => bail!("no such measurement: {word}"),
+        _ => bail!("no such measurement of a folder: {word}"),
+    }
+}
+
+fn measure_with<R: Runtime + AllocGlobal + RandomSource>(
+    rt: &R,
+    word: &str,
+    dir: &str,
+    other: &str,
+) -> Result<()> {
+    match word {
+        "board" => board::measure(rt, dir, other),
+        "merge" => merge::measure(rt, dir, other),
+        "merge-memory" => merge::measure_memory(rt, dir, other),
+        _ => bail!("no such measurement of a folder and a file or folder: {word}"),
     }
 }

@@ -64,6 +64,16 @@ fn take_turn<R: Files + AllocGlobal + Clock>(
     Ok(looped)
 }
 
+/// The time of one bare loop over a feed whose files are in memory before.
+pub fn time_loop<R: Files + AllocGlobal + Clock>(rt: &R, dir: &str) -> Result<Duration> {
+    let shelf = Shelf::load(rt, dir).context(format_args!("reading {dir}"))?;
+    let start = Instant::now(rt)?;
+    let looped = count_all(rt.alloc(), &shelf)?;
+    let taken = start.elapsed(rt)?;
+    ensure!(looped != Count::NOTHING, "no feed in {dir}");
+    Ok(taken)
+}
+
 pub fn count_all(alloc: Global, shelf: &Shelf) -> Result<Count, OutOfMemory> {
     let mut count = Count::NOTHING;
     for held in &shelf.files {

@@ -1,10 +1,9 @@
 //! Boards of made datasets, beside the plain list.
 
-use crate::clocks::Clocks;
-use crate::made::STOPS;
 use crate::opening::{Fixture, Opening};
 use crate::plain::PlainKey;
 use gtfs_board::{Key, Span};
+use gtfs_fixtures::{Clocks, STOPS};
 use std::alloc::Global;
 use std::process::Abort;
 use std::test::Fail;

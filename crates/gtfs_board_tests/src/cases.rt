@@ -1,8 +1,7 @@
 //! Worked boards of the small dataset and of changes to it.
 
-use crate::clocks::Clocks;
-use crate::dataset::FileText;
 use gtfs_board::Span;
+use gtfs_fixtures::{Clocks, FileText};
 
 /// A change to the small dataset, and a board of it.
 #[derive(Clone, Copy)]

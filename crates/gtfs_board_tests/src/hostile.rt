@@ -1,9 +1,8 @@
 //! Boards over all service days, and long ones.
 
-use crate::clocks::Clocks;
-use crate::dataset::FileText;
 use crate::opening::Fixture;
 use gtfs_board::{Board, Span, push_key};
+use gtfs_fixtures::{Clocks, FileText};
 use std::alloc::Global;
 use std::process::Abort;
 use std::test::Fail;

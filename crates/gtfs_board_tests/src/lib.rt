@@ -1,14 +1,13 @@
 //! The tests of departure boards (`gtfs_board`, over feeds and lanes), in a crate of their own: a crate with tests is
 //! proved twice, with them and without. They call public functions alone.
 //!
-//! - `dataset` is a small dataset, and makes feeds of it and of changes to it; `made` makes others by throws of dice,
-//!   and `clocks` the zones.
 //! - `plain` lists a board the slow way: it unfolds every event on every day and sorts. `bounds` has what bounds a
 //!   board, and `opening` opens boards and holds them to both.
 //! - `cases` has worked boards, and `worked` compares them; `hostile` has boards of all service days and long ones, and
 //!   `against_plain` those of made feeds.
 //! - `keys` has the texts and the order of keys, `lines` lines and sheets, `pages` pages, `outputs` outputs that fail,
 //!   and `refused` a departure for which there is no memory.
+//! - `timetables` has the timetables of routes, and `plain_sheets` lists them the slow way.
 #![tactic(auto)]
 
 #[cfg(test)]
@@ -18,17 +17,11 @@ mod bounds;
 #[cfg(test)]
 mod cases;
 #[cfg(test)]
-mod clocks;
-#[cfg(test)]
-mod dataset;
-#[cfg(test)]
 mod hostile;
 #[cfg(test)]
 mod keys;
 #[cfg(test)]
 mod lines;
-#[cfg(test)]
-mod made;
 #[cfg(test)]
 mod opening;
 #[cfg(test)]
@@ -38,6 +31,10 @@ mod pages;
 #[cfg(test)]
 mod plain;
 #[cfg(test)]
+mod plain_sheets;
+#[cfg(test)]
 mod refused;
+#[cfg(test)]
+mod timetables;
 #[cfg(test)]
 mod worked;

@@ -1,9 +1,9 @@
 //! Lines of departures and sheets of timetables.
 
-use crate::clocks::Clocks;
 use gtfs_board::{Departure, Key, Mark, Sheet, push_line, push_sheet};
 use gtfs_days::Zone;
 use gtfs_field::{Clock, Day};
+use gtfs_fixtures::Clocks;
 use std::alloc::Global;
 use std::test::Fail;
 

@@ -1,14 +1,15 @@
 //! Opens boards of a feed in a zone, and holds them to the plain list and to their bounds.
 
+ghost use Rattle.std.specs.Prelude.{◌<◌, length};
+
 use crate::bounds::Bounds;
 use crate::cases::Case;
-use crate::clocks::Clocks;
-use crate::dataset::{FileText, feed_with, stop_named};
-use crate::made::made_feed;
 use crate::plain::{PlainKey, plain_keys, trip_shown};
 use gtfs_board::{Board, Key, Span, push_line, read_key, write_page};
 use gtfs_days::Zone;
 use gtfs_feed::Feed;
+use gtfs_fixtures::{Clocks, FileText, feed_with, made_feed};
+use gtfs_rows::StopNo;
 use gtfs_table::MemoryOut;
 use std::alloc::Global;
 use std::process::Abort;
@@ -238,6 +239,17 @@ pub(crate) fn assert_none(rt: &impl Abort, board: &mut Board<'_>) {
             Err(fault) => panic!(rt; "{fault}"),
         }
     }
+}
+
+// The number of a stop, which the feed has to have.
+fn stop_named(rt: &impl Abort, feed: &Feed, id: &str) -> StopNo
+    ensures { result.0 < length feed.now.stops }
+{
+    let Some(stop) = feed.stop(id) else {
+        panic!(rt; "no stop {id}");
+    };
+    assert!(rt; stop.0 < feed.stop_count());
+    stop
 }
 
 // A page of what is left of a board.

@@ -1,10 +1,9 @@
 //! Pages of every length, each opened above the last key of the one before.
 
 use crate::cases::{ALL, Case, PERIODS};
-use crate::clocks::Clocks;
-use crate::made::STOPS;
 use crate::opening::{Fixture, Opening};
 use gtfs_board::Span;
+use gtfs_fixtures::{Clocks, STOPS};
 use std::alloc::Global;
 use std::process::Abort;
 use std::test::Fail;

@@ -174,8 +174,8 @@ fn row_of(rows: &[StopRow], sequence: u32) -> Option<&StopRow> {
     None
 }
 
-// The id of a stop.
-fn stop_shown(feed: &Feed, stop: StopNo) -> &str {
+/// The id of a stop.
+pub(crate) fn stop_shown(feed: &Feed, stop: StopNo) -> &str {
     if stop.0 < feed.stop_count() {
         feed.stop_by_number(stop).stop_id.as_str()
     } else {

@@ -1,12 +1,11 @@
 //! Worked boards, listed and written, with what bounds them.
 
 use crate::cases::{ALL, CHANGING, Case, END_OF_2011, LATE, OTHERS, PLAIN};
-use crate::clocks::Clocks;
-use crate::dataset::feed_with;
 use crate::opening::{Fixture, Opening};
 use gtfs_board::{Board, BoardFault, Span, read_key};
 use gtfs_days::Zone;
 use gtfs_feed::Feed;
+use gtfs_fixtures::{Clocks, feed_with};
 use std::alloc::Global;
 use std::process::Abort;
 use std::random::RandomSource;

@@ -1,8 +1,8 @@
 //! Feeds that are written, read and checked again, and feeds of two random states.
 
-use crate::dataset::{FileText, feed_with, folders_of, read_feed};
 use crate::full::FULL;
 use gtfs_feed::Feed;
+use gtfs_fixtures::{FileText, feed_with, folders_of, read_feed};
 use gtfs_rules::check;
 use gtfs_table::{File, Folders, MemoryFolders, Tables};
 use std::alloc::Global;
@@ -53,7 +53,7 @@ fn assert_reads_back<R: Abort + RandomSource>(
     let feed = feed_with(rt, alloc, changes)?;
     let mut folders = MemoryFolders::new(alloc, 10_000, None);
     write_tables(rt, alloc, &feed, &mut folders)?;
-    let other = read_feed(rt, alloc, RandomState::new(rt)?, &mut folders, "again")?;
+    let other = read_feed(alloc, RandomState::new(rt)?, &mut folders, "again")?;
     assert_same(rt, alloc, &feed, &other)
 }
 

@@ -1,11 +1,12 @@
 //! What passes a stop: each case is a change to the small dataset, with the events that it has at one stop.
 
-use crate::dataset::{FileText, feed_with, service_id, stop_named, trip_id};
 use crate::full::FULL;
 use crate::lanes::{Wanted, assert_lanes};
+use crate::named::{service_id, stop_named, trip_id};
 use crate::unions::assert_unions;
 use crate::{ids, patterns};
 use gtfs_feed::Feed;
+use gtfs_fixtures::{FileText, feed_with};
 use gtfs_rows::ServiceNo;
 use gtfs_runs::{Event, flat_events};
 use std::alloc::Global;

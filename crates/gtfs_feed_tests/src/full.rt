@@ -1,6 +1,6 @@
 //! A dataset with a value in every column, in texts and orders other than those that are written.
 
-use crate::dataset::FileText;
+use gtfs_fixtures::FileText;
 
 /// One agency, a station with a platform and a node, two trips, and services of both kinds.
 pub(crate) const FULL: [FileText; 9] = [

@@ -1,7 +1,8 @@
 //! Numbers of ids: by their bytes, whatever the order of the rows.
 
-use crate::dataset::{FileText, feed_with, service_id, stop_id, trip_id};
+use crate::named::{service_id, stop_id, trip_id};
 use gtfs_feed::Feed;
+use gtfs_fixtures::{FileText, feed_with};
 use gtfs_rows::{AgencyNo, RouteNo, ServiceNo, StopNo, TripNo};
 use std::test::Fail;
 

@@ -3,10 +3,11 @@
 //! `rt try` builds with checks that make this take most of an hour; built for the gate it takes seconds.
 
 use crate::again::{assert_same, write_tables};
-use crate::dataset::{read_feed, stop_named};
 use crate::lanes::{Wanted, assert_lanes};
+use crate::named::stop_named;
 use gtfs_feed::Feed;
 use gtfs_field::OutOfMemory;
+use gtfs_fixtures::read_feed;
 use gtfs_rows::{AgencyNo, RouteNo, ServiceNo, StopNo, TripNo};
 use gtfs_runs::{Event, Lane, ListLane, Steps, StopLanes, flat_events, patterns};
 use gtfs_table::MemoryFolders;

@@ -1,8 +1,8 @@
 //! Rows in every order: a feed does not depend on it.
 
-use crate::dataset::read_feed;
 use gtfs_feed::Feed;
 use gtfs_field::OutOfMemory;
+use gtfs_fixtures::read_feed;
 use gtfs_table::{File, MemoryFolders};
 use std::alloc::Global;
 use std::hash::RandomState;
@@ -126,7 +126,7 @@ fn feed_of<R: Abort + RandomSource>(
         };
         put_rows(alloc, &mut folders, rows, order)?;
     }
-    read_feed(rt, alloc, RandomState::new(rt)?, &mut folders, "f1")
+    read_feed(alloc, RandomState::new(rt)?, &mut folders, "f1")
 }
 
 #[test]

@@ -1,7 +1,8 @@
 //! The patterns of a route, beside those that a slow plain search finds.
 
-use crate::dataset::{FileText, feed_with, stop_id, trip_id};
+use crate::named::{stop_id, trip_id};
 use gtfs_feed::Feed;
+use gtfs_fixtures::{FileText, feed_with};
 use gtfs_rows::{RouteNo, TripNo};
 use gtfs_runs::{Pattern, patterns};
 use std::alloc::Global;

@@ -1,10 +1,11 @@
 //! What the rows of a feed say.
 
-use crate::dataset::{feed_with, stop_id};
 use crate::full::FULL;
+use crate::named::stop_id;
 use gtfs_days::Exception;
 use gtfs_feed::Feed;
 use gtfs_field::{Clock, Day};
+use gtfs_fixtures::feed_with;
 use gtfs_rows::{
     ExactTimes, Frequency, HeadsignNo, LocationType, OptionalClock, OptionalHeadsign, RouteNo,
     ServiceNo, StopNo, StopRow, TransferType, TripNo,

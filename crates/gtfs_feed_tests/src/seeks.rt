@@ -1,7 +1,8 @@
 //! A lane that is asked from places before, at, between and past its events.
 
-use crate::dataset::{feed_with, stop_named};
+use crate::named::stop_named;
 use gtfs_feed::Feed;
+use gtfs_fixtures::feed_with;
 use gtfs_rows::TripNo;
 use gtfs_runs::{Lane, Seek, StepLane, Steps, StopLanes};
 use std::mem::size_of;

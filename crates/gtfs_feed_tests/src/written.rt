@@ -1,7 +1,7 @@
 //! The written form: every kept column in its order, canonical values, and rows by their keys.
 
-use crate::dataset::{FileText, feed_with};
 use crate::full::FULL;
+use gtfs_fixtures::{FileText, feed_with};
 use gtfs_table::File;
 use std::alloc::Global;
 use std::process::Abort;

@@ -1,23 +1,19 @@
 //! A small dataset without a problem, changes to it, and the feeds of both.
 
-ghost use Rattle.std.specs.Prelude.{◌<◌, length};
-
 use gtfs_feed::Feed;
 use gtfs_field::OutOfMemory;
-use gtfs_rows::StopNo;
 use gtfs_rules::check;
 use gtfs_table::{MemoryFolders, Tables};
 use std::alloc::Global;
 use std::hash::RandomState;
-use std::process::Abort;
 use std::random::RandomSource;
 use std::test::Fail;
 
 /// A file: its name and its text.
-pub(crate) type FileText = (&'static str, &'static str);
+pub type FileText = (&'static str, &'static str);
 
 /// One agency without an id, three stops, one route, and one trip on 1 April 2024.
-pub(crate) const FEED: [FileText; 6] = [
+pub const FEED: [FileText; 6] = [
     (
         "agency.txt",
         "agency_name,agency_url,agency_timezone\nMetro,http://m.example,UTC\n",
@@ -44,23 +40,23 @@ C1,1,1,1,1,1,1,1,20240401,20240401\n",
 ];
 
 /// Folders that hold the small dataset in the folder f1, with these files in place of those with their names.
-pub(crate) fn folders_of(
-    alloc: Global,
-    changes: &[FileText],
-) -> Result<MemoryFolders, OutOfMemory> {
+pub fn folders_of(alloc: Global, changes: &[FileText]) -> Result<MemoryFolders, OutOfMemory> {
     let mut folders = MemoryFolders::new(alloc, 10_000, None);
-    for (name, text) in &FEED {
-        folders.put("f1", name, text.as_bytes())?;
-    }
-    for (name, text) in changes {
-        folders.put("f1", name, text.as_bytes())?;
-    }
+    put_all(&mut folders, &FEED)?;
+    put_all(&mut folders, changes)?;
     Ok(folders)
 }
 
+// Puts files into the folder f1.
+pub(crate) fn put_all(folders: &mut MemoryFolders, files: &[FileText]) -> Result<(), OutOfMemory> {
+    for (name, text) in files {
+        folders.put("f1", name, text.as_bytes())?;
+    }
+    Ok(())
+}
+
 /// The feed of a folder, which has to pass.
-pub(crate) fn read_feed(
-    rt: &impl Abort,
+pub fn read_feed(
     alloc: Global,
     random: RandomState,
     folders: &mut MemoryFolders,
@@ -68,29 +64,18 @@ pub(crate) fn read_feed(
 ) -> Result<Feed, Fail> {
     let tables = Tables::read(alloc, folders, dir)?;
     let report = check(alloc, &tables)?;
-    let Ok(passed) = report.passed() else {
-        panic!(rt; "the dataset has errors");
-    };
-    Ok(Feed::new(alloc, random, &passed)?)
+    match report.passed() {
+        Ok(passed) => Ok(Feed::new(alloc, random, &passed)?),
+        Err(_) => Err(Fail::new("the dataset has errors")),
+    }
 }
 
 /// The feed of the small dataset with these changes.
-pub(crate) fn feed_with<R: Abort + RandomSource>(
+pub fn feed_with<R: RandomSource>(
     rt: &R,
     alloc: Global,
     changes: &[FileText],
 ) -> Result<Feed, Fail> {
     let mut folders = folders_of(alloc, changes)?;
-    read_feed(rt, alloc, RandomState::new(rt)?, &mut folders, "f1")
-}
-
-/// The number of a stop, which the feed has to have.
-pub(crate) fn stop_named(rt: &impl Abort, feed: &Feed, id: &str) -> StopNo
-    ensures { result.0 < length feed.now.stops }
-{
-    let Some(stop) = feed.stop(id) else {
-        panic!(rt; "no stop {id}");
-    };
-    assert!(rt; stop.0 < feed.stop_count());
-    stop
+    read_feed(alloc, RandomState::new(rt)?, &mut folders, "f1")
 }

@@ -1,17 +1,16 @@
-//! Datasets by the throw of dice: trips at the same seconds, past midnight, with gaps, periods and exceptions.
+//! Datasets by the throw of dice: trips at the same seconds, past midnight, with gaps, periods, directions and exceptions.
 
-use crate::dataset::{FEED, read_feed};
+use crate::dataset::{FEED, FileText, put_all, read_feed};
 use gtfs_feed::Feed;
 use gtfs_field::OutOfMemory;
 use gtfs_table::MemoryFolders;
 use std::alloc::Global;
 use std::hash::RandomState;
-use std::process::Abort;
 use std::random::RandomSource;
 use std::test::Fail;
 
 /// The stops of a made dataset: a station, its two platforms, and two others.
-pub(crate) const STOPS: [&str; 5] = ["P", "P1", "P2", "Q", "R"];
+pub const STOPS: [&str; 5] = ["P", "P1", "P2", "Q", "R"];
 
 const STOP_TEXT: &str = "stop_id,stop_name,stop_lat,stop_lon,location_type,parent_station\n\
 Q,Quay,52.5,13.4,,\nP2,Park,52.6,13.5,,P\nP,Park,52.6,13.5,1,\nP1,Park,52.6,13.5,0,P\nR,Road,52.7,13.6,,\n";
@@ -49,22 +48,27 @@ impl Dice {
 }
 
 /// The feed of a made dataset, another for each number.
-pub(crate) fn made_feed<R: Abort + RandomSource>(
+pub fn made_feed<R: RandomSource>(rt: &R, alloc: Global, number: u64) -> Result<Feed, Fail> {
+    made_feed_with(rt, alloc, number, &[])
+}
+
+/// The feed of a made dataset with these files in place of those with their names.
+pub fn made_feed_with<R: RandomSource>(
     rt: &R,
     alloc: Global,
     number: u64,
+    changes: &[FileText],
 ) -> Result<Feed, Fail> {
     let mut folders = made_folders(alloc, number)?;
-    read_feed(rt, alloc, RandomState::new(rt)?, &mut folders, "f1")
+    put_all(&mut folders, changes)?;
+    read_feed(alloc, RandomState::new(rt)?, &mut folders, "f1")
 }
 
 // Folders with a dataset in the folder f1, another for each number.
 fn made_folders(alloc: Global, number: u64) -> Result<MemoryFolders, OutOfMemory> {
     let mut dice = Dice { state: number };
     let mut folders = MemoryFolders::new(alloc, 100_000, None);
-    for (name, text) in &FEED {
-        folders.put("f1", name, text.as_bytes())?;
-    }
+    put_all(&mut folders, &FEED)?;
     folders.put("f1", "stops.txt", STOP_TEXT.as_bytes())?;
     folders.put("f1", "routes.txt", ROUTES.as_bytes())?;
     let text = calendar(alloc, &mut dice)?;
@@ -120,15 +124,28 @@ fn calendar_dates(alloc: Global, dice: &mut Dice) -> Result<String, OutOfMemory>
 }
 
 fn trips(alloc: Global, dice: &mut Dice) -> Result<String, OutOfMemory> {
-    let mut text = String::from_str(alloc, "trip_id,route_id,service_id,trip_headsign\n")?;
+    let mut text = String::from_str(
+        alloc,
+        "trip_id,route_id,service_id,trip_headsign,direction_id\n",
+    )?;
     for trip in 0..TRIPS {
         let route = if dice.is_one_of(2) { "R1" } else { "R2" };
         let service = dice.roll(SERVICES).saturating_add(1);
         let headsign = if dice.is_one_of(2) { "" } else { "Town" };
-        let line = format!(in alloc; "T{trip},{route},C{service},{headsign}\n")?;
+        let direction = direction_of(trip);
+        let line = format!(in alloc; "T{trip},{route},C{service},{headsign},{direction}\n")?;
         text.push_str(&line)?;
     }
     Ok(text)
+}
+
+// None, 0 and 1 in turn, two trips each.
+fn direction_of(trip: u64) -> &'static str {
+    match trip / 2 % 3 {
+        0 => "",
+        1 => "0",
+        _ => "1",
+    }
 }
 
 fn stop_times(alloc: Global, dice: &mut Dice) -> Result<String, OutOfMemory> {

@@ -6,7 +6,7 @@ use std::test::Fail;
 
 /// A zone by what it does.
 #[derive(Clone, Copy, Debug, PartialEq, Eq)]
-pub(crate) enum Clocks {
+pub enum Clocks {
     Utc,
     /// One hour ahead, and two from the last Sunday in March to the last one in October.
     CentralEurope,
@@ -22,7 +22,7 @@ pub(crate) enum Clocks {
 }
 
 impl Clocks {
-    pub(crate) const ALL: [Clocks; 6] = [
+    pub const ALL: [Clocks; 6] = [
         Clocks::Utc,
         Clocks::CentralEurope,
         Clocks::SkipsADay,
@@ -32,7 +32,7 @@ impl Clocks {
     ];
 
     /// The zone.
-    pub(crate) fn zone(self, alloc: Global) -> Result<Zone, Fail> {
+    pub fn zone(self, alloc: Global) -> Result<Zone, Fail> {
         Ok(Zone::read(alloc, &self.file(alloc)?)?)
     }
 

@@ -1,0 +1,289 @@
+//! The boards of a merged feed are those of both feeds: under the new names, in one order, those of joined trips once.
+
+use crate::cases::{AT_TEN, merged_of};
+use crate::report::{count_of, id_of};
+use crate::worked::{RAIL, WITH_SECOND};
+use gtfs_board::{Board, Departure, Key, Span, push_line};
+use gtfs_days::Zone;
+use gtfs_feed::Feed;
+use gtfs_field::Day;
+use gtfs_fixtures::{Clocks, FileText, feed_with, made_feed_with};
+use gtfs_merge::{Kind, Merged, Side};
+use gtfs_rows::TripNo;
+use std::alloc::Global;
+use std::process::Abort;
+use std::random::RandomSource;
+use std::test::Fail;
+
+// All instants that a board may have.
+const ALWAYS: Span = Span {
+    from: -999_999_999_999,
+    until: 999_999_999_999,
+};
+
+// No board of these tests has more departures.
+const MOST: u64 = 100_000;
+
+// The place of a departure on a board of the merged feed. The numbers of trips follow the bytes of their ids.
+#[derive(Clone, Copy, Debug, PartialEq, Eq, PartialOrd, Ord)]
+struct Place {
+    instant: i64,
+    trip: TripNo,
+    run: u32,
+    sequence: u32,
+    day: Day,
+}
+
+// Two feeds, their merge, and a zone.
+#[derive(Drop)]
+struct Fixture {
+    a: Feed,
+    b: Feed,
+    merged: Merged,
+    zone: Zone,
+}
+
+impl Fixture {
+    fn new<R: RandomSource>(
+        rt: &R,
+        alloc: Global,
+        a: Feed,
+        b: Feed,
+        clocks: Clocks,
+    ) -> Result<Fixture, Fail> {
+        let merged = merged_of(rt, alloc, &a, &b)?;
+        let zone = clocks.zone(alloc)?;
+        Ok(Fixture { a, b, merged, zone })
+    }
+
+    fn side(&self, side: Side) -> &Feed {
+        match side {
+            Side::A => &self.a,
+            Side::B => &self.b,
+        }
+    }
+
+    // The board of every stop of the merged feed is what both feeds list. How many departures there were.
+    fn assert_boards(&self, rt: &impl Abort, alloc: Global) -> Result<usize, Fail> {
+        let mut departures = 0usize;
+        for number in 0..count_of(&self.merged.feed, Kind::Stop) {
+            let stop = id_of(&self.merged.feed, Kind::Stop, number);
+            let count = self.assert_board(rt, alloc, stop)?;
+            departures = departures.saturating_add(count);
+        }
+        Ok(departures)
+    }
+
+    fn assert_board(&self, rt: &impl Abort, alloc: Global, stop: &str) -> Result<usize, Fail> {
+        let mut listed = Vec::new(alloc);
+        self.push_side(alloc, Side::A, stop, &mut listed)?;
+        let of_joined = self.joined_count(&listed);
+        self.push_side(alloc, Side::B, stop, &mut listed)?;
+        let count = listed.len();
+        listed.sort_unstable();
+        listed.dedup();
+        assert_eq!(rt; count.saturating_sub(listed.len()), of_joined, "{stop}");
+        let wanted = joined_lines(alloc, &listed)?;
+        let lines = lines(alloc, &self.merged.feed, &self.zone, stop)?;
+        assert_eq!(rt; lines.as_str(), wanted.as_str(), "{stop}");
+        Ok(listed.len())
+    }
+
+    // Adds the departures of a side at each stop that became this one.
+    fn push_side(
+        &self,
+        alloc: Global,
+        side: Side,
+        stop: &str,
+        listed: &mut Vec<(Place, String)>,
+    ) -> Result<(), Fail> {
+        let feed = self.side(side);
+        for number in 0..count_of(feed, Kind::Stop) {
+            let id = id_of(feed, Kind::Stop, number);
+            if self.merged.names.of(side, Kind::Stop, id) == Some(stop) {
+                self.push_departures(alloc, side, id, listed)?;
+            }
+        }
+        Ok(())
+    }
+
+    fn push_departures(
+        &self,
+        alloc: Global,
+        side: Side,
+        stop: &str,
+        listed: &mut Vec<(Place, String)>,
+    ) -> Result<(), Fail> {
+        let mut board = Board::open(alloc, self.side(side), &self.zone, stop, ALWAYS, None)?;
+        for _ in 0..MOST {
+            match board.next() {
+                Ok(Some(departure)) => listed.push(self.renamed(alloc, side, &departure)?)?,
+                Ok(None) => break,
+                Err(fault) => return Err(Fail::from(fault)),
+            }
+        }
+        Ok(())
+    }
+
+    // The place of a departure on the merged board, and its line there.
+    fn renamed(
+        &self,
+        alloc: Global,
+        side: Side,
+        departure: &Departure<'_>,
+    ) -> Result<(Place, String), Fail> {
+        let key = departure.key;
+        let names = &self.merged.names;
+        let trip = names.of(side, Kind::Trip, key.trip).unwrap_or("no trip");
+        let stop = names
+            .of(side, Kind::Stop, departure.stop)
+            .unwrap_or("no stop");
+        let renamed = Departure {
+            key: Key { trip, ..key },
+            stop,
+            ..*departure
+        };
+        let _clock = self.zone.civil(alloc, key.instant)?;
+        let mut line = String::new(alloc);
+        push_line(alloc, &mut line, &self.zone, &renamed)?;
+        let place = Place {
+            instant: key.instant,
+            trip: self.merged.feed.trip(trip).unwrap_or(TripNo(0)),
+            run: key.run,
+            sequence: key.sequence,
+            day: key.day,
+        };
+        Ok((place, line))
+    }
+
+    // How many of these departures are of joined trips.
+    fn joined_count(&self, listed: &[(Place, String)]) -> usize {
+        let mut count = 0usize;
+        for (place, _) in listed {
+            let trip = id_of(&self.merged.feed, Kind::Trip, place.trip.0);
+            for id in self.merged.names.joined(Kind::Trip) {
+                if id.as_str() == trip {
+                    count = count.saturating_add(1);
+                }
+            }
+        }
+        count
+    }
+}
+
+fn joined_lines(alloc: Global, listed: &[(Place, String)]) -> Result<String, Fail> {
+    let mut text = String::new(alloc);
+    for (_, line) in listed {
+        text.push_str(line)?;
+    }
+    Ok(text)
+}
+
+// The lines of the whole board of a stop.
+fn lines(alloc: Global, feed: &Feed, zone: &Zone, stop: &str) -> Result<String, Fail> {
+    let mut board = Board::open(alloc, feed, zone, stop, ALWAYS, None)?;
+    let mut text = String::new(alloc);
+    for _ in 0..MOST {
+        match board.next() {
+            Ok(Some(departure)) => push_line(alloc, &mut text, zone, &departure)?,
+            Ok(None) => break,
+            Err(fault) => return Err(Fail::from(fault)),
+        }
+    }
+    Ok(text)
+}
+
+// Changes to a feed, and the lines at the first stop of the merge.
+struct Worked {
+    a: &'static [FileText],
+    b: &'static [FileText],
+    lines: &'static str,
+}
+
+const WORKED: &[Worked] = &[
+    Worked {
+        a: &[],
+        b: &[],
+        lines: "@1711958400/T1/28800/1/20240401\t2024-04-01 08:00:00+00:00\tS1\t10\t\ts\n",
+    },
+    Worked {
+        a: WITH_SECOND,
+        b: &[AT_TEN],
+        lines: "@1711958400/T1/28800/1/20240401\t2024-04-01 08:00:00+00:00\tS1\t10\t\ts\n\
+@1711962000/T1_merged_1/32400/1/20240401\t2024-04-01 09:00:00+00:00\tS1\t10\t\ts\n\
+@1711965600/T1_merged_2/36000/1/20240401\t2024-04-01 10:00:00+00:00\tS1\t10\t\ts\n",
+    },
+    Worked {
+        a: &[],
+        b: &[RAIL],
+        lines: "@1711958400/T1/28800/1/20240401\t2024-04-01 08:00:00+00:00\tS1\t10\t\ts\n\
+@1711958400/T1_merged_1/28800/1/20240401\t2024-04-01 08:00:00+00:00\tS1\t10\t\ts\n",
+    },
+];
+
+#[test]
+fn merged_boards_are_those_that_were_worked_out(rt: HostRuntime) -> Result<(), Fail> {
+    for worked in WORKED {
+        let a = feed_with(&rt, rt.alloc(), worked.a)?;
+        let b = feed_with(&rt, rt.alloc(), worked.b)?;
+        let fixture = Fixture::new(&rt, rt.alloc(), a, b, Clocks::Utc)?;
+        let lines = lines(rt.alloc(), &fixture.merged.feed, &fixture.zone, "S1")?;
+        assert_eq!(rt; lines.as_str(), worked.lines);
+        fixture.assert_boards(&rt, rt.alloc())?;
+    }
+    Ok(())
+}
+
+// Changes to a made feed: a platform with another name, a station with another name, another route, other periods, and
+// other exceptions.
+const CHANGES: [&[FileText]; 6] = [
+    &[],
+    &[(
+        "stops.txt",
+        "stop_id,stop_name,stop_lat,stop_lon,location_type,parent_station\n\
+Q,Quay,52.5,13.4,,\nP2,Pier,52.6,13.5,,P\nP,Park,52.6,13.5,1,\nP1,Park,52.6,13.5,0,P\nR,Road,52.7,13.6,,\n",
+    )],
+    &[(
+        "stops.txt",
+        "stop_id,stop_name,stop_lat,stop_lon,location_type,parent_station\n\
+Q,Quay,52.5,13.4,,\nP2,Park,52.6,13.5,,P\nP,Pier,52.6,13.5,1,\nP1,Park,52.6,13.5,0,P\nR,Road,52.7,13.6,,\n",
+    )],
+    &[(
+        "routes.txt",
+        "route_id,route_short_name,route_long_name,route_type\nR2,,Short,3\nR1,10,,3\n",
+    )],
+    &[(
+        "frequencies.txt",
+        "trip_id,start_time,end_time,headway_secs,exact_times\nT0,06:00:00,08:00:00,1200,1\nT2,23:00:00,25:00:00,900,0\n",
+    )],
+    &[(
+        "calendar_dates.txt",
+        "service_id,date,exception_type\nC1,20111231,2\nC4,20111230,1\nC4,20111231,1\n",
+    )],
+];
+
+// The merges of a made feed with changes to the made feed of another number, in a zone.
+fn assert_merges<R: Abort + RandomSource>(
+    rt: &R,
+    alloc: Global,
+    (number, other): (u64, u64),
+    clocks: Clocks,
+) -> Result<(), Fail> {
+    for changes in CHANGES {
+        let a = made_feed_with(rt, alloc, number, &[])?;
+        let b = made_feed_with(rt, alloc, other, changes)?;
+        let count = Fixture::new(rt, alloc, a, b, clocks)?.assert_boards(rt, alloc)?;
+        assert!(rt; count > 100, "{count} departures");
+    }
+    Ok(())
+}
+
+#[test]
+fn merged_boards_of_one_made_feed_are_united(rt: HostRuntime) -> Result<(), Fail> {
+    assert_merges(&rt, rt.alloc(), (1, 1), Clocks::GoesBack)
+}
+
+#[test]
+fn merged_boards_of_two_made_feeds_are_united(rt: HostRuntime) -> Result<(), Fail> {
+    assert_merges(&rt, rt.alloc(), (2, 3), Clocks::CentralEurope)
+}

@@ -1,0 +1,98 @@
+//! Merges of changes to the small dataset.
+
+use crate::report::report;
+use crate::written::{Rows, assert_rows, assert_same_files, folders_with};
+use gtfs_feed::Feed;
+use gtfs_fixtures::{FileText, feed_with, read_feed};
+use gtfs_merge::{Merged, Options, merge};
+use std::alloc::Global;
+use std::hash::RandomState;
+use std::process::Abort;
+use std::random::RandomSource;
+use std::test::Fail;
+
+/// Two changes to the small dataset, and what their merge gives.
+#[derive(Clone, Copy)]
+pub(crate) struct Case {
+    pub(crate) what: &'static str,
+    pub(crate) a: &'static [FileText],
+    pub(crate) b: &'static [FileText],
+    /// The ids that became others, and how many are joined.
+    pub(crate) report: &'static str,
+    /// What some of the files of the merged feed have.
+    pub(crate) written: &'static [Rows],
+}
+
+// Files of any length.
+const ANY_LENGTH: Options = Options {
+    file_limit: u64::MAX,
+};
+
+/// The small dataset at other times: at ten.
+pub(crate) const AT_TEN: FileText = (
+    "stop_times.txt",
+    "trip_id,arrival_time,departure_time,stop_id,stop_sequence\n\
+T1,10:00:00,10:00:00,S1,1\nT1,10:10:00,10:10:00,S2,2\n",
+);
+
+/// The merge of two feeds.
+pub(crate) fn merged_of<R: RandomSource>(
+    rt: &R,
+    alloc: Global,
+    a: &Feed,
+    b: &Feed,
+) -> Result<Merged, Fail> {
+    Ok(merge(alloc, RandomState::new(rt)?, a, b, &ANY_LENGTH)?)
+}
+
+/// Each of the merges gives what is wanted.
+pub(crate) fn assert_cases<R: Abort + RandomSource>(
+    rt: &R,
+    alloc: Global,
+    cases: &[Case],
+) -> Result<(), Fail> {
+    for case in cases {
+        assert_case(rt, alloc, case)?;
+    }
+    Ok(())
+}
+
+fn assert_case<R: Abort + RandomSource>(rt: &R, alloc: Global, case: &Case) -> Result<(), Fail> {
+    let a = feed_with(rt, alloc, case.a)?;
+    let b = feed_with(rt, alloc, case.b)?;
+    assert_merge(rt, alloc, case, &a, &b)
+}
+
+fn assert_merge<R: Abort + RandomSource>(
+    rt: &R,
+    alloc: Global,
+    case: &Case,
+    a: &Feed,
+    b: &Feed,
+) -> Result<(), Fail> {
+    let merged = merged_of(rt, alloc, a, b)?;
+    let told = report(alloc, a, b, &merged.names)?;
+    assert_eq!(rt; told.as_str(), case.report, "{}", case.what);
+    assert_files(rt, alloc, case, &merged.feed)
+}
+
+fn assert_files<R: Abort + RandomSource>(
+    rt: &R,
+    alloc: Global,
+    case: &Case,
+    feed: &Feed,
+) -> Result<(), Fail> {
+    assert_rows(rt, alloc, feed, case.written)?;
+    assert_reads_back(rt, alloc, feed)
+}
+
+// The written files of a feed pass the validator, and are those of the feed that is made of them.
+fn assert_reads_back<R: Abort + RandomSource>(
+    rt: &R,
+    alloc: Global,
+    feed: &Feed,
+) -> Result<(), Fail> {
+    let mut folders = folders_with(alloc, feed)?;
+    let again = read_feed(alloc, RandomState::new(rt)?, &mut folders, "out")?;
+    assert_same_files(rt, alloc, feed, &again)
+}

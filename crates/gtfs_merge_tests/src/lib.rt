@@ -1,0 +1,37 @@
+//! The tests of merging (`gtfs_merge`), in a crate of their own: a crate with tests is proved twice, with them and
+//! without. They call public functions alone.
+//!
+//! - `cases` merges changes to a small dataset, and compares the names and the written files with those of a table;
+//!   `report` tells the names on lines, and `written` has the headers of the files.
+//! - `worked` has whole merges; `agencies`, `stops`, `services`, `trips` and `transfers` have what is joined and what is
+//!   renamed of each kind, and `chains` new names that are taken already, and merges of three feeds.
+//! - `names` asks for the name of each id, and `refusals` has zones that differ and files that are too long.
+//! - `boards` compares the boards of a merged feed with those of both feeds, renamed and united.
+#![tactic(auto)]
+
+#[cfg(test)]
+mod agencies;
+#[cfg(test)]
+mod boards;
+#[cfg(test)]
+mod cases;
+#[cfg(test)]
+mod chains;
+#[cfg(test)]
+mod names;
+#[cfg(test)]
+mod refusals;
+#[cfg(test)]
+mod report;
+#[cfg(test)]
+mod services;
+#[cfg(test)]
+mod stops;
+#[cfg(test)]
+mod transfers;
+#[cfg(test)]
+mod trips;
+#[cfg(test)]
+mod worked;
+#[cfg(test)]
+mod written;

@@ -1,0 +1,97 @@
+//! The names that ids have in a merged feed, and the ids that are joined.
+
+use crate::cases::merged_of;
+use crate::report::{KINDS, report};
+use crate::worked::RAIL;
+use gtfs_feed::Feed;
+use gtfs_fixtures::{feed_with, made_feed};
+use gtfs_merge::{Kind, Names, Side};
+use gtfs_table::File;
+use std::alloc::Global;
+use std::hash::RandomState;
+use std::random::RandomSource;
+use std::test::Fail;
+
+// What ids become where the agencies differ, and a mark for those that the feed does not have.
+const WANTED: [(Side, Kind, &str, &str); 14] = [
+    (Side::A, Kind::Agency, "", "agency_merged_1"),
+    (Side::B, Kind::Agency, "", "agency_merged_2"),
+    (Side::A, Kind::Agency, "agency_merged_1", "no id"),
+    (Side::A, Kind::Route, "R1", "R1"),
+    (Side::B, Kind::Route, "R1", "R1_merged_1"),
+    (Side::B, Kind::Route, "R1_merged_1", "no id"),
+    (Side::A, Kind::Trip, "T1", "T1"),
+    (Side::B, Kind::Trip, "T1", "T1_merged_1"),
+    (Side::B, Kind::Trip, "", "no id"),
+    (Side::A, Kind::Stop, "S1", "S1"),
+    (Side::B, Kind::Stop, "S3", "S3"),
+    (Side::A, Kind::Stop, "T1", "no id"),
+    (Side::B, Kind::Service, "C1", "C1"),
+    (Side::B, Kind::Service, "c1", "no id"),
+];
+
+#[test]
+fn an_id_has_a_name_on_each_side(rt: HostRuntime) -> Result<(), Fail> {
+    let a = feed_with(&rt, rt.alloc(), &[])?;
+    let b = feed_with(&rt, rt.alloc(), &[RAIL])?;
+    let names = Names::of_feeds(rt.alloc(), RandomState::new(&rt)?, &a, &b)?;
+    for (side, kind, id, wanted) in WANTED {
+        let name = names.of(side, kind, id).unwrap_or("no id");
+        assert_eq!(rt; name, wanted, "{id}");
+    }
+    Ok(())
+}
+
+// The joined ids of each kind on a line.
+fn joined_ids(alloc: Global, names: &Names) -> Result<String, Fail> {
+    let mut text = String::new(alloc);
+    for (kind, word) in KINDS {
+        text.push_str(word)?;
+        for id in names.joined(kind) {
+            text.push_str(" ")?;
+            text.push_str(id)?;
+        }
+        text.push_str("\n")?;
+    }
+    Ok(text)
+}
+
+#[test]
+fn joined_ids_stand_by_their_bytes(rt: HostRuntime) -> Result<(), Fail> {
+    let a = feed_with(&rt, rt.alloc(), &[])?;
+    let b = feed_with(&rt, rt.alloc(), &[RAIL])?;
+    for (other, wanted) in [
+        (
+            &a,
+            "agency \nstop S1 S2 S3\nroute R1\nservice C1\ntrip T1\n",
+        ),
+        (&b, "agency\nstop S1 S2 S3\nroute\nservice C1\ntrip\n"),
+    ] {
+        let merged = merged_of(&rt, rt.alloc(), &a, other)?;
+        let told = joined_ids(rt.alloc(), &merged.names)?;
+        assert_eq!(rt; told.as_str(), wanted);
+    }
+    Ok(())
+}
+
+// The lines of names and the files of a merge.
+fn merge_text<R: RandomSource>(rt: &R, alloc: Global, a: &Feed, b: &Feed) -> Result<String, Fail> {
+    let merged = merged_of(rt, alloc, a, b)?;
+    let mut text = report(alloc, a, b, &merged.names)?;
+    for file in File::ALL {
+        text.push_str(&merged.feed.file_text(alloc, file)?)?;
+    }
+    Ok(text)
+}
+
+#[test]
+fn two_random_states_give_the_same_bytes(rt: HostRuntime) -> Result<(), Fail> {
+    let a = made_feed(&rt, rt.alloc(), 8)?;
+    let b = made_feed(&rt, rt.alloc(), 9)?;
+    let text = merge_text(&rt, rt.alloc(), &a, &b)?;
+    assert_eq!(rt;
+        text.as_str(),
+        merge_text(&rt, rt.alloc(), &a, &b)?.as_str()
+    );
+    Ok(())
+}
