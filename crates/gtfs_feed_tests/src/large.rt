@@ -149,7 +149,7 @@ fn assert_reads_back<R: Abort + RandomSource>(
 ) -> Result<(), Fail> {
     let mut folders = MemoryFolders::new(alloc, 100_000_000, None);
     write_tables(rt, alloc, feed, &mut folders)?;
-    let other = read_feed(rt, alloc, RandomState::new(rt)?, &mut folders, "again")?;
+    let other = read_feed(alloc, RandomState::new(rt)?, &mut folders, "again")?;
     assert_whole(rt, &other);
     assert_same(rt, alloc, feed, &other)?;
     assert_same_headsigns(rt, feed, &other);
@@ -248,7 +248,7 @@ fn assert_searched(rt: &impl Abort, alloc: Global, feed: &Feed) -> Result<(), Fa
 fn a_large_feed_is_whole(rt: HostRuntime) -> Result<(), Fail> {
     let mut folders = large_folders(rt.alloc())?;
     let random = RandomState::new(&rt)?;
-    let feed = read_feed(&rt, rt.alloc(), random, &mut folders, "f1")?;
+    let feed = read_feed(rt.alloc(), random, &mut folders, "f1")?;
     assert_whole(&rt, &feed);
     for case in CASES {
         assert_case(&rt, rt.alloc(), &feed, case)?;
