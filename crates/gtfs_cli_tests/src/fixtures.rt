@@ -23,6 +23,8 @@ pub(super) const CHECK: [&str; 3] = ["gtfs", "check", "f1"];
 pub(super) const FIRST_LINE: &str =
     "@1711958400/T1/28800/1/20240401\t2024-04-01 08:00:00+00:00\tS1\t10\t\ts\n";
 
+pub(super) const SHEET: &str = "== R1 - 20240401\ntrip\tT1\nS1\t08:00:00\nS2\t08:10:00\n";
+
 // A feed of three stops and one trip, which runs on 2024-04-01 alone.
 const FEED: &[(&str, &str)] = &[
     (
@@ -67,6 +69,19 @@ pub(super) fn asked_with<'w>(option: &'w str, value: &'w str) -> [&'w str; 13] {
     [
         "gtfs", "board", "f1", "--zone", "z1", "--stop", "S1", "--from", "20240401", "--until",
         "20240402", option, value,
+    ]
+}
+
+// The words that ask for a timetable on the day of the feed's trip.
+pub(super) fn timetable_asked<'w>(dir: &'w str, route: &'w str) -> [&'w str; 7] {
+    [
+        "gtfs",
+        "timetable",
+        dir,
+        "--route",
+        route,
+        "--date",
+        "20240401",
     ]
 }
 
