@@ -1,16 +1,15 @@
 -- The columns of a pattern are the runs of its trips on the day.
-use Rattle.std.proofs.Common.{rules, ◌≡◌, ◌≤◌, ◌<◌, ◌+◌, ◌++◌, ◌∙◌, ◌&&◌, ◌==◌, ℕ, zero, suc, Bool, true, false, cond, not, List, [], ◌∷◌, length, map, get_or, Option, Some, None, find, refl, sym, ap, subst, arith, inl, inr}
+use Rattle.std.proofs.Common.{rules, ◌≡◌, ◌≤◌, ◌<◌, ◌+◌, ◌++◌, ◌∙◌, ◌&&◌, ◌==◌, ℕ, Bool, true, false, cond, not, List, [], ◌∷◌, length, map, get_or, Option, Some, None, find, refl, sym, ap, subst, arith, inl, inr}
 use Rattle.std.specs.Prelude.{ℤ, bytes_eq, option_and_then, option_map, unwrap_or}
-use Rattle.std.specs.List.{All, filter, filter_map, flat_map, range_with_len, slice_get}
+use Rattle.std.specs.List.{All, filter_map, flat_map, range_with_len, slice_get}
 use Rattle.std.specs.List.Sorted.{IsSorted}
 use Rattle.std.specs.Cmp.{IsTotalOrder, ranked}
-use Rattle.std.specs.Cmp.Lexicographic.{nat_list_cmp_total}
 use Rattle.std.specs.Cmp.Rules.{comparing}
 use Rattle.std.specs.FinMap.{nat_cmp-IsAntisymmetric}
 use Rattle.std.specs.declared.cmp.Ordering.{Ordering}
 use Rattle.std.specs.declared.cmp.Ordering.TheVariants.{Less, Equal, Greater}
 use Rattle.std.specs.Ordering.{is_lt, nat_cmp, ordering_then}
-use Rattle.std.proofs.lemmas.Bool.{and_from, and_parts, cases_Bool, eq-eqb, eqb-true, false≢true, not-true, true≢false}
+use Rattle.std.proofs.lemmas.Bool.{and_from, and_parts, cases_Bool, eq-eqb, eqb-true, not-true, true≢false}
 use Rattle.std.proofs.lemmas.List.{length-map}
 use Rattle.std.proofs.lemmas.List.Elements.{All-cons, All-head, All-nil, All-tail}
 use Rattle.std.proofs.lemmas.Simd.{map-map}
@@ -41,13 +40,13 @@ use Rattle.gtfs_runs.specs.Trips.{is_run, runs}
 use Rattle.gtfs_runs.specs.declared.pattern.Pattern.{Pattern}
 use Rattle.gtfs_board.specs.Departures.{runs_on}
 use Rattle.gtfs_board.specs.LaneDays.{serves_on}
-use Rattle.gtfs_board.specs.SheetSteps.{HasRow, IsPattern, IsShownAlong, column_cmp, column_times, is_column_before, is_column_of, is_run_on, is_same_column, named_column, running_at, sheet_along, sheet_of_columns, sheet_with, sheets_along, time_of_column}
+use Rattle.gtfs_board.specs.SheetSteps.{IsPattern, IsShownAlong, column_cmp, column_times, is_column_before, is_column_of, is_run_on, is_same_column, named_column, running_at, sheet_along, sheet_of_columns, sheet_with, sheets_along, time_of_column}
 use Rattle.gtfs_board.specs.Timetable.{Run, Sheet, has_run_on, is_run_before, named_runs, row_at, run_cmp, runs_of, time_at, time_of_run}
 use Rattle.gtfs_board.specs.declared.sheet.columns.Column.{Column}
 use Rattle.gtfs_board.specs.merge.Order.{In, IsAscending, IsStrict}
 use Rattle.gtfs_board.proofs.CandidateKeys.{numbers}
 use Rattle.gtfs_board.proofs.Candidates.{strict_from_total}
-use Rattle.gtfs_board.proofs.EventFacts.{at_in, in_at, same_number, some_is, text_at, there_some, trip_back}
+use Rattle.gtfs_board.proofs.EventFacts.{same_number, some_is, text_at, there_some, trip_back}
 use Rattle.gtfs_board.proofs.LaneDays.{flat_map-in, in-flat_map, in-map, map-in}
 use Rattle.gtfs_board.proofs.Rests.{ascending-in_order, ascending-unique, filter-in, in-filter, in-in_order, in_order-in}
 use Rattle.gtfs_board.proofs.SheetLists.{ascending-mapped, counted-in, find-one, in-counted, map-agree, sorted-ascends}

@@ -1,8 +1,8 @@
 -- The patterns of a route: which trips they have, and in which order they stand.
-use Rattle.std.proofs.Common.{rules, ◌≡◌, ◌≤◌, ◌<◌, ◌+◌, ◌++◌, ◌∙◌, ◌&&◌, ◌==◌, ℕ, zero, suc, Bool, true, false, cond, not, List, [], ◌∷◌, length, map, get_or, Option, Some, None, refl, sym, ap, subst, arith, inl, inr}
+use Rattle.std.proofs.Common.{rules, ◌≡◌, ◌≤◌, ◌<◌, ◌+◌, ◌++◌, ◌∙◌, ◌&&◌, ◌==◌, ℕ, zero, suc, Bool, true, false, cond, not, List, [], ◌∷◌, length, map, Option, Some, None, refl, sym, ap, subst, arith, inl, inr}
 use Rattle.std.specs.Prelude.{option_and_then, option_map, unwrap_or}
 use Rattle.std.specs.List.{All, AllPairs, Contains, filter, flat_map, list_all, range_with_len, slice_get}
-use Rattle.std.specs.List.Sorted.{IsPermutation, IsSorted}
+use Rattle.std.specs.List.Sorted.{IsPermutation}
 use Rattle.std.specs.Option.{option_cmp, option_eq}
 use Rattle.std.specs.Cmp.{IsTotalOrder}
 use Rattle.std.specs.Cmp.Lexicographic.{pointwise, slice_cmp}
@@ -25,28 +25,27 @@ use Rattle.gtfs_rows.proofs.SameElements.{pairs-head, pairs-map, pairs-tail}
 use Rattle.gtfs_rows.specs.Choices.{direction_code}
 use Rattle.gtfs_rows.specs.Order.{Ascends}
 use Rattle.gtfs_rows.specs.Rows.{Trip}
-use Rattle.gtfs_rows.specs.Views.{IsSoundParts, content_of_parts, stop_ids, stop_row_of, text_of_number, trip_of}
+use Rattle.gtfs_rows.specs.Views.{IsSoundParts, content_of_parts, stop_ids, stop_row_of, text_of_number}
 use Rattle.gtfs_rows.specs.declared.numbers.StopNo.{StopNo}
 use Rattle.gtfs_rows.specs.declared.numbers.TripNo.{TripNo}
 use Rattle.gtfs_rows.specs.declared.parts.Parts.{Parts}
-use Rattle.gtfs_rows.specs.declared.stop_row.StopRow.{StopRow}
 use Rattle.gtfs_feed.proofs.SoundOrder.{in_order}
 use Rattle.gtfs_feed.proofs.TripFacts.{stop_times}
 use Rattle.gtfs_feed.specs.Trips.{stop_rows_by_trip}
 use Rattle.gtfs_runs.specs.Counts.{tally}
 use Rattle.gtfs_runs.specs.Lanes.{stops_of}
-use Rattle.gtfs_runs.specs.Patterns.{ArePatterns, AreGroups, Entry, Heading, are_apart, direction_of, entries_of, entries_under, entry_cmp, entry_of, heading_of, is_filled, is_of_route, is_same_heading, rows_of, stops_cmp}
+use Rattle.gtfs_runs.specs.Patterns.{ArePatterns, Entry, Heading, are_apart, entries_of, entries_under, entry_cmp, entry_of, heading_of, is_filled, is_of_route, is_same_heading, rows_of, stops_cmp}
 use Rattle.gtfs_runs.specs.declared.pattern.Pattern.{Pattern}
 use Rattle.gtfs_board.specs.SheetSteps.{HasRow, IsPattern, stops_along}
 use Rattle.gtfs_board.specs.Timetable.{direction_place, heading_cmp, is_heading_before}
 use Rattle.gtfs_board.specs.Timetable as timetable
-use Rattle.gtfs_board.specs.merge.Order.{Each, In, IsAscending, IsStrict}
+use Rattle.gtfs_board.specs.merge.Order.{In, IsAscending, IsStrict}
 use Rattle.gtfs_board.proofs.CandidateKeys.{numbers}
 use Rattle.gtfs_board.proofs.Candidates.{strict_from_total}
 use Rattle.gtfs_board.proofs.EventFacts.{at_in, in_at}
 use Rattle.gtfs_board.proofs.LaneDays.{flat_map-in, in-flat_map, in-map, in-range, in-right, map-in}
 use Rattle.gtfs_board.proofs.Rests.{filter-in, in-filter}
-use Rattle.gtfs_board.proofs.SheetColumns.{IsTrip, all-in, trip-of}
+use Rattle.gtfs_board.proofs.SheetColumns.{all-in, trip-of}
 use Rattle.gtfs_board.proofs.SheetLists.{ascending-mapped, below, tally-permuted}
 use Rattle.gtfs_board.proofs.Window.{each_weaker}
 

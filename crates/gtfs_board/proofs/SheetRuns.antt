@@ -1,5 +1,5 @@
 -- The runs of a trip of sound parts, by its stop times and its frequencies.
-use Rattle.std.proofs.Common.{◌≡◌, ◌≤◌, ◌<◌, ◌+◌, ◌-◌, ◌%◌, ◌∙◌, ◌++◌, ◌&&◌, ◌==◌, ◌||◌, ℕ, zero, suc, Bool, true, false, cond, not, List, [], ◌∷◌, length, map, take, add-one, get_or, nat_lt, nat_le, Option, Some, None, refl, sym, ap, subst, arith, inl, inr}
+use Rattle.std.proofs.Common.{◌≡◌, ◌≤◌, ◌<◌, ◌+◌, ◌-◌, ◌%◌, ◌∙◌, ◌++◌, ◌&&◌, ◌==◌, ◌||◌, ℕ, zero, suc, Bool, true, false, cond, List, [], ◌∷◌, length, take, add-one, get_or, nat_lt, nat_le, Option, Some, None, refl, sym, ap, subst, arith, inl, inr}
 use Rattle.std.specs.Prelude.{IfSome, is_some, unwrap_or, option_and_then}
 use Rattle.std.specs.List.{All, filter, list_any, range_with_len, slice_get}
 use Rattle.std.specs.List.Sorted.{IsPermutation}

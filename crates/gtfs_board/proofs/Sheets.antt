@@ -1,7 +1,7 @@
 -- The sheets of the patterns of a route are its timetable.
-use Rattle.std.proofs.Common.{rules, ◌≡◌, ◌≤◌, ◌<◌, ◌+◌, ◌-◌, ◌∙◌, ◌&&◌, ◌||◌, ◌==◌, ℕ, zero, suc, Bool, true, false, cond, not, List, [], ◌∷◌, length, map, Option, Some, None, find, refl, sym, ap, subst, arith, inl, inr}
+use Rattle.std.proofs.Common.{rules, ◌≡◌, ◌<◌, ◌+◌, ◌-◌, ◌∙◌, ◌&&◌, ◌==◌, ℕ, zero, suc, Bool, true, false, cond, not, List, [], ◌∷◌, length, map, Option, Some, None, find, refl, sym, ap, subst, arith, inl, inr}
 use Rattle.std.specs.Prelude.{ℤ, ◌≢◌, IfErr, IsErrOf, Result, Ok, Err, bytes_eq, option_and_then, unwrap_or}
-use Rattle.std.specs.List.{All, filter, flat_map, list_any, position, range_with_len, slice_get}
+use Rattle.std.specs.List.{filter, flat_map, list_any, position, range_with_len, slice_get}
 use Rattle.std.specs.Cmp.{IsTotalOrder, tied_itself}
 use Rattle.std.specs.Cmp.Lexicographic.{nat_list_cmp_total}
 use Rattle.std.specs.Cmp.Rules.{comparing}
@@ -23,7 +23,6 @@ use Rattle.gtfs_rows.proofs.SameElements.{pairs-map}
 use Rattle.gtfs_rows.specs.Order.{Ascends}
 use Rattle.gtfs_rows.specs.Rows.{Route, Trip}
 use Rattle.gtfs_rows.specs.Views.{IsSoundParts, content_of_parts, route_ids, route_of, stop_ids, text_of_number}
-use Rattle.gtfs_rows.specs.declared.numbers.TripNo.{TripNo}
 use Rattle.gtfs_rows.specs.declared.parts.Parts.{Parts}
 use Rattle.gtfs_rows.specs.declared.route.Route.{Route as RouteRow}
 use Rattle.gtfs_runs.specs.Patterns.{ArePatterns, is_of_route, rows_of}
@@ -31,17 +30,17 @@ use Rattle.gtfs_runs.specs.Trips.{is_run, runs}
 use Rattle.gtfs_runs.specs.declared.pattern.Pattern.{Pattern}
 use Rattle.gtfs_table.specs.Folder.{text_cmp}
 use Rattle.gtfs_board.specs.Departures.{runs_on}
-use Rattle.gtfs_board.specs.SheetSteps.{IsPattern, goes, is_idle, running_at, sheet_along, sheet_with, sheets_along}
-use Rattle.gtfs_board.specs.Timetable.{Heading, Run, Sheet, direction_at, direction_place, has_heading, has_run_on, heading_cmp, heading_of, headings, is_heading_before, is_route, is_run_before, named_runs, row_at, running, runs_of, runs_under, sheet_under, sheets, time_at, time_of_run, wants}
+use Rattle.gtfs_board.specs.SheetSteps.{goes, is_idle, running_at, sheet_along, sheets_along}
+use Rattle.gtfs_board.specs.Timetable.{Heading, Run, Sheet, direction_at, direction_place, has_heading, has_run_on, heading_cmp, heading_of, headings, is_heading_before, is_route, named_runs, row_at, running, runs_of, runs_under, sheet_under, sheets, time_at, time_of_run, wants}
 use Rattle.gtfs_board.specs.declared.sheet.TableFault.{TableFault}
 use Rattle.gtfs_board.specs.declared.sheet.TableFault.TheVariants.{UnknownRoute}
-use Rattle.gtfs_board.specs.merge.Order.{In, IsAscending, IsStrict}
+use Rattle.gtfs_board.specs.merge.Order.{In, IsStrict}
 use Rattle.gtfs_board.proofs.Candidates.{strict_from_total}
 use Rattle.gtfs_board.proofs.EventFacts.{any_at, at_in, in_at, map_at, same_number, text_at}
 use Rattle.gtfs_board.proofs.Floors.{position_at, position_none}
 use Rattle.gtfs_board.proofs.LaneDays.{flat_map-in, in-flat_map, in-map, map-in}
 use Rattle.gtfs_board.proofs.Rests.{ascending-in_order, ascending-unique, filter-in, in-filter, in-in_order, in_order-in}
-use Rattle.gtfs_board.proofs.SheetColumns.{found-trip, in-running, one-trip, running-in, runs_strict, trip-of, trip-within}
+use Rattle.gtfs_board.proofs.SheetColumns.{found-trip, in-running, running-in, runs_strict, trip-of, trip-within}
 use Rattle.gtfs_board.proofs.SheetLists.{ascending-kept, ascending-one, map-agree, some-mapped}
 use Rattle.gtfs_board.proofs.SheetPatterns.{heading-is, heading_along, headings-ascend, headings-compare, is_pattern_before, pattern-is, pattern-of-trip, patterns-ascend, trip-of-pattern}
 use Rattle.gtfs_board.proofs.SheetRuns.{in-some, run-rows, runs-in, some-in}

@@ -1,4 +1,4 @@
-use Rattle.std.proofs.Common.{◌<◌, ◌∙◌, length, subst}
+use Rattle.std.proofs.Common.{◌<◌, length, subst}
 use Rattle.gtfs_feed.proofs.NumberFacts.{trip_service}
 use Rattle.gtfs_feed.proofs.TripFacts.{periods}
 use Rattle.gtfs_runs.proofs.Bounds.{periods_within}

@@ -1,4 +1,4 @@
-use Rattle.std.proofs.Common.{◌≡◌, sym, subst}
+use Rattle.std.proofs.Common.{sym, subst}
 use Rattle.gtfs_board.specs.SheetSteps.{IsPattern}
 use Rattle.gtfs_board.proofs.sheet.table.sheets_of.Goals as goal
 
