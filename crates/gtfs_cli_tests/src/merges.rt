@@ -74,19 +74,20 @@ fn assert_written(
 // Each folder is read by a call for its names and one for each of nine files, and nine calls write.
 #[test]
 fn a_device_that_fails_stops_a_merge(rt: HostRuntime) -> Result<(), Fail> {
-    for call in 1..31 {
+    for call in 1..30 {
         let mut folders = folders_failing_at(rt.alloc(), call)?;
         put_feed(&mut folders, "f2")?;
-        let (ended, count) = match call {
-            ..=10 => ((3, "", "gtfs: f1 cannot be read\n"), 0),
-            11..=20 => ((3, "", "gtfs: f2 cannot be read\n"), 0),
-            21..=29 => ((3, "", "gtfs: out cannot be written\n"), call - 21),
-            _ => ((0, REPORT, ""), 9),
+        let (told, count) = match call {
+            ..=10 => ("gtfs: f1 cannot be read\n", 0),
+            11..=20 => ("gtfs: f2 cannot be read\n", 0),
+            _ => ("gtfs: out cannot be written\n", call - 21),
         };
-        assert_ends(&rt, rt.alloc(), &mut folders, &MERGE, ended)?;
+        assert_ends(&rt, rt.alloc(), &mut folders, &MERGE, (3, "", told))?;
         assert_written(&rt, rt.alloc(), &mut folders, count as usize)?;
     }
-    Ok(())
+    let mut folders = folders_failing_at(rt.alloc(), 30)?;
+    put_feed(&mut folders, "f2")?;
+    assert_ends(&rt, rt.alloc(), &mut folders, &MERGE, (0, REPORT, ""))
 }
 
 // All files are written before the report is printed.
