@@ -11,7 +11,7 @@ use Rattle.gtfs_cli.specs.Refusals.{status_of}
 use Rattle.gtfs_cli.specs.Running.{Failures}
 use Rattle.gtfs_cli.specs.Sending.{Output, Sends, SendsBeginning}
 use Rattle.gtfs_cli.specs.declared.commands.refusal.Refusal.{Refusal}
-use Rattle.gtfs_cli.specs.declared.commands.refusal.Refusal.TheVariants.{Words, BadValue, NotThere, Unreadable, OverLimit, HasErrors, NoZone, UnknownStop, UnknownRoute, UntilBeforeFrom, OutputFailed, OutOfMemory}
+use Rattle.gtfs_cli.specs.declared.commands.refusal.Refusal.TheVariants.{Words, BadValue, NotThere, Unreadable, OverLimit, HasErrors, NoZone, UnknownStop, UnknownRoute, UntilBeforeFrom, ZonesDiffer, MergeTooLarge, Unwritable, OutputFailed, OutOfMemory}
 use Rattle.gtfs_cli.proofs.Printed.{kept}
 
 -- no refusal ends well
@@ -25,6 +25,9 @@ not_well (HasErrors path) e = cc e
 not_well (NoZone path) e = cc e
 not_well UnknownStop e = cc e
 not_well UnknownRoute e = cc e
+not_well ZonesDiffer e = cc e
+not_well MergeTooLarge e = cc e
+not_well (Unwritable path) e = cc e
 not_well UntilBeforeFrom e = cc e
 not_well OutputFailed e = cc e
 not_well OutOfMemory e = cc e

@@ -13,7 +13,8 @@ use Rattle.gtfs_cli.specs.TimetableOptions.{HasTimetableValues}
 use Rattle.gtfs_cli.specs.Timetables.{IsTimetableCause}
 use Rattle.gtfs_cli.specs.Refusals.{status_of, IsCause, IsCauseInWords, IsCauseOf, IsCheckCause, IsFileCause, IsReadingCause}
 use Rattle.gtfs_cli.specs.declared.commands.refusal.Refusal.{Refusal}
-use Rattle.gtfs_cli.specs.declared.commands.refusal.Refusal.TheVariants.{Words, BadValue, NotThere, Unreadable, OverLimit, HasErrors, NoZone, UnknownStop, UnknownRoute, UntilBeforeFrom, OutputFailed, OutOfMemory}
+use Rattle.gtfs_cli.specs.declared.commands.refusal.Refusal.TheVariants.{Words, BadValue, NotThere, Unreadable, OverLimit, HasErrors, NoZone, UnknownStop, UnknownRoute, UntilBeforeFrom, ZonesDiffer, MergeTooLarge, Unwritable, OutputFailed, OutOfMemory}
+use Rattle.gtfs_cli.proofs.MergeEnded.{device-by-merge, usage-by-merge}
 
 -- a count that rose within a call rose over a longer one
 pub rises-longer : (b x y a : ℕ) → b ≤ x → Rises x y → y ≤ a → Rises b a
@@ -45,6 +46,9 @@ reading-cause limit held dir x y before after (HasErrors path) first last h = ab
 reading-cause limit held dir x y before after (NoZone path) first last h = absurd (h before after first last)
 reading-cause limit held dir x y before after UnknownStop first last h = absurd (h before after first last)
 reading-cause limit held dir x y before after UnknownRoute first last h = absurd (h before after first last)
+reading-cause limit held dir x y before after ZonesDiffer first last h = absurd (h before after first last)
+reading-cause limit held dir x y before after MergeTooLarge first last h = absurd (h before after first last)
+reading-cause limit held dir x y before after (Unwritable path) first last h = absurd (h before after first last)
 reading-cause limit held dir x y before after UntilBeforeFrom first last h = absurd (h before after first last)
 reading-cause limit held dir x y before after OutputFailed first last h = absurd (omega (arith, h (folders_alone before) (folders_alone after) first last))
 reading-cause limit held dir x y before after OutOfMemory first last h = tt
@@ -61,6 +65,9 @@ board-cause limit held asked before after (HasErrors path) v h = (v, h.0, h.1)
 board-cause limit held asked before after (NoZone path) v h = absurd h
 board-cause limit held asked before after UnknownStop v h = absurd h
 board-cause limit held asked before after UnknownRoute v h = absurd h
+board-cause limit held asked before after ZonesDiffer v h = absurd h
+board-cause limit held asked before after MergeTooLarge v h = absurd h
+board-cause limit held asked before after (Unwritable path) v h = absurd h
 board-cause limit held asked before after UntilBeforeFrom v h = absurd h
 board-cause limit held asked before after OutputFailed v h = absurd h
 board-cause limit held asked before after OutOfMemory v h = tt
@@ -77,6 +84,9 @@ timetable-cause limit held asked before after (HasErrors path) v h = (v, h.0, h.
 timetable-cause limit held asked before after (NoZone path) v h = absurd h
 timetable-cause limit held asked before after UnknownStop v h = absurd h
 timetable-cause limit held asked before after UnknownRoute v h = absurd h
+timetable-cause limit held asked before after ZonesDiffer v h = absurd h
+timetable-cause limit held asked before after MergeTooLarge v h = absurd h
+timetable-cause limit held asked before after (Unwritable path) v h = absurd h
 timetable-cause limit held asked before after UntilBeforeFrom v h = absurd h
 timetable-cause limit held asked before after OutputFailed v h = absurd h
 timetable-cause limit held asked before after OutOfMemory v h = tt
@@ -108,6 +118,9 @@ usage_by_words texts limit held before after (HasErrors path) h e = absurd h
 usage_by_words texts limit held before after (NoZone path) h e = absurd h
 usage_by_words texts limit held before after UnknownStop h e = absurd h
 usage_by_words texts limit held before after UnknownRoute h e = absurd h
+usage_by_words texts limit held before after ZonesDiffer h e = absurd h
+usage_by_words texts limit held before after MergeTooLarge h e = absurd h
+usage_by_words texts limit held before after (Unwritable path) h e = absurd h
 usage_by_words texts limit held before after UntilBeforeFrom h e = absurd h
 usage_by_words texts limit held before after OutputFailed h e = absurd (omega (arith, e))
 usage_by_words texts limit held before after OutOfMemory h e = absurd (omega (arith, e))
@@ -122,6 +135,9 @@ usage_by_check texts limit held before after (HasErrors path) h e = absurd h.fac
 usage_by_check texts limit held before after (NoZone path) h e = absurd h.fact
 usage_by_check texts limit held before after UnknownStop h e = absurd h.fact
 usage_by_check texts limit held before after UnknownRoute h e = absurd h.fact
+usage_by_check texts limit held before after ZonesDiffer h e = absurd h.fact
+usage_by_check texts limit held before after MergeTooLarge h e = absurd h.fact
+usage_by_check texts limit held before after (Unwritable path) h e = absurd h.fact
 usage_by_check texts limit held before after UntilBeforeFrom h e = absurd h.fact
 usage_by_check texts limit held before after OutputFailed h e = absurd (omega (arith, e))
 usage_by_check texts limit held before after OutOfMemory h e = absurd (omega (arith, e))
@@ -136,6 +152,9 @@ usage_by_board texts limit held before after (HasErrors path) h e = absurd (omeg
 usage_by_board texts limit held before after (NoZone path) h e = absurd (omega (arith, e))
 usage_by_board texts limit held before after UnknownStop h e = absurd (omega (arith, e))
 usage_by_board texts limit held before after UnknownRoute h e = absurd h.fact
+usage_by_board texts limit held before after ZonesDiffer h e = absurd h.fact
+usage_by_board texts limit held before after MergeTooLarge h e = absurd h.fact
+usage_by_board texts limit held before after (Unwritable path) h e = absurd h.fact
 usage_by_board texts limit held before after UntilBeforeFrom h e = inr (inl (record { words = h.words; taken = h.taken; asks = h.asks; fact = inr h.fact }))
 usage_by_board texts limit held before after OutputFailed h e = absurd (omega (arith, e))
 usage_by_board texts limit held before after OutOfMemory h e = absurd (omega (arith, e))
@@ -150,6 +169,9 @@ usage_by_timetable texts limit held before after (HasErrors path) h e = absurd (
 usage_by_timetable texts limit held before after (NoZone path) h e = absurd h.fact
 usage_by_timetable texts limit held before after UnknownStop h e = absurd h.fact
 usage_by_timetable texts limit held before after UnknownRoute h e = absurd (omega (arith, e))
+usage_by_timetable texts limit held before after ZonesDiffer h e = absurd h.fact
+usage_by_timetable texts limit held before after MergeTooLarge h e = absurd h.fact
+usage_by_timetable texts limit held before after (Unwritable path) h e = absurd h.fact
 usage_by_timetable texts limit held before after UntilBeforeFrom h e = absurd h.fact
 usage_by_timetable texts limit held before after OutputFailed h e = absurd (omega (arith, e))
 usage_by_timetable texts limit held before after OutOfMemory h e = absurd (omega (arith, e))
@@ -158,7 +180,8 @@ pub usage-from : (texts : List Text) (limit : ℕ) (held : Option Store) (before
 usage-from texts limit held before after r status is (inl h) e = usage_by_words texts limit held before after r h (sym is ∙ e)
 usage-from texts limit held before after r status is (inr (inl h)) e = usage_by_check texts limit held before after r h (sym is ∙ e)
 usage-from texts limit held before after r status is (inr (inr (inl h))) e = usage_by_board texts limit held before after r h (sym is ∙ e)
-usage-from texts limit held before after r status is (inr (inr (inr h))) e = usage_by_timetable texts limit held before after r h (sym is ∙ e)
+usage-from texts limit held before after r status is (inr (inr (inr (inl h)))) e = usage_by_timetable texts limit held before after r h (sym is ∙ e)
+usage-from texts limit held before after r status is (inr (inr (inr (inr h)))) e = usage-by-merge texts limit held before after r h (sym is ∙ e)
 
 abbrev pub TellsDevice : List Text → ℕ → Option Store → Failures → Failures → Refusal → Type 0
 TellsDevice texts limit held before after refusal = status_of refusal ≡ 3 → IsDeviceFault texts limit held before after
@@ -173,6 +196,9 @@ device_by_words texts limit held before after (HasErrors path) h e = absurd h
 device_by_words texts limit held before after (NoZone path) h e = absurd h
 device_by_words texts limit held before after UnknownStop h e = absurd h
 device_by_words texts limit held before after UnknownRoute h e = absurd h
+device_by_words texts limit held before after ZonesDiffer h e = absurd h
+device_by_words texts limit held before after MergeTooLarge h e = absurd h
+device_by_words texts limit held before after (Unwritable path) h e = absurd h
 device_by_words texts limit held before after UntilBeforeFrom h e = absurd h
 device_by_words texts limit held before after OutputFailed h e = inl (inr h.1)
 device_by_words texts limit held before after OutOfMemory h e = absurd (omega (arith, e))
@@ -187,6 +213,9 @@ device_by_check texts limit held before after (HasErrors path) h e = absurd h.fa
 device_by_check texts limit held before after (NoZone path) h e = absurd h.fact
 device_by_check texts limit held before after UnknownStop h e = absurd h.fact
 device_by_check texts limit held before after UnknownRoute h e = absurd h.fact
+device_by_check texts limit held before after ZonesDiffer h e = absurd h.fact
+device_by_check texts limit held before after MergeTooLarge h e = absurd h.fact
+device_by_check texts limit held before after (Unwritable path) h e = absurd h.fact
 device_by_check texts limit held before after UntilBeforeFrom h e = absurd h.fact
 device_by_check texts limit held before after OutputFailed h e = inl (inr h.fact)
 device_by_check texts limit held before after OutOfMemory h e = absurd (omega (arith, e))
@@ -212,6 +241,9 @@ device_by_board texts limit held before after (HasErrors path) h e = absurd (ome
 device_by_board texts limit held before after (NoZone path) h e = kept texts limit held before after (NoZone path) h (inr (inr (inr (inr (inr h.fact.3)))))
 device_by_board texts limit held before after UnknownStop h e = absurd (omega (arith, e))
 device_by_board texts limit held before after UnknownRoute h e = absurd h.fact
+device_by_board texts limit held before after ZonesDiffer h e = absurd h.fact
+device_by_board texts limit held before after MergeTooLarge h e = absurd h.fact
+device_by_board texts limit held before after (Unwritable path) h e = absurd h.fact
 device_by_board texts limit held before after UntilBeforeFrom h e = absurd (omega (arith, e))
 device_by_board texts limit held before after OutputFailed h e = inl (inr h.fact)
 device_by_board texts limit held before after OutOfMemory h e = absurd (omega (arith, e))
@@ -219,13 +251,16 @@ device_by_board texts limit held before after OutOfMemory h e = absurd (omega (a
 device_by_timetable : (texts : List Text) (limit : ℕ) (held : Option Store) (before after : Failures) (r : Refusal) → AsksTimetable texts (λ asked. IsTimetableCause limit held asked before after r) → TellsDevice texts limit held before after r
 device_by_timetable texts limit held before after (Words text) h e = absurd h.fact
 device_by_timetable texts limit held before after (BadValue option) h e = absurd (omega (arith, e))
-device_by_timetable texts limit held before after (NotThere path) h e = inr (inr (inr (record { words = h.words; taken = h.taken; asks = h.asks; fact = inl h.fact.2 })))
+device_by_timetable texts limit held before after (NotThere path) h e = inr (inr (inr (inl (record { words = h.words; taken = h.taken; asks = h.asks; fact = inl h.fact.2 }))))
 device_by_timetable texts limit held before after (Unreadable path) h e = inl (inl h.fact.2)
-device_by_timetable texts limit held before after (OverLimit path) h e = inr (inr (inr (record { words = h.words; taken = h.taken; asks = h.asks; fact = inr h.fact.2 })))
+device_by_timetable texts limit held before after (OverLimit path) h e = inr (inr (inr (inl (record { words = h.words; taken = h.taken; asks = h.asks; fact = inr h.fact.2 }))))
 device_by_timetable texts limit held before after (HasErrors path) h e = absurd (omega (arith, e))
 device_by_timetable texts limit held before after (NoZone path) h e = absurd h.fact
 device_by_timetable texts limit held before after UnknownStop h e = absurd h.fact
 device_by_timetable texts limit held before after UnknownRoute h e = absurd (omega (arith, e))
+device_by_timetable texts limit held before after ZonesDiffer h e = absurd h.fact
+device_by_timetable texts limit held before after MergeTooLarge h e = absurd h.fact
+device_by_timetable texts limit held before after (Unwritable path) h e = absurd h.fact
 device_by_timetable texts limit held before after UntilBeforeFrom h e = absurd h.fact
 device_by_timetable texts limit held before after OutputFailed h e = inl (inr h.fact)
 device_by_timetable texts limit held before after OutOfMemory h e = absurd (omega (arith, e))
@@ -234,7 +269,8 @@ pub device-from : (texts : List Text) (limit : ℕ) (held : Option Store) (befor
 device-from texts limit held before after r status is (inl h) e = device_by_words texts limit held before after r h (sym is ∙ e)
 device-from texts limit held before after r status is (inr (inl h)) e = device_by_check texts limit held before after r h (sym is ∙ e)
 device-from texts limit held before after r status is (inr (inr (inl h))) e = device_by_board texts limit held before after r h (sym is ∙ e)
-device-from texts limit held before after r status is (inr (inr (inr h))) e = device_by_timetable texts limit held before after r h (sym is ∙ e)
+device-from texts limit held before after r status is (inr (inr (inr (inl h)))) e = device_by_timetable texts limit held before after r h (sym is ∙ e)
+device-from texts limit held before after r status is (inr (inr (inr (inr h)))) e = device-by-merge texts limit held before after r h (sym is ∙ e)
 
 pub statuses-from : (r : Refusal) (status : ℕ) → status ≡ status_of r → status ≤ 4
 statuses-from (Words text) status is = omega (arith, is)
@@ -246,6 +282,9 @@ statuses-from (HasErrors path) status is = omega (arith, is)
 statuses-from (NoZone path) status is = omega (arith, is)
 statuses-from UnknownStop status is = omega (arith, is)
 statuses-from UnknownRoute status is = omega (arith, is)
+statuses-from ZonesDiffer status is = omega (arith, is)
+statuses-from MergeTooLarge status is = omega (arith, is)
+statuses-from (Unwritable path) status is = omega (arith, is)
 statuses-from UntilBeforeFrom status is = omega (arith, is)
 statuses-from OutputFailed status is = omega (arith, is)
 statuses-from OutOfMemory status is = omega (arith, is)

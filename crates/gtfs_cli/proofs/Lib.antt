@@ -13,3 +13,10 @@ mod Opening
 mod Ended
 mod Tabled
 mod Untaken
+pub mod Sequences
+mod NamesTold
+mod Filed
+mod ReadBack
+mod Unmerged
+mod MergeEnded
+mod Unchecked

@@ -15,7 +15,7 @@ use Rattle.gtfs_cli.specs.Refusals.{IsCause, IsFirstBad, IsReadingCause}
 use Rattle.gtfs_cli.specs.Running.{after_of, first_bad, limit_of, moment_of, Failures, HasValues, HoldsPassing, HoldsTables, HoldsZone, Request, Setting}
 use Rattle.gtfs_cli.specs.declared.commands.moments.Moment.{Moment}
 use Rattle.gtfs_cli.specs.declared.commands.refusal.Refusal.{Refusal}
-use Rattle.gtfs_cli.specs.declared.commands.refusal.Refusal.TheVariants.{Words, BadValue, NotThere, Unreadable, OverLimit, HasErrors, NoZone, UnknownStop, UnknownRoute, UntilBeforeFrom, OutputFailed, OutOfMemory}
+use Rattle.gtfs_cli.specs.declared.commands.refusal.Refusal.TheVariants.{Words, BadValue, NotThere, Unreadable, OverLimit, HasErrors, NoZone, UnknownStop, UnknownRoute, UntilBeforeFrom, ZonesDiffer, MergeTooLarge, Unwritable, OutputFailed, OutOfMemory}
 use Rattle.gtfs_cli.specs.declared.commands.values.Values.{Values}
 
 -- nothing went out
@@ -35,6 +35,9 @@ first-bad-cause limit held asked before after (HasErrors path) h = absurd h
 first-bad-cause limit held asked before after (NoZone path) h = absurd h
 first-bad-cause limit held asked before after UnknownStop h = absurd h
 first-bad-cause limit held asked before after UnknownRoute h = absurd h
+first-bad-cause limit held asked before after ZonesDiffer h = absurd h
+first-bad-cause limit held asked before after MergeTooLarge h = absurd h
+first-bad-cause limit held asked before after (Unwritable path) h = absurd h
 first-bad-cause limit held asked before after UntilBeforeFrom h = absurd h
 first-bad-cause limit held asked before after OutputFailed h = absurd h
 first-bad-cause limit held asked before after OutOfMemory h = absurd h
@@ -63,6 +66,9 @@ none-out limit held asked x y (HasErrors path) old new h keeps = keeps
 none-out limit held asked x y (NoZone path) old new h keeps = keeps
 none-out limit held asked x y UnknownStop old new h keeps = keeps
 none-out limit held asked x y UnknownRoute old new h keeps = keeps
+none-out limit held asked x y ZonesDiffer old new h keeps = keeps
+none-out limit held asked x y MergeTooLarge old new h keeps = keeps
+none-out limit held asked x y (Unwritable path) old new h keeps = keeps
 none-out limit held asked x y UntilBeforeFrom old new h keeps = keeps
 none-out limit held asked x y OutputFailed old new h keeps = absurd (omega (arith, h (counts x) (counts y) (same x) (same y)))
 none-out limit held asked x y OutOfMemory old new h keeps = inl keeps
@@ -111,6 +117,9 @@ module _ (limit : ℕ) (held : Option Store) (asked : BoardTexts) (feed : Feed) 
   ends-of old new (NoZone path) e = e
   ends-of old new UnknownStop e = e
   ends-of old new UnknownRoute e = e
+  ends-of old new ZonesDiffer e = e
+  ends-of old new MergeTooLarge e = e
+  ends-of old new (Unwritable path) e = e
   ends-of old new UntilBeforeFrom e = e
   ends-of old new OutputFailed e = lists-of IsCutShort old new e
   ends-of old new OutOfMemory (inl e) = inl e
@@ -127,6 +136,9 @@ module _ (limit : ℕ) (held : Option Store) (asked : BoardTexts) (feed : Feed) 
   cause-of before after (NoZone path) e = absurd e
   cause-of before after UnknownStop e = (setting, subst (λ (f : Content). is_stop f asked.stop ≡ false) h.is_feed.1 e)
   cause-of before after UnknownRoute e = absurd e
+  cause-of before after ZonesDiffer e = absurd e
+  cause-of before after MergeTooLarge e = absurd e
+  cause-of before after (Unwritable path) e = absurd e
   cause-of before after UntilBeforeFrom e = (setting, subst (λ (f : Content). is_stop f asked.stop ≡ true) h.is_feed.1 e.0, e.1)
   cause-of before after OutputFailed e = e
   cause-of before after OutOfMemory e = tt
@@ -144,6 +156,9 @@ opening-ends f z stop r old new (HasErrors path) e keeps = absurd e
 opening-ends f z stop r old new (NoZone path) e keeps = absurd e
 opening-ends f z stop r old new UnknownStop e keeps = keeps
 opening-ends f z stop r old new UnknownRoute e keeps = absurd e
+opening-ends f z stop r old new ZonesDiffer e keeps = absurd e
+opening-ends f z stop r old new MergeTooLarge e keeps = absurd e
+opening-ends f z stop r old new (Unwritable path) e keeps = absurd e
 opening-ends f z stop r old new UntilBeforeFrom e keeps = keeps
 opening-ends f z stop r old new OutputFailed e keeps = absurd e
 opening-ends f z stop r old new OutOfMemory e keeps = inl keeps
@@ -159,6 +174,9 @@ opening-cause f z stop r before after (HasErrors path) e = e
 opening-cause f z stop r before after (NoZone path) e = e
 opening-cause f z stop r before after UnknownStop e = e
 opening-cause f z stop r before after UnknownRoute e = e
+opening-cause f z stop r before after ZonesDiffer e = e
+opening-cause f z stop r before after MergeTooLarge e = e
+opening-cause f z stop r before after (Unwritable path) e = e
 opening-cause f z stop r before after UntilBeforeFrom e = e
 opening-cause f z stop r before after OutputFailed e = absurd e
 opening-cause f z stop r before after OutOfMemory e = tt
@@ -176,6 +194,9 @@ feed-cause limit held dir before after d (HasErrors path) holds e = (e.0, (d, ho
 feed-cause limit held dir before after d (NoZone path) holds e = absurd e
 feed-cause limit held dir before after d UnknownStop holds e = absurd e
 feed-cause limit held dir before after d UnknownRoute holds e = absurd e
+feed-cause limit held dir before after d ZonesDiffer holds e = absurd e
+feed-cause limit held dir before after d MergeTooLarge holds e = absurd e
+feed-cause limit held dir before after d (Unwritable path) holds e = absurd e
 feed-cause limit held dir before after d UntilBeforeFrom holds e = absurd e
 feed-cause limit held dir before after d OutputFailed holds e = absurd e
 feed-cause limit held dir before after d OutOfMemory holds e = tt

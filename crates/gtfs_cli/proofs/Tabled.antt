@@ -24,7 +24,7 @@ use Rattle.gtfs_cli.specs.TimetableOptions.{IsTimetableRequest, TimetableRequest
 use Rattle.gtfs_cli.specs.TimetableRun.{IsTabled, IsTimetableRun, IsUntabled}
 use Rattle.gtfs_cli.specs.Timetables.{timetable_text, BeginsSheets, BeginsTimetable, EndsSheets, EndsTimetable, IsFirstBadTimetable, IsSheetsCause, IsTimetableCause, IsTimetableText, PrintsTimetable, TimetableSetting}
 use Rattle.gtfs_cli.specs.declared.commands.refusal.Refusal.{Refusal}
-use Rattle.gtfs_cli.specs.declared.commands.refusal.Refusal.TheVariants.{Words, BadValue, NotThere, Unreadable, OverLimit, HasErrors, NoZone, UnknownStop, UnknownRoute, UntilBeforeFrom, OutputFailed, OutOfMemory}
+use Rattle.gtfs_cli.specs.declared.commands.refusal.Refusal.TheVariants.{Words, BadValue, NotThere, Unreadable, OverLimit, HasErrors, NoZone, UnknownStop, UnknownRoute, UntilBeforeFrom, ZonesDiffer, MergeTooLarge, Unwritable, OutputFailed, OutOfMemory}
 use Rattle.gtfs_cli.proofs.Ended.{not_well, sends}
 use Rattle.gtfs_cli.proofs.Parts.{Leaves, one-cut}
 use Rattle.gtfs_cli.proofs.Printed.{kept}
@@ -42,6 +42,9 @@ bad-timetable-cause limit held asked before after (HasErrors path) h = absurd h
 bad-timetable-cause limit held asked before after (NoZone path) h = absurd h
 bad-timetable-cause limit held asked before after UnknownStop h = absurd h
 bad-timetable-cause limit held asked before after UnknownRoute h = absurd h
+bad-timetable-cause limit held asked before after ZonesDiffer h = absurd h
+bad-timetable-cause limit held asked before after MergeTooLarge h = absurd h
+bad-timetable-cause limit held asked before after (Unwritable path) h = absurd h
 bad-timetable-cause limit held asked before after UntilBeforeFrom h = absurd h
 bad-timetable-cause limit held asked before after OutputFailed h = absurd h
 bad-timetable-cause limit held asked before after OutOfMemory h = absurd h
@@ -57,6 +60,9 @@ bad-timetable-ends limit held asked old new (HasErrors path) h keeps = absurd h
 bad-timetable-ends limit held asked old new (NoZone path) h keeps = absurd h
 bad-timetable-ends limit held asked old new UnknownStop h keeps = absurd h
 bad-timetable-ends limit held asked old new UnknownRoute h keeps = absurd h
+bad-timetable-ends limit held asked old new ZonesDiffer h keeps = absurd h
+bad-timetable-ends limit held asked old new MergeTooLarge h keeps = absurd h
+bad-timetable-ends limit held asked old new (Unwritable path) h keeps = absurd h
 bad-timetable-ends limit held asked old new UntilBeforeFrom h keeps = absurd h
 bad-timetable-ends limit held asked old new OutputFailed h keeps = absurd h
 bad-timetable-ends limit held asked old new OutOfMemory h keeps = absurd h
@@ -76,6 +82,9 @@ none-tabled limit held asked x y (HasErrors path) old new h keeps = keeps
 none-tabled limit held asked x y (NoZone path) old new h keeps = keeps
 none-tabled limit held asked x y UnknownStop old new h keeps = keeps
 none-tabled limit held asked x y UnknownRoute old new h keeps = keeps
+none-tabled limit held asked x y ZonesDiffer old new h keeps = keeps
+none-tabled limit held asked x y MergeTooLarge old new h keeps = keeps
+none-tabled limit held asked x y (Unwritable path) old new h keeps = keeps
 none-tabled limit held asked x y UntilBeforeFrom old new h keeps = keeps
 none-tabled limit held asked x y OutputFailed old new h keeps = absurd (omega (arith, h (record { folders = x; output = 0 }) (record { folders = y; output = 0 }) (omega arith) (omega arith)))
 none-tabled limit held asked x y OutOfMemory old new h keeps = inl keeps
@@ -141,6 +150,9 @@ sending-cause f route before after (HasErrors path) h = absurd h
 sending-cause f route before after (NoZone path) h = absurd h
 sending-cause f route before after UnknownStop h = absurd h
 sending-cause f route before after UnknownRoute h = absurd h
+sending-cause f route before after ZonesDiffer h = absurd h
+sending-cause f route before after MergeTooLarge h = absurd h
+sending-cause f route before after (Unwritable path) h = absurd h
 sending-cause f route before after UntilBeforeFrom h = absurd h
 sending-cause f route before after OutputFailed h = h
 sending-cause f route before after OutOfMemory h = tt
@@ -156,6 +168,9 @@ sending-ends f route q x y old new (HasErrors path) h begun = absurd h
 sending-ends f route q x y old new (NoZone path) h begun = absurd h
 sending-ends f route q x y old new UnknownStop h begun = absurd h
 sending-ends f route q x y old new UnknownRoute h begun = absurd h
+sending-ends f route q x y old new ZonesDiffer h begun = absurd h
+sending-ends f route q x y old new MergeTooLarge h begun = absurd h
+sending-ends f route q x y old new (Unwritable path) h begun = absurd h
 sending-ends f route q x y old new UntilBeforeFrom h begun = absurd h
 sending-ends f route q x y old new OutputFailed h begun = begun
 sending-ends f route q x y old new OutOfMemory h begun = inr begun
@@ -178,6 +193,9 @@ no-sheets f route q old new (HasErrors path) h keeps = keeps
 no-sheets f route q old new (NoZone path) h keeps = keeps
 no-sheets f route q old new UnknownStop h keeps = keeps
 no-sheets f route q old new UnknownRoute h keeps = keeps
+no-sheets f route q old new ZonesDiffer h keeps = keeps
+no-sheets f route q old new MergeTooLarge h keeps = keeps
+no-sheets f route q old new (Unwritable path) h keeps = keeps
 no-sheets f route q old new UntilBeforeFrom h keeps = keeps
 no-sheets f route q old new OutputFailed h keeps = absurd (omega (arith, h 0 0))
 no-sheets f route q old new OutOfMemory h keeps = inl keeps
@@ -213,6 +231,9 @@ module _ (limit : ℕ) (held : Option Store) (asked : TimetableTexts) (feed : Fe
   tabled-ends old new (NoZone path) e = e
   tabled-ends old new UnknownStop e = e
   tabled-ends old new UnknownRoute e = e
+  tabled-ends old new ZonesDiffer e = e
+  tabled-ends old new MergeTooLarge e = e
+  tabled-ends old new (Unwritable path) e = e
   tabled-ends old new UntilBeforeFrom e = e
   tabled-ends old new OutputFailed e = begun-of old new e
   tabled-ends old new OutOfMemory (inl e) = inl e
@@ -229,6 +250,9 @@ module _ (limit : ℕ) (held : Option Store) (asked : TimetableTexts) (feed : Fe
   tabled-cause before after (NoZone path) e = absurd e
   tabled-cause before after UnknownStop e = absurd e
   tabled-cause before after UnknownRoute e = (tabled_setting, subst (λ (f : Content). is_route f asked.route ≡ false) h.is_feed.1 e)
+  tabled-cause before after ZonesDiffer e = absurd e
+  tabled-cause before after MergeTooLarge e = absurd e
+  tabled-cause before after (Unwritable path) e = absurd e
   tabled-cause before after UntilBeforeFrom e = absurd e
   tabled-cause before after OutputFailed e = e
   tabled-cause before after OutOfMemory e = tt

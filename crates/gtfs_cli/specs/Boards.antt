@@ -21,7 +21,7 @@ use Rattle.gtfs_words.specs.Words.{BoardTexts}
 use Rattle.gtfs_cli.specs.Refusals.{IsSound}
 use Rattle.gtfs_cli.specs.Running.{instant_at, HoldsTables, IsRequest, LiesBefore, Request, Setting}
 use Rattle.gtfs_cli.specs.declared.commands.refusal.Refusal.{Refusal}
-use Rattle.gtfs_cli.specs.declared.commands.refusal.Refusal.TheVariants.{Words, BadValue, NotThere, Unreadable, OverLimit, HasErrors, NoZone, UnknownStop, UnknownRoute, UntilBeforeFrom, OutputFailed, OutOfMemory}
+use Rattle.gtfs_cli.specs.declared.commands.refusal.Refusal.TheVariants.{Words, BadValue, NotThere, Unreadable, OverLimit, HasErrors, NoZone, UnknownStop, UnknownRoute, UntilBeforeFrom, ZonesDiffer, MergeTooLarge, Unwritable, OutputFailed, OutOfMemory}
 use Rattle.gtfs_cli.specs.declared.commands.values.Values.{Values}
 
 -- ---- of a feed, a zone and the values of the options
@@ -58,6 +58,9 @@ EndsLines f z stop r before after (HasErrors path) = Keeps before after
 EndsLines f z stop r before after (NoZone path) = Keeps before after
 EndsLines f z stop r before after UnknownStop = Keeps before after
 EndsLines f z stop r before after UnknownRoute = Keeps before after
+EndsLines f z stop r before after ZonesDiffer = Keeps before after
+EndsLines f z stop r before after MergeTooLarge = Keeps before after
+EndsLines f z stop r before after (Unwritable path) = Keeps before after
 EndsLines f z stop r before after UntilBeforeFrom = Keeps before after
 EndsLines f z stop r before after OutputFailed = OfBoard IsCutShort f z stop r before after
 EndsLines f z stop r before after OutOfMemory = Keeps before after ⊎ OfBoard IsStopped f z stop r before after
@@ -73,6 +76,9 @@ IsLinesCause f z stop r before after (HasErrors path) = ⊥
 IsLinesCause f z stop r before after (NoZone path) = ⊥
 IsLinesCause f z stop r before after UnknownStop = is_stop f stop ≡ false
 IsLinesCause f z stop r before after UnknownRoute = ⊥
+IsLinesCause f z stop r before after ZonesDiffer = ⊥
+IsLinesCause f z stop r before after MergeTooLarge = ⊥
+IsLinesCause f z stop r before after (Unwritable path) = ⊥
 IsLinesCause f z stop r before after UntilBeforeFrom = (is_stop f stop ≡ true) × LiesBefore z r
 IsLinesCause f z stop r before after OutputFailed = Rises before after
 IsLinesCause f z stop r before after OutOfMemory = ⊤
@@ -88,6 +94,9 @@ IsOpeningCause f z stop r (HasErrors path) = ⊥
 IsOpeningCause f z stop r (NoZone path) = ⊥
 IsOpeningCause f z stop r UnknownStop = is_stop f stop ≡ false
 IsOpeningCause f z stop r UnknownRoute = ⊥
+IsOpeningCause f z stop r ZonesDiffer = ⊥
+IsOpeningCause f z stop r MergeTooLarge = ⊥
+IsOpeningCause f z stop r (Unwritable path) = ⊥
 IsOpeningCause f z stop r UntilBeforeFrom = (is_stop f stop ≡ true) × LiesBefore z r
 IsOpeningCause f z stop r OutputFailed = ⊥
 IsOpeningCause f z stop r OutOfMemory = ⊤
@@ -113,6 +122,9 @@ EndsBoard limit held asked before after (HasErrors path) = Keeps before after
 EndsBoard limit held asked before after (NoZone path) = Keeps before after
 EndsBoard limit held asked before after UnknownStop = Keeps before after
 EndsBoard limit held asked before after UnknownRoute = Keeps before after
+EndsBoard limit held asked before after ZonesDiffer = Keeps before after
+EndsBoard limit held asked before after MergeTooLarge = Keeps before after
+EndsBoard limit held asked before after (Unwritable path) = Keeps before after
 EndsBoard limit held asked before after UntilBeforeFrom = Keeps before after
 EndsBoard limit held asked before after OutputFailed = Lists IsCutShort limit held asked before after
 EndsBoard limit held asked before after OutOfMemory = Keeps before after ⊎ Lists IsStopped limit held asked before after
@@ -140,6 +152,9 @@ IsFeedCause d dir (HasErrors path) = (path.now ≡ dir) × (Passes d → ⊥)
 IsFeedCause d dir (NoZone path) = ⊥
 IsFeedCause d dir UnknownStop = ⊥
 IsFeedCause d dir UnknownRoute = ⊥
+IsFeedCause d dir ZonesDiffer = ⊥
+IsFeedCause d dir MergeTooLarge = ⊥
+IsFeedCause d dir (Unwritable path) = ⊥
 IsFeedCause d dir UntilBeforeFrom = ⊥
 IsFeedCause d dir OutputFailed = ⊥
 IsFeedCause d dir OutOfMemory = ⊤

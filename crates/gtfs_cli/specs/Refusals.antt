@@ -7,12 +7,13 @@ use Rattle.gtfs_table.specs.Folder.{Store}
 use Rattle.gtfs_table.specs.declared.folders.FolderFault.{FolderFault}
 use Rattle.gtfs_table.specs.declared.folders.FolderFault.TheVariants as faults
 use Rattle.gtfs_words.specs.Words.{AreForHelp, AreRefused, BoardTexts}
-use Rattle.gtfs_cli.specs.Running.{first_bad, AsksCheck, AsksFor, AsksTimetable, EndsBeforeItBegins, Failures, HasValues, HoldsErrors, HoldsFile, HoldsKeptFile, HoldsNoZone, HoldsPassing, LacksFeed, LacksFile, LacksStop, NamesNoFile}
+use Rattle.gtfs_cli.specs.Running.{first_bad, AsksCheck, AsksFor, AsksMerge, AsksTimetable, EndsBeforeItBegins, Failures, HasValues, HoldsErrors, HoldsFile, HoldsKeptFile, HoldsNoZone, HoldsPassing, LacksFeed, LacksFile, LacksStop, NamesNoFile}
+use Rattle.gtfs_cli.specs.Merges.{IsMergeCause}
 use Rattle.gtfs_cli.specs.Timetables.{IsTimetableCause}
 use Rattle.gtfs_cli.specs.declared.commands.moments.Moment.{Moment}
 use Rattle.gtfs_cli.specs.declared.commands.moments.Moment.TheVariants.{Instant, ServiceDay}
 use Rattle.gtfs_cli.specs.declared.commands.refusal.Refusal.{Refusal}
-use Rattle.gtfs_cli.specs.declared.commands.refusal.Refusal.TheVariants.{Words, BadValue, NotThere, Unreadable, OverLimit, HasErrors, NoZone, UnknownStop, UnknownRoute, UntilBeforeFrom, OutputFailed, OutOfMemory}
+use Rattle.gtfs_cli.specs.declared.commands.refusal.Refusal.TheVariants.{Words, BadValue, NotThere, Unreadable, OverLimit, HasErrors, NoZone, UnknownStop, UnknownRoute, UntilBeforeFrom, ZonesDiffer, MergeTooLarge, Unwritable, OutputFailed, OutOfMemory}
 
 abbrev pub status_of : Refusal → ℕ
 status_of (Words text) = 2
@@ -24,6 +25,9 @@ status_of (HasErrors path) = 1
 status_of (NoZone path) = 3
 status_of UnknownStop = 1
 status_of UnknownRoute = 1
+status_of ZonesDiffer = 1
+status_of MergeTooLarge = 1
+status_of (Unwritable path) = 3
 status_of UntilBeforeFrom = 2
 status_of OutputFailed = 3
 status_of OutOfMemory = 4
@@ -47,6 +51,9 @@ IsCause limit held asked before after (NoZone path) =
     HasValues asked × (path.now ≡ asked.zone) × HoldsPassing limit held asked.dir × HoldsNoZone limit held asked.zone
 IsCause limit held asked before after UnknownStop = LacksStop limit held asked
 IsCause limit held asked before after UnknownRoute = ⊥
+IsCause limit held asked before after ZonesDiffer = ⊥
+IsCause limit held asked before after MergeTooLarge = ⊥
+IsCause limit held asked before after (Unwritable path) = ⊥
 IsCause limit held asked before after UntilBeforeFrom = EndsBeforeItBegins limit held asked
 IsCause limit held asked before after OutputFailed = Rises before.output after.output
 IsCause limit held asked before after OutOfMemory = ⊤
@@ -62,6 +69,9 @@ IsCheckCause limit held dir before after (HasErrors path) = ⊥
 IsCheckCause limit held dir before after (NoZone path) = ⊥
 IsCheckCause limit held dir before after UnknownStop = ⊥
 IsCheckCause limit held dir before after UnknownRoute = ⊥
+IsCheckCause limit held dir before after ZonesDiffer = ⊥
+IsCheckCause limit held dir before after MergeTooLarge = ⊥
+IsCheckCause limit held dir before after (Unwritable path) = ⊥
 IsCheckCause limit held dir before after UntilBeforeFrom = ⊥
 IsCheckCause limit held dir before after OutputFailed = Rises before.output after.output
 IsCheckCause limit held dir before after OutOfMemory = ⊤
@@ -77,6 +87,9 @@ IsReadingCause limit held dir before after (HasErrors path) = (path.now ≡ dir)
 IsReadingCause limit held dir before after (NoZone path) = ⊥
 IsReadingCause limit held dir before after UnknownStop = ⊥
 IsReadingCause limit held dir before after UnknownRoute = ⊥
+IsReadingCause limit held dir before after ZonesDiffer = ⊥
+IsReadingCause limit held dir before after MergeTooLarge = ⊥
+IsReadingCause limit held dir before after (Unwritable path) = ⊥
 IsReadingCause limit held dir before after UntilBeforeFrom = ⊥
 IsReadingCause limit held dir before after OutputFailed = ⊥
 IsReadingCause limit held dir before after OutOfMemory = ⊤
@@ -92,6 +105,9 @@ IsCauseInWords texts before after (HasErrors path) = ⊥
 IsCauseInWords texts before after (NoZone path) = ⊥
 IsCauseInWords texts before after UnknownStop = ⊥
 IsCauseInWords texts before after UnknownRoute = ⊥
+IsCauseInWords texts before after ZonesDiffer = ⊥
+IsCauseInWords texts before after MergeTooLarge = ⊥
+IsCauseInWords texts before after (Unwritable path) = ⊥
 IsCauseInWords texts before after UntilBeforeFrom = ⊥
 IsCauseInWords texts before after OutputFailed = AreForHelp texts × Rises before after
 IsCauseInWords texts before after OutOfMemory = ⊤
@@ -101,7 +117,8 @@ abbrev pub IsCauseOf : List Text → ℕ → Option Store → Failures → Failu
 IsCauseOf texts limit held before after refusal =
     IsCauseInWords texts before.output after.output refusal
     ⊎ (AsksCheck texts (λ dir. IsCheckCause limit held dir before after refusal) ⊎ (AsksFor texts (λ asked. IsCause limit held asked before after refusal)
-    ⊎ AsksTimetable texts (λ asked. IsTimetableCause limit held asked before after refusal)))
+    ⊎ (AsksTimetable texts (λ asked. IsTimetableCause limit held asked before after refusal)
+    ⊎ AsksMerge texts (λ asked. IsMergeCause limit held asked before after refusal))))
 
 -- why the file of a path is not read
 abbrev pub IsFileCause : ℕ → Option Store → List ℕ → Failures → Failures → FolderFault → Type 0
@@ -127,6 +144,9 @@ IsFirstBad asked (HasErrors path) = ⊥
 IsFirstBad asked (NoZone path) = ⊥
 IsFirstBad asked UnknownStop = ⊥
 IsFirstBad asked UnknownRoute = ⊥
+IsFirstBad asked ZonesDiffer = ⊥
+IsFirstBad asked MergeTooLarge = ⊥
+IsFirstBad asked (Unwritable path) = ⊥
 IsFirstBad asked UntilBeforeFrom = ⊥
 IsFirstBad asked OutputFailed = ⊥
 IsFirstBad asked OutOfMemory = ⊥

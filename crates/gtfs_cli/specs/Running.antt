@@ -24,11 +24,12 @@ use Rattle.gtfs_board.specs.Key.{Key}
 use Rattle.gtfs_board.specs.KeyTexts.{key_of}
 use Rattle.gtfs_cli.specs.Options.{first_of_bad}
 use Rattle.gtfs_cli.specs.TimetableOptions.{HasBadTimetableValue}
-use Rattle.gtfs_words.specs.Words.{gtfs_app, texts_of, timetable_texts_of, AreRefused, BoardTexts, IsCommandOf, TimetableTexts}
+use Rattle.gtfs_words.specs.Words.{gtfs_app, texts_of, timetable_texts_of, AreRefused, BoardTexts, IsCommandOf, MergeTexts, TimetableTexts, merge_texts_of}
 use Rattle.gtfs_cli.specs.declared.commands.moments.Moment.{Moment}
 use Rattle.gtfs_cli.specs.declared.commands.moments.Moment.TheVariants.{Instant, ServiceDay}
 use Rattle.gtfs_words.specs.declared.command.BoardWords.{BoardWords}
-use Rattle.gtfs_words.specs.declared.command.Command.TheVariants.{Board, Check, Timetable}
+use Rattle.gtfs_words.specs.declared.command.Command.TheVariants.{Board, Check, Merge, Timetable}
+use Rattle.gtfs_words.specs.declared.command.MergeWords.{MergeWords}
 use Rattle.gtfs_words.specs.declared.command.TimetableWords.{TimetableWords}
 
 -- ---- the values of `--from` and `--until`
@@ -223,6 +224,13 @@ pub record AsksTimetable (texts : List Text) (Fact : TimetableTexts → Type 0) 
   pub asks : IsCommandOf (subcommand_of gtfs_app texts) (Timetable words)
   pub fact : Fact (timetable_texts_of words)
 
+-- `clap` takes the words, they ask for a merge, and this is so of them
+pub record AsksMerge (texts : List Text) (Fact : MergeTexts → Type 0) : Type 0 where
+  pub words : MergeWords
+  pub taken : takes gtfs_app texts ≡ true
+  pub asks : IsCommandOf (subcommand_of gtfs_app texts) (Merge words)
+  pub fact : Fact (merge_texts_of words)
+
 -- `clap` does not take the words, which do not ask for help, or a value is bad, or until lies before from
 abbrev pub IsBadUsage : List Text → ℕ → Option Store → Type 0
 IsBadUsage texts limit held =
@@ -240,14 +248,18 @@ KeepsFromReading limit held asked =
     LacksFeed held asked.dir ⊎ (HoldsKeptFile limit held asked.dir ⊎ (LacksFile held asked.zone
     ⊎ (NamesNoFile asked.zone ⊎ (HoldsFile limit held asked.zone ⊎ HoldsNoZone limit held asked.zone))))
 
+-- and for a merge; no folder that is written has an empty name
+abbrev pub KeepsFromMerging : ℕ → Option Store → MergeTexts → Type 0
+KeepsFromMerging limit held asked = KeepsFromChecking limit held asked.a ⊎ (KeepsFromChecking limit held asked.b ⊎ (asked.out ≡ []))
+
 -- counts of failures, of the folders and of the output
 pub record Failures : Type 0 where
   pub folders : ℕ
   pub output : ℕ
 
--- the folders or the output failed, or what the folders hold keeps the words from their check, their board or their timetable
+-- the folders or the output failed, or what the folders hold keeps the words from their check, their board, their timetable or their merge
 abbrev pub IsDeviceFault : List Text → ℕ → Option Store → Failures → Failures → Type 0
 IsDeviceFault texts limit held before after =
     (Rises before.folders after.folders ⊎ Rises before.output after.output)
     ⊎ (AsksCheck texts (KeepsFromChecking limit held) ⊎ (AsksFor texts (KeepsFromReading limit held)
-    ⊎ AsksTimetable texts (λ asked. KeepsFromChecking limit held asked.dir)))
+    ⊎ (AsksTimetable texts (λ asked. KeepsFromChecking limit held asked.dir) ⊎ AsksMerge texts (KeepsFromMerging limit held))))

@@ -14,7 +14,7 @@ use Rattle.gtfs_cli.specs.Running.{Failures, HoldsErrors, HoldsKeptFile, HoldsTa
 use Rattle.gtfs_cli.specs.Sending.{SendsBeginning}
 use Rattle.gtfs_cli.specs.TimetableOptions.{first_bad_timetable, HasTimetableValues, IsTimetableRequest, TimetableRequest}
 use Rattle.gtfs_cli.specs.declared.commands.refusal.Refusal.{Refusal}
-use Rattle.gtfs_cli.specs.declared.commands.refusal.Refusal.TheVariants.{Words, BadValue, NotThere, Unreadable, OverLimit, HasErrors, NoZone, UnknownStop, UnknownRoute, UntilBeforeFrom, OutputFailed, OutOfMemory}
+use Rattle.gtfs_cli.specs.declared.commands.refusal.Refusal.TheVariants.{Words, BadValue, NotThere, Unreadable, OverLimit, HasErrors, NoZone, UnknownStop, UnknownRoute, UntilBeforeFrom, ZonesDiffer, MergeTooLarge, Unwritable, OutputFailed, OutOfMemory}
 use Rattle.gtfs_cli.specs.declared.commands.timetable_values.TimetableValues.{TimetableValues}
 
 -- ---- the values of the options
@@ -69,6 +69,9 @@ EndsTimetable limit held asked before after (HasErrors path) = Keeps before afte
 EndsTimetable limit held asked before after (NoZone path) = Keeps before after
 EndsTimetable limit held asked before after UnknownStop = Keeps before after
 EndsTimetable limit held asked before after UnknownRoute = Keeps before after
+EndsTimetable limit held asked before after ZonesDiffer = Keeps before after
+EndsTimetable limit held asked before after MergeTooLarge = Keeps before after
+EndsTimetable limit held asked before after (Unwritable path) = Keeps before after
 EndsTimetable limit held asked before after UntilBeforeFrom = Keeps before after
 EndsTimetable limit held asked before after OutputFailed = BeginsTimetable limit held asked before after
 EndsTimetable limit held asked before after OutOfMemory = Keeps before after ⊎ BeginsTimetable limit held asked before after
@@ -86,6 +89,9 @@ IsTimetableCause limit held asked before after (HasErrors path) = HasTimetableVa
 IsTimetableCause limit held asked before after (NoZone path) = ⊥
 IsTimetableCause limit held asked before after UnknownStop = ⊥
 IsTimetableCause limit held asked before after UnknownRoute = LacksRoute limit held asked
+IsTimetableCause limit held asked before after ZonesDiffer = ⊥
+IsTimetableCause limit held asked before after MergeTooLarge = ⊥
+IsTimetableCause limit held asked before after (Unwritable path) = ⊥
 IsTimetableCause limit held asked before after UntilBeforeFrom = ⊥
 IsTimetableCause limit held asked before after OutputFailed = Rises before.output after.output
 IsTimetableCause limit held asked before after OutOfMemory = ⊤
@@ -103,6 +109,9 @@ IsFirstBadTimetable asked (HasErrors path) = ⊥
 IsFirstBadTimetable asked (NoZone path) = ⊥
 IsFirstBadTimetable asked UnknownStop = ⊥
 IsFirstBadTimetable asked UnknownRoute = ⊥
+IsFirstBadTimetable asked ZonesDiffer = ⊥
+IsFirstBadTimetable asked MergeTooLarge = ⊥
+IsFirstBadTimetable asked (Unwritable path) = ⊥
 IsFirstBadTimetable asked UntilBeforeFrom = ⊥
 IsFirstBadTimetable asked OutputFailed = ⊥
 IsFirstBadTimetable asked OutOfMemory = ⊥
@@ -118,6 +127,9 @@ IsSheetsCause f route before after (HasErrors path) = ⊥
 IsSheetsCause f route before after (NoZone path) = ⊥
 IsSheetsCause f route before after UnknownStop = ⊥
 IsSheetsCause f route before after UnknownRoute = is_route f route ≡ false
+IsSheetsCause f route before after ZonesDiffer = ⊥
+IsSheetsCause f route before after MergeTooLarge = ⊥
+IsSheetsCause f route before after (Unwritable path) = ⊥
 IsSheetsCause f route before after UntilBeforeFrom = ⊥
 IsSheetsCause f route before after OutputFailed = Rises before after
 IsSheetsCause f route before after OutOfMemory = ⊤
@@ -137,6 +149,9 @@ EndsSheets f route r before after (HasErrors path) = Keeps before after
 EndsSheets f route r before after (NoZone path) = Keeps before after
 EndsSheets f route r before after UnknownStop = Keeps before after
 EndsSheets f route r before after UnknownRoute = Keeps before after
+EndsSheets f route r before after ZonesDiffer = Keeps before after
+EndsSheets f route r before after MergeTooLarge = Keeps before after
+EndsSheets f route r before after (Unwritable path) = Keeps before after
 EndsSheets f route r before after UntilBeforeFrom = Keeps before after
 EndsSheets f route r before after OutputFailed = BeginsSheets f route r before after
 EndsSheets f route r before after OutOfMemory = Keeps before after ⊎ BeginsSheets f route r before after

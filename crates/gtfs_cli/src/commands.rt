@@ -4,7 +4,8 @@ ghost use Rattle.std.specs.Io.KnownBytes.{Keeps};
 ghost use Rattle.clap.specs.Words.{Text, takes};
 ghost use Rattle.gtfs_cli.specs.Checking.{IsReportOf};
 ghost use Rattle.gtfs_cli.specs.BoardRun.{IsBoardRun, IsListed, IsUnlisted};
-ghost use Rattle.gtfs_words.specs.Words.{gtfs_app, no_memory, AreRefused, AsksBoardOf, AsksCheckOf, AsksTimetableOf, BoardTexts, IsFaultOf, TimetableTexts};
+ghost use Rattle.gtfs_words.specs.Words.{gtfs_app, no_memory, AreRefused, AsksBoardOf, AsksCheckOf, AsksTimetableOf, BoardTexts, IsFaultOf, TimetableTexts, AsksMergeOf, MergeTexts};
+ghost use Rattle.gtfs_cli.specs.MergeRun.{AsksNoMerge, IsMerged, IsMergeRun, IsUnmerged};
 ghost use Rattle.gtfs_cli.specs.TimetableRun.{IsTabled, IsTimetableRun, IsUntabled};
 ghost use Rattle.gtfs_cli.specs.CheckRun.{IsCheckRun, IsCheckTold, IsCutShort};
 ghost use Rattle.gtfs_cli.specs.Running.{IsBadUsage, IsDeviceFault};
@@ -16,8 +17,10 @@ mod board;
 mod check;
 mod feed;
 mod folder;
+mod merge;
 mod messages;
 mod moments;
+mod names;
 mod paths;
 mod refusal;
 mod timetable;
@@ -39,20 +42,25 @@ use std::hash::RandomState;
 /// changes nothing.
 ///
 /// The words are judged first, then the values of the options in the order of the usage, then the folder, its feed, the
-/// zone file, the stop and the span, or the route.
+/// zone file, the stop and the span, or the route. A merge judges its first folder and the feed in it, then the second
+/// folder and its feed, and then the zones of both and the length of the files to be written.
 ///
 /// - 0: done.
-/// - 1: the feed has errors, or no stop or route of that id.
+/// - 1: the feed, or one of two, has errors, or no stop or route of that id; the zones of two feeds have different names, or
+///   a file of the merged feed would be longer than 1,073,741,824 bytes.
 /// - 2: `clap` does not take the words, the value of `--from` or `--until` is neither `@` and an instant nor a service day,
 ///   that of `--limit` is no count, that of `--after` is no key, that of `--date` is no date, that of `--direction` is
 ///   neither 0 nor 1, or the board would end before it begins.
 /// - 3: the folder, the zone file or its folder is not there, cannot be read or holds a file over the limit, the zone file
-///   is none, or the output failed.
+///   is none, the folder of the merged feed or a file in it cannot be written, or the output failed.
 /// - 4: memory ran out.
 ///
 /// A check ends with 0 or 1 only where its whole report went out, and else with what went out of it before. A board ends
 /// with 0 only where a page of it went out: all its lines, or as many as `--limit` says. A timetable ends with 0 only where
-/// the text of all its sheets went out. What is printed does not depend on the random state.
+/// the text of all its sheets went out. A merge ends with 0 only where all nine files of the merged feed were written and
+/// then its whole report went out: the written folder passes the validator and has every departure and every board of
+/// both feeds, those of joined trips once. Where a file could not be written, those before it were and no later one.
+/// Nothing is written but by a merge. What is printed does not depend on the random state.
 pub fn run<S: AsStr, F: Folders, O: Out, E: Out>(
     alloc: Global,
     random: RandomState,
@@ -97,8 +105,16 @@ pub fn run<S: AsStr, F: Folders, O: Out, E: Out>(
         (O.told out.old) (O.told out.new)
         (record { told = E.told err.old; failures = E.failure_count err.old })
         (record { told = E.told err.new; failures = E.failure_count err.new }) result }
+    ensures merged { (asked : MergeTexts) → AsksMergeOf (map S.text words.now) asked
+        → IsMergeRun (F.limit folders.old) (F.held folders.old) asked
+        (record { folders = F.failure_count folders.old; output = O.failure_count out.old })
+        (record { folders = F.failure_count folders.new; output = O.failure_count out.new })
+        (F.held folders.new) (O.told out.old) (O.told out.new)
+        (record { told = E.told err.old; failures = E.failure_count err.old })
+        (record { told = E.told err.new; failures = E.failure_count err.new }) result }
     ensures statuses { result ≤ 4 }
-    ensures unchanged { F.held folders.new ≡ F.held folders.old }
+    ensures unchanged { AsksNoMerge (map S.text words.now)
+        → F.held folders.new ≡ F.held folders.old }
     ensures folders_grow { F.failure_count folders.old ≤ F.failure_count folders.new }
     ensures output_grows { O.failure_count out.old ≤ O.failure_count out.new }
 {
@@ -159,7 +175,16 @@ fn command<'w, S: AsStr, F: Folders, O: Out>(
         (O.told out.new) }
     ensures untouched { takes gtfs_app (map S.text words.entry.now) ≡ false
         → F.failure_count folders.new ≡ F.failure_count folders.old }
-    ensures unchanged { F.held folders.new ≡ F.held folders.old }
+    ensures merged { (asked : MergeTexts) → AsksMergeOf (map S.text words.entry.now) asked
+        → IfOk result (IsMerged (F.limit folders.old) (F.held folders.old) asked
+        (F.held folders.new) (O.told out.old) (O.told out.new)) }
+    ensures unmerged { (asked : MergeTexts) → AsksMergeOf (map S.text words.entry.now) asked
+        → IfErr result (IsUnmerged (F.limit folders.old) (F.held folders.old) asked
+        (record { folders = F.failure_count folders.old; output = O.failure_count out.old })
+        (record { folders = F.failure_count folders.new; output = O.failure_count out.new })
+        (F.held folders.new) (O.told out.old) (O.told out.new)) }
+    ensures unchanged { AsksNoMerge (map S.text words.entry.now)
+        → F.held folders.new ≡ F.held folders.old }
     ensures folders_grow { F.failure_count folders.old ≤ F.failure_count folders.new }
     ensures output_grows { O.failure_count out.old ≤ O.failure_count out.new }
 {
@@ -171,6 +196,10 @@ fn command<'w, S: AsStr, F: Folders, O: Out>(
         }
         Ok(Command::Timetable(given)) => {
             timetable::print_timetable(alloc, random, &given, folders, out)?;
+            Ok(false)
+        }
+        Ok(Command::Merge(given)) => {
+            merge::print_merge(alloc, random, &given, folders, out)?;
             Ok(false)
         }
         Err(fault) => answer_fault(fault, out),

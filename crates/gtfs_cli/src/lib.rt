@@ -4,9 +4,10 @@
 //! hands in, and answers the status with which the program is to end:
 //!
 //! - 0: done;
-//! - 1: the feed has errors, or no stop or route of that id;
+//! - 1: the feed has errors, or no stop or route of that id, or two feeds cannot be merged;
 //! - 2: the words are not as the usage wants them, the value of an option is bad, or a board would end before it begins;
-//! - 3: a folder or a file is not there, cannot be read or is over the limit, a zone file is none, or the output failed;
+//! - 3: a folder or a file is not there, cannot be read or is over the limit, a zone file is none, a folder cannot be written, or the
+//!   output failed;
 //! - 4: memory ran out.
 //!
 //! `gtfs check DIR` prints what is wrong with the feed in a folder.
@@ -18,6 +19,9 @@
 //!
 //! `gtfs timetable DIR --route ID --date D [--direction 0|1]` prints the runs of a route on a date, a sheet for each direction and
 //! list of stops. D is a date YYYYMMDD, one without service included.
+//!
+//! `gtfs merge A B OUT` merges the feeds of two folders into a third, which may be one of the two, and prints which ids changed
+//! and how many are joined.
 //!
 //! Where a command cannot be done, one line on the error output says why.
 //!

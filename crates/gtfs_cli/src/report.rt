@@ -1,8 +1,11 @@
-//! The text of a report: a line for each problem, and one with their counts.
+//! Texts of reports: of a check, a line for each problem and one with their counts, and of a merge, a line for each id
+//! that changes and one for each kind.
 mod counts;
 mod line;
 mod pieces;
 mod plain;
+mod renamed;
 
 pub(crate) use counts::push_counts;
 pub(crate) use line::push_problem;
+pub(crate) use renamed::{push_joined, push_renamed};

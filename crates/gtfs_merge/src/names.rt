@@ -2,7 +2,7 @@ ghost use Rattle.std.specs.Prelude.{◌≡◌, ◌∷◌, ◌++◌, [], ℕ, Lis
 ghost use Rattle.gtfs_feed.specs.Content.{content_of};
 ghost use Rattle.gtfs_merge.specs.Joined.{joined_rows};
 ghost use Rattle.gtfs_merge.specs.Names.{AreApart, in_kind, kind_names, new_id, of_side};
-ghost use Rattle.gtfs_merge.specs.Renaming.{is_joined, joined_ids, name_of, names_a, names_b, never_near};
+ghost use Rattle.gtfs_merge.specs.Renaming.{ids, is_joined, joined_ids, name_of, names_a, names_b, never_near};
 ghost use Rattle.gtfs_merge.specs.declared.kind.Kind.{Kind as KindOf};
 ghost use Rattle.gtfs_merge.specs.declared.kind.Side.{Side as SideOf};
 ghost use Rattle.gtfs_merge.specs.declared.kind.Kind.TheVariants as kind;
@@ -68,6 +68,10 @@ impl Names {
         a: &Feed,
         b: &Feed,
     ) -> Result<Names, OutOfMemory>
+        ensures ids_a { IfOk result (λ names. (kind : KindOf) → (in_kind names kind).a.ids
+            ≡ ids kind (content_of a.now)) }
+        ensures ids_b { IfOk result (λ names. (kind : KindOf) → (in_kind names kind).b.ids
+            ≡ ids kind (content_of b.now)) }
         ensures a { IfOk result (λ names. (kind : KindOf) (id : List ℕ) → new_id (in_kind names kind).a id
             ≡ name_of (names_a (content_of a.now) (content_of b.now)) kind (content_of a.now) id) }
         ensures b { IfOk result (λ names. (kind : KindOf) (id : List ℕ) → new_id (in_kind names kind).b id
@@ -91,6 +95,10 @@ impl Names {
         joined: &Joined,
     ) -> Result<Names, OutOfMemory>
         requires { joined.now ≡ joined_rows a.now b.now }
+        ensures ids_a { IfOk result (λ names. (kind : KindOf) → (in_kind names kind).a.ids
+            ≡ ids kind (content_of a.now)) }
+        ensures ids_b { IfOk result (λ names. (kind : KindOf) → (in_kind names kind).b.ids
+            ≡ ids kind (content_of b.now)) }
         ensures a { IfOk result (λ names. (kind : KindOf) (id : List ℕ) → new_id (in_kind names kind).a id
             ≡ name_of (names_a (content_of a.now) (content_of b.now)) kind (content_of a.now) id) }
         ensures b { IfOk result (λ names. (kind : KindOf) (id : List ℕ) → new_id (in_kind names kind).b id
@@ -126,6 +134,17 @@ impl Names {
         match side {
             Side::A => names.a.name(id),
             Side::B => names.b.name(id),
+        }
+    }
+
+    /// The ids of a kind that a feed has, by their bytes.
+    pub fn ids(&self, side: Side, kind: Kind) -> &[String]
+        ensures { map string_bytes result.now ≡ (of_side (in_kind self.now kind) side).ids }
+    {
+        let names = self.kind(kind);
+        match side {
+            Side::A => names.a.ids(),
+            Side::B => names.b.ids(),
         }
     }
 

@@ -1,4 +1,4 @@
-ghost use Rattle.std.specs.Prelude.{◌≡◌, [], ◌∷◌, ◌++◌, IfOk, OnOk, bytes_eq, false, option_map, string_bytes};
+ghost use Rattle.std.specs.Prelude.{◌≡◌, [], ◌∷◌, ◌++◌, IfOk, OnOk, bytes_eq, false, map, option_map, string_bytes};
 ghost use Rattle.std.specs.List.{list_any};
 ghost use Rattle.gtfs_feed.specs.Content.{content_of};
 ghost use Rattle.gtfs_merge.specs.Joined.{joined_rows};
@@ -83,6 +83,13 @@ impl Renamed {
             ids.push(String::from_str(alloc, id)?, name)?;
         }
         Ok(ids)
+    }
+
+    // The ids, by number.
+    pub(crate) fn ids(&self) -> &[String]
+        ensures { map string_bytes result.now ≡ self.now.ids }
+    {
+        self.ids.as_slice()
     }
 
     // What an id became, None where it is not there.

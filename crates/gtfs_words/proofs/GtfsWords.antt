@@ -9,8 +9,8 @@ use Rattle.clap.specs.Walk.{answers_to, nothing_held, rows_after, walk}
 use Rattle.clap.specs.declared.error.kind.ErrorKind.{ErrorKind}
 use Rattle.clap.specs.declared.error.kind.ErrorKind.TheVariants as kind
 use Rattle.clap.specs.declared.parser.matches.ArgMatches.{ArgMatches}
-use Rattle.gtfs_words.specs.Asked.{HasBoard, HasCheck, HasTimetable, IsWhole}
-use Rattle.gtfs_words.specs.CommandLine.{board_app, check_app, gtfs_app, timetable_app}
+use Rattle.gtfs_words.specs.Asked.{HasBoard, HasCheck, HasMerge, HasTimetable, IsWhole}
+use Rattle.gtfs_words.specs.CommandLine.{board_app, check_app, gtfs_app, merge_app, timetable_app}
 use Rattle.gtfs_words.specs.Untaken.{no_memory, IsFaultOf, IsToldOf}
 use Rattle.gtfs_words.specs.declared.fault.WordsFault.{WordsFault}
 use Rattle.gtfs_words.specs.declared.fault.WordsFault.TheVariants as fault
@@ -38,8 +38,11 @@ board_built = below board_app
 abbrev timetable_built : Shape
 timetable_built = below timetable_app
 
-are_three : (built gtfs_app).subs ≡ check_built ∷ board_built ∷ timetable_built ∷ []
-are_three = refl
+abbrev merge_built : Shape
+merge_built = below merge_app
+
+are_four : (built gtfs_app).subs ≡ check_built ∷ board_built ∷ timetable_built ∷ merge_built ∷ []
+are_four = refl
 
 -- where nothing required is wanting, the id of `check` has a text
 has_check : (rows : List Row) → are_filled rows ≡ true → (take.is_given (codes "DIR") rows && true) ≡ true → HasCheck rows
@@ -84,35 +87,59 @@ has_timetable rows filled all =
       date = given_text (codes "date") rows filled dates.0;
     }
 
+-- and each id of `merge`
+has_merge : (rows : List Row) → are_filled rows ≡ true
+    → (take.is_given (codes "A") rows && (take.is_given (codes "B") rows && (take.is_given (codes "OUT") rows && true))) ≡ true
+    → HasMerge rows
+has_merge rows filled all =
+    let out = take.is_given (codes "OUT") rows && true in
+    let second = take.is_given (codes "B") rows && out in
+    let firsts = both (take.is_given (codes "A") rows) second all in
+    let seconds = both (take.is_given (codes "B") rows) out firsts.1 in
+    let outs = both (take.is_given (codes "OUT") rows) true seconds.1 in
+    record {
+      a = given_text (codes "A") rows filled firsts.0;
+      b = given_text (codes "B") rows filled seconds.0;
+      out = given_text (codes "OUT") rows filled outs.0;
+    }
+
 entered_whole : (stop : Option (Text × List Text)) → take.entered_passes (built gtfs_app) stop ≡ true → is_some (entered (built gtfs_app) stop) ≡ true
     → IsWhole (entered (built gtfs_app) stop)
 entered_whole None passes has = cc
 entered_whole (Some p) passes has =
-    go (answers_to p.0 (label_of check_built)) (answers_to p.0 (label_of board_built)) (answers_to p.0 (label_of timetable_built)) passes has
+    go (answers_to p.0 (label_of check_built)) (answers_to p.0 (label_of board_built)) (answers_to p.0 (label_of timetable_built))
+    (answers_to p.0 (label_of merge_built)) passes has
   where
-    named : Bool → Bool → Bool → Option Shape
-    named checks boards timetables =
-        if checks then Some check_built else (if boards then Some board_built else (if timetables then Some timetable_built else None))
+    named : Bool → Bool → Bool → Bool → Option Shape
+    named checks boards timetables merges =
+        if checks then Some check_built else (if boards then Some board_built
+        else (if timetables then Some timetable_built else (if merges then Some merge_built else None)))
 
-    go : (checks boards timetables : Bool)
-        → option_map_or (λ s. take.level_passes s [] nothing_held p.1 false) (named checks boards timetables) true ≡ true
-        → is_some (option_map (λ s. rows_at s p.1) (named checks boards timetables)) ≡ true
-        → IsWhole (option_map (λ s. rows_at s p.1) (named checks boards timetables))
-    go true boards timetables passes has =
+    go : (checks boards timetables merges : Bool)
+        → option_map_or (λ s. take.level_passes s [] nothing_held p.1 false) (named checks boards timetables merges) true ≡ true
+        → is_some (option_map (λ s. rows_at s p.1) (named checks boards timetables merges)) ≡ true
+        → IsWhole (option_map (λ s. rows_at s p.1) (named checks boards timetables merges))
+    go true boards timetables merges passes has =
         inl (refl, has_check (rows_after check_built.rules [] p.1) (level_filled check_built [] p.1 false refl passes) (level_given check_built [] p.1 passes))
-    go false true timetables passes has =
+    go false true timetables merges passes has =
         inr (inl (
           refl,
           has_board (rows_after board_built.rules [] p.1) (level_filled board_built [] p.1 false refl passes)
               (level_given board_built [] p.1 passes),
         ))
-    go false false true passes has =
-        inr (inr (
+    go false false true merges passes has =
+        inr (inr (inl (
           refl,
           has_timetable (rows_after timetable_built.rules [] p.1) (level_filled timetable_built [] p.1 false refl passes)
               (level_given timetable_built [] p.1 passes),
-        ))
-    go false false false passes has = cc
+        )))
+    go false false false true passes has =
+        inr (inr (inr (
+          refl,
+          has_merge (rows_after merge_built.rules [] p.1) (level_filled merge_built [] p.1 false refl passes)
+              (level_given merge_built [] p.1 passes),
+        )))
+    go false false false false passes has = cc
 
 -- words that are taken name a command and give all that it needs
 pub whole : (words : List Text) → takes gtfs_app words ≡ true → IsWhole (subcommand_of gtfs_app words)

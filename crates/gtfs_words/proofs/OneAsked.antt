@@ -2,7 +2,7 @@
 use Rattle.std.proofs.Common.{◌≡◌, ◌∙◌, List, Option, Some, None, ap, sym}
 use Rattle.std.specs.Prelude.{unwrap_or}
 use Rattle.clap.specs.Words.{Row, Text}
-use Rattle.gtfs_words.specs.Asked.{AsksBoardOf, AsksCheckOf, AsksTimetableOf, BoardTexts, ForBoard, ForCheck, ForTimetable, TimetableTexts}
+use Rattle.gtfs_words.specs.Asked.{AsksBoardOf, AsksCheckOf, AsksMergeOf, AsksTimetableOf, BoardTexts, ForBoard, ForCheck, ForMerge, ForTimetable, MergeTexts, TimetableTexts}
 
 same : (o : Option Text) (x y : Text) → o ≡ Some x → o ≡ Some y → x ≡ y
 same o x y is_x is_y = ap (λ p. unwrap_or p x) (sym is_x ∙ is_y)
@@ -32,6 +32,14 @@ same_timetable (Some found) a b is_a is_b =
     let direction : a.direction ≡ b.direction = sym is_a.1.direction ∙ is_b.1.direction in
     λ i. record { dir = dir i; route = route i; date = date i; direction = direction i }
 
+pub same_merge : (found : Option (Text × List Row)) (a b : MergeTexts) → ForMerge found a → ForMerge found b → a ≡ b
+same_merge None a b is_a is_b = absurd is_a
+same_merge (Some found) a b is_a is_b =
+    let first : a.a ≡ b.a = same _ a.a b.a is_a.1.a is_b.1.a in
+    let second : a.b ≡ b.b = same _ a.b b.b is_a.1.b is_b.1.b in
+    let out : a.out ≡ b.out = same _ a.out b.out is_a.1.out is_b.1.out in
+    λ i. record { a = first i; b = second i; out = out i }
+
 pub one_check : (words : List Text) (a b : Text) → AsksCheckOf words a → AsksCheckOf words b → a ≡ b
 one_check words a b is_a is_b = same_check _ a b is_a.asks is_b.asks
 
@@ -40,3 +48,6 @@ one_board words a b is_a is_b = same_board _ a b is_a.asks is_b.asks
 
 pub one_timetable : (words : List Text) (a b : TimetableTexts) → AsksTimetableOf words a → AsksTimetableOf words b → a ≡ b
 one_timetable words a b is_a is_b = same_timetable _ a b is_a.asks is_b.asks
+
+pub one_merge : (words : List Text) (a b : MergeTexts) → AsksMergeOf words a → AsksMergeOf words b → a ≡ b
+one_merge words a b is_a is_b = same_merge _ a b is_a.asks is_b.asks

@@ -4,7 +4,8 @@ use Rattle.clap.specs.Words.{Row, Text, first_of, subcommand_of, takes}
 use Rattle.gtfs_words.specs.CommandLine.{gtfs_app}
 use Rattle.gtfs_words.specs.declared.command.BoardWords.{BoardWords}
 use Rattle.gtfs_words.specs.declared.command.Command.{Command}
-use Rattle.gtfs_words.specs.declared.command.Command.TheVariants.{Board, Check, Timetable}
+use Rattle.gtfs_words.specs.declared.command.Command.TheVariants.{Board, Check, Merge, Timetable}
+use Rattle.gtfs_words.specs.declared.command.MergeWords.{MergeWords}
 use Rattle.gtfs_words.specs.declared.command.TimetableWords.{TimetableWords}
 
 -- ---- the texts of each command, as they stand in the words
@@ -26,6 +27,12 @@ pub record TimetableTexts : Type 0 where
   pub date : Text
   pub direction : Option Text
 
+-- what is given to `merge`
+pub record MergeTexts : Type 0 where
+  pub a : Text
+  pub b : Text
+  pub out : Text
+
 abbrev pub texts_of : BoardWords → BoardTexts
 texts_of words = record {
   dir = words.dir.now;
@@ -44,6 +51,9 @@ timetable_texts_of words = record {
   date = words.date.now;
   direction = option_map (λ text. text.now) words.direction;
 }
+
+abbrev pub merge_texts_of : MergeWords → MergeTexts
+merge_texts_of words = record { a = words.a.now; b = words.b.now; out = words.out.now }
 
 -- ---- what was given for each id
 
@@ -68,6 +78,12 @@ pub record IsTimetableOf (given : List Row) (asked : TimetableTexts) : Type 0 wh
   pub date : first_of (codes "date") given ≡ Some asked.date
   pub direction : first_of (codes "direction") given ≡ asked.direction
 
+-- each is the text that was given for it
+pub record IsMergeOf (given : List Row) (asked : MergeTexts) : Type 0 where
+  pub a : first_of (codes "A") given ≡ Some asked.a
+  pub b : first_of (codes "B") given ≡ Some asked.b
+  pub out : first_of (codes "OUT") given ≡ Some asked.out
+
 -- ---- the command that is asked for
 
 -- a subcommand is named, with what was given for each of its ids: it is the check of this folder
@@ -85,12 +101,18 @@ abbrev pub ForTimetable : Option (Text × List Row) → TimetableTexts → Type 
 ForTimetable None asked = ⊥
 ForTimetable (Some found) asked = (found.0 ≡ codes "timetable") × IsTimetableOf found.1 asked
 
+-- it is the merge of these texts
+abbrev pub ForMerge : Option (Text × List Row) → MergeTexts → Type 0
+ForMerge None asked = ⊥
+ForMerge (Some found) asked = (found.0 ≡ codes "merge") × IsMergeOf found.1 asked
+
 -- it is this command
 abbrev pub IsCommandOf : Option (Text × List Row) → Command → Type 0
 IsCommandOf None command = ⊥
 IsCommandOf (Some found) (Check dir) = (found.0 ≡ codes "check") × IsCheckOf found.1 dir.now
 IsCommandOf (Some found) (Board words) = (found.0 ≡ codes "board") × IsBoardOf found.1 (texts_of words)
 IsCommandOf (Some found) (Timetable words) = (found.0 ≡ codes "timetable") × IsTimetableOf found.1 (timetable_texts_of words)
+IsCommandOf (Some found) (Merge words) = (found.0 ≡ codes "merge") × IsMergeOf found.1 (merge_texts_of words)
 
 -- `clap` takes the words, and they ask for the check of the feed in this folder
 pub record AsksCheckOf (words : List Text) (dir : Text) : Type 0 where
@@ -106,6 +128,11 @@ pub record AsksBoardOf (words : List Text) (asked : BoardTexts) : Type 0 where
 pub record AsksTimetableOf (words : List Text) (asked : TimetableTexts) : Type 0 where
   pub taken : takes gtfs_app words ≡ true
   pub asks : ForTimetable (subcommand_of gtfs_app words) asked
+
+-- `clap` takes the words, and they ask for the merge of these texts
+pub record AsksMergeOf (words : List Text) (asked : MergeTexts) : Type 0 where
+  pub taken : takes gtfs_app words ≡ true
+  pub asks : ForMerge (subcommand_of gtfs_app words) asked
 
 -- ---- what each command needs
 
@@ -127,8 +154,14 @@ pub record HasTimetable (given : List Row) : Type 0 where
   pub route : IsSome (first_of (codes "route") given)
   pub date : IsSome (first_of (codes "date") given)
 
+-- a text was given for each id of `merge`
+pub record HasMerge (given : List Row) : Type 0 where
+  pub a : IsSome (first_of (codes "A") given)
+  pub b : IsSome (first_of (codes "B") given)
+  pub out : IsSome (first_of (codes "OUT") given)
+
 -- a command is named, and all that it needs is given
 abbrev pub IsWhole : Option (Text × List Row) → Type 0
 IsWhole None = ⊥
 IsWhole (Some found) = ((found.0 ≡ codes "check") × HasCheck found.1) ⊎ (((found.0 ≡ codes "board") × HasBoard found.1)
-    ⊎ ((found.0 ≡ codes "timetable") × HasTimetable found.1))
+    ⊎ (((found.0 ≡ codes "timetable") × HasTimetable found.1) ⊎ ((found.0 ≡ codes "merge") × HasMerge found.1)))

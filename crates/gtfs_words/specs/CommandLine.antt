@@ -38,6 +38,10 @@ abbrev pub timetable_app : App
 timetable_app = with_rule (with_rule (with_rule (with_rule (new_app (codes "timetable"))
     (word_rule (codes "DIR"))) (option_rule (codes "route"))) (option_rule (codes "date"))) (choice_rule (codes "direction"))
 
+-- `merge A B OUT`
+abbrev pub merge_app : App
+merge_app = with_rule (with_rule (with_rule (new_app (codes "merge")) (word_rule (codes "A"))) (word_rule (codes "B"))) (word_rule (codes "OUT"))
+
 -- `gtfs`, of which one of the commands must be named, and `help` is none of them
 abbrev pub gtfs_top : App
 gtfs_top = record (new_app (codes "gtfs")) {
@@ -48,4 +52,4 @@ gtfs_top = record (new_app (codes "gtfs")) {
 }
 
 abbrev pub gtfs_app : App
-gtfs_app = with_subcommand (with_subcommand (with_subcommand gtfs_top check_app.top) board_app.top) timetable_app.top
+gtfs_app = with_subcommand (with_subcommand (with_subcommand (with_subcommand gtfs_top check_app.top) board_app.top) timetable_app.top) merge_app.top

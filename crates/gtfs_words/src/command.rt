@@ -9,6 +9,8 @@ pub enum Command<'w> {
     Board(BoardWords<'w>),
     /// `gtfs timetable`: the runs of a route on a date.
     Timetable(TimetableWords<'w>),
+    /// `gtfs merge`: one feed of two.
+    Merge(MergeWords<'w>),
 }
 
 /// What was given to `gtfs board`, each a text as it stands in the words.
@@ -41,4 +43,15 @@ pub struct TimetableWords<'w> {
     pub date: &'w str,
     /// The `direction_id` of the trips, if only one direction is wanted.
     pub direction: Option<&'w str>,
+}
+
+/// What was given to `gtfs merge`, each a text as it stands in the words.
+#[derive(Clone, Copy)]
+pub struct MergeWords<'w> {
+    /// The folder of the feed whose ids stay.
+    pub a: &'w str,
+    /// The folder of the feed that is added.
+    pub b: &'w str,
+    /// The folder that the merged feed is written into.
+    pub out: &'w str,
 }

@@ -1,11 +1,11 @@
 //! From the words to the command.
 ghost use Rattle.std.specs.Prelude.{◌≡◌, map, option_map, true, IfOk, IfErr, IfSome, IsSome};
 ghost use Rattle.clap.specs.Words.{first_of, found_of, rows_of, subcommand_of, subcommand_rows_of, takes};
-ghost use Rattle.gtfs_words.specs.Asked.{texts_of, timetable_texts_of, HasBoard, HasTimetable, IsBoardOf, IsCommandOf, IsTimetableOf, IsWhole};
+ghost use Rattle.gtfs_words.specs.Asked.{merge_texts_of, texts_of, timetable_texts_of, HasBoard, HasMerge, HasTimetable, IsBoardOf, IsCommandOf, IsMergeOf, IsTimetableOf, IsWhole};
 ghost use Rattle.gtfs_words.specs.CommandLine.{gtfs_app};
 ghost use Rattle.gtfs_words.specs.Untaken.{no_memory, IsFaultOf};
 
-use crate::command::{BoardWords, Command, TimetableWords};
+use crate::command::{BoardWords, Command, MergeWords, TimetableWords};
 use crate::definitions::gtfs;
 use crate::fault::{WordsFault, fault_of};
 use clap::ArgMatches;
@@ -40,8 +40,11 @@ fn command_of<'w>(matches: &ArgMatches<'w>) -> Option<Command<'w>>
     if let Some(given) = matches.subcommand_matches("board") {
         return Some(Command::Board(board_words(given)?));
     }
-    let given = matches.subcommand_matches("timetable")?;
-    Some(Command::Timetable(timetable_words(given)?))
+    if let Some(given) = matches.subcommand_matches("timetable") {
+        return Some(Command::Timetable(timetable_words(given)?));
+    }
+    let given = matches.subcommand_matches("merge")?;
+    Some(Command::Merge(merge_words(given)?))
 }
 
 fn board_words<'w>(given: &ArgMatches<'w>) -> Option<BoardWords<'w>>
@@ -68,6 +71,17 @@ fn timetable_words<'w>(given: &ArgMatches<'w>) -> Option<TimetableWords<'w>>
         route: given_text(given, "route")?,
         date: given_text(given, "date")?,
         direction: given_text(given, "direction"),
+    })
+}
+
+fn merge_words<'w>(given: &ArgMatches<'w>) -> Option<MergeWords<'w>>
+    ensures value { IfSome result (λ words. IsMergeOf (rows_of (found_of given.now)) (merge_texts_of words)) }
+    ensures given { HasMerge (rows_of (found_of given.now)) → IsSome result }
+{
+    Some(MergeWords {
+        a: given_text(given, "A")?,
+        b: given_text(given, "B")?,
+        out: given_text(given, "OUT")?,
     })
 }
 

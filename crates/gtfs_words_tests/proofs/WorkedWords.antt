@@ -4,7 +4,7 @@ use Rattle.std.proofs.Common.{refl}
 use Rattle.clap.specs.Words.{Text, fault_of, takes}
 use Rattle.clap.specs.declared.error.kind.ErrorKind.TheVariants as kind
 use Rattle.clap.proofs.OnLiterals.{clap_on_literals}
-use Rattle.gtfs_words.specs.Words.{gtfs_app, AreForHelp, AsksBoardOf, AsksCheckOf, AsksTimetableOf, BoardTexts, TimetableTexts}
+use Rattle.gtfs_words.specs.Words.{gtfs_app, AreForHelp, AsksBoardOf, AsksCheckOf, AsksMergeOf, AsksTimetableOf, BoardTexts, MergeTexts, TimetableTexts}
 
 -- a check
 abbrev check_words : List Text
@@ -47,6 +47,17 @@ timetable_asked : AsksTimetableOf timetable_words timetable_texts
 unfolding clap_on_literals
 timetable_asked = record { taken = refl; asks = (refl, record { dir = refl; route = refl; date = refl; direction = refl }) }
 
+-- a merge
+abbrev merge_words : List Text
+merge_words = codes "gtfs" ∷ codes "merge" ∷ codes "north" ∷ codes "south" ∷ codes "both" ∷ []
+
+abbrev merge_texts : MergeTexts
+merge_texts = record { a = codes "north"; b = codes "south"; out = codes "both" }
+
+merge_asked : AsksMergeOf merge_words merge_texts
+unfolding clap_on_literals
+merge_asked = record { taken = refl; asks = (refl, record { a = refl; b = refl; out = refl }) }
+
 -- no command
 abbrev no_command : List Text
 no_command = codes "gtfs" ∷ []
@@ -70,6 +81,30 @@ help_command_is = refl
 help_command_not_taken : takes gtfs_app help_command ≡ false
 unfolding clap_on_literals
 help_command_not_taken = refl
+
+-- a merge of two folders into none
+abbrev merge_of_two : List Text
+merge_of_two = codes "gtfs" ∷ codes "merge" ∷ codes "north" ∷ codes "south" ∷ []
+
+merge_of_two_is : fault_of gtfs_app merge_of_two ≡ kind.MissingRequiredArgument ∷ []
+unfolding clap_on_literals
+merge_of_two_is = refl
+
+merge_of_two_not_taken : takes gtfs_app merge_of_two ≡ false
+unfolding clap_on_literals
+merge_of_two_not_taken = refl
+
+-- a merge of four folders
+abbrev merge_of_four : List Text
+merge_of_four = codes "gtfs" ∷ codes "merge" ∷ codes "a" ∷ codes "b" ∷ codes "c" ∷ codes "d" ∷ []
+
+merge_of_four_is : fault_of gtfs_app merge_of_four ≡ kind.UnknownArgument ∷ []
+unfolding clap_on_literals
+merge_of_four_is = refl
+
+merge_of_four_not_taken : takes gtfs_app merge_of_four ≡ false
+unfolding clap_on_literals
+merge_of_four_not_taken = refl
 
 -- a timetable without its date
 abbrev without_date : List Text
@@ -119,14 +154,14 @@ help_asked_for_help : AreForHelp help_asked
 unfolding clap_on_literals
 help_asked_for_help = (refl, refl)
 
--- help of a command, though its folder is missing
-abbrev timetable_help : List Text
-timetable_help = codes "gtfs" ∷ codes "timetable" ∷ codes "--help" ∷ []
+-- help of a command, though its folders are missing
+abbrev merge_help : List Text
+merge_help = codes "gtfs" ∷ codes "merge" ∷ codes "--help" ∷ []
 
-timetable_help_is : fault_of gtfs_app timetable_help ≡ kind.DisplayHelp ∷ []
+merge_help_is : fault_of gtfs_app merge_help ≡ kind.DisplayHelp ∷ []
 unfolding clap_on_literals
-timetable_help_is = refl
+merge_help_is = refl
 
-timetable_help_for_help : AreForHelp timetable_help
+merge_help_for_help : AreForHelp merge_help
 unfolding clap_on_literals
-timetable_help_for_help = (refl, refl)
+merge_help_for_help = (refl, refl)

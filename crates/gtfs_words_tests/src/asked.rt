@@ -83,3 +83,17 @@ fn timetable_has_its_direction(rt: HostRuntime) -> Result<(), Fail> {
     assert_eq!(&rt; timetable.direction, Some("00"));
     Ok(())
 }
+
+#[test]
+fn merge_has_its_three_folders(rt: HostRuntime) -> Result<(), Fail> {
+    let Ok(Command::Merge(merge)) = read_words(
+        rt.alloc(),
+        &["gtfs", "merge", "north", "south", "both"],
+    ) else {
+        return Err("no merge".into());
+    };
+    assert_eq!(&rt; merge.a, "north");
+    assert_eq!(&rt; merge.b, "south");
+    assert_eq!(&rt; merge.out, "both");
+    Ok(())
+}

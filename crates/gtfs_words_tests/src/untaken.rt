@@ -30,7 +30,7 @@ const TIMETABLE: &str = "gtfs timetable DIR --route ID --date D [--direction 0|1
 
 #[test]
 fn help_of_the_program_has_the_line_of_each_command(rt: HostRuntime) -> Result<(), Fail> {
-    for line in ["gtfs check DIR", BOARD, TIMETABLE] {
+    for line in ["gtfs check DIR", BOARD, TIMETABLE, "gtfs merge A B OUT"] {
         assert_helped(&rt, rt.alloc(), &["gtfs", "--help"], line)?;
     }
     Ok(())
@@ -50,7 +50,8 @@ fn help_of_a_command_has_examples_of_its_values(rt: HostRuntime) -> Result<(), F
         &["gtfs", "board", "f1", "--help"],
         "@1711958400/T1/28800/3/20240401",
     )?;
-    assert_helped(&rt, rt.alloc(), &["gtfs", "timetable", "-h"], "20240401")
+    assert_helped(&rt, rt.alloc(), &["gtfs", "timetable", "-h"], "20240401")?;
+    assert_helped(&rt, rt.alloc(), &["gtfs", "merge", "--help"], "S1_merged_1")
 }
 
 #[test]
@@ -64,10 +65,11 @@ fn words_are_refused(rt: HostRuntime) -> Result<(), Fail> {
         rt.alloc(),
         &["gtfs", "timetable", "f1", "--route", "R1"],
     )?;
+    assert_refused(&rt, rt.alloc(), &["gtfs", "merge", "north", "south"])?;
     assert_refused(
         &rt,
         rt.alloc(),
-        &["gtfs", "merge", "north", "south", "both"],
+        &["gtfs", "merge", "north", "south", "both", "more"],
     )?;
     assert_refused(&rt, rt.alloc(), &["gtfs", "check", "f1", "more", "--help"])
 }

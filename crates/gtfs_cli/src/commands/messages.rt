@@ -30,6 +30,9 @@ impl Refusal<'_> {
             Refusal::UnknownStop => write_line(err, "unknown stop", ""),
             Refusal::UnknownRoute => write_line(err, "unknown route", ""),
             Refusal::UntilBeforeFrom => write_line(err, "until lies before from", ""),
+            Refusal::ZonesDiffer => write_line(err, "zones differ", ""),
+            Refusal::MergeTooLarge => write_line(err, "merged feed too large", ""),
+            Refusal::Unwritable(path) => write_line(err, path, " cannot be written"),
             Refusal::OutputFailed => write_line(err, "output failed", ""),
             Refusal::OutOfMemory => write_line(err, "out of memory", ""),
         }

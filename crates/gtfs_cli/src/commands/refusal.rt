@@ -27,6 +27,12 @@ pub(super) enum Refusal<'w> {
     UnknownRoute,
     // The board would end before it begins.
     UntilBeforeFrom,
+    // The zones of the feeds that are to be merged have different names.
+    ZonesDiffer,
+    // Some file of the merged feed would be over the limit.
+    MergeTooLarge,
+    // The folder, or a file in it, cannot be written.
+    Unwritable(&'w str),
     // The output did not take all that was to go out.
     OutputFailed,
     // Memory ran out.
@@ -61,12 +67,17 @@ impl Refusal<'_> {
         ensures { result ≡ status_of self.now }
     {
         match self {
-            Refusal::HasErrors(_) | Refusal::UnknownStop | Refusal::UnknownRoute => 1,
+            Refusal::HasErrors(_)
+            | Refusal::UnknownStop
+            | Refusal::UnknownRoute
+            | Refusal::ZonesDiffer
+            | Refusal::MergeTooLarge => 1,
             Refusal::Words(_) | Refusal::BadValue(_) | Refusal::UntilBeforeFrom => 2,
             Refusal::NotThere(_)
             | Refusal::Unreadable(_)
             | Refusal::OverLimit(_)
             | Refusal::NoZone(_)
+            | Refusal::Unwritable(_)
             | Refusal::OutputFailed => 3,
             Refusal::OutOfMemory => 4,
         }

@@ -7,9 +7,12 @@ use Rattle.gtfs_words.specs.Words.{gtfs_app, IsCommandOf}
 use Rattle.gtfs_cli.specs.Refusals.{IsCauseInWords, IsCauseOf}
 use Rattle.gtfs_cli.specs.Running.{Failures}
 use Rattle.gtfs_words.specs.declared.command.Command.{Command}
-use Rattle.gtfs_cli.proofs.Asked.{board-listed, board-unlisted, no-check, timetable-tabled, timetable-untabled}
+use Rattle.gtfs_cli.proofs.Asked.{board-listed, board-unlisted, no-board-of-timetable, no-check, no-check-of-timetable, timetable-tabled, timetable-untabled}
 use Rattle.gtfs_cli.proofs.Endings.{told-up}
 use Rattle.gtfs_cli.proofs.Untaken.{unread-cause, unread-checked, unread-cut, unread-listed, unread-tabled, unread-unlisted, unread-untabled}
+use Rattle.gtfs_cli.specs.MergeRun.{IsUnmerged}
+use Rattle.gtfs_words.specs.Words.{merge_texts_of}
+use Rattle.gtfs_cli.proofs.MergeEnded.{asked-merged, asked-unmerged, for-merge, no-merge-of-check, no-merge-of-timetable}
 use Rattle.gtfs_cli.proofs.commands.command.Goals as goal
 
 pub returns-in_err-print_board-in-Ok-Board-clause-unlisted : goal.returns-in_err-print_board-in-Ok-Board-clause-unlisted
@@ -163,3 +166,78 @@ returns-in_ok-print_timetable-in-Ok-Timetable-clause-tabled g c = λ asked asks.
     let is = subst (λ (x : Command). IsCommandOf (subcommand_of gtfs_app texts) x) c.in-Ok-Timetable.field-0-is c.in-Ok-Timetable.ensures.read in
     timetable-tabled texts limit held c.in-Ok-Timetable.given is (g.O.Out.told c.args.out.now) (g.O.Out.told c.print_timetable.new.out)
     c.in_ok-print_timetable-in-Ok-Timetable.ensures.printed asked asks
+
+pub returns-in_err-print_timetable-in-Ok-Timetable-clause-unchecked : goal.returns-in_err-print_timetable-in-Ok-Timetable-clause-unchecked
+returns-in_err-print_timetable-in-Ok-Timetable-clause-unchecked g c = λ dir asks.
+    let found = subcommand_of gtfs_app (map g.S.AsStr.text c.args.words.now) in
+    let is = subst (λ (x : Command). IsCommandOf found x) c.in-Ok-Timetable.field-0-is c.in-Ok-Timetable.ensures.read in
+    absurd (no-check-of-timetable found c.in-Ok-Timetable.given dir is asks.asks)
+
+pub returns-in_err-print_timetable-in-Ok-Timetable-clause-unmerged : goal.returns-in_err-print_timetable-in-Ok-Timetable-clause-unmerged
+returns-in_err-print_timetable-in-Ok-Timetable-clause-unmerged g c = λ asked asks.
+    let found = subcommand_of gtfs_app (map g.S.AsStr.text c.args.words.now) in
+    let is = subst (λ (x : Command). IsCommandOf found x) c.in-Ok-Timetable.field-0-is c.in-Ok-Timetable.ensures.read in
+    absurd (no-merge-of-timetable found c.in-Ok-Timetable.given asked is asks.asks)
+
+pub returns-in_ok-print_timetable-in-Ok-Timetable-clause-checked : goal.returns-in_ok-print_timetable-in-Ok-Timetable-clause-checked
+returns-in_ok-print_timetable-in-Ok-Timetable-clause-checked g c = λ dir asks.
+    let found = subcommand_of gtfs_app (map g.S.AsStr.text c.args.words.now) in
+    let is = subst (λ (x : Command). IsCommandOf found x) c.in-Ok-Timetable.field-0-is c.in-Ok-Timetable.ensures.read in
+    absurd (no-check-of-timetable found c.in-Ok-Timetable.given dir is asks.asks)
+
+pub returns-in_ok-print_timetable-in-Ok-Timetable-clause-listed : goal.returns-in_ok-print_timetable-in-Ok-Timetable-clause-listed
+returns-in_ok-print_timetable-in-Ok-Timetable-clause-listed g c = λ asked asks.
+    let found = subcommand_of gtfs_app (map g.S.AsStr.text c.args.words.now) in
+    let is = subst (λ (x : Command). IsCommandOf found x) c.in-Ok-Timetable.field-0-is c.in-Ok-Timetable.ensures.read in
+    absurd (no-board-of-timetable found c.in-Ok-Timetable.given asked is asks.asks)
+
+pub returns-in_ok-print_timetable-in-Ok-Timetable-clause-merged : goal.returns-in_ok-print_timetable-in-Ok-Timetable-clause-merged
+returns-in_ok-print_timetable-in-Ok-Timetable-clause-merged g c = λ asked asks.
+    let found = subcommand_of gtfs_app (map g.S.AsStr.text c.args.words.now) in
+    let is = subst (λ (x : Command). IsCommandOf found x) c.in-Ok-Timetable.field-0-is c.in-Ok-Timetable.ensures.read in
+    absurd (no-merge-of-timetable found c.in-Ok-Timetable.given asked is asks.asks)
+
+pub returns-in_err-print_merge-in-Ok-Merge-clause-unmerged : goal.returns-in_err-print_merge-in-Ok-Merge-clause-unmerged
+returns-in_err-print_merge-in-Ok-Merge-clause-unmerged g c = λ asked asks.
+    let texts = map g.S.AsStr.text c.args.words.now in
+    let limit = g.F.Folders.limit c.args.folders.now in
+    let held = g.F.Folders.held c.args.folders.now in
+    let now = g.F.Folders.held c.print_merge.new.folders in
+    let before : Failures = record { folders = g.F.Folders.failure_count c.args.folders.now; output = g.O.Out.failure_count c.args.out.now } in
+    let after : Failures = record { folders = g.F.Folders.failure_count c.print_merge.new.folders; output = g.O.Out.failure_count c.print_merge.new.out } in
+    let old = g.O.Out.told c.args.out.now in
+    let new = g.O.Out.told c.print_merge.new.out in
+    let is = subst (λ (x : Command). IsCommandOf (subcommand_of gtfs_app texts) x) c.in-Ok-Merge.field-0-is c.in-Ok-Merge.ensures.read in
+    let r = c.in_err-print_merge-in-Ok-Merge.field-0.0 in
+    told-up c.from_residual-in_err-print_merge-in-Ok-Merge.result r (IsUnmerged limit held asked before after now old new)
+    c.from_residual-in_err-print_merge-in-Ok-Merge.ensures.1
+    (asked-unmerged texts limit held c.in-Ok-Merge.given is before after now old new r
+    c.in_err-print_merge-in-Ok-Merge.ensures.refused c.in_err-print_merge-in-Ok-Merge.ensures.cut_short asked asks)
+
+pub returns-in_ok-print_merge-in-Ok-Merge-clause-merged : goal.returns-in_ok-print_merge-in-Ok-Merge-clause-merged
+returns-in_ok-print_merge-in-Ok-Merge-clause-merged g c = λ asked asks.
+    let texts = map g.S.AsStr.text c.args.words.now in
+    let limit = g.F.Folders.limit c.args.folders.now in
+    let held = g.F.Folders.held c.args.folders.now in
+    let now = g.F.Folders.held c.print_merge.new.folders in
+    let is = subst (λ (x : Command). IsCommandOf (subcommand_of gtfs_app texts) x) c.in-Ok-Merge.field-0-is c.in-Ok-Merge.ensures.read in
+    asked-merged texts limit held c.in-Ok-Merge.given is now (g.O.Out.told c.args.out.now) (g.O.Out.told c.print_merge.new.out)
+    c.in_ok-print_merge-in-Ok-Merge.ensures.printed asked asks
+
+pub returns-in_err-print_merge-in-Ok-Merge-clause-unchanged : goal.returns-in_err-print_merge-in-Ok-Merge-clause-unchanged
+returns-in_err-print_merge-in-Ok-Merge-clause-unchanged g c = λ none.
+    let found = subcommand_of gtfs_app (map g.S.AsStr.text c.args.words.now) in
+    let is = subst (λ (x : Command). IsCommandOf found x) c.in-Ok-Merge.field-0-is c.in-Ok-Merge.ensures.read in
+    absurd (none (merge_texts_of c.in-Ok-Merge.given) (record { taken = c.in-Ok-Merge.ensures.taken; asks = for-merge found c.in-Ok-Merge.given is }))
+
+pub returns-in_ok-print_merge-in-Ok-Merge-clause-unchanged : goal.returns-in_ok-print_merge-in-Ok-Merge-clause-unchanged
+returns-in_ok-print_merge-in-Ok-Merge-clause-unchanged g c = λ none.
+    let found = subcommand_of gtfs_app (map g.S.AsStr.text c.args.words.now) in
+    let is = subst (λ (x : Command). IsCommandOf found x) c.in-Ok-Merge.field-0-is c.in-Ok-Merge.ensures.read in
+    absurd (none (merge_texts_of c.in-Ok-Merge.given) (record { taken = c.in-Ok-Merge.ensures.taken; asks = for-merge found c.in-Ok-Merge.given is }))
+
+pub returns-in-Ok-Check-clause-merged : goal.returns-in-Ok-Check-clause-merged
+returns-in-Ok-Check-clause-merged g c = λ asked asks.
+    let found = subcommand_of gtfs_app (map g.S.AsStr.text c.args.words.now) in
+    let is = subst (λ (x : Command). IsCommandOf found x) c.in-Ok-Check.field-0-is c.in-Ok-Check.ensures.read in
+    absurd (no-merge-of-check found c.in-Ok-Check.dir asked is asks.asks)

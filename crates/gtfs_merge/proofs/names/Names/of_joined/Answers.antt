@@ -8,8 +8,23 @@ use Rattle.gtfs_merge.specs.declared.kind.Kind.{Kind}
 use Rattle.gtfs_merge.specs.declared.kind.Kind.TheVariants as kind
 use Rattle.gtfs_merge.specs.declared.kind.Side.TheVariants as side
 use Rattle.gtfs_merge.proofs.Apart.{apart-a, apart-b}
+use Rattle.gtfs_merge.proofs.JoinedKinds.{ids-known}
 use Rattle.gtfs_merge.proofs.NamesFacts.{apart-names, named}
 use Rattle.gtfs_merge.proofs.names.Names.of_joined.Goals as goal
+
+pub returns-clause-ids_a : goal.returns-clause-ids_a
+returns-clause-ids_a c kind.Agency = ap (λ n. n.a.ids) c.in_ok-agencies.ensures ∙ sym (ids-known kind.Agency c.args.a.now c.soundness.ensures)
+returns-clause-ids_a c kind.Stop = ap (λ n. n.a.ids) c.in_ok-stops.ensures ∙ sym (ids-known kind.Stop c.args.a.now c.soundness.ensures)
+returns-clause-ids_a c kind.Route = ap (λ n. n.a.ids) c.in_ok-routes.ensures ∙ sym (ids-known kind.Route c.args.a.now c.soundness.ensures)
+returns-clause-ids_a c kind.Service = ap (λ n. n.a.ids) c.in_ok-services.ensures ∙ sym (ids-known kind.Service c.args.a.now c.soundness.ensures)
+returns-clause-ids_a c kind.Trip = ap (λ n. n.a.ids) c.in_ok-trips.ensures ∙ sym (ids-known kind.Trip c.args.a.now c.soundness.ensures)
+
+pub returns-clause-ids_b : goal.returns-clause-ids_b
+returns-clause-ids_b c kind.Agency = ap (λ n. n.b.ids) c.in_ok-agencies.ensures ∙ sym (ids-known kind.Agency c.args.b.now c.soundness-2.ensures)
+returns-clause-ids_b c kind.Stop = ap (λ n. n.b.ids) c.in_ok-stops.ensures ∙ sym (ids-known kind.Stop c.args.b.now c.soundness-2.ensures)
+returns-clause-ids_b c kind.Route = ap (λ n. n.b.ids) c.in_ok-routes.ensures ∙ sym (ids-known kind.Route c.args.b.now c.soundness-2.ensures)
+returns-clause-ids_b c kind.Service = ap (λ n. n.b.ids) c.in_ok-services.ensures ∙ sym (ids-known kind.Service c.args.b.now c.soundness-2.ensures)
+returns-clause-ids_b c kind.Trip = ap (λ n. n.b.ids) c.in_ok-trips.ensures ∙ sym (ids-known kind.Trip c.args.b.now c.soundness-2.ensures)
 
 pub returns-clause-a : goal.returns-clause-a
 returns-clause-a c kind.Agency id = ap (λ n. new_id n.a id) c.in_ok-agencies.ensures ∙ named (names_a (content_of_parts c.args.a.now) (content_of_parts c.args.b.now)) kind.Agency c.args.a.now c.soundness.ensures id

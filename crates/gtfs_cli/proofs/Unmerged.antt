@@ -1,0 +1,253 @@
+-- Why two folders are not merged, and what is left then.
+use Rattle.std.proofs.Common.{◌≡◌, ◌∙◌, ap, sym, subst, refl, ℕ, ◌≤◌, ◌⊎◌, inl, inr, true, false, List, [], Option, Result, Ok, Err, arith}
+use Rattle.std.specs.Prelude.{IfErr, OnErr}
+use Rattle.std.specs.Io.KnownBytes.{Appends, Keeps}
+use Rattle.gtfs_table.specs.Device.{Rises}
+use Rattle.gtfs_table.specs.Folder.{Store}
+use Rattle.gtfs_table.specs.Reading.{kept_files}
+use Rattle.gtfs_rows.specs.Content.{Content}
+use Rattle.gtfs_rows.specs.Reading.{content_of}
+use Rattle.gtfs_feed.specs.Content.{content_of as content_of_feed}
+use Rattle.gtfs_feed.specs.declared.feed.Feed.{Feed}
+use Rattle.gtfs_merge.specs.Merged.{is_too_large, merged, zones_differ}
+use Rattle.gtfs_merge.specs.Merging.{IsMergeOf, KeepsDepartures}
+use Rattle.gtfs_merge.specs.Renaming.{never_near}
+use Rattle.gtfs_merge.specs.Report.{merge_report}
+use Rattle.gtfs_merge.specs.declared.merging.Merged.{Merged}
+use Rattle.gtfs_words.specs.Words.{MergeTexts}
+use Rattle.gtfs_cli.specs.Boards.{HoldsFeed}
+use Rattle.gtfs_cli.specs.Checking.{IsSendingCause}
+use Rattle.gtfs_cli.specs.MergeParts.{HoldsMerge}
+use Rattle.gtfs_cli.specs.Merges.{file_limit, CanMerge, EndsMerge, HoldsFiles, IsFolderMerge, IsMergeCause, IsMergeFault, IsMergingCause, IsUntouched, IsWritingEnd, IsWritten, MergeSetting, ReadsAgain, StopsAtOne}
+use Rattle.gtfs_cli.specs.NamesReport.{names_report}
+use Rattle.gtfs_cli.specs.Refusals.{IsReadingCause}
+use Rattle.gtfs_cli.specs.Running.{Failures, HoldsPassing}
+use Rattle.gtfs_cli.specs.Sending.{SendsBeginning}
+use Rattle.gtfs_cli.specs.declared.commands.refusal.Refusal.{Refusal}
+use Rattle.gtfs_cli.specs.declared.commands.refusal.Refusal.TheVariants.{Words, BadValue, NotThere, Unreadable, OverLimit, HasErrors, NoZone, UnknownStop, UnknownRoute, UntilBeforeFrom, ZonesDiffer, MergeTooLarge, Unwritable, OutputFailed, OutOfMemory}
+use Rattle.gtfs_cli.proofs.NamesTold.{report-told}
+use Rattle.gtfs_cli.proofs.Printed.{has-passing}
+
+rises-around : (a b c d : ℕ) → a ≤ b → c ≤ d → Rises b c → Rises a d
+rises-around a b c d low high up = omega (arith, low, high, up)
+
+-- what went out, and why no more did
+pub both-err : {A : Type 0} (r : Result A Refusal) (P : Type 0) (Q R : Refusal → Type 0) → (P → (e : Refusal) → Q e → R e) → OnErr r P → IfErr r Q → IfErr r R
+both-err (Ok x) P Q R f p q = tt
+both-err (Err e) P Q R f p q = f p e q
+
+-- the refusal keeps two folders from being merged, whatever the output did
+abbrev pub MergingAside : ℕ → Option Store → MergeTexts → ℕ → ℕ → Refusal → Type 0
+MergingAside limit held asked x y r = (before after : Failures) → before.folders ≤ x → y ≤ after.folders → IsMergingCause limit held asked before after r
+
+module _ (limit : ℕ) (held : Option Store) (asked : MergeTexts) where
+  -- ---- the folders that are read
+
+  pub first-unread : (before after : Failures) (r : Refusal) → IsReadingCause limit held asked.a before after r → IsMergingCause limit held asked before after r
+  first-unread before after (Words text) h = absurd h
+  first-unread before after (BadValue option) h = absurd h
+  first-unread before after (NotThere path) h = inl h
+  first-unread before after (Unreadable path) h = inl h
+  first-unread before after (OverLimit path) h = inl h
+  first-unread before after (HasErrors path) h = inl h
+  first-unread before after (NoZone path) h = absurd h
+  first-unread before after UnknownStop h = absurd h
+  first-unread before after UnknownRoute h = absurd h
+  first-unread before after UntilBeforeFrom h = absurd h
+  first-unread before after ZonesDiffer h = absurd h
+  first-unread before after MergeTooLarge h = absurd h
+  first-unread before after (Unwritable path) h = absurd h
+  first-unread before after OutputFailed h = absurd h
+  first-unread before after OutOfMemory h = tt
+
+  pub second-unread : (before after : Failures) (feed : Feed) → HoldsFeed limit held asked.a feed → (r : Refusal) → IsReadingCause limit held asked.b before after r
+      → IsMergingCause limit held asked before after r
+  second-unread before after feed holds (Words text) h = absurd h
+  second-unread before after feed holds (BadValue option) h = absurd h
+  second-unread before after feed holds (NotThere path) h = inr (h.0, has-passing limit held asked.a feed holds, h.1)
+  second-unread before after feed holds (Unreadable path) h = inr (h.0, has-passing limit held asked.a feed holds, h.1)
+  second-unread before after feed holds (OverLimit path) h = inr (h.0, has-passing limit held asked.a feed holds, h.1)
+  second-unread before after feed holds (HasErrors path) h = inr (h.0, has-passing limit held asked.a feed holds, h.1)
+  second-unread before after feed holds (NoZone path) h = absurd h
+  second-unread before after feed holds UnknownStop h = absurd h
+  second-unread before after feed holds UnknownRoute h = absurd h
+  second-unread before after feed holds UntilBeforeFrom h = absurd h
+  second-unread before after feed holds ZonesDiffer h = absurd h
+  second-unread before after feed holds MergeTooLarge h = absurd h
+  second-unread before after feed holds (Unwritable path) h = absurd h
+  second-unread before after feed holds OutputFailed h = absurd h
+  second-unread before after feed holds OutOfMemory h = tt
+
+  -- ---- the feeds that are merged
+
+  module _ (a b : Feed) (first : HoldsFeed limit held asked.a a) (second : HoldsFeed limit held asked.b b) where
+    abbrev setting : MergeSetting limit held asked
+    setting = record {
+      first = first.dataset;
+      second = second.dataset;
+      holds_first = first.holds;
+      first_passes = first.is_feed.0;
+      holds_second = second.holds;
+      second_passes = second.is_feed.0;
+    }
+
+    -- what is so of the feeds is so of the datasets
+    of_datasets : (P : Content → Content → Type 0) → P (content_of_feed a) (content_of_feed b) → P (content_of first.dataset) (content_of second.dataset)
+    of_datasets P h = subst (λ (f : Content). P f (content_of second.dataset)) first.is_feed.1 (subst (λ (f : Content). P (content_of_feed a) f) second.is_feed.1 h)
+
+    pub unmerged : (before after : Failures) (r : Refusal) → IsMergeFault (content_of_feed a) (content_of_feed b) r → IsMergingCause limit held asked before after r
+    unmerged before after (Words text) h = absurd h
+    unmerged before after (BadValue option) h = absurd h
+    unmerged before after (NotThere path) h = absurd h
+    unmerged before after (Unreadable path) h = absurd h
+    unmerged before after (OverLimit path) h = absurd h
+    unmerged before after (HasErrors path) h = absurd h
+    unmerged before after (NoZone path) h = absurd h
+    unmerged before after UnknownStop h = absurd h
+    unmerged before after UnknownRoute h = absurd h
+    unmerged before after UntilBeforeFrom h = absurd h
+    unmerged before after ZonesDiffer h = (setting, of_datasets (λ f g. zones_differ f g ≡ true) h)
+    unmerged before after MergeTooLarge h = (
+      setting,
+      of_datasets (λ f g. zones_differ f g ≡ false) h.0,
+      of_datasets (λ f g. is_too_large file_limit (merged never_near f g) ≡ true) h.1,
+    )
+    unmerged before after (Unwritable path) h = absurd h
+    unmerged before after OutputFailed h = absurd h
+    unmerged before after OutOfMemory h = tt
+
+    pub is-merged : (m : Merged) → IsMergeOf (content_of_feed a) (content_of_feed b) file_limit m → KeepsDepartures (content_of_feed a) (content_of_feed b)
+        → HoldsMerge limit held asked m
+    is-merged m is keeps = record {
+      setting = setting;
+      zone = of_datasets (λ f g. zones_differ f g ≡ false) is.zone;
+      content = of_datasets (λ f g. content_of_feed m.feed ≡ merged never_near f g) is.content;
+      small = ap (is_too_large file_limit) is.content ∙ is.small;
+      keeps = of_datasets (λ f g. KeepsDepartures f g) keeps;
+      is_report = of_datasets (λ f g. names_report m.names ≡ merge_report never_near f g) (report-told (content_of_feed a) (content_of_feed b) m.names is.names);
+    }
+
+  -- ---- why there is no merge
+
+  pub merging-cause : (before after : Failures) (r : Refusal) → IsMergingCause limit held asked before after r → IsMergeCause limit held asked before after r
+  merging-cause before after (Words text) h = h
+  merging-cause before after (BadValue option) h = h
+  merging-cause before after (NotThere path) h = h
+  merging-cause before after (Unreadable path) h = h
+  merging-cause before after (OverLimit path) h = h
+  merging-cause before after (HasErrors path) h = h
+  merging-cause before after (NoZone path) h = h
+  merging-cause before after UnknownStop h = h
+  merging-cause before after UnknownRoute h = h
+  merging-cause before after UntilBeforeFrom h = h
+  merging-cause before after ZonesDiffer h = h
+  merging-cause before after MergeTooLarge h = h
+  merging-cause before after (Unwritable path) h = absurd h
+  merging-cause before after OutputFailed h = absurd h
+  merging-cause before after OutOfMemory h = h
+
+  pub merging-ends : (before after : Failures) (now : Option Store) (old new : Option (List ℕ)) → IsUntouched held now old new → (r : Refusal)
+      → IsMergingCause limit held asked before after r → EndsMerge limit held asked now old new r
+  merging-ends before after now old new same (Words text) h = same
+  merging-ends before after now old new same (BadValue option) h = same
+  merging-ends before after now old new same (NotThere path) h = same
+  merging-ends before after now old new same (Unreadable path) h = same
+  merging-ends before after now old new same (OverLimit path) h = same
+  merging-ends before after now old new same (HasErrors path) h = same
+  merging-ends before after now old new same (NoZone path) h = same
+  merging-ends before after now old new same UnknownStop h = same
+  merging-ends before after now old new same UnknownRoute h = same
+  merging-ends before after now old new same UntilBeforeFrom h = same
+  merging-ends before after now old new same ZonesDiffer h = same
+  merging-ends before after now old new same MergeTooLarge h = same
+  merging-ends before after now old new same (Unwritable path) h = absurd h
+  merging-ends before after now old new same OutputFailed h = absurd h
+  merging-ends before after now old new same OutOfMemory h = inl same
+
+  -- ---- the files that are not written, and the report that is not printed
+
+  module _ (c : Content) (report : List ℕ) (is : IsFolderMerge limit held asked c report) where
+    unwritten : (before after : Failures) (mid now : Option Store) (x y : ℕ) → before.folders ≤ x → y ≤ after.folders → (path : List ℕ) → path ≡ asked.out
+        → ((asked.out ≡ []) × (now ≡ mid)) ⊎ (Rises x y × StopsAtOne mid now asked.out c)
+        → (path ≡ asked.out) × CanMerge limit held asked × ((asked.out ≡ []) ⊎ Rises before.folders after.folders)
+    unwritten before after mid now x y low high path at (inl h) = (at, (c, report, is), inl h.0)
+    unwritten before after mid now x y low high path at (inr h) = (at, (c, report, is), inr (rises-around before.folders x y after.folders low high h.0))
+
+    ended : (x y : ℕ) (now : Option Store) → ((asked.out ≡ []) × (now ≡ held)) ⊎ (Rises x y × StopsAtOne held now asked.out c)
+        → ((asked.out ≡ []) × (now ≡ held)) ⊎ StopsAtOne held now asked.out c
+    ended x y now (inl h) = inl h
+    ended x y now (inr h) = inr h.1
+
+    pub writing-cause : (before after : Failures) (mid now : Option Store) (x y : ℕ) → before.folders ≤ x → y ≤ after.folders → (r : Refusal)
+        → IsWritingEnd mid now x y asked.out c r → IsMergeCause limit held asked before after r
+    writing-cause before after mid now x y low high (Words text) h = absurd h
+    writing-cause before after mid now x y low high (BadValue option) h = absurd h
+    writing-cause before after mid now x y low high (NotThere path) h = absurd h
+    writing-cause before after mid now x y low high (Unreadable path) h = absurd h
+    writing-cause before after mid now x y low high (OverLimit path) h = absurd h
+    writing-cause before after mid now x y low high (HasErrors path) h = absurd h
+    writing-cause before after mid now x y low high (NoZone path) h = absurd h
+    writing-cause before after mid now x y low high UnknownStop h = absurd h
+    writing-cause before after mid now x y low high UnknownRoute h = absurd h
+    writing-cause before after mid now x y low high UntilBeforeFrom h = absurd h
+    writing-cause before after mid now x y low high ZonesDiffer h = absurd h
+    writing-cause before after mid now x y low high MergeTooLarge h = absurd h
+    writing-cause before after mid now x y low high (Unwritable path) h = unwritten before after mid now x y low high path.now h.0 h.1
+    writing-cause before after mid now x y low high OutputFailed h = absurd h
+    writing-cause before after mid now x y low high OutOfMemory h = tt
+
+    pub writing-ends : (x y : ℕ) (now : Option Store) (old new : Option (List ℕ)) → Keeps old new → (r : Refusal) → IsWritingEnd held now x y asked.out c r
+        → EndsMerge limit held asked now old new r
+    writing-ends x y now old new keeps (Words text) h = absurd h
+    writing-ends x y now old new keeps (BadValue option) h = absurd h
+    writing-ends x y now old new keeps (NotThere path) h = absurd h
+    writing-ends x y now old new keeps (Unreadable path) h = absurd h
+    writing-ends x y now old new keeps (OverLimit path) h = absurd h
+    writing-ends x y now old new keeps (HasErrors path) h = absurd h
+    writing-ends x y now old new keeps (NoZone path) h = absurd h
+    writing-ends x y now old new keeps UnknownStop h = absurd h
+    writing-ends x y now old new keeps UnknownRoute h = absurd h
+    writing-ends x y now old new keeps UntilBeforeFrom h = absurd h
+    writing-ends x y now old new keeps ZonesDiffer h = absurd h
+    writing-ends x y now old new keeps MergeTooLarge h = absurd h
+    writing-ends x y now old new keeps (Unwritable path) h = record { content = c; report = report; merges = is; ends = ended x y now h.1; nothing = keeps }
+    writing-ends x y now old new keeps OutputFailed h = absurd h
+    writing-ends x y now old new keeps OutOfMemory h = inr (inl (record { content = c; report = report; merges = is; ends = h; nothing = keeps }))
+
+    pub printing-cause : (before after : Failures) (r : Refusal) → IsSendingCause before.output after.output r → IsMergeCause limit held asked before after r
+    printing-cause before after (Words text) h = absurd h
+    printing-cause before after (BadValue option) h = absurd h
+    printing-cause before after (NotThere path) h = absurd h
+    printing-cause before after (Unreadable path) h = absurd h
+    printing-cause before after (OverLimit path) h = absurd h
+    printing-cause before after (HasErrors path) h = absurd h
+    printing-cause before after (NoZone path) h = absurd h
+    printing-cause before after UnknownStop h = absurd h
+    printing-cause before after UnknownRoute h = absurd h
+    printing-cause before after UntilBeforeFrom h = absurd h
+    printing-cause before after ZonesDiffer h = absurd h
+    printing-cause before after MergeTooLarge h = absurd h
+    printing-cause before after (Unwritable path) h = absurd h
+    printing-cause before after OutputFailed h = ((c, report, is), h)
+    printing-cause before after OutOfMemory h = tt
+
+    module _ (now : Option Store) (old new : Option (List ℕ)) (files : HoldsFiles held now asked.out c kept_files) (again : ReadsAgain held now asked.out c) where
+      pub all-printed : Appends old new report → IsWritten limit held asked now (λ text. Appends old new text)
+      all-printed sent = record { content = c; report = report; merges = is; files = files; again = again; sent = sent }
+
+      pub printing-ends : (x y : ℕ) → SendsBeginning old new report → (r : Refusal) → IsSendingCause x y r → EndsMerge limit held asked now old new r
+      printing-ends x y begun (Words text) h = absurd h
+      printing-ends x y begun (BadValue option) h = absurd h
+      printing-ends x y begun (NotThere path) h = absurd h
+      printing-ends x y begun (Unreadable path) h = absurd h
+      printing-ends x y begun (OverLimit path) h = absurd h
+      printing-ends x y begun (HasErrors path) h = absurd h
+      printing-ends x y begun (NoZone path) h = absurd h
+      printing-ends x y begun UnknownStop h = absurd h
+      printing-ends x y begun UnknownRoute h = absurd h
+      printing-ends x y begun UntilBeforeFrom h = absurd h
+      printing-ends x y begun ZonesDiffer h = absurd h
+      printing-ends x y begun MergeTooLarge h = absurd h
+      printing-ends x y begun (Unwritable path) h = absurd h
+      printing-ends x y begun OutputFailed h = record { content = c; report = report; merges = is; files = files; again = again; sent = begun }
+      printing-ends x y begun OutOfMemory h = inr (inr (record { content = c; report = report; merges = is; files = files; again = again; sent = begun }))

@@ -1,0 +1,12 @@
+use Rattle.std.proofs.Common.{◌≤◌, take}
+use Rattle.std.specs.Prelude.{flat_map}
+use Rattle.std.specs.Io.KnownBytes.{Appends}
+use Rattle.gtfs_merge.specs.Report.{kinds}
+use Rattle.gtfs_cli.specs.NamesReport.{count_line}
+use Rattle.gtfs_cli.proofs.commands.names.print_joined.Given as goal
+
+abbrev pub invariant-loop-kind : goal.invariant-loop-kind
+invariant-loop-kind g l = record {
+  sent : Appends (g.O.Out.told l.initial.out) (g.O.Out.told l.out) (flat_map (count_line l.names) (take l.kind-index kinds));
+  grows : g.O.Out.failure_count l.initial.out ≤ g.O.Out.failure_count l.out;
+}

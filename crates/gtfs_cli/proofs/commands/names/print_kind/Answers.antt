@@ -1,0 +1,27 @@
+use Rattle.std.proofs.Common.{◌++◌}
+use Rattle.gtfs_merge.specs.declared.kind.Side.TheVariants as side
+use Rattle.gtfs_cli.specs.NamesReport.{side_lines}
+use Rattle.gtfs_cli.specs.Sending.{SendsBeginning}
+use Rattle.gtfs_cli.proofs.Parts.{err-then, ok-then, on-error}
+use Rattle.gtfs_cli.proofs.Sequences.{both-sent, first-cut, second-cut}
+use Rattle.gtfs_cli.proofs.commands.names.print_kind.Goals as goal
+
+pub returns-in_err-print_side-clause-cut_short : goal.returns-in_err-print_side-clause-cut_short
+returns-in_err-print_side-clause-cut_short g c =
+    let a = g.O.Out.told c.args.out.now in
+    let b = g.O.Out.told c.print_side.new.out in
+    let first = side_lines c.args.names.now side.A c.args.kind in
+    let second = side_lines c.args.names.now side.B c.args.kind in
+    on-error c.from_residual.result (SendsBeginning a b (first ++ second)) (first-cut a b first second c.in_err-print_side.ensures.cut_short)
+
+pub returns-clause-printed : goal.returns-clause-printed
+returns-clause-printed g c =
+    ok-then c.print_side-2.result _ _
+    (both-sent (g.O.Out.told c.args.out.now) (g.O.Out.told c.print_side.new.out) (g.O.Out.told c.print_side-2.new.out) (side_lines c.args.names.now side.A c.args.kind) (side_lines c.args.names.now side.B c.args.kind) c.in_ok-print_side.ensures.printed)
+    c.print_side-2.ensures.printed
+
+pub returns-clause-cut_short : goal.returns-clause-cut_short
+returns-clause-cut_short g c =
+    err-then c.print_side-2.result _ _
+    (second-cut (g.O.Out.told c.args.out.now) (g.O.Out.told c.print_side.new.out) (g.O.Out.told c.print_side-2.new.out) (side_lines c.args.names.now side.A c.args.kind) (side_lines c.args.names.now side.B c.args.kind) c.in_ok-print_side.ensures.printed)
+    c.print_side-2.ensures.cut_short

@@ -1,0 +1,25 @@
+-- What the parts of a merge give: the merged feed and its names, and the texts of its files.
+use Rattle.std.specs.Prelude.{◌≡◌, ℕ, List, All, Option, Some}
+use Rattle.gtfs_table.specs.Folder.{Store}
+use Rattle.gtfs_table.specs.Reading.{kept_files}
+use Rattle.gtfs_table.specs.Tables.{table_of, table_of_bytes}
+use Rattle.gtfs_table.specs.declared.file.File.{File}
+use Rattle.gtfs_rows.specs.Content.{Content}
+use Rattle.gtfs_rows.specs.Written.{written}
+use Rattle.gtfs_feed.specs.Content.{content_of}
+use Rattle.gtfs_merge.specs.declared.merging.Merged.{Merged}
+use Rattle.gtfs_words.specs.Words.{MergeTexts}
+use Rattle.gtfs_cli.specs.Merges.{file_text, IsFolderMerge}
+use Rattle.gtfs_cli.specs.NamesReport.{names_report}
+
+-- the feed is the merge of both folders, and the names tell its report
+abbrev pub HoldsMerge : ℕ → Option Store → MergeTexts → Merged → Type 0
+HoldsMerge limit held asked m = IsFolderMerge limit held asked (content_of m.feed) (names_report m.names)
+
+-- the text of a file of the written form is read as its table
+abbrev pub ReadsAs : Content → File → Type 0
+ReadsAs c x = table_of_bytes (Some (file_text c x)) ≡ table_of (written c) x
+
+-- so are the texts of all nine
+abbrev pub AllReadAs : Content → Type 0
+AllReadAs c = All (ReadsAs c) kept_files

@@ -1,0 +1,186 @@
+-- What `gtfs merge` makes of two folders: the merged feed, the files of its written form, and its report.
+use Rattle.std.specs.Prelude.{◌≡◌, ◌⊎◌, ⊤, ℕ, true, false, List, [], ◌∷◌, ◌++◌, Option, Some, None, unwrap_or}
+use Rattle.std.specs.Io.KnownBytes.{Appends, Keeps}
+use Rattle.gtfs_table.specs.Device.{Rises}
+use Rattle.gtfs_table.specs.Files.{file_name}
+use Rattle.gtfs_table.specs.Folder.{put, Disturbs, Store}
+use Rattle.gtfs_table.specs.Reading.{kept_files, HoldsDataset}
+use Rattle.gtfs_table.specs.Tables.{table_of, Dataset}
+use Rattle.gtfs_table.specs.Written.{text_of_table}
+use Rattle.gtfs_table.specs.declared.file.File.{File}
+use Rattle.gtfs_columns.specs.Problems.{Passes}
+use Rattle.gtfs_rows.specs.Content.{Content}
+use Rattle.gtfs_rows.specs.Reading.{content_of}
+use Rattle.gtfs_rows.specs.Written.{written}
+use Rattle.gtfs_merge.specs.Merged.{is_too_large, merged, zones_differ}
+use Rattle.gtfs_merge.specs.Merging.{KeepsDepartures}
+use Rattle.gtfs_merge.specs.Renaming.{never_near}
+use Rattle.gtfs_merge.specs.Report.{merge_report}
+use Rattle.gtfs_words.specs.Words.{MergeTexts}
+use Rattle.gtfs_cli.specs.Running.{Failures, HoldsErrors, HoldsKeptFile, HoldsPassing, HoldsTables, LacksFeed}
+use Rattle.gtfs_cli.specs.Sending.{SendsBeginning}
+use Rattle.gtfs_cli.specs.declared.commands.refusal.Refusal.{Refusal}
+use Rattle.gtfs_cli.specs.declared.commands.refusal.Refusal.TheVariants.{NotThere, Unreadable, OverLimit, HasErrors, ZonesDiffer, MergeTooLarge, Unwritable, OutputFailed, OutOfMemory}
+
+-- the most bytes that a written file may have
+abbrev pub file_limit : ℕ
+file_limit = 1_073_741_824
+
+-- ---- the merge of two folders
+
+-- what both folders hold passes
+pub record MergeSetting (limit : ℕ) (held : Option Store) (asked : MergeTexts) : Type 0 where
+  pub first : Dataset
+  pub second : Dataset
+  pub holds_first : HoldsTables limit held asked.a first
+  pub first_passes : Passes first
+  pub holds_second : HoldsTables limit held asked.b second
+  pub second_passes : Passes second
+
+-- both feeds have one zone; the content is their merge, with every departure and every board of both, no file of its written form is
+-- over the limit, and the text is the report of the merge
+pub record IsFolderMerge (limit : ℕ) (held : Option Store) (asked : MergeTexts) (c : Content) (report : List ℕ) : Type 0 where
+  pub setting : MergeSetting limit held asked
+  pub zone : zones_differ (content_of setting.first) (content_of setting.second) ≡ false
+  pub content : c ≡ merged never_near (content_of setting.first) (content_of setting.second)
+  pub small : is_too_large file_limit c ≡ false
+  pub keeps : KeepsDepartures (content_of setting.first) (content_of setting.second)
+  pub is_report : report ≡ merge_report never_near (content_of setting.first) (content_of setting.second)
+
+-- there is such a merge
+abbrev pub CanMerge : ℕ → Option Store → MergeTexts → Type 0
+CanMerge limit held asked = (c : Content) × (report : List ℕ) × IsFolderMerge limit held asked c report
+
+-- both feeds have zones of different names
+abbrev pub HasTwoZones : ℕ → Option Store → MergeTexts → Type 0
+HasTwoZones limit held asked = (s : MergeSetting limit held asked) × (zones_differ (content_of s.first) (content_of s.second) ≡ true)
+
+-- they have one zone, and some file of their merge is over the limit
+abbrev pub HasLargeMerge : ℕ → Option Store → MergeTexts → Type 0
+HasLargeMerge limit held asked = (s : MergeSetting limit held asked) × (zones_differ (content_of s.first) (content_of s.second) ≡ false)
+    × (is_too_large file_limit (merged never_near (content_of s.first) (content_of s.second)) ≡ true)
+
+-- ---- the files of the written form, in order
+
+abbrev pub file_text : Content → File → List ℕ
+file_text c x = unwrap_or (text_of_table (table_of (written c) x)) []
+
+-- the folders with these files of the written form in one of them, which is made where it is absent; each takes the place of a file of its name
+abbrev pub with_files : Content → List ℕ → List File → Store → Store
+with_files c dir [] store = store
+with_files c dir (x ∷ xs) store = with_files c dir xs (put store dir (file_name x) (file_text c x))
+
+-- the device holds these files, and else what it held
+abbrev pub HoldsFiles : Option Store → Option Store → List ℕ → Content → List File → Type 0
+HoldsFiles None new dir c xs = ⊤
+HoldsFiles (Some store) new dir c xs = new ≡ Some (with_files c dir xs store)
+
+-- it holds the first some of the nine
+pub record HoldsSome (old new : Option Store) (dir : List ℕ) (c : Content) : Type 0 where
+  pub files : List File
+  pub left : List File
+  pub order : kept_files ≡ files ++ left
+  pub holds : HoldsFiles old new dir c files
+
+-- after these files were put there one more is open, and all else is as it was
+abbrev pub DisturbsAfter : Option Store → Option Store → List ℕ → Content → List File → File → Type 0
+DisturbsAfter None new dir c xs x = ⊤
+DisturbsAfter (Some store) new dir c xs x = Disturbs (Some (with_files c dir xs store)) new dir (file_name x)
+
+-- writing stopped at one of the nine, the content of which is open: those before it were written, and no later one
+pub record StopsAtOne (old new : Option Store) (dir : List ℕ) (c : Content) : Type 0 where
+  pub files : List File
+  pub one : File
+  pub left : List File
+  pub order : kept_files ≡ files ++ one ∷ left
+  pub disturbs : DisturbsAfter old new dir c files one
+
+-- what the folder holds, read again, passes and has this content; this says nothing of a device whose contents are unknown
+abbrev pub ReadsAgain : Option Store → Option Store → List ℕ → Content → Type 0
+ReadsAgain None new dir c = ⊤
+ReadsAgain (Some store) new dir c = (d : Dataset) → HoldsDataset new dir d → Passes d × (content_of d ≡ c)
+
+-- ---- when a merge is refused
+
+-- this is so of the first folder, or of the second one where what the first one holds passes; the path names the folder that it is so of
+abbrev pub OfEither : ℕ → Option Store → MergeTexts → List ℕ → (List ℕ → Type 0) → Type 0
+OfEither limit held asked path Fact = ((path ≡ asked.a) × Fact asked.a) ⊎ ((path ≡ asked.b) × HoldsPassing limit held asked.a × Fact asked.b)
+
+-- why two folders are not merged: that all that is judged before was found good
+abbrev pub IsMergingCause : ℕ → Option Store → MergeTexts → Failures → Failures → Refusal → Type 0
+IsMergingCause limit held asked before after (NotThere path) = OfEither limit held asked path.now (LacksFeed held)
+IsMergingCause limit held asked before after (Unreadable path) = OfEither limit held asked path.now (λ dir. Rises before.folders after.folders)
+IsMergingCause limit held asked before after (OverLimit path) = OfEither limit held asked path.now (HoldsKeptFile limit held)
+IsMergingCause limit held asked before after (HasErrors path) = OfEither limit held asked path.now (HoldsErrors limit held)
+IsMergingCause limit held asked before after ZonesDiffer = HasTwoZones limit held asked
+IsMergingCause limit held asked before after MergeTooLarge = HasLargeMerge limit held asked
+IsMergingCause limit held asked before after OutOfMemory = ⊤
+IsMergingCause limit held asked before after _ = ⊥
+
+-- when a refusal comes where the words ask for a merge
+abbrev pub IsMergeCause : ℕ → Option Store → MergeTexts → Failures → Failures → Refusal → Type 0
+IsMergeCause limit held asked before after (Unwritable path) =
+    (path.now ≡ asked.out) × CanMerge limit held asked × ((asked.out ≡ []) ⊎ Rises before.folders after.folders)
+IsMergeCause limit held asked before after OutputFailed = CanMerge limit held asked × Rises before.output after.output
+IsMergeCause limit held asked before after refusal = IsMergingCause limit held asked before after refusal
+
+-- ---- what the folders hold then, and what went out
+
+-- the folders hold what they held, and nothing went out
+abbrev pub IsUntouched : Option Store → Option Store → Option (List ℕ) → Option (List ℕ) → Type 0
+IsUntouched held now old new = (now ≡ held) × Keeps old new
+
+-- all files of the merge were written, and what went out is so of its report
+pub record IsWritten (limit : ℕ) (held : Option Store) (asked : MergeTexts) (now : Option Store) (Sent : List ℕ → Type 0) : Type 0 where
+  pub content : Content
+  pub report : List ℕ
+  pub merges : IsFolderMerge limit held asked content report
+  pub files : HoldsFiles held now asked.out content kept_files
+  pub again : ReadsAgain held now asked.out content
+  pub sent : Sent report
+
+-- and the whole report went out
+abbrev pub PrintsMerge : ℕ → Option Store → MergeTexts → Option Store → Option (List ℕ) → Option (List ℕ) → Type 0
+PrintsMerge limit held asked now old new = IsWritten limit held asked now (λ report. Appends old new report)
+
+-- and a beginning of it did
+abbrev pub BeginsMerge : ℕ → Option Store → MergeTexts → Option Store → Option (List ℕ) → Option (List ℕ) → Type 0
+BeginsMerge limit held asked now old new = IsWritten limit held asked now (λ report. SendsBeginning old new report)
+
+-- writing ended early, as this says of the content, and nothing went out
+pub record IsUnwritten (limit : ℕ) (held : Option Store) (asked : MergeTexts) (old new : Option (List ℕ)) (Ends : Content → Type 0) : Type 0 where
+  pub content : Content
+  pub report : List ℕ
+  pub merges : IsFolderMerge limit held asked content report
+  pub ends : Ends content
+  pub nothing : Keeps old new
+
+abbrev pub EndsMerge : ℕ → Option Store → MergeTexts → Option Store → Option (List ℕ) → Option (List ℕ) → Refusal → Type 0
+EndsMerge limit held asked now old new (Unwritable path) =
+    IsUnwritten limit held asked old new (λ c. ((asked.out ≡ []) × (now ≡ held)) ⊎ StopsAtOne held now asked.out c)
+EndsMerge limit held asked now old new OutputFailed = BeginsMerge limit held asked now old new
+EndsMerge limit held asked now old new OutOfMemory = IsUntouched held now old new
+    ⊎ (IsUnwritten limit held asked old new (λ c. HoldsSome held now asked.out c) ⊎ BeginsMerge limit held asked now old new)
+EndsMerge limit held asked now old new _ = IsUntouched held now old new
+
+-- ---- what the parts of the work give
+
+-- why two feeds are not merged
+abbrev pub IsMergeFault : Content → Content → Refusal → Type 0
+IsMergeFault a b ZonesDiffer = zones_differ a b ≡ true
+IsMergeFault a b MergeTooLarge = (zones_differ a b ≡ false) × (is_too_large file_limit (merged never_near a b) ≡ true)
+IsMergeFault a b OutOfMemory = ⊤
+IsMergeFault a b _ = ⊥
+
+-- why a file is not written, and what the device holds then; the counts are those of its failures, before and after
+abbrev pub IsFileEnd : Option Store → Option Store → ℕ → ℕ → List ℕ → File → Refusal → Type 0
+IsFileEnd old new before after dir x (Unwritable path) = (path.now ≡ dir) × Rises before after × Disturbs old new dir (file_name x)
+IsFileEnd old new before after dir x OutOfMemory = new ≡ old
+IsFileEnd old new before after dir x _ = ⊥
+
+-- why the files of a feed are not all written, and what the device holds then
+abbrev pub IsWritingEnd : Option Store → Option Store → ℕ → ℕ → List ℕ → Content → Refusal → Type 0
+IsWritingEnd old new before after dir c (Unwritable path) =
+    (path.now ≡ dir) × (((dir ≡ []) × (new ≡ old)) ⊎ (Rises before after × StopsAtOne old new dir c))
+IsWritingEnd old new before after dir c OutOfMemory = HoldsSome old new dir c
+IsWritingEnd old new before after dir c _ = ⊥

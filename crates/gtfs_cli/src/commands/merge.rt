@@ -1,0 +1,155 @@
+ghost use Rattle.std.specs.Prelude.{◌≡◌, ◌≤◌, ℕ, Option, IfOk, IfErr, OnOk};
+ghost use Rattle.gtfs_feed.specs.Content.{content_of};
+ghost use Rattle.gtfs_merge.specs.Merging.{IsMergeOf, KeepsDepartures};
+ghost use Rattle.gtfs_table.specs.Files.{file_name};
+ghost use Rattle.gtfs_table.specs.Folder.{RefusesWrite, Store, Writes};
+ghost use Rattle.gtfs_table.specs.Reading.{kept_files};
+ghost use Rattle.gtfs_table.specs.declared.file.File.{File as FileOf};
+ghost use Rattle.gtfs_words.specs.Words.{merge_texts_of};
+ghost use Rattle.gtfs_cli.specs.Merges.{file_limit, file_text, EndsMerge, HoldsFiles, IsFileEnd, IsMergeCause, IsMergeFault, IsMergingCause, IsWritingEnd, PrintsMerge};
+ghost use Rattle.gtfs_cli.specs.MergeParts.{AllReadAs, HoldsMerge, ReadsAs};
+ghost use Rattle.gtfs_cli.specs.Running.{Failures};
+
+use crate::commands::feed::read_feed;
+use crate::commands::names::print_names;
+use crate::commands::refusal::Refusal;
+use gtfs_feed::Feed;
+use gtfs_merge::{MergeFault, Merged, Options, merge};
+use gtfs_table::{File, FolderFault, Folders, Out};
+use gtfs_words::MergeWords;
+use std::alloc::Global;
+use std::hash::RandomState;
+
+// The most bytes of a file that is written, which is also the most that a disk's folder may hold in one to be read.
+const FILE_LIMIT: u64 = 1_073_741_824;
+
+// Merges the feeds of two folders, writes the files of the merged feed into a third folder, which may be one of the two,
+// and then prints the report of the merge.
+// Errors: In the order in which they are judged: `NotThere`, `Unreadable`, `OverLimit` and `HasErrors` of the first
+// folder, and then of the second; `ZonesDiffer`; `MergeTooLarge`; `Unwritable` at any file; `OutputFailed` at any line.
+// `OutOfMemory` at any point. Files that were written stay.
+pub(super) fn print_merge<'w, F: Folders, O: Out>(
+    alloc: Global,
+    random: RandomState,
+    words: &MergeWords<'w>,
+    folders: &mut F,
+    out: &mut O,
+) -> Result<(), Refusal<'w>>
+    ensures printed { OnOk result (PrintsMerge (F.limit folders.old) (F.held folders.old)
+        (merge_texts_of words.now) (F.held folders.new) (O.told out.old) (O.told out.new)) }
+    ensures cut_short { IfErr result (EndsMerge (F.limit folders.old) (F.held folders.old)
+        (merge_texts_of words.now) (F.held folders.new) (O.told out.old) (O.told out.new)) }
+    ensures refused { IfErr result (IsMergeCause (F.limit folders.old) (F.held folders.old)
+        (merge_texts_of words.now)
+        (record { folders = F.failure_count folders.old; output = O.failure_count out.old })
+        (record { folders = F.failure_count folders.new; output = O.failure_count out.new })) }
+    ensures folders_grow { F.failure_count folders.old ≤ F.failure_count folders.new }
+    ensures output_grows { O.failure_count out.old ≤ O.failure_count out.new }
+{
+    let merged = merge_folders(alloc, random, words, folders)?;
+    merged.feed.soundness();
+    write_feed(alloc, &merged.feed, words.out, folders)?;
+    print_names(alloc, &merged.names, out)
+}
+
+// The merge of the feeds of two folders, which are let go again.
+fn merge_folders<'w, F: Folders>(
+    alloc: Global,
+    random: RandomState,
+    words: &MergeWords<'w>,
+    folders: &mut F,
+) -> Result<Merged, Refusal<'w>>
+    ensures merged { IfOk result (HoldsMerge (F.limit folders.old) (F.held folders.old)
+        (merge_texts_of words.now)) }
+    ensures refused { IfErr result (λ refusal. (before after : Failures)
+        → before.folders ≤ F.failure_count folders.old → F.failure_count folders.new ≤ after.folders
+        → IsMergingCause (F.limit folders.old) (F.held folders.old) (merge_texts_of words.now)
+        before after refusal) }
+    ensures unchanged { F.held folders.new ≡ F.held folders.old }
+    ensures grows { F.failure_count folders.old ≤ F.failure_count folders.new }
+{
+    let a = read_feed(alloc, random, folders, words.a)?;
+    let b = read_feed(alloc, random, folders, words.b)?;
+    merge_feeds(alloc, random, &a, &b)
+}
+
+// The merge of two feeds.
+fn merge_feeds<'w>(
+    alloc: Global,
+    random: RandomState,
+    a: &Feed,
+    b: &Feed,
+) -> Result<Merged, Refusal<'w>>
+    ensures merged { IfOk result (IsMergeOf (content_of a.now) (content_of b.now) file_limit) }
+    ensures refused { IfErr result (IsMergeFault (content_of a.now) (content_of b.now)) }
+    ensures departures { KeepsDepartures (content_of a.now) (content_of b.now) }
+{
+    let options = Options {
+        file_limit: FILE_LIMIT,
+    };
+    match merge(alloc, random, a, b, &options) {
+        Ok(merged) => Ok(merged),
+        Err(MergeFault::ZoneDiffers) => Err(Refusal::ZonesDiffer),
+        Err(MergeFault::TooLarge) => Err(Refusal::MergeTooLarge),
+        Err(MergeFault::OutOfMemory) => Err(Refusal::OutOfMemory),
+    }
+}
+
+// Writes the nine files of a feed in order, the text of each given up before the next is made. An empty text names no
+// folder.
+fn write_feed<'w, F: Folders>(
+    alloc: Global,
+    feed: &Feed,
+    dir: &'w str,
+    folders: &mut F,
+) -> Result<(), Refusal<'w>>
+    ensures written { OnOk result (HoldsFiles (F.held folders.old) (F.held folders.new)
+        dir.now (content_of feed.now) kept_files) }
+    ensures read { OnOk result (AllReadAs (content_of feed.now)) }
+    ensures refused { IfErr result (IsWritingEnd (F.held folders.old) (F.held folders.new)
+        (F.failure_count folders.old) (F.failure_count folders.new) dir.now (content_of feed.now)) }
+    ensures grows { F.failure_count folders.old ≤ F.failure_count folders.new }
+{
+    if dir.is_empty() {
+        return Err(Refusal::Unwritable(dir));
+    }
+    for file in &File::ALL {
+        write_file(alloc, feed, *file, dir, folders)?;
+    }
+    Ok(())
+}
+
+// Writes one file of a feed.
+fn write_file<'w, F: Folders>(
+    alloc: Global,
+    feed: &Feed,
+    file: File,
+    dir: &'w str,
+    folders: &mut F,
+) -> Result<(), Refusal<'w>>
+    ensures written { OnOk result (Writes (F.held folders.old) (F.held folders.new)
+        dir.now (file_name file) (file_text (content_of feed.now) file)) }
+    ensures read { OnOk result (ReadsAs (content_of feed.now) file) }
+    ensures refused { IfErr result (IsFileEnd (F.held folders.old) (F.held folders.new)
+        (F.failure_count folders.old) (F.failure_count folders.new) dir.now file) }
+    ensures grows { F.failure_count folders.old ≤ F.failure_count folders.new }
+{
+    let text = feed.file_text(alloc, file)?;
+    match folders.write(alloc, dir, file.name(), text.as_bytes()) {
+        Ok(()) => Ok(()),
+        Err(fault) => Err(of_writing(fault, dir)),
+    }
+}
+
+// What a fault of a write means for the folder.
+fn of_writing(fault: FolderFault, dir: &str) -> Refusal<'_>
+    ensures { (old new : Option Store) (before after : ℕ) (file : FileOf)
+        → RefusesWrite fault old new dir.now (file_name file) before after
+        → IsFileEnd old new before after dir.now file result }
+{
+    match fault {
+        FolderFault::OutOfMemory => Refusal::OutOfMemory,
+        FolderFault::Write | FolderFault::Read | FolderFault::TooLarge | FolderFault::NoFolder =>
+            Refusal::Unwritable(dir),
+    }
+}

@@ -1,0 +1,160 @@
+ghost use Rattle.std.specs.Prelude.{◌≡◌, ◌≤◌, flat_map, IfErr, OnOk, OnErr};
+ghost use Rattle.std.specs.Io.KnownBytes.{Appends};
+ghost use Rattle.gtfs_merge.specs.Report.{kinds};
+ghost use Rattle.gtfs_cli.specs.Checking.{IsSendingCause};
+ghost use Rattle.gtfs_cli.specs.NamesReport.{both_lines, count_line, id_line, names_report, side_lines};
+ghost use Rattle.gtfs_cli.specs.Sending.{SendsBeginning};
+
+use crate::commands::refusal::Refusal;
+use crate::report::{push_joined, push_renamed};
+use gtfs_merge::{Kind, Names, Side};
+use gtfs_table::{Out, write_text};
+use std::alloc::Global;
+
+// Prints what the ids of two feeds became and how many are joined, each line sent out whole before the next is made.
+// Errors: `OutputFailed` at any line, and `OutOfMemory` at any point.
+pub(super) fn print_names<'w, O: Out>(
+    alloc: Global,
+    names: &Names,
+    out: &mut O,
+) -> Result<(), Refusal<'w>>
+    ensures printed { OnOk result (Appends (O.told out.old) (O.told out.new)
+        (names_report names.now)) }
+    ensures cut_short { OnErr result (SendsBeginning (O.told out.old) (O.told out.new)
+        (names_report names.now)) }
+    ensures refused { IfErr result (IsSendingCause (O.failure_count out.old)
+        (O.failure_count out.new)) }
+    ensures grows { O.failure_count out.old ≤ O.failure_count out.new }
+{
+    let mut line = String::new(alloc);
+    print_renamed(names, &mut line, out)?;
+    print_joined(names, &mut line, out)
+}
+
+// The lines of the ids that change, one kind after another.
+fn print_renamed<'w, O: Out>(
+    names: &Names,
+    line: &mut String,
+    out: &mut O,
+) -> Result<(), Refusal<'w>>
+    ensures printed { OnOk result (Appends (O.told out.old) (O.told out.new)
+        (flat_map (both_lines names.now) kinds)) }
+    ensures cut_short { OnErr result (SendsBeginning (O.told out.old) (O.told out.new)
+        (flat_map (both_lines names.now) kinds)) }
+    ensures refused { IfErr result (IsSendingCause (O.failure_count out.old)
+        (O.failure_count out.new)) }
+    ensures grows { O.failure_count out.old ≤ O.failure_count out.new }
+{
+    for kind in &Kind::ALL {
+        print_kind(names, *kind, line, out)?;
+    }
+    Ok(())
+}
+
+// Those of a kind.
+fn print_kind<'w, O: Out>(
+    names: &Names,
+    kind: Kind,
+    line: &mut String,
+    out: &mut O,
+) -> Result<(), Refusal<'w>>
+    ensures printed { OnOk result (Appends (O.told out.old) (O.told out.new)
+        (both_lines names.now kind)) }
+    ensures cut_short { OnErr result (SendsBeginning (O.told out.old) (O.told out.new)
+        (both_lines names.now kind)) }
+    ensures refused { IfErr result (IsSendingCause (O.failure_count out.old)
+        (O.failure_count out.new)) }
+    ensures grows { O.failure_count out.old ≤ O.failure_count out.new }
+{
+    print_side(names, Side::A, kind, line, out)?;
+    print_side(names, Side::B, kind, line, out)
+}
+
+// Those of a side.
+fn print_side<'w, O: Out>(
+    names: &Names,
+    side: Side,
+    kind: Kind,
+    line: &mut String,
+    out: &mut O,
+) -> Result<(), Refusal<'w>>
+    ensures printed { OnOk result (Appends (O.told out.old) (O.told out.new)
+        (side_lines names.now side kind)) }
+    ensures cut_short { OnErr result (SendsBeginning (O.told out.old) (O.told out.new)
+        (side_lines names.now side kind)) }
+    ensures refused { IfErr result (IsSendingCause (O.failure_count out.old)
+        (O.failure_count out.new)) }
+    ensures grows { O.failure_count out.old ≤ O.failure_count out.new }
+{
+    for id in names.ids(side, kind) {
+        print_id(names, side, kind, id.as_str(), line, out)?;
+    }
+    Ok(())
+}
+
+// The line of an id, if it changes. It is made in a text that was used before.
+fn print_id<'w, O: Out>(
+    names: &Names,
+    side: Side,
+    kind: Kind,
+    id: &str,
+    line: &mut String,
+    out: &mut O,
+) -> Result<(), Refusal<'w>>
+    ensures printed { OnOk result (Appends (O.told out.old) (O.told out.new)
+        (id_line names.now side kind id.now)) }
+    ensures cut_short { OnErr result (SendsBeginning (O.told out.old) (O.told out.new)
+        (id_line names.now side kind id.now)) }
+    ensures refused { IfErr result (IsSendingCause (O.failure_count out.old)
+        (O.failure_count out.new)) }
+    ensures grows { O.failure_count out.old ≤ O.failure_count out.new }
+{
+    match names.of(side, kind, id) {
+        Some(name) if name != id => {
+            line.clear();
+            push_renamed(line, side, kind, id, name)?;
+            Ok(write_text(out, line.as_bytes())?)
+        }
+        _ => Ok(()),
+    }
+}
+
+// The lines of how many ids are joined, one kind after another.
+fn print_joined<'w, O: Out>(
+    names: &Names,
+    line: &mut String,
+    out: &mut O,
+) -> Result<(), Refusal<'w>>
+    ensures printed { OnOk result (Appends (O.told out.old) (O.told out.new)
+        (flat_map (count_line names.now) kinds)) }
+    ensures cut_short { OnErr result (SendsBeginning (O.told out.old) (O.told out.new)
+        (flat_map (count_line names.now) kinds)) }
+    ensures refused { IfErr result (IsSendingCause (O.failure_count out.old)
+        (O.failure_count out.new)) }
+    ensures grows { O.failure_count out.old ≤ O.failure_count out.new }
+{
+    for kind in &Kind::ALL {
+        print_count(names, *kind, line, out)?;
+    }
+    Ok(())
+}
+
+// That of a kind, made in the same way.
+fn print_count<'w, O: Out>(
+    names: &Names,
+    kind: Kind,
+    line: &mut String,
+    out: &mut O,
+) -> Result<(), Refusal<'w>>
+    ensures printed { OnOk result (Appends (O.told out.old) (O.told out.new)
+        (count_line names.now kind)) }
+    ensures cut_short { OnErr result (SendsBeginning (O.told out.old) (O.told out.new)
+        (count_line names.now kind)) }
+    ensures refused { IfErr result (IsSendingCause (O.failure_count out.old)
+        (O.failure_count out.new)) }
+    ensures grows { O.failure_count out.old ≤ O.failure_count out.new }
+{
+    line.clear();
+    push_joined(line, kind, names.joined(kind).len())?;
+    Ok(write_text(out, line.as_bytes())?)
+}
