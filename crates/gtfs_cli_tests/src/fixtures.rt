@@ -124,11 +124,17 @@ fn filled(alloc: Global, fail: Option<u64>) -> Result<MemoryFolders, OutOfMemory
     requires { ForSome fail (λ call. call < 2 ^ 64 - 1) }
 {
     let mut folders = MemoryFolders::new(alloc, LIMIT, fail);
-    for (name, text) in FEED {
-        folders.put("f1", name, text.as_bytes())?;
-    }
+    put_feed(&mut folders, "f1")?;
     put_utc(alloc, &mut folders, ".", "z1")?;
     Ok(folders)
+}
+
+// Puts the files of the feed.
+pub(super) fn put_feed(folders: &mut MemoryFolders, dir: &str) -> Result<(), OutOfMemory> {
+    for (name, text) in FEED {
+        folders.put(dir, name, text.as_bytes())?;
+    }
+    Ok(())
 }
 
 // Puts the zone file of UTC.

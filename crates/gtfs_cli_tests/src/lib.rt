@@ -12,4 +12,6 @@ mod fixtures;
 #[cfg(test)]
 mod folders;
 #[cfg(test)]
+mod merges;
+#[cfg(test)]
 mod outputs;
