@@ -1,14 +1,14 @@
 -- What a device holds while the files of a feed are written.
-use Rattle.std.proofs.Common.{◌≡◌, ◌∙◌, ap, sym, subst, refl, ℕ, ◌+◌, ◌<◌, ◌≤◌, add-one, Bool, true, false, not, inl, inr, List, [], ◌∷◌, ◌++◌, length, take, drop, take-append-drop, get_or, Option, Some, None, unwrap_or, arith}
+use Rattle.std.proofs.Common.{◌≡◌, ◌∙◌, ap, sym, subst, refl, ℕ, ◌+◌, ◌<◌, ◌≤◌, add-one, not, inr, List, [], ◌∷◌, ◌++◌, length, take, drop, take-append-drop, get_or, Option, Some, None, arith}
 use Rattle.std.proofs.Math.Seq.{take-suc}
 use Rattle.std.proofs.lemmas.List.{take_all}
-use Rattle.gtfs_table.specs.Device.{counted, Rises}
+use Rattle.gtfs_table.specs.Device.{Rises}
 use Rattle.gtfs_table.specs.Files.{file_name}
 use Rattle.gtfs_table.specs.Folder.{put, Disturbs, Store, Writes}
 use Rattle.gtfs_table.specs.Reading.{kept_files}
 use Rattle.gtfs_table.specs.declared.file.File.{File}
 use Rattle.gtfs_rows.specs.Content.{Content}
-use Rattle.gtfs_cli.specs.Merges.{file_text, with_files, DisturbsAfter, HoldsFiles, HoldsSome, IsFileEnd, IsWritingEnd, StopsAtOne}
+use Rattle.gtfs_cli.specs.Merges.{file_text, with_files, DisturbsAfter, HoldsFiles, IsFileEnd, IsWritingEnd}
 use Rattle.gtfs_cli.specs.declared.commands.refusal.Refusal.{Refusal}
 use Rattle.gtfs_cli.specs.declared.commands.refusal.Refusal.TheVariants.{Words, BadValue, NotThere, Unreadable, OverLimit, HasErrors, NoZone, UnknownStop, UnknownRoute, UntilBeforeFrom, ZonesDiffer, MergeTooLarge, Unwritable, OutputFailed, OutOfMemory}
 use Rattle.gtfs_cli.proofs.Sequences.{items-split}

@@ -1,15 +1,14 @@
 -- How a run of `gtfs merge` ends.
-use Rattle.std.proofs.Common.{◌≡◌, ◌∙◌, ap, refl, sym, subst, ℕ, ◌≤◌, ◌⊎◌, inl, inr, Bool, false, List, [], Option, Some, None, Result, Ok, Err, codes, arith}
-use Rattle.std.specs.Prelude.{slice_index, IfErr, IfOk, IsErrAnd, OnErr, OnOk}
+use Rattle.std.proofs.Common.{◌≡◌, ◌∙◌, ap, refl, sym, subst, ℕ, ◌⊎◌, inl, inr, Bool, false, List, [], Option, Some, None, Result, codes, arith}
+use Rattle.std.specs.Prelude.{slice_index, OnErr, OnOk}
 use Rattle.std.specs.Borrow.{Bor}
-use Rattle.std.specs.Io.KnownBytes.{Appends, Keeps}
+use Rattle.std.specs.Io.KnownBytes.{Appends}
 use Rattle.clap.specs.Words.{Row, Text, subcommand_of}
 use Rattle.gtfs_table.specs.Device.{Rises}
 use Rattle.gtfs_table.specs.Folder.{Store}
-use Rattle.gtfs_words.specs.Asked.{ForBoard, ForCheck, ForMerge, ForTimetable}
-use Rattle.gtfs_words.specs.Words.{gtfs_app, merge_texts_of, AsksMergeOf, BoardTexts, IsCommandOf, MergeTexts, TimetableTexts}
-use Rattle.gtfs_words.specs.declared.command.BoardWords.{BoardWords}
-use Rattle.gtfs_words.specs.declared.command.Command.TheVariants.{Board, Check, Merge, Timetable}
+use Rattle.gtfs_words.specs.Asked.{ForMerge}
+use Rattle.gtfs_words.specs.Words.{gtfs_app, merge_texts_of, AsksMergeOf, IsCommandOf, MergeTexts}
+use Rattle.gtfs_words.specs.declared.command.Command.TheVariants.{Check, Merge, Timetable}
 use Rattle.gtfs_words.specs.declared.command.MergeWords.{MergeWords}
 use Rattle.gtfs_words.specs.declared.command.TimetableWords.{TimetableWords}
 use Rattle.gtfs_words.proofs.OneAsked.{same_merge}
@@ -24,36 +23,17 @@ use Rattle.gtfs_cli.specs.declared.commands.refusal.Refusal.TheVariants.{Words, 
 use Rattle.gtfs_cli.proofs.Ended.{not_well, sends}
 use Rattle.gtfs_cli.proofs.Printed.{kept}
 
--- ---- words that ask for a merge ask for nothing else
+-- ---- words that ask for another command ask for no merge
 
 merge_no_check : codes "merge" ≡ codes "check" → ⊥
 merge_no_check e = let first : 109 ≡ 99 = ap (λ (t : List ℕ). slice_index t 0) e in omega (arith, first)
 
-merge_no_board : codes "merge" ≡ codes "board" → ⊥
-merge_no_board e = let first : 109 ≡ 98 = ap (λ (t : List ℕ). slice_index t 0) e in omega (arith, first)
-
 merge_no_timetable : codes "merge" ≡ codes "timetable" → ⊥
 merge_no_timetable e = let first : 109 ≡ 116 = ap (λ (t : List ℕ). slice_index t 0) e in omega (arith, first)
-
-pub no-check-of-merge : (found : Option (Text × List Row)) (words : MergeWords) (dir : Text) → IsCommandOf found (Merge words) → ForCheck found dir → ⊥
-no-check-of-merge None words dir is asks = is
-no-check-of-merge (Some found) words dir is asks = merge_no_check (sym is.0 ∙ asks.0)
 
 pub no-merge-of-check : (found : Option (Text × List Row)) (dir : Bor Text) (asked : MergeTexts) → IsCommandOf found (Check dir) → ForMerge found asked → ⊥
 no-merge-of-check None dir asked is asks = is
 no-merge-of-check (Some found) dir asked is asks = merge_no_check (sym asks.0 ∙ is.0)
-
-pub no-board-of-merge : (found : Option (Text × List Row)) (words : MergeWords) (asked : BoardTexts) → IsCommandOf found (Merge words) → ForBoard found asked → ⊥
-no-board-of-merge None words asked is asks = is
-no-board-of-merge (Some found) words asked is asks = merge_no_board (sym is.0 ∙ asks.0)
-
-pub no-timetable-of-merge : (found : Option (Text × List Row)) (words : MergeWords) (asked : TimetableTexts) → IsCommandOf found (Merge words) → ForTimetable found asked → ⊥
-no-timetable-of-merge None words asked is asks = is
-no-timetable-of-merge (Some found) words asked is asks = merge_no_timetable (sym is.0 ∙ asks.0)
-
-pub no-merge-of-board : (found : Option (Text × List Row)) (words : BoardWords) (asked : MergeTexts) → IsCommandOf found (Board words) → ForMerge found asked → ⊥
-no-merge-of-board None words asked is asks = is
-no-merge-of-board (Some found) words asked is asks = merge_no_board (sym asks.0 ∙ is.0)
 
 pub no-merge-of-timetable : (found : Option (Text × List Row)) (words : TimetableWords) (asked : MergeTexts) → IsCommandOf found (Timetable words) → ForMerge found asked → ⊥
 no-merge-of-timetable None words asked is asks = is
@@ -79,24 +59,6 @@ module _ (texts : List Text) (limit : ℕ) (held : Option Store) (words : MergeW
         cause = subst (λ (t : MergeTexts). IsMergeCause limit held t before after r) is_same cause;
         ends = subst (λ (t : MergeTexts). EndsMerge limit held t now old new r) is_same ends;
       }
-
--- ---- where memory ran out before the words were read
-
-module _ (limit : ℕ) (held now : Option Store) (before after : Failures) (old new : Option (List ℕ)) (r : Result Bool Refusal)
-    (is : IsErrAnd r (λ x. x ≡ OutOfMemory)) (same : now ≡ held) (keeps : Keeps old new) where
-  pub unread-merged : (asked : MergeTexts) → IfOk r (IsMerged limit held asked now old new)
-  unread-merged asked = no_value r is
-    where
-      no_value : (s : Result Bool Refusal) → IsErrAnd s (λ x. x ≡ OutOfMemory) → IfOk s (IsMerged limit held asked now old new)
-      no_value (Ok x) e = absurd e
-      no_value (Err x) e = tt
-
-  pub unread-unmerged : (asked : MergeTexts) → IfErr r (IsUnmerged limit held asked before after now old new)
-  unread-unmerged asked = told r is
-    where
-      told : (s : Result Bool Refusal) → IsErrAnd s (λ x. x ≡ OutOfMemory) → IfErr s (IsUnmerged limit held asked before after now old new)
-      told (Ok x) e = absurd e
-      told (Err x) e = subst (λ (y : Refusal). IsUnmerged limit held asked before after now old new y) (sym e) (record { cause = tt; ends = inl (same, keeps) })
 
 -- ---- the status and the error output
 

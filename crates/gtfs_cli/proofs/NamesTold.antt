@@ -1,17 +1,17 @@
 -- What the names of a merge tell is the report of the merge.
-use Rattle.std.proofs.Common.{◌≡◌, ◌∙◌, ap, sym, refl, ℕ, Bool, true, false, not, List, [], ◌∷◌, ◌++◌, length, filter, bytes_eq, Option, Some, None}
+use Rattle.std.proofs.Common.{◌≡◌, ◌∙◌, ap, refl, ℕ, Bool, true, false, not, List, [], ◌∷◌, ◌++◌, length, filter, bytes_eq, Option, Some, None}
 use Rattle.std.specs.Prelude.{if◌then◌else◌, flat_map}
 use Rattle.std.proofs.lemmas.Bool.{or_left, or_right}
 use Rattle.gtfs_rows.specs.Content.{Content}
 use Rattle.gtfs_merge.specs.Merging.{AreNamesOf}
-use Rattle.gtfs_merge.specs.Names.{AllNames, in_kind, new_id, of_side}
-use Rattle.gtfs_merge.specs.Renaming.{has_id, ids, name_of, names_a, names_b, never_near, renaming, Renaming}
+use Rattle.gtfs_merge.specs.Names.{AllNames, in_kind, new_id}
+use Rattle.gtfs_merge.specs.Renaming.{has_id, ids, names_a, names_b, never_near, renaming, Renaming}
 use Rattle.gtfs_merge.specs.Report.{joined_line, kind_lines, kinds, merge_report, renamed_line, renamed_lines}
 use Rattle.gtfs_merge.specs.declared.kind.Kind.{Kind}
 use Rattle.gtfs_merge.specs.declared.kind.Side.{Side}
 use Rattle.gtfs_merge.specs.declared.kind.Side.TheVariants as side
 use Rattle.gtfs_merge.proofs.Lookups.{bytes_same}
-use Rattle.gtfs_cli.specs.NamesReport.{both_lines, count_line, id_line, named_line, names_report, side_lines}
+use Rattle.gtfs_cli.specs.NamesReport.{both_lines, id_line, named_line, names_report, side_lines}
 
 -- the lines of ids of which each became what the renaming says
 lines_of : (s : Side) (k : Kind) (rename : Renaming) (new : List ℕ → Option (List ℕ)) (xs : List (List ℕ)) → ((x : List ℕ) → has_id xs x ≡ true → new x ≡ Some (rename x))
@@ -22,9 +22,6 @@ lines_of s k rename new (x ∷ xs) is =
     ∙ ap (λ t. named_line s k x (Some (rename x)) ++ t) (lines_of s k rename new xs (λ y h. is y (or_right (bytes_eq y x) (has_id xs y) h)))
     ∙ step (bytes_eq (rename x) x) (filter (λ y. not (bytes_eq (rename y) y)) xs)
   where
-    line : List ℕ → List ℕ
-    line y = renamed_line s k y (rename y)
-
     step : (b : Bool) (ys : List (List ℕ)) → (if b then [] else renamed_line s k x (rename x)) ++ flat_map (λ y. renamed_line s k y (rename y)) ys
         ≡ flat_map (λ y. renamed_line s k y (rename y)) (if not b then x ∷ ys else ys)
     step true ys = refl
@@ -48,9 +45,6 @@ module _ (a b : Content) (n : AllNames) (are : AreNamesOf a b n) where
 
   lines_told : (k : Kind) → both_lines n k ≡ kind_lines never_near a b k
   lines_told k = λ i. first_lines k i ++ second_lines k i
-
-  count_told : (k : Kind) → count_line n k ≡ joined_line k (length (in_kind n k).joined)
-  count_told k = refl
 
   pub report-told : names_report n ≡ merge_report never_near a b
   report-told = λ i. flat_map (λ k. lines_told k i) kinds ++ flat_map (λ k. joined_line k (length (are.joined k i))) kinds

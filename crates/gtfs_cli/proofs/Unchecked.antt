@@ -1,5 +1,5 @@
 -- How a run of `gtfs check` ends whose report did not go out whole.
-use Rattle.std.proofs.Common.{◌≡◌, ◌∙◌, ℕ, ◌≤◌, List, Option, sym, arith}
+use Rattle.std.proofs.Common.{◌≡◌, ℕ, ◌≤◌, List, Option, arith}
 use Rattle.gtfs_table.specs.Folder.{Store}
 use Rattle.gtfs_cli.specs.CheckRun.{IsCheckRun, IsCutShort}
 use Rattle.gtfs_cli.specs.Refusals.{status_of, IsCheckCause}

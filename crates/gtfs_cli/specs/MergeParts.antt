@@ -1,5 +1,5 @@
 -- What the parts of a merge give: the merged feed and its names, and the texts of its files.
-use Rattle.std.specs.Prelude.{◌≡◌, ℕ, List, All, Option, Some}
+use Rattle.std.specs.Prelude.{◌≡◌, ℕ, All, Option, Some}
 use Rattle.gtfs_table.specs.Folder.{Store}
 use Rattle.gtfs_table.specs.Reading.{kept_files}
 use Rattle.gtfs_table.specs.Tables.{table_of, table_of_bytes}

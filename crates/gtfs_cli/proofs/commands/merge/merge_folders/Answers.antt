@@ -1,4 +1,4 @@
-use Rattle.std.proofs.Common.{◌≤◌, arith}
+use Rattle.std.proofs.Common.{arith}
 use Rattle.std.proofs.lemmas.Result.{IfErr-weaker, IfOk-weaker}
 use Rattle.gtfs_words.specs.Words.{merge_texts_of}
 use Rattle.gtfs_cli.specs.Boards.{HoldsFeed}

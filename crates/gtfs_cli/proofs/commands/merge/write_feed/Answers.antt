@@ -1,4 +1,4 @@
-use Rattle.std.proofs.Common.{ℕ, ◌≤◌, List, subst, refl, inl, take, arith}
+use Rattle.std.proofs.Common.{ℕ, ◌≤◌, List, subst, arith}
 use Rattle.std.specs.List.{All}
 use Rattle.std.proofs.lemmas.List.{take_all}
 use Rattle.std.proofs.lemmas.List.Elements.{All-more, All-nil}
@@ -10,7 +10,6 @@ use Rattle.gtfs_cli.specs.MergeParts.{ReadsAs}
 use Rattle.gtfs_cli.specs.Merges.{IsWritingEnd}
 use Rattle.gtfs_cli.proofs.Endings.{told-up}
 use Rattle.gtfs_cli.proofs.Filed.{file-ends, file-held, files-held, none-held}
-use Rattle.gtfs_cli.proofs.Parts.{on-error}
 use Rattle.gtfs_cli.proofs.commands.merge.write_feed.Goals as goal
 
 same : (n : ℕ) → n ≤ n

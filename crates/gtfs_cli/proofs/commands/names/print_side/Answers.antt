@@ -1,5 +1,4 @@
 use Rattle.std.proofs.Common.{◌∙◌, ℕ, List, ap, subst, string_bytes, arith}
-use Rattle.std.specs.Prelude.{flat_map}
 use Rattle.std.specs.Io.KnownBytes.{Appends}
 use Rattle.gtfs_cli.specs.NamesReport.{id_line, side_lines}
 use Rattle.gtfs_cli.specs.Sending.{SendsBeginning}
