@@ -13,3 +13,4 @@ mod Opening
 mod Ended
 mod Tabled
 mod Untaken
+mod Outcomes
