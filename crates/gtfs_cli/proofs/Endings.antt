@@ -1,5 +1,5 @@
 -- Refusals, when they come, and the status that each gives.
-use Rattle.std.proofs.Common.{◌≡◌, refl, ℕ, ◌≤◌, inl, inr, List, Option, Some, None, Result, Ok, Err, sym, subst, ◌∙◌, arith}
+use Rattle.std.proofs.Common.{◌≡◌, refl, ℕ, ◌<◌, ◌≤◌, length, inl, inr, List, Option, Some, None, Result, Ok, Err, sym, subst, ◌∙◌, arith}
 use Rattle.std.specs.Prelude.{IfErr, IsErrAnd, IsSome}
 use Rattle.gtfs_table.specs.Device.{Rises}
 use Rattle.gtfs_table.specs.Folder.{Store, RefusesRead}
@@ -92,12 +92,12 @@ timetable-cause limit held asked before after OutputFailed v h = absurd h
 timetable-cause limit held asked before after OutOfMemory v h = tt
 
 pub cause-file : (limit : ℕ) (held : Option Store) (path : List ℕ) (before after : Failures) (x y : ℕ) (folder name : List ℕ) (fault : FolderFault) → before.folders ≤ x → y ≤ after.folders
-    → IsFileOf path folder name → RefusesRead fault limit held folder name x y → IsFileCause limit held path before after fault
-cause-file limit held path before after x y folder name faults.Read first last of h = rises-longer before.folders x y after.folders first h last
-cause-file limit held path before after x y folder name faults.TooLarge first last of h = record { folder = folder; name = name; file = of; fact = h }
-cause-file limit held path before after x y folder name faults.OutOfMemory first last of h = h
-cause-file limit held path before after x y folder name faults.NoFolder first last of h = record { folder = folder; name = name; file = of; fact = inl h }
-cause-file limit held path before after x y folder name faults.Write first last of h = h
+    → IsFileOf path folder name → 0 < length name → RefusesRead fault limit held folder name x y → IsFileCause limit held path before after fault
+cause-file limit held path before after x y folder name faults.Read first last of named h = rises-longer before.folders x y after.folders first h last
+cause-file limit held path before after x y folder name faults.TooLarge first last of named h = record { folder = folder; name = name; file = of; fact = (named, h) }
+cause-file limit held path before after x y folder name faults.OutOfMemory first last of named h = h
+cause-file limit held path before after x y folder name faults.NoFolder first last of named h = record { folder = folder; name = name; file = of; fact = (named, inl h) }
+cause-file limit held path before after x y folder name faults.Write first last of named h = h
 
 -- ---- what statuses tell
 

@@ -20,3 +20,4 @@ mod ReadBack
 mod Unmerged
 mod MergeEnded
 mod Unchecked
+mod Outcomes

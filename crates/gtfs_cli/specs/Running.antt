@@ -125,13 +125,13 @@ HasBytes held bytes folder name = (0 < length name) × Finds held folder name (S
 abbrev pub HoldsBytes : ℕ → Option Store → List ℕ → List ℕ → Type 0
 HoldsBytes limit held path bytes = OfFile path (HasBytes held bytes) × (length bytes ≤ limit)
 
--- they hold a file over the limit under the path
+-- the path names a file, and they hold one over the limit under it
 abbrev pub HoldsFile : ℕ → Option Store → List ℕ → Type 0
-HoldsFile limit held path = OfFile path (λ folder name. HasFileOver limit held folder name)
+HoldsFile limit held path = OfFile path (λ folder name. (0 < length name) × HasFileOver limit held folder name)
 
--- there is no such file, or not its folder
+-- the path names a file, and there is no such file, or not its folder
 abbrev pub LacksFile : Option Store → List ℕ → Type 0
-LacksFile held path = OfFile path (λ folder name. LacksFolder held folder ⊎ Finds held folder name None)
+LacksFile held path = OfFile path (λ folder name. (0 < length name) × (LacksFolder held folder ⊎ Finds held folder name None))
 
 -- the path ends in a slash, or is empty
 abbrev pub NamesNoFile : List ℕ → Type 0
@@ -155,9 +155,9 @@ pub record HoldsNoZone (limit : ℕ) (held : Option Store) (path : List ℕ) : T
 abbrev pub LacksFeed : Option Store → List ℕ → Type 0
 LacksFeed held dir = (dir ≡ []) ⊎ LacksFolder held dir
 
--- it holds one of the files that are read, and that is over the limit
+-- it has a name and holds one of the files that are read, and that is over the limit
 abbrev pub HoldsKeptFile : ℕ → Option Store → List ℕ → Type 0
-HoldsKeptFile limit held dir = (x : File) × HasFileOver limit held dir (file_name x)
+HoldsKeptFile limit held dir = (0 < length dir) × (x : File) × HasFileOver limit held dir (file_name x)
 
 -- the folder has a name, it holds this dataset, and none of its files is over the limit
 pub record HoldsTables (limit : ℕ) (held : Option Store) (dir : List ℕ) (d : Dataset) : Type 0 where

@@ -33,6 +33,8 @@
 #![tactic(auto)]
 
 mod commands;
+mod law;
 mod report;
 
 pub use commands::run;
+pub use law::outcomes_are_one;

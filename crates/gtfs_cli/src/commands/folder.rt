@@ -1,4 +1,4 @@
-ghost use Rattle.std.specs.Prelude.{◌≡◌, ◌≤◌, ℕ, Option, IfOk, IfErr};
+ghost use Rattle.std.specs.Prelude.{◌≡◌, ◌<◌, ◌≤◌, ℕ, length, Option, IfOk, IfErr};
 ghost use Rattle.gtfs_table.specs.Folder.{Store};
 ghost use Rattle.gtfs_table.specs.Reading.{HoldsDataset, RefusesDataset};
 ghost use Rattle.gtfs_words.specs.Words.{BoardTexts};
@@ -43,6 +43,7 @@ pub(super) fn of_folder(fault: FolderFault, path: &str) -> Refusal<'_>
         → IsFileCause limit held asked.zone before after fault
         → IsCause limit held asked before after result }
     ensures check { (limit : ℕ) (held : Option Store) (before after : Failures)
+        → 0 < length path.now
         → RefusesDataset fault limit held path.now before.folders after.folders
         → IsCheckCause limit held path.now before after result }
 {

@@ -1,4 +1,5 @@
-use Rattle.std.proofs.Common.{refl}
+use Rattle.std.proofs.Common.{◌<◌, ◌∙◌, arith, length, refl, sym}
+use Rattle.std.proofs.lemmas.Bool.{eqb-false}
 use Rattle.gtfs_words.specs.Words.{texts_of}
 use Rattle.gtfs_cli.proofs.Endings.{cause-file}
 use Rattle.gtfs_cli.proofs.commands.board.read_zone.Goals as goal
@@ -9,5 +10,6 @@ returns-in-Err-clause-refused g c = λ before after first last values passing.
     let held = g.F.Folders.held c.args.folders.now in
     let x = g.F.Folders.failure_count c.args.folders.now in
     let y = g.F.Folders.failure_count c.read.new.self in
+    let named : 0 < length c.cut_path.result.1.now = omega (arith, eqb-false (length c.cut_path.result.1.now) 0 (sym c.is_empty.ensures ∙ c.if-is_empty.false)) in
     c.of_folder.ensures.board limit held (texts_of c.args.words.now) before after refl values passing
-    (cause-file limit held c.args.words.now.zone.now before after x y c.cut_path.result.0.now c.cut_path.result.1.now c.in-Err.fault first last c.cut_path.ensures c.in-Err.ensures.refused)
+    (cause-file limit held c.args.words.now.zone.now before after x y c.cut_path.result.0.now c.cut_path.result.1.now c.in-Err.fault first last c.cut_path.ensures named c.in-Err.ensures.refused)
