@@ -24,7 +24,7 @@ use Rattle.gtfs_cli.specs.Running.{HoldsErrors, HoldsKeptFile, HoldsTables, Lack
 use Rattle.gtfs_cli.specs.TimetableOptions.{first_bad_timetable, HasTimetableValues, IsTimetableRequest, TimetableRequest}
 use Rattle.gtfs_cli.specs.Timetables.{timetable_text, IsTimetableCause, IsTimetableText, LacksRoute}
 use Rattle.gtfs_cli.specs.declared.commands.refusal.Refusal.{Refusal}
-use Rattle.gtfs_cli.specs.declared.commands.refusal.Refusal.TheVariants.{Words, BadValue, NotThere, Unreadable, OverLimit, HasErrors, NoZone, UnknownStop, UnknownRoute, UntilBeforeFrom, OutputFailed, OutOfMemory}
+use Rattle.gtfs_cli.specs.declared.commands.refusal.Refusal.TheVariants.{Words, BadValue, NotThere, Unreadable, OverLimit, HasErrors, NoZone, UnknownStop, UnknownRoute, UntilBeforeFrom, ZonesDiffer, MergeTooLarge, Unwritable, OutputFailed, OutOfMemory}
 
 -- the outcome of a line and a status, where nothing is printed
 abbrev refused : List ℕ → ℕ → Outcome
@@ -100,6 +100,9 @@ module _ (limit : ℕ) (store : Store) (dir : List ℕ) where
   refused_check o UnknownStop cause enough printed told status = absurd cause
   refused_check o UnknownRoute cause enough printed told status = absurd cause
   refused_check o UntilBeforeFrom cause enough printed told status = absurd cause
+  refused_check o ZonesDiffer cause enough printed told status = absurd cause
+  refused_check o MergeTooLarge cause enough printed told status = absurd cause
+  refused_check o (Unwritable path) cause enough printed told status = absurd cause
   refused_check o OutputFailed cause enough printed told status = absurd (omega (arith, cause))
   refused_check o OutOfMemory cause enough printed told status = absurd (enough refl)
 
@@ -189,6 +192,9 @@ module _ (limit : ℕ) (store : Store) (asked : TimetableTexts) where
   refused_timetable o UnknownStop cause enough printed told status = absurd cause
   refused_timetable o UnknownRoute cause enough printed told status = inr ((cause.0.request, cause.0.is_request), inr (inr (inr (inl (cause, alike o unknown_route printed told status)))))
   refused_timetable o UntilBeforeFrom cause enough printed told status = absurd cause
+  refused_timetable o ZonesDiffer cause enough printed told status = absurd cause
+  refused_timetable o MergeTooLarge cause enough printed told status = absurd cause
+  refused_timetable o (Unwritable path) cause enough printed told status = absurd cause
   refused_timetable o OutputFailed cause enough printed told status = absurd (omega (arith, cause))
   refused_timetable o OutOfMemory cause enough printed told status = absurd (enough refl)
 
