@@ -7,6 +7,23 @@ ROOT = os.path.dirname(os.path.dirname(os.path.abspath(__file__)))
 LAUNCHER = os.path.join(ROOT, "gtfs")
 PROGRAM = os.path.join(ROOT, "crates", "gtfs", "out", "gtfs")
 
+# The small feed f1 and the zone file z1, of UTC, on which the cases build too.
+SMALL = os.path.join(ROOT, "tests", "cases", "files")
+
+# The small feed as a merge writes it, and the files of it in the order in which they are written.
+WRITTEN = os.path.join(ROOT, "tests", "written-f1")
+FILES = [
+    "agency.txt",
+    "stops.txt",
+    "routes.txt",
+    "trips.txt",
+    "stop_times.txt",
+    "calendar.txt",
+    "calendar_dates.txt",
+    "frequencies.txt",
+    "transfers.txt",
+]
+
 # No run of the program over an example takes longer, in seconds.
 LIMIT = 60
 
@@ -24,6 +41,30 @@ def build():
     """Has the launcher build the program, where it is not built."""
     built = subprocess.run([LAUNCHER, "--help"], stdout=subprocess.DEVNULL, stdin=subprocess.DEVNULL)
     want(built.returncode == 0, f"{LAUNCHER} --help ended with status {built.returncode}")
+
+
+def read(path):
+    with open(path, "rb") as file:
+        return file.read()
+
+
+def files_in(folder):
+    """The bytes of the files of a folder, by their names; none where there is no folder."""
+    return {name: read(os.path.join(folder, name)) for name in os.listdir(folder)} if os.path.isdir(folder) else {}
+
+
+def first_written(folder):
+    """How many of the files of the small feed stand whole in a folder, the first ones. The next may be there, and no other."""
+    held = files_in(folder)
+    whole = [held.get(name) == read(os.path.join(WRITTEN, name)) for name in FILES]
+    count = whole.index(False) if False in whole else len(whole)
+    want(set(held) <= set(FILES[:count + 1]), f"{count} files are whole, and there are {sorted(held)}")
+    return count
+
+
+def has_command(command):
+    """Whether the program has the command."""
+    return subprocess.run([PROGRAM, command, "--help"], stdin=subprocess.DEVNULL, capture_output=True).returncode == 0
 
 
 def main(name, tests):

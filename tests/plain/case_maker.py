@@ -6,11 +6,12 @@ from random import Random
 from boards import Key, departures
 from commands import Ended, feed, moment_of, zone_of
 from feed_maker import BASES, file_bytes, make_feed
+from hostile import change_case
 from oddities import DIFFERENCES, ODDITIES, change
 from values import LAST_SERVICE_DAY, Form, Range, date_text
 from words import COMMANDS
 from zone_maker import make_zone, no_zone
-from zones import DAY, midnight
+from zones import DAY, Odd, midnight
 
 
 def put(path, files):
@@ -86,7 +87,7 @@ def key_near(random, zone, stop, begin):
     try:
         start = start_of(begin)
         keys = [found[0] for found in departures(feed("f"), zone_of(zone), stop, start - DAY, start + 3 * DAY)]
-    except (Ended, Form, Range):
+    except (Ended, Form, Odd, Range):
         keys = []
     if random.random() < 0.1:
         return odd_key(random)
@@ -190,8 +191,10 @@ def odd_words(random, command, given):
 
 
 def make_case(name):
-    """Makes the case of this name, as `1-17-board`, in the folder where this runs, and gives its words."""
+    """Makes the case of this name, as `1-17-board` or `1-17-hostile-board`, in the folder where this runs, and gives its words."""
     random = Random(name)
     command = name.split("-")[-1]
     given = GIVEN[command](random)
+    if "-hostile-" in name:
+        return change_case(random, words_of(random, command, given))
     return odd_words(random, command, given) if random.random() < 0.04 else words_of(random, command, given)

@@ -11,10 +11,13 @@ from problems import passes, problems, report
 from tables import NotThere, Unreadable, read_tables
 from values import FIRST_SERVICE_DAY, LAST_SERVICE_DAY, Form, Range, plain, read_count, read_date, shaped
 from words import Help, NotUtf8, Refused, read_words
-from zones import NoZone, read_zone
+from zones import NoZone, Odd, read_zone
 
 # A text that is there and is not fixed.
 SOME = object()
+
+# How a run ends that is not fixed: with any status and texts that go together.
+UNKNOWN = object()
 
 
 @dataclass
@@ -186,5 +189,7 @@ def outcome(words):
         return Outcome(2, err=SOME)
     except NotUtf8:
         return Ended(2, "bad words").outcome
+    except Odd:
+        return UNKNOWN
     except Ended as ended:
         return ended.outcome

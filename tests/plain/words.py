@@ -21,13 +21,23 @@ class Refused(Exception):
     """Something is wrong with the words first."""
 
 
+def asks_for_help(word):
+    """Letters behind one dash are options of a letter each, of which the first decides."""
+    return word == "--help" or word.startswith("-h")
+
+
+def looks_like_option(word):
+    """A dash alone is a text as any other."""
+    return word.startswith("-") and word != "-"
+
+
 def read_words(words):
     """The command and the text of each position and option. The words stand behind the program's name."""
     if any("\udc80" <= char <= "\udcff" for word in words for char in word):
         raise NotUtf8
     if not words:
         raise Refused
-    if words[0] in ("--help", "-h"):
+    if asks_for_help(words[0]):
         raise Help
     if words[0] not in COMMANDS:
         raise Refused
@@ -36,7 +46,7 @@ def read_words(words):
     rest = list(words[1:])
     while rest:
         word = rest.pop(0)
-        if word in ("--help", "-h") and not options_end:
+        if asks_for_help(word) and not options_end:
             raise Help
         if word == "--" and not options_end:
             options_end = True
@@ -46,12 +56,12 @@ def read_words(words):
             if name not in needed + free or name in given:
                 raise Refused
             if not equals:
-                if not rest or rest[0].startswith("-"):
+                if not rest or looks_like_option(rest[0]):
                     raise Refused
                 text = rest.pop(0)
         else:
             left = [position for position in positions if position not in given]
-            if (word.startswith("-") and not options_end) or not left:
+            if (looks_like_option(word) and not options_end) or not left:
                 raise Refused
             name, text = left[0], word
         given[name] = text

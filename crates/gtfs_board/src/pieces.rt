@@ -1,5 +1,5 @@
 //! Pieces of a line. Whoever appends one has made room for it.
-ghost use Rattle.std.specs.Prelude.{◌≡◌, ◌++◌, ◌≤◌, ◌+◌, ◌%◌, length, string_bytes, string_len};
+ghost use Rattle.std.specs.Prelude.{◌≡◌, ◌++◌, ◌≤◌, ◌+◌, ◌%◌, drop, length, string_bytes, string_len, take};
 ghost use Rattle.std.specs.String.{string_capacity};
 ghost use Rattle.std.specs.Str.{IsAscii};
 ghost use Rattle.gtfs_field.specs.Digits.{wide};
@@ -17,33 +17,27 @@ pub(crate) fn push_piece(text: &mut String, before: &str, piece: &str)
     text.push_str(piece).unwrap();
 }
 
-// Appends what stands before a number, and its last two digits.
-pub(crate) fn push_two_digits(text: &mut String, before: &str, number: u32)
-    requires { string_len text.old + (length before.now + 2) ≤ string_capacity text.old }
-    ensures appended { string_bytes text.new
-        ≡ string_bytes text.old ++ (before.now ++ wide 2 number) }
-    ensures len { string_len text.new ≡ string_len text.old + (length before.now + 2) }
+// Appends ASCII bytes.
+pub(crate) fn push_ascii(text: &mut String, bytes: &[u8])
+    requires ascii { IsAscii bytes.now }
+    requires room { string_len text.old + length bytes.now ≤ string_capacity text.old }
+    ensures appended { string_bytes text.new ≡ string_bytes text.old ++ bytes.now }
+    ensures len { string_len text.new ≡ string_len text.old + length bytes.now }
     ensures capacity { string_capacity text.old ≤ string_capacity text.new }
 {
-    let digits = [digit(number / 10), digit(number)];
-    push_piece(text, before, ascii(&digits));
+    text.push_str(unsafe { str::from_utf8_unchecked(bytes) })
+        .unwrap();
 }
 
-// Appends what stands before a number, and its last four digits.
-pub(crate) fn push_four_digits(text: &mut String, before: &str, number: u32)
-    requires { string_len text.old + (length before.now + 4) ≤ string_capacity text.old }
-    ensures appended { string_bytes text.new
-        ≡ string_bytes text.old ++ (before.now ++ wide 4 number) }
-    ensures len { string_len text.new ≡ string_len text.old + (length before.now + 4) }
-    ensures capacity { string_capacity text.old ≤ string_capacity text.new }
+// Writes the last two digits of a number in place of the two bytes from a place on.
+pub(crate) fn write_two_digits(bytes: &mut [u8], at: usize, number: u32)
+    requires { at + 2 ≤ length bytes.old }
+    ensures written { bytes.new
+        ≡ take at bytes.old ++ (wide 2 number ++ drop (at + 2) bytes.old) }
+    ensures ascii { IsAscii bytes.old → IsAscii bytes.new }
 {
-    let digits = [
-        digit(number / 10 / 10 / 10),
-        digit(number / 10 / 10),
-        digit(number / 10),
-        digit(number),
-    ];
-    push_piece(text, before, ascii(&digits));
+    bytes[at] = digit(number / 10);
+    bytes[at + 1] = digit(number);
 }
 
 // The last digit of a number.
@@ -51,12 +45,4 @@ fn digit(number: u32) -> u8
     ensures { result ≡ 48 + number % 10 }
 {
     b'0' + (number % 10) as u8
-}
-
-// The text of ASCII bytes.
-fn ascii(bytes: &[u8]) -> &str
-    requires { IsAscii bytes.now }
-    ensures { result.now ≡ bytes.now }
-{
-    str::from_utf8(bytes).unwrap()
 }

@@ -5,14 +5,17 @@ use Rattle.clap.specs.Words.{Row, Text, subcommand_of}
 use Rattle.gtfs_table.specs.Folder.{Store}
 use Rattle.gtfs_cli.specs.BoardRun.{IsListed, IsUnlisted}
 use Rattle.gtfs_cli.specs.Boards.{EndsBoard, PrintsBoard}
-use Rattle.gtfs_words.specs.Words.{gtfs_app, texts_of, AsksBoardOf, BoardTexts, IsCommandOf}
-use Rattle.gtfs_words.specs.Asked.{ForBoard, ForCheck}
-use Rattle.gtfs_words.proofs.OneAsked.{same_board}
+use Rattle.gtfs_words.specs.Words.{gtfs_app, texts_of, timetable_texts_of, AsksBoardOf, AsksTimetableOf, BoardTexts, IsCommandOf, TimetableTexts}
+use Rattle.gtfs_words.specs.Asked.{ForBoard, ForCheck, ForTimetable}
+use Rattle.gtfs_words.proofs.OneAsked.{same_board, same_timetable}
 use Rattle.gtfs_cli.specs.Refusals.{IsCause}
 use Rattle.gtfs_cli.specs.Running.{Failures}
 use Rattle.gtfs_cli.specs.declared.commands.refusal.Refusal.{Refusal}
 use Rattle.gtfs_words.specs.declared.command.BoardWords.{BoardWords}
-use Rattle.gtfs_words.specs.declared.command.Command.TheVariants.{Board}
+use Rattle.gtfs_words.specs.declared.command.Command.TheVariants.{Board, Timetable}
+use Rattle.gtfs_words.specs.declared.command.TimetableWords.{TimetableWords}
+use Rattle.gtfs_cli.specs.TimetableRun.{IsTabled, IsUntabled}
+use Rattle.gtfs_cli.specs.Timetables.{EndsTimetable, IsTimetableCause, PrintsTimetable}
 
 other_name : codes "board" ≡ codes "check" → ⊥
 other_name e = let first : 98 ≡ 99 = ap (λ (t : List ℕ). slice_index t 0) e in omega (arith, first)
@@ -40,4 +43,47 @@ module _ (texts : List Text) (limit : ℕ) (held : Option Store) (words : BoardW
       record {
         cause = subst (λ (t : BoardTexts). IsCause limit held t before after r) is_same cause;
         ends = subst (λ (t : BoardTexts). EndsBoard limit held t old new r) is_same ends;
+      }
+
+-- words that ask for the command ask for that timetable
+for-timetable : (found : Option (Text × List Row)) (words : TimetableWords) → IsCommandOf found (Timetable words) → ForTimetable found (timetable_texts_of words)
+for-timetable None words is = is
+for-timetable (Some found) words is = is
+
+-- and for no check and no board
+names_apart : codes "timetable" ≡ codes "check" → ⊥
+names_apart e = let first : 116 ≡ 99 = ap (λ (t : List ℕ). slice_index t 0) e in omega (arith, first)
+
+names_apart_board : codes "timetable" ≡ codes "board" → ⊥
+names_apart_board e = let first : 116 ≡ 98 = ap (λ (t : List ℕ). slice_index t 0) e in omega (arith, first)
+
+pub no-check-of-timetable : (found : Option (Text × List Row)) (words : TimetableWords) (dir : Text) → IsCommandOf found (Timetable words) → ForCheck found dir → ⊥
+no-check-of-timetable None words dir is asks = is
+no-check-of-timetable (Some found) words dir is asks = names_apart (sym is.0 ∙ asks.0)
+
+pub no-board-of-timetable : (found : Option (Text × List Row)) (words : TimetableWords) (asked : BoardTexts) → IsCommandOf found (Timetable words)
+    → ForBoard found asked → ⊥
+no-board-of-timetable None words asked is asks = is
+no-board-of-timetable (Some found) words asked is asks = names_apart_board (sym is.0 ∙ asks.0)
+
+pub no-timetable-of-board : (found : Option (Text × List Row)) (words : BoardWords) (asked : TimetableTexts) → IsCommandOf found (Board words)
+    → ForTimetable found asked → ⊥
+no-timetable-of-board None words asked is asks = is
+no-timetable-of-board (Some found) words asked is asks = names_apart_board (sym asks.0 ∙ is.0)
+
+module _ (texts : List Text) (limit : ℕ) (held : Option Store) (words : TimetableWords)
+    (is : IsCommandOf (subcommand_of gtfs_app texts) (Timetable words)) where
+  pub timetable-tabled : (old new : Option (List ℕ)) → PrintsTimetable limit held (timetable_texts_of words) old new → (asked : TimetableTexts)
+      → AsksTimetableOf texts asked → IsTabled limit held asked old new false
+  timetable-tabled old new prints asked asks =
+      (subst (λ (t : TimetableTexts). PrintsTimetable limit held t old new) (same_timetable _ (timetable_texts_of words) asked (for-timetable _ words is) asks.asks) prints, refl)
+
+  pub timetable-untabled : (before after : Failures) (old new : Option (List ℕ)) (r : Refusal)
+      → IsTimetableCause limit held (timetable_texts_of words) before after r → EndsTimetable limit held (timetable_texts_of words) old new r
+      → (asked : TimetableTexts) → AsksTimetableOf texts asked → IsUntabled limit held asked before after old new r
+  timetable-untabled before after old new r cause ends asked asks =
+      let is_same = same_timetable _ (timetable_texts_of words) asked (for-timetable _ words is) asks.asks in
+      record {
+        cause = subst (λ (t : TimetableTexts). IsTimetableCause limit held t before after r) is_same cause;
+        ends = subst (λ (t : TimetableTexts). EndsTimetable limit held t old new r) is_same ends;
       }

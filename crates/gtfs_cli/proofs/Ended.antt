@@ -11,7 +11,7 @@ use Rattle.gtfs_cli.specs.Refusals.{status_of}
 use Rattle.gtfs_cli.specs.Running.{Failures}
 use Rattle.gtfs_cli.specs.Sending.{Output, Sends, SendsBeginning}
 use Rattle.gtfs_cli.specs.declared.commands.refusal.Refusal.{Refusal}
-use Rattle.gtfs_cli.specs.declared.commands.refusal.Refusal.TheVariants.{Words, BadValue, NotThere, Unreadable, OverLimit, HasErrors, NoZone, UnknownStop, UntilBeforeFrom, OutputFailed, OutOfMemory}
+use Rattle.gtfs_cli.specs.declared.commands.refusal.Refusal.TheVariants.{Words, BadValue, NotThere, Unreadable, OverLimit, HasErrors, NoZone, UnknownStop, UnknownRoute, UntilBeforeFrom, OutputFailed, OutOfMemory}
 use Rattle.gtfs_cli.proofs.Printed.{kept}
 
 -- no refusal ends well
@@ -24,6 +24,7 @@ not_well (OverLimit path) e = cc e
 not_well (HasErrors path) e = cc e
 not_well (NoZone path) e = cc e
 not_well UnknownStop e = cc e
+not_well UnknownRoute e = cc e
 not_well UntilBeforeFrom e = cc e
 not_well OutputFailed e = cc e
 not_well OutOfMemory e = cc e

@@ -11,4 +11,5 @@ mod Asked
 mod Printed
 mod Opening
 mod Ended
+mod Tabled
 mod Untaken

@@ -73,6 +73,10 @@ pub ok-then : {A B : Type 0} (r : Result A B) (P Q : Type 0) → (P → Q) → O
 ok-then (Ok x) P Q f h = f h
 ok-then (Err e) P Q f h = tt
 
+pub both-then : {A B : Type 0} (r : Result A B) (P Q R : Type 0) → (P → Q → R) → OnOk r P → OnOk r Q → OnOk r R
+both-then (Ok x) P Q R f p q = f p q
+both-then (Err e) P Q R f p q = tt
+
 pub err-then : {A B : Type 0} (r : Result A B) (P Q : Type 0) → (P → Q) → OnErr r P → OnErr r Q
 err-then (Ok x) P Q f h = tt
 err-then (Err e) P Q f h = f h

@@ -11,11 +11,11 @@ use Rattle.gtfs_board.specs.Board.{is_stop}
 use Rattle.gtfs_board.specs.Page.{IsCutShort, IsStopped}
 use Rattle.gtfs_cli.specs.Boards.{request_of, AreValues, EndsBoard, EndsLines, GoesOut, HoldsFeed, IsFeedCause, IsLinesCause, IsOpeningCause, Lists, OfBoard}
 use Rattle.gtfs_words.specs.Words.{BoardTexts}
-use Rattle.gtfs_cli.specs.Refusals.{IsCause, IsFirstBad}
+use Rattle.gtfs_cli.specs.Refusals.{IsCause, IsFirstBad, IsReadingCause}
 use Rattle.gtfs_cli.specs.Running.{after_of, first_bad, limit_of, moment_of, Failures, HasValues, HoldsPassing, HoldsTables, HoldsZone, Request, Setting}
 use Rattle.gtfs_cli.specs.declared.commands.moments.Moment.{Moment}
 use Rattle.gtfs_cli.specs.declared.commands.refusal.Refusal.{Refusal}
-use Rattle.gtfs_cli.specs.declared.commands.refusal.Refusal.TheVariants.{Words, BadValue, NotThere, Unreadable, OverLimit, HasErrors, NoZone, UnknownStop, UntilBeforeFrom, OutputFailed, OutOfMemory}
+use Rattle.gtfs_cli.specs.declared.commands.refusal.Refusal.TheVariants.{Words, BadValue, NotThere, Unreadable, OverLimit, HasErrors, NoZone, UnknownStop, UnknownRoute, UntilBeforeFrom, OutputFailed, OutOfMemory}
 use Rattle.gtfs_cli.specs.declared.commands.values.Values.{Values}
 
 -- nothing went out
@@ -34,6 +34,7 @@ first-bad-cause limit held asked before after (OverLimit path) h = absurd h
 first-bad-cause limit held asked before after (HasErrors path) h = absurd h
 first-bad-cause limit held asked before after (NoZone path) h = absurd h
 first-bad-cause limit held asked before after UnknownStop h = absurd h
+first-bad-cause limit held asked before after UnknownRoute h = absurd h
 first-bad-cause limit held asked before after UntilBeforeFrom h = absurd h
 first-bad-cause limit held asked before after OutputFailed h = absurd h
 first-bad-cause limit held asked before after OutOfMemory h = absurd h
@@ -61,6 +62,7 @@ none-out limit held asked x y (OverLimit path) old new h keeps = keeps
 none-out limit held asked x y (HasErrors path) old new h keeps = keeps
 none-out limit held asked x y (NoZone path) old new h keeps = keeps
 none-out limit held asked x y UnknownStop old new h keeps = keeps
+none-out limit held asked x y UnknownRoute old new h keeps = keeps
 none-out limit held asked x y UntilBeforeFrom old new h keeps = keeps
 none-out limit held asked x y OutputFailed old new h keeps = absurd (omega (arith, h (counts x) (counts y) (same x) (same y)))
 none-out limit held asked x y OutOfMemory old new h keeps = inl keeps
@@ -77,10 +79,9 @@ has-passing limit held dir feed h = (h.dataset, h.holds, h.is_feed.0)
 pub moved : (P : ℕ → Option Store → Type 0) (l m : ℕ) (h k : Option Store) → l ≡ m → h ≡ k → P l h → P m k
 moved P l m h k same_limit same_held x = subst (λ (a : ℕ). P a k) same_limit (subst (λ (b : Option Store). P l b) same_held x)
 
--- the refusal has a cause where the options have values, whatever the output did
-abbrev pub FeedCause : ℕ → Option Store → BoardTexts → ℕ → ℕ → Refusal → Type 0
-FeedCause limit held asked x y r =
-    (before after : Failures) → before.folders ≤ x → y ≤ after.folders → HasValues asked → IsCause limit held asked before after r
+-- the refusal has a cause in the folder of the feed, whatever the output did
+abbrev pub ReadingAside : ℕ → Option Store → List ℕ → ℕ → ℕ → Refusal → Type 0
+ReadingAside limit held dir x y r = (before after : Failures) → before.folders ≤ x → y ≤ after.folders → IsReadingCause limit held dir before after r
 
 -- ---- from a feed and a zone to what the folders hold
 
@@ -109,6 +110,7 @@ module _ (limit : ℕ) (held : Option Store) (asked : BoardTexts) (feed : Feed) 
   ends-of old new (HasErrors path) e = e
   ends-of old new (NoZone path) e = e
   ends-of old new UnknownStop e = e
+  ends-of old new UnknownRoute e = e
   ends-of old new UntilBeforeFrom e = e
   ends-of old new OutputFailed e = lists-of IsCutShort old new e
   ends-of old new OutOfMemory (inl e) = inl e
@@ -124,6 +126,7 @@ module _ (limit : ℕ) (held : Option Store) (asked : BoardTexts) (feed : Feed) 
   cause-of before after (HasErrors path) e = absurd e
   cause-of before after (NoZone path) e = absurd e
   cause-of before after UnknownStop e = (setting, subst (λ (f : Content). is_stop f asked.stop ≡ false) h.is_feed.1 e)
+  cause-of before after UnknownRoute e = absurd e
   cause-of before after UntilBeforeFrom e = (setting, subst (λ (f : Content). is_stop f asked.stop ≡ true) h.is_feed.1 e.0, e.1)
   cause-of before after OutputFailed e = e
   cause-of before after OutOfMemory e = tt
@@ -140,6 +143,7 @@ opening-ends f z stop r old new (OverLimit path) e keeps = absurd e
 opening-ends f z stop r old new (HasErrors path) e keeps = absurd e
 opening-ends f z stop r old new (NoZone path) e keeps = absurd e
 opening-ends f z stop r old new UnknownStop e keeps = keeps
+opening-ends f z stop r old new UnknownRoute e keeps = absurd e
 opening-ends f z stop r old new UntilBeforeFrom e keeps = keeps
 opening-ends f z stop r old new OutputFailed e keeps = absurd e
 opening-ends f z stop r old new OutOfMemory e keeps = inl keeps
@@ -154,25 +158,27 @@ opening-cause f z stop r before after (OverLimit path) e = e
 opening-cause f z stop r before after (HasErrors path) e = e
 opening-cause f z stop r before after (NoZone path) e = e
 opening-cause f z stop r before after UnknownStop e = e
+opening-cause f z stop r before after UnknownRoute e = e
 opening-cause f z stop r before after UntilBeforeFrom e = e
 opening-cause f z stop r before after OutputFailed e = absurd e
 opening-cause f z stop r before after OutOfMemory e = tt
 
 -- ---- where there is no feed
 
-pub feed-cause : (limit : ℕ) (held : Option Store) (asked : BoardTexts) (before after : Failures) (d : Dataset) (r : Refusal) → HasValues asked → HoldsTables limit held asked.dir d
-    → IsFeedCause d asked.dir r → IsCause limit held asked before after r
-feed-cause limit held asked before after d (Words text) v holds e = absurd e
-feed-cause limit held asked before after d (BadValue option) v holds e = absurd e
-feed-cause limit held asked before after d (NotThere path) v holds e = absurd e
-feed-cause limit held asked before after d (Unreadable path) v holds e = absurd e
-feed-cause limit held asked before after d (OverLimit path) v holds e = absurd e
-feed-cause limit held asked before after d (HasErrors path) v holds e = (v, e.0, (d, holds, e.1))
-feed-cause limit held asked before after d (NoZone path) v holds e = absurd e
-feed-cause limit held asked before after d UnknownStop v holds e = absurd e
-feed-cause limit held asked before after d UntilBeforeFrom v holds e = absurd e
-feed-cause limit held asked before after d OutputFailed v holds e = absurd e
-feed-cause limit held asked before after d OutOfMemory v holds e = tt
+pub feed-cause : (limit : ℕ) (held : Option Store) (dir : List ℕ) (before after : Failures) (d : Dataset) (r : Refusal) → HoldsTables limit held dir d
+    → IsFeedCause d dir r → IsReadingCause limit held dir before after r
+feed-cause limit held dir before after d (Words text) holds e = absurd e
+feed-cause limit held dir before after d (BadValue option) holds e = absurd e
+feed-cause limit held dir before after d (NotThere path) holds e = absurd e
+feed-cause limit held dir before after d (Unreadable path) holds e = absurd e
+feed-cause limit held dir before after d (OverLimit path) holds e = absurd e
+feed-cause limit held dir before after d (HasErrors path) holds e = (e.0, (d, holds, e.1))
+feed-cause limit held dir before after d (NoZone path) holds e = absurd e
+feed-cause limit held dir before after d UnknownStop holds e = absurd e
+feed-cause limit held dir before after d UnknownRoute holds e = absurd e
+feed-cause limit held dir before after d UntilBeforeFrom holds e = absurd e
+feed-cause limit held dir before after d OutputFailed holds e = absurd e
+feed-cause limit held dir before after d OutOfMemory holds e = tt
 
 pub first-bad-ends : (limit : ℕ) (held : Option Store) (asked : BoardTexts) (r : Refusal) (old new : Option (List ℕ)) → IsFirstBad asked r → Keeps old new → EndsBoard limit held asked old new r
 first-bad-ends limit held asked r old new h keeps = none-out limit held asked 0 0 r old new (λ before after _ _. first-bad-cause limit held asked before after r h) keeps

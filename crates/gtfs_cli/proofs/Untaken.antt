@@ -6,9 +6,10 @@ use Rattle.clap.specs.Words.{Text}
 use Rattle.gtfs_table.specs.Device.{Rises}
 use Rattle.gtfs_table.specs.Folder.{Store}
 use Rattle.gtfs_cli.specs.BoardRun.{IsListed, IsUnlisted}
+use Rattle.gtfs_cli.specs.TimetableRun.{IsTabled, IsUntabled}
 use Rattle.gtfs_cli.specs.CheckRun.{IsCutShort}
 use Rattle.gtfs_cli.specs.Checking.{IsReportOf}
-use Rattle.gtfs_words.specs.Words.{AreRefused, BoardTexts}
+use Rattle.gtfs_words.specs.Words.{AreRefused, BoardTexts, TimetableTexts}
 use Rattle.gtfs_cli.specs.Messages.{message}
 use Rattle.gtfs_cli.specs.Refusals.{status_of, IsCauseInWords, IsCheckCause}
 use Rattle.gtfs_cli.specs.Running.{Failures}
@@ -70,3 +71,9 @@ module _ (limit : ℕ) (held : Option Store) (before after : Failures) (old new 
 
   pub unread-unlisted : (asked : BoardTexts) → IfErr r (IsUnlisted limit held asked before after old new)
   unread-unlisted asked = told-up r OutOfMemory (IsUnlisted limit held asked before after old new) is (record { cause = tt; ends = inl keeps })
+
+  pub unread-tabled : (asked : TimetableTexts) → IfOk r (IsTabled limit held asked old new)
+  unread-tabled asked = none_read (IsTabled limit held asked old new)
+
+  pub unread-untabled : (asked : TimetableTexts) → IfErr r (IsUntabled limit held asked before after old new)
+  unread-untabled asked = told-up r OutOfMemory (IsUntabled limit held asked before after old new) is (record { cause = tt; ends = inl keeps })

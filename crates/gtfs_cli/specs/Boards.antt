@@ -21,7 +21,7 @@ use Rattle.gtfs_words.specs.Words.{BoardTexts}
 use Rattle.gtfs_cli.specs.Refusals.{IsSound}
 use Rattle.gtfs_cli.specs.Running.{instant_at, HoldsTables, IsRequest, LiesBefore, Request, Setting}
 use Rattle.gtfs_cli.specs.declared.commands.refusal.Refusal.{Refusal}
-use Rattle.gtfs_cli.specs.declared.commands.refusal.Refusal.TheVariants.{Words, BadValue, NotThere, Unreadable, OverLimit, HasErrors, NoZone, UnknownStop, UntilBeforeFrom, OutputFailed, OutOfMemory}
+use Rattle.gtfs_cli.specs.declared.commands.refusal.Refusal.TheVariants.{Words, BadValue, NotThere, Unreadable, OverLimit, HasErrors, NoZone, UnknownStop, UnknownRoute, UntilBeforeFrom, OutputFailed, OutOfMemory}
 use Rattle.gtfs_cli.specs.declared.commands.values.Values.{Values}
 
 -- ---- of a feed, a zone and the values of the options
@@ -57,6 +57,7 @@ EndsLines f z stop r before after (OverLimit path) = Keeps before after
 EndsLines f z stop r before after (HasErrors path) = Keeps before after
 EndsLines f z stop r before after (NoZone path) = Keeps before after
 EndsLines f z stop r before after UnknownStop = Keeps before after
+EndsLines f z stop r before after UnknownRoute = Keeps before after
 EndsLines f z stop r before after UntilBeforeFrom = Keeps before after
 EndsLines f z stop r before after OutputFailed = OfBoard IsCutShort f z stop r before after
 EndsLines f z stop r before after OutOfMemory = Keeps before after ⊎ OfBoard IsStopped f z stop r before after
@@ -71,6 +72,7 @@ IsLinesCause f z stop r before after (OverLimit path) = ⊥
 IsLinesCause f z stop r before after (HasErrors path) = ⊥
 IsLinesCause f z stop r before after (NoZone path) = ⊥
 IsLinesCause f z stop r before after UnknownStop = is_stop f stop ≡ false
+IsLinesCause f z stop r before after UnknownRoute = ⊥
 IsLinesCause f z stop r before after UntilBeforeFrom = (is_stop f stop ≡ true) × LiesBefore z r
 IsLinesCause f z stop r before after OutputFailed = Rises before after
 IsLinesCause f z stop r before after OutOfMemory = ⊤
@@ -85,6 +87,7 @@ IsOpeningCause f z stop r (OverLimit path) = ⊥
 IsOpeningCause f z stop r (HasErrors path) = ⊥
 IsOpeningCause f z stop r (NoZone path) = ⊥
 IsOpeningCause f z stop r UnknownStop = is_stop f stop ≡ false
+IsOpeningCause f z stop r UnknownRoute = ⊥
 IsOpeningCause f z stop r UntilBeforeFrom = (is_stop f stop ≡ true) × LiesBefore z r
 IsOpeningCause f z stop r OutputFailed = ⊥
 IsOpeningCause f z stop r OutOfMemory = ⊤
@@ -109,6 +112,7 @@ EndsBoard limit held asked before after (OverLimit path) = Keeps before after
 EndsBoard limit held asked before after (HasErrors path) = Keeps before after
 EndsBoard limit held asked before after (NoZone path) = Keeps before after
 EndsBoard limit held asked before after UnknownStop = Keeps before after
+EndsBoard limit held asked before after UnknownRoute = Keeps before after
 EndsBoard limit held asked before after UntilBeforeFrom = Keeps before after
 EndsBoard limit held asked before after OutputFailed = Lists IsCutShort limit held asked before after
 EndsBoard limit held asked before after OutOfMemory = Keeps before after ⊎ Lists IsStopped limit held asked before after
@@ -135,6 +139,7 @@ IsFeedCause d dir (OverLimit path) = ⊥
 IsFeedCause d dir (HasErrors path) = (path.now ≡ dir) × (Passes d → ⊥)
 IsFeedCause d dir (NoZone path) = ⊥
 IsFeedCause d dir UnknownStop = ⊥
+IsFeedCause d dir UnknownRoute = ⊥
 IsFeedCause d dir UntilBeforeFrom = ⊥
 IsFeedCause d dir OutputFailed = ⊥
 IsFeedCause d dir OutOfMemory = ⊤

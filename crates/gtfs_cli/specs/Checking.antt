@@ -9,7 +9,7 @@ use Rattle.gtfs_columns.specs.Problems.{Problem, name_bytes, passes, IsReport}
 use Rattle.gtfs_rules.specs.Report.{report_text}
 use Rattle.gtfs_cli.specs.Running.{HoldsTables}
 use Rattle.gtfs_cli.specs.declared.commands.refusal.Refusal.{Refusal}
-use Rattle.gtfs_cli.specs.declared.commands.refusal.Refusal.TheVariants.{Words, BadValue, NotThere, Unreadable, OverLimit, HasErrors, NoZone, UnknownStop, UntilBeforeFrom, OutputFailed, OutOfMemory}
+use Rattle.gtfs_cli.specs.declared.commands.refusal.Refusal.TheVariants.{Words, BadValue, NotThere, Unreadable, OverLimit, HasErrors, NoZone, UnknownStop, UnknownRoute, UntilBeforeFrom, OutputFailed, OutOfMemory}
 
 -- how many bytes of a problem's line are names or texts of its code
 abbrev pub names_len : Problem → ℕ
@@ -42,6 +42,7 @@ IsSendingCause before after (OverLimit path) = ⊥
 IsSendingCause before after (HasErrors path) = ⊥
 IsSendingCause before after (NoZone path) = ⊥
 IsSendingCause before after UnknownStop = ⊥
+IsSendingCause before after UnknownRoute = ⊥
 IsSendingCause before after UntilBeforeFrom = ⊥
 IsSendingCause before after OutputFailed = Rises before after
 IsSendingCause before after OutOfMemory = ⊤

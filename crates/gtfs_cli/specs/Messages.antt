@@ -2,7 +2,7 @@
 use Rattle.std.specs.Prelude.{ℕ, List, [], ◌++◌, codes, string_bytes}
 use Rattle.gtfs_columns.specs.Values.{plain}
 use Rattle.gtfs_cli.specs.declared.commands.refusal.Refusal.{Refusal}
-use Rattle.gtfs_cli.specs.declared.commands.refusal.Refusal.TheVariants.{Words, BadValue, NotThere, Unreadable, OverLimit, HasErrors, NoZone, UnknownStop, UntilBeforeFrom, OutputFailed, OutOfMemory}
+use Rattle.gtfs_cli.specs.declared.commands.refusal.Refusal.TheVariants.{Words, BadValue, NotThere, Unreadable, OverLimit, HasErrors, NoZone, UnknownStop, UnknownRoute, UntilBeforeFrom, OutputFailed, OutOfMemory}
 
 -- a line of two texts, in which each control character is a space
 abbrev pub line_of : List ℕ → List ℕ → List ℕ
@@ -18,6 +18,7 @@ message (OverLimit path) = line_of path.now (codes " holds a file over the limit
 message (HasErrors path) = line_of path.now (codes " has errors")
 message (NoZone path) = line_of path.now (codes " is no zone file")
 message UnknownStop = line_of (codes "unknown stop") []
+message UnknownRoute = line_of (codes "unknown route") []
 message UntilBeforeFrom = line_of (codes "until lies before from") []
 message OutputFailed = line_of (codes "output failed") []
 message OutOfMemory = line_of (codes "out of memory") []

@@ -7,11 +7,12 @@ use Rattle.gtfs_table.specs.Folder.{Store}
 use Rattle.gtfs_table.specs.declared.folders.FolderFault.{FolderFault}
 use Rattle.gtfs_table.specs.declared.folders.FolderFault.TheVariants as faults
 use Rattle.gtfs_words.specs.Words.{AreForHelp, AreRefused, BoardTexts}
-use Rattle.gtfs_cli.specs.Running.{first_bad, AsksCheck, AsksFor, EndsBeforeItBegins, Failures, HasValues, HoldsErrors, HoldsFile, HoldsKeptFile, HoldsNoZone, HoldsPassing, LacksFeed, LacksFile, LacksStop, NamesNoFile}
+use Rattle.gtfs_cli.specs.Running.{first_bad, AsksCheck, AsksFor, AsksTimetable, EndsBeforeItBegins, Failures, HasValues, HoldsErrors, HoldsFile, HoldsKeptFile, HoldsNoZone, HoldsPassing, LacksFeed, LacksFile, LacksStop, NamesNoFile}
+use Rattle.gtfs_cli.specs.Timetables.{IsTimetableCause}
 use Rattle.gtfs_cli.specs.declared.commands.moments.Moment.{Moment}
 use Rattle.gtfs_cli.specs.declared.commands.moments.Moment.TheVariants.{Instant, ServiceDay}
 use Rattle.gtfs_cli.specs.declared.commands.refusal.Refusal.{Refusal}
-use Rattle.gtfs_cli.specs.declared.commands.refusal.Refusal.TheVariants.{Words, BadValue, NotThere, Unreadable, OverLimit, HasErrors, NoZone, UnknownStop, UntilBeforeFrom, OutputFailed, OutOfMemory}
+use Rattle.gtfs_cli.specs.declared.commands.refusal.Refusal.TheVariants.{Words, BadValue, NotThere, Unreadable, OverLimit, HasErrors, NoZone, UnknownStop, UnknownRoute, UntilBeforeFrom, OutputFailed, OutOfMemory}
 
 abbrev pub status_of : Refusal → ℕ
 status_of (Words text) = 2
@@ -22,6 +23,7 @@ status_of (OverLimit path) = 3
 status_of (HasErrors path) = 1
 status_of (NoZone path) = 3
 status_of UnknownStop = 1
+status_of UnknownRoute = 1
 status_of UntilBeforeFrom = 2
 status_of OutputFailed = 3
 status_of OutOfMemory = 4
@@ -44,6 +46,7 @@ IsCause limit held asked before after (HasErrors path) = HasValues asked × (pat
 IsCause limit held asked before after (NoZone path) =
     HasValues asked × (path.now ≡ asked.zone) × HoldsPassing limit held asked.dir × HoldsNoZone limit held asked.zone
 IsCause limit held asked before after UnknownStop = LacksStop limit held asked
+IsCause limit held asked before after UnknownRoute = ⊥
 IsCause limit held asked before after UntilBeforeFrom = EndsBeforeItBegins limit held asked
 IsCause limit held asked before after OutputFailed = Rises before.output after.output
 IsCause limit held asked before after OutOfMemory = ⊤
@@ -58,9 +61,25 @@ IsCheckCause limit held dir before after (OverLimit path) = (path.now ≡ dir) �
 IsCheckCause limit held dir before after (HasErrors path) = ⊥
 IsCheckCause limit held dir before after (NoZone path) = ⊥
 IsCheckCause limit held dir before after UnknownStop = ⊥
+IsCheckCause limit held dir before after UnknownRoute = ⊥
 IsCheckCause limit held dir before after UntilBeforeFrom = ⊥
 IsCheckCause limit held dir before after OutputFailed = Rises before.output after.output
 IsCheckCause limit held dir before after OutOfMemory = ⊤
+
+-- when a refusal comes where the feed of a folder is to be read, and that it names that folder
+abbrev pub IsReadingCause : ℕ → Option Store → List ℕ → Failures → Failures → Refusal → Type 0
+IsReadingCause limit held dir before after (Words text) = ⊥
+IsReadingCause limit held dir before after (BadValue option) = ⊥
+IsReadingCause limit held dir before after (NotThere path) = (path.now ≡ dir) × LacksFeed held dir
+IsReadingCause limit held dir before after (Unreadable path) = (path.now ≡ dir) × Rises before.folders after.folders
+IsReadingCause limit held dir before after (OverLimit path) = (path.now ≡ dir) × HoldsKeptFile limit held dir
+IsReadingCause limit held dir before after (HasErrors path) = (path.now ≡ dir) × HoldsErrors limit held dir
+IsReadingCause limit held dir before after (NoZone path) = ⊥
+IsReadingCause limit held dir before after UnknownStop = ⊥
+IsReadingCause limit held dir before after UnknownRoute = ⊥
+IsReadingCause limit held dir before after UntilBeforeFrom = ⊥
+IsReadingCause limit held dir before after OutputFailed = ⊥
+IsReadingCause limit held dir before after OutOfMemory = ⊤
 
 -- when a refusal comes for words alone, which ask for help or are no usage; the counts are those of the output's failures, before and after
 abbrev pub IsCauseInWords : List Text → ℕ → ℕ → Refusal → Type 0
@@ -72,6 +91,7 @@ IsCauseInWords texts before after (OverLimit path) = ⊥
 IsCauseInWords texts before after (HasErrors path) = ⊥
 IsCauseInWords texts before after (NoZone path) = ⊥
 IsCauseInWords texts before after UnknownStop = ⊥
+IsCauseInWords texts before after UnknownRoute = ⊥
 IsCauseInWords texts before after UntilBeforeFrom = ⊥
 IsCauseInWords texts before after OutputFailed = AreForHelp texts × Rises before after
 IsCauseInWords texts before after OutOfMemory = ⊤
@@ -80,7 +100,8 @@ IsCauseInWords texts before after OutOfMemory = ⊤
 abbrev pub IsCauseOf : List Text → ℕ → Option Store → Failures → Failures → Refusal → Type 0
 IsCauseOf texts limit held before after refusal =
     IsCauseInWords texts before.output after.output refusal
-    ⊎ (AsksCheck texts (λ dir. IsCheckCause limit held dir before after refusal) ⊎ AsksFor texts (λ asked. IsCause limit held asked before after refusal))
+    ⊎ (AsksCheck texts (λ dir. IsCheckCause limit held dir before after refusal) ⊎ (AsksFor texts (λ asked. IsCause limit held asked before after refusal)
+    ⊎ AsksTimetable texts (λ asked. IsTimetableCause limit held asked before after refusal)))
 
 -- why the file of a path is not read
 abbrev pub IsFileCause : ℕ → Option Store → List ℕ → Failures → Failures → FolderFault → Type 0
@@ -105,6 +126,7 @@ IsFirstBad asked (OverLimit path) = ⊥
 IsFirstBad asked (HasErrors path) = ⊥
 IsFirstBad asked (NoZone path) = ⊥
 IsFirstBad asked UnknownStop = ⊥
+IsFirstBad asked UnknownRoute = ⊥
 IsFirstBad asked UntilBeforeFrom = ⊥
 IsFirstBad asked OutputFailed = ⊥
 IsFirstBad asked OutOfMemory = ⊥

@@ -22,11 +22,14 @@ use Rattle.gtfs_board.specs.Board.{is_stop}
 use Rattle.gtfs_board.specs.Departures.{Origins}
 use Rattle.gtfs_board.specs.Key.{Key}
 use Rattle.gtfs_board.specs.KeyTexts.{key_of}
-use Rattle.gtfs_words.specs.Words.{gtfs_app, texts_of, AreRefused, BoardTexts, IsCommandOf}
+use Rattle.gtfs_cli.specs.Options.{first_of_bad}
+use Rattle.gtfs_cli.specs.TimetableOptions.{HasBadTimetableValue}
+use Rattle.gtfs_words.specs.Words.{gtfs_app, texts_of, timetable_texts_of, AreRefused, BoardTexts, IsCommandOf, TimetableTexts}
 use Rattle.gtfs_cli.specs.declared.commands.moments.Moment.{Moment}
 use Rattle.gtfs_cli.specs.declared.commands.moments.Moment.TheVariants.{Instant, ServiceDay}
 use Rattle.gtfs_words.specs.declared.command.BoardWords.{BoardWords}
-use Rattle.gtfs_words.specs.declared.command.Command.TheVariants.{Board, Check}
+use Rattle.gtfs_words.specs.declared.command.Command.TheVariants.{Board, Check, Timetable}
+use Rattle.gtfs_words.specs.declared.command.TimetableWords.{TimetableWords}
 
 -- ---- the values of `--from` and `--until`
 
@@ -74,7 +77,7 @@ judged asked = (codes "--from", is_some (moment_of asked.from)) ∷ (codes "--un
 
 -- the first of them that has none
 abbrev pub first_bad : BoardTexts → Option Text
-first_bad asked = option_map (λ o. o.0) (find (λ o. not o.1) (judged asked))
+first_bad asked = first_of_bad (judged asked)
 
 -- one of them has none
 abbrev pub HasBadValue : BoardTexts → Type 0
@@ -213,13 +216,21 @@ pub record AsksFor (texts : List Text) (Fact : BoardTexts → Type 0) : Type 0 w
   pub asks : IsCommandOf (subcommand_of gtfs_app texts) (Board words)
   pub fact : Fact (texts_of words)
 
+-- `clap` takes the words, they ask for a timetable, and this is so of them
+pub record AsksTimetable (texts : List Text) (Fact : TimetableTexts → Type 0) : Type 0 where
+  pub words : TimetableWords
+  pub taken : takes gtfs_app texts ≡ true
+  pub asks : IsCommandOf (subcommand_of gtfs_app texts) (Timetable words)
+  pub fact : Fact (timetable_texts_of words)
+
 -- `clap` does not take the words, which do not ask for help, or a value is bad, or until lies before from
 abbrev pub IsBadUsage : List Text → ℕ → Option Store → Type 0
-IsBadUsage texts limit held = AreRefused texts ⊎ AsksFor texts (λ asked. HasBadValue asked ⊎ EndsBeforeItBegins limit held asked)
+IsBadUsage texts limit held =
+    AreRefused texts ⊎ (AsksFor texts (λ asked. HasBadValue asked ⊎ EndsBeforeItBegins limit held asked) ⊎ AsksTimetable texts HasBadTimetableValue)
 
 -- ---- status 3
 
--- what can be the matter with folders that did not fail, for a check
+-- what can be the matter with folders that did not fail, for a check or a timetable
 abbrev pub KeepsFromChecking : ℕ → Option Store → Text → Type 0
 KeepsFromChecking limit held dir = LacksFeed held dir ⊎ HoldsKeptFile limit held dir
 
@@ -234,8 +245,9 @@ pub record Failures : Type 0 where
   pub folders : ℕ
   pub output : ℕ
 
--- the folders or the output failed, or what the folders hold keeps the words from their check or their board
+-- the folders or the output failed, or what the folders hold keeps the words from their check, their board or their timetable
 abbrev pub IsDeviceFault : List Text → ℕ → Option Store → Failures → Failures → Type 0
 IsDeviceFault texts limit held before after =
     (Rises before.folders after.folders ⊎ Rises before.output after.output)
-    ⊎ (AsksCheck texts (KeepsFromChecking limit held) ⊎ AsksFor texts (KeepsFromReading limit held))
+    ⊎ (AsksCheck texts (KeepsFromChecking limit held) ⊎ (AsksFor texts (KeepsFromReading limit held)
+    ⊎ AsksTimetable texts (λ asked. KeepsFromChecking limit held asked.dir)))

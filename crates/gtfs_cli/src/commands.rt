@@ -4,7 +4,8 @@ ghost use Rattle.std.specs.Io.KnownBytes.{Keeps};
 ghost use Rattle.clap.specs.Words.{Text, takes};
 ghost use Rattle.gtfs_cli.specs.Checking.{IsReportOf};
 ghost use Rattle.gtfs_cli.specs.BoardRun.{IsBoardRun, IsListed, IsUnlisted};
-ghost use Rattle.gtfs_words.specs.Words.{gtfs_app, no_memory, AreRefused, AsksBoardOf, AsksCheckOf, BoardTexts, IsFaultOf};
+ghost use Rattle.gtfs_words.specs.Words.{gtfs_app, no_memory, AreRefused, AsksBoardOf, AsksCheckOf, AsksTimetableOf, BoardTexts, IsFaultOf, TimetableTexts};
+ghost use Rattle.gtfs_cli.specs.TimetableRun.{IsTabled, IsTimetableRun, IsUntabled};
 ghost use Rattle.gtfs_cli.specs.CheckRun.{IsCheckRun, IsCheckTold, IsCutShort};
 ghost use Rattle.gtfs_cli.specs.Running.{IsBadUsage, IsDeviceFault};
 ghost use Rattle.gtfs_cli.specs.Refusals.{IsCauseInWords, IsCauseOf, IsCheckCause};
@@ -13,11 +14,14 @@ ghost use Rattle.gtfs_cli.specs.declared.commands.refusal.Refusal.TheVariants.{O
 
 mod board;
 mod check;
+mod feed;
 mod folder;
 mod messages;
 mod moments;
 mod paths;
 mod refusal;
+mod timetable;
+mod timetable_values;
 mod values;
 
 use gtfs_table::{Folders, Out, write_text};
@@ -35,19 +39,20 @@ use std::hash::RandomState;
 /// changes nothing.
 ///
 /// The words are judged first, then the values of the options in the order of the usage, then the folder, its feed, the
-/// zone file, the stop and the span.
+/// zone file, the stop and the span, or the route.
 ///
 /// - 0: done.
-/// - 1: the feed has errors, or no stop of that id.
+/// - 1: the feed has errors, or no stop or route of that id.
 /// - 2: `clap` does not take the words, the value of `--from` or `--until` is neither `@` and an instant nor a service day,
-///   that of `--limit` is no count, that of `--after` is no key, or the board would end before it begins.
+///   that of `--limit` is no count, that of `--after` is no key, that of `--date` is no date, that of `--direction` is
+///   neither 0 nor 1, or the board would end before it begins.
 /// - 3: the folder, the zone file or its folder is not there, cannot be read or holds a file over the limit, the zone file
 ///   is none, or the output failed.
 /// - 4: memory ran out.
 ///
 /// A check ends with 0 or 1 only where its whole report went out, and else with what went out of it before. A board ends
-/// with 0 only where a page of it went out: all its lines, or as many as `--limit` says. What is printed does not depend on
-/// the random state.
+/// with 0 only where a page of it went out: all its lines, or as many as `--limit` says. A timetable ends with 0 only where
+/// the text of all its sheets went out. What is printed does not depend on the random state.
 pub fn run<S: AsStr, F: Folders, O: Out, E: Out>(
     alloc: Global,
     random: RandomState,
@@ -73,6 +78,13 @@ pub fn run<S: AsStr, F: Folders, O: Out, E: Out>(
         (record { told = E.told err.new; failures = E.failure_count err.new }) result }
     ensures listed { (asked : BoardTexts) → AsksBoardOf (map S.text words.now) asked
         → IsBoardRun (F.limit folders.old) (F.held folders.old) asked
+        (record { folders = F.failure_count folders.old; output = O.failure_count out.old })
+        (record { folders = F.failure_count folders.new; output = O.failure_count out.new })
+        (O.told out.old) (O.told out.new)
+        (record { told = E.told err.old; failures = E.failure_count err.old })
+        (record { told = E.told err.new; failures = E.failure_count err.new }) result }
+    ensures tabled { (asked : TimetableTexts) → AsksTimetableOf (map S.text words.now) asked
+        → IsTimetableRun (F.limit folders.old) (F.held folders.old) asked
         (record { folders = F.failure_count folders.old; output = O.failure_count out.old })
         (record { folders = F.failure_count folders.new; output = O.failure_count out.new })
         (O.told out.old) (O.told out.new)
@@ -130,6 +142,14 @@ fn command<'w, S: AsStr, F: Folders, O: Out>(
         (record { folders = F.failure_count folders.old; output = O.failure_count out.old })
         (record { folders = F.failure_count folders.new; output = O.failure_count out.new })
         (O.told out.old) (O.told out.new)) }
+    ensures tabled { (asked : TimetableTexts) → AsksTimetableOf (map S.text words.entry.now) asked
+        → IfOk result (IsTabled (F.limit folders.old) (F.held folders.old) asked
+        (O.told out.old) (O.told out.new)) }
+    ensures untabled { (asked : TimetableTexts) → AsksTimetableOf (map S.text words.entry.now) asked
+        → IfErr result (IsUntabled (F.limit folders.old) (F.held folders.old) asked
+        (record { folders = F.failure_count folders.old; output = O.failure_count out.old })
+        (record { folders = F.failure_count folders.new; output = O.failure_count out.new })
+        (O.told out.old) (O.told out.new)) }
     ensures helped { takes gtfs_app (map S.text words.entry.now) ≡ false
         → IfOk result (IsHelped (map S.text words.entry.now)) }
     ensures unhelped { takes gtfs_app (map S.text words.entry.now) ≡ false
@@ -147,6 +167,10 @@ fn command<'w, S: AsStr, F: Folders, O: Out>(
         Ok(Command::Check(dir)) => check::print_report(alloc, dir, folders, out),
         Ok(Command::Board(given)) => {
             board::print_board(alloc, random, &given, folders, out)?;
+            Ok(false)
+        }
+        Ok(Command::Timetable(given)) => {
+            timetable::print_timetable(alloc, random, &given, folders, out)?;
             Ok(false)
         }
         Err(fault) => answer_fault(fault, out),

@@ -4,7 +4,7 @@
 //! hands in, and answers the status with which the program is to end:
 //!
 //! - 0: done;
-//! - 1: the feed has errors, or no stop of that id;
+//! - 1: the feed has errors, or no stop or route of that id;
 //! - 2: the words are not as the usage wants them, the value of an option is bad, or a board would end before it begins;
 //! - 3: a folder or a file is not there, cannot be read or is over the limit, a zone file is none, or the output failed;
 //! - 4: memory ran out.
@@ -15,6 +15,9 @@
 //! order of their keys, a line each: at most N, and only those above the key. T is `@` and an instant in seconds since
 //! 1970-01-01T00:00:00Z, or a service day YYYYMMDD, which stands for its origin in the zone: noon less twelve hours. A feed
 //! with errors has no boards.
+//!
+//! `gtfs timetable DIR --route ID --date D [--direction 0|1]` prints the runs of a route on a date, a sheet for each direction and
+//! list of stops. D is a date YYYYMMDD, one without service included.
 //!
 //! Where a command cannot be done, one line on the error output says why.
 //!

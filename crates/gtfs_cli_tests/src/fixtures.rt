@@ -23,6 +23,8 @@ pub(super) const CHECK: [&str; 3] = ["gtfs", "check", "f1"];
 pub(super) const FIRST_LINE: &str =
     "@1711958400/T1/28800/1/20240401\t2024-04-01 08:00:00+00:00\tS1\t10\t\ts\n";
 
+pub(super) const SHEET: &str = "== R1 - 20240401\ntrip\tT1\nS1\t08:00:00\nS2\t08:10:00\n";
+
 // A feed of three stops and one trip, which runs on 2024-04-01 alone.
 const FEED: &[(&str, &str)] = &[
     (
@@ -70,6 +72,19 @@ pub(super) fn asked_with<'w>(option: &'w str, value: &'w str) -> [&'w str; 13] {
     ]
 }
 
+// The words that ask for a timetable on the day of the feed's trip.
+pub(super) fn timetable_asked<'w>(dir: &'w str, route: &'w str) -> [&'w str; 7] {
+    [
+        "gtfs",
+        "timetable",
+        dir,
+        "--route",
+        route,
+        "--date",
+        "20240401",
+    ]
+}
+
 // A source whose bytes are all the same.
 #[derive(Clone, Copy)]
 struct Same(u8);
@@ -95,20 +110,25 @@ pub(super) fn fixed() -> io::Result<RandomState> {
 
 // The feed in the folder f1, and in the folder `.` the zone file z1, of UTC.
 pub(super) fn folders(alloc: Global) -> Result<MemoryFolders, OutOfMemory> {
-    filled(alloc, None)
+    filled(alloc, LIMIT, None)
+}
+
+// The same on a device that reads no file of more bytes.
+pub(super) fn folders_within(alloc: Global, limit: u64) -> Result<MemoryFolders, OutOfMemory> {
+    filled(alloc, limit, None)
 }
 
 // The same, of whose calls the one with this number, from 1, fails.
 pub(super) fn folders_failing_at(alloc: Global, call: u64) -> Result<MemoryFolders, OutOfMemory>
     requires { call < 2 ^ 64 - 1 }
 {
-    filled(alloc, Some(call))
+    filled(alloc, LIMIT, Some(call))
 }
 
-fn filled(alloc: Global, fail: Option<u64>) -> Result<MemoryFolders, OutOfMemory>
+fn filled(alloc: Global, limit: u64, fail: Option<u64>) -> Result<MemoryFolders, OutOfMemory>
     requires { ForSome fail (λ call. call < 2 ^ 64 - 1) }
 {
-    let mut folders = MemoryFolders::new(alloc, LIMIT, fail);
+    let mut folders = MemoryFolders::new(alloc, limit, fail);
     for (name, text) in FEED {
         folders.put("f1", name, text.as_bytes())?;
     }

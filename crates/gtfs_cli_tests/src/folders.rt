@@ -1,7 +1,8 @@
 //! Folders of which a call fails, and folders and files that a disk has not.
 
 use crate::fixtures::{
-    CHECK, FIRST_LINE, asked, assert_ends, folders, folders_failing_at, put_utc,
+    CHECK, FIRST_LINE, SHEET, asked, assert_ends, folders, folders_failing_at, put_utc,
+    timetable_asked,
 };
 use std::test::Fail;
 
@@ -34,6 +35,19 @@ fn a_device_that_fails_cannot_be_checked(rt: HostRuntime) -> Result<(), Fail> {
     assert_ends(&rt, rt.alloc(), &mut folders, &CHECK, ended)
 }
 
+// And so does a timetable.
+#[test]
+fn a_device_that_fails_has_no_timetable(rt: HostRuntime) -> Result<(), Fail> {
+    let words = timetable_asked("f1", "R1");
+    for call in 1..11 {
+        let mut folders = folders_failing_at(rt.alloc(), call)?;
+        let ended = (3, "", "gtfs: f1 cannot be read\n");
+        assert_ends(&rt, rt.alloc(), &mut folders, &words, ended)?;
+    }
+    let mut folders = folders_failing_at(rt.alloc(), 11)?;
+    assert_ends(&rt, rt.alloc(), &mut folders, &words, (0, SHEET, ""))
+}
+
 #[test]
 fn a_file_over_the_limit_is_not_read(rt: HostRuntime) -> Result<(), Fail> {
     let mut folders = folders(rt.alloc())?;
@@ -42,7 +56,8 @@ fn a_file_over_the_limit_is_not_read(rt: HostRuntime) -> Result<(), Fail> {
     let ended = (3, "", "gtfs: ./large holds a file over the limit\n");
     assert_ends(&rt, rt.alloc(), &mut folders, &words, ended)?;
     folders.put("f1", "transfers.txt", &[0; 1_001])?;
-    for words in [words.as_slice(), CHECK.as_slice()] {
+    let sheets = timetable_asked("f1", "R1");
+    for words in [words.as_slice(), sheets.as_slice(), CHECK.as_slice()] {
         let ended = (3, "", "gtfs: f1 holds a file over the limit\n");
         assert_ends(&rt, rt.alloc(), &mut folders, words, ended)?;
     }
@@ -54,7 +69,9 @@ fn an_empty_text_names_no_folder(rt: HostRuntime) -> Result<(), Fail> {
     let mut folders = folders(rt.alloc())?;
     folders.put_folder("")?;
     let board = asked("", "z1", "S1");
-    for words in [board.as_slice(), ["gtfs", "check", ""].as_slice()] {
+    let sheets = timetable_asked("", "R1");
+    let check = ["gtfs", "check", ""];
+    for words in [board.as_slice(), sheets.as_slice(), check.as_slice()] {
         let ended = (3, "", "gtfs:  is not there\n");
         assert_ends(&rt, rt.alloc(), &mut folders, words, ended)?;
     }

@@ -8,6 +8,8 @@
 #[cfg(test)]
 mod boards;
 #[cfg(test)]
+mod faults;
+#[cfg(test)]
 mod fixtures;
 #[cfg(test)]
 mod folders;

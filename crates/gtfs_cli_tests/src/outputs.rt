@@ -1,6 +1,8 @@
 //! Outputs that take less than the whole, or the whole by single bytes.
 
-use crate::fixtures::{CHECK, FIRST_LINE, ROOM, asked, asked_with, fixed, folders};
+use crate::fixtures::{
+    CHECK, FIRST_LINE, ROOM, SHEET, asked, asked_with, fixed, folders, timetable_asked,
+};
 use gtfs_cli::run;
 use gtfs_table::{MemoryFolders, MemoryOut, WriteOut};
 use std::alloc::Global;
@@ -64,6 +66,26 @@ fn a_report_may_be_cut_at_each_byte(rt: HostRuntime) -> Result<(), Fail> {
     assert_cut(&rt, rt.alloc(), &mut folders, &CHECK, REPORT)
 }
 
+const THERE_AND_BACK: &str = "route_id,service_id,trip_id,direction_id\nR1,C1,T1,0\nR1,C1,T2,1\n";
+
+const TIMES_THERE_AND_BACK: &str = "trip_id,arrival_time,departure_time,stop_id,stop_sequence\n\
+T1,08:00:00,08:00:00,S1,1\n\
+T1,08:10:00,08:10:00,S2,2\n\
+T2,09:00:00,09:00:00,S2,1\n\
+T2,09:10:00,09:10:00,S1,2\n";
+
+const TWO_SHEETS: &str = "== R1 0 20240401\ntrip\tT1\nS1\t08:00:00\nS2\t08:10:00\n\
+== R1 1 20240401\ntrip\tT2\nS2\t09:00:00\nS1\t09:10:00\n";
+
+#[test]
+fn a_timetable_may_be_cut_at_each_byte(rt: HostRuntime) -> Result<(), Fail> {
+    let mut folders = folders(rt.alloc())?;
+    folders.put("f1", "trips.txt", THERE_AND_BACK.as_bytes())?;
+    folders.put("f1", "stop_times.txt", TIMES_THERE_AND_BACK.as_bytes())?;
+    let words = timetable_asked("f1", "R1");
+    assert_cut(&rt, rt.alloc(), &mut folders, &words, TWO_SHEETS)
+}
+
 // An output takes a beginning of help, whose text is not fixed.
 #[test]
 fn help_may_be_cut(rt: HostRuntime) -> Result<(), Fail> {
@@ -122,18 +144,21 @@ fn trickling<'t>(text: &'t mut Vec<u8>) -> WriteOut<Trickle<'t>> {
 #[test]
 fn outputs_may_take_a_byte_a_call(rt: HostRuntime) -> Result<(), Fail> {
     let mut folders = folders(rt.alloc())?;
+    let board = asked("f1", "z1", "S1");
+    let sheets = timetable_asked("f1", "R1");
+    let refused = asked("f1", "z1", "S9");
     let cases = [
-        ("S1", (0, FIRST_LINE, "")),
-        ("S9", (1, "", "gtfs: unknown stop\n")),
+        (board.as_slice(), (0, FIRST_LINE, "")),
+        (sheets.as_slice(), (0, SHEET, "")),
+        (refused.as_slice(), (1, "", "gtfs: unknown stop\n")),
     ];
-    for (stop, (status, printed, told)) in cases {
+    for (words, (status, printed, told)) in cases {
         let mut out = Vec::new(rt.alloc());
         let mut err = Vec::new(rt.alloc());
-        let words = asked("f1", "z1", stop);
         let ended = run(
             rt.alloc(),
             fixed()?,
-            &words,
+            words,
             &mut folders,
             &mut trickling(&mut out),
             &mut trickling(&mut err),
@@ -145,26 +170,39 @@ fn outputs_may_take_a_byte_a_call(rt: HostRuntime) -> Result<(), Fail> {
     Ok(())
 }
 
+// Words that end with this status and this line, of which an error output may take less.
+fn assert_told(
+    rt: &impl Abort,
+    alloc: Global,
+    folders: &mut MemoryFolders,
+    words: &[&str],
+    (status, line): (u8, &str),
+) -> Result<(), Fail> {
+    for room in 0..line.len() {
+        let mut out = MemoryOut::new(alloc, ROOM)?;
+        let mut err = MemoryOut::new(alloc, room)?;
+        let ended = run(alloc, fixed()?, words, folders, &mut out, &mut err);
+        let taken = line.as_bytes().get(..room).ok_or("past the end")?;
+        assert_eq!(rt; err.bytes(), taken);
+        assert!(rt; out.bytes().is_empty());
+        assert_eq!(rt; ended, status);
+    }
+    Ok(())
+}
+
 #[test]
 fn an_error_output_that_fails_changes_no_status(rt: HostRuntime) -> Result<(), Fail> {
     let mut folders = folders(rt.alloc())?;
-    let words = asked("f1", "z1", "S9");
-    let line = b"gtfs: unknown stop\n";
-    for room in 0..line.len() {
-        let mut out = MemoryOut::new(rt.alloc(), ROOM)?;
-        let mut err = MemoryOut::new(rt.alloc(), room)?;
-        let status = run(
-            rt.alloc(),
-            fixed()?,
-            &words,
-            &mut folders,
-            &mut out,
-            &mut err,
-        );
-        let taken = line.get(..room).ok_or("past the end")?;
-        assert_eq!(&rt; err.bytes(), taken);
-        assert!(&rt; out.bytes().is_empty());
-        assert_eq!(&rt; status, 1);
+    let board = asked("f1", "z1", "S9");
+    let sheets = timetable_asked("f1", "R9");
+    let check = ["gtfs", "check", "none"];
+    let cases = [
+        (board.as_slice(), (1, "gtfs: unknown stop\n")),
+        (sheets.as_slice(), (1, "gtfs: unknown route\n")),
+        (check.as_slice(), (3, "gtfs: none is not there\n")),
+    ];
+    for (words, told) in cases {
+        assert_told(&rt, rt.alloc(), &mut folders, words, told)?;
     }
     Ok(())
 }

@@ -1,4 +1,5 @@
 ghost use Rattle.std.specs.Prelude.{◌≡◌};
+ghost use Rattle.gtfs_table.specs.Blanks.{is_control};
 ghost use Rattle.gtfs_field.specs.Kinds.{count_of, is_in_ranges};
 ghost use Rattle.gtfs_columns.specs.steps.Cells.{cell_code, code_of, fault_code};
 ghost use Rattle.gtfs_columns.specs.ColumnRules.{is_required};
@@ -59,11 +60,22 @@ pub fn has_control(text: &str) -> bool
     ensures { result ≡ has_control text.now }
 {
     for byte in text.as_bytes() {
-        if *byte < 32 || *byte == 127 {
+        if is_control(*byte) {
             return true;
         }
     }
     false
+}
+
+// One comparison tells of most characters that they are none.
+#[inline(always)]
+fn is_control(byte: u8) -> bool
+    ensures { result ≡ is_control byte }
+{
+    if 32 <= byte && byte < 127 {
+        return false;
+    }
+    byte < 32 || byte == 127
 }
 
 /// Reads a choice: a count in one of the ranges, each given by its first and its last number.

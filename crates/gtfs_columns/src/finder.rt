@@ -58,6 +58,7 @@ impl<'a> Finder<'a> {
     /// The number of this id and its first row, and None where no row has it.
     ///
     /// It needs memory only to guess by, so it answers the same where memory runs out.
+    #[inline(always)]
     pub fn find(&mut self, id: &str) -> Option<FoundId>
         ensures row { option_map (λ found. found.row) result
             ≡ first_row_with self.old.ids.now id.now }
@@ -68,6 +69,18 @@ impl<'a> Finder<'a> {
         if let Some(found) = self.ids.at(self.last, id) {
             return Some(found);
         }
+        self.find_elsewhere(id)
+    }
+
+    // The same, where it is not that of the last answer.
+    #[inline(never)]
+    fn find_elsewhere(&mut self, id: &str) -> Option<FoundId>
+        ensures row { option_map (λ found. found.row) result
+            ≡ first_row_with self.old.ids.now id.now }
+        ensures number { option_map (λ found. found.number) result
+            ≡ number_with self.old.ids.now id.now }
+        ensures same { self.new.ids.now ≡ self.old.ids.now }
+    {
         let slot = self.slot(id);
         if let Some(found) = self.try_number(self.number_of(slot), id) {
             return Some(found);

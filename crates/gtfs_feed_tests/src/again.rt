@@ -12,7 +12,12 @@ use std::random::RandomSource;
 use std::test::Fail;
 
 // Each file of one feed is that of the other.
-fn assert_same(rt: &impl Abort, alloc: Global, feed: &Feed, other: &Feed) -> Result<(), Fail> {
+pub(crate) fn assert_same(
+    rt: &impl Abort,
+    alloc: Global,
+    feed: &Feed,
+    other: &Feed,
+) -> Result<(), Fail> {
     for file in File::ALL {
         let text = feed.file_text(alloc, file)?;
         assert_eq!(rt; text.as_str(), other.file_text(alloc, file)?.as_str());
@@ -21,7 +26,7 @@ fn assert_same(rt: &impl Abort, alloc: Global, feed: &Feed, other: &Feed) -> Res
 }
 
 // Writes the tables of a feed into the folder again. What is written is the text of each file.
-fn write_tables(
+pub(crate) fn write_tables(
     rt: &impl Abort,
     alloc: Global,
     feed: &Feed,

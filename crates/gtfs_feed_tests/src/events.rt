@@ -4,6 +4,7 @@ use crate::full::FULL;
 use crate::lanes::{Wanted, assert_lanes};
 use crate::named::{service_id, stop_named, trip_id};
 use crate::unions::assert_unions;
+use crate::{ids, patterns};
 use gtfs_feed::Feed;
 use gtfs_fixtures::{FileText, feed_with};
 use gtfs_rows::ServiceNo;
@@ -438,9 +439,16 @@ fn frequencies_make_runs(rt: HostRuntime) -> Result<(), Fail> {
 }
 
 #[test]
-fn the_lanes_of_a_full_dataset_have_its_events(rt: HostRuntime) -> Result<(), Fail> {
-    let feed = feed_with(&rt, rt.alloc(), &FULL)?;
-    assert_unions(&rt, rt.alloc(), &feed)
+fn the_lanes_of_other_datasets_have_their_events(rt: HostRuntime) -> Result<(), Fail> {
+    for files in [
+        FULL.as_slice(),
+        ids::FILES.as_slice(),
+        patterns::FILES.as_slice(),
+    ] {
+        let feed = feed_with(&rt, rt.alloc(), files)?;
+        assert_unions(&rt, rt.alloc(), &feed)?;
+    }
+    Ok(())
 }
 
 #[test]

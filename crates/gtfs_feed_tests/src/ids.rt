@@ -6,8 +6,8 @@ use gtfs_fixtures::{FileText, feed_with};
 use gtfs_rows::{AgencyNo, RouteNo, ServiceNo, StopNo, TripNo};
 use std::test::Fail;
 
-// Ids of each kind that do not stand by their bytes.
-const FILES: [FileText; 6] = [
+/// Ids of each kind that do not stand by their bytes.
+pub(crate) const FILES: [FileText; 6] = [
     (
         "agency.txt",
         "agency_id,agency_name,agency_url,agency_timezone\n\

@@ -8,6 +8,7 @@
 //! - `written` has the written form of feeds, and `again` feeds that are written and read again.
 //! - `events` has what passes a stop, by worked cases, and `lanes` walks the lanes of each of them; `seeks` asks a lane
 //!   from places between its events, and `unions` all lanes of each stop together.
+//! - `large` has more rows of each kind than two bytes can number.
 //! - `patterns` compares the patterns of a route with those that a slow plain search finds.
 #![tactic(auto)]
 
@@ -21,6 +22,8 @@ mod full;
 mod ids;
 #[cfg(test)]
 mod lanes;
+#[cfg(test)]
+mod large;
 #[cfg(test)]
 mod named;
 #[cfg(test)]

@@ -8,9 +8,9 @@ use gtfs_runs::{Pattern, patterns};
 use std::alloc::Global;
 use std::test::Fail;
 
-// Trips of every direction, among them two whose stops begin those of another, one without stop times, and one of
-// another route.
-const FILES: [FileText; 4] = [
+/// Trips of every direction, among them two whose stops begin those of another, one without stop times, and one of
+/// another route.
+pub(crate) const FILES: [FileText; 4] = [
     (
         "stops.txt",
         "stop_id,stop_name,stop_lat,stop_lon\n\

@@ -4,7 +4,8 @@ use crate::named::stop_named;
 use gtfs_feed::Feed;
 use gtfs_fixtures::feed_with;
 use gtfs_rows::TripNo;
-use gtfs_runs::{Lane, Seek, Steps, StopLanes};
+use gtfs_runs::{Lane, Seek, StepLane, Steps, StopLanes};
+use std::mem::size_of;
 use std::process::Abort;
 use std::test::Fail;
 
@@ -84,5 +85,42 @@ T2,25:10:00,25:10:00,S1,1\nT2,25:20:00,25:20:00,S2,2\nT10,25:10:00,25:10:00,S1,1
     };
     assert_first(&rt, &feed, lane, &mut steps, OF_A_LIST);
     assert_eq!(rt; steps.count(), OF_A_LIST.len() as u64);
+    Ok(())
+}
+
+// The seek at the only stop time of the run that starts at a second.
+fn seek_of_run(run: u32) -> Seek {
+    Seek {
+        at: i64::from(run),
+        trip: TripNo(0),
+        run,
+        seq: 1,
+    }
+}
+
+// A run at each second from 0 to 3,599,998. A lane that walked over its runs would look at 3,000,000,000,000 of them.
+#[test]
+fn a_trip_of_3_599_999_runs_is_one_small_lane(rt: HostRuntime) -> Result<(), Fail> {
+    let frequencies = "trip_id,start_time,end_time,headway_secs\nT1,00:00:00,999:59:59,1\n";
+    let feed = feed_with(&rt, rt.alloc(), &[("frequencies.txt", frequencies)])?;
+    let stop = stop_named(&rt, &feed, "S1");
+    let (lanes, mut steps) = StopLanes::build(rt.alloc(), &feed, stop)?;
+    let [lane] = lanes.periods() else {
+        panic!(rt; "{} periods", lanes.periods().len());
+    };
+    assert_eq!(rt; lanes.greatest(), 3_599_998);
+    assert!(rt; size_of::<StepLane>() <= 64);
+    for run in 2_599_998..3_599_998 {
+        let found = lane.first_after(&feed, &seek_of_run(run), &mut steps);
+        assert_eq!(rt;
+            found.map(|event| (event.at, event.run)),
+            Some((run + 1, run + 1))
+        );
+    }
+    assert_eq!(rt;
+        lane.first_after(&feed, &seek_of_run(3_599_998), &mut steps),
+        None
+    );
+    assert_eq!(rt; steps.count(), 1_000_001);
     Ok(())
 }

@@ -87,3 +87,10 @@ pub end-none : (xs : List ℕ) → length xs < 1 → xs ≡ reverse (without_fir
 unfolding without_first_blanks
 end-none [] h = refl
 end-none (b ∷ bs) h = absurd (omega arith)
+
+-- a text whose ends are no blanks is as it was
+pub nothing-cut : (xs : List ℕ) → 0 < length xs → is_blank (get_or xs 0 0) ≡ false → is_blank (get_or xs (length xs - 1) 0) ≡ false → cut xs ≡ xs
+nothing-cut xs h first last = rw (start-other xs h first) (sym (end-other xs h last))
+
+pub none-cut : (xs : List ℕ) → length xs < 1 → cut xs ≡ xs
+none-cut xs h = rw (sym (start-none xs h)) (sym (end-none xs h))

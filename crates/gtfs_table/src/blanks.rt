@@ -1,12 +1,42 @@
-ghost use Rattle.std.specs.Prelude.{◌≡◌, reverse};
+ghost use Rattle.std.specs.Prelude.{◌≡◌, reverse, true, false};
 ghost use Rattle.gtfs_table.specs.Blanks.{cut, is_blank as blank_of, without_first_blanks};
 
 // The text without the blanks at its ends: a blank is a space or a control character (codes 0 to 31, and 127).
+#[inline(always)]
 pub(crate) fn cut(text: &str) -> &str
+    ensures { result.now ≡ cut text.now }
+{
+    if has_visible_ends(text.as_bytes()) {
+        return text;
+    }
+    cut_ends(text)
+}
+
+// The same where a search for blanks is needed.
+#[inline(never)]
+fn cut_ends(text: &str) -> &str
     ensures { result.now ≡ cut text.now }
 {
     let bytes = cut_end(cut_start(text.as_bytes()));
     unsafe { str::from_utf8_unchecked(bytes) }
+}
+
+// Whether a text has nothing to cut, as a look at its ends tells of most.
+#[inline(always)]
+fn has_visible_ends(bytes: &[u8]) -> bool
+    ensures { result ≡ true → cut bytes.now ≡ bytes.now }
+{
+    if bytes.is_empty() {
+        return true;
+    }
+    is_visible(bytes[0]) && is_visible(bytes[bytes.len() - 1])
+}
+
+#[inline(always)]
+fn is_visible(byte: u8) -> bool
+    ensures { result ≡ true → blank_of byte ≡ false }
+{
+    32 < byte && byte < 127
 }
 
 fn cut_start(bytes: &[u8]) -> &[u8]

@@ -47,6 +47,7 @@ impl Offsets {
 
     // Where the part with this number begins and ends: it begins at the offset with that number, and ends at
     // the next one, or else at `size`.
+    #[inline(always)]
     pub(crate) fn span(&self, i: usize, size: usize) -> (usize, usize)
         requires { i < length self.now }
         ensures start { result.0 ≡ slice_index self.now i }
@@ -56,8 +57,18 @@ impl Offsets {
         if i + 1 < narrow.len() {
             (narrow[i] as usize, narrow[i + 1] as usize)
         } else {
-            (self.get(i), self.end_of(i, size))
+            self.span_of_few(i, size)
         }
+    }
+
+    // The same, for the last part and for those that begin far on.
+    #[inline(never)]
+    fn span_of_few(&self, i: usize, size: usize) -> (usize, usize)
+        requires { i < length self.now }
+        ensures start { result.0 ≡ slice_index self.now i }
+        ensures end { result.1 ≡ slice_index_or self.now (i + 1) size }
+    {
+        (self.get(i), self.end_of(i, size))
     }
 
     // The offset with this number, from 0.

@@ -68,6 +68,7 @@ impl<'a> Record<'a> {
     }
 
     /// A field, cut of its blanks: the empty text where there is no such field.
+    #[inline(always)]
     pub fn field(&self, n: usize) -> &'a str
         ensures { result.now ≡ field_cut self.now n }
     {
@@ -76,7 +77,7 @@ impl<'a> Record<'a> {
 
     /// The value of a column by its index, as [`Tables::column`](crate::Tables::column) gives it: the field
     /// there, cut of its blanks, and the empty text where the record has none or the file no such column.
-    #[inline]
+    #[inline(always)]
     pub fn value(&self, column: Option<usize>) -> &'a str
         ensures { result.now ≡ field_under self.now column }
     {
@@ -87,6 +88,7 @@ impl<'a> Record<'a> {
     }
 
     // A field as it stands in the table: the empty text where there is no such field.
+    #[inline(always)]
     pub(crate) fn raw(&self, n: usize) -> &'a str
         ensures { result.now ≡ slice_index_or self.now n [] }
     {

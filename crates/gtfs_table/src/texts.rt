@@ -55,6 +55,7 @@ impl Texts {
     }
 
     // The text with this number, from 0.
+    #[inline(always)]
     pub(crate) fn get(&self, i: usize) -> &str
         requires { i < length self.now }
         ensures { result.now ≡ slice_index_or self.now i [] }

@@ -9,8 +9,8 @@ use Rattle.clap.specs.Walk.{answers_to, nothing_held, rows_after, walk}
 use Rattle.clap.specs.declared.error.kind.ErrorKind.{ErrorKind}
 use Rattle.clap.specs.declared.error.kind.ErrorKind.TheVariants as kind
 use Rattle.clap.specs.declared.parser.matches.ArgMatches.{ArgMatches}
-use Rattle.gtfs_words.specs.Asked.{HasBoard, HasCheck, IsWhole}
-use Rattle.gtfs_words.specs.CommandLine.{board_app, check_app, gtfs_app}
+use Rattle.gtfs_words.specs.Asked.{HasBoard, HasCheck, HasTimetable, IsWhole}
+use Rattle.gtfs_words.specs.CommandLine.{board_app, check_app, gtfs_app, timetable_app}
 use Rattle.gtfs_words.specs.Untaken.{no_memory, IsFaultOf, IsToldOf}
 use Rattle.gtfs_words.specs.declared.fault.WordsFault.{WordsFault}
 use Rattle.gtfs_words.specs.declared.fault.WordsFault.TheVariants as fault
@@ -35,8 +35,11 @@ check_built = below check_app
 abbrev board_built : Shape
 board_built = below board_app
 
-are_two : (built gtfs_app).subs ≡ check_built ∷ board_built ∷ []
-are_two = refl
+abbrev timetable_built : Shape
+timetable_built = below timetable_app
+
+are_three : (built gtfs_app).subs ≡ check_built ∷ board_built ∷ timetable_built ∷ []
+are_three = refl
 
 -- where nothing required is wanting, the id of `check` has a text
 has_check : (rows : List Row) → are_filled rows ≡ true → (take.is_given (codes "DIR") rows && true) ≡ true → HasCheck rows
@@ -65,28 +68,51 @@ has_board rows filled all =
       until = given_text (codes "until") rows filled untils.0;
     }
 
+-- and each id that `timetable` needs
+has_timetable : (rows : List Row) → are_filled rows ≡ true
+    → (take.is_given (codes "DIR") rows && (take.is_given (codes "route") rows && (take.is_given (codes "date") rows && true))) ≡ true
+    → HasTimetable rows
+has_timetable rows filled all =
+    let date = take.is_given (codes "date") rows && true in
+    let route = take.is_given (codes "route") rows && date in
+    let dirs = both (take.is_given (codes "DIR") rows) route all in
+    let routes = both (take.is_given (codes "route") rows) date dirs.1 in
+    let dates = both (take.is_given (codes "date") rows) true routes.1 in
+    record {
+      dir = given_text (codes "DIR") rows filled dirs.0;
+      route = given_text (codes "route") rows filled routes.0;
+      date = given_text (codes "date") rows filled dates.0;
+    }
+
 entered_whole : (stop : Option (Text × List Text)) → take.entered_passes (built gtfs_app) stop ≡ true → is_some (entered (built gtfs_app) stop) ≡ true
     → IsWhole (entered (built gtfs_app) stop)
 entered_whole None passes has = cc
 entered_whole (Some p) passes has =
-    go (answers_to p.0 (label_of check_built)) (answers_to p.0 (label_of board_built)) passes has
+    go (answers_to p.0 (label_of check_built)) (answers_to p.0 (label_of board_built)) (answers_to p.0 (label_of timetable_built)) passes has
   where
-    named : Bool → Bool → Option Shape
-    named checks boards = if checks then Some check_built else (if boards then Some board_built else None)
+    named : Bool → Bool → Bool → Option Shape
+    named checks boards timetables =
+        if checks then Some check_built else (if boards then Some board_built else (if timetables then Some timetable_built else None))
 
-    go : (checks boards : Bool)
-        → option_map_or (λ s. take.level_passes s [] nothing_held p.1 false) (named checks boards) true ≡ true
-        → is_some (option_map (λ s. rows_at s p.1) (named checks boards)) ≡ true
-        → IsWhole (option_map (λ s. rows_at s p.1) (named checks boards))
-    go true boards passes has =
+    go : (checks boards timetables : Bool)
+        → option_map_or (λ s. take.level_passes s [] nothing_held p.1 false) (named checks boards timetables) true ≡ true
+        → is_some (option_map (λ s. rows_at s p.1) (named checks boards timetables)) ≡ true
+        → IsWhole (option_map (λ s. rows_at s p.1) (named checks boards timetables))
+    go true boards timetables passes has =
         inl (refl, has_check (rows_after check_built.rules [] p.1) (level_filled check_built [] p.1 false refl passes) (level_given check_built [] p.1 passes))
-    go false true passes has =
-        inr (
+    go false true timetables passes has =
+        inr (inl (
           refl,
           has_board (rows_after board_built.rules [] p.1) (level_filled board_built [] p.1 false refl passes)
               (level_given board_built [] p.1 passes),
-        )
-    go false false passes has = cc
+        ))
+    go false false true passes has =
+        inr (inr (
+          refl,
+          has_timetable (rows_after timetable_built.rules [] p.1) (level_filled timetable_built [] p.1 false refl passes)
+              (level_given timetable_built [] p.1 passes),
+        ))
+    go false false false passes has = cc
 
 -- words that are taken name a command and give all that it needs
 pub whole : (words : List Text) → takes gtfs_app words ≡ true → IsWhole (subcommand_of gtfs_app words)

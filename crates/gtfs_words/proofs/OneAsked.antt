@@ -2,7 +2,7 @@
 use Rattle.std.proofs.Common.{◌≡◌, ◌∙◌, List, Option, Some, None, ap, sym}
 use Rattle.std.specs.Prelude.{unwrap_or}
 use Rattle.clap.specs.Words.{Row, Text}
-use Rattle.gtfs_words.specs.Asked.{AsksBoardOf, AsksCheckOf, BoardTexts, ForBoard, ForCheck}
+use Rattle.gtfs_words.specs.Asked.{AsksBoardOf, AsksCheckOf, AsksTimetableOf, BoardTexts, ForBoard, ForCheck, ForTimetable, TimetableTexts}
 
 same : (o : Option Text) (x y : Text) → o ≡ Some x → o ≡ Some y → x ≡ y
 same o x y is_x is_y = ap (λ p. unwrap_or p x) (sym is_x ∙ is_y)
@@ -23,8 +23,20 @@ same_board (Some found) a b is_a is_b =
     let after : a.after ≡ b.after = sym is_a.1.after ∙ is_b.1.after in
     λ i. record { dir = dir i; zone = zone i; stop = stop i; from = from i; until = until i; limit = limit i; after = after i }
 
+pub same_timetable : (found : Option (Text × List Row)) (a b : TimetableTexts) → ForTimetable found a → ForTimetable found b → a ≡ b
+same_timetable None a b is_a is_b = absurd is_a
+same_timetable (Some found) a b is_a is_b =
+    let dir : a.dir ≡ b.dir = same _ a.dir b.dir is_a.1.dir is_b.1.dir in
+    let route : a.route ≡ b.route = same _ a.route b.route is_a.1.route is_b.1.route in
+    let date : a.date ≡ b.date = same _ a.date b.date is_a.1.date is_b.1.date in
+    let direction : a.direction ≡ b.direction = sym is_a.1.direction ∙ is_b.1.direction in
+    λ i. record { dir = dir i; route = route i; date = date i; direction = direction i }
+
 pub one_check : (words : List Text) (a b : Text) → AsksCheckOf words a → AsksCheckOf words b → a ≡ b
 one_check words a b is_a is_b = same_check _ a b is_a.asks is_b.asks
 
 pub one_board : (words : List Text) (a b : BoardTexts) → AsksBoardOf words a → AsksBoardOf words b → a ≡ b
 one_board words a b is_a is_b = same_board _ a b is_a.asks is_b.asks
+
+pub one_timetable : (words : List Text) (a b : TimetableTexts) → AsksTimetableOf words a → AsksTimetableOf words b → a ≡ b
+one_timetable words a b is_a is_b = same_timetable _ a b is_a.asks is_b.asks

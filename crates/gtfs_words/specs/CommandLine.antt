@@ -33,6 +33,11 @@ needed_board_app = with_rule (with_rule (with_rule (with_rule (with_rule (new_ap
 abbrev pub board_app : App
 board_app = with_rule (with_rule needed_board_app (choice_rule (codes "limit"))) (choice_rule (codes "after"))
 
+-- `timetable DIR --route ID --date D [--direction 0|1]`
+abbrev pub timetable_app : App
+timetable_app = with_rule (with_rule (with_rule (with_rule (new_app (codes "timetable"))
+    (word_rule (codes "DIR"))) (option_rule (codes "route"))) (option_rule (codes "date"))) (choice_rule (codes "direction"))
+
 -- `gtfs`, of which one of the commands must be named, and `help` is none of them
 abbrev pub gtfs_top : App
 gtfs_top = record (new_app (codes "gtfs")) {
@@ -43,4 +48,4 @@ gtfs_top = record (new_app (codes "gtfs")) {
 }
 
 abbrev pub gtfs_app : App
-gtfs_app = with_subcommand (with_subcommand gtfs_top check_app.top) board_app.top
+gtfs_app = with_subcommand (with_subcommand (with_subcommand gtfs_top check_app.top) board_app.top) timetable_app.top

@@ -1,10 +1,10 @@
 -- The words of this crate's clauses, from where they are defined. A reader starts here, and reads on in the file of a word.
 
 -- ---- how the program is called, as `clap` is told of it
-pub use Rattle.gtfs_words.specs.CommandLine.{gtfs_app, check_app, board_app}
+pub use Rattle.gtfs_words.specs.CommandLine.{gtfs_app, check_app, board_app, timetable_app}
 -- ---- the texts that are given to a command, and which words ask for which command with which texts
-pub use Rattle.gtfs_words.specs.Asked.{BoardTexts, texts_of}
-pub use Rattle.gtfs_words.specs.Asked.{IsCheckOf, IsBoardOf, IsCommandOf}
-pub use Rattle.gtfs_words.specs.Asked.{AsksCheckOf, AsksBoardOf}
+pub use Rattle.gtfs_words.specs.Asked.{BoardTexts, TimetableTexts, texts_of, timetable_texts_of}
+pub use Rattle.gtfs_words.specs.Asked.{IsCheckOf, IsBoardOf, IsTimetableOf, IsCommandOf}
+pub use Rattle.gtfs_words.specs.Asked.{AsksCheckOf, AsksBoardOf, AsksTimetableOf}
 -- ---- words that ask for help, words that are refused, and the fault that is told of them
 pub use Rattle.gtfs_words.specs.Untaken.{AreForHelp, AreRefused, IsFaultOf, no_memory}

@@ -7,6 +7,8 @@ pub enum Command<'w> {
     Check(&'w str),
     /// `gtfs board`: the departures at a stop.
     Board(BoardWords<'w>),
+    /// `gtfs timetable`: the runs of a route on a date.
+    Timetable(TimetableWords<'w>),
 }
 
 /// What was given to `gtfs board`, each a text as it stands in the words.
@@ -26,4 +28,17 @@ pub struct BoardWords<'w> {
     pub limit: Option<&'w str>,
     /// The key after which the board begins, if one was given.
     pub after: Option<&'w str>,
+}
+
+/// What was given to `gtfs timetable`, each a text as it stands in the words.
+#[derive(Clone, Copy)]
+pub struct TimetableWords<'w> {
+    /// The folder of the feed.
+    pub dir: &'w str,
+    /// The `route_id` of the route.
+    pub route: &'w str,
+    /// The date.
+    pub date: &'w str,
+    /// The `direction_id` of the trips, if only one direction is wanted.
+    pub direction: Option<&'w str>,
 }

@@ -6,15 +6,18 @@ ghost use Rattle.gtfs_words.specs.CommandLine.{gtfs_app, gtfs_top};
 mod board;
 mod check;
 mod rules;
+mod timetable;
 
 use board::board_command;
 use check::check_command;
 use clap::Command;
 use std::alloc::{AllocError, Global};
+use timetable::timetable_command;
 
 // How all are called, a line each. Help has `Usage: ` before the first, and the others stand below it.
 const COMMANDS: &str = "gtfs check DIR\n       \
-    gtfs board DIR --zone FILE --stop ID --from T --until T [--limit N] [--after KEY]";
+    gtfs board DIR --zone FILE --stop ID --from T --until T [--limit N] [--after KEY]\n       \
+    gtfs timetable DIR --route ID --date D [--direction 0|1]";
 
 // The program `gtfs` with all its commands. `--help` and `-h` ask for help, at the top and at each
 // command; there is no command `help`.
@@ -22,14 +25,15 @@ pub(super) fn gtfs<'w>(alloc: Global) -> Result<Command<'w>, AllocError>
     ensures { IfOk result (λ c. app_of c ≡ gtfs_app) }
 {
     let checks = with_command(top(alloc), check_command(alloc)?)?;
-    with_command(checks, board_command(alloc)?)
+    let boards = with_command(checks, board_command(alloc)?)?;
+    with_command(boards, timetable_command(alloc)?)
 }
 
 fn top<'w>(alloc: Global) -> Command<'w>
     ensures { app_of result ≡ gtfs_top }
 {
     Command::new(alloc, "gtfs")
-        .about("Checks of GTFS Schedule feeds, and departure boards from them")
+        .about("Checks of GTFS Schedule feeds, and departure boards and timetables from them")
         .override_usage(COMMANDS)
         .subcommand_required(true)
         .disable_help_subcommand(true)

@@ -1,11 +1,12 @@
 //! What words ask for is one thing.
 ghost use Rattle.std.specs.Prelude.{◌≡◌, List};
 ghost use Rattle.clap.specs.Words.{Text};
-ghost use Rattle.gtfs_words.specs.Asked.{AsksBoardOf, AsksCheckOf, BoardTexts};
+ghost use Rattle.gtfs_words.specs.Asked.{AsksBoardOf, AsksCheckOf, AsksTimetableOf, BoardTexts, TimetableTexts};
 
 /// A law of words, which its contract states: of each command, words ask for one, with one text for each id at most.
 /// It does nothing when it runs.
 pub fn words_ask_for_one()
     ensures check { (words : List Text) (a b : Text) → AsksCheckOf words a → AsksCheckOf words b → a ≡ b }
     ensures board { (words : List Text) (a b : BoardTexts) → AsksBoardOf words a → AsksBoardOf words b → a ≡ b }
+    ensures timetable { (words : List Text) (a b : TimetableTexts) → AsksTimetableOf words a → AsksTimetableOf words b → a ≡ b }
 {}

@@ -3,14 +3,15 @@
 //! ```text
 //! gtfs check DIR
 //! gtfs board DIR --zone FILE --stop ID --from T --until T [--limit N] [--after KEY]
+//! gtfs timetable DIR --route ID --date D [--direction 0|1]
 //! ```
 //!
 //! [`read_words`] answers a [`Command`] with the texts that were given, each as it stands in the words, or a
 //! [`WordsFault`]. It judges no text: whether a text is a date, an instant or a number is for the command to say.
 //!
 //! ```text
-//! match read_words(alloc, &["gtfs", "check", "feed"]) {
-//!     Ok(Command::Check(dir)) => .. the folder ..
+//! match read_words(alloc, &["gtfs", "timetable", "feed", "--route", "R1", "--date", "20240401"]) {
+//!     Ok(Command::Timetable(words)) => .. words.dir, words.route, words.date, words.direction ..
 //!     Err(WordsFault::Help(text)) => .. the text, on the output ..
 //!     ..
 //! }
@@ -23,7 +24,7 @@ mod fault;
 mod law;
 mod read;
 
-pub use command::{BoardWords, Command};
+pub use command::{BoardWords, Command, TimetableWords};
 pub use fault::WordsFault;
 pub use law::words_ask_for_one;
 pub use read::read_words;

@@ -1,11 +1,11 @@
 //! From the words to the command.
 ghost use Rattle.std.specs.Prelude.{◌≡◌, map, option_map, true, IfOk, IfErr, IfSome, IsSome};
 ghost use Rattle.clap.specs.Words.{first_of, found_of, rows_of, subcommand_of, subcommand_rows_of, takes};
-ghost use Rattle.gtfs_words.specs.Asked.{texts_of, HasBoard, IsBoardOf, IsCommandOf, IsWhole};
+ghost use Rattle.gtfs_words.specs.Asked.{texts_of, timetable_texts_of, HasBoard, HasTimetable, IsBoardOf, IsCommandOf, IsTimetableOf, IsWhole};
 ghost use Rattle.gtfs_words.specs.CommandLine.{gtfs_app};
 ghost use Rattle.gtfs_words.specs.Untaken.{no_memory, IsFaultOf};
 
-use crate::command::{BoardWords, Command};
+use crate::command::{BoardWords, Command, TimetableWords};
 use crate::definitions::gtfs;
 use crate::fault::{WordsFault, fault_of};
 use clap::ArgMatches;
@@ -37,8 +37,11 @@ fn command_of<'w>(matches: &ArgMatches<'w>) -> Option<Command<'w>>
     if let Some(given) = matches.subcommand_matches("check") {
         return Some(Command::Check(given_text(given, "DIR")?));
     }
-    let given = matches.subcommand_matches("board")?;
-    Some(Command::Board(board_words(given)?))
+    if let Some(given) = matches.subcommand_matches("board") {
+        return Some(Command::Board(board_words(given)?));
+    }
+    let given = matches.subcommand_matches("timetable")?;
+    Some(Command::Timetable(timetable_words(given)?))
 }
 
 fn board_words<'w>(given: &ArgMatches<'w>) -> Option<BoardWords<'w>>
@@ -53,6 +56,18 @@ fn board_words<'w>(given: &ArgMatches<'w>) -> Option<BoardWords<'w>>
         until: given_text(given, "until")?,
         limit: given_text(given, "limit"),
         after: given_text(given, "after"),
+    })
+}
+
+fn timetable_words<'w>(given: &ArgMatches<'w>) -> Option<TimetableWords<'w>>
+    ensures value { IfSome result (λ words. IsTimetableOf (rows_of (found_of given.now)) (timetable_texts_of words)) }
+    ensures given { HasTimetable (rows_of (found_of given.now)) → IsSome result }
+{
+    Some(TimetableWords {
+        dir: given_text(given, "DIR")?,
+        route: given_text(given, "route")?,
+        date: given_text(given, "date")?,
+        direction: given_text(given, "direction"),
     })
 }
 

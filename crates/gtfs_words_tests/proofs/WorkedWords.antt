@@ -1,10 +1,10 @@
 -- Worked words: what they ask for, what is the matter with them, computed.
-use Rattle.std.specs.Prelude.{◌≡◌, List, [], ◌∷◌, Some, codes, true, false}
+use Rattle.std.specs.Prelude.{◌≡◌, List, [], ◌∷◌, Some, None, codes, true, false}
 use Rattle.std.proofs.Common.{refl}
 use Rattle.clap.specs.Words.{Text, fault_of, takes}
 use Rattle.clap.specs.declared.error.kind.ErrorKind.TheVariants as kind
 use Rattle.clap.proofs.OnLiterals.{clap_on_literals}
-use Rattle.gtfs_words.specs.Words.{gtfs_app, AreForHelp, AsksBoardOf, AsksCheckOf, BoardTexts}
+use Rattle.gtfs_words.specs.Words.{gtfs_app, AreForHelp, AsksBoardOf, AsksCheckOf, AsksTimetableOf, BoardTexts, TimetableTexts}
 
 -- a check
 abbrev check_words : List Text
@@ -36,6 +36,17 @@ board_asked = record {
   asks = (refl, record { dir = refl; zone = refl; stop = refl; from = refl; until = refl; limit = refl; after = refl });
 }
 
+-- a timetable of both directions
+abbrev timetable_words : List Text
+timetable_words = codes "gtfs" ∷ codes "timetable" ∷ codes "feed" ∷ codes "--date" ∷ codes "20240401" ∷ codes "--route" ∷ codes "R1" ∷ []
+
+abbrev timetable_texts : TimetableTexts
+timetable_texts = record { dir = codes "feed"; route = codes "R1"; date = codes "20240401"; direction = None }
+
+timetable_asked : AsksTimetableOf timetable_words timetable_texts
+unfolding clap_on_literals
+timetable_asked = record { taken = refl; asks = (refl, record { dir = refl; route = refl; date = refl; direction = refl }) }
+
 -- no command
 abbrev no_command : List Text
 no_command = codes "gtfs" ∷ []
@@ -60,17 +71,17 @@ help_command_not_taken : takes gtfs_app help_command ≡ false
 unfolding clap_on_literals
 help_command_not_taken = refl
 
--- a board without its end
-abbrev without_until : List Text
-without_until = codes "gtfs" ∷ codes "board" ∷ codes "feed" ∷ codes "--zone" ∷ codes "Z" ∷ codes "--stop=S1" ∷ codes "--from" ∷ codes "@1" ∷ []
+-- a timetable without its date
+abbrev without_date : List Text
+without_date = codes "gtfs" ∷ codes "timetable" ∷ codes "feed" ∷ codes "--route" ∷ codes "R1" ∷ []
 
-without_until_is : fault_of gtfs_app without_until ≡ kind.MissingRequiredArgument ∷ []
+without_date_is : fault_of gtfs_app without_date ≡ kind.MissingRequiredArgument ∷ []
 unfolding clap_on_literals
-without_until_is = refl
+without_date_is = refl
 
-without_until_not_taken : takes gtfs_app without_until ≡ false
+without_date_not_taken : takes gtfs_app without_date ≡ false
 unfolding clap_on_literals
-without_until_not_taken = refl
+without_date_not_taken = refl
 
 -- a limit that stands twice
 abbrev limit_twice : List Text
@@ -109,13 +120,13 @@ unfolding clap_on_literals
 help_asked_for_help = (refl, refl)
 
 -- help of a command, though its folder is missing
-abbrev board_help : List Text
-board_help = codes "gtfs" ∷ codes "board" ∷ codes "--help" ∷ []
+abbrev timetable_help : List Text
+timetable_help = codes "gtfs" ∷ codes "timetable" ∷ codes "--help" ∷ []
 
-board_help_is : fault_of gtfs_app board_help ≡ kind.DisplayHelp ∷ []
+timetable_help_is : fault_of gtfs_app timetable_help ≡ kind.DisplayHelp ∷ []
 unfolding clap_on_literals
-board_help_is = refl
+timetable_help_is = refl
 
-board_help_for_help : AreForHelp board_help
+timetable_help_for_help : AreForHelp timetable_help
 unfolding clap_on_literals
-board_help_for_help = (refl, refl)
+timetable_help_for_help = (refl, refl)

@@ -42,3 +42,44 @@ fn board_has_all_its_texts(rt: HostRuntime) -> Result<(), Fail> {
     assert_eq!(&rt; board.after, Some("@0/T/0/1/20240401"));
     Ok(())
 }
+
+#[test]
+fn timetable_may_lack_the_direction(rt: HostRuntime) -> Result<(), Fail> {
+    let words = [
+        "gtfs",
+        "timetable",
+        "f1",
+        "--route",
+        "R1",
+        "--date",
+        "20240401",
+    ];
+    let Ok(Command::Timetable(timetable)) = read_words(rt.alloc(), &words) else {
+        return Err("no timetable".into());
+    };
+    assert_eq!(&rt; timetable.dir, "f1");
+    assert_eq!(&rt; timetable.route, "R1");
+    assert_eq!(&rt; timetable.date, "20240401");
+    assert_eq!(&rt; timetable.direction, None);
+    Ok(())
+}
+
+#[test]
+fn timetable_has_its_direction(rt: HostRuntime) -> Result<(), Fail> {
+    let words = [
+        "gtfs",
+        "timetable",
+        "f1",
+        "--direction",
+        "00",
+        "--route",
+        "R1",
+        "--date",
+        "20240401",
+    ];
+    let Ok(Command::Timetable(timetable)) = read_words(rt.alloc(), &words) else {
+        return Err("no timetable".into());
+    };
+    assert_eq!(&rt; timetable.direction, Some("00"));
+    Ok(())
+}

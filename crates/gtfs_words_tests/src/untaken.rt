@@ -26,9 +26,11 @@ fn assert_refused(rt: &impl Abort, alloc: Global, words: &[&str]) -> Result<(), 
 const BOARD: &str =
     "gtfs board DIR --zone FILE --stop ID --from T --until T [--limit N] [--after KEY]";
 
+const TIMETABLE: &str = "gtfs timetable DIR --route ID --date D [--direction 0|1]";
+
 #[test]
 fn help_of_the_program_has_the_line_of_each_command(rt: HostRuntime) -> Result<(), Fail> {
-    for line in ["gtfs check DIR", BOARD] {
+    for line in ["gtfs check DIR", BOARD, TIMETABLE] {
         assert_helped(&rt, rt.alloc(), &["gtfs", "--help"], line)?;
     }
     Ok(())
@@ -45,9 +47,10 @@ fn help_of_a_command_has_examples_of_its_values(rt: HostRuntime) -> Result<(), F
     assert_helped(
         &rt,
         rt.alloc(),
-        &["gtfs", "board", "f1", "-h"],
+        &["gtfs", "board", "f1", "--help"],
         "@1711958400/T1/28800/3/20240401",
-    )
+    )?;
+    assert_helped(&rt, rt.alloc(), &["gtfs", "timetable", "-h"], "20240401")
 }
 
 #[test]
@@ -56,6 +59,11 @@ fn words_are_refused(rt: HostRuntime) -> Result<(), Fail> {
     assert_refused(&rt, rt.alloc(), &["gtfs", "help"])?;
     assert_refused(&rt, rt.alloc(), &["gtfs", "check"])?;
     assert_refused(&rt, rt.alloc(), &["gtfs", "board", "f1", "--stop", "S1"])?;
+    assert_refused(
+        &rt,
+        rt.alloc(),
+        &["gtfs", "timetable", "f1", "--route", "R1"],
+    )?;
     assert_refused(
         &rt,
         rt.alloc(),

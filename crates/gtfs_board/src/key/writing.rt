@@ -1,13 +1,14 @@
-ghost use Rattle.std.specs.Prelude.{◌≡◌, ◌++◌, ◌≤◌, ◌+◌, length, string_bytes, string_len, Ok, OnOk, OnErr};
+ghost use Rattle.std.specs.Prelude.{◌≡◌, ◌++◌, ◌≤◌, ◌+◌, codes, length, string_bytes, string_len, Ok, OnOk, OnErr};
 ghost use Rattle.std.specs.String.{string_capacity};
+ghost use Rattle.std.specs.Str.{IsAscii};
 ghost use Rattle.gtfs_field.specs.Calendar.{date_of_day};
-ghost use Rattle.gtfs_field.specs.Canonical.{date_text};
+ghost use Rattle.gtfs_field.specs.Canonical.{date_text, digits_of_date};
 ghost use Rattle.gtfs_board.specs.Key.{IsInRange};
 ghost use Rattle.gtfs_board.specs.KeyTexts.{key_text, key_of};
 ghost use Rattle.gtfs_board.specs.Lent.{plain_key};
 
 use crate::key::Key;
-use crate::pieces::{push_four_digits, push_piece, push_two_digits};
+use crate::pieces::{push_ascii, push_piece, write_two_digits};
 use gtfs_field::{Day, OutOfMemory};
 use itoa::Buffer;
 use jiff_core::civil::Date;
@@ -47,21 +48,31 @@ pub(crate) fn write_key(text: &mut String, key: &Key<'_>)
     push_piece(text, "/", key.trip);
     push_piece(text, "/", Buffer::new().format(key.run));
     push_piece(text, "/", Buffer::new().format(key.sequence));
-    push_day(text, "/", key.day);
+    push_day(text, key.day);
 }
 
-// Appends what stands before a day, and its text YYYYMMDD.
-fn push_day(text: &mut String, before: &str, day: Day)
-    requires { string_len text.old + (length before.now + 8) ≤ string_capacity text.old }
-    ensures appended { string_bytes text.new
-        ≡ string_bytes text.old ++ (before.now ++ date_text day) }
-    ensures len { string_len text.new ≡ string_len text.old + (length before.now + 8) }
+// Appends the slash before a day, and the day as YYYYMMDD.
+fn push_day(text: &mut String, day: Day)
+    requires { string_len text.old + 9 ≤ string_capacity text.old }
+    ensures appended { string_bytes text.new ≡ string_bytes text.old ++ (codes "/" ++ date_text day) }
+    ensures len { string_len text.new ≡ string_len text.old + 9 }
     ensures capacity { string_capacity text.old ≤ string_capacity text.new }
 {
-    let date = date_of(day);
-    push_four_digits(text, before, u32::from(date.year.unsigned_abs()));
-    push_two_digits(text, "", u32::from(date.month));
-    push_two_digits(text, "", u32::from(date.day));
+    push_ascii(text, &date_bytes(date_of(day)));
+}
+
+// A slash and a date, `/YYYYMMDD`.
+fn date_bytes(date: Date) -> [u8; 9]
+    ensures value { result ≡ codes "/" ++ digits_of_date date }
+    ensures ascii { IsAscii result }
+{
+    let mut bytes = *b"/00000000";
+    let year = u32::from(date.year.unsigned_abs());
+    write_two_digits(&mut bytes, 1, year / 10 / 10);
+    write_two_digits(&mut bytes, 3, year);
+    write_two_digits(&mut bytes, 5, u32::from(date.month));
+    write_two_digits(&mut bytes, 7, u32::from(date.day));
+    bytes
 }
 
 // The date of a day.

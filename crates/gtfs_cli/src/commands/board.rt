@@ -3,20 +3,20 @@ ghost use Rattle.gtfs_days.specs.Zone.{IsZoneOf};
 ghost use Rattle.gtfs_feed.specs.Content.{content_of};
 ghost use Rattle.gtfs_table.specs.Folder.{Store};
 ghost use Rattle.gtfs_board.specs.Page.{IsPage};
-ghost use Rattle.gtfs_cli.specs.Boards.{request_of, AreValues, EndsBoard, EndsLines, HoldsFeed, IsFeedCause, IsFeedOf, IsLinesCause, IsOpeningCause, ListsBoard, OfBoard, PrintsBoard};
+ghost use Rattle.gtfs_cli.specs.Boards.{request_of, AreValues, EndsBoard, EndsLines, IsLinesCause, IsOpeningCause, ListsBoard, OfBoard, PrintsBoard};
 ghost use Rattle.gtfs_words.specs.Words.{texts_of};
 ghost use Rattle.gtfs_cli.specs.Running.{Failures, HasValues, HoldsBytes, HoldsPassing, HoldsZone};
 ghost use Rattle.gtfs_cli.specs.Refusals.{IsCause};
 
-use crate::commands::folder::{of_folder, read_tables};
+use crate::commands::feed::read_feed;
+use crate::commands::folder::of_folder;
 use crate::commands::paths::cut_path;
 use crate::commands::refusal::Refusal;
 use crate::commands::values::{Values, read_values};
 use gtfs_board::{Board, BoardFault, PageFault, Span, write_page};
 use gtfs_days::{Zone, ZoneFault};
 use gtfs_feed::Feed;
-use gtfs_rules::check;
-use gtfs_table::{Folders, Out, Tables};
+use gtfs_table::{Folders, Out};
 use gtfs_words::BoardWords;
 use std::alloc::Global;
 use std::hash::RandomState;
@@ -45,47 +45,9 @@ pub(super) fn print_board<'w, F: Folders, O: Out>(
     ensures output_grows { O.failure_count out.old ≤ O.failure_count out.new }
 {
     let values = read_values(words)?;
-    let feed = read_feed(alloc, random, folders, words)?;
+    let feed = read_feed(alloc, random, folders, words.dir)?;
     let zone = read_zone(alloc, folders, words)?;
     print_lines(alloc, &feed, &zone, words, &values, out)
-}
-
-// The feed of the folder, whose tables are let go again.
-fn read_feed<'w, F: Folders>(
-    alloc: Global,
-    random: RandomState,
-    folders: &mut F,
-    words: &BoardWords<'w>,
-) -> Result<Feed, Refusal<'w>>
-    ensures read { IfOk result
-        (HoldsFeed (F.limit folders.old) (F.held folders.old) words.now.dir.now) }
-    ensures refused { IfErr result (λ refusal. (before after : Failures)
-        → before.folders ≤ F.failure_count folders.old → F.failure_count folders.new ≤ after.folders
-        → HasValues (texts_of words.now)
-        → IsCause (F.limit folders.old) (F.held folders.old) (texts_of words.now)
-        before after refusal) }
-    ensures unchanged { F.held folders.new ≡ F.held folders.old }
-    ensures same_limit { F.limit folders.new ≡ F.limit folders.old }
-    ensures grows { F.failure_count folders.old ≤ F.failure_count folders.new }
-{
-    let tables = read_tables(alloc, folders, words.dir)?;
-    feed_of(alloc, random, &tables, words.dir)
-}
-
-// The feed of the tables of a folder.
-fn feed_of<'w>(
-    alloc: Global,
-    random: RandomState,
-    tables: &Tables,
-    dir: &'w str,
-) -> Result<Feed, Refusal<'w>>
-    ensures read { IfOk result (IsFeedOf tables.now) }
-    ensures refused { IfErr result (IsFeedCause tables.now dir.now) }
-{
-    match check(alloc, tables)?.passed() {
-        Ok(passed) => Ok(Feed::new(alloc, random, &passed)?),
-        Err(_) => Err(Refusal::HasErrors(dir)),
-    }
 }
 
 // The zone of the zone file. A path that ends in `/` names no file.

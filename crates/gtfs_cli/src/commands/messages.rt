@@ -28,6 +28,7 @@ impl Refusal<'_> {
             Refusal::HasErrors(path) => write_line(err, path, " has errors"),
             Refusal::NoZone(path) => write_line(err, path, " is no zone file"),
             Refusal::UnknownStop => write_line(err, "unknown stop", ""),
+            Refusal::UnknownRoute => write_line(err, "unknown route", ""),
             Refusal::UntilBeforeFrom => write_line(err, "until lies before from", ""),
             Refusal::OutputFailed => write_line(err, "output failed", ""),
             Refusal::OutOfMemory => write_line(err, "out of memory", ""),

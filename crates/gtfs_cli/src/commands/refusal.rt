@@ -23,6 +23,8 @@ pub(super) enum Refusal<'w> {
     NoZone(&'w str),
     // The feed has no stop of the id.
     UnknownStop,
+    // The feed has no route of the id.
+    UnknownRoute,
     // The board would end before it begins.
     UntilBeforeFrom,
     // The output did not take all that was to go out.
@@ -59,7 +61,7 @@ impl Refusal<'_> {
         ensures { result ≡ status_of self.now }
     {
         match self {
-            Refusal::HasErrors(_) | Refusal::UnknownStop => 1,
+            Refusal::HasErrors(_) | Refusal::UnknownStop | Refusal::UnknownRoute => 1,
             Refusal::Words(_) | Refusal::BadValue(_) | Refusal::UntilBeforeFrom => 2,
             Refusal::NotThere(_)
             | Refusal::Unreadable(_)

@@ -9,7 +9,7 @@ ghost use Rattle.gtfs_trip_rules.specs.StopTimes.{AreStopTimeColumns, IsStopTime
 
 use crate::stop_times::kept::{boarding_in, kept_times, placed, timepoint_in};
 use crate::stop_times::reading::{
-    Reading, read_boarding, read_id, read_is_exact, read_number, read_seconds,
+    Reading, read_beside, read_boarding, read_id, read_is_exact, read_number, read_seconds,
 };
 use crate::trips::notes::TripNote;
 use crate::trips::row::{Boarding, StopTime};
@@ -113,12 +113,15 @@ impl<'a> StopTimeColumns<'a> {
             ≡ record_at (records_in self.now.tables.now file.StopTimes) row }
         ensures { IsStopTime self.now.tables.now row result }
     {
+        let arrival = record.value(self.arrival_time);
+        let departure = record.value(self.departure_time);
+        let arrival_time = read_seconds(arrival);
         ReadStopTime {
             row,
             fields: record.len(),
             trip_id: read_id(record.value(self.trip_id)),
-            arrival_time: read_seconds(record.value(self.arrival_time)),
-            departure_time: read_seconds(record.value(self.departure_time)),
+            arrival_time,
+            departure_time: read_beside(departure, arrival, arrival_time),
             stop_id: read_id(record.value(self.stop_id)),
             stop_sequence: read_number(record.value(self.stop_sequence)),
             stop_headsign: fault_in_text(Kind::Text, record.value(self.stop_headsign)),

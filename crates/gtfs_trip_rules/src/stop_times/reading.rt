@@ -2,6 +2,7 @@ ghost use Rattle.std.specs.Prelude.{◌≡◌, option_map, pos};
 ghost use Rattle.gtfs_columns.specs.Columns.{count, id, time, up_to};
 ghost use Rattle.gtfs_trip_rules.specs.KeptChoices.{boarding_number, exact_number};
 ghost use Rattle.gtfs_trip_rules.specs.Readings.{code_in, fault_in, fault_of, is_blank, value_in, value_or};
+ghost use Rattle.gtfs_trip_rules.specs.StopTimes.{IsReading};
 ghost use Rattle.gtfs_columns.specs.Values.{amount, readable, word};
 ghost use Rattle.gtfs_table.specs.Rows.{is_empty};
 
@@ -91,6 +92,19 @@ pub(crate) fn read_seconds(text: &str) -> Reading<u32>
         Ok(time) => Reading::Value(time.seconds()),
         Err(FieldFault::Form) => Reading::Fault(Code::E07),
         Err(FieldFault::Range) => Reading::Fault(Code::E08),
+    }
+}
+
+// The same of a time beside another one, which was read already and mostly is the same text.
+#[inline(always)]
+pub(crate) fn read_beside(text: &str, other: &str, read: Reading<u32>) -> Reading<u32>
+    requires { IsReading time (λ n. amount (pos n)) other.now read }
+    ensures { IsReading time (λ n. amount (pos n)) text.now result }
+{
+    if text == other {
+        read
+    } else {
+        read_seconds(text)
     }
 }
 

@@ -3,6 +3,7 @@ use Rattle.gtfs_cli.specs.Running.{Failures}
 use Rattle.gtfs_cli.specs.Sending.{Output}
 use Rattle.gtfs_cli.proofs.Ended.{listed-ended, refused-ended}
 use Rattle.gtfs_cli.proofs.Endings.{device-from, usage-from}
+use Rattle.gtfs_cli.proofs.Tabled.{tabled-ended, untabled-ended}
 use Rattle.gtfs_cli.proofs.Untaken.{untaken-done, untaken-refused}
 use Rattle.gtfs_cli.proofs.commands.run.Goals as goal
 
@@ -64,3 +65,24 @@ returns-in-Ok-clause-listed g c = λ asked asks.
     let err : Output = record { told = g.E.Out.told c.args.err.now; failures = g.E.Out.failure_count c.args.err.now } in
     listed-ended limit held asked before after (g.O.Out.told c.args.out.now) (g.O.Out.told c.command.new.out)
     err c.in-Ok.has_errors c.from.result (λ none. rw (c.from.ensures, none) refl) (c.in-Ok.ensures.listed asked asks)
+
+pub returns-in-Err-clause-tabled : goal.returns-in-Err-clause-tabled
+returns-in-Err-clause-tabled g c = λ asked asks.
+    let limit = g.F.Folders.limit c.args.folders.now in
+    let held = g.F.Folders.held c.args.folders.now in
+    let before : Failures = record { folders = g.F.Folders.failure_count c.args.folders.now; output = g.O.Out.failure_count c.args.out.now } in
+    let after : Failures = record { folders = g.F.Folders.failure_count c.command.new.folders; output = g.O.Out.failure_count c.command.new.out } in
+    let err : Output = record { told = g.E.Out.told c.args.err.now; failures = g.E.Out.failure_count c.args.err.now } in
+    let told : Output = record { told = g.E.Out.told c.write.new.err; failures = g.E.Out.failure_count c.write.new.err } in
+    untabled-ended limit held asked before after (g.O.Out.told c.args.out.now) (g.O.Out.told c.command.new.out) c.write.result c.in-Err.refusal c.status.result err told
+    c.status.ensures (c.in-Err.ensures.untabled asked asks) c.write.ensures.whole c.write.ensures.cut_short c.write.ensures.counted
+
+pub returns-in-Ok-clause-tabled : goal.returns-in-Ok-clause-tabled
+returns-in-Ok-clause-tabled g c = λ asked asks.
+    let limit = g.F.Folders.limit c.args.folders.now in
+    let held = g.F.Folders.held c.args.folders.now in
+    let before : Failures = record { folders = g.F.Folders.failure_count c.args.folders.now; output = g.O.Out.failure_count c.args.out.now } in
+    let after : Failures = record { folders = g.F.Folders.failure_count c.command.new.folders; output = g.O.Out.failure_count c.command.new.out } in
+    let err : Output = record { told = g.E.Out.told c.args.err.now; failures = g.E.Out.failure_count c.args.err.now } in
+    tabled-ended limit held asked before after (g.O.Out.told c.args.out.now) (g.O.Out.told c.command.new.out)
+    err c.in-Ok.has_errors c.from.result (λ none. rw (c.from.ensures, none) refl) (c.in-Ok.ensures.tabled asked asks)

@@ -1,6 +1,5 @@
-use Rattle.std.proofs.Common.{◌≡◌, ◌<◌, ◌≤◌, ◌∙◌, ap, false, get_or, length, sym, arith}
+use Rattle.std.proofs.Common.{◌≡◌, ◌<◌, ◌≤◌, ◌∙◌, ap, false, get_or, length, sym}
 use Rattle.std.specs.List.{list_any}
-use Rattle.std.proofs.lemmas.Bool.Decides.{nat_tests}
 use Rattle.std.proofs.lemmas.List.{take_all}
 use Rattle.std.proofs.lemmas.List.Folds.{list_any_more}
 use Rattle.gtfs_table.specs.Blanks.{is_control}
@@ -12,9 +11,8 @@ loop-byte-preserved c =
     let i = c.loop-byte.byte-index in
     let same = c.as_bytes-byte-items.ensures.value in
     let within : i < length text = rw same at c.loop-byte-test.true in
-    let high = rw same at c.if-byte-lt32.false in
-    let not_delete = rw same at c.if-byte-eq127.false in
-    let other : is_control (get_or text i 0) ≡ false = grind (arith, nat_tests, high, not_delete) in
+    let at_byte = rw same at c.is_control.ensures in
+    let other : is_control (get_or text i 0) ≡ false = sym at_byte ∙ c.if-is_control.false in
     rw (list_any_more is_control text i 0 within, c.loop-byte.invariant) other
 
 pub returns : goal.returns

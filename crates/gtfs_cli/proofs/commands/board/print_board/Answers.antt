@@ -5,7 +5,7 @@ use Rattle.gtfs_cli.specs.Boards.{EndsBoard}
 use Rattle.gtfs_words.specs.Words.{texts_of}
 use Rattle.gtfs_cli.specs.Running.{Failures, HoldsPassing, HoldsZone}
 use Rattle.gtfs_cli.specs.Refusals.{IsCause}
-use Rattle.gtfs_cli.proofs.Endings.{told-up}
+use Rattle.gtfs_cli.proofs.Endings.{board-cause, told-up}
 use Rattle.gtfs_cli.proofs.Parts.{ok-then}
 use Rattle.gtfs_cli.proofs.Printed.{cause-of, ends-of, first-bad-cause, first-bad-ends, has-passing, has-values, kept, lists-of, moved, none-out}
 use Rattle.gtfs_cli.proofs.commands.board.print_board.Goals as goal
@@ -44,7 +44,8 @@ returns-in_err-feed-clause-refused g c =
     let after : Failures = record { folders = y; output = g.O.Out.failure_count c.args.out.now } in
     let r = c.in_err-feed.field-0.0 in
     told-up c.from_residual-in_err-feed.result r (IsCause limit held asked before after) c.from_residual-in_err-feed.ensures.1
-    (c.in_err-feed.ensures.refused before after (same x) (same y) (has-values asked c.in_ok-values.values c.in_ok-values.ensures.read))
+    (board-cause limit held asked before after r (has-values asked c.in_ok-values.values c.in_ok-values.ensures.read)
+    (c.in_err-feed.ensures.refused before after (same x) (same y)))
 
 pub returns-in_err-feed-clause-cut_short : goal.returns-in_err-feed-clause-cut_short
 returns-in_err-feed-clause-cut_short g c =
@@ -57,7 +58,8 @@ returns-in_err-feed-clause-cut_short g c =
     let r = c.in_err-feed.field-0.0 in
     told-up c.from_residual-in_err-feed.result r (EndsBoard limit held asked told told) c.from_residual-in_err-feed.ensures.1
     (none-out limit held asked x y r told told
-    (λ before after first last. c.in_err-feed.ensures.refused before after first last (has-values asked c.in_ok-values.values c.in_ok-values.ensures.read)) (kept told))
+    (λ before after first last. board-cause limit held asked before after r (has-values asked c.in_ok-values.values c.in_ok-values.ensures.read)
+    (c.in_err-feed.ensures.refused before after first last)) (kept told))
 
 pub returns-in_err-zone-clause-refused : goal.returns-in_err-zone-clause-refused
 returns-in_err-zone-clause-refused g c =

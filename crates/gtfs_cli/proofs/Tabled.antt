@@ -1,0 +1,258 @@
+-- What was printed of a timetable, and why there is none.
+use Rattle.std.proofs.Common.{◌≡◌, ◌∙◌, ap, sym, subst, refl, ℕ, ◌+◌, ◌<◌, ◌≤◌, inl, inr, Bool, true, false, List, [], ◌∷◌, ◌++◌, append-nil, append_assoc, length, map, take, drop, take-append-drop, get_or, Option, Some, None, Result, Ok, Err, ℤ, codes, arith}
+use Rattle.std.specs.Prelude.{flat_map, IfErr, OnErr, OnOk}
+use Rattle.std.specs.Io.KnownBytes.{Appends, Keeps}
+use Rattle.std.proofs.lemmas.List.{map-append, map_more, take_all}
+use Rattle.std.proofs.lemmas.List.Concat.{flat_map-append}
+use Rattle.std.proofs.KnownBytes.{Appends-trans}
+use Rattle.gtfs_field.specs.Kinds.{date_of}
+use Rattle.gtfs_field.specs.declared.fault.FieldFault.{FieldFault}
+use Rattle.gtfs_table.specs.Device.{Rises}
+use Rattle.gtfs_table.specs.Folder.{Store}
+use Rattle.gtfs_rows.specs.Content.{Content}
+use Rattle.gtfs_rows.specs.Reading.{content_of}
+use Rattle.gtfs_feed.specs.Content.{content_of as content_of_feed}
+use Rattle.gtfs_feed.specs.declared.feed.Feed.{Feed}
+use Rattle.gtfs_board.specs.LentSheets.{plain_sheet}
+use Rattle.gtfs_board.specs.Timetable.{is_route, sheet_text}
+use Rattle.gtfs_board.specs.declared.sheet.Sheet.{Sheet}
+use Rattle.gtfs_words.specs.Words.{TimetableTexts}
+use Rattle.gtfs_cli.specs.Boards.{HoldsFeed}
+use Rattle.gtfs_cli.specs.Checking.{IsSendingCause}
+use Rattle.gtfs_cli.specs.Messages.{message}
+use Rattle.gtfs_cli.specs.Refusals.{status_of}
+use Rattle.gtfs_cli.specs.Running.{Failures}
+use Rattle.gtfs_cli.specs.Sending.{Output, SendsBeginning}
+use Rattle.gtfs_cli.specs.TimetableOptions.{direction_of, first_bad_timetable, IsTimetableRequest, TimetableRequest}
+use Rattle.gtfs_cli.specs.TimetableRun.{IsTabled, IsTimetableRun, IsUntabled}
+use Rattle.gtfs_cli.specs.Timetables.{timetable_text, BeginsSheets, BeginsTimetable, EndsSheets, EndsTimetable, IsFirstBadTimetable, IsSheetsCause, IsTimetableCause, IsTimetableText, PrintsTimetable, TimetableSetting}
+use Rattle.gtfs_cli.specs.declared.commands.refusal.Refusal.{Refusal}
+use Rattle.gtfs_cli.specs.declared.commands.refusal.Refusal.TheVariants.{Words, BadValue, NotThere, Unreadable, OverLimit, HasErrors, NoZone, UnknownStop, UnknownRoute, UntilBeforeFrom, OutputFailed, OutOfMemory}
+use Rattle.gtfs_cli.proofs.Ended.{not_well, sends}
+use Rattle.gtfs_cli.proofs.Parts.{Leaves, one-cut}
+use Rattle.gtfs_cli.proofs.Printed.{kept}
+
+-- ---- values of options
+
+pub bad-timetable-cause : (limit : ℕ) (held : Option Store) (asked : TimetableTexts) (before after : Failures) (r : Refusal) → IsFirstBadTimetable asked r
+    → IsTimetableCause limit held asked before after r
+bad-timetable-cause limit held asked before after (Words text) h = absurd h
+bad-timetable-cause limit held asked before after (BadValue option) h = h
+bad-timetable-cause limit held asked before after (NotThere path) h = absurd h
+bad-timetable-cause limit held asked before after (Unreadable path) h = absurd h
+bad-timetable-cause limit held asked before after (OverLimit path) h = absurd h
+bad-timetable-cause limit held asked before after (HasErrors path) h = absurd h
+bad-timetable-cause limit held asked before after (NoZone path) h = absurd h
+bad-timetable-cause limit held asked before after UnknownStop h = absurd h
+bad-timetable-cause limit held asked before after UnknownRoute h = absurd h
+bad-timetable-cause limit held asked before after UntilBeforeFrom h = absurd h
+bad-timetable-cause limit held asked before after OutputFailed h = absurd h
+bad-timetable-cause limit held asked before after OutOfMemory h = absurd h
+
+pub bad-timetable-ends : (limit : ℕ) (held : Option Store) (asked : TimetableTexts) (old new : Option (List ℕ)) (r : Refusal) → IsFirstBadTimetable asked r → Keeps old new
+    → EndsTimetable limit held asked old new r
+bad-timetable-ends limit held asked old new (Words text) h keeps = absurd h
+bad-timetable-ends limit held asked old new (BadValue option) h keeps = keeps
+bad-timetable-ends limit held asked old new (NotThere path) h keeps = absurd h
+bad-timetable-ends limit held asked old new (Unreadable path) h keeps = absurd h
+bad-timetable-ends limit held asked old new (OverLimit path) h keeps = absurd h
+bad-timetable-ends limit held asked old new (HasErrors path) h keeps = absurd h
+bad-timetable-ends limit held asked old new (NoZone path) h keeps = absurd h
+bad-timetable-ends limit held asked old new UnknownStop h keeps = absurd h
+bad-timetable-ends limit held asked old new UnknownRoute h keeps = absurd h
+bad-timetable-ends limit held asked old new UntilBeforeFrom h keeps = absurd h
+bad-timetable-ends limit held asked old new OutputFailed h keeps = absurd h
+bad-timetable-ends limit held asked old new OutOfMemory h keeps = absurd h
+
+-- ---- what went out
+
+-- where the refusal has a cause whatever the output did, nothing went out
+pub none-tabled : (limit : ℕ) (held : Option Store) (asked : TimetableTexts) (x y : ℕ) (r : Refusal) (old new : Option (List ℕ))
+    → ((before after : Failures) → before.folders ≤ x → y ≤ after.folders → IsTimetableCause limit held asked before after r) → Keeps old new
+    → EndsTimetable limit held asked old new r
+none-tabled limit held asked x y (Words text) old new h keeps = keeps
+none-tabled limit held asked x y (BadValue option) old new h keeps = keeps
+none-tabled limit held asked x y (NotThere path) old new h keeps = keeps
+none-tabled limit held asked x y (Unreadable path) old new h keeps = keeps
+none-tabled limit held asked x y (OverLimit path) old new h keeps = keeps
+none-tabled limit held asked x y (HasErrors path) old new h keeps = keeps
+none-tabled limit held asked x y (NoZone path) old new h keeps = keeps
+none-tabled limit held asked x y UnknownStop old new h keeps = keeps
+none-tabled limit held asked x y UnknownRoute old new h keeps = keeps
+none-tabled limit held asked x y UntilBeforeFrom old new h keeps = keeps
+none-tabled limit held asked x y OutputFailed old new h keeps = absurd (omega (arith, h (record { folders = x; output = 0 }) (record { folders = y; output = 0 }) (omega arith) (omega arith)))
+none-tabled limit held asked x y OutOfMemory old new h keeps = inl keeps
+
+abbrev pub texts : List Sheet → List ℕ
+texts ss = flat_map sheet_text (map plain_sheet ss)
+
+texts_more : (ss : List Sheet) (i : ℕ) (s : Sheet) → i < length ss → texts (take i ss) ++ sheet_text (plain_sheet (get_or ss i s)) ≡ texts (take (i + 1) ss)
+texts_more ss i s inside =
+    let text = sheet_text (plain_sheet (get_or ss i s)) in
+    ap (λ t. texts (take i ss) ++ t) (sym (append-nil text))
+    ∙ sym (flat_map-append sheet_text (map plain_sheet (take i ss)) (plain_sheet (get_or ss i s) ∷ []))
+    ∙ ap (λ qs. flat_map sheet_text qs) (sym (map_more plain_sheet ss i s inside))
+
+-- one more sheet went out
+pub sheet-sent : (a b c : Option (List ℕ)) (ss : List Sheet) (i : ℕ) (s : Sheet) → i < length ss → s ≡ get_or ss i s → Appends a b (texts (take i ss))
+    → Appends b c (sheet_text (plain_sheet s)) → Appends a c (texts (take (i + 1) ss))
+sheet-sent a b c ss i s inside is first then =
+    let text = sheet_text (plain_sheet (get_or ss i s)) in
+    let more = subst (λ (x : Sheet). Appends b c (sheet_text (plain_sheet x))) is then in
+    subst (λ (t : List ℕ). Appends a c t) (texts_more ss i s inside) (Appends-trans a b c (texts (take i ss)) text first more)
+
+-- all of them did
+pub sheets-sent : (a b : Option (List ℕ)) (ss : List Sheet) (i : ℕ) → length ss ≤ i → Appends a b (texts (take i ss)) → Appends a b (texts ss)
+sheets-sent a b ss i end out = subst (λ (xs : List Sheet). Appends a b (texts xs)) (take_all i ss end) out
+
+-- the texts of sheets, from that of the sheet at an index on
+from_sheet : (ss : List Sheet) (i : ℕ) (s : Sheet) → i < length ss
+    → texts ss ≡ texts (take i ss) ++ (sheet_text (plain_sheet (get_or ss i s)) ++ texts (drop (i + 1) ss))
+from_sheet ss i s inside =
+    let text = sheet_text (plain_sheet (get_or ss i s)) in
+    let past = texts (drop (i + 1) ss) in
+    ap texts (sym (take-append-drop (i + 1) ss)) ∙ ap (flat_map sheet_text) (map-append plain_sheet (take (i + 1) ss) (drop (i + 1) ss))
+    ∙ flat_map-append sheet_text (map plain_sheet (take (i + 1) ss)) (map plain_sheet (drop (i + 1) ss))
+    ∙ ap (λ (t : List ℕ). t ++ past) (sym (texts_more ss i s inside)) ∙ append_assoc (texts (take i ss)) text past
+
+-- the sheets before one of which a beginning went out
+pub sheet-cut : (a b c : Option (List ℕ)) (ss : List Sheet) (i : ℕ) (s : Sheet) → i < length ss → s ≡ get_or ss i s → Appends a b (texts (take i ss))
+    → SendsBeginning b c (sheet_text (plain_sheet s)) → SendsBeginning a c (texts ss)
+sheet-cut a b c ss i s inside is out begun =
+    let text = sheet_text (plain_sheet (get_or ss i s)) in
+    let past = texts (drop (i + 1) ss) in
+    let left : Leaves a b (texts ss) (text ++ past) = record { sent = texts (take i ss); whole = from_sheet ss i s inside; out = out } in
+    one-cut a b c (texts ss) (text ++ past) text past left refl (subst (λ (x : Sheet). SendsBeginning b c (sheet_text (plain_sheet x))) is begun)
+
+-- ---- of a feed
+
+not-false : (b : Bool) → (b ≡ false → ⊥) → b ≡ true
+not-false true never = refl
+not-false false never = absurd (never refl)
+
+-- a route that is not refused is one of the feed
+pub known-route : (f : Content) (route : List ℕ) → (is_route f route ≡ false → ⊥) → is_route f route ≡ true
+known-route f route never = not-false (is_route f route) never
+
+pub sending-cause : (f : Content) (route : List ℕ) (before after : ℕ) (r : Refusal) → IsSendingCause before after r → IsSheetsCause f route before after r
+sending-cause f route before after (Words text) h = absurd h
+sending-cause f route before after (BadValue option) h = absurd h
+sending-cause f route before after (NotThere path) h = absurd h
+sending-cause f route before after (Unreadable path) h = absurd h
+sending-cause f route before after (OverLimit path) h = absurd h
+sending-cause f route before after (HasErrors path) h = absurd h
+sending-cause f route before after (NoZone path) h = absurd h
+sending-cause f route before after UnknownStop h = absurd h
+sending-cause f route before after UnknownRoute h = absurd h
+sending-cause f route before after UntilBeforeFrom h = absurd h
+sending-cause f route before after OutputFailed h = h
+sending-cause f route before after OutOfMemory h = tt
+
+sending-ends : (f : Content) (route : List ℕ) (q : TimetableRequest) (x y : ℕ) (old new : Option (List ℕ)) (r : Refusal) → IsSendingCause x y r
+    → BeginsSheets f route q old new → EndsSheets f route q old new r
+sending-ends f route q x y old new (Words text) h begun = absurd h
+sending-ends f route q x y old new (BadValue option) h begun = absurd h
+sending-ends f route q x y old new (NotThere path) h begun = absurd h
+sending-ends f route q x y old new (Unreadable path) h begun = absurd h
+sending-ends f route q x y old new (OverLimit path) h begun = absurd h
+sending-ends f route q x y old new (HasErrors path) h begun = absurd h
+sending-ends f route q x y old new (NoZone path) h begun = absurd h
+sending-ends f route q x y old new UnknownStop h begun = absurd h
+sending-ends f route q x y old new UnknownRoute h begun = absurd h
+sending-ends f route q x y old new UntilBeforeFrom h begun = absurd h
+sending-ends f route q x y old new OutputFailed h begun = begun
+sending-ends f route q x y old new OutOfMemory h begun = inr begun
+
+-- the text of sheets was sent, or a beginning of it
+pub sent-ends : {A : Type 0} (f : Content) (route : List ℕ) (q : TimetableRequest) (x y : ℕ) (old new : Option (List ℕ)) (r : Result A Refusal)
+    → is_route f route ≡ true → IfErr r (IsSendingCause x y) → OnErr r (SendsBeginning old new (timetable_text f route q)) → IfErr r (EndsSheets f route q old new)
+sent-ends f route q x y old new (Ok done) known cause begun = tt
+sent-ends f route q x y old new (Err refusal) known cause begun = sending-ends f route q x y old new refusal cause (known, begun)
+
+-- where the refusal has a cause whatever the output did, nothing was sent
+pub no-sheets : (f : Content) (route : List ℕ) (q : TimetableRequest) (old new : Option (List ℕ)) (r : Refusal)
+    → ((before after : ℕ) → IsSheetsCause f route before after r) → Keeps old new → EndsSheets f route q old new r
+no-sheets f route q old new (Words text) h keeps = keeps
+no-sheets f route q old new (BadValue option) h keeps = keeps
+no-sheets f route q old new (NotThere path) h keeps = keeps
+no-sheets f route q old new (Unreadable path) h keeps = keeps
+no-sheets f route q old new (OverLimit path) h keeps = keeps
+no-sheets f route q old new (HasErrors path) h keeps = keeps
+no-sheets f route q old new (NoZone path) h keeps = keeps
+no-sheets f route q old new UnknownStop h keeps = keeps
+no-sheets f route q old new UnknownRoute h keeps = keeps
+no-sheets f route q old new UntilBeforeFrom h keeps = keeps
+no-sheets f route q old new OutputFailed h keeps = absurd (omega (arith, h 0 0))
+no-sheets f route q old new OutOfMemory h keeps = inl keeps
+
+-- ---- from a feed to what the folder holds
+
+module _ (limit : ℕ) (held : Option Store) (asked : TimetableTexts) (feed : Feed) (q : TimetableRequest) (h : HoldsFeed limit held asked.dir feed)
+    (is : IsTimetableRequest asked q) where
+  abbrev tabled_setting : TimetableSetting limit held asked
+  tabled_setting = record { dataset = h.dataset; request = q; holds = h.holds; passes = h.is_feed.0; is_request = is }
+
+  timetable_is : is_route (content_of_feed feed) asked.route ≡ true → IsTimetableText limit held asked (timetable_text (content_of_feed feed) asked.route q)
+  timetable_is known = record {
+    setting = tabled_setting;
+    known = subst (λ (f : Content). is_route f asked.route ≡ true) h.is_feed.1 known;
+    is_text = ap (λ (f : Content). timetable_text f asked.route q) h.is_feed.1;
+  }
+
+  pub tabled-of : (old new : Option (List ℕ)) → is_route (content_of_feed feed) asked.route ≡ true
+      → Appends old new (timetable_text (content_of_feed feed) asked.route q) → PrintsTimetable limit held asked old new
+  tabled-of old new known out = (timetable_text (content_of_feed feed) asked.route q, timetable_is known, out)
+
+  begun-of : (old new : Option (List ℕ)) → BeginsSheets (content_of_feed feed) asked.route q old new → BeginsTimetable limit held asked old new
+  begun-of old new begun = (timetable_text (content_of_feed feed) asked.route q, timetable_is begun.0, begun.1)
+
+  pub tabled-ends : (old new : Option (List ℕ)) (r : Refusal) → EndsSheets (content_of_feed feed) asked.route q old new r → EndsTimetable limit held asked old new r
+  tabled-ends old new (Words text) e = e
+  tabled-ends old new (BadValue option) e = e
+  tabled-ends old new (NotThere path) e = e
+  tabled-ends old new (Unreadable path) e = e
+  tabled-ends old new (OverLimit path) e = e
+  tabled-ends old new (HasErrors path) e = e
+  tabled-ends old new (NoZone path) e = e
+  tabled-ends old new UnknownStop e = e
+  tabled-ends old new UnknownRoute e = e
+  tabled-ends old new UntilBeforeFrom e = e
+  tabled-ends old new OutputFailed e = begun-of old new e
+  tabled-ends old new OutOfMemory (inl e) = inl e
+  tabled-ends old new OutOfMemory (inr e) = inr (begun-of old new e)
+
+  pub tabled-cause : (before after : Failures) (r : Refusal) → IsSheetsCause (content_of_feed feed) asked.route before.output after.output r
+      → IsTimetableCause limit held asked before after r
+  tabled-cause before after (Words text) e = absurd e
+  tabled-cause before after (BadValue option) e = absurd e
+  tabled-cause before after (NotThere path) e = absurd e
+  tabled-cause before after (Unreadable path) e = absurd e
+  tabled-cause before after (OverLimit path) e = absurd e
+  tabled-cause before after (HasErrors path) e = absurd e
+  tabled-cause before after (NoZone path) e = absurd e
+  tabled-cause before after UnknownStop e = absurd e
+  tabled-cause before after UnknownRoute e = (tabled_setting, subst (λ (f : Content). is_route f asked.route ≡ false) h.is_feed.1 e)
+  tabled-cause before after UntilBeforeFrom e = absurd e
+  tabled-cause before after OutputFailed e = e
+  tabled-cause before after OutOfMemory e = tt
+
+-- ---- how a run of `gtfs timetable` ends
+
+module _ (limit : ℕ) (held : Option Store) (asked : TimetableTexts) (before after : Failures) (old new : Option (List ℕ)) where
+  pub tabled-ended : (err : Output) (failed : Bool) (status : ℕ) → (failed ≡ false → status ≡ 0) → IsTabled limit held asked old new failed
+      → IsTimetableRun limit held asked before after old new err err status
+  tabled-ended err failed status zero h = record {
+    printed = λ _. h.0;
+    silent = λ _. kept err.told;
+    refused = λ up. let z = zero h.1 in absurd (omega (arith, up, z));
+  }
+
+  pub untabled-ended : {A B : Type 0} (written : Result A B) (r : Refusal) (status : ℕ) (err told : Output) → status ≡ status_of r
+      → IsUntabled limit held asked before after old new r → OnOk written (Appends err.told told.told (message r))
+      → OnErr written (SendsBeginning err.told told.told (message r)) → OnErr written (Rises err.failures told.failures)
+      → IsTimetableRun limit held asked before after old new err told status
+  untabled-ended written r status err told gives untabled whole cut counted = record {
+    printed = λ z. absurd (not_well r (sym gives ∙ z));
+    silent = λ z. absurd (not_well r (sym gives ∙ z));
+    refused = λ _. record { refusal = r; untabled = untabled; gives = gives; line = sends written err told (message r) whole cut counted };
+  }

@@ -1,0 +1,29 @@
+use Rattle.std.proofs.lemmas.Result.{IfErr-weaker, IfOk-weaker}
+use Rattle.gtfs_cli.proofs.Endings.{reading-cause, told-up}
+use Rattle.gtfs_cli.proofs.Printed.{feed-cause, ReadingAside}
+use Rattle.gtfs_cli.proofs.commands.feed.read_feed.Goals as goal
+
+pub returns-in_err-tables-clause-refused : goal.returns-in_err-tables-clause-refused
+returns-in_err-tables-clause-refused g c =
+    let limit = g.F.Folders.limit c.args.folders.now in
+    let held = g.F.Folders.held c.args.folders.now in
+    let dir = c.args.dir.now in
+    let x = g.F.Folders.failure_count c.args.folders.now in
+    let y = g.F.Folders.failure_count c.read_tables.new.folders in
+    let r = c.in_err-tables.field-0.0 in
+    told-up c.from_residual.result r (ReadingAside limit held dir x y) c.from_residual.ensures.1
+    (λ before after first last. reading-cause limit held dir x y before after r first last c.in_err-tables.ensures.refused)
+
+pub returns-clause-refused : goal.returns-clause-refused
+returns-clause-refused g c =
+    let limit = g.F.Folders.limit c.args.folders.now in
+    let held = g.F.Folders.held c.args.folders.now in
+    IfErr-weaker c.feed_of.result _ _
+    (λ r e before after first last. feed-cause limit held c.args.dir.now before after c.in_ok-tables.tables r c.in_ok-tables.ensures.whole e)
+    c.feed_of.ensures.refused
+
+pub returns-clause-read : goal.returns-clause-read
+returns-clause-read g c =
+    IfOk-weaker c.feed_of.result _ _
+    (λ feed is. record { dataset = c.in_ok-tables.tables; holds = c.in_ok-tables.ensures.whole; is_feed = is })
+    c.feed_of.ensures.read

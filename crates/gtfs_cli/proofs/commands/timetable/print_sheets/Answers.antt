@@ -1,0 +1,57 @@
+use Rattle.std.proofs.Common.{◌∙◌, ap, subst, List, map}
+use Rattle.std.specs.Prelude.{flat_map, OnErr, OnOk}
+use Rattle.std.specs.Io.KnownBytes.{Appends}
+use Rattle.std.proofs.lemmas.Result.{IfErr-weaker}
+use Rattle.gtfs_feed.specs.Content.{content_of}
+use Rattle.gtfs_board.specs.LentSheets.{plain_sheet}
+use Rattle.gtfs_board.specs.Timetable.{Sheet, sheet_text}
+use Rattle.gtfs_cli.specs.Sending.{SendsBeginning}
+use Rattle.gtfs_cli.specs.Timetables.{timetable_request_of, EndsSheets, IsSheetsCause}
+use Rattle.gtfs_cli.proofs.Endings.{told-up}
+use Rattle.gtfs_cli.proofs.Parts.{ok-then}
+use Rattle.gtfs_cli.proofs.Printed.{kept}
+use Rattle.gtfs_cli.proofs.Tabled.{no-sheets, sending-cause, sent-ends}
+use Rattle.gtfs_cli.proofs.commands.timetable.print_sheets.Goals as goal
+
+pub returns-in_err-sheets-clause-cut_short : goal.returns-in_err-sheets-clause-cut_short
+returns-in_err-sheets-clause-cut_short g c =
+    let f = content_of c.args.feed.now in
+    let q = timetable_request_of c.args.values.now in
+    let told = g.O.Out.told c.args.out.now in
+    let r = c.in_err-sheets.field-0.0 in
+    told-up c.from_residual.result r (EndsSheets f c.args.route.now q told told) c.from_residual.ensures.1
+    (no-sheets f c.args.route.now q told told r c.in_err-sheets.ensures.refused (kept told))
+
+pub returns-in_err-sheets-clause-refused : goal.returns-in_err-sheets-clause-refused
+returns-in_err-sheets-clause-refused g c =
+    let f = content_of c.args.feed.now in
+    let count = g.O.Out.failure_count c.args.out.now in
+    let r = c.in_err-sheets.field-0.0 in
+    told-up c.from_residual.result r (IsSheetsCause f c.args.route.now count count) c.from_residual.ensures.1 (c.in_err-sheets.ensures.refused count count)
+
+pub returns-clause-known : goal.returns-clause-known
+returns-clause-known g c = ok-then c.send_sheets.result _ _ (λ _. c.in_ok-sheets.ensures.known) c.send_sheets.ensures.sent
+
+pub returns-clause-printed : goal.returns-clause-printed
+returns-clause-printed g c =
+    let old = g.O.Out.told c.args.out.now in
+    let new = g.O.Out.told c.send_sheets.new.out in
+    let are = ap (map plain_sheet) c.as_slice.ensures.value ∙ c.in_ok-sheets.ensures.sheets in
+    subst (λ (ss : List Sheet). OnOk c.send_sheets.result (Appends old new (flat_map sheet_text ss))) are c.send_sheets.ensures.sent
+
+pub returns-clause-cut_short : goal.returns-clause-cut_short
+returns-clause-cut_short g c =
+    let f = content_of c.args.feed.now in
+    let q = timetable_request_of c.args.values.now in
+    let old = g.O.Out.told c.args.out.now in
+    let new = g.O.Out.told c.send_sheets.new.out in
+    let are = ap (map plain_sheet) c.as_slice.ensures.value ∙ c.in_ok-sheets.ensures.sheets in
+    sent-ends f c.args.route.now q (g.O.Out.failure_count c.args.out.now) (g.O.Out.failure_count c.send_sheets.new.out) old new c.send_sheets.result
+    c.in_ok-sheets.ensures.known c.send_sheets.ensures.refused
+    (subst (λ (ss : List Sheet). OnErr c.send_sheets.result (SendsBeginning old new (flat_map sheet_text ss))) are c.send_sheets.ensures.cut_short)
+
+pub returns-clause-refused : goal.returns-clause-refused
+returns-clause-refused g c =
+    IfErr-weaker c.send_sheets.result _ _
+    (sending-cause (content_of c.args.feed.now) c.args.route.now (g.O.Out.failure_count c.args.out.now) (g.O.Out.failure_count c.send_sheets.new.out))
+    c.send_sheets.ensures.refused

@@ -1,0 +1,48 @@
+ghost use Rattle.std.specs.Prelude.{◌≡◌, ◌≤◌, IfOk, IfErr};
+ghost use Rattle.gtfs_cli.specs.Boards.{HoldsFeed, IsFeedCause, IsFeedOf};
+ghost use Rattle.gtfs_cli.specs.Running.{Failures};
+ghost use Rattle.gtfs_cli.specs.Refusals.{IsReadingCause};
+
+use crate::commands::folder::read_tables;
+use crate::commands::refusal::Refusal;
+use gtfs_feed::Feed;
+use gtfs_rules::check;
+use gtfs_table::{Folders, Tables};
+use std::alloc::Global;
+use std::hash::RandomState;
+
+// The feed of a folder, whose tables are let go again.
+// Errors: `NotThere`, `Unreadable`, `OverLimit`, `HasErrors` and `OutOfMemory`.
+pub(super) fn read_feed<'w, F: Folders>(
+    alloc: Global,
+    random: RandomState,
+    folders: &mut F,
+    dir: &'w str,
+) -> Result<Feed, Refusal<'w>>
+    ensures read { IfOk result (HoldsFeed (F.limit folders.old) (F.held folders.old) dir.now) }
+    ensures refused { IfErr result (λ refusal. (before after : Failures)
+        → before.folders ≤ F.failure_count folders.old → F.failure_count folders.new ≤ after.folders
+        → IsReadingCause (F.limit folders.old) (F.held folders.old) dir.now before after refusal) }
+    ensures unchanged { F.held folders.new ≡ F.held folders.old }
+    ensures same_limit { F.limit folders.new ≡ F.limit folders.old }
+    ensures grows { F.failure_count folders.old ≤ F.failure_count folders.new }
+{
+    let tables = read_tables(alloc, folders, dir)?;
+    feed_of(alloc, random, &tables, dir)
+}
+
+// The feed of the tables of a folder.
+fn feed_of<'w>(
+    alloc: Global,
+    random: RandomState,
+    tables: &Tables,
+    dir: &'w str,
+) -> Result<Feed, Refusal<'w>>
+    ensures read { IfOk result (IsFeedOf tables.now) }
+    ensures refused { IfErr result (IsFeedCause tables.now dir.now) }
+{
+    match check(alloc, tables)?.passed() {
+        Ok(passed) => Ok(Feed::new(alloc, random, &passed)?),
+        Err(_) => Err(Refusal::HasErrors(dir)),
+    }
+}

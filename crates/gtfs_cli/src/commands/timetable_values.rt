@@ -1,0 +1,47 @@
+ghost use Rattle.std.specs.Prelude.{◌≡◌, option_map, IfOk, IfErr};
+ghost use Rattle.gtfs_words.specs.Words.{timetable_texts_of};
+ghost use Rattle.gtfs_cli.specs.TimetableOptions.{direction_of, IsTimetableRequest};
+ghost use Rattle.gtfs_cli.specs.Timetables.{timetable_request_of, IsFirstBadTimetable};
+
+use crate::commands::refusal::Refusal;
+use gtfs_field::{Day, read_date};
+use gtfs_words::TimetableWords;
+
+// The values of the options of a timetable.
+#[derive(Clone, Copy)]
+pub(super) struct TimetableValues {
+    // The service date of the runs.
+    pub(super) day: Day,
+    // The direction of the trips, 0 or 1, if only one is wanted.
+    pub(super) direction: Option<u8>,
+}
+
+// Reads the values in the order of the usage.
+// Errors: `BadValue` of the first that is bad.
+pub(super) fn read_timetable_values<'w>(
+    words: &TimetableWords<'w>,
+) -> Result<TimetableValues, Refusal<'w>>
+    ensures read { IfOk result (λ values. IsTimetableRequest (timetable_texts_of words.now)
+        (timetable_request_of values)) }
+    ensures refused { IfErr result (IsFirstBadTimetable (timetable_texts_of words.now)) }
+{
+    let Ok(day) = read_date(words.date) else {
+        return Err(Refusal::BadValue("--date"));
+    };
+    let Some(direction) = read_direction(words.direction) else {
+        return Err(Refusal::BadValue("--direction"));
+    };
+    Ok(TimetableValues { day, direction })
+}
+
+// Reads the value of `--direction`, exactly 0 or 1. None where it is neither.
+fn read_direction(text: Option<&str>) -> Option<Option<u8>>
+    ensures { result ≡ direction_of (option_map (λ t. t.now) text.entry) }
+{
+    match text {
+        None => Some(None),
+        Some("0") => Some(Some(0)),
+        Some("1") => Some(Some(1)),
+        Some(_) => None,
+    }
+}

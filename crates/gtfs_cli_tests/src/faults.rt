@@ -1,0 +1,170 @@
+//! Files of just the limit, outputs that take nothing, and several devices of which each fails.
+
+use crate::fixtures::{
+    CHECK, FIRST_LINE, ROOM, asked, asked_with, assert_ends, fixed, folders, folders_failing_at,
+    folders_within,
+};
+use gtfs_cli::run;
+use gtfs_table::{MemoryFolders, MemoryOut, Out, WriteOut};
+use std::alloc::Global;
+use std::io;
+use std::io::Write;
+use std::process::Abort;
+use std::test::Fail;
+
+const FINE: &str = "errors 0 warnings 0\n";
+
+// The longest file of the feed, calendar.txt, has 123 bytes.
+#[test]
+fn a_file_may_be_as_long_as_the_limit(rt: HostRuntime) -> Result<(), Fail> {
+    let board = asked("f1", "z1", "S1");
+    let mut folders = folders_within(rt.alloc(), 122)?;
+    let over = (3, "", "gtfs: f1 holds a file over the limit\n");
+    assert_ends(&rt, rt.alloc(), &mut folders, &board, over)?;
+    assert_ends(&rt, rt.alloc(), &mut folders, &CHECK, over)?;
+    let mut folders = folders_within(rt.alloc(), 123)?;
+    assert_ends(&rt, rt.alloc(), &mut folders, &board, (0, FIRST_LINE, ""))?;
+    assert_ends(&rt, rt.alloc(), &mut folders, &CHECK, (0, FINE, ""))
+}
+
+#[test]
+fn a_zone_file_may_be_as_long_as_the_limit(rt: HostRuntime) -> Result<(), Fail> {
+    let mut folders = folders_within(rt.alloc(), 123)?;
+    folders.put(".", "z3", &[0; 124])?;
+    let over = (3, "", "gtfs: z3 holds a file over the limit\n");
+    let words = asked("f1", "z3", "S1");
+    assert_ends(&rt, rt.alloc(), &mut folders, &words, over)?;
+    folders.put(".", "z3", &[0; 123])?;
+    let none = (3, "", "gtfs: z3 is no zone file\n");
+    assert_ends(&rt, rt.alloc(), &mut folders, &words, none)
+}
+
+// Takes nothing.
+#[derive(Drop)]
+struct Shut;
+
+impl Write for Shut {
+    fn write(&mut self, _buf: &[u8]) -> io::Result<usize> {
+        Ok(0)
+    }
+
+    fn flush(&mut self) -> io::Result<()> {
+        Ok(())
+    }
+}
+
+// To an output that takes nothing, and is asked once.
+fn assert_shut(
+    rt: &impl Abort,
+    alloc: Global,
+    folders: &mut MemoryFolders,
+    words: &[&str],
+) -> Result<(), Fail> {
+    let mut out = WriteOut::new(Shut);
+    let mut err = MemoryOut::new(alloc, ROOM)?;
+    let status = run(alloc, fixed()?, words, folders, &mut out, &mut err);
+    assert_eq!(rt; str::from_utf8(err.bytes())?, "gtfs: output failed\n");
+    assert_eq!(rt; out.failures(), 1);
+    assert_eq!(rt; status, 3);
+    Ok(())
+}
+
+#[test]
+fn an_output_that_takes_nothing_has_failed(rt: HostRuntime) -> Result<(), Fail> {
+    let mut folders = folders(rt.alloc())?;
+    assert_shut(&rt, rt.alloc(), &mut folders, &asked("f1", "z1", "S1"))?;
+    assert_shut(&rt, rt.alloc(), &mut folders, &CHECK)?;
+    assert_shut(&rt, rt.alloc(), &mut folders, &["gtfs", "--help"])
+}
+
+// Where nothing is to be printed, no output is asked.
+#[test]
+fn an_empty_board_needs_no_output(rt: HostRuntime) -> Result<(), Fail> {
+    let mut folders = folders(rt.alloc())?;
+    let mut out = WriteOut::new(Shut);
+    let mut err = WriteOut::new(Shut);
+    let words = asked("f1", "z1", "S3");
+    let status = run(
+        rt.alloc(),
+        fixed()?,
+        &words,
+        &mut folders,
+        &mut out,
+        &mut err,
+    );
+    assert_eq!(rt; (out.failures(), err.failures()), (0, 0));
+    assert_eq!(rt; status, 0);
+    Ok(())
+}
+
+// The words are refused with this status and line. With less room for the error output than its line, the same status.
+fn assert_same_status(
+    rt: &impl Abort,
+    alloc: Global,
+    mut folders: MemoryFolders,
+    words: &[&str],
+    (status, line): (u8, &str),
+) -> Result<(), Fail> {
+    for room in 0..=line.len() {
+        let mut out = MemoryOut::new(alloc, 0)?;
+        let mut err = MemoryOut::new(alloc, room)?;
+        let ended = run(alloc, fixed()?, words, &mut folders, &mut out, &mut err);
+        let taken = line.as_bytes().get(..room).ok_or("past the end")?;
+        assert_eq!(rt; err.bytes(), taken, "{line}");
+        assert_eq!(rt; err.failures(), u64::from(room < line.len()), "{line}");
+        assert_eq!(rt; ended, status, "{line}");
+    }
+    Ok(())
+}
+
+#[test]
+fn no_status_changes_with_the_error_output(rt: HostRuntime) -> Result<(), Fail> {
+    let cases = [
+        (asked("f1", "z1", "S9"), (1, "gtfs: unknown stop\n")),
+        (asked("f9", "z1", "S1"), (3, "gtfs: f9 is not there\n")),
+        (asked("f1", "z9", "S1"), (3, "gtfs: z9 is not there\n")),
+        (asked("f1", ".", "S1"), (3, "gtfs: . is not there\n")),
+        (asked("f1", "", "S1"), (3, "gtfs:  cannot be read\n")),
+        (asked("f1", "z1", "S1"), (3, "gtfs: output failed\n")),
+    ];
+    for (words, ended) in cases {
+        let folders = folders(rt.alloc())?;
+        assert_same_status(&rt, rt.alloc(), folders, &words, ended)?;
+    }
+    let words = asked_with("--limit", "x");
+    let ended = (2, "gtfs: bad value of --limit\n");
+    assert_same_status(&rt, rt.alloc(), folders(rt.alloc())?, &words, ended)?;
+    let ended = (3, "gtfs: output failed\n");
+    assert_same_status(&rt, rt.alloc(), folders(rt.alloc())?, &CHECK, ended)
+}
+
+// The first device that fails is told, whatever the others do.
+#[test]
+fn all_devices_may_fail(rt: HostRuntime) -> Result<(), Fail> {
+    let words = asked("f1", "z1", "S1");
+    for call in 1..12 {
+        let line = if call < 11 {
+            "gtfs: f1 cannot be read\n"
+        } else {
+            "gtfs: z1 cannot be read\n"
+        };
+        for room in 0..line.len() {
+            let mut folders = folders_failing_at(rt.alloc(), call)?;
+            let mut out = MemoryOut::new(rt.alloc(), 0)?;
+            let mut err = MemoryOut::new(rt.alloc(), room)?;
+            let status = run(
+                rt.alloc(),
+                fixed()?,
+                &words,
+                &mut folders,
+                &mut out,
+                &mut err,
+            );
+            let taken = line.as_bytes().get(..room).ok_or("past the end")?;
+            assert_eq!(rt; err.bytes(), taken, "call {call}");
+            assert_eq!(rt; out.failures(), 0, "call {call}");
+            assert_eq!(rt; status, 3, "call {call}");
+        }
+    }
+    Ok(())
+}

@@ -1,0 +1,95 @@
+"""What the scripts share that run the program on the disk: a small feed in a folder of its own, and how a run has to end."""
+import os
+import resource
+import shutil
+import subprocess
+import tempfile
+
+from program import LIMIT, PROGRAM, SMALL, has_command, want
+
+# The second user, who may read what all may read.
+NOBODY = 65_534
+
+BOARD = "board f1 --zone z1 --stop S1 --from 20240401 --until 20240402".split()
+LINE = b"@1711958400/T1/28800/1/20240401\t2024-04-01 08:00:00+00:00\tS1\t10\t\ts\n"
+CHECK = "check f1".split()
+REPORT = b"errors 0 warnings 0\n"
+TIMETABLE = "timetable f1 --route R1 --date 20240401".split()
+SHEET = b"== R1 - 20240401\ntrip\tT1\nS1\t08:00:00\nS2\t08:10:00\n"
+MERGE = "merge f1 f1 out".split()
+COUNTS = b"joined agency 1\njoined stop 3\njoined route 1\njoined service 1\njoined trip 1\n"
+
+
+def answers():
+    """What each command prints, of those that the program has."""
+    all_answers = [(BOARD, LINE), (CHECK, REPORT), (TIMETABLE, SHEET), (MERGE, COUNTS)]
+    return [(words, text) for words, text in all_answers if has_command(words[0])]
+
+
+class Skipped(Exception):
+    """A test that cannot be made here, and why."""
+
+
+def in_room(test):
+    """The test, handed a folder with a copy of the small feed, which all may read."""
+
+    def run():
+        with tempfile.TemporaryDirectory() as above:
+            room = os.path.join(above, "room")
+            shutil.copytree(SMALL, room)
+            for folder in (above, room):
+                os.chmod(folder, 0o755)
+            try:
+                return test(room)
+            except Skipped as why:
+                return f"SKIPPED: {test.__name__}: {why}"
+
+    run.__name__ = test.__name__
+    return run
+
+
+def run(room, words, program=PROGRAM, **how):
+    how = {"stdin": subprocess.DEVNULL, "stdout": subprocess.PIPE, "stderr": subprocess.PIPE, **how}
+    return subprocess.run([program, *words], cwd=room, timeout=LIMIT, **how)
+
+
+def want_end(ran, words, status, out, err):
+    """Wants a run to have ended so. What went to an output that is no pipe is not known."""
+    ended = (ran.returncode, ran.stdout, ran.stderr)
+    wanted = (status, out if ran.stdout is not None else None, err)
+    want(ended == wanted, f"{words}: {ended} and not {wanted}")
+
+
+def want_unread(ran, words, path):
+    want_end(ran, words, 3, b"", b"gtfs: %s cannot be read\n" % os.fsencode(path))
+
+
+def path_in(room, *names):
+    return os.path.join(room, *names)
+
+
+def put(path, held):
+    with open(path, "wb") as file:
+        file.write(held)
+
+
+def stranger(room):
+    """A copy of the program, and how to run it as a user who may read only what all may."""
+    copy = path_in(room, "program")
+    shutil.copy(PROGRAM, copy)
+    os.chmod(copy, 0o755)
+    if os.geteuid() != 0:
+        return {"program": copy}
+    how = {"user": NOBODY, "group": NOBODY, "extra_groups": []}
+    try:
+        ran = run(room, CHECK, program=copy, **how)
+    except OSError as fault:
+        raise Skipped(f"root may read all, and no program can be run as another user: {fault}") from None
+    want_end(ran, CHECK, 0, REPORT, b"")
+    return {"program": copy, **how}
+
+
+def limited(size):
+    """How to run the program where no file may grow past this size."""
+    # (so that a write past it is refused, and does not end the program, Python's way with that signal is kept)
+    return {"restore_signals": False, "preexec_fn": lambda: resource.setrlimit(resource.RLIMIT_FSIZE, (size, size))}
