@@ -126,11 +126,11 @@ impl Fixture {
     }
 
     // The place of a departure on the merged board, and its line there.
-    fn renamed(
-        &self,
+    fn renamed<'a>(
+        &'a self,
         alloc: Global,
         side: Side,
-        departure: &Departure<'_>,
+        departure: &Departure<'a>,
     ) -> Result<(Place, String), Fail> {
         let key = departure.key;
         let names = &self.merged.names;
