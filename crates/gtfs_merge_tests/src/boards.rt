@@ -132,26 +132,36 @@ impl Fixture {
         side: Side,
         departure: &Departure<'a>,
     ) -> Result<(Place, String), Fail> {
-        let key = departure.key;
+        let instant = departure.key.instant;
         let names = &self.merged.names;
-        let trip = names.of(side, Kind::Trip, key.trip).unwrap_or("no trip");
+        let trip = names
+            .of(side, Kind::Trip, departure.key.trip)
+            .unwrap_or("no trip");
         let stop = names
             .of(side, Kind::Stop, departure.stop)
             .unwrap_or("no stop");
+        let _clock = self.zone.civil(alloc, instant)?;
         let renamed = Departure {
-            key: Key { trip, ..key },
+            key: Key {
+                instant,
+                trip,
+                run: departure.key.run,
+                sequence: departure.key.sequence,
+                day: departure.key.day,
+            },
             stop,
-            ..*departure
+            route: departure.route,
+            headsign: departure.headsign,
+            mark: departure.mark,
         };
-        let _clock = self.zone.civil(alloc, key.instant)?;
         let mut line = String::new(alloc);
         push_line(alloc, &mut line, &self.zone, &renamed)?;
         let place = Place {
-            instant: key.instant,
+            instant,
             trip: self.merged.feed.trip(trip).unwrap_or(TripNo(0)),
-            run: key.run,
-            sequence: key.sequence,
-            day: key.day,
+            run: departure.key.run,
+            sequence: departure.key.sequence,
+            day: departure.key.day,
         };
         Ok((place, line))
     }
