@@ -1,12 +1,12 @@
--- Reports of merges of small feeds, and rows of merged ones. 19814 is 1 April 2024.
-use Rattle.std.proofs.Common.{◌≡◌, ◌∷◌, [], codes, refl, ℕ, pos, List, Some, None, map, true}
+-- Reports of merges of small feeds, and a transfer of one. 19814 is 1 April 2024.
+use Rattle.std.proofs.Common.{◌≡◌, ◌∷◌, [], codes, refl, ℕ, pos, List, Some, None, true}
 use Rattle.std.specs.Prelude.{◌+◌, ◌++◌, flat_map}
 use Rattle.std.specs.Fmt.{digits}
 use Prim.Native.String.{String as Literal}
 use Rattle.gtfs_days.specs.Service.{ServiceDates}
 use Rattle.gtfs_rows.specs.Content.{Content}
 use Rattle.gtfs_rows.specs.Rows.{Agency, Stop, Route, StopRow, Trip, Transfer}
-use Rattle.gtfs_merge.specs.Merged.{merged, transfer_with}
+use Rattle.gtfs_merge.specs.Merged.{transfer_with}
 use Rattle.gtfs_merge.specs.Renaming.{names_b, never_near}
 use Rattle.gtfs_merge.specs.Report.{merge_report}
 
@@ -124,11 +124,6 @@ other_times : merge_report never_near with_second at_ten
     ≡ lines ("B\ttrip\tT1\tT1_merged_2" ∷ "joined agency 1" ∷ "joined stop 3" ∷ "joined route 1" ∷ "joined service 1" ∷ "joined trip 0" ∷ [])
 unfolding digits
 other_times = refl
-
-merged_trips : map (λ t. t.trip_id) (merged never_near with_second at_ten).trips
-    ≡ map codes ("T1" ∷ "T1_merged_1" ∷ "T1_merged_2" ∷ [])
-unfolding digits
-merged_trips = refl
 
 abbrev waiting : Transfer
 waiting = record {
