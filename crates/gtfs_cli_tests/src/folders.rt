@@ -56,26 +56,32 @@ fn a_file_over_the_limit_is_not_read(rt: HostRuntime) -> Result<(), Fail> {
     let ended = (3, "", "gtfs: ./large holds a file over the limit\n");
     assert_ends(&rt, rt.alloc(), &mut folders, &words, ended)?;
     folders.put("f1", "transfers.txt", &[0; 1_001])?;
-    let sheets = timetable_asked("f1", "R1");
-    for words in [words.as_slice(), sheets.as_slice(), CHECK.as_slice()] {
-        let ended = (3, "", "gtfs: f1 holds a file over the limit\n");
-        assert_ends(&rt, rt.alloc(), &mut folders, words, ended)?;
-    }
-    Ok(())
+    let ended = (3, "", "gtfs: f1 holds a file over the limit\n");
+    assert_ends(&rt, rt.alloc(), &mut folders, &words, ended)?;
+    assert_ends(&rt, rt.alloc(), &mut folders, &CHECK, ended)?;
+    assert_ends(
+        &rt,
+        rt.alloc(),
+        &mut folders,
+        &timetable_asked("f1", "R1"),
+        ended,
+    )
 }
 
 #[test]
 fn an_empty_text_names_no_folder(rt: HostRuntime) -> Result<(), Fail> {
     let mut folders = folders(rt.alloc())?;
     folders.put_folder("")?;
-    let board = asked("", "z1", "S1");
-    let sheets = timetable_asked("", "R1");
-    let check = ["gtfs", "check", ""];
-    for words in [board.as_slice(), sheets.as_slice(), check.as_slice()] {
-        let ended = (3, "", "gtfs:  is not there\n");
-        assert_ends(&rt, rt.alloc(), &mut folders, words, ended)?;
-    }
-    Ok(())
+    let ended = (3, "", "gtfs:  is not there\n");
+    assert_ends(&rt, rt.alloc(), &mut folders, &asked("", "z1", "S1"), ended)?;
+    assert_ends(
+        &rt,
+        rt.alloc(),
+        &mut folders,
+        &timetable_asked("", "R1"),
+        ended,
+    )?;
+    assert_ends(&rt, rt.alloc(), &mut folders, &["gtfs", "check", ""], ended)
 }
 
 #[test]
