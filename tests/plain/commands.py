@@ -13,6 +13,9 @@ from values import FIRST_SERVICE_DAY, LAST_SERVICE_DAY, Form, Range, plain, read
 from words import Help, NotUtf8, Refused, read_words
 from zones import NoZone, Odd, read_zone
 
+# The most bytes in the name of a file on the file systems that this is run on.
+LONGEST_NAME = 255
+
 # A text that is there and is not fixed.
 SOME = object()
 
@@ -130,7 +133,7 @@ def zone_of(path):
 
 def can_be_written(folder):
     """Whether the nine files can be written into a folder, whose missing levels are made."""
-    if not folder:
+    if not folder or any(len(os.fsencode(level)) > LONGEST_NAME for level in folder.split("/")):
         return False
     while not os.path.lexists(folder):
         folder = os.path.dirname(folder) or "."
