@@ -103,6 +103,8 @@ def change_words(random, words):
     at = random.randrange(len(words))
     if form < 0.7:
         held = hostile(random, words[at].encode("utf-8", "surrogateescape")).replace(b"\0", b"0")
+        # (a merge writes, and has to stay in the folder of its case)
+        held = held.replace(b"..", b"00").lstrip(b"/")
         words[at] = held.decode("utf-8", "surrogateescape")
     elif form < 0.8:
         words.pop(at)
