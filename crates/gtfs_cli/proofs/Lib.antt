@@ -28,3 +28,4 @@ mod ZoneEnds
 mod OnePage
 mod OneBoard
 mod OneMerge
+mod RunOutcomes
