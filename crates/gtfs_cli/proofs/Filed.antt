@@ -48,23 +48,24 @@ module _ (c : Content) (dir : List ℕ) where
   after (Some store) mid new xs x holds disturbs = subst (λ (m : Option Store). Disturbs m new dir (file_name x)) holds disturbs
 
   -- the files before one that was not written
-  pub file-ends : (old mid new : Option Store) (first before end : ℕ) (i : ℕ) (x : File) → i < length kept_files → HoldsFiles old mid dir c (take i kept_files)
+  pub file-ends : (old mid new : Option Store) (first before end : ℕ) (i : ℕ) (x : File) → 0 < length dir → i < length kept_files → HoldsFiles old mid dir c (take i kept_files)
       → first ≤ before → (r : Refusal) → IsFileEnd mid new before end dir (get_or kept_files i x) r → IsWritingEnd old new first end dir c r
-  file-ends old mid new first before end i x inside holds grows (Words text) h = absurd h
-  file-ends old mid new first before end i x inside holds grows (BadValue option) h = absurd h
-  file-ends old mid new first before end i x inside holds grows (NotThere path) h = absurd h
-  file-ends old mid new first before end i x inside holds grows (Unreadable path) h = absurd h
-  file-ends old mid new first before end i x inside holds grows (OverLimit path) h = absurd h
-  file-ends old mid new first before end i x inside holds grows (HasErrors path) h = absurd h
-  file-ends old mid new first before end i x inside holds grows (NoZone path) h = absurd h
-  file-ends old mid new first before end i x inside holds grows UnknownStop h = absurd h
-  file-ends old mid new first before end i x inside holds grows UnknownRoute h = absurd h
-  file-ends old mid new first before end i x inside holds grows UntilBeforeFrom h = absurd h
-  file-ends old mid new first before end i x inside holds grows ZonesDiffer h = absurd h
-  file-ends old mid new first before end i x inside holds grows MergeTooLarge h = absurd h
-  file-ends old mid new first before end i x inside holds grows (Unwritable path) h = (
+  file-ends old mid new first before end i x named inside holds grows (Words text) h = absurd h
+  file-ends old mid new first before end i x named inside holds grows (BadValue option) h = absurd h
+  file-ends old mid new first before end i x named inside holds grows (NotThere path) h = absurd h
+  file-ends old mid new first before end i x named inside holds grows (Unreadable path) h = absurd h
+  file-ends old mid new first before end i x named inside holds grows (OverLimit path) h = absurd h
+  file-ends old mid new first before end i x named inside holds grows (HasErrors path) h = absurd h
+  file-ends old mid new first before end i x named inside holds grows (NoZone path) h = absurd h
+  file-ends old mid new first before end i x named inside holds grows UnknownStop h = absurd h
+  file-ends old mid new first before end i x named inside holds grows UnknownRoute h = absurd h
+  file-ends old mid new first before end i x named inside holds grows UntilBeforeFrom h = absurd h
+  file-ends old mid new first before end i x named inside holds grows ZonesDiffer h = absurd h
+  file-ends old mid new first before end i x named inside holds grows MergeTooLarge h = absurd h
+  file-ends old mid new first before end i x named inside holds grows (Unwritable path) h = (
     h.0,
     inr (
+      named,
       rises-within first before end grows h.1,
       record {
         files = take i kept_files;
@@ -75,8 +76,8 @@ module _ (c : Content) (dir : List ℕ) where
       },
     ),
   )
-  file-ends old mid new first before end i x inside holds grows OutputFailed h = absurd h
-  file-ends old mid new first before end i x inside holds grows OutOfMemory h = record {
+  file-ends old mid new first before end i x named inside holds grows OutputFailed h = absurd h
+  file-ends old mid new first before end i x named inside holds grows OutOfMemory h = record {
     files = take i kept_files;
     left = drop i kept_files;
     order = sym (take-append-drop i kept_files);

@@ -21,3 +21,11 @@ mod Unmerged
 mod MergeEnded
 mod Unchecked
 mod Outcomes
+mod Apart
+mod PathCuts
+mod FolderEnds
+mod ZoneEnds
+mod OnePage
+mod OneBoard
+mod OneMerge
+mod RunOutcomes

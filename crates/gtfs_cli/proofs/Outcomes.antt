@@ -27,30 +27,30 @@ use Rattle.gtfs_cli.specs.declared.commands.refusal.Refusal.{Refusal}
 use Rattle.gtfs_cli.specs.declared.commands.refusal.Refusal.TheVariants.{Words, BadValue, NotThere, Unreadable, OverLimit, HasErrors, NoZone, UnknownStop, UnknownRoute, UntilBeforeFrom, ZonesDiffer, MergeTooLarge, Unwritable, OutputFailed, OutOfMemory}
 
 -- the outcome of a line and a status, where nothing is printed
-abbrev refused : List ℕ → ℕ → Outcome
+abbrev pub refused : List ℕ → ℕ → Outcome
 refused told status = record { text = []; told = told; status = status }
 
-alike : (x y : Outcome) → x.text ≡ y.text → x.told ≡ y.told → x.status ≡ y.status → x ≡ y
+pub alike : (x y : Outcome) → x.text ≡ y.text → x.told ≡ y.told → x.status ≡ y.status → x ≡ y
 alike x y text told status = λ i. record { text = text i; told = told i; status = status i }
 
 -- what all lines of a refusal are, for a path
-told-of : (path dir after : List ℕ) → path ≡ dir → line_of path after ≡ line_of dir after
+pub told-of : (path dir after : List ℕ) → path ≡ dir → line_of path after ≡ line_of dir after
 told-of path dir after is = ap (λ (t : List ℕ). line_of t after) is
 
 -- ---- what folders hold
 
 module _ (limit : ℕ) (store : Store) (dir : List ℕ) where
-  one_dataset : (d e : Dataset) → HoldsTables limit (Some store) dir d → HoldsTables limit (Some store) dir e → d ≡ e
+  pub one_dataset : (d e : Dataset) → HoldsTables limit (Some store) dir d → HoldsTables limit (Some store) dir e → d ≡ e
   one_dataset d e h k = ap (λ (o : Option Dataset). unwrap_or o d) (sym h.holds ∙ k.holds)
 
   nameless : 0 < length dir → dir ≡ [] → ⊥
   nameless named none = let no : 0 < length dir = named in omega (arith, no, ap (λ (t : List ℕ). length t) none)
 
-  not_lacking : (d : Dataset) → HoldsTables limit (Some store) dir d → LacksFeed (Some store) dir → ⊥
+  pub not_lacking : (d : Dataset) → HoldsTables limit (Some store) dir d → LacksFeed (Some store) dir → ⊥
   not_lacking d h (inl none) = nameless h.named none
   not_lacking d h (inr none) = cc (ap (option_map dataset_of) (sym none) ∙ h.holds)
 
-  not_lacking_over : LacksFeed (Some store) dir → HoldsKeptFile limit (Some store) dir → ⊥
+  pub not_lacking_over : LacksFeed (Some store) dir → HoldsKeptFile limit (Some store) dir → ⊥
   not_lacking_over (inl none) over = nameless over.0 none
   not_lacking_over (inr none) over = cc (sym (ap (option_map (λ files. map.get files _)) none) ∙ over.2.1)
 
@@ -65,22 +65,22 @@ module _ (limit : ℕ) (store : Store) (dir : List ℕ) where
   each_kept P all file.Frequencies = all 7 file.Agency (omega arith)
   each_kept P all file.Transfers = all 8 file.Agency (omega arith)
 
-  not_over : (d : Dataset) → HoldsTables limit (Some store) dir d → HoldsKeptFile limit (Some store) dir → ⊥
+  pub not_over : (d : Dataset) → HoldsTables limit (Some store) dir d → HoldsKeptFile limit (Some store) dir → ⊥
   not_over d h over =
       let x = over.1 in
       let bytes = over.2.0 in
       let within = each_kept (HoldsWithin limit (Some store) dir) h.within x bytes over.2.1 in
       omega (arith, within, over.2.2)
 
-  not_errors : (d : Dataset) → HoldsTables limit (Some store) dir d → Passes d → HoldsErrors limit (Some store) dir → ⊥
+  pub not_errors : (d : Dataset) → HoldsTables limit (Some store) dir d → Passes d → HoldsErrors limit (Some store) dir → ⊥
   not_errors d h passing (e, holds, fails) = fails (subst Passes (one_dataset d e h holds) passing)
 
   -- ---- a check
 
-  abbrev not_there : Outcome
+  abbrev pub not_there : Outcome
   not_there = refused (line_of dir (codes " is not there")) 3
 
-  abbrev over_limit : Outcome
+  abbrev pub over_limit : Outcome
   over_limit = refused (line_of dir (codes " holds a file over the limit")) 3
 
   -- a check ends with a report, without a folder, or with a file over the limit

@@ -1,5 +1,5 @@
 -- Why two folders are not merged, and what is left then.
-use Rattle.std.proofs.Common.{◌≡◌, ◌∙◌, ap, subst, ℕ, ◌≤◌, ◌⊎◌, inl, inr, true, false, List, [], Option, Result, Ok, Err, arith}
+use Rattle.std.proofs.Common.{◌≡◌, ◌∙◌, ap, subst, ℕ, ◌<◌, ◌≤◌, length, ◌⊎◌, inl, inr, true, false, List, [], Option, Result, Ok, Err, arith}
 use Rattle.std.specs.Prelude.{IfErr, OnErr}
 use Rattle.std.specs.Io.KnownBytes.{Appends, Keeps}
 use Rattle.gtfs_table.specs.Device.{Rises}
@@ -168,15 +168,15 @@ module _ (limit : ℕ) (held : Option Store) (asked : MergeTexts) where
 
   module _ (c : Content) (report : List ℕ) (is : IsFolderMerge limit held asked c report) where
     unwritten : (before after : Failures) (mid now : Option Store) (x y : ℕ) → before.folders ≤ x → y ≤ after.folders → (path : List ℕ) → path ≡ asked.out
-        → ((asked.out ≡ []) × (now ≡ mid)) ⊎ (Rises x y × StopsAtOne mid now asked.out c)
+        → ((asked.out ≡ []) × (now ≡ mid)) ⊎ ((0 < length asked.out) × Rises x y × StopsAtOne mid now asked.out c)
         → (path ≡ asked.out) × CanMerge limit held asked × ((asked.out ≡ []) ⊎ Rises before.folders after.folders)
     unwritten before after mid now x y low high path at (inl h) = (at, (c, report, is), inl h.0)
-    unwritten before after mid now x y low high path at (inr h) = (at, (c, report, is), inr (rises-around before.folders x y after.folders low high h.0))
+    unwritten before after mid now x y low high path at (inr h) = (at, (c, report, is), inr (rises-around before.folders x y after.folders low high h.1))
 
-    ended : (x y : ℕ) (now : Option Store) → ((asked.out ≡ []) × (now ≡ held)) ⊎ (Rises x y × StopsAtOne held now asked.out c)
-        → ((asked.out ≡ []) × (now ≡ held)) ⊎ StopsAtOne held now asked.out c
+    ended : (x y : ℕ) (now : Option Store) → ((asked.out ≡ []) × (now ≡ held)) ⊎ ((0 < length asked.out) × Rises x y × StopsAtOne held now asked.out c)
+        → ((asked.out ≡ []) × (now ≡ held)) ⊎ ((0 < length asked.out) × StopsAtOne held now asked.out c)
     ended x y now (inl h) = inl h
-    ended x y now (inr h) = inr h.1
+    ended x y now (inr h) = inr (h.0, h.2)
 
     pub writing-cause : (before after : Failures) (mid now : Option Store) (x y : ℕ) → before.folders ≤ x → y ≤ after.folders → (r : Refusal)
         → IsWritingEnd mid now x y asked.out c r → IsMergeCause limit held asked before after r
@@ -231,9 +231,9 @@ module _ (limit : ℕ) (held : Option Store) (asked : MergeTexts) where
     printing-cause before after OutputFailed h = ((c, report, is), h)
     printing-cause before after OutOfMemory h = tt
 
-    module _ (now : Option Store) (old new : Option (List ℕ)) (files : HoldsFiles held now asked.out c kept_files) (again : ReadsAgain held now asked.out c) where
+    module _ (now : Option Store) (old new : Option (List ℕ)) (named : 0 < length asked.out) (files : HoldsFiles held now asked.out c kept_files) (again : ReadsAgain held now asked.out c) where
       pub all-printed : Appends old new report → IsWritten limit held asked now (λ text. Appends old new text)
-      all-printed sent = record { content = c; report = report; merges = is; files = files; again = again; sent = sent }
+      all-printed sent = record { content = c; report = report; merges = is; named = named; files = files; again = again; sent = sent }
 
       pub printing-ends : (x y : ℕ) → SendsBeginning old new report → (r : Refusal) → IsSendingCause x y r → EndsMerge limit held asked now old new r
       printing-ends x y begun (Words text) h = absurd h
@@ -249,5 +249,5 @@ module _ (limit : ℕ) (held : Option Store) (asked : MergeTexts) where
       printing-ends x y begun ZonesDiffer h = absurd h
       printing-ends x y begun MergeTooLarge h = absurd h
       printing-ends x y begun (Unwritable path) h = absurd h
-      printing-ends x y begun OutputFailed h = record { content = c; report = report; merges = is; files = files; again = again; sent = begun }
-      printing-ends x y begun OutOfMemory h = inr (inr (record { content = c; report = report; merges = is; files = files; again = again; sent = begun }))
+      printing-ends x y begun OutputFailed h = record { content = c; report = report; merges = is; named = named; files = files; again = again; sent = begun }
+      printing-ends x y begun OutOfMemory h = inr (inr (record { content = c; report = report; merges = is; named = named; files = files; again = again; sent = begun }))

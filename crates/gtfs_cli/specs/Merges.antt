@@ -1,5 +1,5 @@
 -- What `gtfs merge` makes of two folders: the merged feed, the files of its written form, and its report.
-use Rattle.std.specs.Prelude.{◌≡◌, ◌⊎◌, ⊤, ℕ, true, false, List, [], ◌∷◌, ◌++◌, Option, Some, None, unwrap_or}
+use Rattle.std.specs.Prelude.{◌≡◌, ◌<◌, ◌⊎◌, ⊤, ℕ, true, false, length, List, [], ◌∷◌, ◌++◌, Option, Some, None, unwrap_or}
 use Rattle.std.specs.Io.KnownBytes.{Appends, Keeps}
 use Rattle.gtfs_table.specs.Device.{Rises}
 use Rattle.gtfs_table.specs.Files.{file_name}
@@ -130,11 +130,12 @@ IsMergeCause limit held asked before after refusal = IsMergingCause limit held a
 abbrev pub IsUntouched : Option Store → Option Store → Option (List ℕ) → Option (List ℕ) → Type 0
 IsUntouched held now old new = (now ≡ held) × Keeps old new
 
--- all files of the merge were written, and what went out is so of its report
+-- all files of the merge were written, into a folder that has a name, and what went out is so of its report
 pub record IsWritten (limit : ℕ) (held : Option Store) (asked : MergeTexts) (now : Option Store) (Sent : List ℕ → Type 0) : Type 0 where
   pub content : Content
   pub report : List ℕ
   pub merges : IsFolderMerge limit held asked content report
+  pub named : 0 < length asked.out
   pub files : HoldsFiles held now asked.out content kept_files
   pub again : ReadsAgain held now asked.out content
   pub sent : Sent report
@@ -157,7 +158,7 @@ pub record IsUnwritten (limit : ℕ) (held : Option Store) (asked : MergeTexts) 
 
 abbrev pub EndsMerge : ℕ → Option Store → MergeTexts → Option Store → Option (List ℕ) → Option (List ℕ) → Refusal → Type 0
 EndsMerge limit held asked now old new (Unwritable path) =
-    IsUnwritten limit held asked old new (λ c. ((asked.out ≡ []) × (now ≡ held)) ⊎ StopsAtOne held now asked.out c)
+    IsUnwritten limit held asked old new (λ c. ((asked.out ≡ []) × (now ≡ held)) ⊎ ((0 < length asked.out) × StopsAtOne held now asked.out c))
 EndsMerge limit held asked now old new OutputFailed = BeginsMerge limit held asked now old new
 EndsMerge limit held asked now old new OutOfMemory = IsUntouched held now old new
     ⊎ (IsUnwritten limit held asked old new (λ c. HoldsSome held now asked.out c) ⊎ BeginsMerge limit held asked now old new)
@@ -181,6 +182,6 @@ IsFileEnd old new before after dir x _ = ⊥
 -- why the files of a feed are not all written, and what the device holds then
 abbrev pub IsWritingEnd : Option Store → Option Store → ℕ → ℕ → List ℕ → Content → Refusal → Type 0
 IsWritingEnd old new before after dir c (Unwritable path) =
-    (path.now ≡ dir) × (((dir ≡ []) × (new ≡ old)) ⊎ (Rises before after × StopsAtOne old new dir c))
+    (path.now ≡ dir) × (((dir ≡ []) × (new ≡ old)) ⊎ ((0 < length dir) × Rises before after × StopsAtOne old new dir c))
 IsWritingEnd old new before after dir c OutOfMemory = HoldsSome old new dir c
 IsWritingEnd old new before after dir c _ = ⊥

@@ -1,12 +1,14 @@
 -- How a command ends where its devices work and memory suffices.
-use Rattle.std.specs.Prelude.{◌≡◌, ◌≢◌, ◌⊎◌, ℕ, cond, List, [], Option}
+use Rattle.std.specs.Prelude.{◌≡◌, ◌≢◌, ◌⊎◌, ℕ, cond, List, [], Option, Some}
 use Rattle.gtfs_table.specs.Folder.{Store}
 use Rattle.gtfs_table.specs.Tables.{Dataset}
 use Rattle.gtfs_columns.specs.Problems.{Problem, passes, IsReport}
 use Rattle.gtfs_rules.specs.Report.{report_text}
-use Rattle.gtfs_words.specs.Words.{TimetableTexts}
+use Rattle.gtfs_words.specs.Words.{BoardTexts, MergeTexts, TimetableTexts}
+use Rattle.gtfs_cli.specs.Boards.{PrintsBoard}
+use Rattle.gtfs_cli.specs.Merges.{IsMergeCause, PrintsMerge}
 use Rattle.gtfs_cli.specs.Messages.{message}
-use Rattle.gtfs_cli.specs.Refusals.{status_of, IsCheckCause}
+use Rattle.gtfs_cli.specs.Refusals.{status_of, IsCause, IsCheckCause}
 use Rattle.gtfs_cli.specs.Running.{Failures, HoldsTables}
 use Rattle.gtfs_cli.specs.Timetables.{IsTimetableCause, IsTimetableText}
 use Rattle.gtfs_cli.specs.declared.commands.refusal.Refusal.{Refusal}
@@ -47,6 +49,12 @@ pub record IsTimetabled (limit : ℕ) (held : Option Store) (asked : TimetableTe
   pub told : o.told ≡ []
   pub status : o.status ≡ 0
 
+-- a page of the board that the words ask for, as it goes out to an output to which nothing went before
+pub record IsBoarded (limit : ℕ) (held : Option Store) (asked : BoardTexts) (o : Outcome) : Type 0 where
+  pub text : PrintsBoard limit held asked (Some []) (Some o.text)
+  pub told : o.told ≡ []
+  pub status : o.status ≡ 0
+
 -- how the check of a folder ends
 abbrev pub IsCheckOutcome : ℕ → Option Store → List ℕ → Outcome → Type 0
 IsCheckOutcome limit held dir o = IsReported limit held dir o ⊎ IsRefusedBy (IsCheckCause limit held dir none_failed none_failed) o
@@ -54,3 +62,29 @@ IsCheckOutcome limit held dir o = IsReported limit held dir o ⊎ IsRefusedBy (I
 -- how a timetable ends
 abbrev pub IsTimetableOutcome : ℕ → Option Store → TimetableTexts → Outcome → Type 0
 IsTimetableOutcome limit held asked o = IsTimetabled limit held asked o ⊎ IsRefusedBy (IsTimetableCause limit held asked none_failed none_failed) o
+
+-- how a board ends
+abbrev pub IsBoardOutcome : ℕ → Option Store → BoardTexts → Outcome → Type 0
+IsBoardOutcome limit held asked o = IsBoarded limit held asked o ⊎ IsRefusedBy (IsCause limit held asked none_failed none_failed) o
+
+-- ---- a merge
+
+-- how it ends, and what the folders hold then
+pub record MergeOutcome : Type 0 where
+  pub ended : Outcome
+  pub folders : Store
+
+-- all nine files of the merge lie in the third folder, what else the folders held is as it was, and the text is the report of the merge
+pub record IsMergeMade (limit : ℕ) (held : Option Store) (asked : MergeTexts) (o : MergeOutcome) : Type 0 where
+  pub written : PrintsMerge limit held asked (Some o.folders) (Some []) (Some o.ended.text)
+  pub told : o.ended.told ≡ []
+  pub status : o.ended.status ≡ 0
+
+-- a merge that is refused changes nothing
+pub record IsMergeRefusedBy (limit : ℕ) (held : Option Store) (asked : MergeTexts) (o : MergeOutcome) : Type 0 where
+  pub refused : IsRefusedBy (IsMergeCause limit held asked none_failed none_failed) o.ended
+  pub untouched : Some o.folders ≡ held
+
+-- how a merge ends
+abbrev pub IsMergeOutcome : ℕ → Option Store → MergeTexts → MergeOutcome → Type 0
+IsMergeOutcome limit held asked o = IsMergeMade limit held asked o ⊎ IsMergeRefusedBy limit held asked o

@@ -8,7 +8,7 @@ use Rattle.clap.specs.Words.{Text, subcommand_of, takes}
 use Rattle.gtfs_field.specs.Kinds.{count_of, date_of, instant_of}
 use Rattle.gtfs_field.specs.declared.fault.FieldFault.{FieldFault}
 use Rattle.gtfs_days.specs.Service.{is_service_day}
-use Rattle.gtfs_days.specs.Zone.{zone_origin, IsUnreadable, IsZoneOf}
+use Rattle.gtfs_days.specs.Zone.{zone_origin, IsTooLong, IsUnreadable, IsZoneOf}
 use Rattle.gtfs_days.specs.declared.zone.Zone.{Zone}
 use Rattle.gtfs_table.specs.Device.{Rises}
 use Rattle.gtfs_table.specs.Files.{file_name}
@@ -137,10 +137,15 @@ LacksFile held path = OfFile path (λ folder name. (0 < length name) × (LacksFo
 abbrev pub NamesNoFile : List ℕ → Type 0
 NamesNoFile path = OfFile path (λ folder name. name ≡ [])
 
--- the zone is that of the bytes under the path
+-- a zone file may have so many bytes
+abbrev pub FitsZone : List ℕ → Type 0
+FitsZone bytes = IsTooLong bytes → ⊥
+
+-- the zone is that of the bytes under the path, which are no more than a zone file may have
 pub record HoldsZone (limit : ℕ) (held : Option Store) (path : List ℕ) (zone : Zone) : Type 0 where
   pub bytes : List ℕ
   pub holds : HoldsBytes limit held path bytes
+  pub fits : FitsZone bytes
   pub is_zone : IsZoneOf bytes zone
 
 -- the bytes under the path are no zone file

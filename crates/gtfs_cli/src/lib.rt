@@ -37,4 +37,4 @@ mod law;
 mod report;
 
 pub use commands::run;
-pub use law::outcomes_are_one;
+pub use law::{outcomes_are_one, runs_end_with_outcomes};

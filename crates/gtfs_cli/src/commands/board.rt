@@ -5,7 +5,7 @@ ghost use Rattle.gtfs_table.specs.Folder.{Store};
 ghost use Rattle.gtfs_board.specs.Page.{IsPage};
 ghost use Rattle.gtfs_cli.specs.Boards.{request_of, AreValues, EndsBoard, EndsLines, IsLinesCause, IsOpeningCause, ListsBoard, OfBoard, PrintsBoard};
 ghost use Rattle.gtfs_words.specs.Words.{texts_of};
-ghost use Rattle.gtfs_cli.specs.Running.{Failures, HasValues, HoldsBytes, HoldsPassing, HoldsZone};
+ghost use Rattle.gtfs_cli.specs.Running.{Failures, FitsZone, HasValues, HoldsBytes, HoldsPassing, HoldsZone};
 ghost use Rattle.gtfs_cli.specs.Refusals.{IsCause};
 
 use crate::commands::feed::read_feed;
@@ -81,6 +81,7 @@ fn read_zone<'w, F: Folders>(
 // The zone of the bytes of the zone file.
 fn zone_of<'w>(alloc: Global, bytes: &[u8], words: &BoardWords<'w>) -> Result<Zone, Refusal<'w>>
     ensures read { IfOk result (IsZoneOf bytes.now) }
+    ensures fits { OnOk result (FitsZone bytes.now) }
     ensures refused { IfErr result
         (λ refusal. (limit : ℕ) (held : Option Store) (before after : Failures)
         → HasValues (texts_of words.now) → HoldsPassing limit held words.now.dir.now

@@ -1,4 +1,4 @@
-ghost use Rattle.std.specs.Prelude.{◌≡◌, ◌≤◌, ℕ, Option, IfOk, IfErr, OnOk};
+ghost use Rattle.std.specs.Prelude.{◌≡◌, ◌<◌, ◌≤◌, ℕ, length, Option, IfOk, IfErr, OnOk};
 ghost use Rattle.gtfs_feed.specs.Content.{content_of};
 ghost use Rattle.gtfs_merge.specs.Merging.{IsMergeOf, KeepsDepartures};
 ghost use Rattle.gtfs_table.specs.Files.{file_name};
@@ -105,6 +105,7 @@ fn write_feed<'w, F: Folders>(
 ) -> Result<(), Refusal<'w>>
     ensures written { OnOk result (HoldsFiles (F.held folders.old) (F.held folders.new)
         dir.now (content_of feed.now) kept_files) }
+    ensures named { OnOk result (0 < length dir.now) }
     ensures read { OnOk result (AllReadAs (content_of feed.now)) }
     ensures refused { IfErr result (IsWritingEnd (F.held folders.old) (F.held folders.new)
         (F.failure_count folders.old) (F.failure_count folders.new) dir.now (content_of feed.now)) }

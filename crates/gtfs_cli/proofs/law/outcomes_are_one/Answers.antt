@@ -1,5 +1,7 @@
+use Rattle.gtfs_cli.proofs.OneBoard.{one-board}
+use Rattle.gtfs_cli.proofs.OneMerge.{one-merge}
 use Rattle.gtfs_cli.proofs.Outcomes.{one-check, one-timetable}
 use Rattle.gtfs_cli.proofs.law.outcomes_are_one.Goals as goal
 
 pub returns : goal.returns
-returns c = record { check = one-check; timetable = one-timetable }
+returns c = record { check = one-check; board = one-board; timetable = one-timetable; merge = one-merge }

@@ -90,7 +90,8 @@ returns-clause-printed g c =
     let files = subst (λ (h : Option Store). HoldsFiles h now asked.out f kept_files) c.merge_folders.ensures.unchanged c.in_ok-write_feed.ensures.written in
     let again = reads-again f held now asked.out (written_form f c.soundness.ensures.content) c.in_ok-write_feed.ensures.read files in
     ok-then c.print_names.result _ _
-    (all-printed limit held asked f (names_report m.names) c.in_ok-merged.ensures.merged now (g.O.Out.told c.args.out.now) (g.O.Out.told c.print_names.new.out) files again)
+    (all-printed limit held asked f (names_report m.names) c.in_ok-merged.ensures.merged now (g.O.Out.told c.args.out.now) (g.O.Out.told c.print_names.new.out)
+    c.in_ok-write_feed.ensures.named files again)
     c.print_names.ensures.printed
 
 pub returns-clause-cut_short : goal.returns-clause-cut_short
@@ -104,7 +105,8 @@ returns-clause-cut_short g c =
     let files = subst (λ (h : Option Store). HoldsFiles h now asked.out f kept_files) c.merge_folders.ensures.unchanged c.in_ok-write_feed.ensures.written in
     let again = reads-again f held now asked.out (written_form f c.soundness.ensures.content) c.in_ok-write_feed.ensures.read files in
     both-err c.print_names.result _ _ _
-    (printing-ends limit held asked f (names_report m.names) c.in_ok-merged.ensures.merged now (g.O.Out.told c.args.out.now) (g.O.Out.told c.print_names.new.out) files again
+    (printing-ends limit held asked f (names_report m.names) c.in_ok-merged.ensures.merged now (g.O.Out.told c.args.out.now) (g.O.Out.told c.print_names.new.out)
+    c.in_ok-write_feed.ensures.named files again
     (g.O.Out.failure_count c.args.out.now) (g.O.Out.failure_count c.print_names.new.out))
     c.print_names.ensures.cut_short c.print_names.ensures.refused
 

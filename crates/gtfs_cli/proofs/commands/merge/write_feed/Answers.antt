@@ -1,5 +1,6 @@
-use Rattle.std.proofs.Common.{ℕ, ◌≤◌, List, subst, arith}
+use Rattle.std.proofs.Common.{◌∙◌, ℕ, ◌<◌, ◌≤◌, List, length, sym, subst, arith}
 use Rattle.std.specs.List.{All}
+use Rattle.std.proofs.lemmas.Bool.{eqb-false}
 use Rattle.std.proofs.lemmas.List.{take_all}
 use Rattle.std.proofs.lemmas.List.Elements.{All-more, All-nil}
 use Rattle.gtfs_table.specs.Reading.{kept_files}
@@ -48,6 +49,7 @@ returns-in_err-write_file-clause-refused g c =
     let end = g.F.Folders.failure_count c.write_file.new.folders in
     let f = content_of c.args.feed.now in
     let r = c.in_err-write_file.field-0.0 in
+    let named : 0 < length c.args.dir.now = omega (arith, eqb-false (length c.args.dir.now) 0 (sym c.is_empty.ensures ∙ c.if-is_empty.false)) in
     told-up c.from_residual.result r (IsWritingEnd old new first end c.args.dir.now f) c.from_residual.ensures.1
-    (file-ends f c.args.dir.now old mid new first before end c.loop-file.file-index file.Agency (omega (arith, c.loop-file-test.true)) c.loop-file.invariant.holds
+    (file-ends f c.args.dir.now old mid new first before end c.loop-file.file-index file.Agency named (omega (arith, c.loop-file-test.true)) c.loop-file.invariant.holds
     c.loop-file.invariant.grows r c.in_err-write_file.ensures.refused)

@@ -1,0 +1,188 @@
+-- A merge has one outcome.
+use Rattle.std.proofs.Common.{◌≡◌, ◌≢◌, ◌∙◌, ap, sym, subst, refl, ℕ, inl, inr, ◌⊎◌, true, false, List, [], length, Some, codes, arith}
+use Rattle.std.proofs.lemmas.Option.{same_Some}
+use Rattle.gtfs_table.specs.Folder.{Store}
+use Rattle.gtfs_table.specs.Reading.{kept_files}
+use Rattle.gtfs_rows.specs.Content.{Content}
+use Rattle.gtfs_rows.specs.Reading.{content_of}
+use Rattle.gtfs_merge.specs.Merged.{is_too_large, merged, zones_differ}
+use Rattle.gtfs_merge.specs.Renaming.{never_near}
+use Rattle.gtfs_merge.specs.Report.{merge_report}
+use Rattle.gtfs_words.specs.Words.{MergeTexts}
+use Rattle.gtfs_cli.specs.Merges.{file_limit, with_files, CanMerge, HasLargeMerge, HasTwoZones, IsFolderMerge, IsMergeCause, MergeSetting}
+use Rattle.gtfs_cli.specs.Messages.{line_of, message}
+use Rattle.gtfs_cli.specs.Outcomes.{none_failed, IsMergeMade, IsMergeOutcome, MergeOutcome, Outcome}
+use Rattle.gtfs_cli.specs.Refusals.{status_of}
+use Rattle.gtfs_cli.specs.declared.commands.refusal.Refusal.{Refusal}
+use Rattle.gtfs_cli.specs.declared.commands.refusal.Refusal.TheVariants.{Words, BadValue, NotThere, Unreadable, OverLimit, HasErrors, NoZone, UnknownStop, UnknownRoute, UntilBeforeFrom, ZonesDiffer, MergeTooLarge, Unwritable, OutputFailed, OutOfMemory}
+use Rattle.gtfs_cli.proofs.Apart.{either, one_as, Apart, EndsAs, One}
+use Rattle.gtfs_cli.proofs.FolderEnds.{has_errors, one_folder, FolderEnd}
+use Rattle.gtfs_cli.proofs.Outcomes.{alike, not_there, one_dataset, over_limit, refused, told-of}
+
+-- the same end, over the same folders
+both_alike : (x y : MergeOutcome) → x.ended ≡ y.ended → x.folders ≡ y.folders → x ≡ y
+both_alike x y ended folders = λ i. record { ended = ended i; folders = folders i }
+
+module _ (limit : ℕ) (store : Store) (asked : MergeTexts) where
+  -- nothing changed
+  abbrev unchanged : Outcome → MergeOutcome
+  unchanged e = record { ended = e; folders = store }
+
+  abbrev zones_differ_line : Outcome
+  zones_differ_line = refused (line_of (codes "zones differ") []) 1
+
+  abbrev too_large : Outcome
+  too_large = refused (line_of (codes "merged feed too large") []) 1
+
+  abbrev not_written : Outcome
+  not_written = refused (line_of asked.out (codes " cannot be written")) 3
+
+  abbrev Differing : MergeOutcome → Type 0
+  Differing o = EndsAs MergeOutcome (HasTwoZones limit (Some store) asked) (unchanged zones_differ_line) o
+
+  abbrev Large : MergeOutcome → Type 0
+  Large o = EndsAs MergeOutcome (HasLargeMerge limit (Some store) asked) (unchanged too_large) o
+
+  abbrev Unnamed : MergeOutcome → Type 0
+  Unnamed o = EndsAs MergeOutcome (CanMerge limit (Some store) asked × (asked.out ≡ [])) (unchanged not_written) o
+
+  abbrev Made : MergeOutcome → Type 0
+  Made o = IsMergeMade limit (Some store) asked o
+
+  abbrev Fitting : MergeOutcome → Type 0
+  Fitting o = Unnamed o ⊎ Made o
+
+  abbrev OfOneZone : MergeOutcome → Type 0
+  OfOneZone o = Large o ⊎ Fitting o
+
+  -- zones differ, or a file is over the limit, or the third folder has no name, or there is the merge
+  abbrev FeedsEnd : MergeOutcome → Type 0
+  FeedsEnd o = Differing o ⊎ OfOneZone o
+
+  abbrev SecondEnd : MergeOutcome → Type 0
+  SecondEnd o = FolderEnd MergeOutcome unchanged limit store asked.b FeedsEnd o
+
+  -- the first folder is judged, and then the second
+  abbrev MergeEnds : MergeOutcome → Type 0
+  MergeEnds o = FolderEnd MergeOutcome unchanged limit store asked.a SecondEnd o
+
+  nothing_changed : (o : MergeOutcome) → Some o.folders ≡ Some store → (e : Outcome) → o.ended ≡ e → o ≡ unchanged e
+  nothing_changed o same e is = both_alike o (unchanged e) is (same_Some o.folders store same)
+
+  -- ---- each outcome ends so
+
+  judged : (s : MergeSetting limit (Some store) asked) (o : MergeOutcome) → FeedsEnd o → MergeEnds o
+  judged s o end = inr (inr (inr ((s.first, s.holds_first, s.first_passes), inr (inr (inr ((s.second, s.holds_second, s.second_passes), end))))))
+
+  refused_merge : (o : MergeOutcome) → Some o.folders ≡ Some store → (r : Refusal) → IsMergeCause limit (Some store) asked none_failed none_failed r → r ≢ OutOfMemory
+      → o.ended.text ≡ [] → o.ended.told ≡ message r → o.ended.status ≡ status_of r → MergeEnds o
+  refused_merge o same (Words text) cause enough printed told status = absurd cause
+  refused_merge o same (BadValue option) cause enough printed told status = absurd cause
+  refused_merge o same (NotThere path) (inl at) enough printed told status =
+      let end = alike o.ended (not_there limit store asked.a) printed (told ∙ told-of path.now asked.a (codes " is not there") at.0) status in
+      inl (at.1, nothing_changed o same (not_there limit store asked.a) end)
+  refused_merge o same (NotThere path) (inr at) enough printed told status =
+      let end = alike o.ended (not_there limit store asked.b) printed (told ∙ told-of path.now asked.b (codes " is not there") at.0) status in
+      inr (inr (inr (at.1, inl (at.2, nothing_changed o same (not_there limit store asked.b) end))))
+  refused_merge o same (Unreadable path) (inl at) enough printed told status = absurd (omega (arith, at.1))
+  refused_merge o same (Unreadable path) (inr at) enough printed told status = absurd (omega (arith, at.2))
+  refused_merge o same (OverLimit path) (inl at) enough printed told status =
+      let end = alike o.ended (over_limit limit store asked.a) printed (told ∙ told-of path.now asked.a (codes " holds a file over the limit") at.0) status in
+      inr (inl (at.1, nothing_changed o same (over_limit limit store asked.a) end))
+  refused_merge o same (OverLimit path) (inr at) enough printed told status =
+      let end = alike o.ended (over_limit limit store asked.b) printed (told ∙ told-of path.now asked.b (codes " holds a file over the limit") at.0) status in
+      inr (inr (inr (at.1, inr (inl (at.2, nothing_changed o same (over_limit limit store asked.b) end)))))
+  refused_merge o same (HasErrors path) (inl at) enough printed told status =
+      let end = alike o.ended (has_errors asked.a) printed (told ∙ told-of path.now asked.a (codes " has errors") at.0) status in
+      inr (inr (inl (at.1, nothing_changed o same (has_errors asked.a) end)))
+  refused_merge o same (HasErrors path) (inr at) enough printed told status =
+      let end = alike o.ended (has_errors asked.b) printed (told ∙ told-of path.now asked.b (codes " has errors") at.0) status in
+      inr (inr (inr (at.1, inr (inr (inl (at.2, nothing_changed o same (has_errors asked.b) end))))))
+  refused_merge o same (NoZone path) cause enough printed told status = absurd cause
+  refused_merge o same UnknownStop cause enough printed told status = absurd cause
+  refused_merge o same UnknownRoute cause enough printed told status = absurd cause
+  refused_merge o same UntilBeforeFrom cause enough printed told status = absurd cause
+  refused_merge o same ZonesDiffer cause enough printed told status =
+      let end = alike o.ended zones_differ_line printed told status in
+      judged cause.0 o (inl (cause, nothing_changed o same zones_differ_line end))
+  refused_merge o same MergeTooLarge cause enough printed told status =
+      let end = alike o.ended too_large printed told status in
+      judged cause.0 o (inr (inl (cause, nothing_changed o same too_large end)))
+  refused_merge o same (Unwritable path) (at, can, inl none) enough printed told status =
+      let end = alike o.ended not_written printed (told ∙ told-of path.now asked.out (codes " cannot be written") at) status in
+      judged can.2.setting o (inr (inr (inl ((can, none), nothing_changed o same not_written end))))
+  refused_merge o same (Unwritable path) (at, can, inr rises) enough printed told status = absurd (omega (arith, rises))
+  refused_merge o same OutputFailed cause enough printed told status = absurd (omega (arith, cause.1))
+  refused_merge o same OutOfMemory cause enough printed told status = absurd (enough refl)
+
+  merge_ends : (o : MergeOutcome) → IsMergeOutcome limit (Some store) asked o → MergeEnds o
+  merge_ends o (inl made) = judged made.written.merges.setting o (inr (inr (inr made)))
+  merge_ends o (inr r) = refused_merge o r.untouched r.refused.refusal r.refused.cause r.refused.enough r.refused.text r.refused.told r.refused.status
+
+  -- ---- and each comes alone
+
+  module _ (s t : MergeSetting limit (Some store) asked) where
+    same_first : content_of s.first ≡ content_of t.first
+    same_first = ap content_of (one_dataset limit store asked.a s.first t.first s.holds_first t.holds_first)
+
+    same_second : content_of s.second ≡ content_of t.second
+    same_second = ap content_of (one_dataset limit store asked.b s.second t.second s.holds_second t.holds_second)
+
+    -- what is so of two feeds is so of them
+    of_feeds : (P : Content → Content → Type 0) → P (content_of s.first) (content_of s.second) → P (content_of t.first) (content_of t.second)
+    of_feeds P is = subst (λ (f : Content). P f (content_of t.second)) same_first (subst (λ (f : Content). P (content_of s.first) f) same_second is)
+
+    not_differing : zones_differ (content_of s.first) (content_of s.second) ≡ true → zones_differ (content_of t.first) (content_of t.second) ≡ false → ⊥
+    not_differing differ one =
+        let both = of_feeds (λ f g. zones_differ f g ≡ true) differ in
+        cc (sym both ∙ one)
+
+  module _ (c d : Content) (told report : List ℕ) (a : IsFolderMerge limit (Some store) asked c told) (b : IsFolderMerge limit (Some store) asked d report) where
+    same_content : c ≡ d
+    same_content = of_feeds a.setting b.setting (λ f g. c ≡ merged never_near f g) a.content ∙ sym b.content
+
+    same_report : told ≡ report
+    same_report = of_feeds a.setting b.setting (λ f g. told ≡ merge_report never_near f g) a.is_report ∙ sym b.is_report
+
+  not_large : HasLargeMerge limit (Some store) asked → (c : Content) (report : List ℕ) → IsFolderMerge limit (Some store) asked c report → ⊥
+  not_large large c report is =
+      let both = of_feeds large.0 is.setting (λ f g. is_too_large file_limit (merged never_near f g) ≡ true) large.2 in
+      cc (sym (ap (is_too_large file_limit) is.content ∙ both) ∙ is.small)
+
+  differing_one : Apart MergeOutcome Differing OfOneZone
+  differing_one x y a (inl b) = not_differing a.0.0 b.0.0 a.0.1 b.0.1
+  differing_one x y a (inr (inl b)) = not_differing a.0.0 b.0.0.2.setting a.0.1 b.0.0.2.zone
+  differing_one x y a (inr (inr b)) = not_differing a.0.0 b.written.merges.setting a.0.1 b.written.merges.zone
+
+  large_fitting : Apart MergeOutcome Large Fitting
+  large_fitting x y a (inl b) = not_large a.0 b.0.0.0 b.0.0.1 b.0.0.2
+  large_fitting x y a (inr b) = not_large a.0 b.written.content b.written.report b.written.merges
+
+  unnamed_made : Apart MergeOutcome Unnamed Made
+  unnamed_made x y a b = omega (arith, b.written.named, ap (λ (text : List ℕ). length text) a.0.1)
+
+  one_made : One MergeOutcome Made
+  one_made x y a b =
+      let m = a.written in
+      let n = b.written in
+      let content = same_content m.content n.content m.report n.report m.merges n.merges in
+      let report = same_report m.content n.content m.report n.report m.merges n.merges in
+      let ended = alike x.ended y.ended (m.sent ∙ report ∙ sym n.sent) (a.told ∙ sym b.told) (a.status ∙ sym b.status) in
+      let files = m.files ∙ ap (λ (c : Content). Some (with_files c asked.out kept_files store)) content ∙ sym n.files in
+      both_alike x y ended (same_Some x.folders y.folders files)
+
+  one_feeds : One MergeOutcome FeedsEnd
+  one_feeds =
+      let fitting = either MergeOutcome Unnamed Made (one_as MergeOutcome (CanMerge limit (Some store) asked × (asked.out ≡ [])) (unchanged not_written)) one_made unnamed_made in
+      let one = either MergeOutcome Large Fitting (one_as MergeOutcome (HasLargeMerge limit (Some store) asked) (unchanged too_large)) fitting large_fitting in
+      either MergeOutcome Differing OfOneZone (one_as MergeOutcome (HasTwoZones limit (Some store) asked) (unchanged zones_differ_line)) one differing_one
+
+  one_second : One MergeOutcome SecondEnd
+  one_second = one_folder MergeOutcome unchanged limit store asked.b FeedsEnd one_feeds
+
+  one_end : One MergeOutcome MergeEnds
+  one_end = one_folder MergeOutcome unchanged limit store asked.a SecondEnd one_second
+
+pub one-merge : (limit : ℕ) (store : Store) (asked : MergeTexts) (x y : MergeOutcome) → IsMergeOutcome limit (Some store) asked x
+    → IsMergeOutcome limit (Some store) asked y → x ≡ y
+one-merge limit store asked x y a b = one_end limit store asked x y (merge_ends limit store asked x a) (merge_ends limit store asked y b)
