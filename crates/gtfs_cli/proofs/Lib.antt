@@ -1,6 +1,7 @@
 mod Moments
 mod Paths
 mod Endings
+mod Gravely
 pub mod PlainNames
 pub mod Counted
 pub mod Reported

@@ -1,5 +1,5 @@
 -- Why a command was not done: each refusal, its status and when it comes.
-use Rattle.std.specs.Prelude.{◌≡◌, ◌⊎◌, ◌<◌, ◌^◌, ℕ, true, List, Option, Some, unsigned_abs, ⊤}
+use Rattle.std.specs.Prelude.{◌≡◌, ◌⊎◌, ◌<◌, ◌≤◌, ◌^◌, ℕ, true, List, Option, Some, Result, Ok, Err, unsigned_abs, ⊤}
 use Rattle.clap.specs.Words.{Text}
 use Rattle.gtfs_days.specs.Service.{is_service_day}
 use Rattle.gtfs_table.specs.Device.{Rises}
@@ -31,6 +31,15 @@ status_of (Unwritable path) = 3
 status_of UntilBeforeFrom = 2
 status_of OutputFailed = 3
 status_of OutOfMemory = 4
+
+-- the program ends with 3 or 4
+abbrev pub IsGrave : Refusal → Type 0
+IsGrave refusal = 2 < status_of refusal
+
+-- this is so where a call succeeds, and where the refusal is not grave
+abbrev pub UnlessGrave : {T : Type 0} → Result T Refusal → Type 0 → Type 0
+UnlessGrave (Ok x) P = P
+UnlessGrave (Err refusal) P = status_of refusal ≤ 2 → P
 
 -- when a refusal comes where the words ask for a board: that it names the option or the path that is at fault, and that all that is
 -- judged before was found good

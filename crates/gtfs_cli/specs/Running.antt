@@ -262,6 +262,10 @@ pub record Failures : Type 0 where
   pub folders : ℕ
   pub output : ℕ
 
+-- neither the folders nor the output failed: the counts are what they were
+abbrev pub FailedNowhere : Failures → Failures → Type 0
+FailedNowhere before after = (after.folders ≡ before.folders) × (after.output ≡ before.output)
+
 -- the folders or the output failed, or what the folders hold keeps the words from their check, their board, their timetable or their merge
 abbrev pub IsDeviceFault : List Text → ℕ → Option Store → Failures → Failures → Type 0
 IsDeviceFault texts limit held before after =

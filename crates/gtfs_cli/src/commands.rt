@@ -8,8 +8,8 @@ ghost use Rattle.gtfs_words.specs.Words.{gtfs_app, no_memory, AreRefused, AsksBo
 ghost use Rattle.gtfs_cli.specs.MergeRun.{AsksNoMerge, IsMerged, IsMergeRun, IsUnmerged};
 ghost use Rattle.gtfs_cli.specs.TimetableRun.{IsTabled, IsTimetableRun, IsUntabled};
 ghost use Rattle.gtfs_cli.specs.CheckRun.{IsCheckRun, IsCheckTold, IsCutShort};
-ghost use Rattle.gtfs_cli.specs.Running.{IsBadUsage, IsDeviceFault};
-ghost use Rattle.gtfs_cli.specs.Refusals.{IsCauseInWords, IsCauseOf, IsCheckCause};
+ghost use Rattle.gtfs_cli.specs.Running.{FailedNowhere, IsBadUsage, IsDeviceFault};
+ghost use Rattle.gtfs_cli.specs.Refusals.{IsCauseInWords, IsCauseOf, IsCheckCause, UnlessGrave};
 ghost use Rattle.gtfs_cli.specs.WordsRun.{IsHelped, IsUntakenRun};
 ghost use Rattle.gtfs_cli.specs.declared.commands.refusal.Refusal.TheVariants.{OutOfMemory};
 
@@ -61,6 +61,8 @@ use std::hash::RandomState;
 /// then its whole report went out: the written folder passes the validator and has every departure and every board of
 /// both feeds, those of joined trips once. Where a file could not be written, those before it were and no later one.
 /// Nothing is written but by a merge. What is printed does not depend on the random state.
+///
+/// A run that ends with 0, 1 or 2 met no failure of the folders or of `out`: after one it ends with 3 or 4.
 pub fn run<S: AsStr, F: Folders, O: Out, E: Out>(
     alloc: Global,
     random: RandomState,
@@ -117,6 +119,9 @@ pub fn run<S: AsStr, F: Folders, O: Out, E: Out>(
         → F.held folders.new ≡ F.held folders.old }
     ensures folders_grow { F.failure_count folders.old ≤ F.failure_count folders.new }
     ensures output_grows { O.failure_count out.old ≤ O.failure_count out.new }
+    ensures no_failure { result ≤ 2 → FailedNowhere
+        (record { folders = F.failure_count folders.old; output = O.failure_count out.old })
+        (record { folders = F.failure_count folders.new; output = O.failure_count out.new }) }
 {
     match command(alloc, random, words, folders, out) {
         Ok(has_errors) => u8::from(has_errors),
@@ -187,6 +192,9 @@ fn command<'w, S: AsStr, F: Folders, O: Out>(
         → F.held folders.new ≡ F.held folders.old }
     ensures folders_grow { F.failure_count folders.old ≤ F.failure_count folders.new }
     ensures output_grows { O.failure_count out.old ≤ O.failure_count out.new }
+    ensures no_failure { UnlessGrave result (FailedNowhere
+        (record { folders = F.failure_count folders.old; output = O.failure_count out.old })
+        (record { folders = F.failure_count folders.new; output = O.failure_count out.new })) }
 {
     match read_words(alloc, words) {
         Ok(Command::Check(dir)) => check::print_report(alloc, dir, folders, out),
@@ -217,6 +225,8 @@ fn answer_fault<'w, O: Out>(fault: WordsFault, out: &mut O) -> Result<bool, Refu
     ensures memory { fault ≡ no_memory → IsErrAnd result (λ refusal. refusal ≡ OutOfMemory) }
     ensures unsent { fault ≡ no_memory → Keeps (O.told out.old) (O.told out.new) }
     ensures grows { O.failure_count out.old ≤ O.failure_count out.new }
+    ensures no_failure { UnlessGrave result
+        (O.failure_count out.new ≡ O.failure_count out.old) }
 {
     match fault {
         WordsFault::Help(text) => {

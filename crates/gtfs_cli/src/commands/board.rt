@@ -5,8 +5,8 @@ ghost use Rattle.gtfs_table.specs.Folder.{Store};
 ghost use Rattle.gtfs_board.specs.Page.{IsPage};
 ghost use Rattle.gtfs_cli.specs.Boards.{request_of, AreValues, EndsBoard, EndsLines, IsLinesCause, IsOpeningCause, ListsBoard, OfBoard, PrintsBoard};
 ghost use Rattle.gtfs_words.specs.Words.{texts_of};
-ghost use Rattle.gtfs_cli.specs.Running.{Failures, FitsZone, HasValues, HoldsBytes, HoldsPassing, HoldsZone};
-ghost use Rattle.gtfs_cli.specs.Refusals.{IsCause};
+ghost use Rattle.gtfs_cli.specs.Running.{FailedNowhere, Failures, FitsZone, HasValues, HoldsBytes, HoldsPassing, HoldsZone};
+ghost use Rattle.gtfs_cli.specs.Refusals.{IsCause, UnlessGrave};
 
 use crate::commands::feed::read_feed;
 use crate::commands::folder::of_folder;
@@ -43,6 +43,9 @@ pub(super) fn print_board<'w, F: Folders, O: Out>(
     ensures unchanged { F.held folders.new ≡ F.held folders.old }
     ensures folders_grow { F.failure_count folders.old ≤ F.failure_count folders.new }
     ensures output_grows { O.failure_count out.old ≤ O.failure_count out.new }
+    ensures no_failure { UnlessGrave result (FailedNowhere
+        (record { folders = F.failure_count folders.old; output = O.failure_count out.old })
+        (record { folders = F.failure_count folders.new; output = O.failure_count out.new })) }
 {
     let values = read_values(words)?;
     let feed = read_feed(alloc, random, folders, words.dir)?;
@@ -66,6 +69,8 @@ fn read_zone<'w, F: Folders>(
         before after refusal) }
     ensures unchanged { F.held folders.new ≡ F.held folders.old }
     ensures grows { F.failure_count folders.old ≤ F.failure_count folders.new }
+    ensures no_failure { UnlessGrave result
+        (F.failure_count folders.new ≡ F.failure_count folders.old) }
 {
     let (folder, name) = cut_path(words.zone);
     if name.is_empty() {
@@ -113,6 +118,8 @@ fn print_lines<'w, O: Out>(
     ensures refused { IfErr result (IsLinesCause (content_of feed.now) zone.now words.now.stop.now
         (request_of values.now) (O.failure_count out.old) (O.failure_count out.new)) }
     ensures grows { O.failure_count out.old ≤ O.failure_count out.new }
+    ensures no_failure { UnlessGrave result
+        (O.failure_count out.new ≡ O.failure_count out.old) }
 {
     let mut board = open(alloc, feed, zone, words, values)?;
     match write_page(alloc, &mut board, values.limit, out) {

@@ -6,7 +6,8 @@ ghost use Rattle.gtfs_columns.specs.View.{problem_of};
 ghost use Rattle.gtfs_cli.specs.Checking.{counts_text, IsReportOf, IsSendingCause, Prints};
 ghost use Rattle.gtfs_cli.specs.CheckRun.{IsCutShort};
 ghost use Rattle.gtfs_cli.specs.Sending.{SendsBeginning};
-ghost use Rattle.gtfs_cli.specs.Refusals.{IsCheckCause};
+ghost use Rattle.gtfs_cli.specs.Refusals.{IsCheckCause, UnlessGrave};
+ghost use Rattle.gtfs_cli.specs.Running.{FailedNowhere};
 
 use crate::commands::folder::read_tables;
 use crate::commands::refusal::Refusal;
@@ -35,6 +36,9 @@ pub(super) fn print_report<'w, F: Folders, O: Out>(
     ensures unchanged { F.held folders.new ≡ F.held folders.old }
     ensures folders_grow { F.failure_count folders.old ≤ F.failure_count folders.new }
     ensures output_grows { O.failure_count out.old ≤ O.failure_count out.new }
+    ensures no_failure { UnlessGrave result (FailedNowhere
+        (record { folders = F.failure_count folders.old; output = O.failure_count out.old })
+        (record { folders = F.failure_count folders.new; output = O.failure_count out.new })) }
 {
     let tables = read_tables(alloc, folders, dir)?;
     let report = check(alloc, &tables)?;
@@ -55,6 +59,7 @@ fn print_problems<'w, O: Out>(
     ensures refused { IfErr result (IsSendingCause (O.failure_count out.old)
         (O.failure_count out.new)) }
     ensures grows { O.failure_count out.old ≤ O.failure_count out.new }
+    ensures no_failure { OnOk result (O.failure_count out.new ≡ O.failure_count out.old) }
 {
     let mut line = String::new(alloc);
     for problem in problems {
@@ -78,6 +83,7 @@ fn print_problem<'w, O: Out>(
     ensures refused { IfErr result (IsSendingCause (O.failure_count out.old)
         (O.failure_count out.new)) }
     ensures grows { O.failure_count out.old ≤ O.failure_count out.new }
+    ensures no_failure { OnOk result (O.failure_count out.new ≡ O.failure_count out.old) }
 {
     line.clear();
     push_problem(line, problem)?;
@@ -98,6 +104,7 @@ fn print_counts<'w, O: Out>(
     ensures refused { IfErr result (IsSendingCause (O.failure_count out.old)
         (O.failure_count out.new)) }
     ensures grows { O.failure_count out.old ≤ O.failure_count out.new }
+    ensures no_failure { OnOk result (O.failure_count out.new ≡ O.failure_count out.old) }
 {
     line.clear();
     push_counts(line, errors, warnings)?;

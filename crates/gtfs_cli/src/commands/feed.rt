@@ -1,7 +1,7 @@
 ghost use Rattle.std.specs.Prelude.{◌≡◌, ◌≤◌, IfOk, IfErr};
 ghost use Rattle.gtfs_cli.specs.Boards.{HoldsFeed, IsFeedCause, IsFeedOf};
 ghost use Rattle.gtfs_cli.specs.Running.{Failures};
-ghost use Rattle.gtfs_cli.specs.Refusals.{IsReadingCause};
+ghost use Rattle.gtfs_cli.specs.Refusals.{IsReadingCause, UnlessGrave};
 
 use crate::commands::folder::read_tables;
 use crate::commands::refusal::Refusal;
@@ -26,6 +26,8 @@ pub(super) fn read_feed<'w, F: Folders>(
     ensures unchanged { F.held folders.new ≡ F.held folders.old }
     ensures same_limit { F.limit folders.new ≡ F.limit folders.old }
     ensures grows { F.failure_count folders.old ≤ F.failure_count folders.new }
+    ensures no_failure { UnlessGrave result
+        (F.failure_count folders.new ≡ F.failure_count folders.old) }
 {
     let tables = read_tables(alloc, folders, dir)?;
     feed_of(alloc, random, &tables, dir)

@@ -3,7 +3,7 @@ ghost use Rattle.gtfs_table.specs.Folder.{Store};
 ghost use Rattle.gtfs_table.specs.Reading.{HoldsDataset, RefusesDataset};
 ghost use Rattle.gtfs_words.specs.Words.{BoardTexts};
 ghost use Rattle.gtfs_cli.specs.Running.{Failures, HasValues, HoldsPassing, HoldsTables};
-ghost use Rattle.gtfs_cli.specs.Refusals.{IsCause, IsCheckCause, IsFileCause};
+ghost use Rattle.gtfs_cli.specs.Refusals.{IsCause, IsCheckCause, IsFileCause, IsGrave, UnlessGrave};
 
 use crate::commands::refusal::Refusal;
 use gtfs_table::{FolderFault, Folders, Tables};
@@ -26,6 +26,8 @@ pub(super) fn read_tables<'w, F: Folders>(
     ensures unchanged { F.held folders.new ≡ F.held folders.old }
     ensures same_limit { F.limit folders.new ≡ F.limit folders.old }
     ensures grows { F.failure_count folders.old ≤ F.failure_count folders.new }
+    ensures no_failure { UnlessGrave result
+        (F.failure_count folders.new ≡ F.failure_count folders.old) }
 {
     if dir.is_empty() {
         return Err(Refusal::NotThere(dir));
@@ -46,6 +48,7 @@ pub(super) fn of_folder(fault: FolderFault, path: &str) -> Refusal<'_>
         → 0 < length path.now
         → RefusesDataset fault limit held path.now before.folders after.folders
         → IsCheckCause limit held path.now before after result }
+    ensures grave { IsGrave result }
 {
     match fault {
         FolderFault::NoFolder => Refusal::NotThere(path),

@@ -8,7 +8,8 @@ ghost use Rattle.gtfs_table.specs.declared.file.File.{File as FileOf};
 ghost use Rattle.gtfs_words.specs.Words.{merge_texts_of};
 ghost use Rattle.gtfs_cli.specs.Merges.{file_limit, file_text, EndsMerge, HoldsFiles, IsFileEnd, IsMergeCause, IsMergeFault, IsMergingCause, IsWritingEnd, PrintsMerge};
 ghost use Rattle.gtfs_cli.specs.MergeParts.{AllReadAs, HoldsMerge, ReadsAs};
-ghost use Rattle.gtfs_cli.specs.Running.{Failures};
+ghost use Rattle.gtfs_cli.specs.Refusals.{IsGrave, UnlessGrave};
+ghost use Rattle.gtfs_cli.specs.Running.{FailedNowhere, Failures};
 
 use crate::commands::feed::read_feed;
 use crate::commands::names::print_names;
@@ -45,6 +46,9 @@ pub(super) fn print_merge<'w, F: Folders, O: Out>(
         (record { folders = F.failure_count folders.new; output = O.failure_count out.new })) }
     ensures folders_grow { F.failure_count folders.old ≤ F.failure_count folders.new }
     ensures output_grows { O.failure_count out.old ≤ O.failure_count out.new }
+    ensures no_failure { UnlessGrave result (FailedNowhere
+        (record { folders = F.failure_count folders.old; output = O.failure_count out.old })
+        (record { folders = F.failure_count folders.new; output = O.failure_count out.new })) }
 {
     let merged = merge_folders(alloc, random, words, folders)?;
     merged.feed.soundness();
@@ -67,6 +71,8 @@ fn merge_folders<'w, F: Folders>(
         before after refusal) }
     ensures unchanged { F.held folders.new ≡ F.held folders.old }
     ensures grows { F.failure_count folders.old ≤ F.failure_count folders.new }
+    ensures no_failure { UnlessGrave result
+        (F.failure_count folders.new ≡ F.failure_count folders.old) }
 {
     let a = read_feed(alloc, random, folders, words.a)?;
     let b = read_feed(alloc, random, folders, words.b)?;
@@ -110,6 +116,8 @@ fn write_feed<'w, F: Folders>(
     ensures refused { IfErr result (IsWritingEnd (F.held folders.old) (F.held folders.new)
         (F.failure_count folders.old) (F.failure_count folders.new) dir.now (content_of feed.now)) }
     ensures grows { F.failure_count folders.old ≤ F.failure_count folders.new }
+    ensures no_failure { UnlessGrave result
+        (F.failure_count folders.new ≡ F.failure_count folders.old) }
 {
     if dir.is_empty() {
         return Err(Refusal::Unwritable(dir));
@@ -134,6 +142,8 @@ fn write_file<'w, F: Folders>(
     ensures refused { IfErr result (IsFileEnd (F.held folders.old) (F.held folders.new)
         (F.failure_count folders.old) (F.failure_count folders.new) dir.now file) }
     ensures grows { F.failure_count folders.old ≤ F.failure_count folders.new }
+    ensures no_failure { UnlessGrave result
+        (F.failure_count folders.new ≡ F.failure_count folders.old) }
 {
     let text = feed.file_text(alloc, file)?;
     match folders.write(alloc, dir, file.name(), text.as_bytes()) {
@@ -144,9 +154,10 @@ fn write_file<'w, F: Folders>(
 
 // What a fault of a write means for the folder.
 fn of_writing(fault: FolderFault, dir: &str) -> Refusal<'_>
-    ensures { (old new : Option Store) (before after : ℕ) (file : FileOf)
+    ensures ends { (old new : Option Store) (before after : ℕ) (file : FileOf)
         → RefusesWrite fault old new dir.now (file_name file) before after
         → IsFileEnd old new before after dir.now file result }
+    ensures grave { IsGrave result }
 {
     match fault {
         FolderFault::OutOfMemory => Refusal::OutOfMemory,

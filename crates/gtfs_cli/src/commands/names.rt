@@ -1,4 +1,4 @@
-ghost use Rattle.std.specs.Prelude.{◌≤◌, flat_map, IfErr, OnOk, OnErr};
+ghost use Rattle.std.specs.Prelude.{◌≡◌, ◌≤◌, flat_map, IfErr, OnOk, OnErr};
 ghost use Rattle.std.specs.Io.KnownBytes.{Appends};
 ghost use Rattle.gtfs_merge.specs.Report.{kinds};
 ghost use Rattle.gtfs_cli.specs.Checking.{IsSendingCause};
@@ -25,6 +25,7 @@ pub(super) fn print_names<'w, O: Out>(
     ensures refused { IfErr result (IsSendingCause (O.failure_count out.old)
         (O.failure_count out.new)) }
     ensures grows { O.failure_count out.old ≤ O.failure_count out.new }
+    ensures no_failure { OnOk result (O.failure_count out.new ≡ O.failure_count out.old) }
 {
     let mut line = String::new(alloc);
     print_renamed(names, &mut line, out)?;
@@ -44,6 +45,7 @@ fn print_renamed<'w, O: Out>(
     ensures refused { IfErr result (IsSendingCause (O.failure_count out.old)
         (O.failure_count out.new)) }
     ensures grows { O.failure_count out.old ≤ O.failure_count out.new }
+    ensures no_failure { OnOk result (O.failure_count out.new ≡ O.failure_count out.old) }
 {
     for kind in &Kind::ALL {
         print_kind(names, *kind, line, out)?;
@@ -65,6 +67,7 @@ fn print_kind<'w, O: Out>(
     ensures refused { IfErr result (IsSendingCause (O.failure_count out.old)
         (O.failure_count out.new)) }
     ensures grows { O.failure_count out.old ≤ O.failure_count out.new }
+    ensures no_failure { OnOk result (O.failure_count out.new ≡ O.failure_count out.old) }
 {
     print_side(names, Side::A, kind, line, out)?;
     print_side(names, Side::B, kind, line, out)
@@ -85,6 +88,7 @@ fn print_side<'w, O: Out>(
     ensures refused { IfErr result (IsSendingCause (O.failure_count out.old)
         (O.failure_count out.new)) }
     ensures grows { O.failure_count out.old ≤ O.failure_count out.new }
+    ensures no_failure { OnOk result (O.failure_count out.new ≡ O.failure_count out.old) }
 {
     for id in names.ids(side, kind) {
         print_id(names, side, kind, id.as_str(), line, out)?;
@@ -108,6 +112,7 @@ fn print_id<'w, O: Out>(
     ensures refused { IfErr result (IsSendingCause (O.failure_count out.old)
         (O.failure_count out.new)) }
     ensures grows { O.failure_count out.old ≤ O.failure_count out.new }
+    ensures no_failure { OnOk result (O.failure_count out.new ≡ O.failure_count out.old) }
 {
     match names.of(side, kind, id) {
         Some(name) if name != id => {
@@ -132,6 +137,7 @@ fn print_joined<'w, O: Out>(
     ensures refused { IfErr result (IsSendingCause (O.failure_count out.old)
         (O.failure_count out.new)) }
     ensures grows { O.failure_count out.old ≤ O.failure_count out.new }
+    ensures no_failure { OnOk result (O.failure_count out.new ≡ O.failure_count out.old) }
 {
     for kind in &Kind::ALL {
         print_count(names, *kind, line, out)?;
@@ -153,6 +159,7 @@ fn print_count<'w, O: Out>(
     ensures refused { IfErr result (IsSendingCause (O.failure_count out.old)
         (O.failure_count out.new)) }
     ensures grows { O.failure_count out.old ≤ O.failure_count out.new }
+    ensures no_failure { OnOk result (O.failure_count out.new ≡ O.failure_count out.old) }
 {
     line.clear();
     push_joined(line, kind, names.joined(kind).len())?;

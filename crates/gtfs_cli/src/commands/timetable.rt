@@ -6,6 +6,8 @@ ghost use Rattle.gtfs_board.specs.LentSheets.{plain_sheet};
 ghost use Rattle.gtfs_board.specs.Timetable.{is_route, sheet_text, sheets};
 ghost use Rattle.gtfs_words.specs.Words.{timetable_texts_of};
 ghost use Rattle.gtfs_cli.specs.Checking.{IsSendingCause};
+ghost use Rattle.gtfs_cli.specs.Refusals.{UnlessGrave};
+ghost use Rattle.gtfs_cli.specs.Running.{FailedNowhere};
 ghost use Rattle.gtfs_cli.specs.Sending.{SendsBeginning};
 ghost use Rattle.gtfs_cli.specs.Timetables.{timetable_request_of, timetable_text, EndsSheets, EndsTimetable, IsSheetsCause, IsTimetableCause, PrintsTimetable};
 
@@ -40,6 +42,9 @@ pub(super) fn print_timetable<'w, F: Folders, O: Out>(
     ensures unchanged { F.held folders.new ≡ F.held folders.old }
     ensures folders_grow { F.failure_count folders.old ≤ F.failure_count folders.new }
     ensures output_grows { O.failure_count out.old ≤ O.failure_count out.new }
+    ensures no_failure { UnlessGrave result (FailedNowhere
+        (record { folders = F.failure_count folders.old; output = O.failure_count out.old })
+        (record { folders = F.failure_count folders.new; output = O.failure_count out.new })) }
 {
     let values = read_timetable_values(words)?;
     let feed = read_feed(alloc, random, folders, words.dir)?;
@@ -62,6 +67,8 @@ fn print_sheets<'w, O: Out>(
     ensures refused { IfErr result (IsSheetsCause (content_of feed.now) route.now
         (O.failure_count out.old) (O.failure_count out.new)) }
     ensures grows { O.failure_count out.old ≤ O.failure_count out.new }
+    ensures no_failure { UnlessGrave result
+        (O.failure_count out.new ≡ O.failure_count out.old) }
 {
     let sheets = sheets_of(alloc, feed, route, values)?;
     send_sheets(alloc, sheets.as_slice(), out)
@@ -100,6 +107,7 @@ fn send_sheets<'w, O: Out>(
     ensures refused { IfErr result (IsSendingCause (O.failure_count out.old)
         (O.failure_count out.new)) }
     ensures grows { O.failure_count out.old ≤ O.failure_count out.new }
+    ensures no_failure { OnOk result (O.failure_count out.new ≡ O.failure_count out.old) }
 {
     let mut text = String::new(alloc);
     for sheet in sheets {
@@ -122,6 +130,7 @@ fn send_sheet<'w, O: Out>(
     ensures refused { IfErr result (IsSendingCause (O.failure_count out.old)
         (O.failure_count out.new)) }
     ensures grows { O.failure_count out.old ≤ O.failure_count out.new }
+    ensures no_failure { OnOk result (O.failure_count out.new ≡ O.failure_count out.old) }
 {
     text.clear();
     push_sheet(alloc, text, sheet)?;

@@ -1,4 +1,4 @@
-use Rattle.std.proofs.Common.{map, subst, inl}
+use Rattle.std.proofs.Common.{map, refl, subst, inl}
 use Rattle.std.proofs.lemmas.Result.{IfErr-weaker}
 use Rattle.clap.specs.Words.{subcommand_of}
 use Rattle.gtfs_cli.specs.BoardRun.{IsUnlisted}
@@ -9,6 +9,7 @@ use Rattle.gtfs_cli.specs.Running.{Failures}
 use Rattle.gtfs_words.specs.declared.command.Command.{Command}
 use Rattle.gtfs_cli.proofs.Asked.{board-listed, board-unlisted, no-board-of-timetable, no-check, no-check-of-timetable, timetable-tabled, timetable-untabled}
 use Rattle.gtfs_cli.proofs.Endings.{told-up}
+use Rattle.gtfs_cli.proofs.Gravely.{passed-up, unless-then}
 use Rattle.gtfs_cli.proofs.Untaken.{unread-cause, unread-checked, unread-cut, unread-listed, unread-tabled, unread-unlisted, unread-untabled}
 use Rattle.gtfs_cli.specs.MergeRun.{IsUnmerged}
 use Rattle.gtfs_words.specs.Words.{merge_texts_of}
@@ -241,3 +242,20 @@ returns-in-Ok-Check-clause-merged g c = λ asked asks.
     let found = subcommand_of gtfs_app (map g.S.AsStr.text c.args.words.now) in
     let is = subst (λ (x : Command). IsCommandOf found x) c.in-Ok-Check.field-0-is c.in-Ok-Check.ensures.read in
     absurd (no-merge-of-check found c.in-Ok-Check.dir asked is asks.asks)
+
+pub returns-in_err-print_board-in-Ok-Board-clause-no_failure : goal.returns-in_err-print_board-in-Ok-Board-clause-no_failure
+returns-in_err-print_board-in-Ok-Board-clause-no_failure g c =
+    passed-up c.from_residual.result c.in_err-print_board-in-Ok-Board.field-0.0 _ c.from_residual.ensures.1 c.in_err-print_board-in-Ok-Board.ensures.no_failure
+
+pub returns-in_err-print_timetable-in-Ok-Timetable-clause-no_failure : goal.returns-in_err-print_timetable-in-Ok-Timetable-clause-no_failure
+returns-in_err-print_timetable-in-Ok-Timetable-clause-no_failure g c =
+    passed-up c.from_residual-in_err-print_timetable-in-Ok-Timetable.result c.in_err-print_timetable-in-Ok-Timetable.field-0.0 _
+    c.from_residual-in_err-print_timetable-in-Ok-Timetable.ensures.1 c.in_err-print_timetable-in-Ok-Timetable.ensures.no_failure
+
+pub returns-in_err-print_merge-in-Ok-Merge-clause-no_failure : goal.returns-in_err-print_merge-in-Ok-Merge-clause-no_failure
+returns-in_err-print_merge-in-Ok-Merge-clause-no_failure g c =
+    passed-up c.from_residual-in_err-print_merge-in-Ok-Merge.result c.in_err-print_merge-in-Ok-Merge.field-0.0 _
+    c.from_residual-in_err-print_merge-in-Ok-Merge.ensures.1 c.in_err-print_merge-in-Ok-Merge.ensures.no_failure
+
+pub returns-in-Err-clause-no_failure : goal.returns-in-Err-clause-no_failure
+returns-in-Err-clause-no_failure g c = unless-then c.answer_fault.result _ _ (λ same. (refl, same)) c.answer_fault.ensures.no_failure

@@ -119,3 +119,6 @@ returns-in-Err-clause-checked g c = λ dir asks.
     let after : Failures = record { folders = g.F.Folders.failure_count c.command.new.folders; output = g.O.Out.failure_count c.command.new.out } in
     unchecked-ended limit held dir before after (g.O.Out.told c.args.out.now) (g.O.Out.told c.command.new.out) c.in-Err.refusal c.status.result
     c.status.ensures (c.in-Err.ensures.unchecked dir asks) (c.in-Err.ensures.cut_short dir asks)
+
+pub returns-in-Err-clause-no_failure : goal.returns-in-Err-clause-no_failure
+returns-in-Err-clause-no_failure g c = λ light. c.in-Err.ensures.no_failure (rw c.status.ensures at light)

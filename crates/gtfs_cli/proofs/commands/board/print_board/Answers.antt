@@ -1,4 +1,4 @@
-use Rattle.std.proofs.Common.{ℕ, ◌≤◌, arith}
+use Rattle.std.proofs.Common.{◌∙◌, ℕ, ◌≤◌, refl, arith}
 use Rattle.std.proofs.lemmas.Result.{IfErr-weaker}
 use Rattle.gtfs_board.specs.Page.{IsPage}
 use Rattle.gtfs_cli.specs.Boards.{EndsBoard}
@@ -6,6 +6,7 @@ use Rattle.gtfs_words.specs.Words.{texts_of}
 use Rattle.gtfs_cli.specs.Running.{Failures, HoldsPassing, HoldsZone}
 use Rattle.gtfs_cli.specs.Refusals.{IsCause}
 use Rattle.gtfs_cli.proofs.Endings.{board-cause, told-up}
+use Rattle.gtfs_cli.proofs.Gravely.{of-any, passed-up, unless-then}
 use Rattle.gtfs_cli.proofs.Parts.{ok-then}
 use Rattle.gtfs_cli.proofs.Printed.{cause-of, ends-of, first-bad-cause, first-bad-ends, has-passing, has-values, kept, lists-of, moved, none-out}
 use Rattle.gtfs_cli.proofs.commands.board.print_board.Goals as goal
@@ -125,3 +126,20 @@ returns-clause-refused g c =
     IfErr-weaker c.print_lines.result _ _
     (cause-of limit held asked c.in_ok-feed.feed c.in_ok-zone.zone c.in_ok-values.values c.in_ok-feed.ensures.read zone_held c.in_ok-values.ensures.read before after)
     c.print_lines.ensures.refused
+
+pub returns-in_err-values-clause-no_failure : goal.returns-in_err-values-clause-no_failure
+returns-in_err-values-clause-no_failure g c = of-any c.from_residual.result _ (refl, refl)
+
+pub returns-in_err-feed-clause-no_failure : goal.returns-in_err-feed-clause-no_failure
+returns-in_err-feed-clause-no_failure g c =
+    passed-up c.from_residual-in_err-feed.result c.in_err-feed.field-0.0 _ c.from_residual-in_err-feed.ensures.1
+    (λ light. (c.in_err-feed.ensures.no_failure light, refl))
+
+pub returns-in_err-zone-clause-no_failure : goal.returns-in_err-zone-clause-no_failure
+returns-in_err-zone-clause-no_failure g c =
+    passed-up c.from_residual-in_err-zone.result c.in_err-zone.field-0.0 _ c.from_residual-in_err-zone.ensures.1
+    (λ light. (c.in_err-zone.ensures.no_failure light ∙ c.in_ok-feed.ensures.no_failure, refl))
+
+pub returns-clause-no_failure : goal.returns-clause-no_failure
+returns-clause-no_failure g c =
+    unless-then c.print_lines.result _ _ (λ same. (c.in_ok-zone.ensures.no_failure ∙ c.in_ok-feed.ensures.no_failure, same)) c.print_lines.ensures.no_failure

@@ -1,10 +1,11 @@
-use Rattle.std.proofs.Common.{inr, subst}
+use Rattle.std.proofs.Common.{inr, refl, subst}
 use Rattle.gtfs_feed.specs.Content.{content_of}
 use Rattle.gtfs_board.specs.Page.{IsCutShort, IsPage, IsStopped}
 use Rattle.gtfs_board.specs.PageFaults.{EndsPage, IsCounted}
 use Rattle.gtfs_board.specs.declared.page.PageFault.{PageFault}
 use Rattle.gtfs_cli.specs.Boards.{request_of, EndsLines, IsLinesCause}
 use Rattle.gtfs_cli.proofs.Endings.{told-up}
+use Rattle.gtfs_cli.proofs.Gravely.{of-any}
 use Rattle.gtfs_cli.proofs.Opening.{of-board}
 use Rattle.gtfs_cli.proofs.Printed.{kept, opening-cause, opening-ends}
 use Rattle.gtfs_cli.proofs.commands.board.print_lines.Goals as goal
@@ -65,3 +66,6 @@ returns-in-Err-Out-clause-refused g c =
     let before = g.O.Out.failure_count c.args.out.now in
     let after = g.O.Out.failure_count c.write_page.new.out in
     subst (λ (e : PageFault). IsCounted before after e) c.in-Err-Out.field-0-is c.in-Err-Out.ensures.counted
+
+pub returns-in_err-board-clause-no_failure : goal.returns-in_err-board-clause-no_failure
+returns-in_err-board-clause-no_failure g c = of-any c.from_residual.result _ refl

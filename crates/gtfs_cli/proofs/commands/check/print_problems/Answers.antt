@@ -1,4 +1,4 @@
-use Rattle.std.proofs.Common.{arith, map}
+use Rattle.std.proofs.Common.{◌∙◌, arith, map}
 use Rattle.gtfs_rules.specs.Report.{report_text}
 use Rattle.gtfs_columns.specs.View.{problem_of}
 use Rattle.gtfs_cli.specs.Sending.{SendsBeginning}
@@ -11,6 +11,7 @@ pub loop-problem-preserved : goal.loop-problem-preserved
 loop-problem-preserved g c = record {
   sent = line-sent _ _ _ c.args.problems.now c.loop-problem.problem-index _ c.loop-problem-test.true c.loop-problem.invariant.sent c.in_ok-print_problem.ensures.sent;
   grows = omega (arith, c.loop-problem.invariant.grows, c.print_problem.ensures.grows);
+  no_failure = c.in_ok-print_problem.ensures.no_failure ∙ c.loop-problem.invariant.no_failure;
 }
 
 pub returns-clause-printed : goal.returns-clause-printed
@@ -29,3 +30,6 @@ returns-in_err-print_counts-clause-cut_short g c =
     (SendsBeginning (g.O.Out.told c.args.out.now) (g.O.Out.told c.print_counts.new.out) (report_text (map problem_of c.args.problems.now)))
     (counts-cut _ _ _ c.args.problems.now c.loop-problem.problem-index c.errors_among-errors.result c.loop-problem-test.false
     c.errors_among-errors.ensures.value c.errors_among-errors.ensures.within c.loop-problem.invariant.sent c.in_err-print_counts.ensures.cut_short)
+
+pub returns-clause-no_failure : goal.returns-clause-no_failure
+returns-clause-no_failure g c = c.in_ok-print_counts.ensures.no_failure ∙ c.loop-problem.invariant.no_failure

@@ -1,4 +1,4 @@
-use Rattle.std.proofs.Common.{◌≤◌, map, take}
+use Rattle.std.proofs.Common.{◌≡◌, ◌≤◌, map, take}
 use Rattle.std.specs.Prelude.{flat_map}
 use Rattle.std.specs.Io.KnownBytes.{Appends}
 use Rattle.gtfs_rules.specs.Report.{problem_line}
@@ -9,4 +9,5 @@ abbrev pub invariant-loop-problem : goal.invariant-loop-problem
 invariant-loop-problem g l = record {
   sent : Appends (g.O.Out.told l.initial.out) (g.O.Out.told l.out) (flat_map problem_line (map problem_of (take l.problem-index l.problems)));
   grows : g.O.Out.failure_count l.initial.out ≤ g.O.Out.failure_count l.out;
+  no_failure : g.O.Out.failure_count l.out ≡ g.O.Out.failure_count l.initial.out;
 }

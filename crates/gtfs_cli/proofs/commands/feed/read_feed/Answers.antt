@@ -1,5 +1,6 @@
 use Rattle.std.proofs.lemmas.Result.{IfErr-weaker, IfOk-weaker}
 use Rattle.gtfs_cli.proofs.Endings.{reading-cause, told-up}
+use Rattle.gtfs_cli.proofs.Gravely.{of-any, passed-up}
 use Rattle.gtfs_cli.proofs.Printed.{feed-cause, ReadingAside}
 use Rattle.gtfs_cli.proofs.commands.feed.read_feed.Goals as goal
 
@@ -27,3 +28,10 @@ returns-clause-read g c =
     IfOk-weaker c.feed_of.result _ _
     (λ feed is. record { dataset = c.in_ok-tables.tables; holds = c.in_ok-tables.ensures.whole; is_feed = is })
     c.feed_of.ensures.read
+
+pub returns-in_err-tables-clause-no_failure : goal.returns-in_err-tables-clause-no_failure
+returns-in_err-tables-clause-no_failure g c =
+    passed-up c.from_residual.result c.in_err-tables.field-0.0 _ c.from_residual.ensures.1 c.in_err-tables.ensures.no_failure
+
+pub returns-clause-no_failure : goal.returns-clause-no_failure
+returns-clause-no_failure g c = of-any c.feed_of.result _ c.in_ok-tables.ensures.no_failure

@@ -1,9 +1,10 @@
-use Rattle.std.proofs.Common.{arith}
+use Rattle.std.proofs.Common.{◌∙◌, arith}
 use Rattle.std.proofs.lemmas.Result.{IfErr-weaker, IfOk-weaker}
 use Rattle.gtfs_words.specs.Words.{merge_texts_of}
 use Rattle.gtfs_cli.specs.Boards.{HoldsFeed}
 use Rattle.gtfs_cli.specs.Refusals.{IsReadingCause}
 use Rattle.gtfs_cli.proofs.Endings.{told-up}
+use Rattle.gtfs_cli.proofs.Gravely.{of-any, passed-up}
 use Rattle.gtfs_cli.proofs.Printed.{moved}
 use Rattle.gtfs_cli.proofs.Unmerged.{first-unread, is-merged, second-unread, unmerged, MergingAside}
 use Rattle.gtfs_cli.proofs.commands.merge.merge_folders.Goals as goal
@@ -51,3 +52,15 @@ returns-clause-refused g c =
     IfErr-weaker c.merge_feeds.result _ _
     (λ r e before after low high. unmerged limit held asked c.in_ok-a.a c.in_ok-b.b c.in_ok-a.ensures.read second before after r e)
     c.merge_feeds.ensures.refused
+
+pub returns-in_err-a-clause-no_failure : goal.returns-in_err-a-clause-no_failure
+returns-in_err-a-clause-no_failure g c =
+    passed-up c.from_residual.result c.in_err-a.field-0.0 _ c.from_residual.ensures.1 c.in_err-a.ensures.no_failure
+
+pub returns-in_err-b-clause-no_failure : goal.returns-in_err-b-clause-no_failure
+returns-in_err-b-clause-no_failure g c =
+    passed-up c.from_residual-in_err-b.result c.in_err-b.field-0.0 _ c.from_residual-in_err-b.ensures.1
+    (λ light. c.in_err-b.ensures.no_failure light ∙ c.in_ok-a.ensures.no_failure)
+
+pub returns-clause-no_failure : goal.returns-clause-no_failure
+returns-clause-no_failure g c = of-any c.merge_feeds.result _ (c.in_ok-b.ensures.no_failure ∙ c.in_ok-a.ensures.no_failure)

@@ -1,4 +1,4 @@
-use Rattle.std.proofs.Common.{ℕ, ◌≤◌, Option, subst, arith}
+use Rattle.std.proofs.Common.{◌∙◌, ℕ, ◌≤◌, Option, refl, subst, arith}
 use Rattle.std.proofs.lemmas.Result.{IfErr-weaker}
 use Rattle.gtfs_table.specs.Folder.{Store}
 use Rattle.gtfs_table.specs.Reading.{kept_files}
@@ -9,6 +9,7 @@ use Rattle.gtfs_cli.specs.Merges.{EndsMerge, HoldsFiles, IsMergeCause, IsWriting
 use Rattle.gtfs_cli.specs.NamesReport.{names_report}
 use Rattle.gtfs_cli.specs.Running.{Failures}
 use Rattle.gtfs_cli.proofs.Endings.{told-up}
+use Rattle.gtfs_cli.proofs.Gravely.{passed-up, unless-sent}
 use Rattle.gtfs_cli.proofs.Parts.{ok-then}
 use Rattle.gtfs_cli.proofs.Printed.{kept}
 use Rattle.gtfs_cli.proofs.ReadBack.{reads-again}
@@ -121,3 +122,18 @@ returns-clause-refused g c =
     IfErr-weaker c.print_names.result _ _
     (printing-cause limit held asked (content_of m.feed) (names_report m.names) c.in_ok-merged.ensures.merged before after)
     c.print_names.ensures.refused
+
+pub returns-in_err-merged-clause-no_failure : goal.returns-in_err-merged-clause-no_failure
+returns-in_err-merged-clause-no_failure g c =
+    passed-up c.from_residual.result c.in_err-merged.field-0.0 _ c.from_residual.ensures.1
+    (λ light. (c.in_err-merged.ensures.no_failure light, refl))
+
+pub returns-in_err-write_feed-clause-no_failure : goal.returns-in_err-write_feed-clause-no_failure
+returns-in_err-write_feed-clause-no_failure g c =
+    passed-up c.from_residual-in_err-write_feed.result c.in_err-write_feed.field-0.0 _ c.from_residual-in_err-write_feed.ensures.1
+    (λ light. (c.in_err-write_feed.ensures.no_failure light ∙ c.in_ok-merged.ensures.no_failure, refl))
+
+pub returns-clause-no_failure : goal.returns-clause-no_failure
+returns-clause-no_failure g c =
+    let written = c.in_ok-write_feed.ensures.no_failure ∙ c.in_ok-merged.ensures.no_failure in
+    unless-sent c.print_names.result _ _ _ c.print_names.ensures.refused (ok-then c.print_names.result _ _ (λ same. (written, same)) c.print_names.ensures.no_failure)

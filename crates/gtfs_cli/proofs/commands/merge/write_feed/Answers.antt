@@ -1,4 +1,4 @@
-use Rattle.std.proofs.Common.{◌∙◌, ℕ, ◌<◌, ◌≤◌, List, length, sym, subst, arith}
+use Rattle.std.proofs.Common.{◌∙◌, ℕ, ◌<◌, ◌≤◌, List, length, refl, sym, subst, arith}
 use Rattle.std.specs.List.{All}
 use Rattle.std.proofs.lemmas.Bool.{eqb-false}
 use Rattle.std.proofs.lemmas.List.{take_all}
@@ -10,6 +10,7 @@ use Rattle.gtfs_feed.specs.Content.{content_of}
 use Rattle.gtfs_cli.specs.MergeParts.{ReadsAs}
 use Rattle.gtfs_cli.specs.Merges.{IsWritingEnd}
 use Rattle.gtfs_cli.proofs.Endings.{told-up}
+use Rattle.gtfs_cli.proofs.Gravely.{passed-up}
 use Rattle.gtfs_cli.proofs.Filed.{file-ends, file-held, files-held, none-held}
 use Rattle.gtfs_cli.proofs.commands.merge.write_feed.Goals as goal
 
@@ -21,6 +22,7 @@ loop-file-init g c = record {
   holds = none-held (content_of c.args.feed.now) c.args.dir.now (g.F.Folders.held c.args.folders.now);
   read = All-nil (ReadsAs (content_of c.args.feed.now));
   grows = same (g.F.Folders.failure_count c.args.folders.now);
+  no_failure = refl;
 }
 
 pub loop-file-preserved : goal.loop-file-preserved
@@ -29,6 +31,7 @@ loop-file-preserved g c = record {
       c.in_ok-write_file.ensures.written;
   read = All-more (ReadsAs (content_of c.args.feed.now)) kept_files c.loop-file.file-index file.Agency (omega (arith, c.loop-file-test.true)) c.loop-file.invariant.read c.in_ok-write_file.ensures.read;
   grows = omega (arith, c.loop-file.invariant.grows, c.write_file.ensures.grows);
+  no_failure = c.in_ok-write_file.ensures.no_failure ∙ c.loop-file.invariant.no_failure;
 }
 
 pub returns-clause-written : goal.returns-clause-written
@@ -53,3 +56,8 @@ returns-in_err-write_file-clause-refused g c =
     told-up c.from_residual.result r (IsWritingEnd old new first end c.args.dir.now f) c.from_residual.ensures.1
     (file-ends f c.args.dir.now old mid new first before end c.loop-file.file-index file.Agency named (omega (arith, c.loop-file-test.true)) c.loop-file.invariant.holds
     c.loop-file.invariant.grows r c.in_err-write_file.ensures.refused)
+
+pub returns-in_err-write_file-clause-no_failure : goal.returns-in_err-write_file-clause-no_failure
+returns-in_err-write_file-clause-no_failure g c =
+    passed-up c.from_residual.result c.in_err-write_file.field-0.0 _ c.from_residual.ensures.1
+    (λ light. c.in_err-write_file.ensures.no_failure light ∙ c.loop-file.invariant.no_failure)

@@ -1,4 +1,4 @@
-use Rattle.std.proofs.Common.{◌≤◌, take}
+use Rattle.std.proofs.Common.{◌≡◌, ◌≤◌, take}
 use Rattle.std.specs.List.{All}
 use Rattle.gtfs_table.specs.Reading.{kept_files}
 use Rattle.gtfs_feed.specs.Content.{content_of}
@@ -11,4 +11,5 @@ invariant-loop-file g l = record {
   holds : HoldsFiles (g.F.Folders.held l.initial.folders) (g.F.Folders.held l.folders) l.dir (content_of l.feed) (take l.file-index kept_files);
   read : All (ReadsAs (content_of l.feed)) (take l.file-index kept_files);
   grows : g.F.Folders.failure_count l.initial.folders ≤ g.F.Folders.failure_count l.folders;
+  no_failure : g.F.Folders.failure_count l.folders ≡ g.F.Folders.failure_count l.initial.folders;
 }

@@ -1,4 +1,4 @@
-use Rattle.std.proofs.Common.{arith}
+use Rattle.std.proofs.Common.{◌∙◌, arith}
 use Rattle.std.specs.Prelude.{flat_map}
 use Rattle.gtfs_merge.specs.Report.{kinds}
 use Rattle.gtfs_cli.specs.NamesReport.{count_line}
@@ -11,6 +11,7 @@ pub loop-kind-preserved : goal.loop-kind-preserved
 loop-kind-preserved g c = record {
   sent = item-sent (count_line c.args.names.now) _ _ _ kinds c.loop-kind.kind-index _ c.loop-kind-test.true c.loop-kind.invariant.sent c.in_ok-print_count.ensures.printed;
   grows = omega (arith, c.loop-kind.invariant.grows, c.print_count.ensures.grows);
+  no_failure = c.in_ok-print_count.ensures.no_failure ∙ c.loop-kind.invariant.no_failure;
 }
 
 pub returns-clause-printed : goal.returns-clause-printed

@@ -1,4 +1,4 @@
-use Rattle.std.proofs.Common.{◌++◌}
+use Rattle.std.proofs.Common.{◌∙◌, ◌++◌}
 use Rattle.gtfs_merge.specs.declared.kind.Side.TheVariants as side
 use Rattle.gtfs_cli.specs.NamesReport.{side_lines}
 use Rattle.gtfs_cli.specs.Sending.{SendsBeginning}
@@ -25,3 +25,6 @@ returns-clause-cut_short g c =
     err-then c.print_side-2.result _ _
     (second-cut (g.O.Out.told c.args.out.now) (g.O.Out.told c.print_side.new.out) (g.O.Out.told c.print_side-2.new.out) (side_lines c.args.names.now side.A c.args.kind) (side_lines c.args.names.now side.B c.args.kind) c.in_ok-print_side.ensures.printed)
     c.print_side-2.ensures.cut_short
+
+pub returns-clause-no_failure : goal.returns-clause-no_failure
+returns-clause-no_failure g c = ok-then c.print_side-2.result _ _ (λ same. same ∙ c.in_ok-print_side.ensures.no_failure) c.print_side-2.ensures.no_failure

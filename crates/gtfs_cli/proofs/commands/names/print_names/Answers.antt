@@ -1,4 +1,4 @@
-use Rattle.std.proofs.Common.{◌++◌}
+use Rattle.std.proofs.Common.{◌∙◌, ◌++◌}
 use Rattle.std.specs.Prelude.{flat_map}
 use Rattle.gtfs_merge.specs.Report.{kinds}
 use Rattle.gtfs_cli.specs.NamesReport.{both_lines, count_line}
@@ -26,3 +26,6 @@ returns-clause-cut_short g c =
     err-then c.print_joined.result _ _
     (second-cut (g.O.Out.told c.args.out.now) (g.O.Out.told c.print_renamed.new.out) (g.O.Out.told c.print_joined.new.out) (flat_map (both_lines c.args.names.now) kinds) (flat_map (count_line c.args.names.now) kinds) c.in_ok-print_renamed.ensures.printed)
     c.print_joined.ensures.cut_short
+
+pub returns-clause-no_failure : goal.returns-clause-no_failure
+returns-clause-no_failure g c = ok-then c.print_joined.result _ _ (λ same. same ∙ c.in_ok-print_renamed.ensures.no_failure) c.print_joined.ensures.no_failure

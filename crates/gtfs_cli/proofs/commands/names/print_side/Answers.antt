@@ -11,6 +11,7 @@ loop-id-preserved g c = record {
   sent = item-sent (λ id. id_line c.args.names.now c.args.side c.args.kind (string_bytes id)) _ _ _ c.ids-id-items.result.now c.loop-id.id-index c.id-item.result c.loop-id-test.true
       c.loop-id.invariant.sent (subst (λ (t : List ℕ). Appends (g.O.Out.told c.loop-id.out) (g.O.Out.told c.print_id.new.out) (id_line c.args.names.now c.args.side c.args.kind t)) (c.as_str.ensures.value ∙ ap string_bytes c.id-item.is) c.in_ok-print_id.ensures.printed);
   grows = omega (arith, c.loop-id.invariant.grows, c.print_id.ensures.grows);
+  no_failure = c.in_ok-print_id.ensures.no_failure ∙ c.loop-id.invariant.no_failure;
 }
 
 pub returns-clause-printed : goal.returns-clause-printed

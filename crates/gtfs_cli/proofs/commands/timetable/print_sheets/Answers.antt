@@ -1,4 +1,4 @@
-use Rattle.std.proofs.Common.{◌∙◌, ap, subst, List, map}
+use Rattle.std.proofs.Common.{◌∙◌, ap, refl, subst, List, map}
 use Rattle.std.specs.Prelude.{flat_map, OnErr, OnOk}
 use Rattle.std.specs.Io.KnownBytes.{Appends}
 use Rattle.std.proofs.lemmas.Result.{IfErr-weaker}
@@ -8,6 +8,7 @@ use Rattle.gtfs_board.specs.Timetable.{Sheet, sheet_text}
 use Rattle.gtfs_cli.specs.Sending.{SendsBeginning}
 use Rattle.gtfs_cli.specs.Timetables.{timetable_request_of, EndsSheets, IsSheetsCause}
 use Rattle.gtfs_cli.proofs.Endings.{told-up}
+use Rattle.gtfs_cli.proofs.Gravely.{of-any, unless-sent}
 use Rattle.gtfs_cli.proofs.Parts.{ok-then}
 use Rattle.gtfs_cli.proofs.Printed.{kept}
 use Rattle.gtfs_cli.proofs.Tabled.{no-sheets, sending-cause, sent-ends}
@@ -55,3 +56,9 @@ returns-clause-refused g c =
     IfErr-weaker c.send_sheets.result _ _
     (sending-cause (content_of c.args.feed.now) c.args.route.now (g.O.Out.failure_count c.args.out.now) (g.O.Out.failure_count c.send_sheets.new.out))
     c.send_sheets.ensures.refused
+
+pub returns-in_err-sheets-clause-no_failure : goal.returns-in_err-sheets-clause-no_failure
+returns-in_err-sheets-clause-no_failure g c = of-any c.from_residual.result _ refl
+
+pub returns-clause-no_failure : goal.returns-clause-no_failure
+returns-clause-no_failure g c = unless-sent c.send_sheets.result _ _ _ c.send_sheets.ensures.refused c.send_sheets.ensures.no_failure

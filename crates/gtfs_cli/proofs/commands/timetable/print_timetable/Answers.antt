@@ -1,9 +1,10 @@
-use Rattle.std.proofs.Common.{ℕ, ◌≤◌, arith}
+use Rattle.std.proofs.Common.{ℕ, ◌≤◌, refl, arith}
 use Rattle.std.proofs.lemmas.Result.{IfErr-weaker}
 use Rattle.gtfs_words.specs.Words.{timetable_texts_of}
 use Rattle.gtfs_cli.specs.Running.{Failures}
 use Rattle.gtfs_cli.specs.Timetables.{timetable_request_of, EndsTimetable, IsTimetableCause}
 use Rattle.gtfs_cli.proofs.Endings.{timetable-cause, told-up}
+use Rattle.gtfs_cli.proofs.Gravely.{of-any, passed-up, unless-then}
 use Rattle.gtfs_cli.proofs.Parts.{both-then}
 use Rattle.gtfs_cli.proofs.Printed.{kept}
 use Rattle.gtfs_cli.proofs.Tabled.{bad-timetable-cause, bad-timetable-ends, none-tabled, tabled-cause, tabled-ends, tabled-of}
@@ -90,3 +91,15 @@ returns-clause-refused g c =
     IfErr-weaker c.print_sheets.result _ _
     (tabled-cause limit held asked c.in_ok-feed.feed (timetable_request_of c.in_ok-values.values) c.in_ok-feed.ensures.read c.in_ok-values.ensures.read before after)
     c.print_sheets.ensures.refused
+
+pub returns-in_err-values-clause-no_failure : goal.returns-in_err-values-clause-no_failure
+returns-in_err-values-clause-no_failure g c = of-any c.from_residual.result _ (refl, refl)
+
+pub returns-in_err-feed-clause-no_failure : goal.returns-in_err-feed-clause-no_failure
+returns-in_err-feed-clause-no_failure g c =
+    passed-up c.from_residual-in_err-feed.result c.in_err-feed.field-0.0 _ c.from_residual-in_err-feed.ensures.1
+    (λ light. (c.in_err-feed.ensures.no_failure light, refl))
+
+pub returns-clause-no_failure : goal.returns-clause-no_failure
+returns-clause-no_failure g c =
+    unless-then c.print_sheets.result _ _ (λ same. (c.in_ok-feed.ensures.no_failure, same)) c.print_sheets.ensures.no_failure

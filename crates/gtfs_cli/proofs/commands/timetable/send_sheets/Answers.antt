@@ -1,4 +1,4 @@
-use Rattle.std.proofs.Common.{arith, map}
+use Rattle.std.proofs.Common.{◌∙◌, arith, map}
 use Rattle.std.specs.Prelude.{flat_map}
 use Rattle.gtfs_board.specs.LentSheets.{plain_sheet}
 use Rattle.gtfs_board.specs.Timetable.{sheet_text}
@@ -11,6 +11,7 @@ pub loop-sheet-preserved : goal.loop-sheet-preserved
 loop-sheet-preserved g c = record {
   sent = sheet-sent _ _ _ c.args.sheets.now c.loop-sheet.sheet-index c.sheet-item.result c.loop-sheet-test.true c.sheet-item.is c.loop-sheet.invariant.sent c.in_ok-send_sheet.ensures.sent;
   grows = omega (arith, c.loop-sheet.invariant.grows, c.send_sheet.ensures.grows);
+  no_failure = c.in_ok-send_sheet.ensures.no_failure ∙ c.loop-sheet.invariant.no_failure;
 }
 
 pub returns-clause-sent : goal.returns-clause-sent
