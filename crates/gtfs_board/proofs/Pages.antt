@@ -6,7 +6,7 @@ use Rattle.std.proofs.KnownBytes.{Appends-nil, Appends-trans}
 use Rattle.gtfs_days.specs.declared.zone.Zone.{Zone}
 use Rattle.gtfs_board.specs.Lines.{AppendsLine, IsLine, Listed}
 use Rattle.gtfs_board.specs.Page.{AreLines, AreWritten, IsCutShort, IsPage, IsStopped}
-use Rattle.gtfs_board.specs.PageFaults.{EndsLine, EndsPage}
+use Rattle.gtfs_board.specs.PageFaults.{EndsLine, EndsPage, IsCounted}
 use Rattle.gtfs_board.specs.declared.page.PageFault.{PageFault}
 use Rattle.gtfs_board.specs.declared.page.PageFault.TheVariants.{Out, OutOfMemory}
 
@@ -102,6 +102,13 @@ pub page-faults : {A : Type 0} (r : Result A PageFault) (z y : Zone) (limit : �
 page-faults (Ok x) z y limit rest mid left a b c n fault given h same less end = tt
 page-faults (Err e) z y limit rest mid left a b c n fault given h same less end =
     subst (EndsPage z limit rest left a c) (sym given) (page-fault z y limit rest mid left a b c n fault h same less end)
+
+-- the count of failures, which was what it was until then
+pub counted-faults : {A : Type 0} (r : Result A PageFault) (start before after : ℕ) (fault : PageFault)
+    → IsErrAnd r (λ e. e ≡ fault) → before ≡ start → IsCounted before after fault → IfErr r (IsCounted start after)
+counted-faults (Ok x) start before after fault given same counted = tt
+counted-faults (Err e) start before after fault given same counted =
+    subst (IsCounted start after) (sym given) (subst (λ (n : ℕ). IsCounted n after fault) same counted)
 
 -- ---- one line
 

@@ -1,5 +1,5 @@
 -- How a page ends early.
-use Rattle.std.specs.Prelude.{◌≡◌, ℕ, Bool, cond, List, Option, ⊤}
+use Rattle.std.specs.Prelude.{◌≡◌, ℕ, Bool, cond, List, Option}
 use Rattle.gtfs_days.specs.declared.zone.Zone.{Zone}
 use Rattle.gtfs_table.specs.Device.{Rises}
 use Rattle.gtfs_board.specs.Lines.{Listed}
@@ -12,10 +12,10 @@ abbrev pub EndsPage : Zone → ℕ → List Listed → List Listed → Option (L
 EndsPage z limit rest left before after (Out lines) = IsCutShort z limit rest left before after lines
 EndsPage z limit rest left before after (OutOfMemory lines) = IsStopped z limit rest left before after lines
 
--- where the output is to blame, its count of failures rose
+-- where the output is to blame, its count of failures rose, and where memory is, that count is what it was
 abbrev pub IsCounted : ℕ → ℕ → PageFault → Type 0
 IsCounted before after (Out lines) = Rises before after
-IsCounted before after (OutOfMemory lines) = ⊤
+IsCounted before after (OutOfMemory lines) = after ≡ before
 
 -- ---- the next line of a page of which so many lines went out
 

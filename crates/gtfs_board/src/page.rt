@@ -1,5 +1,5 @@
 //! Pages of a board.
-ghost use Rattle.std.specs.Prelude.{◌≡◌, ◌≤◌, IfOk, IfErr};
+ghost use Rattle.std.specs.Prelude.{◌≡◌, ◌≤◌, IfOk, IfErr, OnOk};
 ghost use Rattle.gtfs_board.specs.Board.{IsQueued, SameSettings};
 ghost use Rattle.gtfs_board.specs.PageFaults.{EndsLine, EndsPage, IsCounted, IsLineSent};
 ghost use Rattle.gtfs_board.specs.Page.{IsPage};
@@ -45,6 +45,7 @@ pub fn write_page<O: Out>(
         (O.told out.old) (O.told out.new)) }
     ensures counted { IfErr result (IsCounted (O.failure_count out.old) (O.failure_count out.new)) }
     ensures grows { O.failure_count out.old ≤ O.failure_count out.new }
+    ensures no_failure { OnOk result (O.failure_count out.new ≡ O.failure_count out.old) }
     ensures settings { SameSettings board.old board.new }
     ensures queued { IsQueued board.old → IsQueued board.new }
 {
@@ -67,6 +68,7 @@ pub(crate) fn write_lines<'a, B: Listing<'a>, O: Out>(
         (O.told out.old) (O.told out.new)) }
     ensures counted { IfErr result (IsCounted (O.failure_count out.old) (O.failure_count out.new)) }
     ensures grows { O.failure_count out.old ≤ O.failure_count out.new }
+    ensures no_failure { OnOk result (O.failure_count out.new ≡ O.failure_count out.old) }
     ensures keeps { (start : B) → B.Keeps start board.old → B.Keeps start board.new }
 {
     let mut line = String::new(alloc);
@@ -94,6 +96,7 @@ fn write_next<'a, B: Listing<'a>, O: Out>(
         (O.told out.old) (O.told out.new)) }
     ensures counted { IfErr result (IsCounted (O.failure_count out.old) (O.failure_count out.new)) }
     ensures grows { O.failure_count out.old ≤ O.failure_count out.new }
+    ensures no_failure { OnOk result (O.failure_count out.new ≡ O.failure_count out.old) }
     ensures zone { B.clocks board.new ≡ B.clocks board.old }
     ensures keeps { (start : B) → B.Keeps start board.old → B.Keeps start board.new }
 {

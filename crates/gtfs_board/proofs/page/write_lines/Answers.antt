@@ -1,5 +1,5 @@
 use Rattle.std.proofs.Common.{◌∙◌, arith}
-use Rattle.gtfs_board.proofs.Pages.{page-faults, written-more}
+use Rattle.gtfs_board.proofs.Pages.{counted-faults, page-faults, written-more}
 use Rattle.gtfs_board.proofs.page.write_lines.Goals as goal
 
 pub loop-lines-preserved : goal.loop-lines-preserved
@@ -11,10 +11,14 @@ loop-lines-preserved g c =
       within = omega arith;
       zone = c.write_next.ensures.zone ∙ h.zone;
       keeps = λ start kept. c.write_next.ensures.keeps start (h.keeps start kept);
-      grows = omega (arith, h.grows, c.write_next.ensures.grows);
+      no_failure = c.in_ok-write_next.ensures.no_failure ∙ h.no_failure;
     }
 
 pub returns-in_err-write_next-clause-fault : goal.returns-in_err-write_next-clause-fault
 returns-in_err-write_next-clause-fault g c =
     let h = c.loop-lines.invariant in
     page-faults c.from_residual.result _ _ _ _ _ _ _ _ _ _ _ c.from_residual.ensures.1 h.written h.zone c.loop-lines-test.true c.in_err-write_next.ensures.fault
+
+pub returns-in_err-write_next-clause-counted : goal.returns-in_err-write_next-clause-counted
+returns-in_err-write_next-clause-counted g c =
+    counted-faults c.from_residual.result _ _ _ _ c.from_residual.ensures.1 c.loop-lines.invariant.no_failure c.in_err-write_next.ensures.counted

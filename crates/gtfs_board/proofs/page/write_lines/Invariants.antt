@@ -8,7 +8,7 @@ invariant-loop-lines g l = record {
   within : l.lines ≤ l.limit;
   zone : g.B.Listing.clocks l.board ≡ g.B.Listing.clocks l.initial.board;
   keeps : (start : g.row.B.Denot) → g.B.Listing.Keeps start l.initial.board → g.B.Listing.Keeps start l.board;
-  grows : g.O.Out.failure_count l.initial.out ≤ g.O.Out.failure_count l.out;
+  no_failure : g.O.Out.failure_count l.out ≡ g.O.Out.failure_count l.initial.out;
 }
 
 abbrev pub decreases-loop-lines : goal.decreases-loop-lines
