@@ -14,6 +14,7 @@ use Rattle.std.proofs.lemmas.List.Kept.{IsStrictlySortedBy-dedup}
 use Rattle.std.proofs.lemmas.List.Sorted.{searchable_from_sorted}
 use Rattle.std.proofs.lemmas.Map.Keys.{Less-from_sorted}
 use Rattle.std.proofs.lemmas.Map.Text.{is_eq-slice_cmp}
+use Rattle.std.proofs.Math.Seq.{take-length}
 use Rattle.gtfs_table.specs.Folder.{text_cmp}
 use Rattle.gtfs_columns.specs.declared.id_row.IdRow.{IdRow}
 use Rattle.gtfs_columns.specs.steps.Ids.{IdColumn, ListsFirstRows}
@@ -88,7 +89,7 @@ module _ (id : List ℕ) where
 
   -- some row with the id
   abbrev with_id : IdRow
-  with_id = record { id = record { ref_ptr = (0, 0); now = id }; row = 0 }
+  with_id = record { id = record { ref_ptr = (0, 0); now = id }; head = id; row = 0; copied = λ short. take-length id }
 
   neither_less : (r : Ordering) → (not (is_lt (ordering_reverse r)) && not (is_lt r)) ≡ is_eq r
   neither_less Less = refl
@@ -143,14 +144,10 @@ module _ (id : List ℕ) (xs : List IdRow) (up : IsStrictlySortedBy row_cmp xs) 
       sym (same_id id (get_or xs k x))
       ∙ ap is_eq (sym (alike_right nat_list_cmp_total (id_of (get_or xs at x)) id (id_of (get_or xs k x)) same) ∙ Less-from_sorted row_cmp xs k at x up l h)))
 
-  not_not : (b : Bool) → false ≡ not b → b ≡ true
-  not_not true e = refl
-  not_not false e = e
-
   -- a row that is listed with the id is the row with the id
-  pub found_there : (at : ℕ) (x : IdRow) → at < length xs → x ≡ get_or xs at x → false ≡ not (bytes_eq (id_of x) id) → listed_row xs id ≡ Some x.row
+  pub found_there : (at : ℕ) (x : IdRow) → at < length xs → x ≡ get_or xs at x → bytes_eq (id_of x) id ≡ true → listed_row xs id ≡ Some x.row
   found_there at x h is same =
-      let here : text_cmp (id_of x) id ≡ Equal = (Equal-is (text_cmp (id_of x) id)).0 (same_id id x ∙ not_not (has_id id x) same) in
+      let here : text_cmp (id_of x) id ≡ Equal = (Equal-is (text_cmp (id_of x) id)).0 (same_id id x ∙ same) in
       found at x h (λ d. ap (λ r. text_cmp (id_of r) id) (get_or_default xs at d x h ∙ sym is) ∙ here) is
 
   -- and where it ends at none, there is none

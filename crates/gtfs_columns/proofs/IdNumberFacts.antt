@@ -129,14 +129,6 @@ module _ (i : IdColumn) (listed : List IdRow) (index : IsIdIndex i listed) (id :
       ∙ ap (λ m. cond (nat_lt at m) (Some at) None) many
       ∙ ap (λ b. cond b (Some at) None) below)
 
-  not_not : (b : Bool) → false ≡ not b → b ≡ true
-  not_not true e = refl
-  not_not false e = e
-
-  -- the row there has the id
-  pub numbered_as : (at : ℕ) (r : IdRow) → at < length listed → r ≡ get_or listed at r → false ≡ not (has_id r) → Some at ≡ number_with i id
-  numbered_as at r within is same = numbered_at at r within is (not_not (has_id r) same)
-
   pub no_number : listed_row listed id ≡ None → None ≡ number_with i id
   no_number none =
       let past = position_past has_id listed (no_row (find_first has_id listed) none) in

@@ -2,9 +2,7 @@ ghost use Rattle.std.specs.Prelude.{◌≡◌, option_map, IfSome, Some};
 ghost use Rattle.gtfs_columns.specs.steps.Ids.{first_row_with, number_with};
 
 use crate::ids::Ids;
-
-// An odd number whose multiples are spread evenly: 2^64 divided by the golden ratio.
-const SPREAD: u64 = 0x9E37_79B9_7F4A_7C15;
+use crate::slots::{Slot, slots_of, tag_of};
 
 /// What is known of an id of a column.
 #[derive(Clone, Copy)]
@@ -17,17 +15,17 @@ pub struct FoundId {
 
 /// Finds ids of a column that are asked for one after the other.
 ///
-/// Rows that stand together often name one row, and rows in turn; and in a large file most ids were asked for
-/// before. So before a search is made, three numbers are tried: that of the last answer, that of an id of the same
-/// slot that was found, and the next. What they hold is compared with the id, so that no choice of ids can make an
-/// answer wrong, or cost more than the search.
+/// Rows that stand together often name one row, and rows in turn. So before a search is made, a few numbers are tried:
+/// that of the last answer, those that stand in the slots for the id, and the next. What they hold is compared with the
+/// id, so that no choice of ids can make an answer wrong, or cost more than the search. The first search puts all ids
+/// into slots.
 #[derive(Drop)]
 pub struct Finder<'a> {
     /// The ids that are searched.
     pub ids: &'a Ids<'a>,
     last: usize,
-    // By slot, the number that was found for an id of this slot: none where there is no slot yet.
-    numbers: Vec<u32>,
+    // The numbers of all ids, by what is mixed of them. None before the first search.
+    slots: Vec<Slot>,
 }
 
 impl<'a> Finder<'a> {
@@ -38,7 +36,7 @@ impl<'a> Finder<'a> {
         Finder {
             ids,
             last: 0,
-            numbers: ids.no_numbers(),
+            slots: ids.no_slots(),
         }
     }
 
@@ -81,89 +79,43 @@ impl<'a> Finder<'a> {
             ≡ number_with self.old.ids.now id.now }
         ensures same { self.new.ids.now ≡ self.old.ids.now }
     {
-        let slot = self.slot(id);
-        if let Some(found) = self.try_number(self.number_of(slot), id) {
+        let tag = tag_of(id.as_bytes());
+        if let Some(found) = self.guess(tag, id) {
+            self.last = found.number;
             return Some(found);
         }
-        if let Some(found) = self.try_number(self.last.saturating_add(1), id) {
-            return Some(found);
+        if self.slots.is_empty() {
+            self.fill_slots();
         }
         let found = self.ids.find(id)?;
-        self.remember(slot, found.number);
+        self.last = found.number;
         Some(found)
     }
 
-    // This id, where it has this number.
+    // This id, where it stands in its slots, or after that of the last answer.
     #[inline(always)]
-    fn try_number(&mut self, number: usize, id: &str) -> Option<FoundId>
+    fn guess(&self, tag: u32, id: &str) -> Option<FoundId>
         ensures row { IfSome result
-            (λ found. Some found.row ≡ first_row_with self.old.ids.now id.now) }
+            (λ found. Some found.row ≡ first_row_with self.now.ids.now id.now) }
         ensures number { IfSome result
-            (λ found. Some found.number ≡ number_with self.old.ids.now id.now) }
-        ensures same { self.new.ids.now ≡ self.old.ids.now }
+            (λ found. Some found.number ≡ number_with self.now.ids.now id.now) }
     {
-        let found = self.ids.at(number, id)?;
-        self.last = number;
-        Some(found)
+        for slot in slots_of(&self.slots, tag) {
+            if slot.tag == tag
+                && let Some(found) = self.ids.at(slot.number(), id)
+            {
+                return Some(found);
+            }
+        }
+        self.ids.at(self.last.saturating_add(1), id)
     }
 
-    // The number that was found for an id of this slot.
-    #[inline(always)]
-    fn number_of(&self, slot: usize) -> usize {
-        self.numbers.get(slot).copied().unwrap_or(0) as usize
-    }
-
-    // The slot of an id, by all of its bytes.
-    #[inline(always)]
-    fn slot(&self, id: &str) -> usize {
-        let mixed = mix(id.as_bytes()) >> 32;
-        mixed as usize & self.numbers.len().saturating_sub(1)
-    }
-
-    // Remembers the number of an id. Where memory runs out there are fewer guesses, and the same answers.
-    fn remember(&mut self, slot: usize, number: usize)
+    // Where memory runs out there are no slots: fewer guesses, and the same answers.
+    fn fill_slots(&mut self)
         ensures { self.new.ids.now ≡ self.old.ids.now }
     {
-        if self.numbers.is_empty()
-            && let Ok(numbers) = self.ids.numbers()
-        {
-            self.numbers = numbers;
+        if let Ok(slots) = self.ids.slots() {
+            self.slots = slots;
         }
-        if let Some(found) = self.numbers.get_mut(slot)
-            && let Ok(number) = u32::try_from(number)
-        {
-            *found = number;
-        }
-        self.last = number;
     }
-}
-
-// A number that depends on each byte: those of eight after eight, and of the last eight, which may overlap.
-#[inline(always)]
-fn mix(bytes: &[u8]) -> u64 {
-    let mut mixed = last_bytes(bytes).wrapping_mul(SPREAD);
-    let mut left = bytes;
-    while let [a, b, c, d, e, f, g, h, rest @ ..] = left {
-        let eight = u64::from_be_bytes([*a, *b, *c, *d, *e, *f, *g, *h]);
-        mixed = (mixed.rotate_left(29) ^ eight).wrapping_mul(SPREAD);
-        left = rest;
-    }
-    mixed
-}
-
-// The last eight bytes as one number, the last one lowest, where it moves the slot most. Of fewer bytes the first and
-// the last four, and of fewer than four all.
-#[inline(always)]
-fn last_bytes(bytes: &[u8]) -> u64 {
-    if let [.., a, b, c, d, e, f, g, h] = bytes {
-        return u64::from_be_bytes([*a, *b, *c, *d, *e, *f, *g, *h]);
-    }
-    if let [a, b, c, d, ..] = bytes
-        && let [.., e, f, g, h] = bytes
-    {
-        return u64::from_be_bytes([*a, *b, *c, *d, *e, *f, *g, *h]);
-    }
-    bytes
-        .iter()
-        .fold(0, |number: u64, byte| number << 8 | u64::from(*byte))
 }

@@ -3,6 +3,7 @@ ghost use Rattle.gtfs_columns.specs.steps.Ids.{first_row_with, number_with, ids_
 
 use crate::finder::FoundId;
 use crate::id_row::IdRow;
+use crate::slots::{Slot, fill_slot, free_slots, tag_of};
 use gtfs_field::OutOfMemory;
 use gtfs_table::{File, Tables};
 use std::alloc::Global;
@@ -83,16 +84,17 @@ impl<'a> Ids<'a> {
         }
     }
 
-    // Eight numbers and more for each id, all of them 0: as many as a power of two.
-    pub(crate) fn numbers(&self) -> Result<Vec<u32>, OutOfMemory> {
-        let mut numbers = Vec::new(self.alloc);
-        let count = self.rows.len().saturating_mul(8);
-        numbers.resize(count.checked_next_power_of_two().unwrap_or(0), 0)?;
-        Ok(numbers)
+    // The slots of all ids.
+    pub(crate) fn slots(&self) -> Result<Vec<Slot>, OutOfMemory> {
+        let mut slots = free_slots(self.alloc, self.rows.len())?;
+        for (number, row) in self.rows.iter().enumerate() {
+            fill_slot(&mut slots, tag_of(row.bytes()), number);
+        }
+        Ok(slots)
     }
 
-    // No numbers, which take no memory.
-    pub(crate) fn no_numbers(&self) -> Vec<u32> {
+    // No slots, which take no memory.
+    pub(crate) fn no_slots(&self) -> Vec<Slot> {
         Vec::new(self.alloc)
     }
 
@@ -106,11 +108,8 @@ impl<'a> Ids<'a> {
         if number >= self.rows.len() {
             return None;
         }
-        let found = self.rows[number];
-        if !ends_alike(found.id, id) {
-            return None;
-        }
-        if found.id != id {
+        let found = &self.rows[number];
+        if !found.has(id) {
             return None;
         }
         Some(FoundId {
@@ -118,12 +117,6 @@ impl<'a> Ids<'a> {
             row: found.row,
         })
     }
-}
-
-// Whether two texts have one last byte, which tells most ids apart without a look at the others.
-#[inline(always)]
-fn ends_alike(a: &str, b: &str) -> bool {
-    a.as_bytes().last() == b.as_bytes().last()
 }
 
 // The rows of a file with their ids, in the order of the file.
@@ -139,7 +132,7 @@ fn id_rows<'a>(
     let mut rows = Vec::new(alloc);
     for (row, record) in tables.rows(file) {
         let id = record.value(index);
-        rows.push(IdRow { id, row })?;
+        rows.push(IdRow::new(id, row))?;
     }
     Ok(rows)
 }

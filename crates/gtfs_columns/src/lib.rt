@@ -40,6 +40,7 @@ mod ids;
 mod location_types;
 pub mod present;
 mod problem;
+mod slots;
 pub mod values;
 
 pub use cell::{cell_code, fault_code, has_control, is_required, length_code, read_choice};
