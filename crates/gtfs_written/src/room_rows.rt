@@ -79,6 +79,12 @@ impl Sink for RoomRows {
         Ok(())
     }
 
+    fn plain(&mut self, field: &str) -> Result<(), OutOfMemory> {
+        self.take(1);
+        self.take(field.len());
+        Ok(())
+    }
+
     fn last(&mut self) -> Result<(), OutOfMemory> {
         self.take(1);
         Ok(())

@@ -47,6 +47,10 @@ impl Sink for TableRows {
         }
     }
 
+    fn plain(&mut self, field: &str) -> Result<(), OutOfMemory> {
+        self.next(field)
+    }
+
     fn last(&mut self) -> Result<(), OutOfMemory> {
         Ok(())
     }
