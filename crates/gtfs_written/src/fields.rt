@@ -63,6 +63,30 @@ impl<S: Sink> Fields<S> {
         self.rows.first(field)
     }
 
+    // The first field where it is known whether it needs quotes.
+    pub(crate) fn known_first(&mut self, field: &str, is_quoted: bool) -> Result<(), OutOfMemory>
+        requires { is_quoted ≡ needs_quotes default_writer field.now }
+        ensures { OnOk result (self.new ≡ S.takes.first self.old field.now) }
+    {
+        if is_quoted {
+            self.rows.first(field)
+        } else {
+            self.rows.plain_first(field)
+        }
+    }
+
+    // A further field that needs no quotes where it is known to be plain.
+    pub(crate) fn known_text(&mut self, field: &str, is_plain: bool) -> Result<(), OutOfMemory>
+        requires { is_plain ≡ true → needs_quotes default_writer field.now ≡ false }
+        ensures { OnOk result (self.new ≡ S.takes.next self.old field.now) }
+    {
+        if is_plain {
+            self.rows.plain(field)
+        } else {
+            self.rows.next(field)
+        }
+    }
+
     pub(crate) fn last(&mut self) -> Result<(), OutOfMemory>
         ensures { OnOk result (self.new ≡ S.takes.last self.old) }
     {

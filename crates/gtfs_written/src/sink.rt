@@ -12,6 +12,11 @@ pub(crate) trait Sink {
     fn first(&mut self, field: &str) -> Result<(), OutOfMemory>
         ensures { OnOk result (self.new ≡ takes.first self.old field.now) };
 
+    // The same of a field that needs no quotes.
+    fn plain_first(&mut self, field: &str) -> Result<(), OutOfMemory>
+        requires { needs_quotes default_writer field.now ≡ false }
+        ensures { OnOk result (self.new ≡ takes.first self.old field.now) };
+
     // A further field of the row.
     fn next(&mut self, field: &str) -> Result<(), OutOfMemory>
         ensures { OnOk result (self.new ≡ takes.next self.old field.now) };
