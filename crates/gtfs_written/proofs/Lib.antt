@@ -1,4 +1,5 @@
 pub mod Items
+pub mod PlainTexts
 pub mod Quotes
 pub mod TableFacts
 pub mod Taken

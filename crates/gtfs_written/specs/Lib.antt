@@ -1,2 +1,3 @@
 pub mod FileTexts
+pub mod Plain
 pub mod Taking

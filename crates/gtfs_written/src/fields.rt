@@ -1,4 +1,6 @@
-ghost use Rattle.std.specs.Prelude.{◌≡◌, ℕ, List, if◌then◌else◌, option_map, OnOk, true, [], Some, None, ◌∷◌};
+ghost use Rattle.std.specs.Prelude.{◌≡◌, ℕ, List, if◌then◌else◌, option_map, OnOk, true, false, [], Some, None, ◌∷◌};
+ghost use Rattle.std.specs.Str.{IsAscii};
+ghost use Rattle.csv.specs.Writing.{default_writer, needs_quotes};
 ghost use Rattle.gtfs_field.specs.Canonical.{colour_text, coordinate_text, count_text, date_text, time_text};
 ghost use Rattle.gtfs_field.specs.declared.coord.Axis.{Axis};
 ghost use Rattle.gtfs_columns.specs.Columns.{Kind, choice, coordinate, count, time};
@@ -6,6 +8,7 @@ ghost use Rattle.gtfs_columns.specs.Values.{amount, word};
 ghost use Rattle.gtfs_rows.specs.Cells.{cell_text};
 ghost use Rattle.gtfs_rows.specs.RowCells.{number as numbered};
 
+use crate::digits::{as_text, one_digit, short_time, two_digits};
 use crate::sink::Sink;
 use crate::table_rows::TableRows;
 use gtfs_field::{
@@ -16,7 +19,10 @@ use gtfs_table::File;
 use std::alloc::Global;
 use std::marker::Model;
 
-// The fields of rows as canonical texts. Numbers are written into one buffer that is used again.
+// From here on a time has more than two digits of hours.
+const HUNDRED_HOURS: u32 = 360_000;
+
+// The fields of rows as canonical texts. Long numbers are written into one buffer that is used again.
 pub(crate) struct Fields<S> {
     rows: S,
     buffer: String,
@@ -57,6 +63,30 @@ impl<S: Sink> Fields<S> {
         self.rows.first(field)
     }
 
+    // The first field where it is known whether it needs quotes.
+    pub(crate) fn known_first(&mut self, field: &str, is_quoted: bool) -> Result<(), OutOfMemory>
+        requires { is_quoted ≡ needs_quotes default_writer field.now }
+        ensures { OnOk result (self.new ≡ S.takes.first self.old field.now) }
+    {
+        if is_quoted {
+            self.rows.first(field)
+        } else {
+            self.rows.plain_first(field)
+        }
+    }
+
+    // A further field that needs no quotes where it is known to be plain.
+    pub(crate) fn known_text(&mut self, field: &str, is_plain: bool) -> Result<(), OutOfMemory>
+        requires { is_plain ≡ true → needs_quotes default_writer field.now ≡ false }
+        ensures { OnOk result (self.new ≡ S.takes.next self.old field.now) }
+    {
+        if is_plain {
+            self.rows.plain(field)
+        } else {
+            self.rows.next(field)
+        }
+    }
+
     pub(crate) fn last(&mut self) -> Result<(), OutOfMemory>
         ensures { OnOk result (self.new ≡ S.takes.last self.old) }
     {
@@ -82,9 +112,28 @@ impl<S: Sink> Fields<S> {
     pub(crate) fn number(&mut self, number: u32) -> Result<(), OutOfMemory>
         ensures { OnOk result (self.new ≡ S.takes.next self.old (count_text number)) }
     {
+        match number {
+            0..=9 => self.plain(&one_digit(number)),
+            10..=99 => self.plain(&two_digits(number)),
+            _ => self.long_number(number),
+        }
+    }
+
+    fn long_number(&mut self, number: u32) -> Result<(), OutOfMemory>
+        ensures { OnOk result (self.new ≡ S.takes.next self.old (count_text number)) }
+    {
         self.buffer.clear();
         push_count(self.alloc, &mut self.buffer, number)?;
         self.rows.next(self.buffer.as_str())
+    }
+
+    // A field of ASCII bytes that need no quotes.
+    fn plain(&mut self, bytes: &[u8]) -> Result<(), OutOfMemory>
+        requires ascii { IsAscii bytes.now }
+        requires plain { needs_quotes default_writer bytes.now ≡ false }
+        ensures { OnOk result (self.new ≡ S.takes.next self.old bytes.now) }
+    {
+        self.rows.plain(as_text(bytes))
     }
 
     pub(crate) fn optional_count(&mut self, number: Option<u32>) -> Result<(), OutOfMemory>
@@ -109,6 +158,17 @@ impl<S: Sink> Fields<S> {
     }
 
     pub(crate) fn time(&mut self, clock: Clock) -> Result<(), OutOfMemory>
+        ensures { OnOk result (self.new ≡ S.takes.next self.old (time_text clock)) }
+    {
+        let seconds = clock.seconds();
+        if seconds < HUNDRED_HOURS {
+            self.plain(&short_time(seconds))
+        } else {
+            self.long_time(clock)
+        }
+    }
+
+    fn long_time(&mut self, clock: Clock) -> Result<(), OutOfMemory>
         ensures { OnOk result (self.new ≡ S.takes.next self.old (time_text clock)) }
     {
         self.buffer.clear();

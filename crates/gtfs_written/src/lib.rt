@@ -21,6 +21,7 @@
 mod agencies;
 mod calendar;
 mod calendar_dates;
+mod digits;
 mod fields;
 mod file_texts;
 mod files;

@@ -79,6 +79,17 @@ impl Sink for RoomRows {
         Ok(())
     }
 
+    fn plain_first(&mut self, field: &str) -> Result<(), OutOfMemory> {
+        self.take(field.len());
+        Ok(())
+    }
+
+    fn plain(&mut self, field: &str) -> Result<(), OutOfMemory> {
+        self.take(1);
+        self.take(field.len());
+        Ok(())
+    }
+
     fn last(&mut self) -> Result<(), OutOfMemory> {
         self.take(1);
         Ok(())

@@ -47,6 +47,14 @@ impl Sink for TableRows {
         }
     }
 
+    fn plain_first(&mut self, field: &str) -> Result<(), OutOfMemory> {
+        self.first(field)
+    }
+
+    fn plain(&mut self, field: &str) -> Result<(), OutOfMemory> {
+        self.next(field)
+    }
+
     fn last(&mut self) -> Result<(), OutOfMemory> {
         Ok(())
     }

@@ -51,6 +51,17 @@ impl Sink for TextRows {
         push_field(&mut self.text, field)
     }
 
+    fn plain_first(&mut self, field: &str) -> Result<(), OutOfMemory> {
+        self.text.push_str(field)?;
+        Ok(())
+    }
+
+    fn plain(&mut self, field: &str) -> Result<(), OutOfMemory> {
+        self.text.push_str(",")?;
+        self.text.push_str(field)?;
+        Ok(())
+    }
+
     fn last(&mut self) -> Result<(), OutOfMemory> {
         self.text.push_str("\n")?;
         Ok(())

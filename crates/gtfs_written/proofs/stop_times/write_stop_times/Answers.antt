@@ -5,12 +5,17 @@ use Rattle.gtfs_rows.specs.Cells.{record_text}
 use Rattle.gtfs_rows.specs.RowCells.{stop_time_cells, held_by}
 use Rattle.gtfs_rows.specs.Views.{stop_row_of, stop_time_names_rows}
 use Rattle.gtfs_table.specs.declared.file.File.TheVariants as file
+use Rattle.gtfs_written.specs.Plain.{is_plain_stop}
 use Rattle.gtfs_written.specs.Taking.{with_rows}
 use Rattle.gtfs_written.proofs.Items.{after_trip, all_in_part, left-none, stretch_is}
 use Rattle.gtfs_written.proofs.stop_times.write_stop_times.Goals as goal
 
-pub write_trip_rows-requires : goal.write_trip_rows-requires
-write_trip_rows-requires g c =
+pub write_trip_rows-requires-clause-plain : goal.write_trip_rows-requires-clause-plain
+write_trip_rows-requires-clause-plain g c =
+    λ plain. ap (list_all is_plain_stop) (sym c.as_slice.ensures) ∙ sym c.has_plain_stop_ids-has_plain_stops.ensures ∙ plain
+
+pub write_trip_rows-requires-clause-names : goal.write_trip_rows-requires-clause-names
+write_trip_rows-requires-clause-names g c =
     let q = stop_time_names_rows c.args.parts.now in
     all_in_part q _ _ _ _ (ap (list_all q) c.as_slice-stop_rows.ensures ∙ c.requires.names_rows.stop_rows) c.stretch.ensures
 

@@ -8,9 +8,9 @@ use Rattle.gtfs_written.proofs.Items.{item_passes}
 use Rattle.gtfs_written.proofs.Taken.{loop_done, loop_step}
 use Rattle.gtfs_written.proofs.stop_times.write_trip_rows.Goals as goal
 
-pub write_stop_time-requires : goal.write_stop_time-requires
-write_stop_time-requires g c =
-    item_passes (stop_time_names_rows c.args.parts.now) _ _ _ _ refl c.requires c.loop-row-test.true c.row-item.is
+pub write_stop_time-requires-clause-names : goal.write_stop_time-requires-clause-names
+write_stop_time-requires-clause-names g c =
+    item_passes (stop_time_names_rows c.args.parts.now) _ _ _ _ refl c.requires.names c.loop-row-test.true c.row-item.is
 
 pub loop-row-preserved : goal.loop-row-preserved
 loop-row-preserved g c =

@@ -1,0 +1,56 @@
+//! Short canonical texts of numbers, made on the stack.
+ghost use Rattle.std.specs.Prelude.{◌≡◌, ◌<◌, ◌≤◌, ◌+◌, ◌%◌};
+ghost use Rattle.std.specs.Str.{IsAscii};
+ghost use Rattle.gtfs_field.specs.Canonical.{count_text, time_text};
+
+// The text of a count of one digit.
+pub(crate) fn one_digit(number: u32) -> [u8; 1]
+    requires { number < 10 }
+    ensures { result ≡ count_text number }
+{
+    [b'0' + number as u8]
+}
+
+// The text of a count of two digits.
+pub(crate) fn two_digits(number: u32) -> [u8; 2]
+    requires ten { 10 ≤ number }
+    requires hundred { number < 100 }
+    ensures { result ≡ count_text number }
+{
+    [digit(number / 10), digit(number)]
+}
+
+// The text of a time before 100:00:00, by its seconds.
+pub(crate) fn short_time(seconds: u32) -> [u8; 8]
+    requires { seconds < 360_000 }
+    ensures { result ≡ time_text seconds }
+{
+    let hours = seconds / 3600;
+    let minutes = seconds / 60 % 60;
+    let last = seconds % 60;
+    [
+        digit(hours / 10),
+        digit(hours),
+        b':',
+        digit(minutes / 10),
+        digit(minutes),
+        b':',
+        digit(last / 10),
+        digit(last),
+    ]
+}
+
+// The last digit of a number.
+fn digit(number: u32) -> u8
+    ensures { result ≡ 48 + number % 10 }
+{
+    b'0' + (number % 10) as u8
+}
+
+// ASCII bytes as a text.
+pub(crate) fn as_text(bytes: &[u8]) -> &str
+    requires { IsAscii bytes.now }
+    ensures { result.now ≡ bytes.now }
+{
+    unsafe { str::from_utf8_unchecked(bytes) }
+}
