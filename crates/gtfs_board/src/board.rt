@@ -83,7 +83,8 @@ impl<'a> Board<'a> {
             ↔ (is_stop (content_of feed.now) stop.now ≡ false) }
         ensures bad { IsErrOf result BoardFault.BadSpan
             ↔ ((is_stop (content_of feed.now) stop.now ≡ true) × (is_span span ≡ false)) }
-        ensures board { IfOk result (λ b. IsBoard (content_of feed.now) (zone_origin zone.now) stop.now
+        ensures board { IfOk result (λ b. IsBoard (content_of feed.now)
+            (zone_origin zone.now) stop.now
             span.from span.until (option_map (λ k. plain_key k.now) after.entry) (keys_of b.rest)) }
         ensures shown { IfOk result (λ b. All (IsShown (content_of feed.now)) b.rest) }
         ensures queued { IfOk result IsQueued }
@@ -155,10 +156,12 @@ impl<'a> Board<'a> {
     /// # Errors
     /// `OutOfMemory` where memory is refused; what is left is then as it was.
     pub fn next(&mut self) -> Result<Option<Departure<'a>>, OutOfMemory>
-        ensures first { IfOk result (λ o. MatchOption o ((self.old.rest ≡ []) × (self.new.rest ≡ []))
+        ensures first { IfOk result (λ o. MatchOption o
+            ((self.old.rest ≡ []) × (self.new.rest ≡ []))
             (λ d. self.old.rest ≡ listed d ∷ self.new.rest)) }
         ensures instant { IfOk result (λ o. IfSome o (λ d. IsInstant d.key.instant)) }
-        ensures kept { OnErr result ((self.new.rest ≡ self.old.rest) × (self.new.queue ≡ self.old.queue)) }
+        ensures kept { OnErr result ((self.new.rest ≡ self.old.rest)
+            × (self.new.queue ≡ self.old.queue)) }
         ensures settings { SameSettings self.old self.new }
         ensures queued { IsQueued self.new }
         ensures steps { OnOk result

@@ -72,7 +72,8 @@ fn floor_after(feed: &Feed, lanes: usize, key: &Key<'_>) -> Candidate
 // The floor above which the departures of an instant are from a trip on, and all later ones.
 fn floor_before(instant: i64, trip: usize) -> Candidate
     ensures value { (c : CandidateValue) → first_service_day ≤ℤ c.day → candidate_lt result c
-        ≡ is_lt (ordering_then (int_cmp instant c.instant) (ordering_then (nat_cmp trip c.trip) Less)) }
+        ≡ is_lt (ordering_then (int_cmp instant c.instant)
+        (ordering_then (nat_cmp trip c.trip) Less)) }
     ensures instant { result.instant ≡ instant }
     ensures day { result.day <ℤ first_service_day }
 {

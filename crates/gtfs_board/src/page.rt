@@ -62,9 +62,11 @@ pub(crate) fn write_lines<'a, B: Listing<'a>, O: Out>(
     limit: u64,
     out: &mut O,
 ) -> Result<u64, PageFault>
-    ensures page { IfOk result (IsPage (B.clocks board.old) limit (B.rest board.old) (B.rest board.new)
+    ensures page { IfOk result (IsPage (B.clocks board.old) limit (B.rest board.old)
+        (B.rest board.new)
         (O.told out.old) (O.told out.new)) }
-    ensures fault { IfErr result (EndsPage (B.clocks board.old) limit (B.rest board.old) (B.rest board.new)
+    ensures fault { IfErr result (EndsPage (B.clocks board.old) limit (B.rest board.old)
+        (B.rest board.new)
         (O.told out.old) (O.told out.new)) }
     ensures counted { IfErr result (IsCounted (O.failure_count out.old) (O.failure_count out.new)) }
     ensures grows { O.failure_count out.old ≤ O.failure_count out.new }
@@ -90,9 +92,11 @@ fn write_next<'a, B: Listing<'a>, O: Out>(
     lines: u64,
     out: &mut O,
 ) -> Result<bool, PageFault>
-    ensures sent { IfOk result (IsLineSent (B.clocks board.old) (B.rest board.old) (B.rest board.new)
+    ensures sent { IfOk result (IsLineSent (B.clocks board.old) (B.rest board.old)
+        (B.rest board.new)
         (O.told out.old) (O.told out.new)) }
-    ensures fault { IfErr result (EndsLine (B.clocks board.old) lines (B.rest board.old) (B.rest board.new)
+    ensures fault { IfErr result (EndsLine (B.clocks board.old) lines (B.rest board.old)
+        (B.rest board.new)
         (O.told out.old) (O.told out.new)) }
     ensures counted { IfErr result (IsCounted (O.failure_count out.old) (O.failure_count out.new)) }
     ensures grows { O.failure_count out.old ≤ O.failure_count out.new }

@@ -157,7 +157,8 @@ impl<'a> Days<'a> {
     ) -> Option<Candidate>
         requires inside { lane < length (lanes_of self.now.lanes) }
         requires aside { IsAside floor.now day (length (lanes_of self.now.lanes)) }
-        requires runs { serves_on self.now.feed.now (lane_at self.now.lanes lane).service day ≡ true }
+        requires runs { serves_on self.now.feed.now (lane_at self.now.lanes lane).service day
+            ≡ true }
         requires origin { origin ≡ zone_origin self.now.zone.now day }
         ensures first { result ≡ first_above floor.now (departures_on self.now.feed.now
             (zone_origin self.now.zone.now) self.now.lanes self.now.end lane day) }

@@ -206,7 +206,8 @@ impl Feed {
     /// The days of the service of a number, which is below [`Feed::service_count`].
     pub fn service_by_number(&self, service: ServiceNo) -> &Service
         requires { service.0 < length self.now.services }
-        ensures { option_map (λ s. s.service) (slice_get self.now.services service.0) ≡ Some result.now }
+        ensures { option_map (λ s. s.service) (slice_get self.now.services service.0)
+            ≡ Some result.now }
     {
         &self.parts.services.as_slice()[service.0].service
     }

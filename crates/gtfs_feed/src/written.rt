@@ -47,7 +47,8 @@ impl Feed {
     ///
     /// Memory that is refused is an error.
     pub fn has_longer_file(&self, alloc: Global, limit: u64) -> Result<bool, OutOfMemory>
-        ensures { IfOk result (λ any. any ≡ list_any (is_longer (content_of self.now) limit) kept_files) }
+        ensures { IfOk result (λ any. any ≡ list_any
+            (is_longer (content_of self.now) limit) kept_files) }
     {
         gtfs_written::has_longer_file(alloc, self.parts(), limit)
     }

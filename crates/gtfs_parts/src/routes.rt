@@ -30,7 +30,8 @@ pub(crate) fn routes(
     requires passes { Passes tables.now }
     requires agencies { agencies.now ≡ ids_in tables.now file.Agency (codes "agency_id") }
     requires ids { ids.now ≡ ids_in tables.now file.Routes (codes "route_id") }
-    ensures rows { IfOk result (λ rows. map (route_named (ids_of tables.now file.Agency "agency_id")) rows
+    ensures rows { IfOk result (λ rows.
+        map (route_named (ids_of tables.now file.Agency "agency_id")) rows
         ≡ (content_of tables.now).routes) }
     ensures numbers { IfOk result (λ rows.
         list_all (names_agency (ids_of tables.now file.Agency "agency_id")) rows ≡ true) }
@@ -100,7 +101,8 @@ impl<'a> RouteFile<'a> {
         requires passes { Passes self.now }
         requires row { is_row (records_in self.now file.Routes) row ≡ true }
         requires agencies { agencies.old.ids.now ≡ ids_in self.now file.Agency (codes "agency_id") }
-        ensures value { IfOk result (λ r. route_named (ids_of self.now file.Agency "agency_id") r ≡ route_in self.now row) }
+        ensures value { IfOk result (λ r. route_named (ids_of self.now file.Agency "agency_id") r
+            ≡ route_in self.now row) }
         ensures number { IfOk result (λ r.
             names_agency (ids_of self.now file.Agency "agency_id") r ≡ true) }
         ensures same { agencies.new.ids.now ≡ agencies.old.ids.now }

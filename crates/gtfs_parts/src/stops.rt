@@ -27,7 +27,8 @@ pub(crate) fn stops(
 ) -> Result<List<Stop>, OutOfMemory>
     requires passes { Passes tables.now }
     requires ids { ids.now ≡ ids_in tables.now file.Stops (codes "stop_id") }
-    ensures rows { IfOk result (λ rows. map (stop_named (ids_of tables.now file.Stops "stop_id")) rows
+    ensures rows { IfOk result (λ rows.
+        map (stop_named (ids_of tables.now file.Stops "stop_id")) rows
         ≡ (content_of tables.now).stops) }
     ensures numbers { IfOk result (λ rows.
         list_all (names_parent (ids_of tables.now file.Stops "stop_id")) rows ≡ true) }
@@ -96,7 +97,8 @@ impl<'a> StopFile<'a> {
         requires passes { Passes self.now }
         requires row { is_row (records_in self.now file.Stops) row ≡ true }
         requires stops { stops.old.ids.now ≡ ids_in self.now file.Stops (codes "stop_id") }
-        ensures value { IfOk result (λ s. stop_named (ids_of self.now file.Stops "stop_id") s ≡ stop_in self.now row) }
+        ensures value { IfOk result (λ s. stop_named (ids_of self.now file.Stops "stop_id") s
+            ≡ stop_in self.now row) }
         ensures number { IfOk result (λ s.
             names_parent (ids_of self.now file.Stops "stop_id") s ≡ true) }
         ensures same { stops.new.ids.now ≡ stops.old.ids.now }

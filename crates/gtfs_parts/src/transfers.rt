@@ -35,7 +35,8 @@ pub(crate) fn transfers(
     ensures rows { IfOk result (λ rows. map (transfer_named (ids_of tables.now file.Stops "stop_id")
         (ids_of tables.now file.Routes "route_id") (ids_of tables.now file.Trips "trip_id")) rows
         ≡ (content_of tables.now).transfers) }
-    ensures numbers { IfOk result (λ rows. list_all (names_ends (ids_of tables.now file.Stops "stop_id")
+    ensures numbers { IfOk result (λ rows. list_all
+        (names_ends (ids_of tables.now file.Stops "stop_id")
         (ids_of tables.now file.Routes "route_id") (ids_of tables.now file.Trips "trip_id")) rows
         ≡ true) }
 {
@@ -59,10 +60,12 @@ fn in_file_order(
     requires stops { stops.now ≡ ids_in tables.now file.Stops (codes "stop_id") }
     requires routes { routes.now ≡ ids_in tables.now file.Routes (codes "route_id") }
     requires trips { trips.now ≡ ids_in tables.now file.Trips (codes "trip_id") }
-    ensures rows { IfOk result (λ transfers. map (transfer_named (ids_of tables.now file.Stops "stop_id")
+    ensures rows { IfOk result (λ transfers.
+        map (transfer_named (ids_of tables.now file.Stops "stop_id")
         (ids_of tables.now file.Routes "route_id") (ids_of tables.now file.Trips "trip_id")) transfers.items
         ≡ map (transfer_in tables.now) (rows tables.now file.Transfers)) }
-    ensures numbers { IfOk result (λ transfers. list_all (names_ends (ids_of tables.now file.Stops "stop_id")
+    ensures numbers { IfOk result (λ transfers. list_all
+        (names_ends (ids_of tables.now file.Stops "stop_id")
         (ids_of tables.now file.Routes "route_id") (ids_of tables.now file.Trips "trip_id")) transfers.items
         ≡ true) }
 {

@@ -104,7 +104,8 @@ impl<'a> TripFile<'a> {
         requires routes { routes.old.ids.now ≡ ids_in self.now file.Routes (codes "route_id") }
         requires services { services.now ≡ service_ids self.now }
         requires named { HasAll (service_texts self.now) services.now }
-        ensures value { IfOk result (λ t. trip_named (ids_of self.now file.Routes "route_id") (service_ids self.now) t
+        ensures value { IfOk result (λ t. trip_named (ids_of self.now file.Routes "route_id")
+            (service_ids self.now) t
             ≡ without_rows (trip_in self.now row)) }
         ensures numbers { IfOk result (λ t. names_route_and_service
             (ids_of self.now file.Routes "route_id") (service_ids self.now) t ≡ true) }

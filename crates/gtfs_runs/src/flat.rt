@@ -49,7 +49,8 @@ fn gathered(
     stop: StopNo,
 ) -> Result<Vec<(ServiceNo, Event)>, OutOfMemory>
     requires { stop.0 < length feed.now.stops }
-    ensures { IfOk result (λ events. (service : ℕ) (e : EventValue) → tally (is_served service e) events.items
+    ensures { IfOk result (λ events. (service : ℕ) (e : EventValue)
+        → tally (is_served service e) events.items
         ≡ cond (is_event_of feed.now stop.0 service e) 1 0) }
 {
     let place = Place::of_stop(alloc, feed, stop)?;
@@ -72,7 +73,8 @@ fn push_trip(
     requires place { length place.now ≡ length feed.now.stops }
     ensures { OnOk result ((s service : ℕ) (e : EventValue)
         → place.now ≡ members (content_of feed.now) (text_of_number (stop_ids feed.now) s)
-        → tally (is_served service e) events.new.items ≡ tally (is_served service e) events.old.items
+        → tally (is_served service e) events.new.items
+        ≡ tally (is_served service e) events.old.items
         + cond ((e.trip.0 == trip.0) && is_event_of feed.now s service e) 1 0) }
 {
     feed.soundness();
@@ -98,7 +100,8 @@ fn push_row(
         → slice_get (stop_rows_by_trip feed.now) trip.0 ≡ Some rows → position < length rows }
     ensures { OnOk result ((s service : ℕ) (e : EventValue)
         → place.now ≡ members (content_of feed.now) (text_of_number (stop_ids feed.now) s)
-        → tally (is_served service e) events.new.items ≡ tally (is_served service e) events.old.items
+        → tally (is_served service e) events.new.items
+        ≡ tally (is_served service e) events.old.items
         + cond ((e.trip.0 == trip.0) && (e.row == position) && is_event_of feed.now s service e) 1 0) }
 {
     feed.soundness();
@@ -183,7 +186,8 @@ fn starts(alloc: Global, rows: &[StopRow], periods: &[Frequency]) -> Result<Vec<
     requires filled { 0 < length rows.now }
     requires moves { All (λ f. 0 < f.headway_secs) periods.now }
     requires apart { ArePeriods periods.now }
-    ensures runs { IfOk result (λ starts. (p : Parts) (t : Trip) (r : ℕ) → tally (λ x. r == x) starts.items
+    ensures runs { IfOk result (λ starts. (p : Parts) (t : Trip) (r : ℕ)
+        → tally (λ x. r == x) starts.items
         ≡ cond (is_run (trip_of p t rows.now periods.now) r) 1 0) }
     ensures early { IfOk result (λ starts. All (λ r. r < 7_200_000) starts.items) }
 {
@@ -203,7 +207,8 @@ fn push_starts(period: &Frequency, starts: &mut Vec<u32>) -> Result<(), OutOfMem
     requires moves { 0 < period.now.headway_secs }
     requires lasts { period.now.start_time < period.now.end_time }
     ensures runs { OnOk result ((r : ℕ) → tally (λ x. r == x) starts.new.items
-        ≡ tally (λ x. r == x) starts.old.items + cond (starts_run (frequency_of period.now) r) 1 0) }
+        ≡ tally (λ x. r == x) starts.old.items
+        + cond (starts_run (frequency_of period.now) r) 1 0) }
     ensures early { OnOk result (All (λ r. r < 7_200_000) starts.old.items
         → All (λ r. r < 7_200_000) starts.new.items) }
 {

@@ -92,7 +92,8 @@ impl Gathered {
 
 // The text under a column of stop_times.txt. Where there is no such column, no row is looked up.
 fn text(tables: &Tables, row: usize, column: Option<usize>) -> &str
-    ensures { result.now ≡ field_under (record_at (records_in tables.now file.StopTimes) row) column }
+    ensures { result.now ≡ field_under (record_at
+        (records_in tables.now file.StopTimes) row) column }
 {
     match column {
         Some(column) => tables.field(File::StopTimes, row, column),

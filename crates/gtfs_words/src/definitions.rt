@@ -48,7 +48,8 @@ fn top<'w>(alloc: Global) -> Command<'w>
 // The program with one more command.
 fn with_command<'w>(program: Command<'w>, command: Command<'w>) -> Result<Command<'w>, AllocError>
     ensures { (app_of command.entry).top.is_plain ≡ true
-        → IfOk result (λ c. app_of c ≡ with_subcommand (app_of program.entry) (app_of command.entry).top) }
+        → IfOk result (λ c. app_of c ≡ with_subcommand (app_of program.entry)
+        (app_of command.entry).top) }
 {
     program.subcommand(command)
 }

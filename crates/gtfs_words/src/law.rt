@@ -6,8 +6,12 @@ ghost use Rattle.gtfs_words.specs.Asked.{AsksBoardOf, AsksCheckOf, AsksMergeOf, 
 /// A law of words, which its contract states: of each command, words ask for one, with one text for each id at most.
 /// It does nothing when it runs.
 pub fn words_ask_for_one()
-    ensures check { (words : List Text) (a b : Text) → AsksCheckOf words a → AsksCheckOf words b → a ≡ b }
-    ensures board { (words : List Text) (a b : BoardTexts) → AsksBoardOf words a → AsksBoardOf words b → a ≡ b }
-    ensures timetable { (words : List Text) (a b : TimetableTexts) → AsksTimetableOf words a → AsksTimetableOf words b → a ≡ b }
-    ensures merge { (words : List Text) (a b : MergeTexts) → AsksMergeOf words a → AsksMergeOf words b → a ≡ b }
+    ensures check { (words : List Text) (a b : Text) → AsksCheckOf words a → AsksCheckOf words b → a
+        ≡ b }
+    ensures board { (words : List Text) (a b : BoardTexts) → AsksBoardOf words a
+        → AsksBoardOf words b → a ≡ b }
+    ensures timetable { (words : List Text) (a b : TimetableTexts) → AsksTimetableOf words a
+        → AsksTimetableOf words b → a ≡ b }
+    ensures merge { (words : List Text) (a b : MergeTexts) → AsksMergeOf words a
+        → AsksMergeOf words b → a ≡ b }
 {}

@@ -20,7 +20,8 @@ pub fn read_words<'w, S: AsStr>(alloc: Global, words: &'w [S]) -> Result<Command
     ensures read { IfOk result (IsCommandOf (subcommand_of gtfs_app (map S.text words.entry.now))) }
     ensures taken { IfOk result (λ _. takes gtfs_app (map S.text words.entry.now) ≡ true) }
     ensures fault { IfErr result (IsFaultOf (map S.text words.entry.now)) }
-    ensures memory { takes gtfs_app (map S.text words.entry.now) ≡ true → IfErr result (λ fault. fault ≡ no_memory) }
+    ensures memory { takes gtfs_app (map S.text words.entry.now) ≡ true
+        → IfErr result (λ fault. fault ≡ no_memory) }
 {
     let definition = gtfs(alloc)?;
     match definition.try_get_matches_from(words) {
@@ -48,7 +49,8 @@ fn command_of<'w>(matches: &ArgMatches<'w>) -> Option<Command<'w>>
 }
 
 fn board_words<'w>(given: &ArgMatches<'w>) -> Option<BoardWords<'w>>
-    ensures value { IfSome result (λ words. IsBoardOf (rows_of (found_of given.now)) (texts_of words)) }
+    ensures value { IfSome result (λ words. IsBoardOf (rows_of (found_of given.now))
+        (texts_of words)) }
     ensures given { HasBoard (rows_of (found_of given.now)) → IsSome result }
 {
     Some(BoardWords {
@@ -63,7 +65,8 @@ fn board_words<'w>(given: &ArgMatches<'w>) -> Option<BoardWords<'w>>
 }
 
 fn timetable_words<'w>(given: &ArgMatches<'w>) -> Option<TimetableWords<'w>>
-    ensures value { IfSome result (λ words. IsTimetableOf (rows_of (found_of given.now)) (timetable_texts_of words)) }
+    ensures value { IfSome result (λ words. IsTimetableOf (rows_of (found_of given.now))
+        (timetable_texts_of words)) }
     ensures given { HasTimetable (rows_of (found_of given.now)) → IsSome result }
 {
     Some(TimetableWords {
@@ -75,7 +78,8 @@ fn timetable_words<'w>(given: &ArgMatches<'w>) -> Option<TimetableWords<'w>>
 }
 
 fn merge_words<'w>(given: &ArgMatches<'w>) -> Option<MergeWords<'w>>
-    ensures value { IfSome result (λ words. IsMergeOf (rows_of (found_of given.now)) (merge_texts_of words)) }
+    ensures value { IfSome result (λ words. IsMergeOf (rows_of (found_of given.now))
+        (merge_texts_of words)) }
     ensures given { HasMerge (rows_of (found_of given.now)) → IsSome result }
 {
     Some(MergeWords {
@@ -87,7 +91,8 @@ fn merge_words<'w>(given: &ArgMatches<'w>) -> Option<MergeWords<'w>>
 
 // The text that was given for an id.
 fn given_text<'w>(given: &ArgMatches<'w>, id: &str) -> Option<&'w str>
-    ensures { option_map (λ text. text.now) result ≡ first_of id.now (rows_of (found_of given.now)) }
+    ensures { option_map (λ text. text.now) result
+        ≡ first_of id.now (rows_of (found_of given.now)) }
 {
     given.get_str(id)
 }

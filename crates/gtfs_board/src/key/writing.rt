@@ -54,7 +54,8 @@ pub(crate) fn write_key(text: &mut String, key: &Key<'_>)
 // Appends the slash before a day, and the day as YYYYMMDD.
 fn push_day(text: &mut String, day: Day)
     requires { string_len text.old + 9 ≤ string_capacity text.old }
-    ensures appended { string_bytes text.new ≡ string_bytes text.old ++ (codes "/" ++ date_text day) }
+    ensures appended { string_bytes text.new ≡ string_bytes text.old
+        ++ (codes "/" ++ date_text day) }
     ensures len { string_len text.new ≡ string_len text.old + 9 }
     ensures capacity { string_capacity text.old ≤ string_capacity text.new }
 {

@@ -46,11 +46,13 @@ pub(super) fn gather<S: Source>(
     requires aside { IsAside floor.now day (S.count source.now) }
     requires from { S.first source.now ≤ℤ day }
     requires to { day ≤ℤ (S.last source.now +ℤ pos 1) }
-    ensures gathered { IfOk result (λ r. AreGathered (S.events source.now) floor.now (S.end source.now)
+    ensures gathered { IfOk result (λ r. AreGathered (S.events source.now) floor.now
+        (S.end source.now)
         (heap_items queue.now) r.fresh.items r.day r.least) }
     ensures stopped { IfOk result (λ r. IsStopped (S.last source.now) r.day r.least) }
     ensures range { IfOk result (λ r. (day ≤ℤ r.day) × (r.day ≤ℤ (S.last source.now +ℤ pos 1))) }
-    ensures steps { IfOk result (λ r. AreStepsFew (S.count source.now) (S.last source.now) (S.days source.now)
+    ensures steps { IfOk result (λ r. AreStepsFew (S.count source.now) (S.last source.now)
+        (S.days source.now)
         steps.old day (least_from (S.end source.now) (with_head (heap_items queue.now) head))
         steps.new r.day r.least) }
 {

@@ -23,7 +23,8 @@ pub trait Listing<'a> {
 
     // Takes the next departure: none exactly where none is left.
     fn next(&mut self) -> Result<Option<Departure<'a>>, OutOfMemory>
-        ensures first { IfOk result (λ o. MatchOption o ((rest self.old ≡ []) × (rest self.new ≡ []))
+        ensures first { IfOk result (λ o. MatchOption o
+            ((rest self.old ≡ []) × (rest self.new ≡ []))
             (λ d. rest self.old ≡ listed d ∷ rest self.new)) }
         ensures instant { IfOk result (λ o. IfSome o (λ d. IsInstant d.key.instant)) }
         ensures refused { OnErr result (rest self.new ≡ rest self.old) }

@@ -54,7 +54,8 @@ fn sheets_of_route<'a>(
     requires { route.0 < length feed.now.routes }
     ensures known { IfErr result (λ e. e ≢ TableFault.UnknownRoute) }
     ensures sheets { IfOk result (λ found. map plain_sheet found.items
-        ≡ sheets (content_of feed.now) (text_of_number (route_ids feed.now) route.0) direction day) }
+        ≡ sheets (content_of feed.now)
+        (text_of_number (route_ids feed.now) route.0) direction day) }
 {
     feed.soundness();
     let id = feed.route_by_number(route).route_id.as_str();

@@ -45,7 +45,8 @@ fn push_title(alloc: Global, text: &mut String, sheet: &Sheet<'_>) -> Result<(),
 
 // Appends a direction, or `-`.
 fn push_direction(text: &mut String, direction: Option<u8>) -> Result<(), OutOfMemory>
-    ensures { OnOk result (string_bytes text.new ≡ string_bytes text.old ++ direction_shown direction) }
+    ensures { OnOk result (string_bytes text.new ≡ string_bytes text.old
+        ++ direction_shown direction) }
 {
     match direction {
         Some(number) => text.push_str(Buffer::new().format(number)),

@@ -41,7 +41,8 @@ fn room_for(problem: &Problem<'_>) -> usize
 
 // Appends the line of a problem, for which there is room.
 fn write_problem(text: &mut String, problem: &Problem<'_>)
-    requires { string_len text.old + (26 + names_len (problem_of problem.now)) ≤ string_capacity text.old }
+    requires { string_len text.old + (26 + names_len (problem_of problem.now))
+        ≤ string_capacity text.old }
     ensures { string_bytes text.new ≡ string_bytes text.old ++ problem_line
         (problem_of problem.now) }
 {

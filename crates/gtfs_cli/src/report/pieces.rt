@@ -4,7 +4,8 @@ ghost use Rattle.std.specs.String.{string_capacity};
 
 // Appends what stands before a piece, and the piece.
 pub(super) fn push_piece(text: &mut String, before: &str, piece: &str)
-    requires { string_len text.old + (length before.now + length piece.now) ≤ string_capacity text.old }
+    requires { string_len text.old + (length before.now + length piece.now)
+        ≤ string_capacity text.old }
     ensures appended { string_bytes text.new ≡ string_bytes text.old ++ (before.now ++ piece.now) }
     ensures len { string_len text.new ≡ string_len text.old +
         (length before.now + length piece.now) }

@@ -36,7 +36,8 @@ impl<'a> Found<'a> {
         requires { length place.now ≡ length feed.now.stops }
         ensures { IfOk result (λ found. (s : ℕ)
             → place.now ≡ members (content_of feed.now) (text_of_number (stop_ids feed.now) s)
-            → AreFound feed.now s (length feed.now.trips) (map stopping_of found.listed.items) (map period_value found.periods.items)) }
+            → AreFound feed.now s (length feed.now.trips) (map stopping_of found.listed.items)
+            (map period_value found.periods.items)) }
     {
         let mut listed = Vec::new(alloc);
         let mut periods = Vec::new(alloc);
@@ -67,8 +68,10 @@ fn add_trip<'a>(
     requires stops { length place.now ≡ length feed.now.stops }
     ensures { OnOk result ((s : ℕ)
         → place.now ≡ members (content_of feed.now) (text_of_number (stop_ids feed.now) s)
-        → AreFound feed.now s trip.0 (map stopping_of listed.old.items) (map period_value periods.old.items)
-        → AreFound feed.now s (trip.0 + 1) (map stopping_of listed.new.items) (map period_value periods.new.items)) }
+        → AreFound feed.now s trip.0 (map stopping_of listed.old.items)
+        (map period_value periods.old.items)
+        → AreFound feed.now s (trip.0 + 1) (map stopping_of listed.new.items)
+        (map period_value periods.new.items)) }
 {
     feed.soundness();
     let service = feed.trip_by_number(trip).service_id;
@@ -115,7 +118,8 @@ fn add_periods(
 ) -> Result<(), OutOfMemory>
     requires runs { All HasRuns frequencies.now }
     requires after { All (λ x. x.after ≤ 3_599_999) passings.now }
-    ensures told { OnOk result ((k : ℕ) (e : EventValue) → times_told k e (map period_value periods.new.items)
+    ensures told { OnOk result ((k : ℕ) (e : EventValue)
+        → times_told k e (map period_value periods.new.items)
         ≡ times_told k e (map period_value periods.old.items)
         + cond (service.0 == k) (times_passed_in trip.0 e passings.now frequencies.now) 0) }
     ensures counted { OnOk result (length periods.new.items
@@ -140,7 +144,8 @@ fn add_period(
 ) -> Result<(), OutOfMemory>
     requires runs { HasRuns frequency.now }
     requires after { All (λ x. x.after ≤ 3_599_999) passings.now }
-    ensures told { OnOk result ((k : ℕ) (e : EventValue) → times_told k e (map period_value periods.new.items)
+    ensures told { OnOk result ((k : ℕ) (e : EventValue)
+        → times_told k e (map period_value periods.new.items)
         ≡ times_told k e (map period_value periods.old.items)
         + cond (service.0 == k) (times_passed trip.0 e passings.now frequency.now) 0) }
     ensures counted { OnOk result (length periods.new.items

@@ -8,7 +8,8 @@ use crate::step_lane::StepLane;
 
 // The latest time of all events, 0 where there is none.
 pub(crate) fn latest(lists: &[ListLane], periods: &[StepLane]) -> u32
-    ensures { result ≡ latest_of (flat_map (λ lane. lane.events) (map list_value lists.now ++ map period_value periods.now)) }
+    ensures { result ≡ latest_of (flat_map (λ lane. lane.events)
+        (map list_value lists.now ++ map period_value periods.now)) }
 {
     latest_of_lists(lists).max(latest_of_periods(periods))
 }

@@ -21,7 +21,8 @@ pub(crate) struct Listed<'a> {
 
 // The events by course and in each course in their order.
 pub(crate) fn sorted(mut listed: Vec<Listed<'_>>) -> Vec<Listed<'_>>
-    ensures same { IsPermutation (map stopping_of listed.entry.items) (map stopping_of result.items) }
+    ensures same { IsPermutation (map stopping_of listed.entry.items)
+        (map stopping_of result.items) }
     ensures in_order { IsSorted stopping_cmp (map stopping_of result.items) }
 {
     listed.sort_unstable_by(|a, b| order(a, b));

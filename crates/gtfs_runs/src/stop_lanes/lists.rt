@@ -39,12 +39,17 @@ fn add_list(
     requires sorted { Ascends stopping_cmp (map stopping_of listed.now) }
     ensures some { IfOk result (λ n. 0 < n) }
     ensures upto { IfOk result (λ n. n ≤ length listed.now) }
-    ensures told { IfOk result (λ n. (k : ℕ) → events_of_service k (map list_value lists.new.items) ++ stopping_events k (map stopping_of (drop n listed.now))
-        ≡ events_of_service k (map list_value lists.old.items) ++ stopping_events k (map stopping_of listed.now)) }
-    ensures counted { IfOk result (λ n. length lists.new.items + how_many is_same_course (map (λ x. x.course) (map stopping_of (drop n listed.now)))
-        ≡ length lists.old.items + how_many is_same_course (map (λ x. x.course) (map stopping_of listed.now))) }
+    ensures told { IfOk result (λ n. (k : ℕ) → events_of_service k (map list_value lists.new.items)
+        ++ stopping_events k (map stopping_of (drop n listed.now))
+        ≡ events_of_service k (map list_value lists.old.items)
+        ++ stopping_events k (map stopping_of listed.now)) }
+    ensures counted { IfOk result (λ n. length lists.new.items + how_many is_same_course
+        (map (λ x. x.course) (map stopping_of (drop n listed.now)))
+        ≡ length lists.old.items + how_many is_same_course
+        (map (λ x. x.course) (map stopping_of listed.now))) }
     ensures within { IfOk result (λ n. (m : ℕ) → All (λ x. x.service.0 < m) listed.now
-        → All (λ lane. lane.service < m) (map list_value lists.old.items) → All (λ lane. lane.service < m) (map list_value lists.new.items)) }
+        → All (λ lane. lane.service < m) (map list_value lists.old.items)
+        → All (λ lane. lane.service < m) (map list_value lists.new.items)) }
 {
     let len = course_len(listed);
     let list = list_lane(alloc, listed[0].service, &listed[..len])?;
@@ -58,9 +63,11 @@ fn course_len(listed: &[Listed<'_>]) -> usize
     ensures some { 0 < result }
     ensures within { result ≤ length listed.now }
     ensures same { (k : ℕ) (d : ListedValue) → k < result
-        → (stopping_of (slice_index_or listed.now k d)).course ≡ (stopping_of (slice_index_or listed.now 0 d)).course }
+        → (stopping_of (slice_index_or listed.now k d)).course
+        ≡ (stopping_of (slice_index_or listed.now 0 d)).course }
     ensures ends { (d : ListedValue) → result < length listed.now
-        → is_same_course (stopping_of (slice_index_or listed.now 0 d)).course (stopping_of (slice_index_or listed.now result d)).course ≡ false }
+        → is_same_course (stopping_of (slice_index_or listed.now 0 d)).course
+        (stopping_of (slice_index_or listed.now result d)).course ≡ false }
 {
     let mut len = 1;
     while len < listed.len() && course_order(&listed[0], &listed[len]).is_eq() {

@@ -68,7 +68,8 @@ pub(crate) fn passings(
 ) -> Result<Vec<Passing>, OutOfMemory>
     requires trip { trip.0 < length feed.now.trips }
     requires stops { length place.now ≡ length feed.now.stops }
-    ensures passings { IfOk result (λ found. (s : ℕ) (t : Trip) (rows : List StopTime) (fs : List Frequency)
+    ensures passings { IfOk result (λ found. (s : ℕ) (t : Trip) (rows : List StopTime)
+        (fs : List Frequency)
         → place.now ≡ members (content_of feed.now) (text_of_number (stop_ids feed.now) s)
         → slice_get (stop_rows_by_trip feed.now) trip.0 ≡ Some rows
         → found.items ≡ passings_of feed.now s t rows fs) }

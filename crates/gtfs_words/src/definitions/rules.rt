@@ -16,7 +16,8 @@ pub(super) fn with_word<'w>(
     id: &'w str,
     help: &'w str,
 ) -> Result<Command<'w>, AllocError>
-    ensures { IfOk result (λ c. app_of c ≡ with_rule (app_of command.entry) (word_rule id.entry.now)) }
+    ensures { IfOk result (λ c. app_of c ≡ with_rule (app_of command.entry)
+        (word_rule id.entry.now)) }
 {
     command.arg(needed_word(alloc, id, help))
 }
@@ -29,7 +30,8 @@ pub(super) fn with_option<'w>(
     value: &'w str,
     help: &'w str,
 ) -> Result<Command<'w>, AllocError>
-    ensures { IfOk result (λ c. app_of c ≡ with_rule (app_of command.entry) (option_rule id.entry.now)) }
+    ensures { IfOk result (λ c. app_of c ≡ with_rule (app_of command.entry)
+        (option_rule id.entry.now)) }
 {
     command.arg(needed_option(alloc, id, value, help))
 }
@@ -42,7 +44,8 @@ pub(super) fn with_choice<'w>(
     value: &'w str,
     help: &'w str,
 ) -> Result<Command<'w>, AllocError>
-    ensures { IfOk result (λ c. app_of c ≡ with_rule (app_of command.entry) (choice_rule id.entry.now)) }
+    ensures { IfOk result (λ c. app_of c ≡ with_rule (app_of command.entry)
+        (choice_rule id.entry.now)) }
 {
     command.arg(free_option(alloc, id, value, help))
 }
