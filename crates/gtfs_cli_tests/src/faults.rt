@@ -1,10 +1,11 @@
 //! Files of just the limit, outputs that take nothing, and several devices of which each fails.
 
 use crate::fixtures::{
-    CHECK, FIRST_LINE, ROOM, asked, asked_with, assert_ends, fixed, folders, folders_failing_at,
-    folders_within,
+    CHECK, FIRST_LINE, MERGE, ROOM, asked, asked_with, assert_ends, fixed, folders,
+    folders_failing_at, folders_within, put_feed, put_island, timetable_asked,
 };
 use gtfs_cli::run;
+use gtfs_field::OutOfMemory;
 use gtfs_table::{MemoryFolders, MemoryOut, Out, WriteOut};
 use std::alloc::Global;
 use std::io;
@@ -30,9 +31,11 @@ fn a_file_may_be_as_long_as_the_limit(rt: HostRuntime) -> Result<(), Fail> {
 #[test]
 fn a_zone_file_may_be_as_long_as_the_limit(rt: HostRuntime) -> Result<(), Fail> {
     let mut folders = folders_within(rt.alloc(), 123)?;
-    folders.put(".", "z3", &[0; 124])?;
     let over = (3, "", "gtfs: z3 holds a file over the limit\n");
     let words = asked("f1", "z3", "S1");
+    put_island(rt.alloc(), &mut folders, "z3")?;
+    assert_ends(&rt, rt.alloc(), &mut folders, &words, over)?;
+    folders.put(".", "z3", &[0; 124])?;
     assert_ends(&rt, rt.alloc(), &mut folders, &words, over)?;
     folders.put(".", "z3", &[0; 123])?;
     let none = (3, "", "gtfs: z3 is no zone file\n");
@@ -72,8 +75,12 @@ fn assert_shut(
 #[test]
 fn an_output_that_takes_nothing_has_failed(rt: HostRuntime) -> Result<(), Fail> {
     let mut folders = folders(rt.alloc())?;
+    put_feed(&mut folders, "f2")?;
+    let sheets = timetable_asked("f1", "R1");
     assert_shut(&rt, rt.alloc(), &mut folders, &asked("f1", "z1", "S1"))?;
+    assert_shut(&rt, rt.alloc(), &mut folders, &sheets)?;
     assert_shut(&rt, rt.alloc(), &mut folders, &CHECK)?;
+    assert_shut(&rt, rt.alloc(), &mut folders, &MERGE)?;
     assert_shut(&rt, rt.alloc(), &mut folders, &["gtfs", "--help"])
 }
 
@@ -136,6 +143,59 @@ fn no_status_changes_with_the_error_output(rt: HostRuntime) -> Result<(), Fail> 
     assert_same_status(&rt, rt.alloc(), folders(rt.alloc())?, &words, ended)?;
     let ended = (3, "gtfs: output failed\n");
     assert_same_status(&rt, rt.alloc(), folders(rt.alloc())?, &CHECK, ended)
+}
+
+// The feed of f1 in f2 with one file changed, and a zone file that is none.
+fn spoiled(alloc: Global, name: &str, text: &str) -> Result<MemoryFolders, OutOfMemory> {
+    let mut folders = folders(alloc)?;
+    put_feed(&mut folders, "f2")?;
+    folders.put("f2", name, text.as_bytes())?;
+    folders.put(".", "no-zone", b"zone")?;
+    Ok(folders)
+}
+
+#[test]
+fn no_status_of_a_refused_feed_changes_with_the_error_output(rt: HostRuntime) -> Result<(), Fail> {
+    let ended = (1, "gtfs: zones differ\n");
+    let elsewhere = spoiled(rt.alloc(), "agency.txt", ELSEWHERE)?;
+    assert_same_status(&rt, rt.alloc(), elsewhere, &MERGE, ended)?;
+    let cases = [
+        (asked("f2", "z1", "S1"), (1, "gtfs: f2 has errors\n")),
+        (
+            asked("f1", "no-zone", "S1"),
+            (3, "gtfs: no-zone is no zone file\n"),
+        ),
+    ];
+    for (words, ended) in cases {
+        let stopless = spoiled(rt.alloc(), "stops.txt", "")?;
+        assert_same_status(&rt, rt.alloc(), stopless, &words, ended)?;
+    }
+    let words = backwards();
+    let ended = (2, "gtfs: until lies before from\n");
+    assert_same_status(&rt, rt.alloc(), folders(rt.alloc())?, &words, ended)?;
+    let words = ["gtfs", "merge", "f1", "f9", "out"];
+    let ended = (3, "gtfs: f9 is not there\n");
+    assert_same_status(&rt, rt.alloc(), folders(rt.alloc())?, &words, ended)?;
+    let ended = (3, "gtfs: f1 holds a file over the limit\n");
+    assert_same_status(
+        &rt,
+        rt.alloc(),
+        folders_within(rt.alloc(), 122)?,
+        &CHECK,
+        ended,
+    )
+}
+
+// The agency of the feed in another zone.
+const ELSEWHERE: &str =
+    "agency_name,agency_url,agency_timezone\nMetro,http://m.example,Europe/Berlin\n";
+
+// A span that ends a day before it begins.
+fn backwards() -> [&'static str; 11] {
+    [
+        "gtfs", "board", "f1", "--zone", "z1", "--stop", "S1", "--from", "20240402", "--until",
+        "20240401",
+    ]
 }
 
 // The first device that fails is told, whatever the others do.

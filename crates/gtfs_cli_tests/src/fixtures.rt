@@ -20,6 +20,15 @@ pub(super) const LIMIT: u64 = 1_000;
 
 pub(super) const CHECK: [&str; 3] = ["gtfs", "check", "f1"];
 
+pub(super) const MERGE: [&str; 5] = ["gtfs", "merge", "f1", "f2", "out"];
+
+// The report of the merge of the feed with itself.
+pub(super) const JOINED: &str = "joined agency 1\n\
+joined stop 3\n\
+joined route 1\n\
+joined service 1\n\
+joined trip 1\n";
+
 pub(super) const FIRST_LINE: &str =
     "@1711958400/T1/28800/1/20240401\t2024-04-01 08:00:00+00:00\tS1\t10\t\ts\n";
 
@@ -150,17 +159,40 @@ pub(super) fn put_utc(
     name: &str,
 ) -> Result<(), OutOfMemory> {
     let mut file = Vec::new(alloc);
-    for footer in ["", "\nUTC0\n"] {
-        file.extend_from_slice(b"TZif2")?;
-        file.extend_from_slice(&[0; 15])?;
-        // how many UT indicators, standard indicators, leap seconds, transitions, types and bytes of designations follow
-        for count in [0, 0, 0, 0, 1, 4] {
-            file.extend_from_slice(&[0, 0, 0, count])?;
-        }
-        file.extend_from_slice(b"\0\0\0\0\0\0UTC\0")?;
-        file.extend_from_slice(footer.as_bytes())?;
-    }
+    push_block(&mut file, [0, 0, 0, 0, 1, 4], UTC)?;
+    push_block(&mut file, [0, 0, 0, 0, 1, 4], UTC)?;
+    file.extend_from_slice(b"\nUTC0\n")?;
     folders.put(folder, name, &file)
+}
+
+// Puts the zone file of an island, 137 bytes long, where clocks once went from 10 hours behind UTC to 14 before it.
+pub(super) fn put_island(
+    alloc: Global,
+    folders: &mut MemoryFolders,
+    name: &str,
+) -> Result<(), OutOfMemory> {
+    let mut file = Vec::new(alloc);
+    push_block(&mut file, [0, 0, 0, 0, 1, 4], UTC)?;
+    push_block(&mut file, [0, 0, 0, 1, 2, 8], ISLAND)?;
+    file.extend_from_slice(b"\n<+14>-14\n")?;
+    folders.put(".", name, &file)
+}
+
+// One type of local time, and its designation.
+const UTC: &[u8] = b"\0\0\0\0\0\0UTC\0";
+
+// The instant of one change and its type; two types, each by its offset; and their designations.
+const ISLAND: &[u8] = b"\0\0\0\0N\xFD\x8B\xA0\x01\xFF\xFFs`\0\0\0\0\xC4\xE0\0\x04-10\0+14\0";
+
+// Appends a header and the data after it. The header counts UT indicators, standard indicators, leap seconds, changes,
+// types and bytes of designations (RFC 9636, section 3.1).
+fn push_block(file: &mut Vec<u8>, counts: [u8; 6], data: &[u8]) -> Result<(), OutOfMemory> {
+    file.extend_from_slice(b"TZif2")?;
+    file.extend_from_slice(&[0; 15])?;
+    for count in counts {
+        file.extend_from_slice(&[0, 0, 0, count])?;
+    }
+    file.extend_from_slice(data)
 }
 
 // The words end with this status, this output and this error output.

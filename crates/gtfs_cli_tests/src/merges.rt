@@ -1,20 +1,13 @@
 //! Merges over devices of which a call fails, and outputs that take less than the report.
 
-use crate::fixtures::{ROOM, assert_ends, fixed, folders, folders_failing_at, put_feed};
+use crate::fixtures::{
+    JOINED, MERGE, ROOM, assert_ends, fixed, folders, folders_failing_at, put_feed,
+};
 use gtfs_cli::run;
 use gtfs_table::{File, FolderFault, Folders, MemoryFolders, MemoryOut};
 use std::alloc::Global;
 use std::process::Abort;
 use std::test::Fail;
-
-const MERGE: [&str; 5] = ["gtfs", "merge", "f1", "f2", "out"];
-
-// The report of the merge of a feed with itself.
-const REPORT: &str = "joined agency 1\n\
-joined stop 3\n\
-joined route 1\n\
-joined service 1\n\
-joined trip 1\n";
 
 // The files of the merged feed, in the order in which they are written.
 const WRITTEN: [&str; 9] = [
@@ -87,13 +80,13 @@ fn a_device_that_fails_stops_a_merge(rt: HostRuntime) -> Result<(), Fail> {
     }
     let mut folders = folders_failing_at(rt.alloc(), 30)?;
     put_feed(&mut folders, "f2")?;
-    assert_ends(&rt, rt.alloc(), &mut folders, &MERGE, (0, REPORT, ""))
+    assert_ends(&rt, rt.alloc(), &mut folders, &MERGE, (0, JOINED, ""))
 }
 
 // All files are written before the report is printed.
 #[test]
 fn a_report_of_a_merge_may_be_cut_at_each_byte(rt: HostRuntime) -> Result<(), Fail> {
-    for room in 0..REPORT.len() {
+    for room in 0..JOINED.len() {
         let mut folders = folders(rt.alloc())?;
         put_feed(&mut folders, "f2")?;
         let mut out = MemoryOut::new(rt.alloc(), room)?;
@@ -106,7 +99,7 @@ fn a_report_of_a_merge_may_be_cut_at_each_byte(rt: HostRuntime) -> Result<(), Fa
             &mut out,
             &mut err,
         );
-        let taken = REPORT.as_bytes().get(..room).ok_or("past the end")?;
+        let taken = JOINED.as_bytes().get(..room).ok_or("past the end")?;
         assert_eq!(&rt; out.bytes(), taken);
         assert_eq!(&rt; str::from_utf8(err.bytes())?, "gtfs: output failed\n");
         assert_eq!(&rt; status, 3);

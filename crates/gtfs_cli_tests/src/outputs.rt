@@ -1,7 +1,8 @@
 //! Outputs that take less than the whole, or the whole by single bytes.
 
 use crate::fixtures::{
-    CHECK, FIRST_LINE, ROOM, SHEET, asked, asked_with, fixed, folders, timetable_asked,
+    CHECK, FIRST_LINE, JOINED, MERGE, ROOM, SHEET, asked, asked_with, fixed, folders, put_feed,
+    timetable_asked,
 };
 use gtfs_cli::run;
 use gtfs_table::{MemoryFolders, MemoryOut, WriteOut};
@@ -144,12 +145,15 @@ fn trickling<'t>(text: &'t mut Vec<u8>) -> WriteOut<Trickle<'t>> {
 #[test]
 fn outputs_may_take_a_byte_a_call(rt: HostRuntime) -> Result<(), Fail> {
     let mut folders = folders(rt.alloc())?;
+    put_feed(&mut folders, "f2")?;
     let board = asked("f1", "z1", "S1");
     let sheets = timetable_asked("f1", "R1");
     let refused = asked("f1", "z1", "S9");
     let cases = [
+        (CHECK.as_slice(), (0, "errors 0 warnings 0\n", "")),
         (board.as_slice(), (0, FIRST_LINE, "")),
         (sheets.as_slice(), (0, SHEET, "")),
+        (MERGE.as_slice(), (0, JOINED, "")),
         (refused.as_slice(), (1, "", "gtfs: unknown stop\n")),
     ];
     for (words, (status, printed, told)) in cases {
