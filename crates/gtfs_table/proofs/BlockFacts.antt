@@ -1,7 +1,8 @@
 -- Offsets in blocks, by their number.
-use Rattle.std.proofs.Common.{◌≡◌, ◌≢◌, ◌<◌, ◌≤◌, ◌+◌, ◌*◌, ◌/◌, ◌%◌, ◌∷◌, ◌++◌, ◌∙◌, [], ℕ, zero, suc, List, length, take, get_or, refl, sym, ap, arith, length-append}
+use Rattle.std.proofs.Common.{◌≡◌, ◌≢◌, ◌<◌, ◌≤◌, ◌+◌, ◌-◌, ◌*◌, ◌/◌, ◌%◌, ◌∷◌, ◌++◌, ◌∙◌, [], ℕ, zero, suc, List, length, take, get_or, refl, sym, ap, arith, length-append}
 use Rattle.std.proofs.lemmas.List.{get_or_append_left, get_or-take, get_or_push, get_or_read, length_push}
 use Rattle.gtfs_table.specs.Blocks.{offsets_from}
+use Rattle.gtfs_table.specs.Parts.{starts_of}
 
 length-offsets_from : (n : ℕ) (bases ds : List ℕ) → length (offsets_from n bases ds) ≡ length ds
 unfolding offsets_from
@@ -61,14 +62,15 @@ offset-pushed bases ds xs new count base d offset e enough c inner b o s =
     let more = offsets-push 0 bases ds d in
     rw s (more ∙ rw (number, value, e) refl)
 
--- the first of a block
-pub record IsBlockBegun (bases ds xs : List ℕ) : Type 0 where
+-- offsets that are seen as this list, with as many bases as blocks begun
+pub record AreInBlocks (bases ds xs : List ℕ) : Type 0 where
   pub enough : length ds ≤ 64 * length bases
   pub begun : 64 * length bases < length ds + 64
   pub value : offsets_from 0 bases ds ≡ xs
 
+-- the first of a block
 pub block-begun : (bases ds xs new_bases new_ds : List ℕ) (base : ℕ) → offsets_from 0 bases ds ≡ xs → length ds ≤ 64 * length bases → 64 * length bases < length ds + 64
-    → length xs % 64 ≡ 0 → new_bases ≡ bases ++ base ∷ [] → new_ds ≡ ds ++ 0 ∷ [] → IsBlockBegun new_bases new_ds (xs ++ base ∷ [])
+    → length xs % 64 ≡ 0 → new_bases ≡ bases ++ base ∷ [] → new_ds ≡ ds ++ 0 ∷ [] → AreInBlocks new_bases new_ds (xs ++ base ∷ [])
 block-begun bases ds xs new_bases new_ds base e enough begun full b s =
     let all : length ds ≡ 64 * length bases = omega (arith, count-offsets bases ds xs e) in
     let number : (0 + length ds) / 64 ≡ length bases = omega arith in
@@ -87,3 +89,40 @@ pub offsets-first : (bases ds xs new_bases new_ds : List ℕ) (k count : ℕ) �
 offsets-first bases ds xs new_bases new_ds k count e enough b s =
     let few = rw s at enough in
     rw (b, s, ← e) (offsets-same 0 (take k bases) bases (take count ds) (λ i lt. get_or-take k bases i 0 (omega arith)) ∙ sym (take-offsets 0 count bases ds))
+
+-- more at once
+offsets-append : (n : ℕ) (bases ds es : List ℕ) → offsets_from n bases (ds ++ es) ≡ offsets_from n bases ds ++ offsets_from (n + length ds) bases es
+unfolding offsets_from
+offsets-append n bases [] es = let e : n + 0 ≡ n = omega arith in rw e refl
+offsets-append n bases (d ∷ ds) es =
+    let e : n + suc (length ds) ≡ n + 1 + length ds = omega arith in
+    rw (e, offsets-append (n + 1) bases ds es) refl
+
+-- the starts of lists within one block
+offsets-within : (n q : ℕ) (bases : List ℕ) (base start first : ℕ) (fields : List (List ℕ)) → get_or bases q 0 ≡ base → 64 * q ≤ n → n + length fields ≤ 64 * q + 64
+    → base + start ≡ first → offsets_from n bases (starts_of start fields) ≡ starts_of first fields
+unfolding offsets_from starts_of
+offsets-within n q bases base start first [] b low high f = refl
+offsets-within n q bases base start first (x ∷ fields) b low high f =
+    let here : n / 64 ≡ q = omega arith in
+    let next : base + (start + length x) ≡ first + length x = omega arith in
+    rw (here, b, f, offsets-within (n + 1) q bases base (start + length x) (first + length x) fields b (omega arith) (omega arith) next) refl
+
+length-starts : (start : ℕ) (fields : List (List ℕ)) → length (starts_of start fields) ≡ length fields
+unfolding starts_of
+length-starts start [] = refl
+length-starts start (x ∷ fields) = rw (length-starts (start + length x) fields) refl
+
+pub starts-pushed : (bases ds xs new : List ℕ) (count base start first : ℕ) (fields : List (List ℕ)) → AreInBlocks bases ds xs → count ≡ length ds → count % 64 ≢ 0
+    → length fields ≤ 64 - count % 64 → base ≡ get_or bases (count / 64) base → base + start ≡ first → new ≡ ds ++ starts_of start fields
+    → AreInBlocks bases new (xs ++ starts_of first fields)
+starts-pushed bases ds xs new count base start first fields h c inner room b f s =
+    let size : length (ds ++ starts_of start fields) ≡ count + length fields = omega (arith, length-append ds (starts_of start fields), length-starts start fields) in
+    let is : get_or bases (count / 64) 0 ≡ base = sym (get_or_read bases (count / 64) base (omega (arith, h.enough)) b 0) in
+    let number : 0 + length ds ≡ count = omega arith in
+    let added = offsets-within count (count / 64) bases base start first fields is (omega arith) (omega arith) f in
+    rw s (record {
+      enough = omega (arith, size, h.enough, h.begun);
+      begun = omega (arith, size, h.enough, h.begun);
+      value = offsets-append 0 bases ds (starts_of start fields) ∙ rw (number, added, h.value) refl;
+    })

@@ -1,5 +1,9 @@
-ghost use Rattle.std.specs.Prelude.{◌≡◌, ◌<◌, ◌+◌, ◌*◌, ◌%◌, ◌^◌, ◌++◌, ◌∷◌, [], length, take, IfOk, IfSome, OnErr, slice_index, if◌then◌else◌};
+ghost use Rattle.std.specs.Prelude.{◌≡◌, ◌<◌, ◌≤◌, ◌+◌, ◌*◌, ◌%◌, ◌^◌, ◌++◌, ◌∷◌, [], length, take, is_some, IfOk, IfSome, OnErr, slice_index, vec_len, vec_capacity, if◌then◌else◌};
+ghost use Rattle.std.specs.List.{concat};
+ghost use Rattle.csv.specs.Records.{IsRecord, fields_of};
+ghost use Rattle.gtfs_table.specs.Parts.{starts_of};
 
+use csv::ByteRecord;
 use gtfs_field::OutOfMemory;
 use std::alloc::Global;
 use std::marker::Model;
@@ -67,7 +71,8 @@ impl Blocks {
     // leaves the list as it was.
     #[inline]
     pub(crate) fn push(&mut self, offset: usize) -> Result<bool, OutOfMemory>
-        ensures ok { IfOk result (λ added. self.new ≡ (if added then self.old ++ offset ∷ [] else self.old)) }
+        ensures ok { IfOk result (λ added. self.new
+            ≡ (if added then self.old ++ offset ∷ [] else self.old)) }
         ensures err { OnErr result (self.new ≡ self.old) }
     {
         let count = self.distances.len();
@@ -87,7 +92,8 @@ impl Blocks {
     #[inline(never)]
     fn begin_block(&mut self, offset: usize) -> Result<bool, OutOfMemory>
         requires { length self.old % 64 ≡ 0 }
-        ensures ok { IfOk result (λ added. self.new ≡ (if added then self.old ++ offset ∷ [] else self.old)) }
+        ensures ok { IfOk result (λ added. self.new
+            ≡ (if added then self.old ++ offset ∷ [] else self.old)) }
         ensures err { OnErr result (self.new ≡ self.old) }
     {
         match u32::try_from(offset) {
@@ -98,6 +104,35 @@ impl Blocks {
                 Ok(true)
             }
             Err(_) => Ok(false),
+        }
+    }
+
+    // Adds where the fields of a record begin, the first at `first`, and gives their size: where the last
+    // block has room for them all and two bytes are enough for each. A refusal leaves the list as it was.
+    #[inline]
+    pub(crate) fn append(
+        &mut self,
+        first: usize,
+        row: &ByteRecord,
+    ) -> Result<Option<usize>, OutOfMemory>
+        requires { IsRecord row.now }
+        ensures starts { IfOk result (λ size. self.new ≡ (if is_some size
+            then self.old ++ starts_of first (fields_of row.now) else self.old)) }
+        ensures size { IfOk result (λ size. IfSome size (λ size. size
+            ≡ length (concat (fields_of row.now)))) }
+        ensures err { OnErr result (self.new ≡ self.old) }
+    {
+        let count = self.distances.len();
+        let begun = count % BLOCK;
+        if begun == 0 || row.len() > BLOCK - begun {
+            return Ok(None);
+        }
+        match distance(self.bases[count / BLOCK], first) {
+            Some(start) if start as usize + row.as_slice().len() <= u16::MAX as usize => {
+                self.distances.reserve(row.len())?;
+                Ok(Some(push_starts(&mut self.distances, start as usize, row)))
+            }
+            _ => Ok(None),
         }
     }
 
@@ -116,4 +151,22 @@ fn distance(base: u32, offset: usize) -> Option<u16>
 {
     let past = offset.checked_sub(base as usize)?;
     u16::try_from(past).ok()
+}
+
+// Adds where the fields of a record begin, the first at `start`, and gives their size.
+fn push_starts(distances: &mut Vec<u16>, start: usize, row: &ByteRecord) -> usize
+    requires whole { IsRecord row.now }
+    requires room { vec_len distances.old + length (fields_of row.now)
+        ≤ vec_capacity distances.old }
+    requires short { start + length row.now.bytes < 2 ^ 16 }
+    ensures starts { distances.new.items
+        ≡ distances.old.items ++ starts_of start (fields_of row.now) }
+    ensures size { result ≡ length (concat (fields_of row.now)) }
+{
+    let mut size = 0;
+    for field in row {
+        distances.push_reserved((start + size) as u16);
+        size += field.len();
+    }
+    size
 }

@@ -1,6 +1,10 @@
 ghost use Rattle.std.specs.Prelude.{◌≡◌, ◌<◌, ◌+◌, ◌^◌, ◌++◌, ◌∷◌, [], length, take, IfOk, OnOk, OnErr, slice_index, slice_index_or};
+ghost use Rattle.std.specs.List.{concat};
+ghost use Rattle.csv.specs.Records.{IsRecord, fields_of};
+ghost use Rattle.gtfs_table.specs.Parts.{starts_of};
 
 use crate::blocks::Blocks;
+use csv::ByteRecord;
 use gtfs_field::OutOfMemory;
 use std::alloc::Global;
 use std::marker::Model;
@@ -134,6 +138,40 @@ impl Offsets {
             _ => self.wide.push(offset as u64)?,
         }
         Ok(())
+    }
+
+    // Adds where the fields of a record begin, the first at `first`, and gives their size. A refusal may leave
+    // more offsets than there were.
+    pub(crate) fn append(&mut self, first: usize, row: &ByteRecord) -> Result<usize, OutOfMemory>
+        requires whole { IsRecord row.now }
+        requires within { first + length row.now.bytes < 2 ^ 64 }
+        ensures starts { OnOk result (self.new ≡ self.old ++ starts_of first (fields_of row.now)) }
+        ensures size { IfOk result (λ size. size ≡ length (concat (fields_of row.now))) }
+        ensures front { OnErr result (take (length self.old) self.new ≡ self.old) }
+    {
+        if self.narrow.is_empty()
+            && self.wide.is_empty()
+            && let Some(size) = self.blocks.append(first, row)?
+        {
+            return Ok(size);
+        }
+        self.append_each(first, row)
+    }
+
+    // The same, one after the other.
+    fn append_each(&mut self, first: usize, row: &ByteRecord) -> Result<usize, OutOfMemory>
+        requires whole { IsRecord row.now }
+        requires within { first + length row.now.bytes < 2 ^ 64 }
+        ensures starts { OnOk result (self.new ≡ self.old ++ starts_of first (fields_of row.now)) }
+        ensures size { IfOk result (λ size. size ≡ length (concat (fields_of row.now))) }
+        ensures front { OnErr result (take (length self.old) self.new ≡ self.old) }
+    {
+        let mut size = 0;
+        for field in row {
+            self.push(first + size)?;
+            size += field.len();
+        }
+        Ok(size)
     }
 
     // Keeps the first offsets, as many as `count`.

@@ -1,8 +1,8 @@
-use Rattle.std.proofs.Common.{◌++◌, ◌∷◌, [], arith}
-use Rattle.gtfs_table.proofs.BlockFacts.{IsBlockBegun, block-begun}
+use Rattle.std.proofs.Common.{◌++◌, ◌∷◌, []}
+use Rattle.gtfs_table.proofs.BlockFacts.{AreInBlocks, block-begun}
 use Rattle.gtfs_table.proofs.blocks.Blocks.begin_block.Goals as goal
 
-begun : (c : goal.After-push_reserved) → IsBlockBegun c.push_reserved.new.self.items c.push.new.self.items (c.args.self.now ++ c.in-Ok.base ∷ [])
+begun : (c : goal.After-push_reserved) → AreInBlocks c.push_reserved.new.self.items c.push.new.self.items (c.args.self.now ++ c.in-Ok.base ∷ [])
 begun c =
     block-begun c.self.inside.bases.items c.self.inside.distances.items c.args.self.now c.push_reserved.new.self.items c.push.new.self.items c.in-Ok.base c.self.view_is
     c.self.invariant.enough c.self.invariant.begun c.requires (rw (c.reserve.ensures.items) at c.push_reserved.ensures.items) c.in_ok-push-in-Ok.ensures.items

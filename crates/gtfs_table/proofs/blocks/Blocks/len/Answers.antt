@@ -1,4 +1,4 @@
-use Rattle.std.proofs.Common.{arith, ◌≡◌, ◌<◌, length, Fits, w64, ◌*◌, ◌≤◌}
+use Rattle.std.proofs.Common.{arith}
 use Rattle.gtfs_table.proofs.BlockFacts.{count-offsets}
 use Rattle.gtfs_table.proofs.blocks.Blocks.len.Goals as goal
 

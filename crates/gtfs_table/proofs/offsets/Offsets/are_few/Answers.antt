@@ -1,4 +1,4 @@
-use Rattle.std.proofs.Common.{◌≡◌, ◌++◌, List, ℕ, length, ap, arith, length-append}
+use Rattle.std.proofs.Common.{List, ℕ, length, ap, arith, length-append}
 use Rattle.gtfs_table.proofs.offsets.Offsets.are_few.Goals as goal
 
 pub returns : goal.returns
