@@ -4,7 +4,8 @@
 //! - `values` are texts of each kind of field with the values that they have, and the values' texts.
 //! - `services` are the days on which services run, and `zones` what the clocks of zones show, of small
 //!   zone files and of those of five cities.
-//! - `tables` are files with the records and values that they have.
+//! - `tables` are files with the records and values that they have, and `offsets` such with many fields
+//!   and with long ones.
 //! - `memory_folders` and `disk_folders` are the two devices that hold folders, and `outputs` those that
 //!   take text.
 //! - `faults` are the lines and numbers of faults.
@@ -19,6 +20,8 @@ mod disk_folders;
 mod faults;
 #[cfg(test)]
 mod memory_folders;
+#[cfg(test)]
+mod offsets;
 #[cfg(test)]
 mod outputs;
 #[cfg(test)]

@@ -23,7 +23,7 @@ concat-more (x ∷ fs) f = rw (concat-more fs f) (sym (append_assoc x (concat fs
 abbrev pub OffsetsAdded : ℕ → List ℕ → List (List ℕ) → List ℕ → ℕ → Type 0
 OffsetsAdded first old fields starts size = (starts ≡ old ++ starts_of first fields) × (size ≡ length (concat fields))
 
-first-there : (fields : List (List ℕ)) (i : ℕ) (f : List ℕ) → Some f ≡ field_at fields i → i < length fields
+pub first-there : (fields : List (List ℕ)) (i : ℕ) (f : List ℕ) → Some f ≡ field_at fields i → i < length fields
 unfolding field_at
 first-there [] i f e = absurd (cc e)
 first-there (x ∷ fs) zero f e = omega arith

@@ -1,5 +1,6 @@
 pub mod AllRecords
 pub mod BlankFacts
+pub mod BlockFacts
 pub mod ByTextLemmas
 pub mod FieldFacts
 pub mod FolderFacts

@@ -1,4 +1,5 @@
 pub mod Blanks
+pub mod Blocks
 pub mod ByText
 pub mod Device
 pub mod Disk

@@ -37,6 +37,7 @@
 #![tactic(auto)]
 
 mod blanks;
+mod blocks;
 mod disk_folders;
 mod file;
 mod folders;

@@ -114,11 +114,6 @@ fn append_fields(
     ensures kept { OnErr result (bytes.new.items ≡ bytes.old.items) }
 {
     let row_bytes = row.as_slice();
-    let first = bytes.as_slice().len();
-    let mut size = 0;
-    for field in row {
-        starts.push(first + size)?;
-        size += field.len();
-    }
+    let size = starts.append(bytes.as_slice().len(), row)?;
     bytes.extend_from_slice(&row_bytes[..size])
 }

@@ -1,0 +1,172 @@
+ghost use Rattle.std.specs.Prelude.{◌≡◌, ◌<◌, ◌≤◌, ◌+◌, ◌*◌, ◌%◌, ◌^◌, ◌++◌, ◌∷◌, [], length, take, is_some, IfOk, IfSome, OnErr, slice_index, vec_len, vec_capacity, if◌then◌else◌};
+ghost use Rattle.std.specs.List.{concat};
+ghost use Rattle.csv.specs.Records.{IsRecord, fields_of};
+ghost use Rattle.gtfs_table.specs.Parts.{starts_of};
+
+use csv::ByteRecord;
+use gtfs_field::OutOfMemory;
+use std::alloc::Global;
+use std::marker::Model;
+
+// How many offsets have one base.
+const BLOCK: usize = 64;
+
+// Offsets of two bytes each, in blocks: each is kept as its distance from the base of its block, which is
+// the block's first offset.
+#[derive(Drop)]
+pub(crate) struct Blocks {
+    bases: Vec<u32>,
+    distances: Vec<u16>,
+}
+
+impl Model for Blocks {
+    ghost use Rattle.std.specs.Prelude.{List, ℕ};
+
+    ghost Value = { List ℕ };
+
+    ghost use Rattle.gtfs_table.specs.Blocks.{offsets_in, HasBases};
+
+    ghost view = { offsets_in };
+
+    ghost invariant = { HasBases };
+}
+
+impl Blocks {
+    pub(crate) fn new(alloc: Global) -> Blocks
+        ensures { result ≡ [] }
+    {
+        Blocks {
+            bases: Vec::new(alloc),
+            distances: Vec::new(alloc),
+        }
+    }
+
+    // No offset yet, and room for this many.
+    pub(crate) fn with_room(alloc: Global, count: usize) -> Result<Blocks, OutOfMemory>
+        ensures { IfOk result (λ blocks. blocks ≡ []) }
+    {
+        Ok(Blocks {
+            bases: Vec::with_capacity(alloc, count / BLOCK + 1)?,
+            distances: Vec::with_capacity(alloc, count)?,
+        })
+    }
+
+    pub(crate) fn len(&self) -> usize
+        ensures count { result ≡ length self.now }
+        ensures small { result < 2 ^ 62 }
+    {
+        self.distances.as_slice().len()
+    }
+
+    // The offset with this number, from 0.
+    #[inline(always)]
+    pub(crate) fn get(&self, i: usize) -> usize
+        requires { i < length self.now }
+        ensures { result ≡ slice_index self.now i }
+    {
+        self.bases[i / BLOCK] as usize + self.distances[i] as usize
+    }
+
+    // Adds an offset at the end where two bytes are enough for it, and tells whether it did. A refusal
+    // leaves the list as it was.
+    #[inline]
+    pub(crate) fn push(&mut self, offset: usize) -> Result<bool, OutOfMemory>
+        ensures ok { IfOk result (λ added. self.new
+            ≡ (if added then self.old ++ offset ∷ [] else self.old)) }
+        ensures err { OnErr result (self.new ≡ self.old) }
+    {
+        let count = self.distances.len();
+        if count % BLOCK == 0 {
+            return self.begin_block(offset);
+        }
+        match distance(self.bases[count / BLOCK], offset) {
+            Some(distance) => {
+                self.distances.push(distance)?;
+                Ok(true)
+            }
+            None => Ok(false),
+        }
+    }
+
+    // The same, where all blocks are full: the offset is the base of the next one.
+    #[inline(never)]
+    fn begin_block(&mut self, offset: usize) -> Result<bool, OutOfMemory>
+        requires { length self.old % 64 ≡ 0 }
+        ensures ok { IfOk result (λ added. self.new
+            ≡ (if added then self.old ++ offset ∷ [] else self.old)) }
+        ensures err { OnErr result (self.new ≡ self.old) }
+    {
+        match u32::try_from(offset) {
+            Ok(base) => {
+                self.bases.reserve(1)?;
+                self.distances.push(0)?;
+                self.bases.push_reserved(base);
+                Ok(true)
+            }
+            Err(_) => Ok(false),
+        }
+    }
+
+    // Adds where the fields of a record begin, the first at `first`, and gives their size: where the last
+    // block has room for them all and two bytes are enough for each. A refusal leaves the list as it was.
+    #[inline]
+    pub(crate) fn append(
+        &mut self,
+        first: usize,
+        row: &ByteRecord,
+    ) -> Result<Option<usize>, OutOfMemory>
+        requires { IsRecord row.now }
+        ensures starts { IfOk result (λ size. self.new ≡ (if is_some size
+            then self.old ++ starts_of first (fields_of row.now) else self.old)) }
+        ensures size { IfOk result (λ size. IfSome size (λ size. size
+            ≡ length (concat (fields_of row.now)))) }
+        ensures err { OnErr result (self.new ≡ self.old) }
+    {
+        let count = self.distances.len();
+        let begun = count % BLOCK;
+        if begun == 0 || row.len() > BLOCK - begun {
+            return Ok(None);
+        }
+        match distance(self.bases[count / BLOCK], first) {
+            Some(start) if start as usize + row.as_slice().len() <= u16::MAX as usize => {
+                self.distances.reserve(row.len())?;
+                Ok(Some(push_starts(&mut self.distances, start as usize, row)))
+            }
+            _ => Ok(None),
+        }
+    }
+
+    // Keeps the first offsets, as many as `count`.
+    pub(crate) fn truncate(&mut self, count: usize)
+        ensures { self.new ≡ take count self.old }
+    {
+        self.distances.truncate(count);
+        self.bases.truncate(self.distances.len().div_ceil(BLOCK));
+    }
+}
+
+// How far an offset lies past the base of its block, where two bytes can tell it.
+fn distance(base: u32, offset: usize) -> Option<u16>
+    ensures { IfSome result (λ distance. base + distance ≡ offset) }
+{
+    let past = offset.checked_sub(base as usize)?;
+    u16::try_from(past).ok()
+}
+
+// Adds where the fields of a record begin, the first at `start`, and gives their size.
+fn push_starts(distances: &mut Vec<u16>, start: usize, row: &ByteRecord) -> usize
+    requires whole { IsRecord row.now }
+    requires room { vec_len distances.old + length (fields_of row.now)
+        ≤ vec_capacity distances.old }
+    requires short { start + length row.now.bytes < 2 ^ 16 }
+    ensures starts { distances.new.items
+        ≡ distances.old.items ++ starts_of start (fields_of row.now) }
+    ensures size { result ≡ length (concat (fields_of row.now)) }
+{
+    let mut size = 0;
+    for field in row {
+        distances.push_reserved((start + size) as u16);
+        size += field.len();
+    }
+    size
+}
