@@ -2,6 +2,7 @@ pub mod Blanks
 pub mod ByText
 pub mod Device
 pub mod Disk
+pub mod Ending
 pub mod Files
 pub mod Folder
 pub mod Held
