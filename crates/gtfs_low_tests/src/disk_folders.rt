@@ -64,18 +64,33 @@ fn files_are_written_listed_and_read(rt: HostRuntime) -> Result<(), Fail> {
     Ok(())
 }
 
+// In byte order.
+const ODD_NAMES: &[&str] = &[
+    " stops.txt",
+    "...",
+    ".stops.txt",
+    "STOPS.TXT",
+    "stops .txt ",
+    "stops.txt",
+    "stops.txt~",
+    "stöps.txt",
+    "～",
+];
+
 #[test]
-fn a_name_that_begins_with_a_dot_is_listed(rt: HostRuntime) -> Result<(), Fail> {
-    let base = make_folder(&rt, "dots")?;
+fn odd_names_are_listed(rt: HostRuntime) -> Result<(), Fail> {
+    let base = make_folder(&rt, "names")?;
     let mut disk = DiskFolders::new(&rt);
-    disk.write(rt.alloc(), base.as_str(), "x", b"")?;
-    disk.write(rt.alloc(), base.as_str(), ".x", b"hidden")?;
-    let names = disk.names(rt.alloc(), base.as_str())?;
-    assert_eq!(rt; names.len(), 2);
-    for (name, wanted) in names.iter().zip([".x", "x"]) {
-        assert_eq!(rt; name.as_str(), wanted);
+    for name in ODD_NAMES.iter().rev() {
+        disk.write(rt.alloc(), base.as_str(), name, name.as_bytes())?;
     }
-    assert_file(&rt, disk.read(rt.alloc(), base.as_str(), ".x")?, b"hidden");
+    let names = disk.names(rt.alloc(), base.as_str())?;
+    assert_eq!(rt; names.len(), ODD_NAMES.len());
+    for (name, wanted) in names.iter().zip(ODD_NAMES) {
+        assert_eq!(rt; name.as_str(), *wanted);
+        let file = disk.read(rt.alloc(), base.as_str(), wanted)?;
+        assert_file(&rt, file, wanted.as_bytes());
+    }
     fs::remove_dir_all(&rt, base.as_str())?;
     Ok(())
 }
@@ -313,7 +328,7 @@ fn read_drip(
     (reading, reads.get())
 }
 
-// The file tells no length, none yet, that of its beginning, and more than it has.
+// The file tells no length, none yet, that of its beginning, more than it has, and much more.
 #[test]
 fn a_file_is_read_to_its_end_whatever_length_it_tells(rt: HostRuntime) -> Result<(), Fail> {
     let base = make_folder(&rt, "told")?;
@@ -321,9 +336,9 @@ fn a_file_is_read_to_its_end_whatever_length_it_tells(rt: HostRuntime) -> Result
     let (reading, _) = read_drip(rt, 5, b"stops", None, told.as_str());
     assert_file(&rt, reading?, b"stops");
     let file = fs::create(&rt, told.as_str())?;
-    for len in [0, 3, 100] {
+    for (len, limit) in [(0, 5), (3, 5), (100, 5), (200_000_000, 1_073_741_824)] {
         file.set_len(len)?;
-        let (reading, reads) = read_drip(rt, 5, b"stops", None, told.as_str());
+        let (reading, reads) = read_drip(rt, limit, b"stops", None, told.as_str());
         assert_file(&rt, reading?, b"stops");
         assert_eq!(rt; reads, 6);
     }

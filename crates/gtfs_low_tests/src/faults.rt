@@ -1,7 +1,7 @@
 //! The lines of faults, which the program prints, and their numbers.
 use gtfs_days::{CivilFault, ZoneFault};
 use gtfs_field::FieldFault;
-use gtfs_table::FolderFault;
+use gtfs_table::{Failed, FolderFault, OutFault};
 use std::test::Fail;
 
 // The program prints these lines after a path.
@@ -18,6 +18,17 @@ fn faults_of_folders(rt: HostRuntime) -> Result<(), Fail> {
         assert_eq!(rt; fault as u8, number);
         assert_eq!(rt; format!(in rt.alloc(); "{fault}")?.as_str(), line);
     }
+    Ok(())
+}
+
+#[test]
+fn faults_of_outputs(rt: HostRuntime) -> Result<(), Fail> {
+    let (failed, cut) = (Failed, OutFault { written: 12 });
+    let lines = format!(in rt.alloc(); "{failed}; {cut}")?;
+    assert_eq!(rt;
+        lines.as_str(),
+        "output failed; output failed after 12 bytes"
+    );
     Ok(())
 }
 

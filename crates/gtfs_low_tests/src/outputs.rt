@@ -4,20 +4,21 @@ use std::io;
 use std::io::{BufWriter, Error, ErrorKind, Write};
 use std::test::Fail;
 
-// Takes one byte a call, after an interruption, until its room ends; then it takes none.
+// Takes one byte a call, after two interruptions, until its room ends; then it takes none.
 #[derive(Drop)]
 struct Trickle {
     text: Vec<u8>,
     room: usize,
-    is_interrupted: bool,
+    interruptions: u32,
 }
 
 impl Write for Trickle {
     fn write(&mut self, buf: &[u8]) -> io::Result<usize> {
-        self.is_interrupted = !self.is_interrupted;
-        if self.is_interrupted {
+        if self.interruptions < 2 {
+            self.interruptions += 1;
             return Err(Error::from(ErrorKind::Interrupted));
         }
+        self.interruptions = 0;
         match buf {
             [first, ..] if self.text.len() < self.room => {
                 self.text.push(*first)?;
@@ -36,7 +37,7 @@ fn trickling(rt: HostRuntime, room: usize) -> WriteOut<Trickle> {
     WriteOut::new(Trickle {
         text: Vec::new(rt.alloc()),
         room,
-        is_interrupted: false,
+        interruptions: 0,
     })
 }
 
@@ -112,7 +113,7 @@ fn a_buffer_fails_where_its_writer_takes_no_more(rt: HostRuntime) -> Result<(), 
     let writer = Trickle {
         text: Vec::new(rt.alloc()),
         room: 4,
-        is_interrupted: false,
+        interruptions: 0,
     };
     let mut out = WriteOut::new(BufWriter::new(rt.alloc(), writer)?);
     assert_eq!(rt; write_text(&mut out, b"departure"), Ok(()));

@@ -275,6 +275,29 @@ fn each_device_call_fails_in_turn(rt: HostRuntime) -> Result<(), Fail> {
     Ok(())
 }
 
+// A kept file is over the limit, and a call fails: what comes first is told, and no call comes after it.
+#[test]
+fn the_first_of_two_faults_is_told(rt: HostRuntime) -> Result<(), Fail> {
+    let mut long = Vec::new(rt.alloc());
+    long.resize(1_001, b'a')?;
+    for (file, reading) in File::ALL.iter().zip(2..11_u64) {
+        for number in 1..12 {
+            let mut folders = folders_of(rt.alloc(), CITY, Some(number))?;
+            folders.put("f1", file.name(), &long)?;
+            let fails = number <= reading;
+            let fault = Tables::read(rt.alloc(), &mut folders, "f1").err();
+            let told = if fails {
+                FolderFault::Read
+            } else {
+                FolderFault::TooLarge
+            };
+            assert_eq!(rt; fault, Some(told));
+            assert_eq!(rt; folders.failures(), u64::from(fails));
+        }
+    }
+    Ok(())
+}
+
 #[test]
 fn a_whole_folder_is_read(rt: HostRuntime) -> Result<(), Fail> {
     let mut folders = folders_of(rt.alloc(), CITY, None)?;

@@ -2,6 +2,7 @@ pub mod AllRecords
 pub mod BlankFacts
 pub mod BlockFacts
 pub mod ByTextLemmas
+pub mod EndingFacts
 pub mod FieldFacts
 pub mod FolderFacts
 pub mod FolderLemmas

@@ -29,13 +29,13 @@ after_fault OutOfMemory disk = disk
 after_fault NoFolder disk = disk
 after_fault Write disk = record disk { failures = counted disk.failures }
 
--- why a folder is not listed
-abbrev pub RefusesList : FolderFault → Type 0
-RefusesList Read = ⊤
-RefusesList TooLarge = ⊥
-RefusesList OutOfMemory = ⊤
-RefusesList NoFolder = ⊤
-RefusesList Write = ⊥
+-- why a folder is not listed, or a file is not opened
+abbrev pub RefusesOpen : FolderFault → Type 0
+RefusesOpen Read = ⊤
+RefusesOpen TooLarge = ⊥
+RefusesOpen OutOfMemory = ⊤
+RefusesOpen NoFolder = ⊤
+RefusesOpen Write = ⊥
 
 -- a reader gave at most so many bytes
 pub record GivesAtMost (most : ℕ) (old new : Option (List ℕ)) : Type 0 where
@@ -48,6 +48,12 @@ pub record GivesMoreThan (limit : ℕ) (old new : Option (List ℕ)) : Type 0 wh
   pub bytes : List ℕ
   pub given : Consumes old new bytes
   pub over : limit < length bytes
+
+-- some file gave more bytes than the limit; remaining is what a file has left, where it tells that
+pub record ReadsOver {F : Type 0} (remaining : F → Option (List ℕ)) (limit : ℕ) : Type 0 where
+  pub before : F
+  pub after : F
+  pub more : GivesMoreThan limit (remaining before) (remaining after)
 
 -- why a file is not read
 abbrev pub RefusesFile : FolderFault → Type 0

@@ -3,6 +3,7 @@ pub mod Blocks
 pub mod ByText
 pub mod Device
 pub mod Disk
+pub mod Ending
 pub mod Files
 pub mod Folder
 pub mod Held

@@ -1,7 +1,7 @@
 ghost use Rattle.std.specs.Prelude.{◌≡◌, ◌≤◌, map, option_map, string_bytes, vec_len, IfOk, IfErr, IfSome, IsErrOf, IsNone, IsOk, OnOk, MatchResult};
 ghost use Rattle.gtfs_table.specs.Device.{FailsAtLast, MakesCalls};
 ghost use Rattle.gtfs_table.specs.Folder.{IsByBytes, Lists, Finds, Writes, RefusesNames, RefusesRead, RefusesWrite};
-ghost use Rattle.gtfs_table.specs.Disk.{told, calls, after_fault, RefusesList, RefusesFile, RefusesStore};
+ghost use Rattle.gtfs_table.specs.Disk.{told, calls, after_fault, ReadsOver, RefusesFile, RefusesOpen, RefusesStore};
 
 use crate::folders::{FolderFault, Folders};
 use crate::read_within::read_within;
@@ -45,7 +45,8 @@ impl<'a, R: Files + Alloc + Clone + Drop> Model for DiskFolders<'a, R> {
 impl<'a, R: Files + Alloc + Clone + Drop> DiskFolders<'a, R> {
     /// The folders of this runtime's file system, with the limits of [`DiskFolders`]. It takes no memory.
     pub fn new(rt: &'a R) -> DiskFolders<'a, R>
-        ensures { result ≡ record { limit = FILE_LIMIT; entries = ENTRY_LIMIT; failures = 0 } }
+        ensures { result ≡
+            record { limit = 1_073_741_824; entries = 1_000_000; failures = 0 } }
     {
         DiskFolders::with_limits(rt, FILE_LIMIT, ENTRY_LIMIT)
     }
@@ -131,6 +132,8 @@ impl<'a, R: Files + Alloc + Clone + Drop> Folders for DiskFolders<'a, R> {
         ensures called { MakesCalls 1 (calls self.old) (calls self.new) }
         ensures ends { IsErrOf result FolderFault.Read → FailsAtLast (calls self.new) }
 
+        ensures large { IsErrOf result FolderFault.TooLarge
+            → ReadsOver R.File.remaining self.old.limit }
         ensures counted { MatchResult result
             (λ _. self.new ≡ self.old)
             (λ fault. self.new ≡ after_fault fault self.old) }
@@ -185,7 +188,7 @@ fn list<R: Files + Alloc + Clone + Drop>(
 ) -> Result<Vec<String>, FolderFault>
     ensures ordered { IfOk result (λ names. IsByBytes (map string_bytes names.items)) }
     ensures few { IfOk result (λ names. vec_len names ≤ entries) }
-    ensures refused { IfErr result RefusesList }
+    ensures refused { IfErr result RefusesOpen }
 {
     if dir.is_empty() {
         return Err(FolderFault::NoFolder);
@@ -206,7 +209,7 @@ fn push_names<R: Files + Alloc + Clone + Drop>(
 ) -> Result<(), FolderFault>
     requires { vec_len names.old ≤ entries }
     ensures few { OnOk result (vec_len names.new ≤ entries) }
-    ensures refused { IfErr result RefusesList }
+    ensures refused { IfErr result RefusesOpen }
 {
     let listing = fs::read_dir(rt, dir).map_err(|fault| list_fault(rt, dir, fault.kind()))?;
     for entry in listing {
@@ -221,7 +224,7 @@ fn push_names<R: Files + Alloc + Clone + Drop>(
 
 // What it means that the folder of this path could not be listed: only one that is not found is not there.
 fn list_fault<R: Files>(rt: &R, dir: &str, kind: ErrorKind) -> FolderFault
-    ensures refused { RefusesList result }
+    ensures refused { RefusesOpen result }
     ensures absent { result ≡ FolderFault.NoFolder → kind ≡ ErrorKind.NotFound }
 {
     match kind {
@@ -239,7 +242,7 @@ fn is_absent<R: Files>(rt: &R, path: &str) -> bool {
     }
 }
 
-// A folder's file, or None where the folder has no entry of that name.
+// A folder's file, or None where the folder has no entry of that name. How long a file is tells its reading.
 fn read_file<R: Files>(
     rt: &R,
     alloc: Global,
@@ -248,7 +251,26 @@ fn read_file<R: Files>(
     limit: u64,
 ) -> Result<Option<Vec<u8>>, FolderFault>
     ensures within { IfOk result (λ file. IfSome file (λ bytes. vec_len bytes ≤ limit)) }
+    ensures large { IsErrOf result FolderFault.TooLarge → ReadsOver R.File.remaining limit }
     ensures refused { IfErr result RefusesFile }
+{
+    match open_file(rt, alloc, dir, name)? {
+        Some(mut file) => {
+            let size = size_hint(&file, limit);
+            Ok(Some(read_within(alloc, &mut file, limit, size)?))
+        }
+        None => Ok(None),
+    }
+}
+
+// A folder's file, of which nothing is read yet, or None where the folder has no entry of that name.
+fn open_file<R: Files>(
+    rt: &R,
+    alloc: Global,
+    dir: &str,
+    name: &str,
+) -> Result<Option<R::File>, FolderFault>
+    ensures { IfErr result RefusesOpen }
 {
     if dir.is_empty() {
         return Err(FolderFault::NoFolder);
@@ -258,10 +280,7 @@ fn read_file<R: Files>(
     }
     let path = path_of(alloc, dir, name)?;
     match fs::open(rt, path.as_str()) {
-        Ok(mut file) => {
-            let size = size_hint(&file, limit);
-            Ok(Some(read_within(alloc, &mut file, limit, size)?))
-        }
+        Ok(file) => Ok(Some(file)),
         Err(fault) => without_file(rt, dir, path.as_str(), fault.kind()),
     }
 }
@@ -273,11 +292,11 @@ fn without_file<R: Files>(
     dir: &str,
     path: &str,
     kind: ErrorKind,
-) -> Result<Option<Vec<u8>>, FolderFault>
+) -> Result<Option<R::File>, FolderFault>
     ensures absent { IfOk result IsNone }
     ensures not_found { IsOk result → kind ≡ ErrorKind.NotFound }
     ensures no_folder { IsErrOf result FolderFault.NoFolder → kind ≡ ErrorKind.NotFound }
-    ensures refused { IfErr result RefusesFile }
+    ensures refused { IfErr result RefusesOpen }
 {
     if kind != ErrorKind::NotFound || !is_absent(rt, path) {
         return Err(FolderFault::Read);

@@ -1,5 +1,6 @@
 ghost use Rattle.std.specs.Prelude.{All, ◌≡◌, ◌≢◌, ◌<◌, ◌≤◌, [], false, is_some, length, map, option_map, string_bytes, IfOk, IfErr, IfSome, IsErrOf, OnOk, OnErr};
 ghost use Rattle.gtfs_table.specs.Device.{FailsAtLast, MakesCalls, MakesSomeCalls};
+ghost use Rattle.gtfs_table.specs.Ending.{EndsAtFile, EndsReading};
 ghost use Rattle.gtfs_table.specs.Files.{file_name};
 ghost use Rattle.gtfs_table.specs.Folder.{IsByBytes, RefusesRead};
 ghost use Rattle.gtfs_table.specs.Reading.{is_kept, kept_files, AllHoldWithin, AreOthers, other_names as names_kept_out, HoldsDataset, HoldsTable, HoldsWithin, RefusesDataset, SetsTables};
@@ -130,6 +131,10 @@ impl Tables {
         ensures called { OnOk result (MakesCalls 10 (F.calls folders.old) (F.calls folders.new)) }
         ensures called_until { OnErr result
             (MakesSomeCalls 10 (F.calls folders.old) (F.calls folders.new)) }
+        ensures stopped { IfErr result
+            (λ fault. EndsReading fault (F.limit folders.old) (F.held folders.old) dir.now
+            (F.failure_count folders.old) (F.failure_count folders.new)
+            (F.calls folders.old) (F.calls folders.new)) }
         ensures ends { IsErrOf result FolderFault.Read → FailsAtLast (F.calls folders.new) }
     {
         let names = folders.names(alloc, dir)?;
@@ -314,6 +319,10 @@ impl Tables {
         ensures called { OnOk result (MakesCalls 9 (F.calls folders.old) (F.calls folders.new)) }
         ensures called_until { OnErr result
             (MakesSomeCalls 9 (F.calls folders.old) (F.calls folders.new)) }
+        ensures stopped { IfErr result
+            (λ fault. EndsAtFile fault (F.limit folders.old) (F.held folders.old) dir.now
+            (F.failure_count folders.old) (F.failure_count folders.new)
+            (F.calls folders.old) (F.calls folders.new)) }
         ensures ends { IsErrOf result FolderFault.Read → FailsAtLast (F.calls folders.new) }
     {
         for file in &File::ALL {

@@ -3,6 +3,9 @@ use Rattle.gtfs_table.specs.Device.{MakesSomeCalls}
 use Rattle.gtfs_table.specs.Folder.{Store}
 use Rattle.gtfs_table.specs.Reading.{AllHoldWithin, HoldsTable, HoldsWithin, kept_files}
 use Rattle.gtfs_table.specs.declared.file.File.TheVariants as file
+use Rattle.gtfs_table.specs.Ending.{EndsAtFile}
+use Rattle.gtfs_table.specs.Files.{file_name}
+use Rattle.gtfs_table.proofs.EndingFacts.{ends-at, of-fault, refused-from}
 use Rattle.gtfs_table.proofs.FolderFacts.{calls-more, calls-none, calls-some, on_err-always, sets-none, sets-more, within-more, within-none}
 use Rattle.gtfs_table.proofs.tables.Tables.read_files.Goals as goal
 
@@ -48,3 +51,20 @@ pub returns-clause-within : goal.returns-clause-within
 returns-clause-within g c =
     let all : c.loop-file.file-index ≡ 9 = omega (arith, c.loop-file-test.false, c.loop-file.auto.file-index-end) in
     subst (λ (n : ℕ). AllHoldWithin (g.F.Folders.limit c.args.folders.now) (g.F.Folders.held c.args.folders.now) c.args.dir.now (take n kept_files)) all c.loop-file.invariant.within
+
+pub returns-in_err-table-clause-stopped : goal.returns-in_err-table-clause-stopped
+returns-in_err-table-clause-stopped g c =
+    let inv = c.loop-file.invariant in
+    let n = c.loop-file.file-index in
+    let dir = c.args.dir.now in
+    let held = g.F.Folders.held c.args.folders.now in
+    let limit = g.F.Folders.limit c.args.folders.now in
+    let before = g.F.Folders.failure_count c.args.folders.now in
+    let after = g.F.Folders.failure_count c.read_file.new.folders in
+    let a = g.F.Folders.calls c.args.folders.now in
+    let b = g.F.Folders.calls c.read_file.new.folders in
+    let fault = c.in_err-table.field-0.0 in
+    let name = file_name (get_or kept_files n file.Agency) in
+    let refused = refused-from fault limit _ held _ dir name before _ after inv.bound inv.same inv.none c.in_err-table.ensures.refused in
+    of-fault c.from_residual.result (λ e. EndsAtFile e limit held dir before after a b) fault c.from_residual.ensures.1
+    (ends-at fault limit held dir before after n file.Agency a _ b (omega (arith, c.loop-file-test.true)) inv.within refused inv.called c.read_file.ensures.called)
