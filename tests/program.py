@@ -62,11 +62,6 @@ def first_written(folder):
     return count
 
 
-def has_command(command):
-    """Whether the program has the command."""
-    return subprocess.run([PROGRAM, command, "--help"], stdin=subprocess.DEVNULL, capture_output=True).returncode == 0
-
-
 def main(name, tests):
     """Runs the tests, functions that give the line to print, and ends with status 1 where one fails."""
     failed = 0

@@ -5,7 +5,7 @@ import shutil
 import subprocess
 import tempfile
 
-from program import LIMIT, PROGRAM, SMALL, has_command, want
+from program import LIMIT, PROGRAM, SMALL, want
 
 # The second user, who may read what all may read.
 NOBODY = 65_534
@@ -19,11 +19,8 @@ SHEET = b"== R1 - 20240401\ntrip\tT1\nS1\t08:00:00\nS2\t08:10:00\n"
 MERGE = "merge f1 f1 out".split()
 COUNTS = b"joined agency 1\njoined stop 3\njoined route 1\njoined service 1\njoined trip 1\n"
 
-
-def answers():
-    """What each command prints, of those that the program has."""
-    all_answers = [(BOARD, LINE), (CHECK, REPORT), (TIMETABLE, SHEET), (MERGE, COUNTS)]
-    return [(words, text) for words, text in all_answers if has_command(words[0])]
+# What each command prints.
+ANSWERS = [(BOARD, LINE), (CHECK, REPORT), (TIMETABLE, SHEET), (MERGE, COUNTS)]
 
 
 class Skipped(Exception):
