@@ -43,6 +43,24 @@ def build():
     want(built.returncode == 0, f"{LAUNCHER} --help ended with status {built.returncode}")
 
 
+def want_lines(name, text, wanted):
+    """Wants a text of these lines, and names the first that differs."""
+    lines = text.splitlines(keepends=True)
+    for number, (line, want_line) in enumerate(zip(lines, wanted), 1):
+        want(line == want_line, f"{name}: line {number} is {shortened(line)} and not {shortened(want_line)}")
+    want(len(lines) == len(wanted), f"{name}: {len(lines)} lines and not {len(wanted)}")
+
+
+def shortened(text):
+    """How a text is shown that may be long."""
+    return repr(text) if len(text) < 1000 else f"{text[:400]!r}...{text[-400:]!r} of {len(text)}"
+
+
+def clock(seconds):
+    """The time of a second after the beginning of a service day."""
+    return f"{seconds // 3600:02}:{seconds // 60 % 60:02}:{seconds % 60:02}"
+
+
 def read(path):
     with open(path, "rb") as file:
         return file.read()
