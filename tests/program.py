@@ -51,9 +51,10 @@ def want_lines(name, text, wanted):
     want(len(lines) == len(wanted), f"{name}: {len(lines)} lines and not {len(wanted)}")
 
 
-def shortened(text):
-    """How a text is shown that may be long."""
-    return repr(text) if len(text) < 1000 else f"{text[:400]!r}...{text[-400:]!r} of {len(text)}"
+def shortened(value):
+    """How a value is shown that may be long."""
+    shown = repr(value)
+    return shown if len(shown) < 1000 else f"{shown[:400]} .. {shown[-400:]}"
 
 
 def clock(seconds):

@@ -5,7 +5,7 @@ import shutil
 import subprocess
 import tempfile
 
-from program import LIMIT, PROGRAM, SMALL, want
+from program import LIMIT, PROGRAM, SMALL, shortened, want
 
 # The second user, who may read what all may read.
 NOBODY = 65_534
@@ -21,6 +21,16 @@ COUNTS = b"joined agency 1\njoined stop 3\njoined route 1\njoined service 1\njoi
 
 # What each command prints.
 ANSWERS = [(BOARD, LINE), (CHECK, REPORT), (TIMETABLE, SHEET), (MERGE, COUNTS)]
+
+# What each refuses, with the status and the line.
+REFUSALS = [
+    ("board f1 --zone z1 --stop S9 --from 20240401 --until 20240402".split(), 1, b"gtfs: unknown stop\n"),
+    ("board f1 --zone z1 --stop S1 --from 20240402 --until 20240401".split(), 2, b"gtfs: until lies before from\n"),
+    ("check none".split(), 3, b"gtfs: none is not there\n"),
+    ("timetable f1 --route R9 --date 20240401".split(), 1, b"gtfs: unknown route\n"),
+    ("merge none f1 out".split(), 3, b"gtfs: none is not there\n"),
+    ("merge f1 f1 z1".split(), 3, b"gtfs: z1 cannot be written\n"),
+]
 
 
 class Skipped(Exception):
@@ -51,10 +61,10 @@ def run(room, words, program=PROGRAM, **how):
 
 
 def want_end(ran, words, status, out, err):
-    """Wants a run to have ended so. What went to an output that is no pipe is not known."""
+    """Wants a run to have ended so. What went to an output or error output that is no pipe is not known."""
     ended = (ran.returncode, ran.stdout, ran.stderr)
-    wanted = (status, out if ran.stdout is not None else None, err)
-    want(ended == wanted, f"{words}: {ended} and not {wanted}")
+    wanted = (status, out if ran.stdout is not None else None, err if ran.stderr is not None else None)
+    want(ended == wanted, f"{shortened(words)}: {shortened(ended)} and not {shortened(wanted)}")
 
 
 def want_unread(ran, words, path):
