@@ -10,6 +10,9 @@ from program import LIMIT, PROGRAM, SMALL, shortened, want
 # The second user, who may read what all may read.
 NOBODY = 65_534
 
+# The most memory of a run, in MiB, so that one which would read without an end does not take that of the machine.
+MEMORY = 4_096
+
 BOARD = "board f1 --zone z1 --stop S1 --from 20240401 --until 20240402".split()
 LINE = b"@1711958400/T1/28800/1/20240401\t2024-04-01 08:00:00+00:00\tS1\t10\t\ts\n"
 CHECK = "check f1".split()
@@ -55,16 +58,24 @@ def in_room(test):
     return run
 
 
-def run(room, words, program=PROGRAM, **how):
+def run(room, words, program=PROGRAM, memory=MEMORY, preexec_fn=None, **how):
+    """Runs the program in an address space of so many MiB."""
+
+    def begin():
+        resource.setrlimit(resource.RLIMIT_AS, (memory << 20, memory << 20))
+        if preexec_fn:
+            preexec_fn()
+
     how = {"stdin": subprocess.DEVNULL, "stdout": subprocess.PIPE, "stderr": subprocess.PIPE, **how}
-    return subprocess.run([program, *words], cwd=room, timeout=LIMIT, **how)
+    return subprocess.run([program, *words], cwd=room, timeout=LIMIT, preexec_fn=begin, **how)
 
 
 def want_end(ran, words, status, out, err):
     """Wants a run to have ended so. What went to an output or error output that is no pipe is not known."""
     ended = (ran.returncode, ran.stdout, ran.stderr)
     wanted = (status, out if ran.stdout is not None else None, err if ran.stderr is not None else None)
-    want(ended == wanted, f"{shortened(words)}: {shortened(ended)} and not {shortened(wanted)}")
+    if ended != wanted:
+        want(False, f"{shortened(words)}: {shortened(ended)} and not {shortened(wanted)}")
 
 
 def want_unread(ran, words, path):
