@@ -43,6 +43,25 @@ def build():
     want(built.returncode == 0, f"{LAUNCHER} --help ended with status {built.returncode}")
 
 
+def want_lines(name, text, wanted):
+    """Wants a text of these lines, and names the first that differs."""
+    lines = text.splitlines(keepends=True)
+    for number, (line, want_line) in enumerate(zip(lines, wanted), 1):
+        want(line == want_line, f"{name}: line {number} is {shortened(line)} and not {shortened(want_line)}")
+    want(len(lines) == len(wanted), f"{name}: {len(lines)} lines and not {len(wanted)}")
+
+
+def shortened(value):
+    """How a value is shown that may be long."""
+    shown = repr(value)
+    return shown if len(shown) < 1000 else f"{shown[:400]} .. {shown[-400:]}"
+
+
+def clock(seconds):
+    """The time of a second after the beginning of a service day."""
+    return f"{seconds // 3600:02}:{seconds // 60 % 60:02}:{seconds % 60:02}"
+
+
 def read(path):
     with open(path, "rb") as file:
         return file.read()
@@ -60,11 +79,6 @@ def first_written(folder):
     count = whole.index(False) if False in whole else len(whole)
     want(set(held) <= set(FILES[:count + 1]), f"{count} files are whole, and there are {sorted(held)}")
     return count
-
-
-def has_command(command):
-    """Whether the program has the command."""
-    return subprocess.run([PROGRAM, command, "--help"], stdin=subprocess.DEVNULL, capture_output=True).returncode == 0
 
 
 def main(name, tests):

@@ -5,10 +5,13 @@ import shutil
 import subprocess
 import tempfile
 
-from program import LIMIT, PROGRAM, SMALL, has_command, want
+from program import LIMIT, PROGRAM, SMALL, shortened, want
 
 # The second user, who may read what all may read.
 NOBODY = 65_534
+
+# The most memory of a run, in MiB, so that one which would read without an end does not take that of the machine.
+MEMORY = 4_096
 
 BOARD = "board f1 --zone z1 --stop S1 --from 20240401 --until 20240402".split()
 LINE = b"@1711958400/T1/28800/1/20240401\t2024-04-01 08:00:00+00:00\tS1\t10\t\ts\n"
@@ -19,11 +22,18 @@ SHEET = b"== R1 - 20240401\ntrip\tT1\nS1\t08:00:00\nS2\t08:10:00\n"
 MERGE = "merge f1 f1 out".split()
 COUNTS = b"joined agency 1\njoined stop 3\njoined route 1\njoined service 1\njoined trip 1\n"
 
+# What each command prints.
+ANSWERS = [(BOARD, LINE), (CHECK, REPORT), (TIMETABLE, SHEET), (MERGE, COUNTS)]
 
-def answers():
-    """What each command prints, of those that the program has."""
-    all_answers = [(BOARD, LINE), (CHECK, REPORT), (TIMETABLE, SHEET), (MERGE, COUNTS)]
-    return [(words, text) for words, text in all_answers if has_command(words[0])]
+# What each refuses, with the status and the line.
+REFUSALS = [
+    ("board f1 --zone z1 --stop S9 --from 20240401 --until 20240402".split(), 1, b"gtfs: unknown stop\n"),
+    ("board f1 --zone z1 --stop S1 --from 20240402 --until 20240401".split(), 2, b"gtfs: until lies before from\n"),
+    ("check none".split(), 3, b"gtfs: none is not there\n"),
+    ("timetable f1 --route R9 --date 20240401".split(), 1, b"gtfs: unknown route\n"),
+    ("merge none f1 out".split(), 3, b"gtfs: none is not there\n"),
+    ("merge f1 f1 z1".split(), 3, b"gtfs: z1 cannot be written\n"),
+]
 
 
 class Skipped(Exception):
@@ -48,16 +58,24 @@ def in_room(test):
     return run
 
 
-def run(room, words, program=PROGRAM, **how):
+def run(room, words, program=PROGRAM, memory=MEMORY, preexec_fn=None, **how):
+    """Runs the program in an address space of so many MiB."""
+
+    def begin():
+        resource.setrlimit(resource.RLIMIT_AS, (memory << 20, memory << 20))
+        if preexec_fn:
+            preexec_fn()
+
     how = {"stdin": subprocess.DEVNULL, "stdout": subprocess.PIPE, "stderr": subprocess.PIPE, **how}
-    return subprocess.run([program, *words], cwd=room, timeout=LIMIT, **how)
+    return subprocess.run([program, *words], cwd=room, timeout=LIMIT, preexec_fn=begin, **how)
 
 
 def want_end(ran, words, status, out, err):
-    """Wants a run to have ended so. What went to an output that is no pipe is not known."""
+    """Wants a run to have ended so. What went to an output or error output that is no pipe is not known."""
     ended = (ran.returncode, ran.stdout, ran.stderr)
-    wanted = (status, out if ran.stdout is not None else None, err)
-    want(ended == wanted, f"{words}: {ended} and not {wanted}")
+    wanted = (status, out if ran.stdout is not None else None, err if ran.stderr is not None else None)
+    if ended != wanted:
+        want(False, f"{shortened(words)}: {shortened(ended)} and not {shortened(wanted)}")
 
 
 def want_unread(ran, words, path):

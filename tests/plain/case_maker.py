@@ -44,7 +44,7 @@ ODD_KEYS = [
     "", "@", "@0", "x", "@0/T1/0/1", "@0//0/1/20240401", "@0/T1/00/1/20240401", "@0/T1/0/1/20240230",
     "@-0/T1/0/1/20240401", "@0/T1/3600000/1/20240401", "@0/T1/0/2147483648/20240401", "@5/a/b/c/0/1/99991231",
 ]
-ODD_ZONES = ["zones/bad", "zones/bad", "none", "zones", "zones/", "z/z", "", "no/z", "z\t"]
+ODD_ZONES = ["zones/bad", "zones/bad", "zones/bad", "zones/bad", "none", "zones", "zones/", "z/z", "", "no/z", "z\t"]
 
 # How long a span is, in seconds, for most draws.
 LENGTHS = [0, 1, 3600, *(days * DAY for days in range(1, 8))]
@@ -118,11 +118,12 @@ def given_board(random):
     made = put_feed(random, "f", random.choice([0, 0, 0, 0, 0, 1, 2]))
     put("zones", {"z": make_zone(random, midnight(made.base)), "bad": no_zone(random)})
     put(".", {"z": b"no folder"})
-    zone = "zones/z" if random.random() < 0.93 else random.choice(ODD_ZONES)
+    zone = "zones/z" if random.random() < 0.91 else random.choice(ODD_ZONES)
     called = made.ids("stop_times.txt", "stop_id") + made.ids("stops.txt", "parent_station")
     stop = one_of(random, called if random.random() < 0.8 else made.ids("stops.txt", "stop_id"), "S99")
     begin = moment(random, made)
     end = later(random, begin) if random.random() < 0.85 else moment(random, made)
+    end = random.choice(ODD_MOMENTS) if random.random() < 0.03 else end
     given = {"DIR": folder_word(random), "zone": zone, "stop": stop, "from": begin, "until": end}
     if random.random() < 0.35:
         limits = ["2147483648", "x", "", "+1"] if random.random() < 0.1 else ["0", "1", "2", "3", "007", "2147483647"]
@@ -147,16 +148,17 @@ def given_timetable(random):
 
 
 def given_merge(random):
-    made = put_feed(random, "a", random.choice([0, 0, 0, 0, 0, 1]))
-    if random.random() < 0.6:
+    made = put_feed(random, "a", random.choice([0] * 8 + [1]))
+    if random.random() < 0.7:
         other = copy.deepcopy(made)
-        change(random, other, DIFFERENCES, random.randint(0, 4))
+        change(random, other, DIFFERENCES, random.choice([0, 1, 1, 2, 2, 3, 4]))
         put("b", file_bytes(random, other))
     else:
         put_feed(random, "b", random.choice([0, 0, 0, 0, 1]))
     put(".", {"z": b"no folder"})
-    a, b = (name if random.random() < 0.96 else random.choice(["none", "", "z"]) for name in "ab")
-    return {"A": a, "B": b, "OUT": random.choice(["out", "out", "out/deep/er", "a", "b", "b", "z/out", "z", ""])}
+    a, b = (name if random.random() < 0.94 else random.choice(["none", "", "z", "z"]) for name in "ab")
+    out = random.choice(["out", "out/deep/er", "a", "b", "b"] if random.random() < 0.88 else ["z/out", "z", ""])
+    return {"A": a, "B": b, "OUT": out}
 
 
 GIVEN = {"check": given_check, "board": given_board, "timetable": given_timetable, "merge": given_merge}
@@ -183,11 +185,13 @@ def odd_words(random, command, given):
     words = words_of(random, command, given)
     lost = random.choice(list(given))
     less = words_of(random, command, {name: text for name, text in given.items() if name != lost})
-    return random.choice([
-        [], ["--help"], ["-h"], [command, "--help"], [command, "-h"], [*words, "--help"], ["help"], ["Check", "f"],
-        ["--version"], [*words, "--foo"], [*words, "more"], [*words, "--foo", "--help"], [*words, "--zone"], ["--foo"],
-        ["-x", *words], [*words, "\udcff"], [*words, "--"], [*words, "--", "--help"], ["check", "--", "-d"], less, less,
+    not_utf8 = random.choice([[*words, "\udcff"], ["\udcff", *words], [command, "\udcff", "--help"]])
+    asking = random.choice([["--help"], ["-h"], [command, "--help"], [command, "-h"], [*words, "--help"]])
+    refused = random.choice([
+        [], ["help"], ["Check", "f"], ["--version"], [*words, "--foo"], [*words, "more"], [*words, "--foo", "--help"],
+        [*words, "--zone"], ["--foo"], ["-x", *words], [*words, "--"], [*words, "--", "--help"], ["check", "--", "-d"], less, less,
     ])
+    return random.choice([not_utf8, asking, asking, refused, refused, refused])
 
 
 def make_case(name):
@@ -197,4 +201,4 @@ def make_case(name):
     given = GIVEN[command](random)
     if "-hostile-" in name:
         return change_case(random, words_of(random, command, given))
-    return odd_words(random, command, given) if random.random() < 0.04 else words_of(random, command, given)
+    return odd_words(random, command, given) if random.random() < 0.07 else words_of(random, command, given)

@@ -13,8 +13,8 @@ from values import FIRST_SERVICE_DAY, LAST_SERVICE_DAY, Form, Range, plain, read
 from words import Help, NotUtf8, Refused, read_words
 from zones import NoZone, Odd, read_zone
 
-# The most bytes in the name of a file on the file systems that this is run on.
-LONGEST_NAME = 255
+# The most bytes in the name of a file, and in a path, on the file systems that this is run on.
+LONGEST_NAME, LONGEST_PATH = 255, 4_095
 
 # A text that is there and is not fixed.
 SOME = object()
@@ -25,20 +25,27 @@ UNKNOWN = object()
 
 @dataclass
 class Outcome:
-    """How a run of the program ends. `written` has the files that a merge leaves in its folder."""
+    """How a run of the program ends.
+
+    `cause` says what kept it from an answer, a path by its name in the usage. `written` has the files that a merge leaves in its
+    folder, and `merged` the two feeds and the names of their ids.
+    """
 
     status: int
     out: object = ""
     err: object = ""
+    cause: str = ""
     written: dict = field(default_factory=dict)
+    merged: tuple = ()
 
 
 class Ended(Exception):
-    """The command cannot be done: a line on the error output, and a status."""
+    """The command cannot be done: a status, and a line on the error output, about the path of a name if it is about one."""
 
-    def __init__(self, status, line):
+    def __init__(self, status, line, name="", path=""):
         super().__init__(line)
-        self.outcome = Outcome(status, err=f"gtfs: {plain(line)}\n")
+        told = f"{path} {line}" if name else line
+        self.outcome = Outcome(status, err=f"gtfs: {plain(told)}\n", cause=f"{name} {line}" if name else line)
 
 
 # ---- the values of options
@@ -56,7 +63,8 @@ def instant_of(text):
 
 def number_of(text, greatest):
     """A number of a key, without leading zeros."""
-    number = int(shaped("0|[1-9][0-9]*", text)[0])
+    digits = shaped("0|[1-9][0-9]*", text)[0]
+    number = int(digits) if len(digits) <= 10 else greatest + 1
     if number > greatest:
         raise Range
     return number
@@ -101,19 +109,19 @@ def value(given, name, reader):
 # ---- folders and files
 
 
-def dataset(folder):
+def dataset(folder, name="DIR"):
     try:
         return read_tables(folder)
     except NotThere:
-        raise Ended(3, f"{folder} is not there") from None
+        raise Ended(3, "is not there", name, folder) from None
     except Unreadable:
-        raise Ended(3, f"{folder} cannot be read") from None
+        raise Ended(3, "cannot be read", name, folder) from None
 
 
-def feed(folder):
-    tables = dataset(folder)
+def feed(folder, name="DIR"):
+    tables = dataset(folder, name)
     if not passes(tables):
-        raise Ended(1, f"{folder} has errors")
+        raise Ended(1, "has errors", name, folder)
     return content_of(tables)
 
 
@@ -124,15 +132,17 @@ def zone_of(path):
     except FileNotFoundError:
         # (an empty path, and one that ends in a slash, name no file)
         ending = "is not there" if path.rpartition("/")[2] else "cannot be read"
-        raise Ended(3, f"{path} {ending}") from None
+        raise Ended(3, ending, "FILE", path) from None
     except OSError:
-        raise Ended(3, f"{path} cannot be read") from None
+        raise Ended(3, "cannot be read", "FILE", path) from None
     except NoZone:
-        raise Ended(3, f"{path} is no zone file") from None
+        raise Ended(3, "is no zone file", "FILE", path) from None
 
 
 def can_be_written(folder):
     """Whether the nine files can be written into a folder, whose missing levels are made."""
+    if len(os.fsencode(folder)) > LONGEST_PATH:
+        return False
     if not folder or any(len(os.fsencode(level)) > LONGEST_NAME for level in folder.split("/")):
         return False
     while not os.path.lexists(folder):
@@ -170,15 +180,16 @@ def timetable(given):
 
 
 def merge(given):
-    a = feed(given["A"])
-    b = feed(given["B"])
+    a = feed(given["A"], "A")
+    b = feed(given["B"], "B")
     try:
         merged, names = merging.merge(a, b)
     except merging.ZonesDiffer:
         raise Ended(1, "zones differ") from None
     if not can_be_written(given["OUT"]):
-        raise Ended(3, f"{given['OUT']} cannot be written")
-    return Outcome(0, merging.report(names), written={given["OUT"]: merging.written_files(merged)})
+        raise Ended(3, "cannot be written", "OUT", given["OUT"])
+    written = {given["OUT"]: merging.written_files(merged)}
+    return Outcome(0, merging.report(names), written=written, merged=(a, b, names))
 
 
 def outcome(words):
@@ -187,9 +198,9 @@ def outcome(words):
         command, given = read_words(words)
         return {"check": check, "board": board, "timetable": timetable, "merge": merge}[command](given)
     except Help:
-        return Outcome(0, out=SOME)
+        return Outcome(0, out=SOME, cause="help")
     except Refused:
-        return Outcome(2, err=SOME)
+        return Outcome(2, err=SOME, cause="refused words")
     except NotUtf8:
         return Ended(2, "bad words").outcome
     except Odd:

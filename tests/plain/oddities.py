@@ -1,5 +1,6 @@
 """Changes of a made feed that may break it: odd values, rows and columns too many or too few, files of another kind."""
 from columns import FILES, WEEKDAYS
+from values import date_text
 
 VALUES = [
     "", " ", "x", "-1", "007", "2147483647", "2147483648", "9", "0", "1", "2", "3", "4", "5", "6:00:00", "06:00:00",
@@ -145,8 +146,41 @@ ODDITIES = [
     kind_changed, kind_changed, agency_more,
 ]
 
+
+def trip_later(random, feed):
+    """A trip whose stop times are an hour later."""
+    rows = feed.sheets["stop_times.txt"]
+    if rows:
+        trip = random.choice(rows)["trip_id"]
+        for row in rows:
+            for column in ("arrival_time", "departure_time"):
+                if row["trip_id"] == trip and row[column]:
+                    hours, rest = row[column].split(":", 1)
+                    row[column] = f"{int(hours) + 1}:{rest}" if hours.isdigit() else row[column]
+
+
+def name_changed(random, feed):
+    """A stop, a route or an agency of another name."""
+    name, column = random.choice([("stops.txt", "stop_name"), ("routes.txt", "route_long_name"), ("agency.txt", "agency_name")])
+    rows = feed.sheets[name]
+    if rows:
+        show(feed, name, column)
+        random.choice(rows)[column] = random.choice(["New", "Mill"])
+
+
+def day_more(random, feed):
+    """A service with one more exception."""
+    rows, services = feed.sheets["calendar_dates.txt"], feed.ids("trips.txt", "service_id")
+    if services:
+        exception = {"service_id": random.choice(services), "date": date_text(feed.base), "exception_type": random.choice("12")}
+        if not any((row["service_id"], row["date"]) == (exception["service_id"], exception["date"]) for row in rows):
+            rows.append(exception)
+        for column in exception:
+            show(feed, "calendar_dates.txt", column)
+
+
 # Changes of a feed of which another one is a copy; it mostly still passes.
-DIFFERENCES = [*[odd_value] * 3, other_value, row_less, times_less, week_emptied]
+DIFFERENCES = [*[odd_value] * 3, other_value, row_less, times_less, week_emptied, *[trip_later, name_changed, day_more] * 3]
 
 
 def change(random, feed, changes, times):

@@ -45,7 +45,9 @@ def read_id(text):
 
 
 def read_count(text, least=0):
-    number = int(shaped("[0-9]+", text)[0])
+    digits = shaped("[0-9]+", text)[0].lstrip("0")
+    # (Python makes no number of some thousand digits)
+    number = int(digits or "0") if len(digits) <= 10 else GREATEST_COUNT + 1
     if not least <= number <= GREATEST_COUNT:
         raise Range
     return number
