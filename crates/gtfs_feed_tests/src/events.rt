@@ -6,7 +6,7 @@ use crate::named::{service_id, stop_named, trip_id};
 use crate::unions::assert_unions;
 use crate::{ids, patterns};
 use gtfs_feed::Feed;
-use gtfs_fixtures::{FileText, feed_with};
+use gtfs_fixtures::{FileText, feed_with, made_feed};
 use gtfs_rows::ServiceNo;
 use gtfs_runs::{Event, flat_events};
 use std::alloc::Global;
@@ -446,6 +446,15 @@ fn the_lanes_of_other_datasets_have_their_events(rt: HostRuntime) -> Result<(), 
         patterns::FILES.as_slice(),
     ] {
         let feed = feed_with(&rt, rt.alloc(), files)?;
+        assert_unions(&rt, rt.alloc(), &feed)?;
+    }
+    Ok(())
+}
+
+#[test]
+fn the_lanes_of_made_feeds_have_their_events(rt: HostRuntime) -> Result<(), Fail> {
+    for number in 0..6 {
+        let feed = made_feed(&rt, rt.alloc(), number)?;
         assert_unions(&rt, rt.alloc(), &feed)?;
     }
     Ok(())
