@@ -1,6 +1,7 @@
 ghost use Rattle.std.specs.Prelude.{◌≡◌, ◌<◌, IfOk, length, map};
 ghost use Rattle.gtfs_feed.specs.Content.{content_of};
 ghost use Rattle.gtfs_rows.specs.Views.{service_ids, stop_ids, text_of_number};
+ghost use Rattle.gtfs_runs.specs.Kinds.{AreByKind};
 ghost use Rattle.gtfs_runs.specs.Lanes.{latest};
 ghost use Rattle.gtfs_runs.specs.StopLanes.{AreLanesOf, lanes_of, list_value, period_value};
 
@@ -68,6 +69,8 @@ impl StopLanes {
         requires { stop.0 < length feed.now.stops }
         ensures lanes { IfOk result (λ built. AreLanesOf (content_of feed.now)
             (text_of_number (stop_ids feed.now) stop.0) (service_ids feed.now) (lanes_of built.0)) }
+        ensures kinds { IfOk result (λ built. AreByKind (content_of feed.now)
+            (text_of_number (stop_ids feed.now) stop.0) built.0) }
         ensures greatest { IfOk result (λ built. built.0.greatest
             ≡ latest (content_of feed.now) (text_of_number (stop_ids feed.now) stop.0)) }
         ensures steps { IfOk result (λ built. built.1 ≡ 0) }

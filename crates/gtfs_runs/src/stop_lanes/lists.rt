@@ -1,9 +1,12 @@
 ghost use Rattle.std.specs.Prelude.{◌≡◌, ◌≤◌, ◌<◌, ◌+◌, ◌++◌, ℕ, All, IfOk, drop, false, length, map, slice_index_or};
 ghost use Rattle.gtfs_rows.specs.Order.{Ascends};
+ghost use Rattle.gtfs_rows.specs.Views.{content_of_parts};
+ghost use Rattle.gtfs_rows.specs.declared.parts.Parts.{Parts};
+ghost use Rattle.gtfs_runs.specs.Kinds.{IsListLane};
 ghost use Rattle.gtfs_runs.specs.Order.{event_cmp};
 ghost use Rattle.gtfs_runs.specs.StopLanes.{events_of_service, list_value};
 ghost use Rattle.gtfs_runs.specs.declared.stop_lanes.listed.Listed.{Listed as ListedValue};
-ghost use Rattle.gtfs_runs.specs.steps.Courses.{how_many, is_same_course, stopping_cmp, stopping_events, stopping_of};
+ghost use Rattle.gtfs_runs.specs.steps.Courses.{IsListed, how_many, is_same_course, stopping_cmp, stopping_events, stopping_of};
 
 use crate::list_lane::ListLane;
 use crate::stop_lanes::listed::{Listed, course_order};
@@ -20,6 +23,9 @@ pub(crate) fn lists(alloc: Global, listed: &[Listed<'_>]) -> Result<Vec<ListLane
         ≡ how_many is_same_course (map (λ x. x.course) (map stopping_of listed.now))) }
     ensures within { IfOk result (λ lists. (n : ℕ) → All (λ x. x.service.0 < n) listed.now
         → All (λ lane. lane.service < n) (map list_value lists.items)) }
+    ensures alike { IfOk result (λ lists. (p : Parts)
+        → All (λ x. IsListed p (stopping_of x)) listed.now
+        → All (IsListLane (content_of_parts p)) (map list_value lists.items)) }
 {
     let mut lists = Vec::new(alloc);
     let mut at = 0;
@@ -50,6 +56,10 @@ fn add_list(
     ensures within { IfOk result (λ n. (m : ℕ) → All (λ x. x.service.0 < m) listed.now
         → All (λ lane. lane.service < m) (map list_value lists.old.items)
         → All (λ lane. lane.service < m) (map list_value lists.new.items)) }
+    ensures alike { IfOk result (λ n. (p : Parts)
+        → All (λ x. IsListed p (stopping_of x)) listed.now
+        → All (IsListLane (content_of_parts p)) (map list_value lists.old.items)
+        → All (IsListLane (content_of_parts p)) (map list_value lists.new.items)) }
 {
     let len = course_len(listed);
     let list = list_lane(alloc, listed[0].service, &listed[..len])?;

@@ -6,11 +6,11 @@ use Rattle.std.proofs.lemmas.List.Sorted.{All-permutation}
 use Rattle.gtfs_rows.specs.Order.{Ascends}
 use Rattle.gtfs_runs.specs.Order.{event_cmp}
 use Rattle.gtfs_runs.specs.StopLanes.{list_value, period_value}
-use Rattle.gtfs_runs.specs.steps.Courses.{IsCourse, how_many, is_same_course, stopping_cmp, stopping_events, stopping_of}
+use Rattle.gtfs_runs.specs.steps.Courses.{IsCourse, IsListed, how_many, is_same_course, stopping_cmp, stopping_events, stopping_of}
 use Rattle.gtfs_runs.specs.steps.Lists.{latest_of}
 use Rattle.gtfs_runs.proofs.Chunks.{all_mapped}
 use Rattle.gtfs_runs.proofs.LatestEvents.{latest_is}
-use Rattle.gtfs_runs.proofs.WholeLanes.{are_lanes, strictly}
+use Rattle.gtfs_runs.proofs.WholeLanes.{are_by_kind, are_lanes, strictly}
 use Rattle.gtfs_runs.proofs.stop_lanes.StopLanes.build.Goals as goal
 
 pub lists-requires : goal.lists-requires
@@ -39,6 +39,22 @@ returns-clause-lanes c =
     (c.in_ok-lists.ensures.within (length p.services) (subst (λ l. All (λ x. x.service.0 < length p.services) l) (sym c.deref.ensures.value) services))
     (All-map (λ lane. Ascends event_cmp lane.events) list_value lists (λ k d h. (get_or lists k d).ascending))
     (All-map (λ lane. Ascends event_cmp lane.events) period_value c.in_ok-found.found.periods.items (λ k d h. (get_or c.in_ok-found.found.periods.items k d).ascending))
+
+pub returns-clause-kinds : goal.returns-clause-kinds
+returns-clause-kinds c =
+    let p = c.args.feed.now in
+    let listed = map stopping_of c.in_ok-found.found.listed.items in
+    let periods = map period_value c.in_ok-found.found.periods.items in
+    let sorted = map stopping_of c.sorted.result.items in
+    let lists = c.in_ok-lists.lists.items in
+    let found = c.in_ok-found.ensures c.args.stop.0 c.in_ok-place.ensures in
+    let lent = ap (map stopping_of) c.deref.ensures.value in
+    let own : All (λ x. IsListed p (stopping_of x)) c.sorted.result.items =
+    all_mapped (IsListed p) stopping_of c.sorted.result.items (All-permutation (IsListed p) listed sorted c.sorted.ensures.same found.own) in
+    are_by_kind p c.args.stop.0 listed periods found c.soundness.ensures sorted c.sorted.ensures.same (map list_value lists)
+    (λ k. c.in_ok-lists.ensures.told k ∙ ap (stopping_events k) lent) c.latest-greatest.result
+    (length-map lists list_value ∙ c.in_ok-lists.ensures.counted ∙ ap (λ l. how_many is_same_course (map (λ x. x.course) l)) lent)
+    (c.in_ok-lists.ensures.alike p (subst (λ l. All (λ x. IsListed p (stopping_of x)) l) (sym c.deref.ensures.value) own))
 
 pub returns-clause-greatest : goal.returns-clause-greatest
 returns-clause-greatest c =
