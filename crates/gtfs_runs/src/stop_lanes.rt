@@ -9,6 +9,7 @@ mod found;
 mod latest;
 mod listed;
 mod lists;
+mod numbered;
 mod passing;
 
 use crate::list_lane::ListLane;
@@ -19,6 +20,7 @@ use crate::stop_lanes::found::Found;
 use crate::stop_lanes::latest::latest;
 use crate::stop_lanes::listed::sorted;
 use crate::stop_lanes::lists::lists;
+use crate::stop_lanes::numbered::numbered;
 use gtfs_feed::Feed;
 use gtfs_field::OutOfMemory;
 use gtfs_rows::StopNo;
@@ -54,8 +56,9 @@ impl StopLanes {
     /// The lanes of the place of a stop, whose number is below [`Feed::stop_count`], and a count of steps, which begins at 0:
     /// nothing else makes one.
     ///
-    /// It looks at each stop time of the feed once, and sorts the events of trips without frequencies there. A row of
-    /// `frequencies.txt` takes the same memory however many runs it has.
+    /// It looks at each stop time of the feed once, and sorts the trips without frequencies that pass the place by their
+    /// stops, and then their events there by numbers. A row of `frequencies.txt` takes the same memory however many runs it
+    /// has.
     ///
     /// GTFS Schedule Reference, `stop_times.txt`, `frequencies.txt`, and `parent_station` of `stops.txt`.
     ///
@@ -78,7 +81,9 @@ impl StopLanes {
         feed.soundness();
         let place = Place::of_stop(alloc, feed, stop)?;
         let found = Found::at_place(alloc, feed, &place)?;
-        let lists = lists(alloc, &sorted(found.listed))?;
+        let listed = numbered(alloc, found.listed)?;
+        let listed = sorted(listed);
+        let lists = lists(alloc, &listed)?;
         let greatest = latest(&lists, &found.periods);
         let lanes = StopLanes {
             lists,

@@ -5,13 +5,20 @@ use Rattle.std.proofs.lemmas.List.Elements.{All-drop}
 use Rattle.gtfs_rows.specs.Order.{Ascends}
 use Rattle.gtfs_runs.specs.StopLanes.{events_of_service, list_value}
 use Rattle.gtfs_runs.specs.steps.Courses.{IsListed, how_many, is_same_course, stopping_cmp, stopping_events, stopping_of}
+use Rattle.gtfs_runs.specs.steps.Numbers.{AreNumbered}
 use Rattle.gtfs_runs.proofs.Chunks.{drop_up, left_more, upto_more}
+use Rattle.gtfs_runs.proofs.Numbers.{numbers_left}
 use Rattle.gtfs_runs.proofs.stop_lanes.lists.lists.Goals as goal
 
 pub add_list-requires-clause-sorted : goal.add_list-requires-clause-sorted
 add_list-requires-clause-sorted c =
     let xs = c.args.listed.now in
-    subst (λ l. Ascends stopping_cmp (map stopping_of l)) (sym (take_rest xs c.loop-at.at)) (drop_up c.loop-at.at xs c.requires)
+    subst (λ l. Ascends stopping_cmp (map stopping_of l)) (sym (take_rest xs c.loop-at.at)) (drop_up c.loop-at.at xs c.requires.sorted)
+
+pub add_list-requires-clause-numbers : goal.add_list-requires-clause-numbers
+add_list-requires-clause-numbers c =
+    let xs = c.args.listed.now in
+    subst AreNumbered (sym (take_rest xs c.loop-at.at)) (numbers_left c.loop-at.at xs c.requires.numbers)
 
 pub loop-at-preserved : goal.loop-at-preserved
 loop-at-preserved c =
