@@ -1,15 +1,20 @@
 -- The events of one course, which stand first among sorted ones.
-use Rattle.std.proofs.Common.{◌≡◌, ◌≤◌, ◌<◌, ◌+◌, ◌-◌, ◌++◌, ◌∙◌, ℕ, false, List, [], ◌∷◌, length, map, take, drop, get_or, refl, sym, ap, subst, arith}
+use Rattle.std.proofs.Common.{◌≡◌, ◌≤◌, ◌<◌, ◌+◌, ◌-◌, ◌++◌, ◌∙◌, ℕ, false, true, List, [], ◌∷◌, Some, length, map, take, drop, get_or, refl, sym, ap, subst, arith}
+use Rattle.std.specs.Prelude.{AllPairs}
 use Rattle.std.specs.List.{All}
 use Rattle.std.specs.declared.cmp.Ordering.TheVariants.{Less}
 use Rattle.std.proofs.lemmas.List.{drop-drop, get_or_default, get_or-drop, get_or-map, get_or-take, length-drop, length-map, length-take-le, map-append, take-append-drop, take_rest}
-use Rattle.std.proofs.lemmas.List.Elements.{All-map}
+use Rattle.std.proofs.lemmas.List.Elements.{All-map, All-take}
 use Rattle.std.proofs.lemmas.Simd.{map-map}
 use Rattle.gtfs_rows.specs.Order.{Ascends}
+use Rattle.gtfs_rows.specs.Views.{content_of_parts}
+use Rattle.gtfs_rows.specs.declared.parts.Parts.{Parts}
+use Rattle.gtfs_runs.specs.Kinds.{IsListLane, course_at, is_listed}
 use Rattle.gtfs_runs.specs.Order.{event_cmp}
 use Rattle.gtfs_runs.specs.StopLanes.{LaneValue, events_of_service}
+use Rattle.gtfs_runs.specs.declared.event.Event.{Event}
 use Rattle.gtfs_runs.specs.declared.stop_lanes.listed.Listed.{Listed}
-use Rattle.gtfs_runs.specs.steps.Courses.{CourseNo, Stopping, how_many, is_same_course, stopping_cmp, stopping_events, stopping_of}
+use Rattle.gtfs_runs.specs.steps.Courses.{CourseNo, IsListed, Stopping, course_of, how_many, is_same_course, stopping_cmp, stopping_events, stopping_of}
 use Rattle.gtfs_runs.proofs.CourseOrder.{chunk_differs, lane_ascends, one_course, pairs-left, pairs-right, told_more}
 
 split : (n : ℕ) (xs : List Listed) → map stopping_of xs ≡ map stopping_of (take n xs) ++ map stopping_of (drop n xs)
@@ -21,6 +26,9 @@ drop_up n xs up =
 
 pub all_mapped : {X Y : Type 0} (P : Y → Type 0) (f : X → Y) (xs : List X) → All P (map f xs) → All (λ x. P (f x)) xs
 all_mapped P f xs all k d within = subst P (get_or-map f xs k d (f d) within) (all k (f d) (let size = length-map xs f in omega (arith, size, within)))
+
+all_alike : {Y : Type 0} (f : Event → Y) (es : List Event) (y : Y) → All (λ e. f e ≡ y) es → AllPairs (λ a b. f a ≡ f b) es
+all_alike f es y all i j d before within = all i d (omega (arith, before, within)) ∙ sym (all j d within)
 
 module _ (xs : List Listed) (n : ℕ) (first : Listed) (some : 0 < n) (upto : n ≤ length xs) (up : Ascends stopping_cmp (map stopping_of xs))
     (same : (k : ℕ) (d : Listed) → k < n → ◌≡◌ {A = CourseNo} (stopping_of (get_or xs k d)).course (stopping_of (get_or xs 0 d)).course) (head : first ≡ get_or xs 0 first) where
@@ -48,6 +56,19 @@ module _ (xs : List Listed) (n : ℕ) (first : Listed) (some : 0 < n) (upto : n 
   lane_up =
       subst (λ l. Ascends event_cmp l) (map-map (λ z. z.event) stopping_of (take n xs))
       (lane_ascends fs c (pairs-left (λ a b. stopping_cmp a b ≡ Less) fs bs (subst (λ l. Ascends stopping_cmp l) (split n xs) up)) one)
+
+  -- its lane has one course of trips without frequencies
+  pub lane_of_course : (p : Parts) (lane : LaneValue) → lane.events ≡ map (λ x. x.event) (take n xs) → All (λ x. IsListed p (stopping_of x)) xs → IsListLane (content_of_parts p) lane
+  lane_of_course p lane events own =
+      let found : All (λ x. IsListed p (stopping_of x)) (take n xs) = All-take (λ x. IsListed p (stopping_of x)) n xs own in
+      let courses : All (λ x. (stopping_of x).course ≡ c) (take n xs) = all_mapped (λ z. z.course ≡ c) stopping_of (take n xs) one in
+      let content = content_of_parts p in
+      record {
+        listed = subst (λ es. All (λ e. is_listed content e ≡ true) es) (sym events) (All-map (λ e. is_listed content e ≡ true) (λ x. x.event) (take n xs) (λ k d h. (found k d h).listed));
+        alike = subst (λ es. AllPairs (λ x y. course_at content x ≡ course_at content y) es) (sym events)
+            (all_alike (course_at content) (map (λ x. x.event) (take n xs)) (Some (course_of p c))
+            (All-map (λ e. course_at content e ≡ Some (course_of p c)) (λ x. x.event) (take n xs) (λ k d h. (found k d h).course ∙ ap (λ z. Some (course_of p z)) (courses k d h))));
+      }
 
   module _ (ends : (d : Listed) → n < length xs → is_same_course (stopping_of (get_or xs 0 d)).course (stopping_of (get_or xs n d)).course ≡ false) where
     differ : All (λ z. is_same_course (stopping_of first).course z.course ≡ false) (map stopping_of (drop n xs))

@@ -90,7 +90,7 @@ module _ (p : Parts) (sound : IsSoundParts p) where
       ap (bytes_eq (text_of_number (service_ids p) m)) (sym same) ∙ text_itself (text_of_number (service_ids p) m) in
       eqb-true m n (sym (same_service p sound m n a b) ∙ holds)
 
-  same_stops : (xs ys : List ℕ) → All (λ n. n < length p.stops) xs → All (λ n. n < length p.stops) ys → map (text_of_number (stop_ids p)) xs ≡ map (text_of_number (stop_ids p)) ys → xs ≡ ys
+  pub same_stops : (xs ys : List ℕ) → All (λ n. n < length p.stops) xs → All (λ n. n < length p.stops) ys → map (text_of_number (stop_ids p)) xs ≡ map (text_of_number (stop_ids p)) ys → xs ≡ ys
   same_stops [] [] a b same = refl
   same_stops [] (y ∷ ys) a b same = cc
   same_stops (x ∷ xs) [] a b same = cc

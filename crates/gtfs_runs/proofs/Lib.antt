@@ -19,6 +19,9 @@ mod Samples
 mod LaneTallies
 mod TripFinds
 mod TripTimes
+mod Ranks
+mod Numbers
+mod OneList
 mod CourseOrder
 mod Latest
 mod CourseCounts

@@ -1,6 +1,6 @@
 -- What one trip adds to what is found of the trips before it.
 use Rattle.std.proofs.Common.{◌≡◌, ◌≤◌, ◌<◌, ◌+◌, ◌*◌, ◌-◌, ◌++◌, ◌∙◌, ℕ, zero, suc, Bool, true, false, not, cond, List, [], ◌∷◌, length, map, filter, take, get_or, Option, Some, None, refl, sym, ap, subst, arith, inl, inr, ◌&&◌, ◌==◌, zero-add}
-use Rattle.std.specs.Prelude.{is_some, unwrap_or}
+use Rattle.std.specs.Prelude.{is_some, option_map, unwrap_or}
 use Rattle.std.specs.List.{All, enumerate_from, flat_map, list_any, slice_get}
 use Rattle.std.specs.Cmp.{both_ways}
 use Rattle.std.specs.Cmp.Derive.{both_true}
@@ -30,7 +30,7 @@ use Rattle.gtfs_runs.specs.StopLanes.{LaneValue}
 use Rattle.gtfs_runs.specs.Trips.{allows_boarding, is_departure_row, is_not_last, is_run, is_timed, passes_at, starts_run, trip_start}
 use Rattle.gtfs_runs.specs.declared.event.Event.{Event}
 use Rattle.gtfs_runs.specs.declared.stop_lanes.passing.Passing.{Passing}
-use Rattle.gtfs_runs.specs.steps.Courses.{IsCourse, Stopping, course_of, stopping_events, stops_in}
+use Rattle.gtfs_runs.specs.steps.Courses.{IsCourse, IsListed, Stopping, course_of, stopping_events, stops_in}
 use Rattle.gtfs_runs.specs.steps.Finds.{AreFound, stopping_at, times_found, times_passed_in, times_told}
 use Rattle.gtfs_runs.specs.steps.Passings.{first_left, leaves, passing_at, passing_event, passings_of}
 use Rattle.gtfs_runs.proofs.ContentEvents.{event_is, is_at}
@@ -278,18 +278,29 @@ module _ (p : Parts) (sound : IsSoundParts p) (s t : ℕ) (row : Trip) (rs : Lis
         never true = refl
         never false = refl
 
+    stops_are : map (text_of_number (stop_ids p)) (stops_in rs) ≡ stops_of (trip_of p row rs [])
+    stops_are = map-map (text_of_number (stop_ids p)) (λ r. r.stop_id.0) rs ∙ sym (map-map (λ r. r.stop_id) (stop_row_of p) rs)
+
     courses_are : map (λ x. course_of p x.course) (map (stopping_at (stops_in rs) row.service_id.0 t (first_left rs)) (passings_of p s row rs []))
         ≡ courses_of (content_of_parts p) (text_of_number (stop_ids p) s) (trip_of p row rs [])
     courses_are =
         let ys = filter (leaves p s row rs []) (enumerate_from 0 rs) in
         let text = text_of_number (stop_ids p) in
         let service = text_of_number (service_ids p) row.service_id.0 in
-        let stops : map text (stops_in rs) ≡ stops_of (trip_of p row rs []) = map-map text (λ r. r.stop_id.0) rs ∙ sym (map-map (λ r. r.stop_id) (stop_row_of p) rs) in
         map-map (λ x. course_of p x.course) (stopping_at (stops_in rs) row.service_id.0 t (first_left rs)) (passings_of p s row rs [])
         ∙ map-map {A = ℕ × StopRow} (λ x. (map text (stops_in rs), x.row, service)) (passing_at (first_left rs)) ys
-        ∙ ap (λ l. map {A = ℕ × StopRow} {B = Course} (λ y. (l, y.0, service)) ys) stops
+        ∙ ap (λ l. map {A = ℕ × StopRow} {B = Course} (λ y. (l, y.0, service)) ys) stops_are
         ∙ sym (ap (map {A = ℕ × content.StopRow} {B = Course} (λ y. (stops_of (trip_of p row rs []), y.0, service))) (rows_are p sound s t row rs [] at_trip at_rows at_periods)
         ∙ map-map {A = ℕ × StopRow} (λ y. (stops_of (trip_of p row rs []), y.0, service)) (λ x. (x.0, stop_row_of p x.1)) ys)
+
+    -- each of its events is one of a trip without frequencies
+    own_course : (x : Passing) → IsListed p (stopping_at (stops_in rs) row.service_id.0 t (first_left rs) x)
+    own_course x =
+        let at : slice_get (content_of_parts p).trips t ≡ Some (trip_of p row rs []) = content_trip p t row rs [] at_trip at_rows at_periods in
+        record {
+          listed = ap (λ o. if_there o (λ w. not (has_periods w))) at;
+          course = ap (option_map (λ w. (stops_of w, x.row, w.service_id))) at ∙ ap (λ l. Some (l, x.row, text_of_number (service_ids p) row.service_id.0)) (sym stops_are);
+        }
 
     pub listed_found : (old new : List Stopping) (ps : List LaneValue) → new ≡ old ++ map (stopping_at (stops_in rs) row.service_id.0 t (first_left rs)) (passings_of p s row rs [])
         → AreFound p s t old ps → AreFound p s (t + 1) new ps
@@ -312,6 +323,7 @@ module _ (p : Parts) (sound : IsSoundParts p) (s t : ℕ) (row : Trip) (rs : Lis
                 service = trip_service p sound t row at_trip;
                 stops = All-map (λ n. n < length p.stops) (λ r. r.stop_id.0) rs (stop_times p sound t rs at_rows).stops;
               })));
+          own = subst (λ l. All (IsListed p) l) (sym pushed) (All-append (IsListed p) old (map f xs) was.own (All-map (IsListed p) f xs (λ k d h. own_course (get_or xs k d))));
           within = was.within;
           courses = ap (map (λ x. course_of p x.course)) pushed ∙ map-append (λ x. course_of p x.course) old (map f xs) ∙ (λ i. was.courses i ++ courses_are i)
               ∙ sym (trips_more (λ w. not (has_periods w)) (courses_of c id) c.trips t v at);
@@ -427,6 +439,7 @@ module _ (p : Parts) (sound : IsSoundParts p) (s t : ℕ) (row : Trip) (rs : Lis
             ∙ (λ i. was.exact k e within i + periods_delta k e within i)
             ∙ one_more_below e.trip.0 t (ev p sound s t row rs fs at_trip at_rows at_periods k e);
         known = was.known;
+        own = was.own;
         within = serve (length p.services) (trip_service p sound t row at_trip) was.within;
         courses = was.courses ∙ sym (trips_more (λ w. not (has_periods w)) (courses_of c id) c.trips t v at
             ∙ ap (λ b. flat_map (courses_of c id) (filter (λ w. not (has_periods w)) (take t c.trips)) ++ cond (not b) (courses_of c id v) []) has ∙ append-nil _);

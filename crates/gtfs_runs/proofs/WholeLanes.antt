@@ -14,6 +14,7 @@ use Rattle.std.proofs.lemmas.List.{length-append, length-map}
 use Rattle.std.proofs.lemmas.List.Elements.{All-append, All-map}
 use Rattle.std.proofs.lemmas.List.Sorted.{All-permutation, IsPermutation-map, ranks_by, sorted_far}
 use Rattle.std.proofs.lemmas.Simd.{map-map}
+use Rattle.gtfs_rows.specs.Content.{Content}
 use Rattle.gtfs_rows.specs.Order.{Ascends}
 use Rattle.gtfs_rows.specs.declared.frequency.Frequency.{Frequency}
 use Rattle.gtfs_rows.specs.declared.parts.Parts.{Parts}
@@ -23,6 +24,7 @@ use Rattle.gtfs_rows.specs.Views.{IsSoundParts, content_of_parts, service_ids, s
 use Rattle.gtfs_feed.specs.Trips.{frequencies_by_trip, stop_rows_by_trip}
 use Rattle.gtfs_runs.specs.Counts.{is_same, tally}
 use Rattle.gtfs_runs.specs.Events.{is_event}
+use Rattle.gtfs_runs.specs.Kinds.{AreByKind, IsListLane}
 use Rattle.gtfs_runs.specs.Lanes.{Course, course_cmp, courses_of, departure_rows, has_periods, list_count, period_count}
 use Rattle.gtfs_runs.specs.Order.{event_cmp}
 use Rattle.gtfs_runs.specs.StopLanes.{AreLanesOf, LaneValue, events_of_service}
@@ -104,36 +106,49 @@ module _ (p : Parts) (s : ℕ) (listed : List Stopping) (periods : List LaneValu
 
   module _ (sound : IsSoundParts p) (sorted : List Stopping) (same : IsPermutation listed sorted) (lists : List LaneValue)
       (told : (k : ℕ) → events_of_service k lists ≡ stopping_events k sorted) where
+    abbrev c : Content
+    c = content_of_parts p
+
+    abbrev id : List ℕ
+    id = text_of_number (stop_ids p) s
+
+    every : take (length p.trips) (content_of_parts p).trips ≡ (content_of_parts p).trips
+    every = all_taken (length p.trips) c.trips (trips_within p p.trips (stop_rows_by_trip p) (frequencies_by_trip p))
+
+    listed_count : length lists ≡ how_many is_same_course (map (λ x. x.course) sorted) → list_count (content_of_parts p) (text_of_number (stop_ids p) s) ≡ length lists
+    listed_count count =
+        let f : Stopping → Course = λ x. course_of p x.course in
+        let known : All (λ a. IsCourse p a.course) sorted = All-permutation (λ a. IsCourse p a.course) listed sorted same found.known in
+        let texts : flat_map (courses_of c id) (filter (λ t. not (has_periods t)) c.trips) ≡ map f listed =
+        sym (found.courses ∙ ap (λ l. flat_map (courses_of c id) (filter (λ t. not (has_periods t)) l)) every) in
+        ap (λ l. set.len (set.from_list {R = course_cmp} l)) texts
+        ∙ set_permuted (map f listed) (map f sorted) (IsPermutation-map f listed sorted same)
+        ∙ ap (how_many (eq_by_cmp course_cmp)) (sym (map-map (course_of p) (λ x. x.course) sorted))
+        ∙ as_many p sound (map (λ x. x.course) sorted) (All-map (IsCourse p) (λ x. x.course) sorted known)
+        ∙ sym count
+
+    periodic : period_count (content_of_parts p) (text_of_number (stop_ids p) s) ≡ length periods
+    periodic = sym (found.counted ∙ ap (λ l. length (flat_map (λ t. flat_map (λ period. departure_rows c id t) t.frequencies) (filter has_periods l))) every)
+
     exact_lanes : (k : ℕ) (e : Event) → k < length p.services → times_told k e (lists ++ periods) ≡ cond (ev k e) 1 0
     exact_lanes k e within =
         let moved : times_told k e lists ≡ tally (is_same e) (stopping_events k listed) =
         ap (tally (is_same e)) (told k) ∙ events_tally k e sorted ∙ tally-permutation (λ x. (x.course.service == k) && is_same e x.event) listed sorted same ∙ sym (events_tally k e listed) in
         told-append k e lists periods ∙ ap (λ n. n + times_told k e periods) moved ∙ told_once k e within
 
+    pub are_by_kind : (greatest : ℕ) → length lists ≡ how_many is_same_course (map (λ x. x.course) sorted) → All (IsListLane (content_of_parts p)) lists
+        → AreByKind (content_of_parts p) (text_of_number (stop_ids p) s) (record { lists = lists; periods = periods; greatest = greatest })
+    are_by_kind greatest count alike = record { lists = sym (listed_count count); periods = sym periodic; listed = alike }
+
     pub are_lanes : length lists ≡ how_many is_same_course (map (λ x. x.course) sorted) → All (λ lane. lane.service < length p.services) lists
         → All (λ lane. Ascends event_cmp lane.events) lists → All (λ lane. Ascends event_cmp lane.events) periods
         → AreLanesOf (content_of_parts p) (text_of_number (stop_ids p) s) (service_ids p) (lists ++ periods)
     are_lanes count within up_lists up_periods =
-        let c = content_of_parts p in
-        let id = text_of_number (stop_ids p) s in
         let services : length (service_ids p) ≡ length p.services = length-map p.services (λ x. x.service_id) in
-        let every : take (length p.trips) c.trips ≡ c.trips = all_taken (length p.trips) c.trips (trips_within p p.trips (stop_rows_by_trip p) (frequencies_by_trip p)) in
-        let f : Stopping → Course = λ x. course_of p x.course in
-        let known : All (λ a. IsCourse p a.course) sorted = All-permutation (λ a. IsCourse p a.course) listed sorted same found.known in
-        let texts : flat_map (courses_of c id) (filter (λ t. not (has_periods t)) c.trips) ≡ map f listed =
-        sym (found.courses ∙ ap (λ l. flat_map (courses_of c id) (filter (λ t. not (has_periods t)) l)) every) in
-        let listed_count : list_count c id ≡ length lists =
-        ap (λ l. set.len (set.from_list {R = course_cmp} l)) texts
-        ∙ set_permuted (map f listed) (map f sorted) (IsPermutation-map f listed sorted same)
-        ∙ ap (how_many (eq_by_cmp course_cmp)) (sym (map-map (course_of p) (λ x. x.course) sorted))
-        ∙ as_many p sound (map (λ x. x.course) sorted) (All-map (IsCourse p) (λ x. x.course) sorted known)
-        ∙ sym count in
-        let periodic : period_count c id ≡ length periods =
-        sym (found.counted ∙ ap (λ l. length (flat_map (λ t. flat_map (λ period. departure_rows c id t) t.frequencies) (filter has_periods l))) every) in
         record {
           within = All-append (λ lane. lane.service < length (service_ids p)) lists periods
               (subst (λ n. All (λ lane. lane.service < n) lists) (sym services) within) (subst (λ n. All (λ lane. lane.service < n) periods) (sym services) found.within);
           ascending = All-append (λ lane. Ascends event_cmp lane.events) lists periods up_lists up_periods;
           exact = λ k e below. exact_lanes k e (subst (λ n. k < n) services below);
-          counted = length-append lists periods ∙ (λ i. sym listed_count i + sym periodic i);
+          counted = length-append lists periods ∙ (λ i. sym (listed_count count) i + sym periodic i);
         }

@@ -7,5 +7,6 @@ pub mod Events
 pub mod Lanes
 pub mod Patterns
 pub mod StopLanes
+pub mod Kinds
 pub mod steps
 pub mod FlatEvents

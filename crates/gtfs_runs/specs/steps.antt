@@ -2,3 +2,4 @@ pub mod Passings
 pub mod Courses
 pub mod Finds
 pub mod Lists
+pub mod Numbers

@@ -1,6 +1,7 @@
 ghost use Rattle.std.specs.Prelude.{◌≡◌, ◌<◌, IfOk, length, map};
 ghost use Rattle.gtfs_feed.specs.Content.{content_of};
 ghost use Rattle.gtfs_rows.specs.Views.{service_ids, stop_ids, text_of_number};
+ghost use Rattle.gtfs_runs.specs.Kinds.{AreByKind};
 ghost use Rattle.gtfs_runs.specs.Lanes.{latest};
 ghost use Rattle.gtfs_runs.specs.StopLanes.{AreLanesOf, lanes_of, list_value, period_value};
 
@@ -8,6 +9,7 @@ mod found;
 mod latest;
 mod listed;
 mod lists;
+mod numbered;
 mod passing;
 
 use crate::list_lane::ListLane;
@@ -18,6 +20,7 @@ use crate::stop_lanes::found::Found;
 use crate::stop_lanes::latest::latest;
 use crate::stop_lanes::listed::sorted;
 use crate::stop_lanes::lists::lists;
+use crate::stop_lanes::numbered::numbered;
 use gtfs_feed::Feed;
 use gtfs_field::OutOfMemory;
 use gtfs_rows::StopNo;
@@ -53,8 +56,9 @@ impl StopLanes {
     /// The lanes of the place of a stop, whose number is below [`Feed::stop_count`], and a count of steps, which begins at 0:
     /// nothing else makes one.
     ///
-    /// It looks at each stop time of the feed once, and sorts the events of trips without frequencies there. A row of
-    /// `frequencies.txt` takes the same memory however many runs it has.
+    /// It looks at each stop time of the feed once, and sorts the trips without frequencies that pass the place by their
+    /// stops, and then their events there by numbers. A row of `frequencies.txt` takes the same memory however many runs it
+    /// has.
     ///
     /// GTFS Schedule Reference, `stop_times.txt`, `frequencies.txt`, and `parent_station` of `stops.txt`.
     ///
@@ -68,6 +72,8 @@ impl StopLanes {
         requires { stop.0 < length feed.now.stops }
         ensures lanes { IfOk result (λ built. AreLanesOf (content_of feed.now)
             (text_of_number (stop_ids feed.now) stop.0) (service_ids feed.now) (lanes_of built.0)) }
+        ensures kinds { IfOk result (λ built. AreByKind (content_of feed.now)
+            (text_of_number (stop_ids feed.now) stop.0) built.0) }
         ensures greatest { IfOk result (λ built. built.0.greatest
             ≡ latest (content_of feed.now) (text_of_number (stop_ids feed.now) stop.0)) }
         ensures steps { IfOk result (λ built. built.1 ≡ 0) }
@@ -75,7 +81,9 @@ impl StopLanes {
         feed.soundness();
         let place = Place::of_stop(alloc, feed, stop)?;
         let found = Found::at_place(alloc, feed, &place)?;
-        let lists = lists(alloc, &sorted(found.listed))?;
+        let listed = numbered(alloc, found.listed)?;
+        let listed = sorted(listed);
+        let lists = lists(alloc, &listed)?;
         let greatest = latest(&lists, &found.periods);
         let lanes = StopLanes {
             lists,

@@ -1,12 +1,13 @@
 -- The course of each event of trips without frequencies, by numbers, and the order that brings courses together.
-use Rattle.std.specs.Prelude.{◌<◌, ◌+◌, ◌==◌, ℕ, Bool, All, List, [], ◌∷◌, cond, filter, length, map}
+use Rattle.std.specs.Prelude.{◌≡◌, ◌<◌, ◌+◌, ◌==◌, ℕ, Bool, true, All, List, [], ◌∷◌, Some, cond, filter, length, map}
 use Rattle.std.specs.List.{list_any}
 use Rattle.std.specs.Cmp.Lexicographic.{slice_cmp}
 use Rattle.std.specs.Ordering.{nat_cmp, on, then_cmp, is_eq}
 use Rattle.std.specs.declared.cmp.Ordering.{Ordering}
-use Rattle.gtfs_rows.specs.Views.{service_ids, stop_ids, text_of_number}
+use Rattle.gtfs_rows.specs.Views.{content_of_parts, service_ids, stop_ids, text_of_number}
 use Rattle.gtfs_rows.specs.declared.parts.Parts.{Parts}
 use Rattle.gtfs_rows.specs.declared.stop_row.StopRow.{StopRow}
+use Rattle.gtfs_runs.specs.Kinds.{course_at, is_listed}
 use Rattle.gtfs_runs.specs.Lanes.{Course}
 use Rattle.gtfs_runs.specs.Order.{event_cmp}
 use Rattle.gtfs_runs.specs.declared.event.Event.{Event}
@@ -66,3 +67,8 @@ pub record IsCourse (p : Parts) (c : CourseNo) : Type 0 where
 
 abbrev pub course_of : Parts → CourseNo → Course
 course_of p c = (map (text_of_number (stop_ids p)) c.stops, c.row, text_of_number (service_ids p) c.service)
+
+-- the event is of a trip without rows of frequencies.txt, and this is its course
+pub record IsListed (p : Parts) (x : Stopping) : Type 0 where
+  pub listed : is_listed (content_of_parts p) x.event ≡ true
+  pub course : course_at (content_of_parts p) x.event ≡ Some (course_of p x.course)

@@ -11,7 +11,7 @@ use Rattle.gtfs_runs.specs.StopLanes.{LaneValue, events_of_service}
 use Rattle.gtfs_runs.specs.Trips.{starts_run}
 use Rattle.gtfs_runs.specs.declared.event.Event.{Event}
 use Rattle.gtfs_runs.specs.declared.stop_lanes.passing.Passing.{Passing}
-use Rattle.gtfs_runs.specs.steps.Courses.{IsCourse, Stopping, course_of, stopping_events}
+use Rattle.gtfs_runs.specs.steps.Courses.{IsCourse, IsListed, Stopping, course_of, stopping_events}
 use Rattle.gtfs_runs.specs.steps.Passings.{passing_event}
 
 -- how often the lanes of a service tell an event
@@ -52,6 +52,7 @@ pub record AreFound (p : Parts) (s n : ℕ) (listed : List Stopping) (periods : 
   pub exact : (k : ℕ) (e : Event) → k < length p.services
       → times_found k e listed periods ≡ cond (nat_lt e.trip.0 n && is_event (content_of_parts p) (text_of_number (stop_ids p) s) (text_of_number (service_ids p) k) e) 1 0
   pub known : All (λ x. IsCourse p x.course) listed
+  pub own : All (IsListed p) listed
   pub within : All (λ lane. lane.service < length p.services) periods
   pub courses : map (λ x. course_of p x.course) listed
       ≡ flat_map (courses_of (content_of_parts p) (text_of_number (stop_ids p) s)) (filter (λ t. not (has_periods t)) (take n (content_of_parts p).trips))

@@ -102,6 +102,7 @@ fn add_listed<'a>(
         listed.push(Listed {
             service,
             rows,
+            number: 0,
             event: passing.event(trip, start),
         })?;
     }

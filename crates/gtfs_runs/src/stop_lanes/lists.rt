@@ -1,25 +1,33 @@
 ghost use Rattle.std.specs.Prelude.{◌≡◌, ◌≤◌, ◌<◌, ◌+◌, ◌++◌, ℕ, All, IfOk, drop, false, length, map, slice_index_or};
 ghost use Rattle.gtfs_rows.specs.Order.{Ascends};
+ghost use Rattle.gtfs_rows.specs.Views.{content_of_parts};
+ghost use Rattle.gtfs_rows.specs.declared.parts.Parts.{Parts};
+ghost use Rattle.gtfs_runs.specs.Kinds.{IsListLane};
 ghost use Rattle.gtfs_runs.specs.Order.{event_cmp};
 ghost use Rattle.gtfs_runs.specs.StopLanes.{events_of_service, list_value};
 ghost use Rattle.gtfs_runs.specs.declared.stop_lanes.listed.Listed.{Listed as ListedValue};
-ghost use Rattle.gtfs_runs.specs.steps.Courses.{how_many, is_same_course, stopping_cmp, stopping_events, stopping_of};
+ghost use Rattle.gtfs_runs.specs.steps.Numbers.{AreNumbered};
+ghost use Rattle.gtfs_runs.specs.steps.Courses.{IsListed, how_many, is_same_course, stopping_cmp, stopping_events, stopping_of};
 
 use crate::list_lane::ListLane;
-use crate::stop_lanes::listed::{Listed, course_order};
+use crate::stop_lanes::listed::{Listed, is_one_course};
 use gtfs_field::OutOfMemory;
 use gtfs_rows::ServiceNo;
 use std::alloc::Global;
 
 // A lane for each course of these events, which are sorted.
 pub(crate) fn lists(alloc: Global, listed: &[Listed<'_>]) -> Result<Vec<ListLane>, OutOfMemory>
-    requires { Ascends stopping_cmp (map stopping_of listed.now) }
+    requires sorted { Ascends stopping_cmp (map stopping_of listed.now) }
+    requires numbers { AreNumbered listed.now }
     ensures told { IfOk result (λ lists. (k : ℕ) → events_of_service k (map list_value lists.items)
         ≡ stopping_events k (map stopping_of listed.now)) }
     ensures counted { IfOk result (λ lists. length lists.items
         ≡ how_many is_same_course (map (λ x. x.course) (map stopping_of listed.now))) }
     ensures within { IfOk result (λ lists. (n : ℕ) → All (λ x. x.service.0 < n) listed.now
         → All (λ lane. lane.service < n) (map list_value lists.items)) }
+    ensures alike { IfOk result (λ lists. (p : Parts)
+        → All (λ x. IsListed p (stopping_of x)) listed.now
+        → All (IsListLane (content_of_parts p)) (map list_value lists.items)) }
 {
     let mut lists = Vec::new(alloc);
     let mut at = 0;
@@ -37,6 +45,7 @@ fn add_list(
 ) -> Result<usize, OutOfMemory>
     requires some { 0 < length listed.now }
     requires sorted { Ascends stopping_cmp (map stopping_of listed.now) }
+    requires numbers { AreNumbered listed.now }
     ensures some { IfOk result (λ n. 0 < n) }
     ensures upto { IfOk result (λ n. n ≤ length listed.now) }
     ensures told { IfOk result (λ n. (k : ℕ) → events_of_service k (map list_value lists.new.items)
@@ -50,6 +59,10 @@ fn add_list(
     ensures within { IfOk result (λ n. (m : ℕ) → All (λ x. x.service.0 < m) listed.now
         → All (λ lane. lane.service < m) (map list_value lists.old.items)
         → All (λ lane. lane.service < m) (map list_value lists.new.items)) }
+    ensures alike { IfOk result (λ n. (p : Parts)
+        → All (λ x. IsListed p (stopping_of x)) listed.now
+        → All (IsListLane (content_of_parts p)) (map list_value lists.old.items)
+        → All (IsListLane (content_of_parts p)) (map list_value lists.new.items)) }
 {
     let len = course_len(listed);
     let list = list_lane(alloc, listed[0].service, &listed[..len])?;
@@ -59,7 +72,8 @@ fn add_list(
 
 // How many events at the beginning have the course of the first.
 fn course_len(listed: &[Listed<'_>]) -> usize
-    requires { 0 < length listed.now }
+    requires some { 0 < length listed.now }
+    requires numbers { AreNumbered listed.now }
     ensures some { 0 < result }
     ensures within { result ≤ length listed.now }
     ensures same { (k : ℕ) (d : ListedValue) → k < result
@@ -70,7 +84,7 @@ fn course_len(listed: &[Listed<'_>]) -> usize
         (stopping_of (slice_index_or listed.now result d)).course ≡ false }
 {
     let mut len = 1;
-    while len < listed.len() && course_order(&listed[0], &listed[len]).is_eq() {
+    while len < listed.len() && is_one_course(&listed[0], &listed[len]) {
         len += 1;
     }
     len

@@ -1,8 +1,12 @@
-use Rattle.std.proofs.Common.{◌∙◌, [], ◌∷◌, length, map, drop, sym, ap}
+use Rattle.std.proofs.Common.{◌∙◌, [], ◌∷◌, length, map, drop, sym, ap, subst}
+use Rattle.std.specs.List.{All}
 use Rattle.std.proofs.lemmas.List.{length-append, map-append}
+use Rattle.std.proofs.lemmas.List.Elements.{All-push}
+use Rattle.gtfs_rows.specs.Views.{content_of_parts}
+use Rattle.gtfs_runs.specs.Kinds.{IsListLane}
 use Rattle.gtfs_runs.specs.StopLanes.{list_value}
 use Rattle.gtfs_runs.specs.steps.Courses.{how_many, is_same_course, stopping_of}
-use Rattle.gtfs_runs.proofs.Chunks.{fewer, lane_up, told_list}
+use Rattle.gtfs_runs.proofs.Chunks.{fewer, lane_of_course, lane_up, told_list}
 use Rattle.gtfs_runs.proofs.CourseOrder.{count_more}
 use Rattle.gtfs_runs.proofs.stop_lanes.lists.add_list.Goals as goal
 
@@ -19,6 +23,17 @@ returns-clause-told c = λ k.
     told_list c.args.listed.now len.result c.index-listed-0.result len.ensures.some len.ensures.within c.requires.sorted len.ensures.same c.index-listed-0.is
     k (map list_value old) (map list_value c.push.new.self.items) (list_value lane) (ap (map list_value) c.in_ok-push.ensures.items ∙ map-append list_value old (lane ∷ []))
     c.in_ok-list.ensures.events (ap (λ x. x.0) c.in_ok-list.ensures.service ∙ ap (λ x. x.service.0) (sym c.index-listed-0.is))
+
+pub returns-clause-alike : goal.returns-clause-alike
+returns-clause-alike c = λ p own was.
+    let len = c.course_len-len in
+    let lane = c.in_ok-list.list in
+    let old = c.args.lists.now.items in
+    let pushed = ap (map list_value) c.in_ok-push.ensures.items ∙ map-append list_value old (lane ∷ []) in
+    subst (λ l. All (IsListLane (content_of_parts p)) l) (sym pushed)
+    (All-push (IsListLane (content_of_parts p)) (map list_value old) (list_value lane) was
+    (lane_of_course c.args.listed.now len.result c.index-listed-0.result len.ensures.some len.ensures.within c.requires.sorted len.ensures.same c.index-listed-0.is p (list_value lane)
+    c.in_ok-list.ensures.events own))
 
 pub returns-clause-counted : goal.returns-clause-counted
 returns-clause-counted c =

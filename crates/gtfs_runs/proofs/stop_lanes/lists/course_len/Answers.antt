@@ -1,5 +1,4 @@
 use Rattle.std.proofs.Common.{◌≡◌, ◌<◌, ◌∙◌, length, get_or, nat_lt, sym, ap, arith, inl, inr}
-use Rattle.std.specs.Ordering.{is_eq}
 use Rattle.std.proofs.lemmas.Bool.{cases_Bool, ltb-false, ltb-true}
 use Rattle.std.proofs.lemmas.List.{get_or_default}
 use Rattle.gtfs_runs.specs.steps.Courses.{CourseNo, stopping_of}
@@ -15,7 +14,7 @@ loop-len-preserved c =
     let inside : n < length xs = c.loop-len-test.true in
     let filled : 0 < length xs = omega (arith, inside) in
     let equal : ◌≡◌ {A = CourseNo} (stopping_of a).course (stopping_of b).course =
-    course_is (stopping_of a).course (stopping_of b).course (ap is_eq (sym c.course_order.ensures) ∙ sym c.is_eq.ensures ∙ c.if-is_eq.true) in
+    course_is (stopping_of a).course (stopping_of b).course (sym c.is_one_course.ensures ∙ c.if-is_one_course.true) in
     record {
       some = omega arith;
       within = omega (arith, inside);

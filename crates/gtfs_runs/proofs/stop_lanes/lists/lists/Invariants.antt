@@ -1,7 +1,10 @@
 use Rattle.std.proofs.Common.{◌≡◌, ◌≤◌, ◌<◌, ◌+◌, ◌-◌, ◌++◌, ℕ, drop, length, map}
 use Rattle.std.specs.List.{All}
+use Rattle.gtfs_rows.specs.Views.{content_of_parts}
+use Rattle.gtfs_rows.specs.declared.parts.Parts.{Parts}
+use Rattle.gtfs_runs.specs.Kinds.{IsListLane}
 use Rattle.gtfs_runs.specs.StopLanes.{events_of_service, list_value}
-use Rattle.gtfs_runs.specs.steps.Courses.{how_many, is_same_course, stopping_events, stopping_of}
+use Rattle.gtfs_runs.specs.steps.Courses.{IsListed, how_many, is_same_course, stopping_events, stopping_of}
 use Rattle.gtfs_runs.proofs.stop_lanes.lists.lists.Given as goal
 
 -- the lanes so far, with what is left, tell the events and courses of all
@@ -11,6 +14,7 @@ invariant-loop-at l = record {
   told : (k : ℕ) → events_of_service k (map list_value l.lists.items) ++ stopping_events k (map stopping_of (drop l.at l.listed)) ≡ stopping_events k (map stopping_of l.listed);
   counted : length l.lists.items + how_many is_same_course (map (λ x. x.course) (map stopping_of (drop l.at l.listed))) ≡ how_many is_same_course (map (λ x. x.course) (map stopping_of l.listed));
   within : (m : ℕ) → All (λ x. x.service.0 < m) l.listed → All (λ lane. lane.service < m) (map list_value l.lists.items);
+  alike : (p : Parts) → All (λ x. IsListed p (stopping_of x)) l.listed → All (IsListLane (content_of_parts p)) (map list_value l.lists.items);
 }
 
 abbrev pub decreases-loop-at : goal.decreases-loop-at
