@@ -9,7 +9,7 @@
 //! - [`Parts`] are all rows of a feed, each list in the order of its keys; [`stretch`] finds the rows of one trip.
 //!
 //! ```text
-//! let row = StopRow { stop_id: StopNo(3), arrival_time: OptionalClock::NONE, .. };
+//! let row = StopRow { stop_id: StopNo(3), arrival_time: OptionalClock::new(None), .. };
 //! row.pickup_type == PickupType::Regular
 //! ```
 //!
