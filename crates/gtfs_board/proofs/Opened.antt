@@ -33,7 +33,7 @@ use Rattle.gtfs_runs.specs.Lanes.{latest}
 use Rattle.gtfs_runs.specs.StopLanes.{AreLanesOf, StopLanesValue, lanes_of}
 use Rattle.gtfs_table.specs.Folder.{text_cmp}
 use Rattle.gtfs_board.specs.Board as board
-use Rattle.gtfs_board.specs.Board.{BoardValue, FirstIsLeast, first_instant, keys_of, may_be_opened, start_of}
+use Rattle.gtfs_board.specs.Board.{BoardValue, FirstIsLeast, first_instant, keys_of, may_be_opened, start_of, step_count, steps_for_days}
 use Rattle.gtfs_board.specs.CandidateKeys.{key_among}
 use Rattle.gtfs_board.specs.Departures.{IsBoard, departs_at, is_above, is_member}
 use Rattle.gtfs_board.specs.Floors.{IsNumbered, is_from}
@@ -291,11 +291,11 @@ open_taken p v w (Some c) opened taken days = record {
   days = days ∙ opened.days;
 }
 
-pub steps_kept : (p : Parts) (z : Zone) (v w : MergeValue) → v.days ≡ service_days → w.days ≡ service_days → merge.AreStepsWithin v w
-    → w.steps + v.lanes * board.reach v.latest v.start (board.position (board_value p z v)) ≤ v.steps + 1 + v.lanes * board.reach w.latest w.start (board.position (board_value p z w))
-steps_kept p z v w days_v days_w h =
-    subst (λ n. w.steps + v.lanes * n ≤ v.steps + 1 + v.lanes * board.reach w.latest w.start (board.position (board_value p z w))) (sym (reach_is p z v days_v))
-    (subst (λ m. w.steps + v.lanes * merge.reach v ≤ v.steps + 1 + v.lanes * m) (sym (reach_is p z w days_w)) h)
+pub steps_kept : (p : Parts) (z : Zone) (v w : MergeValue) (n : ℕ) → v.days ≡ service_days → w.days ≡ service_days → merge.AreStepsWithin n v w
+    → board.AreStepsWithin n (step_count (board_value p z v)) (step_count (board_value p z w))
+steps_kept p z v w n days_v days_w h =
+    subst (λ m. w.steps + v.lanes * m ≤ v.steps + n + steps_for_days (board_value p z w)) (sym (reach_is p z v days_v))
+    (subst (λ m. w.steps + v.lanes * merge.reach v ≤ v.steps + n + w.lanes * m) (sym (reach_is p z w days_w)) h)
 
 start_at : (from x : ℤ) (after : Option Key) → negsuc 999_999_999_999 ≤ℤ from → x ≡ start_of from after → negsuc 999_999_999_999 ≤ℤ x
 start_at from x None low is = omega (arith, ints, low, is)

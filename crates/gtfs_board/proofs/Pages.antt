@@ -4,9 +4,10 @@ use Rattle.std.specs.Result.{OnOk, IfErr, IsErrAnd, is_err}
 use Rattle.std.specs.Io.KnownBytes.{Appends}
 use Rattle.std.proofs.KnownBytes.{Appends-nil, Appends-trans}
 use Rattle.gtfs_days.specs.declared.zone.Zone.{Zone}
+use Rattle.gtfs_board.specs.Board.{AreStepsWithin, StepCount}
 use Rattle.gtfs_board.specs.Lines.{AppendsLine, IsLine, Listed}
 use Rattle.gtfs_board.specs.Page.{AreLines, AreWritten, IsCutShort, IsPage, IsStopped}
-use Rattle.gtfs_board.specs.PageFaults.{EndsLine, EndsPage, IsCounted}
+use Rattle.gtfs_board.specs.PageFaults.{AreFaultSteps, AreLineFaultSteps, EndsLine, EndsPage, IsCounted}
 use Rattle.gtfs_board.specs.declared.page.PageFault.{PageFault}
 use Rattle.gtfs_board.specs.declared.page.PageFault.TheVariants.{Out, OutOfMemory}
 
@@ -109,6 +110,38 @@ pub counted-faults : {A : Type 0} (r : Result A PageFault) (start before after :
 counted-faults (Ok x) start before after fault given same counted = tt
 counted-faults (Err e) start before after fault given same counted =
     subst (IsCounted start after) (sym given) (subst (λ (n : ℕ). IsCounted n after fault) same counted)
+
+-- ---- the steps of a page
+
+pub steps-more : (n m : ℕ) (s t u : StepCount) → AreStepsWithin n s t → AreStepsWithin m t u → AreStepsWithin (n + m) s u
+steps-more n m s t u so_far more = omega (arith, so_far, more)
+
+-- the steps until then, and those of the line with which it ended
+fault-steps : (z y : Zone) (rest mid left : List Listed) (a b c : Option (List ℕ)) (n : ℕ) (s t u : StepCount) (fault : PageFault) → AreWritten z rest mid a b n → AreStepsWithin n s t
+    → EndsLine y n mid left b c fault → AreLineFaultSteps mid left t u fault → AreFaultSteps rest left s u fault
+fault-steps z y rest mid left a b c n s t u (Out m) h so_far end last =
+    let same : m ≡ n = end.0 in
+    omega (arith, so_far, last, same)
+fault-steps z y rest mid left a b c n s t u (OutOfMemory m) h so_far end last = λ gone.
+    let same : m ≡ n = end.0 in
+    let long : length rest ≡ length h.shown + length mid = ap (λ (ds : List Listed). length ds) h.split ∙ length-append h.shown mid in
+    let shown : length h.shown ≡ n = h.count in
+    let one : length mid ≡ 1 + length left = omega (arith, gone, long, shown, same) in
+    let within = last one in
+    omega (arith, so_far, within, same)
+
+pub faults-steps : {A : Type 0} (r : Result A PageFault) (z y : Zone) (rest mid left : List Listed) (a b c : Option (List ℕ)) (n : ℕ) (s t u : StepCount) (fault : PageFault)
+    → IsErrAnd r (λ e. e ≡ fault) → AreWritten z rest mid a b n → AreStepsWithin n s t
+    → EndsLine y n mid left b c fault → AreLineFaultSteps mid left t u fault → IfErr r (AreFaultSteps rest left s u)
+faults-steps (Ok x) z y rest mid left a b c n s t u fault given h so_far end last = tt
+faults-steps (Err e) z y rest mid left a b c n s t u fault given h so_far end last =
+    subst (AreFaultSteps rest left s u) (sym given) (fault-steps z y rest mid left a b c n s t u fault h so_far end last)
+
+-- where none was taken, the steps have no bound
+pub refused-steps : (rest left : List Listed) (s t : StepCount) → left ≡ rest → length rest ≡ 1 + length left → AreStepsWithin 1 s t
+refused-steps rest left s t same = λ gone.
+    let long : length left ≡ length rest = ap (λ (ds : List Listed). length ds) same in
+    absurd (omega (arith, gone, long))
 
 -- ---- one line
 

@@ -69,6 +69,22 @@ may_be_opened latest start at d =
 abbrev pub reach : ℕ → ℤ → ℤ → ℕ
 reach latest start at = count_by (may_be_opened latest start at) service_days
 
+-- how many steps the days may have cost that may have been opened: each one a lane
+abbrev pub steps_for_days : BoardValue → ℕ
+steps_for_days b = b.lanes * reach b.latest b.start (position b)
+
+-- how many steps were made, and how many of them may have been made for days
+pub record StepCount : Type 0 where
+  pub made : ℕ
+  pub for_days : ℕ
+
+abbrev pub step_count : BoardValue → StepCount
+step_count b = record { made = b.steps; for_days = steps_for_days b }
+
+-- while so many departures were taken, each cost a step at most, beside the steps for days
+abbrev pub AreStepsWithin : ℕ → StepCount → StepCount → Type 0
+AreStepsWithin departures old new = new.made + old.for_days ≤ old.made + departures + new.for_days
+
 -- what a board was opened with stays
 pub record SameSettings (b c : BoardValue) : Type 0 where
   pub lanes : c.lanes ≡ b.lanes

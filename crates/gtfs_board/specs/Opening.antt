@@ -1,12 +1,12 @@
 -- A board that was opened.
-use Rattle.std.specs.Prelude.{◌≡◌, ◌≤◌, ◌*◌, ℕ, List, All, Option, map, pos, ◌+ℤ◌}
+use Rattle.std.specs.Prelude.{◌≡◌, ◌≤◌, ℕ, List, All, Option, map, pos, ◌+ℤ◌}
 use Rattle.gtfs_days.specs.Service.{service_days}
 use Rattle.gtfs_days.specs.Zone.{zone_origin}
 use Rattle.gtfs_days.specs.declared.zone.Zone.{Zone}
 use Rattle.gtfs_rows.specs.Content.{Content}
 use Rattle.gtfs_rows.specs.declared.parts.Parts.{Parts}
 use Rattle.gtfs_runs.specs.Lanes.{lane_count, latest}
-use Rattle.gtfs_board.specs.Board.{BoardValue, IsQueued, keys_of, position, reach, start_of}
+use Rattle.gtfs_board.specs.Board.{BoardValue, IsQueued, keys_of, start_of, steps_for_days}
 use Rattle.gtfs_board.specs.Departures.{IsBoard}
 use Rattle.gtfs_board.specs.Key.{Key}
 use Rattle.gtfs_board.specs.Showing.{IsOfFeed, key_in, listed_in}
@@ -48,4 +48,4 @@ pub record IsOpened (f : Content) (z : Zone) (s : List ℕ) (span : Span) (after
   pub shown : All (IsShown f) b.rest
   pub queued : IsQueued b
   pub settings : HasSettings f z s span after b
-  pub steps : b.steps ≤ b.lanes * reach b.latest b.start (position b)
+  pub steps : b.steps ≤ steps_for_days b

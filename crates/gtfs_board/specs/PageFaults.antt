@@ -1,7 +1,8 @@
 -- How a page ends early.
-use Rattle.std.specs.Prelude.{◌≡◌, ℕ, Bool, cond, List, Option}
+use Rattle.std.specs.Prelude.{◌≡◌, ◌+◌, ℕ, Bool, cond, List, length, Option}
 use Rattle.gtfs_days.specs.declared.zone.Zone.{Zone}
 use Rattle.gtfs_table.specs.Device.{Rises}
+use Rattle.gtfs_board.specs.Board.{AreStepsWithin, StepCount}
 use Rattle.gtfs_board.specs.Lines.{Listed}
 use Rattle.gtfs_board.specs.Page.{IsPage, IsCutShort, IsStopped}
 use Rattle.gtfs_board.specs.declared.page.PageFault.{PageFault}
@@ -17,6 +18,12 @@ abbrev pub IsCounted : ℕ → ℕ → PageFault → Type 0
 IsCounted before after (Out lines) = Rises before after
 IsCounted before after (OutOfMemory lines) = after ≡ before
 
+-- a departure was taken for each line that went out, and one more after them: these cost a step each at most, beside the steps
+-- for days. Where memory was refused before one more was taken, the steps of the refused call are not bounded
+abbrev pub AreFaultSteps : List Listed → List Listed → StepCount → StepCount → PageFault → Type 0
+AreFaultSteps rest left old new (Out lines) = AreStepsWithin (lines + 1) old new
+AreFaultSteps rest left old new (OutOfMemory lines) = length rest ≡ lines + 1 + length left → AreStepsWithin (lines + 1) old new
+
 -- ---- the next line of a page of which so many lines went out
 
 -- the line went out, or there is none
@@ -26,3 +33,8 @@ IsLineSent z rest left before after more = IsPage z 1 rest left before after (co
 abbrev pub EndsLine : Zone → ℕ → List Listed → List Listed → Option (List ℕ) → Option (List ℕ) → PageFault → Type 0
 EndsLine z lines rest left before after (Out n) = (n ≡ lines) × IsCutShort z 1 rest left before after 0
 EndsLine z lines rest left before after (OutOfMemory n) = (n ≡ lines) × IsStopped z 1 rest left before after 0
+
+-- a departure that was taken cost a step at most, beside the steps for days
+abbrev pub AreLineFaultSteps : List Listed → List Listed → StepCount → StepCount → PageFault → Type 0
+AreLineFaultSteps rest left old new (Out n) = AreStepsWithin 1 old new
+AreLineFaultSteps rest left old new (OutOfMemory n) = length rest ≡ 1 + length left → AreStepsWithin 1 old new

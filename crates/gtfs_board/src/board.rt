@@ -1,14 +1,15 @@
 //! Boards of stops.
-ghost use Rattle.std.specs.Prelude.{◌≡◌, ◌≢◌, ◌<◌, ◌≤◌, ◌+◌, ◌*◌, ◌∷◌, ◌↔◌, [], IfErr, All, true, false, length, IfOk, IfSome, IsErrOf, OnErr, OnOk, MatchOption, option_map};
+ghost use Rattle.std.specs.Prelude.{◌≡◌, ◌≢◌, ◌<◌, ◌≤◌, ◌∷◌, ◌↔◌, [], IfErr, All, true, false, length, IfOk, IfSome, IsErrOf, OnErr, MatchOption, option_map};
 ghost use Rattle.gtfs_days.specs.Zone.{IsInstant, zone_origin};
 ghost use Rattle.gtfs_feed.specs.Content.{content_of};
 ghost use Rattle.gtfs_rows.specs.Views.{stop_ids, text_of_number};
-ghost use Rattle.gtfs_board.specs.Board.{IsQueued, SameSettings, is_stop, keys_of, position, reach};
+ghost use Rattle.gtfs_board.specs.Board.{AreStepsWithin, IsQueued, SameSettings, is_stop, keys_of, step_count, steps_for_days};
 ghost use Rattle.gtfs_board.specs.Departures.{IsBoard};
 ghost use Rattle.gtfs_board.specs.Lent.{listed, plain_key};
 ghost use Rattle.gtfs_board.specs.Opening.{HasSettings, IsOpened};
 ghost use Rattle.gtfs_board.specs.Shown.{IsShown};
 ghost use Rattle.gtfs_board.specs.Span.{is_span};
+ghost use Rattle.gtfs_board.specs.merge.Candidates.{taken};
 
 use crate::departure::Departure;
 use crate::floor::floor_of;
@@ -24,6 +25,7 @@ use gtfs_rows::StopNo;
 use gtfs_runs::StopLanes;
 use std::alloc::Global;
 use std::marker::Model;
+use std::mem::size_of;
 use thiserror::Error;
 
 /// Why no board is opened.
@@ -50,6 +52,13 @@ pub struct Board<'a> {
     zone: &'a Zone,
     departures: Merge<Days<'a>>,
 }
+
+// A board is small itself: beside what it is lent it has the lanes and the queue, and no other collection.
+const _: () = prove!(size_of::<Board<'static>>() == 248);
+
+const _: () = prove!(size_of::<Merge<Days<'static>>>() == 232);
+
+const _: () = prove!(size_of::<Days<'static>>() == 80);
 
 impl<'a> Model for Board<'a> {
     ghost use Rattle.gtfs_board.specs.Board.{BoardValue};
@@ -90,8 +99,7 @@ impl<'a> Board<'a> {
         ensures queued { IfOk result IsQueued }
         ensures settings { IfOk result (HasSettings (content_of feed.now) zone.now stop.now span
             (option_map (λ k. plain_key k.now) after.entry)) }
-        ensures steps { IfOk result (λ b. b.steps
-            ≤ b.lanes * reach b.latest b.start (position b)) }
+        ensures steps { IfOk result (λ b. b.steps ≤ steps_for_days b) }
     {
         match feed.stop(stop) {
             Some(number) => Board::over(alloc, feed, zone, number, span, after),
@@ -164,10 +172,8 @@ impl<'a> Board<'a> {
             × (self.new.queue ≡ self.old.queue)) }
         ensures settings { SameSettings self.old self.new }
         ensures queued { IsQueued self.new }
-        ensures steps { OnOk result
-            (self.new.steps + self.old.lanes * reach self.old.latest self.old.start (position self.old)
-            ≤ self.old.steps + 1
-            + self.old.lanes * reach self.new.latest self.new.start (position self.new)) }
+        ensures steps { IfOk result (λ o.
+            AreStepsWithin (taken o) (step_count self.old) (step_count self.new)) }
     {
         self.feed.soundness();
         match self.departures.next()? {

@@ -56,7 +56,9 @@ impl Ord for Key<'_> {
 impl PartialOrd for Key<'_> {
     ghost partial_cmp = { as_partial_cmp (on plain_key key_cmp) };
 
-    ghost laws = { partial_order_from_own_ties (Prim.search (comparing, rules) depth 12) (Prim.search (comparing, rules) depth 12) };
+    ghost laws = { partial_order_from_own_ties
+        (Prim.search (comparing, rules) depth 12)
+        (Prim.search (comparing, rules) depth 12) };
 
     fn partial_cmp(&self, other: &Self) -> Option<Ordering> {
         Some(self.cmp(other))

@@ -1,7 +1,7 @@
 //! Pages of a board.
-ghost use Rattle.std.specs.Prelude.{◌≡◌, ◌≤◌, IfOk, IfErr, OnOk};
-ghost use Rattle.gtfs_board.specs.Board.{IsQueued, SameSettings};
-ghost use Rattle.gtfs_board.specs.PageFaults.{EndsLine, EndsPage, IsCounted, IsLineSent};
+ghost use Rattle.std.specs.Prelude.{◌≡◌, ◌≤◌, cond, IfOk, IfErr, OnOk};
+ghost use Rattle.gtfs_board.specs.Board.{AreStepsWithin, IsQueued, SameSettings, step_count};
+ghost use Rattle.gtfs_board.specs.PageFaults.{AreFaultSteps, AreLineFaultSteps, EndsLine, EndsPage, IsCounted, IsLineSent};
 ghost use Rattle.gtfs_board.specs.Page.{IsPage};
 
 mod listing;
@@ -48,6 +48,10 @@ pub fn write_page<O: Out>(
     ensures no_failure { OnOk result (O.failure_count out.new ≡ O.failure_count out.old) }
     ensures settings { SameSettings board.old board.new }
     ensures queued { IsQueued board.old → IsQueued board.new }
+    ensures steps { IfOk result (λ lines.
+        AreStepsWithin lines (step_count board.old) (step_count board.new)) }
+    ensures fault_steps { IfErr result (AreFaultSteps board.old.rest board.new.rest
+        (step_count board.old) (step_count board.new)) }
 {
     write_lines(alloc, board, limit, out)
 }
@@ -72,6 +76,10 @@ pub(crate) fn write_lines<'a, B: Listing<'a>, O: Out>(
     ensures grows { O.failure_count out.old ≤ O.failure_count out.new }
     ensures no_failure { OnOk result (O.failure_count out.new ≡ O.failure_count out.old) }
     ensures keeps { (start : B) → B.Keeps start board.old → B.Keeps start board.new }
+    ensures steps { IfOk result (λ lines.
+        AreStepsWithin lines (B.steps board.old) (B.steps board.new)) }
+    ensures fault_steps { IfErr result (AreFaultSteps (B.rest board.old) (B.rest board.new)
+        (B.steps board.old) (B.steps board.new)) }
 {
     let mut line = String::new(alloc);
     let mut lines = 0;
@@ -103,6 +111,10 @@ fn write_next<'a, B: Listing<'a>, O: Out>(
     ensures no_failure { OnOk result (O.failure_count out.new ≡ O.failure_count out.old) }
     ensures zone { B.clocks board.new ≡ B.clocks board.old }
     ensures keeps { (start : B) → B.Keeps start board.old → B.Keeps start board.new }
+    ensures steps { IfOk result (λ more.
+        AreStepsWithin (cond more 1 0) (B.steps board.old) (B.steps board.new)) }
+    ensures fault_steps { IfErr result (AreLineFaultSteps (B.rest board.old) (B.rest board.new)
+        (B.steps board.old) (B.steps board.new)) }
 {
     let departure = match board.next() {
         Ok(Some(departure)) => departure,

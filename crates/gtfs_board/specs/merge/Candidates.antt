@@ -172,9 +172,14 @@ TakesFirst v w o = MatchOption o ((v.rest ≡ []) × (w.rest ≡ [])) (λ c. v.r
 abbrev pub KeepsLists : MergeValue → MergeValue → Type 0
 KeepsLists v w = (w.rest ≡ v.rest) × (w.queue ≡ v.queue)
 
--- a call made one step, and one a lane for each day that it opened
-abbrev pub AreStepsWithin : MergeValue → MergeValue → Type 0
-AreStepsWithin v w = w.steps + v.lanes * reach v ≤ v.steps + 1 + v.lanes * reach w
+-- how many departures an answer tells
+abbrev pub taken : {C : Type 0} → Option C → ℕ
+taken None = 0
+taken (Some c) = 1
+
+-- a call made a step for what it took, and one a lane for each day that it opened
+abbrev pub AreStepsWithin : ℕ → MergeValue → MergeValue → Type 0
+AreStepsWithin n v w = w.steps + v.lanes * reach v ≤ v.steps + n + w.lanes * reach w
 
 pub record SameSettings (v w : MergeValue) : Type 0 where
   pub lanes : w.lanes ≡ v.lanes

@@ -77,7 +77,9 @@ impl Ord for Candidate {
 impl PartialOrd for Candidate {
     ghost partial_cmp = { as_partial_cmp (flip_args candidate_cmp) };
 
-    ghost laws = { partial_order_from_own_ties (Prim.search (comparing, rules) depth 16) (Prim.search (comparing, rules) depth 16) };
+    ghost laws = { partial_order_from_own_ties
+        (Prim.search (comparing, rules) depth 16)
+        (Prim.search (comparing, rules) depth 16) };
 
     fn partial_cmp(&self, other: &Candidate) -> Option<Ordering> {
         Some(self.cmp(other))

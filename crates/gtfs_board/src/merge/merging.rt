@@ -1,5 +1,5 @@
-ghost use Rattle.std.specs.Prelude.{◌≡◌, ℤ, negsuc, ◌≤ℤ◌, ◌≤◌, ◌+◌, ◌*◌, length, IfOk, OnOk, OnErr};
-ghost use Rattle.gtfs_board.specs.merge.Candidates.{AreStepsWithin, HasSettings, IsAside, IsQueued, KeepsLists, SameSettings, TakesFirst, reach, rest_above};
+ghost use Rattle.std.specs.Prelude.{◌≡◌, ℤ, negsuc, ◌≤ℤ◌, ◌≤◌, ◌+◌, ◌*◌, length, IfOk, OnErr};
+ghost use Rattle.gtfs_board.specs.merge.Candidates.{AreStepsWithin, HasSettings, IsAside, IsQueued, KeepsLists, SameSettings, TakesFirst, reach, rest_above, taken};
 
 use crate::merge::candidate::Candidate;
 use crate::merge::gathering::{first_due, gather};
@@ -94,7 +94,7 @@ impl<S: Source + Drop> Merge<S> {
         ensures kept { OnErr result (KeepsLists self.old self.new) }
         ensures settings { SameSettings self.old self.new }
         ensures queued { IsQueued self.new }
-        ensures steps { OnOk result (AreStepsWithin self.old self.new) }
+        ensures steps { IfOk result (λ o. AreStepsWithin (taken o) self.old self.new) }
     {
         let first = match self.first {
             Some(first) => first,

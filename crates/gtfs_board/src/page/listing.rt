@@ -1,9 +1,10 @@
 ghost use Rattle.std.specs.Prelude.{◌≡◌, ◌∷◌, [], List, IfOk, IfSome, OnErr, MatchOption};
 ghost use Rattle.gtfs_days.specs.Zone.{IsInstant};
 ghost use Rattle.gtfs_days.specs.declared.zone.Zone.{Zone as Clocks};
-ghost use Rattle.gtfs_board.specs.Board.{Keeps};
+ghost use Rattle.gtfs_board.specs.Board.{AreStepsWithin, Keeps, StepCount, step_count};
 ghost use Rattle.gtfs_board.specs.Lent.{listed};
 ghost use Rattle.gtfs_board.specs.Lines.{Listed};
+ghost use Rattle.gtfs_board.specs.merge.Candidates.{taken};
 
 use crate::board::Board;
 use crate::departure::Departure;
@@ -18,6 +19,9 @@ pub trait Listing<'a> {
     // The zone of their lines.
     ghost clocks: { Self → Clocks };
 
+    // The steps that were made.
+    ghost steps: { Self → StepCount };
+
     // What stays of a value in those that it becomes.
     ghost Keeps: { Self → Self → Type 0 };
 
@@ -28,6 +32,8 @@ pub trait Listing<'a> {
             (λ d. rest self.old ≡ listed d ∷ rest self.new)) }
         ensures instant { IfOk result (λ o. IfSome o (λ d. IsInstant d.key.instant)) }
         ensures refused { OnErr result (rest self.new ≡ rest self.old) }
+        ensures steps { IfOk result (λ o.
+            AreStepsWithin (taken o) (steps self.old) (steps self.new)) }
         ensures zone { clocks self.new ≡ clocks self.old }
         ensures keeps { (start : Self) → Keeps start self.old → Keeps start self.new };
 
@@ -40,6 +46,8 @@ impl<'a> Listing<'a> for Board<'a> {
     ghost rest = { λ b. b.rest };
 
     ghost clocks = { λ b. b.zone };
+
+    ghost steps = { step_count };
 
     ghost Keeps = { Keeps };
 

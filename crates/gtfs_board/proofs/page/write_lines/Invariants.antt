@@ -1,4 +1,5 @@
 use Rattle.std.proofs.Common.{◌≡◌, ◌≤◌, ◌-◌}
+use Rattle.gtfs_board.specs.Board.{AreStepsWithin}
 use Rattle.gtfs_board.specs.Page.{AreWritten}
 use Rattle.gtfs_board.proofs.page.write_lines.Given as goal
 
@@ -8,6 +9,7 @@ invariant-loop-lines g l = record {
   within : l.lines ≤ l.limit;
   zone : g.B.Listing.clocks l.board ≡ g.B.Listing.clocks l.initial.board;
   keeps : (start : g.row.B.Denot) → g.B.Listing.Keeps start l.initial.board → g.B.Listing.Keeps start l.board;
+  steps : AreStepsWithin l.lines (g.B.Listing.steps l.initial.board) (g.B.Listing.steps l.board);
   no_failure : g.O.Out.failure_count l.out ≡ g.O.Out.failure_count l.initial.out;
 }
 

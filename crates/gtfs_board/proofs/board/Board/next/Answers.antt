@@ -1,6 +1,7 @@
 use Rattle.std.proofs.Common.{◌∙◌}
 use Rattle.gtfs_board.proofs.Floors.{trip_ids_ascend}
 use Rattle.gtfs_board.proofs.Opened.{open_kept, open_taken, queued_is, steps_kept}
+use Rattle.gtfs_board.specs.merge.Candidates.{taken}
 use Rattle.gtfs_board.proofs.board.Board.next.Goals as goal
 use Rattle.gtfs_board.proofs.board.Board.next.Goals.{in-Some, in-None}
 
@@ -20,8 +21,8 @@ pub returns-clause-steps : goal.returns-clause-steps
 returns-clause-steps c =
     let v = c.self.inside.departures in
     let w = c.next.new.self in
-    let steps = steps_kept c.self.inside.feed.now c.self.inside.zone.now v w c.self.invariant.days (c.next.ensures.settings.days ∙ c.self.invariant.days) c.in_ok-candidate.ensures.steps in
+    let steps = steps_kept c.self.inside.feed.now c.self.inside.zone.now v w (taken c.in_ok-candidate.field-0) c.self.invariant.days (c.next.ensures.settings.days ∙ c.self.invariant.days) c.in_ok-candidate.ensures.steps in
     elim c.match-branch-2.branch [
-      | in-Some x ↦ rw (x.result-is, ← c.self.view_is) steps
-      | in-None x ↦ rw (x.result-is, ← c.self.view_is) steps
+      | in-Some x ↦ rw (x.result-is, ← c.self.view_is) (rw x.in-Some.is at steps)
+      | in-None x ↦ rw (x.result-is, ← c.self.view_is) (rw x.in-None.is at steps)
     ]
