@@ -72,9 +72,11 @@ impl Names {
             ≡ ids kind (content_of a.now)) }
         ensures ids_b { IfOk result (λ names. (kind : KindOf) → (in_kind names kind).b.ids
             ≡ ids kind (content_of b.now)) }
-        ensures a { IfOk result (λ names. (kind : KindOf) (id : List ℕ) → new_id (in_kind names kind).a id
+        ensures a { IfOk result (λ names. (kind : KindOf) (id : List ℕ)
+            → new_id (in_kind names kind).a id
             ≡ name_of (names_a (content_of a.now) (content_of b.now)) kind (content_of a.now) id) }
-        ensures b { IfOk result (λ names. (kind : KindOf) (id : List ℕ) → new_id (in_kind names kind).b id
+        ensures b { IfOk result (λ names. (kind : KindOf) (id : List ℕ)
+            → new_id (in_kind names kind).b id
             ≡ name_of (names_b never_near (content_of a.now) (content_of b.now)) kind
             (content_of b.now) id) }
         ensures apart { IfOk result (λ names. (kind : KindOf) (side : SideOf)
@@ -99,9 +101,11 @@ impl Names {
             ≡ ids kind (content_of a.now)) }
         ensures ids_b { IfOk result (λ names. (kind : KindOf) → (in_kind names kind).b.ids
             ≡ ids kind (content_of b.now)) }
-        ensures a { IfOk result (λ names. (kind : KindOf) (id : List ℕ) → new_id (in_kind names kind).a id
+        ensures a { IfOk result (λ names. (kind : KindOf) (id : List ℕ)
+            → new_id (in_kind names kind).a id
             ≡ name_of (names_a (content_of a.now) (content_of b.now)) kind (content_of a.now) id) }
-        ensures b { IfOk result (λ names. (kind : KindOf) (id : List ℕ) → new_id (in_kind names kind).b id
+        ensures b { IfOk result (λ names. (kind : KindOf) (id : List ℕ)
+            → new_id (in_kind names kind).b id
             ≡ name_of (names_b never_near (content_of a.now) (content_of b.now)) kind
             (content_of b.now) id) }
         ensures apart { IfOk result (λ names. (kind : KindOf) (side : SideOf)
@@ -128,7 +132,8 @@ impl Names {
 
     /// What an id of a feed became, and None exactly where the feed has no such id.
     pub fn of(&self, side: Side, kind: Kind, id: &str) -> Option<&str>
-        ensures { option_map (λ s. s.now) result ≡ new_id (of_side (in_kind self.now kind) side) id.now }
+        ensures { option_map (λ s. s.now) result
+            ≡ new_id (of_side (in_kind self.now kind) side) id.now }
     {
         let names = self.kind(kind);
         match side {

@@ -100,7 +100,8 @@ fn add_if_apart(
     requires joined { joined.now ≡ joined_rows a.now b.now }
     requires within { number < length (known_ids kind b.now) }
     ensures { OnOk result (map entry_value rows.new.items ≡ map entry_value rows.old.items
-        ++ map (entry_of side.B kind a.now b.now) (filter (is_apart kind a.now b.now) (number ∷ []))) }
+        ++ map (entry_of side.B kind a.now b.now)
+        (filter (is_apart kind a.now b.now) (number ∷ []))) }
 {
     let id = id_of(b, kind, number);
     if !is_joined_id(a, b, joined, kind, id) {
