@@ -13,6 +13,10 @@ use Rattle.gtfs_merge.specs.declared.merging.Merged.{Merged}
 use Rattle.gtfs_merge.specs.declared.merging.MergeFault.{MergeFault}
 use Rattle.gtfs_merge.specs.declared.merging.MergeFault.TheVariants as fault
 
+-- the most bytes of a file where no other limit is given
+abbrev pub default_file_limit : ℕ
+default_file_limit = 1_073_741_824
+
 -- the ids of both feeds by their bytes, as those of a content stand, what each became, and the joined ids
 pub record AreNamesOf (first second : Content) (names : AllNames) : Type 0 where
   pub ids_a : (k : Kind) → (in_kind names k).a.ids ≡ ids k first
