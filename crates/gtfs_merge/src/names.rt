@@ -1,7 +1,7 @@
 ghost use Rattle.std.specs.Prelude.{◌≡◌, ◌∷◌, ◌++◌, [], ℕ, List, IfOk, OnOk, filter, map, option_map, string_bytes};
 ghost use Rattle.gtfs_feed.specs.Content.{content_of};
 ghost use Rattle.gtfs_merge.specs.Joined.{joined_rows};
-ghost use Rattle.gtfs_merge.specs.Names.{AreApart, in_kind, kind_names, new_id, of_side};
+ghost use Rattle.gtfs_merge.specs.Names.{AreApart, MeetWhereJoined, in_kind, kind_names, new_id, of_side};
 ghost use Rattle.gtfs_merge.specs.Renaming.{ids, is_joined, joined_ids, name_of, names_a, names_b, never_near};
 ghost use Rattle.gtfs_merge.specs.declared.kind.Kind.{Kind as KindOf};
 ghost use Rattle.gtfs_merge.specs.declared.kind.Side.{Side as SideOf};
@@ -61,7 +61,8 @@ impl Drop for Names {
 }
 
 impl Names {
-    /// What the ids of two feeds become: two ids of a feed never become one. No answer depends on the random state.
+    /// What the ids of two feeds become: two ids of a feed never become one, and an id of each feed become one only where
+    /// they are one joined id. No answer depends on the random state.
     pub fn of_feeds(
         alloc: Global,
         random: RandomState,
@@ -81,6 +82,8 @@ impl Names {
             (content_of b.now) id) }
         ensures apart { IfOk result (λ names. (kind : KindOf) (side : SideOf)
             → AreApart (of_side (in_kind names kind) side)) }
+        ensures across { IfOk result (λ names. (kind : KindOf)
+            → MeetWhereJoined (in_kind names kind)) }
         ensures joined { IfOk result (λ names. (kind : KindOf) → (in_kind names kind).joined
             ≡ joined_ids never_near kind (content_of a.now) (content_of b.now)) }
     {
@@ -110,6 +113,8 @@ impl Names {
             (content_of b.now) id) }
         ensures apart { IfOk result (λ names. (kind : KindOf) (side : SideOf)
             → AreApart (of_side (in_kind names kind) side)) }
+        ensures across { IfOk result (λ names. (kind : KindOf)
+            → MeetWhereJoined (in_kind names kind)) }
         ensures joined { IfOk result (λ names. (kind : KindOf) → (in_kind names kind).joined
             ≡ joined_ids never_near kind (content_of a.now) (content_of b.now)) }
     {
