@@ -71,3 +71,7 @@ kind_names k p q = record {
   b = new_ids (renaming (names_b never_near (content_of_parts p) (content_of_parts q)) k) (known_ids k q);
   joined = joined_ids never_near k (content_of_parts p) (content_of_parts q);
 }
+
+-- the names of two feeds, of each kind
+abbrev pub AreKindNames : Parts → Parts → AllNames → Type 0
+AreKindNames p q n = (k : Kind) → in_kind n k ≡ kind_names k p q

@@ -144,7 +144,7 @@ fn merged_feed(
 {
     let joined = Joined::of_feeds(alloc, a, b)?;
     let names = Names::of_joined(alloc, random, a, b, &joined)?;
-    let parts = merged_parts(alloc, random, a, b, &joined)?;
+    let parts = merged_parts(alloc, random, a, b, &joined, &names)?;
     let feed = Feed::assemble(alloc, random, parts)?;
     Ok(Merged { feed, names })
 }

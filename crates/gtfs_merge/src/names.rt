@@ -1,7 +1,7 @@
-ghost use Rattle.std.specs.Prelude.{◌≡◌, ◌∷◌, ◌++◌, [], ℕ, List, IfOk, OnOk, filter, map, option_map, string_bytes};
+ghost use Rattle.std.specs.Prelude.{◌≡◌, ◌<◌, ◌∷◌, ◌++◌, [], ℕ, List, IfOk, OnOk, filter, length, map, option_map, slice_index_or, string_bytes};
 ghost use Rattle.gtfs_feed.specs.Content.{content_of};
 ghost use Rattle.gtfs_merge.specs.Joined.{joined_rows};
-ghost use Rattle.gtfs_merge.specs.Names.{AreApart, MeetWhereJoined, in_kind, kind_names, new_id, of_side};
+ghost use Rattle.gtfs_merge.specs.Names.{AreApart, AreKindNames, MeetWhereJoined, in_kind, kind_names, new_id, of_side};
 ghost use Rattle.gtfs_merge.specs.Renaming.{ids, is_joined, joined_ids, name_of, names_a, names_b, never_near};
 ghost use Rattle.gtfs_merge.specs.declared.kind.Kind.{Kind as KindOf};
 ghost use Rattle.gtfs_merge.specs.declared.kind.Side.{Side as SideOf};
@@ -100,6 +100,7 @@ impl Names {
         joined: &Joined,
     ) -> Result<Names, OutOfMemory>
         requires { joined.now ≡ joined_rows a.now b.now }
+        ensures kinds { IfOk result (AreKindNames a.now b.now) }
         ensures ids_a { IfOk result (λ names. (kind : KindOf) → (in_kind names kind).a.ids
             ≡ ids kind (content_of a.now)) }
         ensures ids_b { IfOk result (λ names. (kind : KindOf) → (in_kind names kind).b.ids
@@ -163,6 +164,19 @@ impl Names {
         ensures { map string_bytes result.now ≡ (in_kind self.now kind).joined }
     {
         self.kind(kind).joined.as_slice()
+    }
+
+    // What the id of a number became.
+    pub(crate) fn by_number(&self, side: Side, kind: Kind, number: usize) -> &str
+        requires { number < length (of_side (in_kind self.now kind) side).names }
+        ensures { result.now
+            ≡ slice_index_or (of_side (in_kind self.now kind) side).names number [] }
+    {
+        let names = self.kind(kind);
+        match side {
+            Side::A => names.a.by_number(number),
+            Side::B => names.b.by_number(number),
+        }
     }
 
     // The names of a kind.

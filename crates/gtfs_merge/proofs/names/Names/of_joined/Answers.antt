@@ -13,6 +13,13 @@ use Rattle.gtfs_merge.proofs.NamesAcross.{names-meet}
 use Rattle.gtfs_merge.proofs.NamesFacts.{apart-names, named}
 use Rattle.gtfs_merge.proofs.names.Names.of_joined.Goals as goal
 
+pub returns-clause-kinds : goal.returns-clause-kinds
+returns-clause-kinds c kind.Agency = c.in_ok-agencies.ensures
+returns-clause-kinds c kind.Stop = c.in_ok-stops.ensures
+returns-clause-kinds c kind.Route = c.in_ok-routes.ensures
+returns-clause-kinds c kind.Service = c.in_ok-services.ensures
+returns-clause-kinds c kind.Trip = c.in_ok-trips.ensures
+
 pub returns-clause-ids_a : goal.returns-clause-ids_a
 returns-clause-ids_a c kind.Agency = ap (λ n. n.a.ids) c.in_ok-agencies.ensures ∙ sym (ids-known kind.Agency c.args.a.now c.soundness.ensures)
 returns-clause-ids_a c kind.Stop = ap (λ n. n.a.ids) c.in_ok-stops.ensures ∙ sym (ids-known kind.Stop c.args.a.now c.soundness.ensures)
