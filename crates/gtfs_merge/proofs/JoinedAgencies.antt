@@ -110,6 +110,13 @@ module _ (a b : Content) (sound_a : IsSound a) (few : length (ids kind.Agency a)
         ]
       ]
 
+  -- a joined id stays
+  pub agency-stays_a : (x : List ℕ) → joined_agency a b x ≡ true → agency_a a b x ≡ x
+  agency-stays_a x j = kept_a x (joined_kept x j)
+
+  pub agency-stays_b : (x : List ℕ) → joined_agency a b x ≡ true → agency_b a b x ≡ x
+  agency-stays_b x j = ruled_b x (joined_kept x j) ∙ joined_stays ids_a ids_b (joined_agency a b) few_both x j
+
   -- an id of A and one of B become one exactly where they are one that is joined
   pub agencies-meet : (s t : List ℕ) → has_id ids_a s ≡ true → has_id ids_b t ≡ true → bytes_eq (agency_a a b s) (agency_b a b t) ≡ (joined_agency a b t && bytes_eq s t)
   agencies-meet s t hs ht = same_tests _ _ (λ e. forth (same_bytes _ _ e)) (λ e. let parts = and_parts (joined_agency a b t) (bytes_eq s t) e in back parts.0 (same_bytes s t parts.1))
@@ -129,6 +136,4 @@ module _ (a b : Content) (sound_a : IsSound a) (few : length (ids kind.Agency a)
 
       back : joined_agency a b t ≡ true → s ≡ t → bytes_eq (agency_a a b s) (agency_b a b t) ≡ true
       back j e =
-          let first : agency_a a b s ≡ s = kept_a s (joined_kept s (ap (joined_agency a b) e ∙ j)) in
-          let second : agency_b a b t ≡ t = ruled_b t (joined_kept t j) ∙ joined_stays ids_a ids_b (joined_agency a b) few_both t j in
-          bytes_same _ _ (first ∙ e ∙ sym second)
+          bytes_same _ _ (agency-stays_a s (ap (joined_agency a b) e ∙ j) ∙ e ∙ sym (agency-stays_b t j))

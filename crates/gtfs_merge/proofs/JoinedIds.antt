@@ -1,5 +1,5 @@
 -- Ids that are joined are ids of both feeds.
-use Rattle.std.proofs.Common.{◌≡◌, ℕ, Bool, true, false, cond, List, [], Some, None, refl, sym, ap, ◌∙◌, subst, length, map, get_or, bytes_eq, is_some, true≢false}
+use Rattle.std.proofs.Common.{◌≡◌, ◌<◌, ℕ, Bool, true, false, cond, List, [], Some, None, refl, sym, ap, ◌∙◌, subst, length, map, get_or, bytes_eq, is_some, true≢false}
 use Rattle.std.specs.Prelude.{◌&&◌}
 use Rattle.std.specs.List.{list_any, position, position_or_len}
 use Rattle.std.proofs.lemmas.Bool.{and_parts, false_from_ne_true}
@@ -58,20 +58,25 @@ of-kind p q kind.Trip = refl
 pub of-kind-length : (p q : Parts) (k : Kind) → length (of_kind (joined_rows p q) k) ≡ length (known_ids k q)
 of-kind-length p q k = ap length (of-kind p q k) ∙ length-map (known_ids k q) (joined_number k p q)
 
+-- what is told of a row of B
+pub told-at : (p q : Parts) → IsSoundParts p → (k : Kind) (n : ℕ) → n < length (known_ids k q) → (result : Bool) → result ≡ is_some (get_or (of_kind (joined_rows p q) k) n None)
+    → result ≡ is_joined never_near k (content_of_parts p) (content_of_parts q) (get_or (known_ids k q) n [])
+told-at p q sound_p k n within result is =
+    let x = get_or (known_ids k q) n [] in
+    let joined = is_joined never_near k (content_of_parts p) (content_of_parts q) x in
+    is ∙ ap (λ xs. is_some (get_or xs n None)) (of-kind p q k) ∙ ap is_some (get_or-map (joined_number k p q) (known_ids k q) n [] None within)
+    ∙ number-tells joined (known_ids k p) x (λ j. subst (λ xs. has_id xs x ≡ true) (ids-known k p sound_p) (joined-has never_near k (content_of_parts p) (content_of_parts q) x j).0)
+
+-- the id at a place
+pub own-place : (xs : List (List ℕ)) (x : List ℕ) (n : ℕ) → position (bytes_eq x) xs ≡ Some n → (n < length xs) × (x ≡ get_or xs n [])
+own-place xs x n place = let there = position-Some (bytes_eq x) xs n [] place in (there.0, same_bytes x _ there.1)
+
 module _ (p q : Parts) (sound_p : IsSoundParts p) (sound_q : IsSoundParts q) (k : Kind) (x : List ℕ) where
   abbrev a : Content
   a = content_of_parts p
 
   abbrev b : Content
   b = content_of_parts q
-
-  pub told-there : (n : ℕ) → position (bytes_eq x) (known_ids k q) ≡ Some n → (result : Bool) → result ≡ is_some (get_or (of_kind (joined_rows p q) k) n None) → result ≡ is_joined never_near k a b x
-  told-there n place result is =
-      let there = position-Some (bytes_eq x) (known_ids k q) n [] place in
-      let own : x ≡ get_or (known_ids k q) n [] = same_bytes x _ there.1 in
-      is ∙ ap (λ xs. is_some (get_or xs n None)) (of-kind p q k) ∙ ap is_some (get_or-map (joined_number k p q) (known_ids k q) n [] None there.0)
-      ∙ ap (λ y. is_some (joined_number k p q y)) (sym own)
-      ∙ number-tells (is_joined never_near k a b x) (known_ids k p) x (λ j. subst (λ xs. has_id xs x ≡ true) (ids-known k p sound_p) (joined-has never_near k a b x j).0)
 
   pub told-not-there : position (bytes_eq x) (known_ids k q) ≡ None → false ≡ is_joined never_near k a b x
   told-not-there place = sym (false_from_ne_true _ (λ j.

@@ -46,6 +46,7 @@ pub mod ByNewIds
 pub mod Distinct
 pub mod MergedOrder
 pub mod MergesOfKinds
+pub mod NamesAcross
 pub mod NewNumbers
 pub mod NumberTables
 pub mod MergedLists

@@ -26,7 +26,7 @@ use Rattle.gtfs_merge.specs.declared.kind.Side.{Side}
 use Rattle.gtfs_merge.proofs.Apart.{apart-a, apart-b}
 use Rattle.gtfs_merge.proofs.Equal.{exact-agency, exact-route, exact-service, exact-stop, exact-trip}
 use Rattle.gtfs_merge.proofs.Fresh.{joined_stays, renamed_into_a}
-use Rattle.gtfs_merge.proofs.JoinedAgencies.{agencies-meet}
+use Rattle.gtfs_merge.proofs.JoinedAgencies.{agencies-meet, agency-stays_a, agency-stays_b}
 use Rattle.gtfs_merge.proofs.JoinedIds.{joined-has}
 use Rattle.gtfs_merge.proofs.JoinedKinds.{ids-known}
 use Rattle.gtfs_merge.proofs.JoinedNames.{has-at}
@@ -101,7 +101,7 @@ module _ (p q : Parts) (sound_p : IsSoundParts p) (sound_q : IsSoundParts q)
   ruled-meet : (k : Kind) (x y : List ℕ) → has_id (ids k a) x ≡ true → x ≡ renamed_b (ids k a) (ids k b) (is_joined never_near k a b) y → is_joined never_near k a b y ≡ true
   ruled-meet k x y has e = (renamed_into_a (ids k a) (ids k b) (is_joined never_near k a b) (few-enough k) y (subst (λ z. has_id (ids k a) z ≡ true) e has)).1
 
-  ids-meet : (k : Kind) (x y : List ℕ) → has_id (ids k a) x ≡ true → has_id (ids k b) y ≡ true → renaming na k x ≡ renaming nb k y → is_joined never_near k a b y ≡ true
+  pub ids-meet : (k : Kind) (x y : List ℕ) → has_id (ids k a) x ≡ true → has_id (ids k b) y ≡ true → renaming na k x ≡ renaming nb k y → is_joined never_near k a b y ≡ true
   ids-meet kind.Agency x y hx hy e =
       (and_parts (joined_agency a b y) (bytes_eq x y) (sym (agencies-meet a b sound_p.content (few kind.Agency) x y hx hy) ∙ bytes_same (agency_a a b x) (agency_b a b y) e)).0
   ids-meet kind.Stop x y hx hy e = ruled-meet kind.Stop x y hx (e ∙ stop-rule a b sound_p.content sound_q.content (few-enough kind.Stop) y hy)
@@ -113,18 +113,26 @@ module _ (p q : Parts) (sound_p : IsSoundParts p) (sound_q : IsSoundParts q)
       → is_joined never_near k a b (get_or (known_ids k q) n []) ≡ true
   meets k m n first second e = ids-meet k (get_or (known_ids k p) m []) (get_or (known_ids k q) n []) (has-a k m first) (has-b k n second) e
 
-  -- ---- a joined id has one new name
+  -- ---- a joined id stays, on both sides
+
+  pub joined-stays_a : (k : Kind) (x : List ℕ) → is_joined never_near k a b x ≡ true → renaming na k x ≡ x
+  joined-stays_a kind.Agency x j = agency-stays_a a b sound_p.content (few kind.Agency) x j
+  joined-stays_a kind.Stop x j = refl
+  joined-stays_a kind.Route x j = refl
+  joined-stays_a kind.Service x j = refl
+  joined-stays_a kind.Trip x j = refl
+
+  pub joined-stays_b : (k : Kind) (x : List ℕ) → is_joined never_near k a b x ≡ true → renaming nb k x ≡ x
+  joined-stays_b kind.Agency x j = agency-stays_b a b sound_p.content (few kind.Agency) x j
+  joined-stays_b kind.Stop x j =
+      let has = joined-has never_near kind.Stop a b x j in
+      stop-rule a b sound_p.content sound_q.content (few-enough kind.Stop) x has.1 ∙ joined_stays (ids kind.Stop a) (ids kind.Stop b) (joined_stop never_near a b) (few-enough kind.Stop) x j
+  joined-stays_b kind.Route x j = joined_stays (ids kind.Route a) (ids kind.Route b) (joined_route a b) (few-enough kind.Route) x j
+  joined-stays_b kind.Service x j = joined_stays (ids kind.Service a) (ids kind.Service b) (joined_service a b) (few-enough kind.Service) x j
+  joined-stays_b kind.Trip x j = joined_stays (ids kind.Trip a) (ids kind.Trip b) (joined_trip never_near a b) (few-enough kind.Trip) x j
 
   pub joined-name : (k : Kind) (x : List ℕ) → is_joined never_near k a b x ≡ true → renaming na k x ≡ renaming nb k x
-  joined-name kind.Agency x j =
-      let has = joined-has never_near kind.Agency a b x j in
-      same_bytes (agency_a a b x) (agency_b a b x) (agencies-meet a b sound_p.content (few kind.Agency) x x has.0 has.1 ∙ (λ i. j i && bytes_same x x refl i))
-  joined-name kind.Stop x j =
-      let has = joined-has never_near kind.Stop a b x j in
-      sym (stop-rule a b sound_p.content sound_q.content (few-enough kind.Stop) x has.1 ∙ joined_stays (ids kind.Stop a) (ids kind.Stop b) (joined_stop never_near a b) (few-enough kind.Stop) x j)
-  joined-name kind.Route x j = sym (joined_stays (ids kind.Route a) (ids kind.Route b) (joined_route a b) (few-enough kind.Route) x j)
-  joined-name kind.Service x j = sym (joined_stays (ids kind.Service a) (ids kind.Service b) (joined_service a b) (few-enough kind.Service) x j)
-  joined-name kind.Trip x j = sym (joined_stays (ids kind.Trip a) (ids kind.Trip b) (joined_trip never_near a b) (few-enough kind.Trip) x j)
+  joined-name k x j = joined-stays_a k x j ∙ sym (joined-stays_b k x j)
 
   -- ---- a joined row is one of A
 

@@ -10,10 +10,13 @@ use Rattle.gtfs_rows.specs.Content.{Content}
 use Rattle.gtfs_rows.specs.declared.parts.Parts.{Parts}
 use Rattle.gtfs_rows.specs.Views.{IsSoundParts, content_of_parts}
 use Rattle.gtfs_merge.specs.Departures.{StaysApart}
-use Rattle.gtfs_merge.specs.Names.{new_id, new_ids}
+use Rattle.gtfs_merge.specs.Names.{kind_names, new_id, new_ids, of_side}
 use Rattle.gtfs_merge.specs.Numbered.{known_ids}
 use Rattle.gtfs_merge.specs.Renaming.{has_id, ids, name_of, Names, Renaming, renaming}
+use Rattle.gtfs_merge.specs.Sides.{side_names, side_parts}
 use Rattle.gtfs_merge.specs.declared.kind.Kind.{Kind}
+use Rattle.gtfs_merge.specs.declared.kind.Side.{Side}
+use Rattle.gtfs_merge.specs.declared.kind.Side.TheVariants as side
 use Rattle.gtfs_merge.proofs.JoinedIds.{has-number}
 use Rattle.gtfs_merge.proofs.JoinedKinds.{ids-known}
 use Rattle.gtfs_merge.proofs.Lookups.{same_bytes}
@@ -33,6 +36,15 @@ looked-up rename xs x = by (position (bytes_eq x) xs) refl
 
 pub named : (n : Names) (k : Kind) (p : Parts) → IsSoundParts p → (x : List ℕ) → new_id (new_ids (renaming n k) (known_ids k p)) x ≡ name_of n k (content_of_parts p) x
 named n k p sound x = looked-up (renaming n k) (known_ids k p) x ∙ ap (λ xs. if has_id xs x then Some (renaming n k x) else None) (sym (ids-known k p sound))
+
+-- a name by its number
+pub name-at : (k : Kind) (p q : Parts) (s : Side) (n : ℕ) → n < length (known_ids k (side_parts s p q)) → get_or (of_side (kind_names k p q) s).names n [] ≡ renaming (side_names s p q) k (get_or (known_ids k (side_parts s p q)) n [])
+name-at k p q side.A n within = get_or-map (renaming (side_names side.A p q) k) (known_ids k p) n [] [] within
+name-at k p q side.B n within = get_or-map (renaming (side_names side.B p q) k) (known_ids k q) n [] [] within
+
+pub names-count : (k : Kind) (p q : Parts) (s : Side) → length (of_side (kind_names k p q) s).names ≡ length (known_ids k (side_parts s p q))
+names-count k p q side.A = length-map (known_ids k p) (renaming (side_names side.A p q) k)
+names-count k p q side.B = length-map (known_ids k q) (renaming (side_names side.B p q) k)
 
 filter-append : {X : Type 0} (p : X → Bool) (xs ys : List X) → filter p (xs ++ ys) ≡ filter p xs ++ filter p ys
 filter-append p [] ys = refl

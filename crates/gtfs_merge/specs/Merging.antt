@@ -5,13 +5,17 @@ use Rattle.gtfs_rows.specs.Content.{Content}
 use Rattle.gtfs_merge.specs.Departures.{HasBoards, HasUnion}
 use Rattle.gtfs_merge.specs.Law.{SharesExactly}
 use Rattle.gtfs_merge.specs.Merged.{is_too_large, merged, zones_differ}
-use Rattle.gtfs_merge.specs.Names.{AllNames, AreApart, in_kind, new_id, of_side}
+use Rattle.gtfs_merge.specs.Names.{AllNames, AreApart, MeetWhereJoined, in_kind, new_id, of_side}
 use Rattle.gtfs_merge.specs.Renaming.{ids, joined_ids, name_of, names_a, names_b, never_near}
 use Rattle.gtfs_merge.specs.declared.kind.Kind.{Kind}
 use Rattle.gtfs_merge.specs.declared.kind.Side.{Side}
 use Rattle.gtfs_merge.specs.declared.merging.Merged.{Merged}
 use Rattle.gtfs_merge.specs.declared.merging.MergeFault.{MergeFault}
 use Rattle.gtfs_merge.specs.declared.merging.MergeFault.TheVariants as fault
+
+-- the most bytes of a file where no other limit is given
+abbrev pub default_file_limit : ℕ
+default_file_limit = 1_073_741_824
 
 -- the ids of both feeds by their bytes, as those of a content stand, what each became, and the joined ids
 pub record AreNamesOf (first second : Content) (names : AllNames) : Type 0 where
@@ -20,6 +24,7 @@ pub record AreNamesOf (first second : Content) (names : AllNames) : Type 0 where
   pub a : (k : Kind) (id : List ℕ) → new_id (in_kind names k).a id ≡ name_of (names_a first second) k first id
   pub b : (k : Kind) (id : List ℕ) → new_id (in_kind names k).b id ≡ name_of (names_b never_near first second) k second id
   pub apart : (k : Kind) (s : Side) → AreApart (of_side (in_kind names k) s)
+  pub across : (k : Kind) → MeetWhereJoined (in_kind names k)
   pub joined : (k : Kind) → (in_kind names k).joined ≡ joined_ids never_near k first second
 
 -- the merged feed: both feeds have one zone, and no written file is longer than the limit

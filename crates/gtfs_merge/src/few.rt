@@ -7,7 +7,8 @@ use gtfs_feed::Feed;
 
 // What any two feeds in memory keep, for proofs: no kind has more ids than numbers can tell apart. It does nothing.
 pub(crate) fn are_few(a: &Feed, b: &Feed)
-    ensures { (kind : KindOf) → length (ids kind (content_of a.now)) + length (ids kind (content_of b.now)) < 2 ^ 65 }
+    ensures { (kind : KindOf) → length (ids kind (content_of a.now))
+        + length (ids kind (content_of b.now)) < 2 ^ 65 }
 {
     a.soundness();
     b.soundness();

@@ -25,7 +25,8 @@ pub(crate) fn joined_trips(
     services: &[Option<ServiceNo>],
     stops: &[Option<StopNo>],
 ) -> Result<Vec<Option<TripNo>>, OutOfMemory>
-    requires routes { map (option_map (λ n. n.0)) routes.now ≡ joined_numbers kind.Route a.now b.now }
+    requires routes { map (option_map (λ n. n.0)) routes.now
+        ≡ joined_numbers kind.Route a.now b.now }
     requires services { map (option_map (λ n. n.0)) services.now
         ≡ joined_numbers kind.Service a.now b.now }
     requires stops { map (option_map (λ n. n.0)) stops.now ≡ joined_numbers kind.Stop a.now b.now }
@@ -48,7 +49,8 @@ fn joined_trip(
     stops: &[Option<StopNo>],
     trip: TripNo,
 ) -> Option<TripNo>
-    requires routes { map (option_map (λ n. n.0)) routes.now ≡ joined_numbers kind.Route a.now b.now }
+    requires routes { map (option_map (λ n. n.0)) routes.now
+        ≡ joined_numbers kind.Route a.now b.now }
     requires services { map (option_map (λ n. n.0)) services.now
         ≡ joined_numbers kind.Service a.now b.now }
     requires stops { map (option_map (λ n. n.0)) stops.now ≡ joined_numbers kind.Stop a.now b.now }
@@ -77,7 +79,8 @@ fn is_joined_trip(
     other: TripNo,
     trip: TripNo,
 ) -> bool
-    requires routes { map (option_map (λ n. n.0)) routes.now ≡ joined_numbers kind.Route a.now b.now }
+    requires routes { map (option_map (λ n. n.0)) routes.now
+        ≡ joined_numbers kind.Route a.now b.now }
     requires services { map (option_map (λ n. n.0)) services.now
         ≡ joined_numbers kind.Service a.now b.now }
     requires stops { map (option_map (λ n. n.0)) stops.now ≡ joined_numbers kind.Stop a.now b.now }

@@ -1,11 +1,13 @@
 ghost use Rattle.std.specs.Prelude.{◌≡◌, IfOk, map};
 ghost use Rattle.gtfs_merge.specs.Joined.{joined_rows};
 ghost use Rattle.gtfs_merge.specs.KindRows.{AreKindRows};
+ghost use Rattle.gtfs_merge.specs.Names.{AreKindNames};
 ghost use Rattle.gtfs_merge.specs.Order.{entry_value};
 ghost use Rattle.gtfs_merge.specs.Renumbered.{numbers_of};
 
 use crate::joins::Joined;
 use crate::kind::{Kind, Side};
+use crate::names::Names;
 use crate::order::{MergedRow, merged_rows};
 use crate::renumbered::Numbers;
 use gtfs_feed::Feed;
@@ -46,12 +48,14 @@ impl KindRows {
         a: &Feed,
         b: &Feed,
         joined: &Joined,
+        names: &Names,
         kind: Kind,
     ) -> Result<KindRows, OutOfMemory>
-        requires { joined.now ≡ joined_rows a.now b.now }
+        requires joined { joined.now ≡ joined_rows a.now b.now }
+        requires names { AreKindNames a.now b.now names.now }
         ensures { IfOk result (AreKindRows kind a.now b.now) }
     {
-        let rows = merged_rows(alloc, a, b, joined, kind)?;
+        let rows = merged_rows(alloc, a, b, joined, names, kind)?;
         let numbers = Numbers::of_rows(alloc, a, b, joined, kind, rows.as_slice())?;
         Ok(KindRows { rows, numbers })
     }

@@ -25,8 +25,8 @@ pub(crate) fn merged_frequencies(
     kinds: &MergedKinds,
 ) -> Result<Frequencies, OutOfMemory>
     requires { AreMergedKinds a.now b.now kinds.now }
-    ensures { IfOk result (λ r. StandInTurn (map (frequencies_from a.now b.now) kinds.now.trips.rows)
-        r.starts.items r.rows.items) }
+    ensures { IfOk result (λ r. StandInTurn
+        (map (frequencies_from a.now b.now) kinds.now.trips.rows) r.starts.items r.rows.items) }
 {
     let trips = kinds.trips.rows();
     let mut rows = Vec::new(alloc);

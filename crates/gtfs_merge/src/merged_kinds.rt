@@ -1,10 +1,12 @@
 ghost use Rattle.std.specs.Prelude.{◌≡◌, IfOk};
 ghost use Rattle.gtfs_merge.specs.Joined.{joined_rows};
 ghost use Rattle.gtfs_merge.specs.KindRows.{AreMergedKinds};
+ghost use Rattle.gtfs_merge.specs.Names.{AreKindNames};
 
 use crate::joins::Joined;
 use crate::kind::Kind;
 use crate::kind_rows::KindRows;
+use crate::names::Names;
 use gtfs_feed::Feed;
 use gtfs_field::OutOfMemory;
 use std::alloc::Global;
@@ -53,15 +55,17 @@ impl MergedKinds {
         a: &Feed,
         b: &Feed,
         joined: &Joined,
+        names: &Names,
     ) -> Result<MergedKinds, OutOfMemory>
-        requires { joined.now ≡ joined_rows a.now b.now }
+        requires joined { joined.now ≡ joined_rows a.now b.now }
+        requires names { AreKindNames a.now b.now names.now }
         ensures { IfOk result (AreMergedKinds a.now b.now) }
     {
-        let agencies = KindRows::of_feeds(alloc, a, b, joined, Kind::Agency)?;
-        let stops = KindRows::of_feeds(alloc, a, b, joined, Kind::Stop)?;
-        let routes = KindRows::of_feeds(alloc, a, b, joined, Kind::Route)?;
-        let services = KindRows::of_feeds(alloc, a, b, joined, Kind::Service)?;
-        let trips = KindRows::of_feeds(alloc, a, b, joined, Kind::Trip)?;
+        let agencies = KindRows::of_feeds(alloc, a, b, joined, names, Kind::Agency)?;
+        let stops = KindRows::of_feeds(alloc, a, b, joined, names, Kind::Stop)?;
+        let routes = KindRows::of_feeds(alloc, a, b, joined, names, Kind::Route)?;
+        let services = KindRows::of_feeds(alloc, a, b, joined, names, Kind::Service)?;
+        let trips = KindRows::of_feeds(alloc, a, b, joined, names, Kind::Trip)?;
         Ok(MergedKinds {
             agencies,
             stops,

@@ -3,6 +3,7 @@ ghost use Rattle.gtfs_feed.specs.Content.{content_of};
 ghost use Rattle.gtfs_rows.specs.Views.{IsSoundParts, content_of_parts};
 ghost use Rattle.gtfs_merge.specs.Joined.{joined_rows};
 ghost use Rattle.gtfs_merge.specs.Merged.{zones_differ};
+ghost use Rattle.gtfs_merge.specs.Names.{AreKindNames};
 ghost use Rattle.gtfs_merge.specs.Sides.{merged_parts};
 
 use crate::few::are_few;
@@ -13,6 +14,7 @@ use crate::merged_frequencies::merged_frequencies;
 use crate::merged_kinds::MergedKinds;
 use crate::merged_stop_times::merged_stop_times;
 use crate::merged_transfers::merged_transfers;
+use crate::names::Names;
 use gtfs_feed::Feed;
 use gtfs_field::OutOfMemory;
 use gtfs_rows::Parts;
@@ -26,8 +28,10 @@ pub(crate) fn merged_parts(
     a: &Feed,
     b: &Feed,
     joined: &Joined,
+    names: &Names,
 ) -> Result<Parts, OutOfMemory>
     requires joined { joined.now ≡ joined_rows a.now b.now }
+    requires names { AreKindNames a.now b.now names.now }
     requires zone { zones_differ (content_of a.now) (content_of b.now) ≡ false }
     ensures sound { IfOk result IsSoundParts }
     ensures content { IfOk result (λ parts. content_of_parts parts ≡ merged_parts a.now b.now) }
@@ -35,7 +39,7 @@ pub(crate) fn merged_parts(
     a.soundness();
     b.soundness();
     are_few(a, b);
-    let kinds = MergedKinds::of_feeds(alloc, a, b, joined)?;
+    let kinds = MergedKinds::of_feeds(alloc, a, b, joined, names)?;
     let headsigns = Headsigns::of_feeds(alloc, random, a, b)?;
     let stop_times = merged_stop_times(alloc, a, b, &kinds, &headsigns)?;
     let frequencies = merged_frequencies(alloc, a, b, &kinds)?;

@@ -75,7 +75,8 @@ fn push_trip(
     requires trip { trip.now.number
         < length (known_ids kind.Trip (side_parts trip.now.side a.now b.now)) }
     ensures { OnOk result (rows.new.items ≡ rows.old.items
-        ++ stop_rows_from a.now b.now kinds.now.stops.numbers headsigns.now (entry_value trip.now)) }
+        ++ stop_rows_from a.now b.now kinds.now.stops.numbers headsigns.now
+        (entry_value trip.now)) }
 {
     let feed = side_of(a, b, trip.side);
     feed.soundness();
@@ -94,7 +95,8 @@ fn push_renumbered(
     rows: &mut Vec<StopRow>,
 ) -> Result<(), OutOfMemory>
     requires stops { All (λ r. r.stop_id.0 < length stops.now) of_trip.now }
-    requires headsigns { All (λ r. IfSome r.stop_headsign (λ n. n < length headsigns.now)) of_trip.now }
+    requires headsigns { All (λ r. IfSome r.stop_headsign (λ n. n < length headsigns.now))
+        of_trip.now }
     ensures { OnOk result (rows.new.items
         ≡ rows.old.items ++ map (renumbered_row stops.now headsigns.now) of_trip.now) }
 {

@@ -43,7 +43,8 @@ fn add_new(
 ) -> Result<(), OutOfMemory>
     requires { AreMergedKinds a.now b.now kinds.now }
     ensures { (xs : List TransferOf) → AreEntriesOf xs by_key.old.entries
-        → OnOk result (AreEntriesOf (xs ++ transfers_on a.now b.now kinds.now side) by_key.new.entries) }
+        → OnOk result (AreEntriesOf (xs ++ transfers_on a.now b.now kinds.now side)
+        by_key.new.entries) }
 {
     a.soundness();
     b.soundness();

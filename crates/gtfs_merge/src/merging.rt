@@ -19,7 +19,21 @@ use thiserror::Error;
 #[derive(Clone, Copy, Debug, PartialEq, Eq)]
 pub struct Options {
     /// How many bytes each file of the merged feed may have at most, as [`Feed::file_text`] gives it.
+    /// Where nothing else is said, 1,073,741,824.
     pub file_limit: u64,
+}
+
+impl Default for Options {
+    ghost use Rattle.std.specs.Prelude.{◌≡◌};
+    ghost use Rattle.gtfs_merge.specs.Merging.{default_file_limit};
+
+    ghost is_default = { λ options. options.file_limit ≡ default_file_limit };
+
+    fn default() -> Options {
+        Options {
+            file_limit: 1_073_741_824,
+        }
+    }
 }
 
 /// Two feeds in one, and what their ids became.
@@ -130,7 +144,7 @@ fn merged_feed(
 {
     let joined = Joined::of_feeds(alloc, a, b)?;
     let names = Names::of_joined(alloc, random, a, b, &joined)?;
-    let parts = merged_parts(alloc, random, a, b, &joined)?;
+    let parts = merged_parts(alloc, random, a, b, &joined, &names)?;
     let feed = Feed::assemble(alloc, random, parts)?;
     Ok(Merged { feed, names })
 }

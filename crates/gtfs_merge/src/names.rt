@@ -1,7 +1,7 @@
-ghost use Rattle.std.specs.Prelude.{◌≡◌, ◌∷◌, ◌++◌, [], ℕ, List, IfOk, OnOk, filter, map, option_map, string_bytes};
+ghost use Rattle.std.specs.Prelude.{◌≡◌, ◌<◌, ◌∷◌, ◌++◌, [], ℕ, List, IfOk, OnOk, filter, length, map, option_map, slice_index_or, string_bytes};
 ghost use Rattle.gtfs_feed.specs.Content.{content_of};
 ghost use Rattle.gtfs_merge.specs.Joined.{joined_rows};
-ghost use Rattle.gtfs_merge.specs.Names.{AreApart, in_kind, kind_names, new_id, of_side};
+ghost use Rattle.gtfs_merge.specs.Names.{AreApart, AreKindNames, MeetWhereJoined, in_kind, kind_names, new_id, of_side};
 ghost use Rattle.gtfs_merge.specs.Renaming.{ids, is_joined, joined_ids, name_of, names_a, names_b, never_near};
 ghost use Rattle.gtfs_merge.specs.declared.kind.Kind.{Kind as KindOf};
 ghost use Rattle.gtfs_merge.specs.declared.kind.Side.{Side as SideOf};
@@ -61,7 +61,8 @@ impl Drop for Names {
 }
 
 impl Names {
-    /// What the ids of two feeds become: two ids of a feed never become one. No answer depends on the random state.
+    /// What the ids of two feeds become: two ids of a feed never become one, and an id of each feed become one only where
+    /// they are one joined id. No answer depends on the random state.
     pub fn of_feeds(
         alloc: Global,
         random: RandomState,
@@ -72,13 +73,17 @@ impl Names {
             ≡ ids kind (content_of a.now)) }
         ensures ids_b { IfOk result (λ names. (kind : KindOf) → (in_kind names kind).b.ids
             ≡ ids kind (content_of b.now)) }
-        ensures a { IfOk result (λ names. (kind : KindOf) (id : List ℕ) → new_id (in_kind names kind).a id
+        ensures a { IfOk result (λ names. (kind : KindOf) (id : List ℕ)
+            → new_id (in_kind names kind).a id
             ≡ name_of (names_a (content_of a.now) (content_of b.now)) kind (content_of a.now) id) }
-        ensures b { IfOk result (λ names. (kind : KindOf) (id : List ℕ) → new_id (in_kind names kind).b id
+        ensures b { IfOk result (λ names. (kind : KindOf) (id : List ℕ)
+            → new_id (in_kind names kind).b id
             ≡ name_of (names_b never_near (content_of a.now) (content_of b.now)) kind
             (content_of b.now) id) }
         ensures apart { IfOk result (λ names. (kind : KindOf) (side : SideOf)
             → AreApart (of_side (in_kind names kind) side)) }
+        ensures across { IfOk result (λ names. (kind : KindOf)
+            → MeetWhereJoined (in_kind names kind)) }
         ensures joined { IfOk result (λ names. (kind : KindOf) → (in_kind names kind).joined
             ≡ joined_ids never_near kind (content_of a.now) (content_of b.now)) }
     {
@@ -95,17 +100,22 @@ impl Names {
         joined: &Joined,
     ) -> Result<Names, OutOfMemory>
         requires { joined.now ≡ joined_rows a.now b.now }
+        ensures kinds { IfOk result (AreKindNames a.now b.now) }
         ensures ids_a { IfOk result (λ names. (kind : KindOf) → (in_kind names kind).a.ids
             ≡ ids kind (content_of a.now)) }
         ensures ids_b { IfOk result (λ names. (kind : KindOf) → (in_kind names kind).b.ids
             ≡ ids kind (content_of b.now)) }
-        ensures a { IfOk result (λ names. (kind : KindOf) (id : List ℕ) → new_id (in_kind names kind).a id
+        ensures a { IfOk result (λ names. (kind : KindOf) (id : List ℕ)
+            → new_id (in_kind names kind).a id
             ≡ name_of (names_a (content_of a.now) (content_of b.now)) kind (content_of a.now) id) }
-        ensures b { IfOk result (λ names. (kind : KindOf) (id : List ℕ) → new_id (in_kind names kind).b id
+        ensures b { IfOk result (λ names. (kind : KindOf) (id : List ℕ)
+            → new_id (in_kind names kind).b id
             ≡ name_of (names_b never_near (content_of a.now) (content_of b.now)) kind
             (content_of b.now) id) }
         ensures apart { IfOk result (λ names. (kind : KindOf) (side : SideOf)
             → AreApart (of_side (in_kind names kind) side)) }
+        ensures across { IfOk result (λ names. (kind : KindOf)
+            → MeetWhereJoined (in_kind names kind)) }
         ensures joined { IfOk result (λ names. (kind : KindOf) → (in_kind names kind).joined
             ≡ joined_ids never_near kind (content_of a.now) (content_of b.now)) }
     {
@@ -128,7 +138,8 @@ impl Names {
 
     /// What an id of a feed became, and None exactly where the feed has no such id.
     pub fn of(&self, side: Side, kind: Kind, id: &str) -> Option<&str>
-        ensures { option_map (λ s. s.now) result ≡ new_id (of_side (in_kind self.now kind) side) id.now }
+        ensures { option_map (λ s. s.now) result
+            ≡ new_id (of_side (in_kind self.now kind) side) id.now }
     {
         let names = self.kind(kind);
         match side {
@@ -153,6 +164,19 @@ impl Names {
         ensures { map string_bytes result.now ≡ (in_kind self.now kind).joined }
     {
         self.kind(kind).joined.as_slice()
+    }
+
+    // What the id of a number became.
+    pub(crate) fn by_number(&self, side: Side, kind: Kind, number: usize) -> &str
+        requires { number < length (of_side (in_kind self.now kind) side).names }
+        ensures { result.now
+            ≡ slice_index_or (of_side (in_kind self.now kind) side).names number [] }
+    {
+        let names = self.kind(kind);
+        match side {
+            Side::A => names.a.by_number(number),
+            Side::B => names.b.by_number(number),
+        }
     }
 
     // The names of a kind.

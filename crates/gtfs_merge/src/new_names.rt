@@ -1,4 +1,4 @@
-ghost use Rattle.std.specs.Prelude.{◌≡◌, ◌&&◌, [], IfOk, false, not, string_bytes, true};
+ghost use Rattle.std.specs.Prelude.{◌≡◌, ◌<◌, ◌&&◌, [], IfOk, false, length, not, slice_index_or, string_bytes, true};
 ghost use Rattle.gtfs_feed.specs.Content.{content_of};
 ghost use Rattle.gtfs_merge.specs.Joined.{joined_rows};
 ghost use Rattle.gtfs_merge.specs.Names.{is_nameless};
@@ -18,6 +18,18 @@ use std::alloc::Global;
 // What an agency without an id is called, before the number.
 const AGENCY: &str = "agency";
 
+// Whether the id of a number of B is joined.
+pub(crate) fn is_joined_row(a: &Feed, b: &Feed, joined: &Joined, kind: Kind, number: usize) -> bool
+    requires joined { joined.now ≡ joined_rows a.now b.now }
+    requires within { number < length (known_ids kind b.now) }
+    ensures { result ≡ is_joined never_near kind (content_of a.now) (content_of b.now)
+        (slice_index_or (known_ids kind b.now) number []) }
+{
+    a.soundness();
+    b.soundness();
+    joined.has(kind, number)
+}
+
 // Whether an id is joined.
 pub(crate) fn is_joined_id(a: &Feed, b: &Feed, joined: &Joined, kind: Kind, id: &str) -> bool
     requires { joined.now ≡ joined_rows a.now b.now }
@@ -26,7 +38,7 @@ pub(crate) fn is_joined_id(a: &Feed, b: &Feed, joined: &Joined, kind: Kind, id: 
     a.soundness();
     b.soundness();
     match number_of(b, kind, id) {
-        Some(number) => joined.has(kind, number),
+        Some(number) => is_joined_row(a, b, joined, kind, number),
         None => false,
     }
 }
@@ -72,30 +84,31 @@ pub(crate) fn new_id_of_a(
     Ok(String::from_str(alloc, id)?)
 }
 
-// What an id of B becomes: it stays where A lacks it or it is joined.
+// What an id of B becomes: it stays where it is joined or A lacks it.
 pub(crate) fn new_id_of_b(
     alloc: Global,
     a: &Feed,
     b: &Feed,
-    joined: &Joined,
     kind: Kind,
     id: &str,
+    joined: bool,
 ) -> Result<String, OutOfMemory>
-    requires joined { joined.now ≡ joined_rows a.now b.now }
     requires there { has_id (known_ids kind b.now) id.now ≡ true }
+    requires joined { joined
+        ≡ is_joined never_near kind (content_of a.now) (content_of b.now) id.now }
     ensures { IfOk result (λ new. string_bytes new
         ≡ renaming (names_b never_near (content_of a.now) (content_of b.now)) kind id.now) }
 {
     a.soundness();
     b.soundness();
     are_few(a, b);
-    if is_left_nameless(a, b, joined, kind, id) {
+    if joined {
+        return Ok(String::from_str(alloc, id)?);
+    }
+    if is_nameless(kind, id) {
         return new_agency_id_of_b(alloc, a, b);
     }
     if !has_this_id(a, kind, id) {
-        return Ok(String::from_str(alloc, id)?);
-    }
-    if is_joined_id(a, b, joined, kind, id) {
         return Ok(String::from_str(alloc, id)?);
     }
     free_id(alloc, a, b, kind, id)

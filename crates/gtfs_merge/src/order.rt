@@ -4,15 +4,18 @@ ghost use Rattle.std.specs.Prelude.{◌≡◌, ◌<◌, ◌∷◌, ◌++◌, [],
 ghost use Rattle.gtfs_table.specs.Folder.{text_cmp};
 ghost use Rattle.gtfs_merge.specs.Joined.{joined_rows};
 ghost use Rattle.gtfs_merge.specs.MergedKinds.{AreMergedRows};
+ghost use Rattle.gtfs_merge.specs.Names.{AreKindNames};
 ghost use Rattle.gtfs_merge.specs.Numbered.{known_ids};
 ghost use Rattle.gtfs_merge.specs.Order.{entry_of, entry_value, is_apart, rows_of_a, rows_of_b};
+ghost use Rattle.gtfs_merge.specs.Sides.{side_parts};
 ghost use Rattle.gtfs_merge.specs.declared.kind.Side.TheVariants as side;
 
 use crate::few::are_few;
 use crate::joins::Joined;
 use crate::kind::{Kind, Side};
-use crate::kinds::{count_of, id_of};
-use crate::new_names::{is_joined_id, new_id_of_a, new_id_of_b};
+use crate::kinds::count_of;
+use crate::names::Names;
+use crate::new_names::is_joined_row;
 use gtfs_feed::Feed;
 use gtfs_field::OutOfMemory;
 use std::alloc::Global;
@@ -32,17 +35,19 @@ pub(crate) fn merged_rows(
     a: &Feed,
     b: &Feed,
     joined: &Joined,
+    names: &Names,
     kind: Kind,
 ) -> Result<Vec<MergedRow>, OutOfMemory>
-    requires { joined.now ≡ joined_rows a.now b.now }
+    requires joined { joined.now ≡ joined_rows a.now b.now }
+    requires names { AreKindNames a.now b.now names.now }
     ensures { IfOk result (λ rows. AreMergedRows kind a.now b.now (map entry_value rows.items)) }
 {
     a.soundness();
     b.soundness();
     are_few(a, b);
-    let mut rows = of_a(alloc, a, b, joined, kind)?;
-    add_of_b(alloc, a, b, joined, kind, &mut rows)?;
-    Ok(sorted(rows))
+    let mut rows = of_a(alloc, a, b, names, kind)?;
+    add_of_b(alloc, a, b, joined, names, kind, &mut rows)?;
+    Ok(sorted(rows)?)
 }
 
 // The rows of A under their new ids.
@@ -50,22 +55,35 @@ fn of_a(
     alloc: Global,
     a: &Feed,
     b: &Feed,
-    joined: &Joined,
+    names: &Names,
     kind: Kind,
 ) -> Result<Vec<MergedRow>, OutOfMemory>
-    requires { joined.now ≡ joined_rows a.now b.now }
+    requires { AreKindNames a.now b.now names.now }
     ensures { IfOk result (λ rows. map entry_value rows.items ≡ rows_of_a kind a.now b.now) }
 {
     let mut rows = Vec::new(alloc);
     for number in 0..count_of(a, kind) {
-        let id = new_id_of_a(alloc, a, b, joined, kind, id_of(a, kind, number))?;
-        rows.push(MergedRow {
-            id,
-            side: Side::A,
-            number,
-        })?;
+        rows.push(row_of(alloc, a, b, names, Side::A, kind, number)?)?;
     }
     Ok(rows)
+}
+
+// A row of a side under its new id.
+fn row_of(
+    alloc: Global,
+    a: &Feed,
+    b: &Feed,
+    names: &Names,
+    side: Side,
+    kind: Kind,
+    number: usize,
+) -> Result<MergedRow, OutOfMemory>
+    requires names { AreKindNames a.now b.now names.now }
+    requires within { number < length (known_ids kind (side_parts side a.now b.now)) }
+    ensures { IfOk result (λ row. entry_value row ≡ entry_of side kind a.now b.now number) }
+{
+    let id = String::from_str(alloc, names.by_number(side, kind, number))?;
+    Ok(MergedRow { id, side, number })
 }
 
 // Adds the rows of B that are not joined.
@@ -74,15 +92,17 @@ fn add_of_b(
     a: &Feed,
     b: &Feed,
     joined: &Joined,
+    names: &Names,
     kind: Kind,
     rows: &mut Vec<MergedRow>,
 ) -> Result<(), OutOfMemory>
-    requires { joined.now ≡ joined_rows a.now b.now }
+    requires joined { joined.now ≡ joined_rows a.now b.now }
+    requires names { AreKindNames a.now b.now names.now }
     ensures { OnOk result (map entry_value rows.new.items
         ≡ map entry_value rows.old.items ++ rows_of_b kind a.now b.now) }
 {
     for number in 0..count_of(b, kind) {
-        add_if_apart(alloc, a, b, joined, kind, number, rows)?;
+        add_if_apart(alloc, a, b, joined, names, kind, number, rows)?;
     }
     Ok(())
 }
@@ -93,33 +113,33 @@ fn add_if_apart(
     a: &Feed,
     b: &Feed,
     joined: &Joined,
+    names: &Names,
     kind: Kind,
     number: usize,
     rows: &mut Vec<MergedRow>,
 ) -> Result<(), OutOfMemory>
     requires joined { joined.now ≡ joined_rows a.now b.now }
+    requires names { AreKindNames a.now b.now names.now }
     requires within { number < length (known_ids kind b.now) }
     ensures { OnOk result (map entry_value rows.new.items ≡ map entry_value rows.old.items
-        ++ map (entry_of side.B kind a.now b.now) (filter (is_apart kind a.now b.now) (number ∷ []))) }
+        ++ map (entry_of side.B kind a.now b.now)
+        (filter (is_apart kind a.now b.now) (number ∷ []))) }
 {
-    let id = id_of(b, kind, number);
-    if !is_joined_id(a, b, joined, kind, id) {
-        rows.push(MergedRow {
-            id: new_id_of_b(alloc, a, b, joined, kind, id)?,
-            side: Side::B,
-            number,
-        })?;
+    if !is_joined_row(a, b, joined, kind, number) {
+        rows.push(row_of(alloc, a, b, names, Side::B, kind, number)?)?;
     }
     Ok(())
 }
 
-// The rows by their new ids.
-fn sorted(mut rows: Vec<MergedRow>) -> Vec<MergedRow>
-    ensures same { IsPermutation (map entry_value rows.items) (map entry_value result.items) }
-    ensures in_order { IsSorted (on (λ e. e.id) text_cmp) (map entry_value result.items) }
+// The rows by their new ids. This sort is fast where long stretches are in order, as the rows of each side mostly are.
+fn sorted(mut rows: Vec<MergedRow>) -> Result<Vec<MergedRow>, OutOfMemory>
+    ensures same { IfOk result (λ sorted. IsPermutation (map entry_value rows.items)
+        (map entry_value sorted.items)) }
+    ensures in_order { IfOk result (λ sorted. IsSorted (on (λ e. e.id) text_cmp)
+        (map entry_value sorted.items)) }
 {
-    rows.sort_unstable_by(|a, b| order(a, b));
-    rows
+    rows.sort_by(|a, b| order(a, b))?;
+    Ok(rows)
 }
 
 fn order(a: &MergedRow, b: &MergedRow) -> Ordering

@@ -1,4 +1,4 @@
-ghost use Rattle.std.specs.Prelude.{◌≡◌, [], ◌∷◌, ◌++◌, IfOk, OnOk, bytes_eq, false, map, option_map, string_bytes};
+ghost use Rattle.std.specs.Prelude.{◌≡◌, ◌<◌, [], ◌∷◌, ◌++◌, IfOk, OnOk, bytes_eq, false, length, map, option_map, slice_index_or, string_bytes};
 ghost use Rattle.std.specs.List.{list_any};
 ghost use Rattle.gtfs_feed.specs.Content.{content_of};
 ghost use Rattle.gtfs_merge.specs.Joined.{joined_rows};
@@ -9,7 +9,7 @@ ghost use Rattle.gtfs_merge.specs.Renaming.{names_a, names_b, never_near, renami
 use crate::joins::Joined;
 use crate::kind::Kind;
 use crate::kinds::{count_of, id_of};
-use crate::new_names::{new_id_of_a, new_id_of_b};
+use crate::new_names::{is_joined_row, new_id_of_a, new_id_of_b};
 use gtfs_feed::Feed;
 use gtfs_field::OutOfMemory;
 use indexmap::IndexSet;
@@ -79,7 +79,8 @@ impl Renamed {
         let mut ids = Renamed::with_room(alloc, random, count_of(b, kind))?;
         for number in 0..count_of(b, kind) {
             let id = id_of(b, kind, number);
-            let name = new_id_of_b(alloc, a, b, joined, kind, id)?;
+            let is_joined = is_joined_row(a, b, joined, kind, number);
+            let name = new_id_of_b(alloc, a, b, kind, id, is_joined)?;
             ids.push(String::from_str(alloc, id)?, name)?;
         }
         Ok(ids)
@@ -90,6 +91,14 @@ impl Renamed {
         ensures { map string_bytes result.now ≡ self.now.ids }
     {
         self.ids.as_slice()
+    }
+
+    // What the id of a number became.
+    pub(crate) fn by_number(&self, number: usize) -> &str
+        requires { number < length self.now.names }
+        ensures { result.now ≡ slice_index_or self.now.names number [] }
+    {
+        self.names[number].as_str()
     }
 
     // What an id became, None where it is not there.

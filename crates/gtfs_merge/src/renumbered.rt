@@ -83,7 +83,8 @@ impl Numbers {
 
     // Sets the numbers of the rows that the merged feed has.
     fn set_rows(&mut self, rows: &[MergedRow])
-        requires { All (λ e. e.number < length (numbers_of self.old e.side)) (map entry_value rows.now) }
+        requires { All (λ e. e.number < length (numbers_of self.old e.side))
+            (map entry_value rows.now) }
         ensures count { (side : SideOf) → length (numbers_of self.new side)
             ≡ length (numbers_of self.old side) }
         ensures places { ArePlaced (map entry_value rows.now) self.new (map entry_value rows.now) }

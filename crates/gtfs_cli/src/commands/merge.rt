@@ -21,9 +21,6 @@ use gtfs_words::MergeWords;
 use std::alloc::Global;
 use std::hash::RandomState;
 
-// The most bytes of a file that is written, which is also the most that a disk's folder may hold in one to be read.
-const FILE_LIMIT: u64 = 1_073_741_824;
-
 // Merges the feeds of two folders, writes the files of the merged feed into a third folder, which may be one of the two,
 // and then prints the report of the merge.
 // Errors: In the order in which they are judged: `NotThere`, `Unreadable`, `OverLimit` and `HasErrors` of the first
@@ -79,7 +76,7 @@ fn merge_folders<'w, F: Folders>(
     merge_feeds(alloc, random, &a, &b)
 }
 
-// The merge of two feeds.
+// The merge of two feeds. A file that is written may have as many bytes as one that a disk's folder holds to be read.
 fn merge_feeds<'w>(
     alloc: Global,
     random: RandomState,
@@ -90,9 +87,7 @@ fn merge_feeds<'w>(
     ensures refused { IfErr result (IsMergeFault (content_of a.now) (content_of b.now)) }
     ensures departures { KeepsDepartures (content_of a.now) (content_of b.now) }
 {
-    let options = Options {
-        file_limit: FILE_LIMIT,
-    };
+    let options = Options::default();
     match merge(alloc, random, a, b, &options) {
         Ok(merged) => Ok(merged),
         Err(MergeFault::ZoneDiffers) => Err(Refusal::ZonesDiffer),

@@ -7,5 +7,6 @@ returns-clause-names c = record {
   a = c.in_ok-names.ensures.a;
   b = c.in_ok-names.ensures.b;
   apart = c.in_ok-names.ensures.apart;
+  across = c.in_ok-names.ensures.across;
   joined = c.in_ok-names.ensures.joined;
 }

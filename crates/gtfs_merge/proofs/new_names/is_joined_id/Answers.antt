@@ -1,12 +1,17 @@
-use Rattle.std.proofs.Common.{◌∙◌, ap, get_or, is_some, None, sym}
-use Rattle.gtfs_merge.specs.Joined.{of_kind}
-use Rattle.gtfs_merge.proofs.JoinedIds.{told-there, told-not-there}
+use Rattle.std.proofs.Common.{◌∙◌, ap, sym}
+use Rattle.gtfs_rows.specs.Views.{content_of_parts}
+use Rattle.gtfs_merge.specs.Numbered.{known_ids}
+use Rattle.gtfs_merge.specs.Renaming.{is_joined, never_near}
+use Rattle.gtfs_merge.proofs.JoinedIds.{own-place, told-not-there}
 use Rattle.gtfs_merge.proofs.new_names.is_joined_id.Goals as goal
+
+pub is_joined_row-requires-clause-within : goal.is_joined_row-requires-clause-within
+is_joined_row-requires-clause-within c = (own-place (known_ids c.args.kind c.args.b.now) c.args.id.now c.in-Some.number (sym c.in-Some.ensures)).0
 
 pub returns-in-Some : goal.returns-in-Some
 returns-in-Some c =
-    told-there c.args.a.now c.args.b.now c.soundness.ensures c.soundness-2.ensures c.args.kind c.args.id.now c.in-Some.number (sym c.in-Some.ensures) c.has.result
-    (c.has.ensures ∙ ap (λ j. is_some (get_or (of_kind j c.args.kind) c.in-Some.number None)) c.requires)
+    let own = (own-place (known_ids c.args.kind c.args.b.now) c.args.id.now c.in-Some.number (sym c.in-Some.ensures)).1 in
+    c.is_joined_row.ensures ∙ ap (is_joined never_near c.args.kind (content_of_parts c.args.a.now) (content_of_parts c.args.b.now)) (sym own)
 
 pub returns-in-None : goal.returns-in-None
 returns-in-None c = told-not-there c.args.a.now c.args.b.now c.soundness.ensures c.soundness-2.ensures c.args.kind c.args.id.now (sym c.in-None.ensures)

@@ -8,7 +8,7 @@ pub returns : goal.returns
 returns c =
     let p = c.args.a.now in
     let q = c.args.b.now in
-    let es = map entry_value c.sorted.result.items in
+    let es = map entry_value c.in_ok-sorted.field-0.items in
     merged-rows p q c.soundness.ensures c.soundness-2.ensures c.are_few.ensures c.args.kind es
-    (subst (λ xs. IsPermutation xs es) (c.in_ok-add_of_b.ensures ∙ ap (λ xs. xs ++ rows_of_b c.args.kind p q) c.in_ok-rows.ensures) c.sorted.ensures.same)
-    c.sorted.ensures.in_order
+    (subst (λ xs. IsPermutation xs es) (c.in_ok-add_of_b.ensures ∙ ap (λ xs. xs ++ rows_of_b c.args.kind p q) c.in_ok-rows.ensures) c.in_ok-sorted.ensures.same)
+    c.in_ok-sorted.ensures.in_order

@@ -8,9 +8,9 @@ use Rattle.gtfs_merge.proofs.Ordering.{sorted-values}
 use Rattle.gtfs_merge.proofs.order.sorted.Goals as goal
 
 pub returns-clause-same : goal.returns-clause-same
-returns-clause-same c = IsPermutation-map entry_value _ _ c.sort_unstable_by.ensures.permutation
+returns-clause-same c = IsPermutation-map entry_value _ _ c.sort_by.ensures.permutation
 
 pub returns-clause-in_order : goal.returns-clause-in_order
 returns-clause-in_order c =
     sorted-values _
-    (c.sort_unstable_by.ensures.sorted (λ x y. is_lt (text_cmp (entry_value x).id (entry_value y).id)) (ranks_by nat_list_cmp_total (λ x. (entry_value x).id)) (answers_always _ _ _ (λ f a r g called. search rules)))
+    (c.in_ok-sort_by.ensures.sorted (λ x y. is_lt (text_cmp (entry_value x).id (entry_value y).id)) (ranks_by nat_list_cmp_total (λ x. (entry_value x).id)) (answers_always _ _ _ (λ f a r g called. search rules)))

@@ -9,8 +9,16 @@ use Rattle.gtfs_merge.specs.declared.kind.Kind.TheVariants as kind
 use Rattle.gtfs_merge.specs.declared.kind.Side.TheVariants as side
 use Rattle.gtfs_merge.proofs.Apart.{apart-a, apart-b}
 use Rattle.gtfs_merge.proofs.JoinedKinds.{ids-known}
+use Rattle.gtfs_merge.proofs.NamesAcross.{names-meet}
 use Rattle.gtfs_merge.proofs.NamesFacts.{apart-names, named}
 use Rattle.gtfs_merge.proofs.names.Names.of_joined.Goals as goal
+
+pub returns-clause-kinds : goal.returns-clause-kinds
+returns-clause-kinds c kind.Agency = c.in_ok-agencies.ensures
+returns-clause-kinds c kind.Stop = c.in_ok-stops.ensures
+returns-clause-kinds c kind.Route = c.in_ok-routes.ensures
+returns-clause-kinds c kind.Service = c.in_ok-services.ensures
+returns-clause-kinds c kind.Trip = c.in_ok-trips.ensures
 
 pub returns-clause-ids_a : goal.returns-clause-ids_a
 returns-clause-ids_a c kind.Agency = ap (λ n. n.a.ids) c.in_ok-agencies.ensures ∙ sym (ids-known kind.Agency c.args.a.now c.soundness.ensures)
@@ -39,6 +47,13 @@ returns-clause-b c kind.Stop id = ap (λ n. new_id n.b id) c.in_ok-stops.ensures
 returns-clause-b c kind.Route id = ap (λ n. new_id n.b id) c.in_ok-routes.ensures ∙ named (names_b never_near (content_of_parts c.args.a.now) (content_of_parts c.args.b.now)) kind.Route c.args.b.now c.soundness-2.ensures id
 returns-clause-b c kind.Service id = ap (λ n. new_id n.b id) c.in_ok-services.ensures ∙ named (names_b never_near (content_of_parts c.args.a.now) (content_of_parts c.args.b.now)) kind.Service c.args.b.now c.soundness-2.ensures id
 returns-clause-b c kind.Trip id = ap (λ n. new_id n.b id) c.in_ok-trips.ensures ∙ named (names_b never_near (content_of_parts c.args.a.now) (content_of_parts c.args.b.now)) kind.Trip c.args.b.now c.soundness-2.ensures id
+
+pub returns-clause-across : goal.returns-clause-across
+returns-clause-across c kind.Agency = names-meet c.args.a.now c.args.b.now c.soundness.ensures c.soundness-2.ensures c.are_few.ensures kind.Agency _ c.in_ok-agencies.ensures
+returns-clause-across c kind.Stop = names-meet c.args.a.now c.args.b.now c.soundness.ensures c.soundness-2.ensures c.are_few.ensures kind.Stop _ c.in_ok-stops.ensures
+returns-clause-across c kind.Route = names-meet c.args.a.now c.args.b.now c.soundness.ensures c.soundness-2.ensures c.are_few.ensures kind.Route _ c.in_ok-routes.ensures
+returns-clause-across c kind.Service = names-meet c.args.a.now c.args.b.now c.soundness.ensures c.soundness-2.ensures c.are_few.ensures kind.Service _ c.in_ok-services.ensures
+returns-clause-across c kind.Trip = names-meet c.args.a.now c.args.b.now c.soundness.ensures c.soundness-2.ensures c.are_few.ensures kind.Trip _ c.in_ok-trips.ensures
 
 pub returns-clause-joined : goal.returns-clause-joined
 returns-clause-joined c kind.Agency = ap (λ n. n.joined) c.in_ok-agencies.ensures

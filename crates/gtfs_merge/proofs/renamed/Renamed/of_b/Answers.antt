@@ -1,7 +1,7 @@
-use Rattle.std.proofs.Common.{◌<◌, ◌∙◌, ap, arith, length}
+use Rattle.std.proofs.Common.{◌<◌, ◌∙◌, ap, arith, length, sym}
 use Rattle.gtfs_rows.specs.Views.{content_of_parts}
 use Rattle.gtfs_merge.specs.Numbered.{known_ids}
-use Rattle.gtfs_merge.specs.Renaming.{has_id, names_b, never_near, renaming}
+use Rattle.gtfs_merge.specs.Renaming.{has_id, is_joined, names_b, never_near, renaming}
 use Rattle.gtfs_merge.proofs.JoinedNames.{has-at}
 use Rattle.gtfs_merge.proofs.RenamedLists.{known-fresh}
 use Rattle.gtfs_merge.proofs.renamed.Renamed.of_b.Goals as goal
@@ -10,6 +10,10 @@ pub new_id_of_b-requires-clause-there : goal.new_id_of_b-requires-clause-there
 new_id_of_b-requires-clause-there c =
     let within : c.loop-number.number < length (known_ids c.args.kind c.args.b.now) = omega (arith, c.count_of-number-end.ensures) in
     ap (has_id (known_ids c.args.kind c.args.b.now)) c.id_of-id.ensures ∙ has-at (known_ids c.args.kind c.args.b.now) c.loop-number.number within
+
+pub new_id_of_b-requires-clause-joined : goal.new_id_of_b-requires-clause-joined
+new_id_of_b-requires-clause-joined c =
+    c.is_joined_row-is_joined.ensures ∙ ap (is_joined never_near c.args.kind (content_of_parts c.args.a.now) (content_of_parts c.args.b.now)) (sym c.id_of-id.ensures)
 
 pub push-requires : goal.push-requires
 push-requires c =
