@@ -58,8 +58,8 @@ def in_room(test):
     return run
 
 
-def run(room, words, program=PROGRAM, memory=MEMORY, preexec_fn=None, **how):
-    """Runs the program in an address space of so many MiB."""
+def run(room, words, program=PROGRAM, memory=MEMORY, preexec_fn=None, timeout=LIMIT, **how):
+    """Runs the program in an address space of so many MiB, and for so many seconds at most."""
 
     def begin():
         resource.setrlimit(resource.RLIMIT_AS, (memory << 20, memory << 20))
@@ -67,7 +67,7 @@ def run(room, words, program=PROGRAM, memory=MEMORY, preexec_fn=None, **how):
             preexec_fn()
 
     how = {"stdin": subprocess.DEVNULL, "stdout": subprocess.PIPE, "stderr": subprocess.PIPE, **how}
-    return subprocess.run([program, *words], cwd=room, timeout=LIMIT, preexec_fn=begin, **how)
+    return subprocess.run([program, *words], cwd=room, timeout=timeout, preexec_fn=begin, **how)
 
 
 def want_end(ran, words, status, out, err):
