@@ -1,5 +1,5 @@
 -- How a run ends whose words `clap` does not take.
-use Rattle.std.proofs.Common.{◌≡◌, ◌∙◌, ℕ, sym, inl, Bool, false, List, Option, Result, Ok, Err, arith}
+use Rattle.std.proofs.Common.{◌≡◌, ◌∙◌, ℕ, sym, inl, Bool, List, Option, Result, Ok, Err, arith}
 use Rattle.std.specs.Prelude.{IfOk, IfErr, IsErrAnd, OnOk}
 use Rattle.std.specs.Io.KnownBytes.{Keeps}
 use Rattle.clap.specs.Words.{Text}
