@@ -1,21 +1,39 @@
--- What is so of a board is so of what the words ask for.
-use Rattle.std.proofs.Common.{◌≡◌, ◌∙◌, ap, refl, sym, subst, false, List, ℕ, Option, Some, None, codes, arith}
-use Rattle.std.specs.Prelude.{slice_index}
+-- What is so of a check, a board or a timetable is so of what the words ask for.
+use Rattle.std.proofs.Common.{◌≡◌, ◌∙◌, ap, refl, sym, subst, false, Bool, List, ℕ, Option, Some, None, Result, Ok, Err, codes, arith}
+use Rattle.std.specs.Borrow.{Bor}
+use Rattle.std.specs.Prelude.{slice_index, IfErr}
 use Rattle.clap.specs.Words.{Row, Text, subcommand_of}
 use Rattle.gtfs_table.specs.Folder.{Store}
 use Rattle.gtfs_cli.specs.BoardRun.{IsListed, IsUnlisted}
 use Rattle.gtfs_cli.specs.Boards.{EndsBoard, PrintsBoard}
-use Rattle.gtfs_words.specs.Words.{gtfs_app, texts_of, timetable_texts_of, AsksBoardOf, AsksTimetableOf, BoardTexts, IsCommandOf, TimetableTexts}
+use Rattle.gtfs_words.specs.Words.{gtfs_app, texts_of, timetable_texts_of, AsksBoardOf, AsksCheckOf, AsksTimetableOf, BoardTexts, IsCommandOf, TimetableTexts}
 use Rattle.gtfs_words.specs.Asked.{ForBoard, ForCheck, ForTimetable}
-use Rattle.gtfs_words.proofs.OneAsked.{same_board, same_timetable}
-use Rattle.gtfs_cli.specs.Refusals.{IsCause}
+use Rattle.gtfs_words.proofs.OneAsked.{same_board, same_check, same_timetable}
+use Rattle.gtfs_cli.specs.CheckRun.{EndsCheck, IsUnchecked}
+use Rattle.gtfs_cli.specs.Refusals.{IsCause, IsCheckCause}
 use Rattle.gtfs_cli.specs.Running.{Failures}
 use Rattle.gtfs_cli.specs.declared.commands.refusal.Refusal.{Refusal}
 use Rattle.gtfs_words.specs.declared.command.BoardWords.{BoardWords}
-use Rattle.gtfs_words.specs.declared.command.Command.TheVariants.{Board, Timetable}
+use Rattle.gtfs_words.specs.declared.command.Command.TheVariants.{Board, Check, Timetable}
 use Rattle.gtfs_words.specs.declared.command.TimetableWords.{TimetableWords}
 use Rattle.gtfs_cli.specs.TimetableRun.{IsTabled, IsUntabled}
 use Rattle.gtfs_cli.specs.Timetables.{EndsTimetable, IsTimetableCause, PrintsTimetable}
+
+-- words that ask for the command ask for that check
+for-check : (found : Option (Text × List Row)) (dir : Bor Text) → IsCommandOf found (Check dir) → ForCheck found dir.now
+for-check None dir is = is
+for-check (Some found) dir is = is
+
+module _ (texts : List Text) (limit : ℕ) (held : Option Store) (given : Bor Text) (is : IsCommandOf (subcommand_of gtfs_app texts) (Check given)) where
+  pub check-unchecked : (before after : Failures) (old new : Option (List ℕ)) (r : Result Bool Refusal) → IfErr r (IsCheckCause limit held given.now before after)
+      → IfErr r (EndsCheck limit held given.now old new) → (dir : List ℕ) → AsksCheckOf texts dir → IfErr r (IsUnchecked limit held dir before after old new)
+  check-unchecked before after old new (Ok failed) cause ends dir asks = tt
+  check-unchecked before after old new (Err e) cause ends dir asks =
+      let is_same = same_check _ given.now dir (for-check _ given is) asks.asks in
+      record {
+        cause = subst (λ (t : List ℕ). IsCheckCause limit held t before after e) is_same cause;
+        ends = subst (λ (t : List ℕ). EndsCheck limit held t old new e) is_same ends;
+      }
 
 other_name : codes "board" ≡ codes "check" → ⊥
 other_name e = let first : 98 ≡ 99 = ap (λ (t : List ℕ). slice_index t 0) e in omega (arith, first)

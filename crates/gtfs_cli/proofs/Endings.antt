@@ -1,5 +1,5 @@
 -- Refusals, when they come, and the status that each gives.
-use Rattle.std.proofs.Common.{◌≡◌, refl, ℕ, ◌<◌, ◌≤◌, length, inl, inr, List, Option, Some, None, Result, Ok, Err, sym, subst, ◌∙◌, arith}
+use Rattle.std.proofs.Common.{◌≡◌, refl, ℕ, ◌<◌, ◌≤◌, length, inl, inr, Bool, true, false, List, Option, Some, None, Result, Ok, Err, sym, subst, ◌∙◌, arith}
 use Rattle.std.specs.Prelude.{IfErr, IsErrAnd, IsSome}
 use Rattle.gtfs_table.specs.Device.{Rises}
 use Rattle.gtfs_table.specs.Folder.{Store, RefusesRead}
@@ -11,7 +11,7 @@ use Rattle.gtfs_cli.specs.Running.{AsksCheck, AsksFor, AsksTimetable, Failures, 
 use Rattle.gtfs_words.specs.Words.{texts_of, BoardTexts, TimetableTexts}
 use Rattle.gtfs_cli.specs.TimetableOptions.{HasTimetableValues}
 use Rattle.gtfs_cli.specs.Timetables.{IsTimetableCause}
-use Rattle.gtfs_cli.specs.Refusals.{status_of, IsCause, IsCauseInWords, IsCauseOf, IsCheckCause, IsFileCause, IsReadingCause}
+use Rattle.gtfs_cli.specs.Refusals.{status_in, status_of, IsCause, IsCauseInWords, IsCauseOf, IsCheckCause, IsFileCause, IsReadingCause}
 use Rattle.gtfs_cli.specs.declared.commands.refusal.Refusal.{Refusal}
 use Rattle.gtfs_cli.specs.declared.commands.refusal.Refusal.TheVariants.{Words, BadValue, NotThere, Unreadable, OverLimit, HasErrors, NoZone, UnknownStop, UnknownRoute, UntilBeforeFrom, ZonesDiffer, MergeTooLarge, Unwritable, OutputFailed, OutOfMemory}
 use Rattle.gtfs_cli.proofs.MergeEnded.{device-by-merge, usage-by-merge}
@@ -288,6 +288,26 @@ statuses-from (Unwritable path) status is = omega (arith, is)
 statuses-from UntilBeforeFrom status is = omega (arith, is)
 statuses-from OutputFailed status is = omega (arith, is)
 statuses-from OutOfMemory status is = omega (arith, is)
+
+-- ---- from what the command ended with
+
+module _ (texts : List Text) (limit : ℕ) (held : Option Store) (before after : Failures) where
+  pub usage-ended : (ended : Result Bool Refusal) (status : ℕ) → status ≡ status_in ended → IfErr ended (IsCauseOf texts limit held before after) → status ≡ 2
+      → IsBadUsage texts limit held
+  usage-ended (Ok true) status gives bad e = absurd (omega (arith, gives, e))
+  usage-ended (Ok false) status gives bad e = absurd (omega (arith, gives, e))
+  usage-ended (Err r) status gives bad e = usage-from texts limit held before after r status gives bad e
+
+  pub device-ended : (ended : Result Bool Refusal) (status : ℕ) → status ≡ status_in ended → IfErr ended (IsCauseOf texts limit held before after) → status ≡ 3
+      → IsDeviceFault texts limit held before after
+  device-ended (Ok true) status gives bad e = absurd (omega (arith, gives, e))
+  device-ended (Ok false) status gives bad e = absurd (omega (arith, gives, e))
+  device-ended (Err r) status gives bad e = device-from texts limit held before after r status gives bad e
+
+pub statuses-ended : (ended : Result Bool Refusal) (status : ℕ) → status ≡ status_in ended → status ≤ 4
+statuses-ended (Ok true) status gives = omega (arith, gives)
+statuses-ended (Ok false) status gives = omega (arith, gives)
+statuses-ended (Err r) status gives = statuses-from r status gives
 
 -- a `?` passes its error on
 pub told-up : {A : Type 0} (r : Result A Refusal) (e : Refusal) (P : Refusal → Type 0) → IsErrAnd r (λ y. y ≡ e) → P e → IfErr r P

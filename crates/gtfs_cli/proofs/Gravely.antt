@@ -1,8 +1,8 @@
 -- What is so of a call unless its refusal is grave.
-use Rattle.std.proofs.Common.{◌≡◌, ◌≤◌, ℕ, Result, Ok, Err, subst, arith}
+use Rattle.std.proofs.Common.{◌≡◌, ◌≤◌, ℕ, Bool, Result, Ok, Err, subst, arith}
 use Rattle.std.specs.Prelude.{IfErr, IsErrAnd, OnOk}
 use Rattle.gtfs_cli.specs.Checking.{IsSendingCause}
-use Rattle.gtfs_cli.specs.Refusals.{status_of, IsGrave, UnlessGrave}
+use Rattle.gtfs_cli.specs.Refusals.{status_in, status_of, IsGrave, UnlessGrave}
 use Rattle.gtfs_cli.specs.declared.commands.refusal.Refusal.{Refusal}
 use Rattle.gtfs_cli.specs.declared.commands.refusal.Refusal.TheVariants.{Words, BadValue, NotThere, Unreadable, OverLimit, HasErrors, NoZone, UnknownStop, UnknownRoute, UntilBeforeFrom, ZonesDiffer, MergeTooLarge, Unwritable, OutputFailed, OutOfMemory}
 
@@ -19,6 +19,11 @@ unless-then (Err e) P Q f h = λ light. f (h light)
 pub passed-up : {A : Type 0} (r : Result A Refusal) (e : Refusal) (P : Type 0) → IsErrAnd r (λ y. y ≡ e) → (status_of e ≤ 2 → P) → UnlessGrave r P
 passed-up (Ok x) e P is h = absurd is
 passed-up (Err y) e P is h = λ light. h (subst (λ (z : Refusal). status_of z ≤ 2) is light)
+
+-- the status tells which
+pub unless-ended : (r : Result Bool Refusal) (status : ℕ) (P : Type 0) → status ≡ status_in r → UnlessGrave r P → status ≤ 2 → P
+unless-ended (Ok failed) status P gives h light = h
+unless-ended (Err e) status P gives h light = h (subst (λ n. n ≤ 2) gives light)
 
 -- ---- lines that are sent out
 

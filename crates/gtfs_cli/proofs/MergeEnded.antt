@@ -1,8 +1,8 @@
 -- How a run of `gtfs merge` ends.
-use Rattle.std.proofs.Common.{◌≡◌, ◌∙◌, ap, refl, sym, subst, ℕ, ◌⊎◌, inl, inr, Bool, false, List, [], Option, Some, None, Result, codes, arith}
-use Rattle.std.specs.Prelude.{slice_index, OnErr, OnOk}
+use Rattle.std.proofs.Common.{◌≡◌, ◌∙◌, ap, refl, sym, subst, ℕ, ◌⊎◌, inl, inr, Bool, false, List, [], Option, Some, None, Result, Ok, Err, codes, arith}
+use Rattle.std.specs.Prelude.{slice_index, IfErr, IfOk, OnOk}
 use Rattle.std.specs.Borrow.{Bor}
-use Rattle.std.specs.Io.KnownBytes.{Appends}
+use Rattle.std.specs.Io.KnownBytes.{Keeps}
 use Rattle.clap.specs.Words.{Row, Text, subcommand_of}
 use Rattle.gtfs_table.specs.Device.{Rises}
 use Rattle.gtfs_table.specs.Folder.{Store}
@@ -15,13 +15,12 @@ use Rattle.gtfs_words.proofs.OneAsked.{same_merge}
 use Rattle.gtfs_cli.specs.MergeRun.{IsMerged, IsMergeRun, IsUnmerged}
 use Rattle.gtfs_cli.specs.Merges.{EndsMerge, IsMergeCause, OfEither, PrintsMerge}
 use Rattle.gtfs_cli.specs.Messages.{message}
-use Rattle.gtfs_cli.specs.Refusals.{status_of}
+use Rattle.gtfs_cli.specs.Refusals.{status_in, status_of}
 use Rattle.gtfs_cli.specs.Running.{AsksMerge, Failures, HoldsKeptFile, IsBadUsage, IsDeviceFault, KeepsFromMerging, LacksFeed}
-use Rattle.gtfs_cli.specs.Sending.{Output, SendsBeginning}
+use Rattle.gtfs_cli.specs.Sending.{Output, Sends}
 use Rattle.gtfs_cli.specs.declared.commands.refusal.Refusal.{Refusal}
 use Rattle.gtfs_cli.specs.declared.commands.refusal.Refusal.TheVariants.{Words, BadValue, NotThere, Unreadable, OverLimit, HasErrors, NoZone, UnknownStop, UnknownRoute, UntilBeforeFrom, ZonesDiffer, MergeTooLarge, Unwritable, OutputFailed, OutOfMemory}
-use Rattle.gtfs_cli.proofs.Ended.{not_well, sends}
-use Rattle.gtfs_cli.proofs.Printed.{kept}
+use Rattle.gtfs_cli.proofs.Ended.{at_zero, not_well}
 
 -- ---- words that ask for another command ask for no merge
 
@@ -63,22 +62,18 @@ module _ (texts : List Text) (limit : ℕ) (held : Option Store) (words : MergeW
 -- ---- the status and the error output
 
 module _ (limit : ℕ) (held : Option Store) (asked : MergeTexts) (before after : Failures) (now : Option Store) (old new : Option (List ℕ)) where
-  pub merged-ended : (err : Output) (failed : Bool) (status : ℕ) → (failed ≡ false → status ≡ 0) → IsMerged limit held asked now old new failed
-      → IsMergeRun limit held asked before after now old new err err status
-  merged-ended err failed status zero h = record {
-    printed = λ _. h.0;
-    silent = λ _. kept err.told;
-    refused = λ up. let z = zero h.1 in absurd (omega (arith, up, z));
-  }
-
-  pub unmerged-ended : {A B : Type 0} (written : Result A B) (r : Refusal) (status : ℕ) (err told : Output) → status ≡ status_of r
-      → IsUnmerged limit held asked before after now old new r → OnOk written (Appends err.told told.told (message r))
-      → OnErr written (SendsBeginning err.told told.told (message r)) → OnErr written (Rises err.failures told.failures)
+  pub merge-ended : (ended : Result Bool Refusal) (status : ℕ) (err told : Output) → status ≡ status_in ended → IfOk ended (IsMerged limit held asked now old new)
+      → IfErr ended (IsUnmerged limit held asked before after now old new) → OnOk ended (Keeps err.told told.told) → IfErr ended (λ r. Sends err told (message r))
       → IsMergeRun limit held asked before after now old new err told status
-  unmerged-ended written r status err told gives unmerged whole cut counted = record {
+  merge-ended (Ok failed) status err told gives ok bad keeps line = record {
+    printed = λ _. ok.0;
+    silent = λ _. keeps;
+    refused = λ up. absurd (omega (arith, up, at_zero failed status ok.1 gives));
+  }
+  merge-ended (Err r) status err told gives ok bad keeps line = record {
     printed = λ z. absurd (not_well r (sym gives ∙ z));
     silent = λ z. absurd (not_well r (sym gives ∙ z));
-    refused = λ _. record { refusal = r; unmerged = unmerged; gives = gives; line = sends written err told (message r) whole cut counted };
+    refused = λ _. record { refusal = r; unmerged = bad; gives = gives; line = line };
   }
 
 -- ---- what the status says

@@ -2,7 +2,6 @@
 use Rattle.std.proofs.Common.{◌≡◌, ◌≢◌, ◌∙◌, ap, sym, subst, refl, ℕ, zero, suc, ◌<◌, inl, inr, Bool, true, false, not, List, [], length, append-nil, Option, Some, None, arith}
 use Rattle.std.specs.Prelude.{cond}
 use Rattle.std.specs.Io.KnownBytes.{Appends, Keeps}
-use Rattle.gtfs_table.specs.Device.{Rises}
 use Rattle.gtfs_table.specs.Folder.{Store}
 use Rattle.gtfs_table.specs.Reading.{kept_files}
 use Rattle.gtfs_columns.specs.Problems.{passes}
@@ -12,21 +11,21 @@ use Rattle.gtfs_board.specs.Page.{AreWritten, IsPage}
 use Rattle.gtfs_words.specs.Words.{BoardTexts, MergeTexts, TimetableTexts}
 use Rattle.gtfs_cli.specs.BoardRun.{IsBoardRefused, IsBoardRun}
 use Rattle.gtfs_cli.specs.Boards.{EndsBoard, OfBoard, PrintsBoard}
-use Rattle.gtfs_cli.specs.CheckRun.{IsCheckRun, IsCheckTold, IsCutShort, IsRefused}
+use Rattle.gtfs_cli.specs.CheckRun.{EndsCheck, IsCheckRefused, IsCheckRun}
 use Rattle.gtfs_cli.specs.Checking.{IsReportOf}
 use Rattle.gtfs_cli.specs.MergeRun.{IsMergeRefused, IsMergeRun}
 use Rattle.gtfs_cli.specs.Merges.{with_files, EndsMerge, IsMergeCause, PrintsMerge, ReadsAgain}
 use Rattle.gtfs_cli.specs.Messages.{message}
 use Rattle.gtfs_cli.specs.Outcomes.{none_failed, IsBoardOutcome, IsCheckOutcome, IsMergeOutcome, IsTimetableOutcome}
 use Rattle.gtfs_cli.specs.Refusals.{status_of, IsCause, IsCheckCause}
-use Rattle.gtfs_cli.specs.RunEnds.{EndsAsOne, EndsWith, MergeEndsAsOne, NothingFails}
+use Rattle.gtfs_cli.specs.RunEnds.{EndsAsOne, EndsWith, IsUnhindered, MergeEndsAsOne}
 use Rattle.gtfs_cli.specs.Running.{Failures}
 use Rattle.gtfs_cli.specs.Sending.{Output, Sends}
 use Rattle.gtfs_cli.specs.TimetableRun.{IsTimetableRefused, IsTimetableRun}
 use Rattle.gtfs_cli.specs.Timetables.{EndsTimetable, IsTimetableCause, PrintsTimetable}
 use Rattle.gtfs_cli.specs.declared.commands.refusal.Refusal.{Refusal}
-use Rattle.gtfs_cli.specs.declared.commands.refusal.Refusal.TheVariants.{NotThere, Unreadable, OverLimit, Unwritable, OutputFailed, OutOfMemory}
-use Rattle.gtfs_cli.proofs.Outcomes.{not_lacking, not_over, refused}
+use Rattle.gtfs_cli.specs.declared.commands.refusal.Refusal.TheVariants.{Unreadable, Unwritable, OutputFailed, OutOfMemory}
+use Rattle.gtfs_cli.proofs.Outcomes.{refused}
 
 -- what stays grew by nothing
 grows-by_nothing : (old new : Option (List ℕ)) → Keeps old new → Appends old new []
@@ -38,22 +37,18 @@ grows-by_nothing (Some xs) (Some ys) keeps = keeps ∙ sym (append-nil xs)
 enough : (r : Refusal) (status : ℕ) → status ≡ status_of r → status ≢ 4 → r ≢ OutOfMemory
 enough r status gives memory is = memory (gives ∙ ap status_of is)
 
-sent-whole : (err told : Output) (text : List ℕ) → (Rises err.failures told.failures → ⊥) → Sends err told text → Appends err.told told.told text
-sent-whole err told text quiet (inl whole) = whole
-sent-whole err told text quiet (inr part) = absurd (quiet part.1)
-
-module _ (limit : ℕ) (store : Store) (before after : Failures) (old new : Option (List ℕ)) (err told : Output) (status : ℕ) (nothing : NothingFails before after err told status) where
+module _ (limit : ℕ) (store : Store) (before after : Failures) (old new : Option (List ℕ)) (err told : Output) (status : ℕ) (nothing : IsUnhindered before after status) where
   -- the line of a refusal, and its status
   refused-so : (r : Refusal) → Keeps old new → Sends err told (message r) → status ≡ status_of r → EndsWith old new err told status (refused (message r) (status_of r))
   refused-so r keeps line gives = record {
     text = grows-by_nothing old new keeps;
-    line = sent-whole err told (message r) nothing.error_output line;
+    line = line;
     gives = gives;
   }
 
   -- a text, and nothing on the error output
   printed-so : (text : List ℕ) (end : ℕ) → Appends old new text → Keeps err.told told.told → status ≡ end → EndsWith old new err told status (record { text = text; told = []; status = end })
-  printed-so text end out keeps gives = record { text = out; line = grows-by_nothing err.told told.told keeps; gives = gives }
+  printed-so text end out keeps gives = record { text = out; line = inl (grows-by_nothing err.told told.told keeps); gives = gives }
 
   -- ---- a check
 
@@ -63,24 +58,17 @@ module _ (limit : ℕ) (store : Store) (before after : Failures) (old new : Opti
     quiet_check OutputFailed cause = absurd (nothing.output cause)
     quiet_check r cause = cause
 
-    -- no report was begun where there is no dataset
-    unprinted : (r : Refusal) → IsCheckCause limit (Some store) dir none_failed none_failed r → r ≢ OutOfMemory → IsCutShort limit (Some store) dir old new → Keeps old new
-    unprinted r cause some (inl keeps) = keeps
-    unprinted (NotThere path) cause some (inr begun) = absurd (not_lacking limit store dir begun.dataset begun.holds cause.1)
-    unprinted (OverLimit path) cause some (inr begun) = absurd (not_over limit store dir begun.dataset begun.holds cause.1)
-    unprinted (Unreadable path) cause some (inr begun) = absurd (omega (arith, cause.1))
-    unprinted OutputFailed cause some (inr begun) = absurd (omega (arith, cause))
-    unprinted OutOfMemory cause some (inr begun) = absurd (some refl)
-    unprinted r cause some (inr begun) = absurd cause
+    check-kept : (r : Refusal) → IsCheckCause limit (Some store) dir before after r → r ≢ OutOfMemory → EndsCheck limit (Some store) dir old new r → Keeps old new
+    check-kept OutputFailed cause some ends = absurd (nothing.output cause)
+    check-kept OutOfMemory cause some ends = absurd (some refl)
+    check-kept r cause some ends = ends
 
-    check-refused : IsRefused limit (Some store) dir before after err told status → IsCutShort limit (Some store) dir old new
-        → EndsAsOne old new err told status (IsCheckOutcome limit (Some store) dir)
-    check-refused h cut =
-        let cause = quiet_check h.refusal h.cause in
+    check-refused : IsCheckRefused limit (Some store) dir before after old new err told status → EndsAsOne old new err told status (IsCheckOutcome limit (Some store) dir)
+    check-refused h =
         let some = enough h.refusal status h.gives nothing.memory in (
           refused (message h.refusal) (status_of h.refusal),
-          inr (record { refusal = h.refusal; cause = cause; enough = some; text = refl; told = refl; status = refl }),
-          refused-so h.refusal (unprinted h.refusal cause some cut) h.line h.gives,
+          inr (record { refusal = h.refusal; cause = quiet_check h.refusal h.unchecked.cause; enough = some; text = refl; told = refl; status = refl }),
+          refused-so h.refusal (check-kept h.refusal h.unchecked.cause some h.unchecked.ends) h.line h.gives,
         )
 
     gives-so : (ok failed : Bool) → failed ≡ not ok → ◌≡◌ {A = ℕ} (cond failed 1 0) (cond ok 0 1)
@@ -214,18 +202,17 @@ module _ (limit : ℕ) (store : Store) (before after : Failures) (old new : Opti
           record { ends = printed-so h.report 0 h.sent keeps gives; folders = h.files },
         )
 
-pub check-ends : (limit : ℕ) (store : Store) (dir : List ℕ) (before after : Failures) (old new : Option (List ℕ)) (err told : Output) (status : ℕ) → NothingFails before after err told status
-    → IsCheckRun limit (Some store) dir old new status → IsCheckTold limit (Some store) dir before after err told status
-    → EndsAsOne old new err told status (IsCheckOutcome limit (Some store) dir)
-check-ends limit store dir before after old new err told zero nothing run line =
-    check-reported limit store before after old new err told 0 nothing dir false refl (run.passed refl) (line.silent (omega arith))
-check-ends limit store dir before after old new err told (suc zero) nothing run line =
-    check-reported limit store before after old new err told 1 nothing dir true refl (run.failed refl) (line.silent (omega arith))
-check-ends limit store dir before after old new err told (suc (suc zero)) nothing run line = absurd (run.not_usage refl)
-check-ends limit store dir before after old new err told (suc (suc (suc more))) nothing run line =
-    check-refused limit store before after old new err told (suc (suc (suc more))) nothing dir (line.refused (omega arith)) (run.cut_short (omega arith))
+pub check-ends : (limit : ℕ) (store : Store) (dir : List ℕ) (before after : Failures) (old new : Option (List ℕ)) (err told : Output) (status : ℕ) → IsUnhindered before after status
+    → IsCheckRun limit (Some store) dir before after old new err told status → EndsAsOne old new err told status (IsCheckOutcome limit (Some store) dir)
+check-ends limit store dir before after old new err told zero nothing run =
+    check-reported limit store before after old new err told 0 nothing dir false refl (run.passed refl) (run.silent (omega arith))
+check-ends limit store dir before after old new err told (suc zero) nothing run =
+    check-reported limit store before after old new err told 1 nothing dir true refl (run.failed refl) (run.silent (omega arith))
+check-ends limit store dir before after old new err told (suc (suc zero)) nothing run = absurd (run.not_usage refl)
+check-ends limit store dir before after old new err told (suc (suc (suc more))) nothing run =
+    check-refused limit store before after old new err told (suc (suc (suc more))) nothing dir (run.refused (omega arith))
 
-pub board-ends : (limit : ℕ) (store : Store) (asked : BoardTexts) (before after : Failures) (old new : Option (List ℕ)) (err told : Output) (status : ℕ) → NothingFails before after err told status
+pub board-ends : (limit : ℕ) (store : Store) (asked : BoardTexts) (before after : Failures) (old new : Option (List ℕ)) (err told : Output) (status : ℕ) → IsUnhindered before after status
     → IsBoardRun limit (Some store) asked before after old new err told status → EndsAsOne old new err told status (IsBoardOutcome limit (Some store) asked)
 board-ends limit store asked before after old new err told zero nothing run =
     board-printed limit store before after old new err told 0 nothing asked refl (run.printed refl) (run.silent refl)
@@ -233,7 +220,7 @@ board-ends limit store asked before after old new err told (suc more) nothing ru
     board-refused limit store before after old new err told (suc more) nothing asked (run.refused (omega arith))
 
 pub timetable-ends : (limit : ℕ) (store : Store) (asked : TimetableTexts) (before after : Failures) (old new : Option (List ℕ)) (err told : Output) (status : ℕ)
-    → NothingFails before after err told status → IsTimetableRun limit (Some store) asked before after old new err told status
+    → IsUnhindered before after status → IsTimetableRun limit (Some store) asked before after old new err told status
     → EndsAsOne old new err told status (IsTimetableOutcome limit (Some store) asked)
 timetable-ends limit store asked before after old new err told zero nothing run =
     timetable-printed limit store before after old new err told 0 nothing asked refl (run.printed refl) (run.silent refl)
@@ -241,7 +228,7 @@ timetable-ends limit store asked before after old new err told (suc more) nothin
     timetable-refused limit store before after old new err told (suc more) nothing asked (run.refused (omega arith))
 
 pub merge-ends : (limit : ℕ) (store : Store) (asked : MergeTexts) (before after : Failures) (now : Option Store) (old new : Option (List ℕ)) (err told : Output) (status : ℕ)
-    → NothingFails before after err told status → IsMergeRun limit (Some store) asked before after now old new err told status
+    → IsUnhindered before after status → IsMergeRun limit (Some store) asked before after now old new err told status
     → MergeEndsAsOne now old new err told status (IsMergeOutcome limit (Some store) asked)
 merge-ends limit store asked before after now old new err told zero nothing run =
     merge-printed limit store before after old new err told 0 nothing asked now refl (run.printed refl) (run.silent refl)

@@ -1,11 +1,10 @@
 -- What was printed of a timetable, and why there is none.
 use Rattle.std.proofs.Common.{◌≡◌, ◌∙◌, ap, sym, subst, refl, ℕ, ◌+◌, ◌<◌, ◌≤◌, inl, inr, Bool, true, false, List, [], ◌∷◌, ◌++◌, append-nil, append_assoc, length, map, take, drop, take-append-drop, get_or, Option, Result, Ok, Err, arith}
-use Rattle.std.specs.Prelude.{flat_map, IfErr, OnErr, OnOk}
+use Rattle.std.specs.Prelude.{flat_map, IfErr, IfOk, OnErr, OnOk}
 use Rattle.std.specs.Io.KnownBytes.{Appends, Keeps}
 use Rattle.std.proofs.lemmas.List.{map-append, map_more, take_all}
 use Rattle.std.proofs.lemmas.List.Concat.{flat_map-append}
 use Rattle.std.proofs.KnownBytes.{Appends-trans}
-use Rattle.gtfs_table.specs.Device.{Rises}
 use Rattle.gtfs_table.specs.Folder.{Store}
 use Rattle.gtfs_rows.specs.Content.{Content}
 use Rattle.gtfs_feed.specs.Content.{content_of as content_of_feed}
@@ -17,17 +16,16 @@ use Rattle.gtfs_words.specs.Words.{TimetableTexts}
 use Rattle.gtfs_cli.specs.Boards.{HoldsFeed}
 use Rattle.gtfs_cli.specs.Checking.{IsSendingCause}
 use Rattle.gtfs_cli.specs.Messages.{message}
-use Rattle.gtfs_cli.specs.Refusals.{status_of}
+use Rattle.gtfs_cli.specs.Refusals.{status_in}
 use Rattle.gtfs_cli.specs.Running.{Failures}
-use Rattle.gtfs_cli.specs.Sending.{Output, SendsBeginning}
+use Rattle.gtfs_cli.specs.Sending.{Output, Sends, SendsBeginning}
 use Rattle.gtfs_cli.specs.TimetableOptions.{IsTimetableRequest, TimetableRequest}
 use Rattle.gtfs_cli.specs.TimetableRun.{IsTabled, IsTimetableRun, IsUntabled}
 use Rattle.gtfs_cli.specs.Timetables.{timetable_text, BeginsSheets, BeginsTimetable, EndsSheets, EndsTimetable, IsFirstBadTimetable, IsSheetsCause, IsTimetableCause, IsTimetableText, PrintsTimetable, TimetableSetting}
 use Rattle.gtfs_cli.specs.declared.commands.refusal.Refusal.{Refusal}
 use Rattle.gtfs_cli.specs.declared.commands.refusal.Refusal.TheVariants.{Words, BadValue, NotThere, Unreadable, OverLimit, HasErrors, NoZone, UnknownStop, UnknownRoute, UntilBeforeFrom, ZonesDiffer, MergeTooLarge, Unwritable, OutputFailed, OutOfMemory}
-use Rattle.gtfs_cli.proofs.Ended.{not_well, sends}
+use Rattle.gtfs_cli.proofs.Ended.{at_zero, not_well}
 use Rattle.gtfs_cli.proofs.Parts.{Leaves, one-cut}
-use Rattle.gtfs_cli.proofs.Printed.{kept}
 
 -- ---- values of options
 
@@ -260,20 +258,16 @@ module _ (limit : ℕ) (held : Option Store) (asked : TimetableTexts) (feed : Fe
 -- ---- how a run of `gtfs timetable` ends
 
 module _ (limit : ℕ) (held : Option Store) (asked : TimetableTexts) (before after : Failures) (old new : Option (List ℕ)) where
-  pub tabled-ended : (err : Output) (failed : Bool) (status : ℕ) → (failed ≡ false → status ≡ 0) → IsTabled limit held asked old new failed
-      → IsTimetableRun limit held asked before after old new err err status
-  tabled-ended err failed status zero h = record {
-    printed = λ _. h.0;
-    silent = λ _. kept err.told;
-    refused = λ up. let z = zero h.1 in absurd (omega (arith, up, z));
-  }
-
-  pub untabled-ended : {A B : Type 0} (written : Result A B) (r : Refusal) (status : ℕ) (err told : Output) → status ≡ status_of r
-      → IsUntabled limit held asked before after old new r → OnOk written (Appends err.told told.told (message r))
-      → OnErr written (SendsBeginning err.told told.told (message r)) → OnErr written (Rises err.failures told.failures)
+  pub timetable-ended : (ended : Result Bool Refusal) (status : ℕ) (err told : Output) → status ≡ status_in ended → IfOk ended (IsTabled limit held asked old new)
+      → IfErr ended (IsUntabled limit held asked before after old new) → OnOk ended (Keeps err.told told.told) → IfErr ended (λ r. Sends err told (message r))
       → IsTimetableRun limit held asked before after old new err told status
-  untabled-ended written r status err told gives untabled whole cut counted = record {
+  timetable-ended (Ok failed) status err told gives ok bad keeps line = record {
+    printed = λ _. ok.0;
+    silent = λ _. keeps;
+    refused = λ up. absurd (omega (arith, up, at_zero failed status ok.1 gives));
+  }
+  timetable-ended (Err r) status err told gives ok bad keeps line = record {
     printed = λ z. absurd (not_well r (sym gives ∙ z));
     silent = λ z. absurd (not_well r (sym gives ∙ z));
-    refused = λ _. record { refusal = r; untabled = untabled; gives = gives; line = sends written err told (message r) whole cut counted };
+    refused = λ _. record { refusal = r; untabled = bad; gives = gives; line = line };
   }

@@ -1,9 +1,14 @@
--- How a run of `gtfs check` ends whose report did not go out whole.
-use Rattle.std.proofs.Common.{◌≡◌, ℕ, ◌≤◌, List, Option, arith}
+-- How a run of `gtfs check` ends, and what went out of a report that did not go out whole.
+use Rattle.std.proofs.Common.{◌≡◌, ℕ, ◌≤◌, inl, inr, Bool, true, false, List, Option, Result, Ok, Err, arith}
+use Rattle.std.specs.Prelude.{IfErr, IfOk, OnErr, OnOk}
+use Rattle.std.specs.Io.KnownBytes.{Keeps}
 use Rattle.gtfs_table.specs.Folder.{Store}
-use Rattle.gtfs_cli.specs.CheckRun.{IsCheckRun, IsCutShort}
-use Rattle.gtfs_cli.specs.Refusals.{status_of, IsCheckCause}
+use Rattle.gtfs_cli.specs.CheckRun.{BeginsReport, EndsCheck, IsCheckRun, IsUnchecked}
+use Rattle.gtfs_cli.specs.Refusals.{status_in, status_of, IsCheckCause}
+use Rattle.gtfs_cli.specs.Checking.{IsReportOf, IsSendingCause}
+use Rattle.gtfs_cli.specs.Messages.{message}
 use Rattle.gtfs_cli.specs.Running.{Failures}
+use Rattle.gtfs_cli.specs.Sending.{Output, Sends}
 use Rattle.gtfs_cli.specs.declared.commands.refusal.Refusal.{Refusal}
 use Rattle.gtfs_cli.specs.declared.commands.refusal.Refusal.TheVariants.{Words, BadValue, NotThere, Unreadable, OverLimit, HasErrors, NoZone, UnknownStop, UnknownRoute, UntilBeforeFrom, ZonesDiffer, MergeTooLarge, Unwritable, OutputFailed, OutOfMemory}
 
@@ -26,11 +31,50 @@ module _ (limit : ℕ) (held : Option Store) (dir : List ℕ) (before after : Fa
   late OutputFailed h = omega arith
   late OutOfMemory h = omega arith
 
-  pub unchecked-ended : (old new : Option (List ℕ)) (r : Refusal) (status : ℕ) → status ≡ status_of r → IsCheckCause limit held dir before after r
-      → IsCutShort limit held dir old new → IsCheckRun limit held dir old new status
-  unchecked-ended old new r status gives cause cut = record {
-    passed = λ z. absurd (omega (arith, late r cause, gives, z));
-    failed = λ z. absurd (omega (arith, late r cause, gives, z));
-    not_usage = λ z. absurd (omega (arith, late r cause, gives, z));
-    cut_short = λ _. cut;
+  pub check-ended : (old new : Option (List ℕ)) (ended : Result Bool Refusal) (status : ℕ) (err told : Output) → status ≡ status_in ended
+      → IfOk ended (IsReportOf limit held dir old new) → IfErr ended (IsUnchecked limit held dir before after old new)
+      → OnOk ended (Keeps err.told told.told) → IfErr ended (λ r. Sends err told (message r)) → IsCheckRun limit held dir before after old new err told status
+  check-ended old new (Ok false) status err told gives ok bad keeps line = record {
+    passed = λ _. ok;
+    failed = λ z. absurd (omega (arith, gives, z));
+    silent = λ _. keeps;
+    not_usage = λ z. absurd (omega (arith, gives, z));
+    refused = λ up. absurd (omega (arith, gives, up));
   }
+  check-ended old new (Ok true) status err told gives ok bad keeps line = record {
+    passed = λ z. absurd (omega (arith, gives, z));
+    failed = λ _. ok;
+    silent = λ _. keeps;
+    not_usage = λ z. absurd (omega (arith, gives, z));
+    refused = λ up. absurd (omega (arith, gives, up));
+  }
+  check-ended old new (Err r) status err told gives ok bad keeps line =
+      let later = late r bad.cause in record {
+        passed = λ z. absurd (omega (arith, later, gives, z));
+        failed = λ z. absurd (omega (arith, later, gives, z));
+        silent = λ low. absurd (omega (arith, later, gives, low));
+        not_usage = λ z. absurd (omega (arith, later, gives, z));
+        refused = λ _. record { refusal = r; unchecked = bad; gives = gives; line = line };
+      }
+
+-- ---- what went out
+
+module _ (limit : ℕ) (held : Option Store) (dir : List ℕ) (old new : Option (List ℕ)) where
+  -- where the refusal has a cause whatever the output did, nothing went out
+  pub none-checked : (x y : ℕ) (r : Refusal) → ((before after : Failures) → before.folders ≤ x → y ≤ after.folders → IsCheckCause limit held dir before after r)
+      → Keeps old new → EndsCheck limit held dir old new r
+  none-checked x y OutputFailed h keeps =
+      absurd (omega (arith, h (record { folders = x; output = 0 }) (record { folders = y; output = 0 }) (omega arith) (omega arith)))
+  none-checked x y OutOfMemory h keeps = inl keeps
+  none-checked x y r h keeps = keeps
+
+  -- where lines were sent out, a beginning of the report did
+  lines-end : (x y : ℕ) (r : Refusal) → IsSendingCause x y r → BeginsReport limit held dir old new → EndsCheck limit held dir old new r
+  lines-end x y OutputFailed cause begun = begun
+  lines-end x y OutOfMemory cause begun = inr begun
+  lines-end x y r cause begun = absurd cause
+
+  pub check-ends : {A : Type 0} (x y : ℕ) (r : Result A Refusal) → IfErr r (IsSendingCause x y) → OnErr r (BeginsReport limit held dir old new)
+      → IfErr r (EndsCheck limit held dir old new)
+  check-ends x y (Ok done) cause begun = tt
+  check-ends x y (Err refusal) cause begun = lines-end x y refusal cause begun

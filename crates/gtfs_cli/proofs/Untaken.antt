@@ -1,47 +1,40 @@
 -- How a run ends whose words `clap` does not take.
-use Rattle.std.proofs.Common.{◌≡◌, ◌∙◌, ℕ, sym, inl, Bool, false, List, Option, Result, Ok, Err, arith}
-use Rattle.std.specs.Prelude.{IfOk, IfErr, IsErrAnd, OnOk, OnErr}
-use Rattle.std.specs.Io.KnownBytes.{Appends, Keeps}
+use Rattle.std.proofs.Common.{◌≡◌, ◌∙◌, ℕ, sym, inl, Bool, List, Option, Result, Ok, Err, arith}
+use Rattle.std.specs.Prelude.{IfOk, IfErr, IsErrAnd, OnOk}
+use Rattle.std.specs.Io.KnownBytes.{Keeps}
 use Rattle.clap.specs.Words.{Text}
-use Rattle.gtfs_table.specs.Device.{Rises}
 use Rattle.gtfs_table.specs.Folder.{Store}
 use Rattle.gtfs_cli.specs.BoardRun.{IsListed, IsUnlisted}
 use Rattle.gtfs_cli.specs.TimetableRun.{IsTabled, IsUntabled}
-use Rattle.gtfs_cli.specs.CheckRun.{IsCutShort}
+use Rattle.gtfs_cli.specs.CheckRun.{IsUnchecked}
 use Rattle.gtfs_cli.specs.Checking.{IsReportOf}
 use Rattle.gtfs_words.specs.Words.{AreRefused, BoardTexts, TimetableTexts}
 use Rattle.gtfs_cli.specs.Messages.{message}
-use Rattle.gtfs_cli.specs.Refusals.{status_of, IsCauseInWords, IsCheckCause}
+use Rattle.gtfs_cli.specs.Refusals.{status_in, IsCauseInWords}
 use Rattle.gtfs_cli.specs.Running.{Failures}
-use Rattle.gtfs_cli.specs.Sending.{Output, SendsBeginning}
+use Rattle.gtfs_cli.specs.Sending.{Output, Sends}
 use Rattle.gtfs_cli.specs.WordsRun.{IsHelped, IsUntakenRun}
 use Rattle.gtfs_cli.specs.declared.commands.refusal.Refusal.{Refusal}
 use Rattle.gtfs_cli.specs.declared.commands.refusal.Refusal.TheVariants.{OutOfMemory}
-use Rattle.gtfs_cli.proofs.Ended.{not_well, sends}
+use Rattle.gtfs_cli.proofs.Ended.{at_zero, not_well}
 use Rattle.gtfs_cli.proofs.Endings.{told-up}
-use Rattle.gtfs_cli.proofs.Parts.{on-error}
-use Rattle.gtfs_cli.proofs.Printed.{kept}
 
 module _ (texts : List Text) (before after : Failures) (old new : Option (List ℕ)) (nothing : AreRefused texts → Keeps old new)
     (untouched : after.folders ≡ before.folders) where
-  pub untaken-done : (err : Output) (failed : Bool) (status : ℕ) → (failed ≡ false → status ≡ 0) → IsHelped texts failed
-      → IsUntakenRun texts before after old new err err status
-  untaken-done err failed status zero h = record {
-    helped = λ _. h.1;
-    silent = λ _. kept err.told;
-    refused = λ up. let z = zero h.0 in absurd (omega (arith, up, z));
+  pub untaken-ended : (ended : Result Bool Refusal) (status : ℕ) (err told : Output) → status ≡ status_in ended → IfOk ended (IsHelped texts)
+      → IfErr ended (IsCauseInWords texts before.output after.output) → OnOk ended (Keeps err.told told.told) → IfErr ended (λ r. Sends err told (message r))
+      → IsUntakenRun texts before after old new err told status
+  untaken-ended (Ok failed) status err told gives ok bad keeps line = record {
+    helped = λ _. ok.1;
+    silent = λ _. keeps;
+    refused = λ up. absurd (omega (arith, up, at_zero failed status ok.0 gives));
     nothing = nothing;
     untouched = untouched;
   }
-
-  pub untaken-refused : {A B : Type 0} (written : Result A B) (r : Refusal) (status : ℕ) (err told : Output) → status ≡ status_of r
-      → IsCauseInWords texts before.output after.output r → OnOk written (Appends err.told told.told (message r))
-      → OnErr written (SendsBeginning err.told told.told (message r)) → OnErr written (Rises err.failures told.failures)
-      → IsUntakenRun texts before after old new err told status
-  untaken-refused written r status err told gives cause whole cut counted = record {
+  untaken-ended (Err r) status err told gives ok bad keeps line = record {
     helped = λ z. absurd (not_well r (sym gives ∙ z));
     silent = λ z. absurd (not_well r (sym gives ∙ z));
-    refused = λ _. record { refusal = r; cause = cause; gives = gives; line = sends written err told (message r) whole cut counted };
+    refused = λ _. record { refusal = r; cause = bad; gives = gives; line = line };
     nothing = nothing;
     untouched = untouched;
   }
@@ -60,11 +53,8 @@ module _ (limit : ℕ) (held : Option Store) (before after : Failures) (old new 
   pub unread-checked : (dir : List ℕ) → IfOk r (IsReportOf limit held dir old new)
   unread-checked dir = none_read (IsReportOf limit held dir old new)
 
-  pub unread-cut : (dir : List ℕ) → OnErr r (IsCutShort limit held dir old new)
-  unread-cut dir = on-error r (IsCutShort limit held dir old new) (inl keeps)
-
-  pub unread-cause : (dir : List ℕ) → IfErr r (IsCheckCause limit held dir before after)
-  unread-cause dir = told-up r OutOfMemory (IsCheckCause limit held dir before after) is tt
+  pub unread-unchecked : (dir : List ℕ) → IfErr r (IsUnchecked limit held dir before after old new)
+  unread-unchecked dir = told-up r OutOfMemory (IsUnchecked limit held dir before after old new) is (record { cause = tt; ends = inl keeps })
 
   pub unread-listed : (asked : BoardTexts) → IfOk r (IsListed limit held asked old new)
   unread-listed asked = none_read (IsListed limit held asked old new)

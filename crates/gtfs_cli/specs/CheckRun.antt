@@ -11,6 +11,7 @@ use Rattle.gtfs_cli.specs.Refusals.{status_of, IsCheckCause}
 use Rattle.gtfs_cli.specs.Running.{Failures, HoldsTables}
 use Rattle.gtfs_cli.specs.Sending.{Output, Sends, SendsBeginning}
 use Rattle.gtfs_cli.specs.declared.commands.refusal.Refusal.{Refusal}
+use Rattle.gtfs_cli.specs.declared.commands.refusal.Refusal.TheVariants.{OutputFailed, OutOfMemory}
 
 -- ---- what went out
 
@@ -22,29 +23,35 @@ pub record BeginsReport (limit : ℕ) (held : Option Store) (dir : List ℕ) (be
   pub is_report : IsReport dataset problems
   pub text : SendsBeginning before after (report_text problems)
 
--- nothing went out, or a beginning of the report
-abbrev pub IsCutShort : ℕ → Option Store → List ℕ → Option (List ℕ) → Option (List ℕ) → Type 0
-IsCutShort limit held dir before after = Keeps before after ⊎ BeginsReport limit held dir before after
+-- what went out where a refusal came: a beginning of the report where the output failed, the same or nothing where memory ran out, and else
+-- nothing
+abbrev pub EndsCheck : ℕ → Option Store → List ℕ → Option (List ℕ) → Option (List ℕ) → Refusal → Type 0
+EndsCheck limit held dir before after OutputFailed = BeginsReport limit held dir before after
+EndsCheck limit held dir before after OutOfMemory = Keeps before after ⊎ BeginsReport limit held dir before after
+EndsCheck limit held dir before after _ = Keeps before after
 
--- what the status of a check says of the output. At 0 and 1 the report of the dataset that the folder holds went out whole: at 0 one
--- without an error, at 1 one with an error. At 3 and 4 no more than a beginning of it went out. It is never 2.
-pub record IsCheckRun (limit : ℕ) (held : Option Store) (dir : List ℕ) (before after : Option (List ℕ)) (status : ℕ) : Type 0 where
-  pub passed : status ≡ 0 → IsReportOf limit held dir before after false
-  pub failed : status ≡ 1 → IsReportOf limit held dir before after true
-  pub not_usage : status ≢ 2
-  pub cut_short : 3 ≤ status → IsCutShort limit held dir before after
+-- ---- how the command ends
 
--- ---- what the error output is told
+-- the refusal has its cause, and what went out before it is of the report
+pub record IsUnchecked (limit : ℕ) (held : Option Store) (dir : List ℕ) (before after : Failures) (old new : Option (List ℕ)) (refusal : Refusal) : Type 0 where
+  pub cause : IsCheckCause limit held dir before after refusal
+  pub ends : EndsCheck limit held dir old new refusal
+
+-- ---- how the program ends
 
 -- what kept the report from going out whole gives the status and the line, which names the folder where it is about one; where the
 -- error output failed, a beginning of the line went out
-pub record IsRefused (limit : ℕ) (held : Option Store) (dir : List ℕ) (before after : Failures) (err told : Output) (status : ℕ) : Type 0 where
+pub record IsCheckRefused (limit : ℕ) (held : Option Store) (dir : List ℕ) (before after : Failures) (old new : Option (List ℕ)) (err told : Output) (status : ℕ) : Type 0 where
   pub refusal : Refusal
-  pub cause : IsCheckCause limit held dir before after refusal
+  pub unchecked : IsUnchecked limit held dir before after old new refusal
   pub gives : status ≡ status_of refusal
   pub line : Sends err told (message refusal)
 
--- what it says of the error output: at 0 and 1 that is told nothing, and else one line
-pub record IsCheckTold (limit : ℕ) (held : Option Store) (dir : List ℕ) (before after : Failures) (err told : Output) (status : ℕ) : Type 0 where
+-- at 0 and 1 the report of the dataset that the folder holds went out whole, at 0 one without an error and at 1 one with an error, and the
+-- error output is told nothing; at 3 and 4 it is told one line. The status is never 2.
+pub record IsCheckRun (limit : ℕ) (held : Option Store) (dir : List ℕ) (before after : Failures) (old new : Option (List ℕ)) (err told : Output) (status : ℕ) : Type 0 where
+  pub passed : status ≡ 0 → IsReportOf limit held dir old new false
+  pub failed : status ≡ 1 → IsReportOf limit held dir old new true
   pub silent : status ≤ 1 → Keeps err.told told.told
-  pub refused : 2 ≤ status → IsRefused limit held dir before after err told status
+  pub not_usage : status ≢ 2
+  pub refused : 2 ≤ status → IsCheckRefused limit held dir before after old new err told status

@@ -1,5 +1,5 @@
 -- Why a command was not done: each refusal, its status and when it comes.
-use Rattle.std.specs.Prelude.{◌≡◌, ◌⊎◌, ◌<◌, ◌≤◌, ◌^◌, ℕ, true, List, Option, Some, Result, Ok, Err, unsigned_abs, ⊤}
+use Rattle.std.specs.Prelude.{◌≡◌, ◌⊎◌, ◌<◌, ◌≤◌, ◌^◌, ℕ, Bool, true, cond, List, Option, Some, Result, Ok, Err, unsigned_abs, ⊤}
 use Rattle.clap.specs.Words.{Text}
 use Rattle.gtfs_days.specs.Service.{is_service_day}
 use Rattle.gtfs_table.specs.Device.{Rises}
@@ -31,6 +31,11 @@ status_of (Unwritable path) = 3
 status_of UntilBeforeFrom = 2
 status_of OutputFailed = 3
 status_of OutOfMemory = 4
+
+-- the status of what a command ends with: whether a check found an error, or why the command was not done
+abbrev pub status_in : Result Bool Refusal → ℕ
+status_in (Ok failed) = cond failed 1 0
+status_in (Err refusal) = status_of refusal
 
 -- the program ends with 3 or 4
 abbrev pub IsGrave : Refusal → Type 0

@@ -1,23 +1,22 @@
--- What a run of each command ends with, where its devices work and memory suffices.
+-- What a run of each command ends with, where its folders and its output work and memory suffices.
 use Rattle.std.specs.Prelude.{◌≡◌, ◌≢◌, ℕ, List, Option, Some}
 use Rattle.std.specs.Io.KnownBytes.{Appends}
 use Rattle.gtfs_table.specs.Device.{Rises}
 use Rattle.gtfs_table.specs.Folder.{Store}
 use Rattle.gtfs_cli.specs.Outcomes.{MergeOutcome, Outcome}
 use Rattle.gtfs_cli.specs.Running.{Failures}
-use Rattle.gtfs_cli.specs.Sending.{Output}
+use Rattle.gtfs_cli.specs.Sending.{Output, Sends}
 
--- the folders, the output and the error output did not fail, and memory did not run out
-pub record NothingFails (before after : Failures) (err told : Output) (status : ℕ) : Type 0 where
+-- the folders and the output did not fail, and memory did not run out; the error output may have failed
+pub record IsUnhindered (before after : Failures) (status : ℕ) : Type 0 where
   pub folders : Rises before.folders after.folders → ⊥
   pub output : Rises before.output after.output → ⊥
-  pub error_output : Rises err.failures told.failures → ⊥
   pub memory : status ≢ 4
 
--- the text and the line of the outcome went out, and the status is its own
+-- the text of the outcome went out, and its line, or a beginning of that where the error output failed; the status is its own
 pub record EndsWith (old new : Option (List ℕ)) (err told : Output) (status : ℕ) (o : Outcome) : Type 0 where
   pub text : Appends old new o.text
-  pub line : Appends err.told told.told o.told
+  pub line : Sends err told o.told
   pub gives : status ≡ o.status
 
 -- and the folders hold what it says

@@ -1,5 +1,5 @@
 //! The commands of the program, and how each ends.
-ghost use Rattle.std.specs.Prelude.{◌≡◌, ◌≤◌, List, ℕ, false, map, IfOk, IfErr, IsErrAnd, OnErr};
+ghost use Rattle.std.specs.Prelude.{◌≡◌, ◌≤◌, List, ℕ, false, map, IfOk, IfErr, IsErrAnd, OnOk};
 ghost use Rattle.std.specs.Io.KnownBytes.{Keeps};
 ghost use Rattle.clap.specs.Words.{Text, takes};
 ghost use Rattle.gtfs_cli.specs.Checking.{IsReportOf};
@@ -7,9 +7,11 @@ ghost use Rattle.gtfs_cli.specs.BoardRun.{IsBoardRun, IsListed, IsUnlisted};
 ghost use Rattle.gtfs_words.specs.Words.{gtfs_app, no_memory, AreRefused, AsksBoardOf, AsksCheckOf, AsksTimetableOf, BoardTexts, IsFaultOf, TimetableTexts, AsksMergeOf, MergeTexts};
 ghost use Rattle.gtfs_cli.specs.MergeRun.{AsksNoMerge, IsMerged, IsMergeRun, IsUnmerged};
 ghost use Rattle.gtfs_cli.specs.TimetableRun.{IsTabled, IsTimetableRun, IsUntabled};
-ghost use Rattle.gtfs_cli.specs.CheckRun.{IsCheckRun, IsCheckTold, IsCutShort};
+ghost use Rattle.gtfs_cli.specs.CheckRun.{IsCheckRun, IsUnchecked};
 ghost use Rattle.gtfs_cli.specs.Running.{FailedNowhere, IsBadUsage, IsDeviceFault};
-ghost use Rattle.gtfs_cli.specs.Refusals.{IsCauseInWords, IsCauseOf, IsCheckCause, UnlessGrave};
+ghost use Rattle.gtfs_cli.specs.Refusals.{status_in, IsCauseInWords, IsCauseOf, UnlessGrave};
+ghost use Rattle.gtfs_cli.specs.Messages.{message};
+ghost use Rattle.gtfs_cli.specs.Sending.{Sends};
 ghost use Rattle.gtfs_cli.specs.WordsRun.{IsHelped, IsUntakenRun};
 ghost use Rattle.gtfs_cli.specs.declared.commands.refusal.Refusal.TheVariants.{OutOfMemory};
 
@@ -79,11 +81,9 @@ pub fn run<S: AsStr, F: Folders, O: Out, E: Out>(
         (record { folders = F.failure_count folders.new; output = O.failure_count out.new }) }
     ensures checked { (dir : List ℕ) → AsksCheckOf (map S.text words.now) dir
         → IsCheckRun (F.limit folders.old) (F.held folders.old) dir
-        (O.told out.old) (O.told out.new) result }
-    ensures told { (dir : List ℕ) → AsksCheckOf (map S.text words.now) dir → IsCheckTold
-        (F.limit folders.old) (F.held folders.old) dir
         (record { folders = F.failure_count folders.old; output = O.failure_count out.old })
         (record { folders = F.failure_count folders.new; output = O.failure_count out.new })
+        (O.told out.old) (O.told out.new)
         (record { told = E.told err.old; failures = E.failure_count err.old })
         (record { told = E.told err.new; failures = E.failure_count err.new }) result }
     ensures listed { (asked : BoardTexts) → AsksBoardOf (map S.text words.now) asked
@@ -123,7 +123,21 @@ pub fn run<S: AsStr, F: Folders, O: Out, E: Out>(
         (record { folders = F.failure_count folders.old; output = O.failure_count out.old })
         (record { folders = F.failure_count folders.new; output = O.failure_count out.new }) }
 {
-    match command(alloc, random, words, folders, out) {
+    let ended = command(alloc, random, words, folders, out);
+    finish(ended, err)
+}
+
+// Tells the error output why a command was not done, and answers the status: that of what the command ended with, whatever
+// the error output did.
+fn finish<E: Out>(ended: Result<bool, Refusal<'_>>, err: &mut E) -> u8
+    ensures status { result ≡ status_in ended.entry }
+    ensures silent { OnOk ended.entry (Keeps (E.told err.old) (E.told err.new)) }
+    ensures told { IfErr ended.entry (λ refusal. Sends
+        (record { told = E.told err.old; failures = E.failure_count err.old })
+        (record { told = E.told err.new; failures = E.failure_count err.new })
+        (message refusal)) }
+{
+    match ended {
         Ok(has_errors) => u8::from(has_errors),
         Err(refusal) => {
             // Nobody is left who could be told that this failed.
@@ -148,13 +162,11 @@ fn command<'w, S: AsStr, F: Folders, O: Out>(
     ensures checked { (dir : List ℕ) → AsksCheckOf (map S.text words.entry.now) dir
         → IfOk result (IsReportOf (F.limit folders.old) (F.held folders.old) dir
         (O.told out.old) (O.told out.new)) }
-    ensures cut_short { (dir : List ℕ) → AsksCheckOf (map S.text words.entry.now) dir
-        → OnErr result (IsCutShort (F.limit folders.old) (F.held folders.old) dir
-        (O.told out.old) (O.told out.new)) }
     ensures unchecked { (dir : List ℕ) → AsksCheckOf (map S.text words.entry.now) dir
-        → IfErr result (IsCheckCause (F.limit folders.old) (F.held folders.old) dir
+        → IfErr result (IsUnchecked (F.limit folders.old) (F.held folders.old) dir
         (record { folders = F.failure_count folders.old; output = O.failure_count out.old })
-        (record { folders = F.failure_count folders.new; output = O.failure_count out.new })) }
+        (record { folders = F.failure_count folders.new; output = O.failure_count out.new })
+        (O.told out.old) (O.told out.new)) }
     ensures listed { (asked : BoardTexts) → AsksBoardOf (map S.text words.entry.now) asked
         → IfOk result (IsListed (F.limit folders.old) (F.held folders.old) asked
         (O.told out.old) (O.told out.new)) }

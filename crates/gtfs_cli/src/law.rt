@@ -3,10 +3,10 @@ ghost use Rattle.std.specs.Prelude.{◌≡◌, ℕ, List, Option, Some};
 ghost use Rattle.gtfs_table.specs.Folder.{Store};
 ghost use Rattle.gtfs_words.specs.Words.{BoardTexts, MergeTexts, TimetableTexts};
 ghost use Rattle.gtfs_cli.specs.BoardRun.{IsBoardRun};
-ghost use Rattle.gtfs_cli.specs.CheckRun.{IsCheckRun, IsCheckTold};
+ghost use Rattle.gtfs_cli.specs.CheckRun.{IsCheckRun};
 ghost use Rattle.gtfs_cli.specs.MergeRun.{IsMergeRun};
 ghost use Rattle.gtfs_cli.specs.Outcomes.{IsBoardOutcome, IsCheckOutcome, IsMergeOutcome, IsTimetableOutcome, MergeOutcome, Outcome};
-ghost use Rattle.gtfs_cli.specs.RunEnds.{EndsAsOne, MergeEndsAsOne, NothingFails};
+ghost use Rattle.gtfs_cli.specs.RunEnds.{EndsAsOne, IsUnhindered, MergeEndsAsOne};
 ghost use Rattle.gtfs_cli.specs.Running.{Failures};
 ghost use Rattle.gtfs_cli.specs.Sending.{Output};
 ghost use Rattle.gtfs_cli.specs.TimetableRun.{IsTimetableRun};
@@ -29,30 +29,30 @@ pub fn outcomes_are_one()
         → x ≡ y }
 {}
 
-/// A law of runs, which its contract states: where nothing fails and memory suffices, what `run` promises of a command
-/// says that it ends with an outcome of that command. With `outcomes_are_one` no two runs of a command over the same
-/// folders end otherwise. It does nothing when it runs.
+/// A law of runs, which its contract states: where no folder and no output fails and memory suffices, what `run` promises
+/// of a command says that it ends with an outcome of that command, whose status it has whatever the error output did. With
+/// `outcomes_are_one` no two runs of a command over the same folders print otherwise or have another status. It does
+/// nothing when it runs.
 pub fn runs_end_with_outcomes()
     ensures check { (limit : ℕ) (store : Store) (dir : List ℕ)
         (before after : Failures) (old new : Option (List ℕ)) (err told : Output) (status : ℕ)
-        → NothingFails before after err told status
-        → IsCheckRun limit (Some store) dir old new status
-        → IsCheckTold limit (Some store) dir before after err told status
+        → IsUnhindered before after status
+        → IsCheckRun limit (Some store) dir before after old new err told status
         → EndsAsOne old new err told status (IsCheckOutcome limit (Some store) dir) }
     ensures board { (limit : ℕ) (store : Store) (asked : BoardTexts)
         (before after : Failures) (old new : Option (List ℕ)) (err told : Output) (status : ℕ)
-        → NothingFails before after err told status
+        → IsUnhindered before after status
         → IsBoardRun limit (Some store) asked before after old new err told status
         → EndsAsOne old new err told status (IsBoardOutcome limit (Some store) asked) }
     ensures timetable { (limit : ℕ) (store : Store) (asked : TimetableTexts)
         (before after : Failures) (old new : Option (List ℕ)) (err told : Output) (status : ℕ)
-        → NothingFails before after err told status
+        → IsUnhindered before after status
         → IsTimetableRun limit (Some store) asked before after old new err told status
         → EndsAsOne old new err told status (IsTimetableOutcome limit (Some store) asked) }
     ensures merge { (limit : ℕ) (store : Store) (asked : MergeTexts)
         (before after : Failures) (now : Option Store) (old new : Option (List ℕ))
         (err told : Output) (status : ℕ)
-        → NothingFails before after err told status
+        → IsUnhindered before after status
         → IsMergeRun limit (Some store) asked before after now old new err told status
         → MergeEndsAsOne now old new err told status (IsMergeOutcome limit (Some store) asked) }
 {}

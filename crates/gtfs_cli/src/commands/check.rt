@@ -4,7 +4,7 @@ ghost use Rattle.gtfs_columns.specs.Codes.{is_error};
 ghost use Rattle.gtfs_rules.specs.Report.{problem_line, report_text};
 ghost use Rattle.gtfs_columns.specs.View.{problem_of};
 ghost use Rattle.gtfs_cli.specs.Checking.{counts_text, IsReportOf, IsSendingCause, Prints};
-ghost use Rattle.gtfs_cli.specs.CheckRun.{IsCutShort};
+ghost use Rattle.gtfs_cli.specs.CheckRun.{EndsCheck};
 ghost use Rattle.gtfs_cli.specs.Sending.{SendsBeginning};
 ghost use Rattle.gtfs_cli.specs.Refusals.{IsCheckCause, UnlessGrave};
 ghost use Rattle.gtfs_cli.specs.Running.{FailedNowhere};
@@ -28,7 +28,7 @@ pub(super) fn print_report<'w, F: Folders, O: Out>(
 ) -> Result<bool, Refusal<'w>>
     ensures printed { IfOk result (IsReportOf (F.limit folders.old) (F.held folders.old) dir.now
         (O.told out.old) (O.told out.new)) }
-    ensures cut_short { OnErr result (IsCutShort (F.limit folders.old) (F.held folders.old) dir.now
+    ensures cut_short { IfErr result (EndsCheck (F.limit folders.old) (F.held folders.old) dir.now
         (O.told out.old) (O.told out.new)) }
     ensures refused { IfErr result (IsCheckCause (F.limit folders.old) (F.held folders.old) dir.now
         (record { folders = F.failure_count folders.old; output = O.failure_count out.old })

@@ -7,10 +7,10 @@ use Rattle.gtfs_words.specs.Words.{gtfs_app, IsCommandOf}
 use Rattle.gtfs_cli.specs.Refusals.{IsCauseInWords, IsCauseOf}
 use Rattle.gtfs_cli.specs.Running.{Failures}
 use Rattle.gtfs_words.specs.declared.command.Command.{Command}
-use Rattle.gtfs_cli.proofs.Asked.{board-listed, board-unlisted, no-board-of-timetable, no-check, no-check-of-timetable, timetable-tabled, timetable-untabled}
+use Rattle.gtfs_cli.proofs.Asked.{board-listed, board-unlisted, check-unchecked, no-board-of-timetable, no-check, no-check-of-timetable, timetable-tabled, timetable-untabled}
 use Rattle.gtfs_cli.proofs.Endings.{told-up}
 use Rattle.gtfs_cli.proofs.Gravely.{passed-up, unless-then}
-use Rattle.gtfs_cli.proofs.Untaken.{unread-cause, unread-checked, unread-cut, unread-listed, unread-tabled, unread-unlisted, unread-untabled}
+use Rattle.gtfs_cli.proofs.Untaken.{unread-checked, unread-listed, unread-tabled, unread-unchecked, unread-unlisted, unread-untabled}
 use Rattle.gtfs_cli.specs.MergeRun.{IsUnmerged}
 use Rattle.gtfs_words.specs.Words.{merge_texts_of}
 use Rattle.gtfs_cli.proofs.MergeEnded.{asked-merged, asked-unmerged, for-merge, no-merge-of-check, no-merge-of-timetable}
@@ -65,17 +65,6 @@ returns-in-Err-clause-checked g c = λ dir asks.
     let none = c.in-Err.ensures.memory asks.taken in
     unread-checked limit held before after old new c.answer_fault.result (c.answer_fault.ensures.memory none) (c.answer_fault.ensures.unsent none) dir
 
-pub returns-in-Err-clause-cut_short : goal.returns-in-Err-clause-cut_short
-returns-in-Err-clause-cut_short g c = λ dir asks.
-    let limit = g.F.Folders.limit c.args.folders.now in
-    let held = g.F.Folders.held c.args.folders.now in
-    let before : Failures = record { folders = g.F.Folders.failure_count c.args.folders.now; output = g.O.Out.failure_count c.args.out.now } in
-    let after : Failures = record { folders = g.F.Folders.failure_count c.args.folders.now; output = g.O.Out.failure_count c.answer_fault.new.out } in
-    let old = g.O.Out.told c.args.out.now in
-    let new = g.O.Out.told c.answer_fault.new.out in
-    let none = c.in-Err.ensures.memory asks.taken in
-    unread-cut limit held before after old new c.answer_fault.result (c.answer_fault.ensures.memory none) (c.answer_fault.ensures.unsent none) dir
-
 pub returns-in-Err-clause-unchecked : goal.returns-in-Err-clause-unchecked
 returns-in-Err-clause-unchecked g c = λ dir asks.
     let limit = g.F.Folders.limit c.args.folders.now in
@@ -85,7 +74,7 @@ returns-in-Err-clause-unchecked g c = λ dir asks.
     let old = g.O.Out.told c.args.out.now in
     let new = g.O.Out.told c.answer_fault.new.out in
     let none = c.in-Err.ensures.memory asks.taken in
-    unread-cause limit held before after old new c.answer_fault.result (c.answer_fault.ensures.memory none) (c.answer_fault.ensures.unsent none) dir
+    unread-unchecked limit held before after old new c.answer_fault.result (c.answer_fault.ensures.memory none) (c.answer_fault.ensures.unsent none) dir
 
 pub returns-in-Err-clause-listed : goal.returns-in-Err-clause-listed
 returns-in-Err-clause-listed g c = λ asked asks.
@@ -109,8 +98,8 @@ returns-in-Err-clause-unlisted g c = λ asked asks.
     let none = c.in-Err.ensures.memory asks.taken in
     unread-unlisted limit held before after old new c.answer_fault.result (c.answer_fault.ensures.memory none) (c.answer_fault.ensures.unsent none) asked
 
-pub returns-in_err-print_board-in-Ok-Board-clause-cut_short : goal.returns-in_err-print_board-in-Ok-Board-clause-cut_short
-returns-in_err-print_board-in-Ok-Board-clause-cut_short g c = λ dir asks.
+pub returns-in_err-print_board-in-Ok-Board-clause-unchecked : goal.returns-in_err-print_board-in-Ok-Board-clause-unchecked
+returns-in_err-print_board-in-Ok-Board-clause-unchecked g c = λ dir asks.
     let found = subcommand_of gtfs_app (map g.S.AsStr.text c.args.words.now) in
     let is = subst (λ (x : Command). IsCommandOf found x) c.in-Ok-Board.field-0-is c.in-Ok-Board.ensures.read in
     absurd (no-check found c.in-Ok-Board.given dir is asks.asks)
@@ -259,3 +248,14 @@ returns-in_err-print_merge-in-Ok-Merge-clause-no_failure g c =
 
 pub returns-in-Err-clause-no_failure : goal.returns-in-Err-clause-no_failure
 returns-in-Err-clause-no_failure g c = unless-then c.answer_fault.result _ _ (λ same. (refl, same)) c.answer_fault.ensures.no_failure
+
+pub returns-in-Ok-Check-clause-unchecked : goal.returns-in-Ok-Check-clause-unchecked
+returns-in-Ok-Check-clause-unchecked g c =
+    let texts = map g.S.AsStr.text c.args.words.now in
+    let limit = g.F.Folders.limit c.args.folders.now in
+    let held = g.F.Folders.held c.args.folders.now in
+    let before : Failures = record { folders = g.F.Folders.failure_count c.args.folders.now; output = g.O.Out.failure_count c.args.out.now } in
+    let after : Failures = record { folders = g.F.Folders.failure_count c.print_report.new.folders; output = g.O.Out.failure_count c.print_report.new.out } in
+    let is = subst (λ (x : Command). IsCommandOf (subcommand_of gtfs_app texts) x) c.in-Ok-Check.field-0-is c.in-Ok-Check.ensures.read in
+    check-unchecked texts limit held c.in-Ok-Check.dir is before after (g.O.Out.told c.args.out.now) (g.O.Out.told c.print_report.new.out)
+    c.print_report.result c.print_report.ensures.refused c.print_report.ensures.cut_short
