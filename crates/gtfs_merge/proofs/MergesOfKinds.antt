@@ -1,6 +1,5 @@
 -- The merged rows of each kind are those of the merged content.
 use Rattle.std.proofs.Common.{◌≡◌, ◌<◌, ◌+◌, ◌^◌, ℕ, Bool, true, List, [], ◌∷◌, ◌++◌, Some, None, Option, refl, sym, ap, ◌∙◌, subst, inl, inr, length, map, get_or, bytes_eq, option_map, slice_get, arith}
-use Rattle.std.specs.Prelude.{◌&&◌}
 use Rattle.std.specs.List.{All, Contains}
 use Rattle.std.specs.List.Sorted.{IsPermutation, IsSorted}
 use Rattle.std.specs.Ordering.{on}
@@ -31,7 +30,7 @@ use Rattle.gtfs_merge.proofs.JoinedIds.{joined-has}
 use Rattle.gtfs_merge.proofs.JoinedKinds.{ids-known}
 use Rattle.gtfs_merge.proofs.JoinedNames.{has-at}
 use Rattle.gtfs_merge.proofs.JoinedRows.{look-own}
-use Rattle.gtfs_merge.proofs.Lookups.{In, bytes_same, same_bytes}
+use Rattle.gtfs_merge.proofs.Lookups.{In, bytes_same}
 use Rattle.gtfs_merge.proofs.MergedOrder.{IsMerge, ascend, rows-by_id, within-sides}
 use Rattle.gtfs_merge.proofs.MergedRows.{found_id, joined-rows}
 use Rattle.gtfs_merge.proofs.NewIdRules.{stop-rule}
