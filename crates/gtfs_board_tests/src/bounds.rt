@@ -63,8 +63,10 @@ impl Bounds {
         assert!(rt; held <= self.most_held(), "{held} wait");
     }
 
-    /// So many steps may have been made before the departure at an instant, after so many were taken.
+    /// So many steps may have been made before the departure at an instant, after so many were taken, and each of these cost
+    /// one.
     pub(crate) fn assert_steps(&self, rt: &impl Abort, steps: u64, taken: u64, next: i64) {
+        assert!(rt; taken <= steps, "{steps} steps for {taken} departures");
         assert!(rt; steps <= self.most_steps(taken, next), "{steps} steps");
     }
 

@@ -7,8 +7,17 @@ use std::alloc::Global;
 use std::process::Abort;
 use std::test::Fail;
 
-// A run each second of every service day.
-const EACH_SECOND: [FileText; 2] = [
+// On every service day a run of one trip each second, and another trip at 08:00:00.
+const EACH_SECOND: [FileText; 4] = [
+    (
+        "trips.txt",
+        "route_id,service_id,trip_id\nR1,C1,T1\nR1,C1,T2\n",
+    ),
+    (
+        "stop_times.txt",
+        "trip_id,arrival_time,departure_time,stop_id,stop_sequence\n\
+T1,08:00:00,08:00:00,S1,1\nT1,08:10:00,08:10:00,S2,2\nT2,08:00:00,08:00:00,S1,1\nT2,08:10:00,08:10:00,S2,2\n",
+    ),
     (
         "calendar.txt",
         "service_id,monday,tuesday,wednesday,thursday,friday,saturday,sunday,start_date,end_date\n\
@@ -49,10 +58,11 @@ fn the_bounds_of_a_board_of_all_days_are_small(rt: HostRuntime) -> Result<(), Fa
     let bounds = fixture
         .opening("S1", ALL_DAYS)
         .bounds(&rt, rt.alloc(), None)?;
-    assert_eq!(rt; bounds.most_held(), 4);
-    assert_eq!(rt; bounds.most_steps(0, -2_208_988_800), 2);
-    assert_eq!(rt; bounds.most_steps(1, -2_208_988_799), 3);
-    assert_eq!(rt; bounds.most_steps(2, -2_208_988_798), 4);
+    assert_eq!(rt; bounds.lanes, 2);
+    assert_eq!(rt; bounds.most_held(), 8);
+    assert_eq!(rt; bounds.most_steps(0, -2_208_988_800), 4);
+    assert_eq!(rt; bounds.most_steps(1, -2_208_988_799), 5);
+    assert_eq!(rt; bounds.most_steps(2, -2_208_988_798), 6);
     Ok(())
 }
 
@@ -60,15 +70,15 @@ fn the_bounds_of_a_board_of_all_days_are_small(rt: HostRuntime) -> Result<(), Fa
 fn a_call_of_next_makes_a_step_or_two(rt: HostRuntime) -> Result<(), Fail> {
     let fixture = Fixture::of_files(&rt, rt.alloc(), &EACH_SECOND, Clocks::Utc)?;
     let mut board = fixture.opening("S1", ALL_DAYS).board(&rt, rt.alloc(), "")?;
-    for most_steps in [2, 3, 4] {
+    for most_steps in [4, 5, 6] {
         assert!(rt; board.steps() <= most_steps);
-        assert!(rt; board.held() <= 4);
+        assert!(rt; board.held() <= 8);
         assert!(rt; matches!(board.next(), Ok(Some(_))));
     }
     Ok(())
 }
 
-// Takes so many departures, with at most four that wait, and gives the key of the last.
+// Takes so many departures, with at most eight that wait, and gives the key of the last.
 fn last_key(
     rt: &impl Abort,
     alloc: Global,
@@ -77,7 +87,7 @@ fn last_key(
 ) -> Result<String, Fail> {
     let mut text = String::new(alloc);
     for taken in 0..count {
-        assert!(rt; board.held() <= 4, "after {taken}");
+        assert!(rt; board.held() <= 8, "after {taken}");
         match board.next() {
             Ok(Some(departure)) => {
                 text.clear();
@@ -95,7 +105,7 @@ fn a_million_departures_are_taken_and_few_wait(rt: HostRuntime) -> Result<(), Fa
     let fixture = Fixture::of_files(&rt, rt.alloc(), &EACH_SECOND, Clocks::Utc)?;
     let mut board = fixture.opening("S1", ALL_DAYS).board(&rt, rt.alloc(), "")?;
     let key = last_key(&rt, rt.alloc(), &mut board, 1_000_000)?;
-    assert_eq!(rt; key.as_str(), "@-2207988801/T1/49599/1/19000112");
+    assert_eq!(rt; key.as_str(), "@-2207988813/T1/49587/1/19000112");
     Ok(())
 }
 

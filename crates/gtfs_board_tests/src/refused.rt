@@ -35,14 +35,31 @@ fn take_memory(alloc: Global) -> Result<Vec<Vec<u8>>, AllocError> {
     Ok(taken)
 }
 
+// How many calls found no memory, and how many were refused.
+#[derive(Clone, Copy, Debug)]
+struct Counts {
+    without_memory: u32,
+    refused: u32,
+}
+
 // The run of the next departure, asked for with no memory left, and again with memory where it is refused.
-fn next_run(alloc: Global, board: &mut Board<'_>) -> Result<Option<u32>, Fail> {
+fn next_run(
+    alloc: Global,
+    board: &mut Board<'_>,
+    counts: &mut Counts,
+) -> Result<Option<u32>, Fail> {
     let taken = take_memory(alloc)?;
+    if Vec::<u64>::with_capacity(alloc, 24).is_err() {
+        counts.without_memory = counts.without_memory.saturating_add(1);
+    }
     let told: Result<_, _> = run_of(board);
     drop(taken);
     match told {
         Ok(run) => Ok(run),
-        Err(_) => Ok(run_of(board)?),
+        Err(_) => {
+            counts.refused = counts.refused.saturating_add(1);
+            Ok(run_of(board)?)
+        }
     }
 }
 
@@ -61,9 +78,18 @@ fn a_refused_departure_can_be_asked_for_again(rt: HostRuntime) -> Result<(), Fai
     let mut board = fixture
         .opening("S1", PERIODS.span)
         .board(&rt, rt.alloc(), "")?;
+    let mut counts = Counts {
+        without_memory: 0,
+        refused: 0,
+    };
     for run in [21_600, 23_400, 25_200, 27_000] {
-        assert_eq!(rt; next_run(rt.alloc(), &mut board)?, Some(run));
+        assert_eq!(rt; next_run(rt.alloc(), &mut board, &mut counts)?, Some(run));
     }
+    // An allocator that looks for errors keeps memory for small pieces, however much is taken.
+    assert!(rt;
+        counts.refused > 0 || counts.without_memory == 0,
+        "{counts:?}"
+    );
     assert_none(&rt, &mut board);
     Ok(())
 }
