@@ -7,8 +7,22 @@ use std::alloc::Global;
 use std::process::Abort;
 use std::test::Fail;
 
-// On every service day a run of one trip each second, and another trip at 08:00:00.
-const EACH_SECOND: [FileText; 4] = [
+const EVERY_DAY: FileText = (
+    "calendar.txt",
+    "service_id,monday,tuesday,wednesday,thursday,friday,saturday,sunday,start_date,end_date\n\
+C1,1,1,1,1,1,1,1,19000101,99981231\n",
+);
+
+const SECONDS: FileText = (
+    "frequencies.txt",
+    "trip_id,start_time,end_time,headway_secs,exact_times\nT1,00:00:00,24:00:00,1,1\n",
+);
+
+// A run each second of every service day.
+const EACH_SECOND: [FileText; 2] = [EVERY_DAY, SECONDS];
+
+// The same, and beside them another trip at 08:00:00.
+const BESIDE_A_TRIP: [FileText; 4] = [
     (
         "trips.txt",
         "route_id,service_id,trip_id\nR1,C1,T1\nR1,C1,T2\n",
@@ -18,15 +32,8 @@ const EACH_SECOND: [FileText; 4] = [
         "trip_id,arrival_time,departure_time,stop_id,stop_sequence\n\
 T1,08:00:00,08:00:00,S1,1\nT1,08:10:00,08:10:00,S2,2\nT2,08:00:00,08:00:00,S1,1\nT2,08:10:00,08:10:00,S2,2\n",
     ),
-    (
-        "calendar.txt",
-        "service_id,monday,tuesday,wednesday,thursday,friday,saturday,sunday,start_date,end_date\n\
-C1,1,1,1,1,1,1,1,19000101,99981231\n",
-    ),
-    (
-        "frequencies.txt",
-        "trip_id,start_time,end_time,headway_secs,exact_times\nT1,00:00:00,24:00:00,1,1\n",
-    ),
+    EVERY_DAY,
+    SECONDS,
 ];
 
 // From the origin of the first service day until that of the last in UTC.
@@ -58,11 +65,10 @@ fn the_bounds_of_a_board_of_all_days_are_small(rt: HostRuntime) -> Result<(), Fa
     let bounds = fixture
         .opening("S1", ALL_DAYS)
         .bounds(&rt, rt.alloc(), None)?;
-    assert_eq!(rt; bounds.lanes, 2);
-    assert_eq!(rt; bounds.most_held(), 8);
-    assert_eq!(rt; bounds.most_steps(0, -2_208_988_800), 4);
-    assert_eq!(rt; bounds.most_steps(1, -2_208_988_799), 5);
-    assert_eq!(rt; bounds.most_steps(2, -2_208_988_798), 6);
+    assert_eq!(rt; bounds.most_held(), 4);
+    assert_eq!(rt; bounds.most_steps(0, -2_208_988_800), 2);
+    assert_eq!(rt; bounds.most_steps(1, -2_208_988_799), 3);
+    assert_eq!(rt; bounds.most_steps(2, -2_208_988_798), 4);
     Ok(())
 }
 
@@ -70,24 +76,25 @@ fn the_bounds_of_a_board_of_all_days_are_small(rt: HostRuntime) -> Result<(), Fa
 fn a_call_of_next_makes_a_step_or_two(rt: HostRuntime) -> Result<(), Fail> {
     let fixture = Fixture::of_files(&rt, rt.alloc(), &EACH_SECOND, Clocks::Utc)?;
     let mut board = fixture.opening("S1", ALL_DAYS).board(&rt, rt.alloc(), "")?;
-    for most_steps in [4, 5, 6] {
+    for most_steps in [2, 3, 4] {
         assert!(rt; board.steps() <= most_steps);
-        assert!(rt; board.held() <= 8);
+        assert!(rt; board.held() <= 4);
         assert!(rt; matches!(board.next(), Ok(Some(_))));
     }
     Ok(())
 }
 
-// Takes so many departures, with at most eight that wait, and gives the key of the last.
+// Takes so many departures, with at most so many that wait, and gives the key of the last.
 fn last_key(
     rt: &impl Abort,
     alloc: Global,
     board: &mut Board<'_>,
     count: u64,
+    most_held: usize,
 ) -> Result<String, Fail> {
     let mut text = String::new(alloc);
     for taken in 0..count {
-        assert!(rt; board.held() <= 8, "after {taken}");
+        assert!(rt; board.held() <= most_held, "after {taken}");
         match board.next() {
             Ok(Some(departure)) => {
                 text.clear();
@@ -104,8 +111,18 @@ fn last_key(
 fn a_million_departures_are_taken_and_few_wait(rt: HostRuntime) -> Result<(), Fail> {
     let fixture = Fixture::of_files(&rt, rt.alloc(), &EACH_SECOND, Clocks::Utc)?;
     let mut board = fixture.opening("S1", ALL_DAYS).board(&rt, rt.alloc(), "")?;
-    let key = last_key(&rt, rt.alloc(), &mut board, 1_000_000)?;
-    assert_eq!(rt; key.as_str(), "@-2207988813/T1/49587/1/19000112");
+    let key = last_key(&rt, rt.alloc(), &mut board, 1_000_000, 4)?;
+    assert_eq!(rt; key.as_str(), "@-2207988801/T1/49599/1/19000112");
+    Ok(())
+}
+
+// A lane of each kind. The first day has 86,401 departures, and on the second one other departure is before the last.
+#[test]
+fn few_wait_where_a_trip_stands_beside_runs(rt: HostRuntime) -> Result<(), Fail> {
+    let fixture = Fixture::of_files(&rt, rt.alloc(), &BESIDE_A_TRIP, Clocks::Utc)?;
+    let mut board = fixture.opening("S1", ALL_DAYS).board(&rt, rt.alloc(), "")?;
+    let key = last_key(&rt, rt.alloc(), &mut board, 120_000, 8)?;
+    assert_eq!(rt; key.as_str(), "@-2208868803/T1/33597/1/19000102");
     Ok(())
 }
 
