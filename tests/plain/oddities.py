@@ -154,9 +154,9 @@ def trip_later(random, feed):
         trip = random.choice(rows)["trip_id"]
         for row in rows:
             for column in ("arrival_time", "departure_time"):
-                if row["trip_id"] == trip and row[column]:
-                    hours, rest = row[column].split(":", 1)
-                    row[column] = f"{int(hours) + 1}:{rest}" if hours.isdigit() else row[column]
+                hours, colon, rest = row[column].partition(":")
+                if row["trip_id"] == trip and colon and hours.isdecimal():
+                    row[column] = f"{int(hours) + 1}:{rest}"
 
 
 def name_changed(random, feed):
