@@ -1,6 +1,6 @@
 //! What the program itself has to say.
 ghost use Rattle.std.specs.Prelude.{◌≡◌};
-ghost use Rattle.gtfs.specs.declared.fault.Fault.TheVariants.{BadWords, NoRandomSource, OutputFailed, OutOfMemory};
+ghost use Rattle.gtfs.specs.Faults.{line_of, status_of};
 
 use thiserror::Error;
 
@@ -23,7 +23,9 @@ pub enum Fault {
 
 impl Fault {
     /// The line for the error output.
-    pub fn line(self) -> &'static str {
+    pub fn line(self) -> &'static str
+        ensures { result.now ≡ line_of self }
+    {
         match self {
             Fault::BadWords => "gtfs: bad words\n",
             Fault::NoRandomSource => "gtfs: no random source\n",
@@ -34,10 +36,7 @@ impl Fault {
 
     /// The exit status.
     pub fn status(self) -> u8
-        ensures words { self ≡ BadWords → result ≡ 2 }
-        ensures random { self ≡ NoRandomSource → result ≡ 3 }
-        ensures output { self ≡ OutputFailed → result ≡ 3 }
-        ensures memory { self ≡ OutOfMemory → result ≡ 4 }
+        ensures { result ≡ status_of self }
     {
         match self {
             Fault::BadWords => 2,

@@ -3,10 +3,12 @@
 //! not UTF-8 or a system without random bytes, and a buffer of the standard output that could not be flushed.
 #![tactic(auto)]
 
-ghost use Rattle.std.specs.Prelude.{◌≡◌, ◌≤◌, [], IfOk, IfErr, OnOk, OnErr};
+ghost use Rattle.std.specs.Prelude.{◌≡◌, ◌≢◌, ◌≤◌, [], IfOk, IfErr, OnOk, OnErr};
 ghost use Rattle.std.specs.Io.Buffered.{writer_buffer, writer_contents};
 ghost use Rattle.std.specs.Io.KnownBytes.{Keeps};
 ghost use Rattle.gtfs_table.specs.Device.{counted};
+ghost use Rattle.gtfs_cli.specs.Sending.{Sends};
+ghost use Rattle.gtfs.specs.Faults.{line_of, status_of};
 ghost use Rattle.gtfs.specs.declared.fault.Fault.TheVariants.{OutputFailed};
 
 mod fault;
@@ -34,11 +36,13 @@ fn main(rt: HostRuntime) -> ExitCode {
     ExitCode::from(status)
 }
 
-/// Answers the words of the command line, and gives the status.
-fn answer<R: Runtime + RandomSource + AllocGlobal, E: Out>(
-    rt: &R,
-    err: &mut E,
-) -> Result<u8, Fault> {
+/// Answers the words of the command line, and gives the status. The error output is told nothing but by the library that
+/// answers them.
+fn answer<R: Runtime + RandomSource + AllocGlobal, E: Out>(rt: &R, err: &mut E) -> Result<u8, Fault>
+    ensures statuses { IfOk result (λ status. status ≤ 4) }
+    ensures untold { IfErr result (λ fault. fault ≢ OutputFailed
+        → Keeps (E.told err.old) (E.told err.new)) }
+{
     let alloc = rt.alloc();
     let words = read_words(rt)?;
     let random = RandomState::new(rt).map_err(|_| Fault::NoRandomSource)?;
@@ -66,8 +70,13 @@ fn close<W: Write + Drop>(out: &mut WriteOut<BufWriter<W>>, status: u8) -> Resul
     }
 }
 
-/// Tells of a fault on the error output, and gives the status for it.
-fn tell<E: Out>(err: &mut E, fault: Fault) -> u8 {
+/// Tells of a fault on the error output, and gives the status for it, whatever that output did.
+fn tell<E: Out>(err: &mut E, fault: Fault) -> u8
+    ensures status { result ≡ status_of fault }
+    ensures told { Sends
+        (record { told = E.told err.old; failures = E.failure_count err.old })
+        (record { told = E.told err.new; failures = E.failure_count err.new }) (line_of fault) }
+{
     let _ = write_text(err, fault.line().as_bytes());
     fault.status()
 }
