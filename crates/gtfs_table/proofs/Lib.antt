@@ -9,6 +9,7 @@ pub mod FolderLemmas
 mod HeldLemmas
 pub mod MarkFacts
 mod NameLemmas
+mod NearFacts
 pub mod PartFacts
 pub mod ReadSteps
 pub mod RowFacts

@@ -1,7 +1,7 @@
 -- How the texts and records of a file lie in memory.
 use Rattle.std.specs.Prelude.{ℕ, ◌≡◌, ◌<◌, ◌≤◌, ◌-◌, List, length, take, drop, All}
 use Rattle.csv.specs.Records.{AllText, Rising}
-use Rattle.gtfs_table.specs.Parts.{parts}
+use Rattle.gtfs_table.specs.Parts.{parts, TellsFields}
 use Rattle.gtfs_table.specs.Tables.{Records, Table, absent, not_utf8, of_records, table_records}
 use Rattle.gtfs_table.specs.declared.state.State.{State}
 use Rattle.gtfs_table.specs.declared.state.State.TheVariants as state
@@ -32,10 +32,11 @@ pub record IsRecordStore (r : records.Inside) : Type 0 where
 abbrev pub record_in : one.Inside → List (List ℕ)
 record_in r = take (r.end - r.start) (drop r.start r.fields.now)
 
--- the numbers are those of fields of the store
+-- the numbers are those of fields of the store, and the places those of the first of these fields
 pub record IsRecordWithin (r : one.Inside) : Type 0 where
   pub rising : r.start ≤ r.end
   pub within : r.end ≤ length r.fields.now
+  pub near : TellsFields r.bytes.now r.places.now (record_in r)
 
 -- a kept file, which has records only where it was read
 abbrev pub table_with : State → Records → Table

@@ -1,15 +1,20 @@
-ghost use Rattle.std.specs.Prelude.{◌≡◌, ◌<◌, ◌≤◌, ◌+◌, ◌*◌, ◌%◌, ◌^◌, ◌++◌, ◌∷◌, [], length, take, is_some, IfOk, IfSome, OnErr, slice_index, vec_len, vec_capacity, if◌then◌else◌};
+ghost use Rattle.std.specs.Prelude.{◌≡◌, ◌<◌, ◌≤◌, ◌+◌, ◌-◌, ◌*◌, ◌%◌, ◌^◌, ◌++◌, ◌∷◌, [], length, take, is_some, IfOk, IfSome, OnErr, slice_index, vec_len, vec_capacity, if◌then◌else◌};
 ghost use Rattle.std.specs.List.{concat};
 ghost use Rattle.csv.specs.Records.{IsRecord, fields_of};
-ghost use Rattle.gtfs_table.specs.Parts.{starts_of};
+ghost use Rattle.gtfs_table.specs.Parts.{starts_of, TellsOffsets};
 
 use csv::ByteRecord;
 use gtfs_field::OutOfMemory;
 use std::alloc::Global;
 use std::marker::Model;
+use std::mem;
 
-// How many offsets have one base.
-const BLOCK: usize = 64;
+// How many offsets have one base: few records reach into another block, and two bytes are enough for fields
+// of up to 255 bytes on average.
+const BLOCK: usize = 256;
+
+// The largest distance that two bytes tell.
+const LARGEST: usize = u16::MAX as usize;
 
 // Offsets of two bytes each, in blocks: each is kept as its distance from the base of its block, which is
 // the block's first offset.
@@ -67,6 +72,23 @@ impl Blocks {
         self.bases[i / BLOCK] as usize + self.distances[i] as usize
     }
 
+    // The offsets with the numbers from `start` to `end` as far as they stand in one block: its base, and
+    // their distances from it. None where the list ends before.
+    #[inline(always)]
+    pub(crate) fn near(&self, start: usize, end: usize) -> (usize, &[u16])
+        requires { start ≤ end }
+        ensures few { length result.1.now ≤ end - start + 1 }
+        ensures told { TellsOffsets result.0 result.1.now self.now start }
+    {
+        let distances = self.distances.as_slice();
+        let last = start + (end - start).min(BLOCK - 1 - start % BLOCK);
+        if distances.len() <= last {
+            return (0, &[]);
+        }
+        let base = self.bases[start / BLOCK] as usize;
+        (base, &distances[start..last + 1])
+    }
+
     // Adds an offset at the end where two bytes are enough for it, and tells whether it did. A refusal
     // leaves the list as it was.
     #[inline]
@@ -79,19 +101,18 @@ impl Blocks {
         if count % BLOCK == 0 {
             return self.begin_block(offset);
         }
-        match distance(self.bases[count / BLOCK], offset) {
-            Some(distance) => {
-                self.distances.push(distance)?;
-                Ok(true)
-            }
-            None => Ok(false),
+        let base = self.bases[count / BLOCK] as usize;
+        if offset < base || offset - base > LARGEST {
+            return Ok(false);
         }
+        self.distances.push((offset - base) as u16)?;
+        Ok(true)
     }
 
     // The same, where all blocks are full: the offset is the base of the next one.
     #[inline(never)]
     fn begin_block(&mut self, offset: usize) -> Result<bool, OutOfMemory>
-        requires { length self.old % 64 ≡ 0 }
+        requires { length self.old % 256 ≡ 0 }
         ensures ok { IfOk result (λ added. self.new
             ≡ (if added then self.old ++ offset ∷ [] else self.old)) }
         ensures err { OnErr result (self.new ≡ self.old) }
@@ -115,7 +136,8 @@ impl Blocks {
         first: usize,
         row: &ByteRecord,
     ) -> Result<Option<usize>, OutOfMemory>
-        requires { IsRecord row.now }
+        requires whole { IsRecord row.now }
+        requires within { first + length row.now.bytes < 2 ^ 64 }
         ensures starts { IfOk result (λ size. self.new ≡ (if is_some size
             then self.old ++ starts_of first (fields_of row.now) else self.old)) }
         ensures size { IfOk result (λ size. IfSome size (λ size. size
@@ -127,13 +149,16 @@ impl Blocks {
         if begun == 0 || row.len() > BLOCK - begun {
             return Ok(None);
         }
-        match distance(self.bases[count / BLOCK], first) {
-            Some(start) if start as usize + row.as_slice().len() <= u16::MAX as usize => {
-                self.distances.reserve(row.len())?;
-                Ok(Some(push_starts(&mut self.distances, start as usize, row)))
-            }
-            _ => Ok(None),
+        let base = self.bases[count / BLOCK] as usize;
+        if first < base || first + row.as_slice().len() - base > LARGEST {
+            return Ok(None);
         }
+        self.distances.reserve(row.len())?;
+        let alloc = *self.distances.allocator();
+        let distances = mem::replace(&mut self.distances, Vec::new(alloc));
+        let (distances, size) = push_starts(distances, first - base, row);
+        self.distances = distances;
+        Ok(Some(size))
     }
 
     // Keeps the first offsets, as many as `count`.
@@ -145,28 +170,19 @@ impl Blocks {
     }
 }
 
-// How far an offset lies past the base of its block, where two bytes can tell it.
-fn distance(base: u32, offset: usize) -> Option<u16>
-    ensures { IfSome result (λ distance. base + distance ≡ offset) }
-{
-    let past = offset.checked_sub(base as usize)?;
-    u16::try_from(past).ok()
-}
-
-// Adds where the fields of a record begin, the first at `start`, and gives their size.
-fn push_starts(distances: &mut Vec<u16>, start: usize, row: &ByteRecord) -> usize
+// Adds where the fields of a record begin, the first at `start`, and gives their size. The list comes by value,
+// so that its length can stay in a register.
+fn push_starts(mut distances: Vec<u16>, start: usize, row: &ByteRecord) -> (Vec<u16>, usize)
     requires whole { IsRecord row.now }
-    requires room { vec_len distances.old + length (fields_of row.now)
-        ≤ vec_capacity distances.old }
+    requires room { vec_len distances + length (fields_of row.now) ≤ vec_capacity distances }
     requires short { start + length row.now.bytes < 2 ^ 16 }
-    ensures starts { distances.new.items
-        ≡ distances.old.items ++ starts_of start (fields_of row.now) }
-    ensures size { result ≡ length (concat (fields_of row.now)) }
+    ensures starts { result.0.items ≡ distances.items ++ starts_of start (fields_of row.now) }
+    ensures size { result.1 ≡ length (concat (fields_of row.now)) }
 {
     let mut size = 0;
     for field in row {
         distances.push_reserved((start + size) as u16);
         size += field.len();
     }
-    size
+    (distances, size)
 }

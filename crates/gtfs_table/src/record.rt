@@ -16,6 +16,9 @@ pub struct Record<'a> {
     fields: &'a Texts,
     start: usize,
     end: usize,
+    // Where its first fields begin in these bytes, and the last one of those ends: the fields of one block.
+    bytes: &'a [u8],
+    places: &'a [u16],
 }
 
 impl<'a> Model for Record<'a> {
@@ -32,12 +35,20 @@ impl<'a> Model for Record<'a> {
 
 impl<'a> Record<'a> {
     // The record of these fields from the number `start` to `end`.
+    #[inline(always)]
     pub(crate) fn new(fields: &'a Texts, start: usize, end: usize) -> Record<'a>
         requires start { start ≤ end }
         requires end { end ≤ length fields.now }
         ensures { result ≡ take (end - start) (drop start fields.now) }
     {
-        Record { fields, start, end }
+        let (bytes, places) = fields.near(start, end);
+        Record {
+            fields,
+            start,
+            end,
+            bytes,
+            places,
+        }
     }
 
     /// How many fields it has.
@@ -92,8 +103,13 @@ impl<'a> Record<'a> {
     pub(crate) fn raw(&self, n: usize) -> &'a str
         ensures { result.now ≡ slice_index_or self.now n [] }
     {
-        if n < self.end - self.start {
-            self.fields.get(self.start + n)
+        if n < self.places.len().saturating_sub(1) {
+            self.fields.are_utf8();
+            let start = self.places[n] as usize;
+            let end = self.places[n + 1] as usize;
+            unsafe { str::from_utf8_unchecked(&self.bytes[start..end]) }
+        } else if n < self.end - self.start {
+            self.fields.get_far(self.start + n)
         } else {
             ""
         }

@@ -61,6 +61,7 @@ impl Records {
     }
 
     // The record of a row, from 1: one with no field where there is no such row.
+    #[inline(always)]
     pub(crate) fn record(&self, row: usize) -> Record<'_>
         ensures { result ≡ record_at self.now row }
     {
