@@ -5,6 +5,7 @@ ghost use Rattle.gtfs_trip_rules.specs.Readings.{code_in, fault_in, fault_of, is
 ghost use Rattle.gtfs_trip_rules.specs.StopTimes.{IsReading};
 ghost use Rattle.gtfs_columns.specs.Values.{amount, readable, word};
 ghost use Rattle.gtfs_table.specs.Rows.{is_empty};
+ghost use Rattle.gtfs_field.specs.Kinds.{count_of};
 
 use crate::trips::row::Boarding;
 use gtfs_columns::{Code, has_control};
@@ -108,6 +109,17 @@ pub(crate) fn read_beside(text: &str, other: &str, read: Reading<u32>) -> Readin
     }
 }
 
+// Reads a count, which mostly is one digit.
+#[inline(always)]
+fn read_short_count(text: &str) -> Result<u32, FieldFault>
+    ensures { result ≡ count_of text.now }
+{
+    match text.as_bytes() {
+        [digit @ b'0'..=b'9'] => Ok(u32::from(*digit - b'0')),
+        _ => read_count(text),
+    }
+}
+
 #[inline(always)]
 pub(crate) fn read_number(text: &str) -> Reading<u32>
     ensures empty { is_blank result ≡ is_empty text.now }
@@ -117,7 +129,7 @@ pub(crate) fn read_number(text: &str) -> Reading<u32>
     if text.is_empty() {
         return Reading::Empty;
     }
-    match read_count(text) {
+    match read_short_count(text) {
         Ok(number) => Reading::Value(number),
         Err(FieldFault::Form) => Reading::Fault(Code::E07),
         Err(FieldFault::Range) => Reading::Fault(Code::E08),
@@ -135,7 +147,7 @@ pub(crate) fn read_boarding(text: &str) -> Reading<Boarding>
     if text.is_empty() {
         return Reading::Empty;
     }
-    match read_count(text) {
+    match read_short_count(text) {
         Ok(0) => Reading::Value(Boarding::Regular),
         Ok(1) => Reading::Value(Boarding::Unavailable),
         Ok(2) => Reading::Value(Boarding::Phone),
@@ -157,7 +169,7 @@ pub(crate) fn read_is_exact(text: &str) -> Reading<bool>
     if text.is_empty() {
         return Reading::Empty;
     }
-    match read_count(text) {
+    match read_short_count(text) {
         Ok(0) => Reading::Value(false),
         Ok(1) => Reading::Value(true),
         Ok(2..) => Reading::Fault(Code::E08),
