@@ -1,14 +1,14 @@
 ghost use Rattle.std.specs.Prelude.{◌≡◌, option_map, pos};
-ghost use Rattle.gtfs_columns.specs.Columns.{count, id, time, up_to};
+ghost use Rattle.gtfs_columns.specs.Columns.{count, time, up_to};
 ghost use Rattle.gtfs_trip_rules.specs.KeptChoices.{boarding_number, exact_number};
 ghost use Rattle.gtfs_trip_rules.specs.Readings.{code_in, fault_in, fault_of, is_blank, value_in, value_or};
 ghost use Rattle.gtfs_trip_rules.specs.StopTimes.{IsReading};
-ghost use Rattle.gtfs_columns.specs.Values.{amount, readable, word};
+ghost use Rattle.gtfs_columns.specs.Values.{amount, readable};
 ghost use Rattle.gtfs_table.specs.Rows.{is_empty};
 ghost use Rattle.gtfs_field.specs.Kinds.{count_of};
 
 use crate::trips::row::Boarding;
-use gtfs_columns::{Code, has_control};
+use gtfs_columns::Code;
 use gtfs_field::{FieldFault, read_count, read_time};
 
 // What reading a field found.
@@ -62,21 +62,6 @@ impl<V: Copy> Reading<V> {
             Reading::Fault(code) => Some(*code),
             Reading::Value(_) => None,
         }
-    }
-}
-
-#[inline(always)]
-pub(crate) fn read_id(text: &str) -> Reading<&str>
-    ensures empty { is_blank result ≡ is_empty text.now }
-    ensures fault { fault_in result ≡ fault_of id text.now }
-    ensures value { option_map (λ t. word t.now) (value_in result) ≡ readable id text.now }
-{
-    if text.is_empty() {
-        Reading::Empty
-    } else if has_control(text) {
-        Reading::Fault(Code::E20)
-    } else {
-        Reading::Value(text)
     }
 }
 
