@@ -1,5 +1,5 @@
 -- The rows of ids, as they are listed, are the ids by their numbers.
-use Rattle.std.proofs.Common.{◌≡◌, ℕ, zero, suc, ◌+◌, ◌<◌, ◌≤◌, ◌∷◌, [], List, map, length, get_or, option_map, cond, true, false, Bool, Option, Some, None, refl, sym, ap, ◌∙◌, arith, inl, inr}
+use Rattle.std.proofs.Common.{◌≡◌, ℕ, zero, suc, ◌+◌, ◌<◌, ◌≤◌, ◌∷◌, [], List, map, length, get_or, option_map, cond, true, false, Bool, Option, Some, None, refl, subst, sym, ap, ◌∙◌, arith, inl, inr}
 use Rattle.std.specs.Prelude.{◌&&◌, bytes_eq, is_some, nat_lt, not, slice_get}
 use Rattle.std.specs.Cmp.Lexicographic.{nat_list_cmp_total}
 use Rattle.std.specs.FinMap as table
@@ -19,7 +19,10 @@ use Rattle.gtfs_columns.specs.declared.id_row.IdRow.{IdRow}
 use Rattle.gtfs_columns.specs.IdNumbers.{first_rows}
 use Rattle.gtfs_columns.specs.Rows.{text_in}
 use Rattle.gtfs_columns.specs.steps.IdRows.{id_of, listed_row}
-use Rattle.gtfs_columns.specs.steps.Ids.{IdColumn, IsIdIndex, first_row_with, ids_of, number_with, rows_by_number}
+use Rattle.gtfs_columns.specs.Values.{has_control}
+use Rattle.std.specs.List.{All}
+use Rattle.std.proofs.lemmas.List.Elements.{All-map}
+use Rattle.gtfs_columns.specs.steps.Ids.{AreClear, IdColumn, IsIdIndex, first_row_with, ids_of, number_with, rows_by_number}
 use Rattle.gtfs_columns.proofs.IdFacts.{earlier, id_and_row, paired_numbers, paired_rows, row_paired}
 use Rattle.std.proofs.lemmas.List.Quantifiers.{position-Some}
 use Rattle.std.proofs.lemmas.Option.{slice_get-get_or}
@@ -189,3 +192,12 @@ module _ (i : IdColumn) (id : List ℕ) where
   id_of_number n e =
       let at = position-Some (λ k. bytes_eq k id) (ids_of i) n [] e in
       slice_get-get_or (ids_of i) n [] at.0 ∙ ap Some (text_is (get_or (ids_of i) n []) id at.1)
+
+-- where the listed ids have no control character, no id with a number has one
+pub clear_numbered : (i : IdColumn) (listed : List IdRow) → IsIdIndex i listed → AreClear listed
+    → (id : List ℕ) (n : ℕ) → number_with i id ≡ Some n → has_control id ≡ false
+clear_numbered i listed index clear id n e =
+    let at = position-Some (λ k. bytes_eq k id) (ids_of i) n [] e in
+    let all : All (λ k. has_control k ≡ false) (ids_of i) =
+    subst (All (λ k. has_control k ≡ false)) (sym (listed_ids i listed index)) (All-map (λ k. has_control k ≡ false) id_of listed clear) in
+    subst (λ (k : List ℕ). has_control k ≡ false) (text_is (get_or (ids_of i) n []) id at.1) (all n [] at.0)

@@ -59,7 +59,15 @@ pub fn fault_code(kind: Kind, text: &str) -> Option<Code>
 pub fn has_control(text: &str) -> bool
     ensures { result ≡ has_control text.now }
 {
-    for byte in text.as_bytes() {
+    holds_control(text.as_bytes())
+}
+
+// Whether one of these bytes is a control character.
+#[inline(always)]
+pub(crate) fn holds_control(bytes: &[u8]) -> bool
+    ensures { result ≡ has_control bytes.now }
+{
+    for byte in bytes {
         if is_control(*byte) {
             return true;
         }

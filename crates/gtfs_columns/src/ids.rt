@@ -1,6 +1,8 @@
-ghost use Rattle.std.specs.Prelude.{◌≡◌, ◌<◌, ◌^◌, length, option_map, slice_index_or, IfOk, IfSome, Some};
-ghost use Rattle.gtfs_columns.specs.steps.Ids.{first_row_with, number_with, ids_in, ids_of, rows_by_number, ListsFirstRows};
+ghost use Rattle.std.specs.Prelude.{◌≡◌, ◌<◌, ◌^◌, ℕ, false, length, option_map, slice_index_or, IfOk, IfSome, IsTrue, List, Some};
+ghost use Rattle.gtfs_columns.specs.Values.{has_control};
+ghost use Rattle.gtfs_columns.specs.steps.Ids.{first_row_with, number_with, ids_in, ids_of, rows_by_number, AreClear, ListsFirstRows};
 
+use crate::cell::holds_control;
 use crate::finder::FoundId;
 use crate::id_row::IdRow;
 use crate::slots::{Slot, fill_slot, free_slots, tag_of};
@@ -17,16 +19,18 @@ pub struct Ids<'a> {
     file: File,
     column: &'static str,
     rows: Vec<IdRow<'a>>,
+    // Whether no id holds a control character.
+    are_clear: bool,
 }
 
 impl<'a> Model for Ids<'a> {
-    ghost use Rattle.gtfs_columns.specs.steps.Ids.{IdColumn, IsIdIndex, ids_in};
+    ghost use Rattle.gtfs_columns.specs.steps.Ids.{IdColumn, IsClearIndex, ids_in};
 
     ghost Value = { IdColumn };
 
     ghost view = { λ i. ids_in i.tables.now i.file i.column.now };
 
-    ghost invariant = { λ i. IsIdIndex (ids_in i.tables.now i.file i.column.now) i.rows.items };
+    ghost invariant = { λ i. IsClearIndex (ids_in i.tables.now i.file i.column.now) i.rows.items i.are_clear };
 }
 
 impl<'a> Ids<'a> {
@@ -45,12 +49,14 @@ impl<'a> Ids<'a> {
         let mut rows = id_rows(alloc, tables, file, column)?;
         rows.sort()?;
         rows.dedup();
+        let are_clear = are_clear(&rows);
         Ok(Ids {
             alloc,
             tables,
             file,
             column,
             rows,
+            are_clear,
         })
     }
 
@@ -60,6 +66,15 @@ impl<'a> Ids<'a> {
         ensures bound { result < 2 ^ 63 }
     {
         self.rows.len()
+    }
+
+    /// Whether no id holds a control character, so that a text that is an id holds none either.
+    #[inline(always)]
+    pub fn are_clear(&self) -> bool
+        ensures { IsTrue result → (id : List ℕ) (n : ℕ) → number_with self.now id ≡ Some n
+            → has_control id ≡ false }
+    {
+        self.are_clear
     }
 
     /// The first row of the id that has this number.
@@ -117,6 +132,13 @@ impl<'a> Ids<'a> {
             row: found.row,
         })
     }
+}
+
+// Whether no id holds a control character.
+fn are_clear(rows: &[IdRow<'_>]) -> bool
+    ensures { IsTrue result → AreClear rows.now }
+{
+    rows.iter().all(|row| !holds_control(row.bytes()))
 }
 
 // The rows of a file with their ids, in the order of the file.

@@ -23,14 +23,15 @@ use std::collections::BTreeSet;
 
 // The keys of the rows of a file.
 trait Keys {
-    type Key: Ord + Drop;
+    type Key: Ord + Copy + Drop;
 
     ghost parts: { Self.Key → List Value };
 
     ghost key_at: { Self → ℕ → Option (List Value) };
 
-    // The key of a row, where each part of it is there.
-    fn key(&self, row: usize) -> Option<Self::Key>
+    // The key of a row, where each part of it is there. What it has in common with the key of the last row it takes from
+    // that, so that keys that stand together name one text, which stays in the caches.
+    fn key(&self, row: usize, last: &Option<Self::Key>) -> Option<Self::Key>
         ensures { option_map parts result ≡ key_at self.now row };
 
     ghost alike: { (a b : Self.Key) → is_eq (Self.Key.cmp a b)
@@ -67,6 +68,7 @@ fn report_repeats<'a, K: Keys>(
         (Reports tables.now (at_column Code.E09 file column.now) found.old found.new) }
 {
     let mut seen = BTreeSet::new(alloc);
+    let mut last = None;
     for (row, _) in tables.rows(file) {
         let problem = Problem {
             file: FileName::Kept(file),
@@ -74,7 +76,9 @@ fn report_repeats<'a, K: Keys>(
             code: Code::E09,
             column,
         };
-        let repeats = was_seen(&mut seen, keys.key(row))?;
+        let key = keys.key(row, &last);
+        last = key;
+        let repeats = was_seen(&mut seen, key)?;
         found.report(problem, repeats)?;
     }
     Ok(())
@@ -117,12 +121,23 @@ impl<'a> Keys for NumberedKeys<'a> {
     ghost key_at = { λ s n. let r = record_at (records_in s.tables.now s.file) n in
         numbered_key s.kind (field_under r s.id) (field_under r s.number) };
 
-    fn key(&self, row: usize) -> Option<Self::Key> {
+    fn key(&self, row: usize, last: &Option<Self::Key>) -> Option<Self::Key> {
         let record = self.tables.record(self.file, row);
-        values::id(record.value(self.id)).zip(self.kind.read(record.value(self.number)))
+        let id = like_last(values::id(record.value(self.id)), *last);
+        id.zip(self.kind.read(record.value(self.number)))
     }
 
     ghost alike = { λ a b. numbered_alike a.0.now b.0.now a.1 b.1 };
+}
+
+// An id, as that of the last key where both are the same.
+fn like_last<'a>(id: Option<&'a str>, last: Option<(&'a str, i64)>) -> Option<&'a str>
+    ensures { option_map (λ t. t.now) result ≡ option_map (λ t. t.now) id.entry }
+{
+    match (id, last) {
+        (Some(id), Some((last_id, _))) if last_id == id => Some(last_id),
+        _ => id,
+    }
 }
 
 // The keys of transfers.txt: the ids of both stops, both routes and both trips, some of them empty.
@@ -149,7 +164,7 @@ impl<'a> Keys for TransferKeys<'a> {
         ∷ end_part (field_under r s.from_route) ∷ end_part (field_under r s.to_route)
         ∷ end_part (field_under r s.from_trip) ∷ end_part (field_under r s.to_trip) ∷ []) };
 
-    fn key(&self, row: usize) -> Option<Self::Key> {
+    fn key(&self, row: usize, _last: &Option<Self::Key>) -> Option<Self::Key> {
         let record = self.tables.record(File::Transfers, row);
         let from_stop = end_id(record.value(self.from_stop))?;
         let to_stop = end_id(record.value(self.to_stop))?;

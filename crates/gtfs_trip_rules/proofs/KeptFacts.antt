@@ -13,7 +13,7 @@ use Rattle.gtfs_columns.specs.Reads.{amount_of, choice_of, word_of}
 use Rattle.gtfs_columns.specs.Values.{Value, amount, as_amount, as_word, readable}
 use Rattle.gtfs_trip_rules.specs.declared.stop_times.columns.ReadStopTime.{ReadStopTime}
 use Rattle.gtfs_trip_rules.specs.declared.stop_times.kept.KeptTimes.{KeptTimes}
-use Rattle.gtfs_trip_rules.specs.declared.stop_times.named.Named.{Named}
+use Rattle.gtfs_trip_rules.specs.declared.stop_times.named.NamedIds.{NamedIds}
 use Rattle.gtfs_trip_rules.specs.declared.stop_times.reading.Reading.{Reading}
 use Rattle.gtfs_trip_rules.specs.declared.stop_times.reading.Reading.TheVariants as reading
 use Rattle.gtfs_trip_rules.specs.declared.trips.notes.TripNote.{TripNote}
@@ -222,7 +222,7 @@ module _ (d : Dataset) (n : ℕ) (s : ReadStopTime) (is : IsStopTime d n s) wher
           let clash : false ≡ true = ap (λ b. is_placed (if b then (times_in s.arrival_time s.departure_time).times else times.Unplaced)) (sym lacks) ∙ placed in cc clash
     ]
 
-    module _ (names : Named) (are : AreNumbersOf d s names) (same : names.stop ≡ stop) (t : ℕ) where
+    module _ (names : NamedIds) (are : AreNumbersOf d s names) (same : names.stop.number ≡ stop) (t : ℕ) where
       -- the number of the row's stop
       stop_is : (m : ℕ) → stop_named d (text_at d n "stop_id") ≡ Some m → unwrap_or stop 0 ≡ m
       stop_is m e =
@@ -253,7 +253,7 @@ module _ (d : Dataset) (n : ℕ) (s : ReadStopTime) (is : IsStopTime d n s) wher
       }
 
       -- .. with the number of its trip
-      pub keeps : ((m : ℕ) → names.trip ≡ Some m → t ≡ m) → Keeps d (with_trip (kept_row s stop) t)
+      pub keeps : ((m : ℕ) → names.trip.number ≡ Some m → t ≡ m) → Keeps d (with_trip (kept_row s stop) t)
       keeps known = record {
         rest = subst (λ k. KeepsRow d k (with_trip (kept_row s stop) t)) (sym is.row) keeps_row;
         trip = λ m e. known m (are.trip ∙ ap (option_and_then (number_in d file.Trips (codes "trip_id"))) (trip_read ∙ ap (λ k. word_of id (text_at d k "trip_id")) (sym is.row)) ∙ e);

@@ -52,8 +52,9 @@ fn meets_earlier<'a>(
         ≡ (covers covered.old.spans trip start end
         || meets_one (period_at columns.now «record».now) trip start end)) }
 {
-    match columns.period(record) {
+    match columns.period(record, covered.last) {
         Some((trip, start, end)) => {
+            covered.last = trip;
             let meets = covered.meets(trip, start, end);
             covered.add(trip, start, end)?;
             Ok(meets)

@@ -12,7 +12,7 @@ ghost use Rattle.gtfs_columns.specs.declared.file_name.FileName.TheVariants as f
 ghost use Rattle.gtfs_table.specs.Tables.{Dataset};
 ghost use Rattle.gtfs_columns.specs.steps.FeedIds.{AreIdsOf};
 ghost use Rattle.gtfs_columns.specs.steps.Found.{Reports};
-ghost use Rattle.gtfs_columns.specs.steps.Ids.{number_with};
+ghost use Rattle.gtfs_columns.specs.steps.Ids.{first_row_with, number_with};
 ghost use Rattle.gtfs_columns.specs.steps.StopTypes.{AreStopTypes};
 ghost use Rattle.gtfs_trip_rules.specs.StopTimePicks.{in_rows, in_stop_times};
 ghost use Rattle.gtfs_trip_rules.specs.Kept.{AllKeep};
@@ -23,7 +23,7 @@ ghost use Rattle.gtfs_trip_rules.specs.TripTexts.{note_read};
 
 use crate::stop_times::columns::{ReadStopTime, StopTimeColumns};
 use crate::stop_times::fields::report_fields;
-use crate::stop_times::named::{Named, NamedRows};
+use crate::stop_times::named::{NamedIds, NamedRows};
 use crate::stop_times::times::report_times;
 use crate::trips::notes::TripNotes;
 use gtfs_columns::{Code, FeedIds, FileName, Found, Problem};
@@ -52,51 +52,52 @@ pub fn report_stop_times<'a, 'i>(
     let count = tables.records(File::StopTimes);
     let mut notes = TripNotes::with_room(alloc, &ids.trips, count)?;
     for (row, record) in tables.rows(File::StopTimes) {
-        let stop_time = columns.stop_time(row, &record);
-        let names = report_row(&columns, &mut named, &stop_time, found)?;
-        take_note(&stop_time, names, &mut notes)?;
+        let ids = named.find(record.value(columns.trip_id), record.value(columns.stop_id));
+        let stop_time = columns.stop_time(row, &record, ids.trip.reading, ids.stop.reading);
+        report_row(&columns, &named, &stop_time, &ids, found)?;
+        take_note(&stop_time, &ids, &mut notes)?;
     }
     Ok(notes)
 }
 
-// Reports what is wrong with one row, and answers the numbers of what it names.
+// Reports what is wrong with one row, whose ids were found.
 fn report_row<'a>(
     columns: &StopTimeColumns<'a>,
-    named: &mut NamedRows<'_, '_>,
+    named: &NamedRows<'_, '_>,
     stop_time: &ReadStopTime<'a>,
+    ids: &NamedIds<'a>,
     found: &mut Found<'a>,
-) -> Result<Named, OutOfMemory>
-    ensures reported { OnOk result ((d : Dataset) → AreStopTimeColumns d columns.now
-        → AreNamedRows d named.old → IsRow d stop_time.now
+) -> Result<(), OutOfMemory>
+    requires trip { ids.now.trip.row ≡ option_and_then
+        (first_row_with named.now.trips.ids.now) (text_of (value_in stop_time.now.trip_id)) }
+    requires stop { ids.now.stop.row ≡ option_and_then
+        (first_row_with named.now.stops.ids.now) (text_of (value_in stop_time.now.stop_id)) }
+    ensures { OnOk result ((d : Dataset) → AreStopTimeColumns d columns.now
+        → AreNamedRows d named.now → IsRow d stop_time.now
         → ReportsOfRow d in_rows stop_time.now.row found.old found.new) }
-    ensures same { (d : Dataset) → AreNamedRows d named.old → AreNamedRows d named.new }
-    ensures names { IfOk result (λ names. (d : Dataset) → AreNamedRows d named.old
-        → IsRow d stop_time.now → AreNumbersOf d stop_time.now names) }
 {
     report_fields(columns, stop_time, found)?;
-    let names = named.report(stop_time, found)?;
-    report_times(stop_time, found)?;
-    Ok(names)
+    named.report(stop_time, ids, found)?;
+    report_times(stop_time, found)
 }
 
-// Takes note of what a row says of its trip, where it names one; these are the numbers of what it
-// names.
+// Takes note of what a row says of its trip, where it names one; these are its ids.
 #[inline(always)]
 fn take_note<'i>(
     stop_time: &ReadStopTime<'i>,
-    names: Named,
+    ids: &NamedIds<'i>,
     notes: &mut TripNotes<'i>,
 ) -> Result<(), OutOfMemory>
-    requires { names.trip ≡ option_and_then (number_with notes.old.trips)
+    requires { ids.now.trip.number ≡ option_and_then (number_with notes.old.trips)
         (text_of (value_in stop_time.now.trip_id)) }
     ensures trips { notes.new.trips ≡ notes.old.trips }
     ensures notes { OnOk result ((d : Dataset) (n : ℕ) → IsStopTime d n stop_time.now
         → notes.new.notes ≡ notes.old.notes ++ cons_option (note_read d n) []) }
     ensures kept { OnOk result ((d : Dataset) (n : ℕ) → IsStopTime d n stop_time.now
-        → AreNumbersOf d stop_time.now names
+        → AreNumbersOf d stop_time.now ids.now
         → AllKeep d notes.old.rows → AllKeep d notes.new.rows) }
 {
-    match stop_time.trip_note(names.trip, names.stop) {
+    match stop_time.trip_note(ids.trip.number, ids.stop.number) {
         Some(note) => notes.note(note),
         None => Ok(()),
     }

@@ -1,5 +1,6 @@
 -- The ids of one column of one file, and the first row of each.
-use Rattle.std.specs.Prelude.{◌≡◌, ℕ, List, Option}
+use Rattle.std.specs.Prelude.{◌≡◌, ℕ, Bool, true, false, List, Option}
+use Rattle.std.specs.List.{All}
 use Rattle.std.specs.FinMap as table
 use Rattle.std.specs.List.Sorted.{IsStrictlySortedBy}
 use Rattle.std.specs.Ordering.{on}
@@ -10,6 +11,7 @@ use Rattle.gtfs_columns.specs.declared.id_row.IdRow.{IdRow}
 use Rattle.gtfs_columns.specs.steps.IdRows.{id_of, listed_row}
 use Rattle.gtfs_columns.specs.IdNumbers.{first_rows, ids_by_bytes, number_in}
 use Rattle.gtfs_columns.specs.Rows.{row_with}
+use Rattle.gtfs_columns.specs.Values.{has_control}
 
 -- a column of a file of a dataset
 pub record IdColumn : Type 0 where
@@ -44,3 +46,12 @@ ListsFirstRows i rows = (id : List ℕ) → listed_row rows id ≡ first_row_wit
 pub record IsIdIndex (i : IdColumn) (rows : List IdRow) : Type 0 where
   pub ascending : IsStrictlySortedBy (on id_of text_cmp) rows
   pub first : ListsFirstRows i rows
+
+-- no id has a control character
+abbrev pub AreClear : List IdRow → Type 0
+AreClear rows = All (λ r. has_control (id_of r) ≡ false) rows
+
+-- an index, and whether its ids are known to have no control character
+pub record IsClearIndex (i : IdColumn) (rows : List IdRow) (are_clear : Bool) : Type 0 where
+  pub index : IsIdIndex i rows
+  pub clear : are_clear ≡ true → AreClear rows

@@ -10,6 +10,8 @@ use std::collections::BTreeMap;
 pub(crate) struct Covered<'a> {
     // The end of each span, by its trip and its start.
     pub(crate) spans: BTreeMap<(&'a str, u32), u32>,
+    // The trip of the last period.
+    pub(crate) last: &'a str,
     ghost filled: { AreFilled spans },
     ghost apart: { AreApart spans },
 }
@@ -20,6 +22,7 @@ impl<'a> Covered<'a> {
     {
         Covered {
             spans: BTreeMap::new(alloc),
+            last: "",
         }
     }
 

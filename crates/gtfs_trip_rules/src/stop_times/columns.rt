@@ -5,11 +5,13 @@ ghost use Rattle.gtfs_columns.specs.steps.ColumnView.{kind_of};
 ghost use Rattle.gtfs_trip_rules.specs.KeptRow.{kept_row, note_of_trip};
 ghost use Rattle.gtfs_trip_rules.specs.Readings.{fault_of, value_in};
 ghost use Rattle.gtfs_table.specs.Rows.{records_in};
-ghost use Rattle.gtfs_trip_rules.specs.StopTimes.{AreStopTimeColumns, IsStopTime};
+ghost use Rattle.gtfs_trip_rules.specs.StopTimes.{text_at, AreStopTimeColumns, IsReading, IsStopTime};
+ghost use Rattle.gtfs_columns.specs.Columns.{id};
+ghost use Rattle.gtfs_columns.specs.Values.{word};
 
 use crate::stop_times::kept::{boarding_in, kept_times, placed, timepoint_in};
 use crate::stop_times::reading::{
-    Reading, read_beside, read_boarding, read_id, read_is_exact, read_number, read_seconds,
+    Reading, read_beside, read_boarding, read_is_exact, read_number, read_seconds,
 };
 use crate::trips::notes::TripNote;
 use crate::trips::row::{Boarding, StopTime};
@@ -105,13 +107,25 @@ impl<'a> StopTimeColumns<'a> {
         }
     }
 
-    // What a row says.
+    // What a row says, whose ids were read.
     #[inline(always)]
-    pub(crate) fn stop_time(&self, row: usize, record: &Record<'a>) -> ReadStopTime<'a>
+    pub(crate) fn stop_time(
+        &self,
+        row: usize,
+        record: &Record<'a>,
+        trip_id: Reading<&'a str>,
+        stop_id: Reading<&'a str>,
+    ) -> ReadStopTime<'a>
         requires columns { AreStopTimeColumns self.now.tables.now self.now }
         requires fields { «record».now
             ≡ record_at (records_in self.now.tables.now file.StopTimes) row }
-        ensures { IsStopTime self.now.tables.now row result }
+        requires trip { IsReading id (λ t. word t.now)
+            (text_at self.now.tables.now row "trip_id") trip_id }
+        requires stop { IsReading id (λ t. word t.now)
+            (text_at self.now.tables.now row "stop_id") stop_id }
+        ensures says { IsStopTime self.now.tables.now row result }
+        ensures trip { result.trip_id ≡ trip_id.entry }
+        ensures stop { result.stop_id ≡ stop_id.entry }
     {
         let arrival = record.value(self.arrival_time);
         let departure = record.value(self.departure_time);
@@ -119,10 +133,10 @@ impl<'a> StopTimeColumns<'a> {
         ReadStopTime {
             row,
             fields: record.len(),
-            trip_id: read_id(record.value(self.trip_id)),
+            trip_id,
             arrival_time,
             departure_time: read_beside(departure, arrival, arrival_time),
-            stop_id: read_id(record.value(self.stop_id)),
+            stop_id,
             stop_sequence: read_number(record.value(self.stop_sequence)),
             stop_headsign: fault_in_text(Kind::Text, record.value(self.stop_headsign)),
             pickup_type: read_boarding(record.value(self.pickup_type)),

@@ -1,13 +1,14 @@
 ghost use Rattle.std.specs.Prelude.{◌≡◌, option_map, pos};
-ghost use Rattle.gtfs_columns.specs.Columns.{count, id, time, up_to};
+ghost use Rattle.gtfs_columns.specs.Columns.{count, time, up_to};
 ghost use Rattle.gtfs_trip_rules.specs.KeptChoices.{boarding_number, exact_number};
 ghost use Rattle.gtfs_trip_rules.specs.Readings.{code_in, fault_in, fault_of, is_blank, value_in, value_or};
 ghost use Rattle.gtfs_trip_rules.specs.StopTimes.{IsReading};
-ghost use Rattle.gtfs_columns.specs.Values.{amount, readable, word};
+ghost use Rattle.gtfs_columns.specs.Values.{amount, readable};
 ghost use Rattle.gtfs_table.specs.Rows.{is_empty};
+ghost use Rattle.gtfs_field.specs.Kinds.{count_of};
 
 use crate::trips::row::Boarding;
-use gtfs_columns::{Code, has_control};
+use gtfs_columns::Code;
 use gtfs_field::{FieldFault, read_count, read_time};
 
 // What reading a field found.
@@ -65,21 +66,6 @@ impl<V: Copy> Reading<V> {
 }
 
 #[inline(always)]
-pub(crate) fn read_id(text: &str) -> Reading<&str>
-    ensures empty { is_blank result ≡ is_empty text.now }
-    ensures fault { fault_in result ≡ fault_of id text.now }
-    ensures value { option_map (λ t. word t.now) (value_in result) ≡ readable id text.now }
-{
-    if text.is_empty() {
-        Reading::Empty
-    } else if has_control(text) {
-        Reading::Fault(Code::E20)
-    } else {
-        Reading::Value(text)
-    }
-}
-
-#[inline(always)]
 pub(crate) fn read_seconds(text: &str) -> Reading<u32>
     ensures empty { is_blank result ≡ is_empty text.now }
     ensures fault { fault_in result ≡ fault_of time text.now }
@@ -108,6 +94,17 @@ pub(crate) fn read_beside(text: &str, other: &str, read: Reading<u32>) -> Readin
     }
 }
 
+// Reads a count, which mostly is one digit.
+#[inline(always)]
+fn read_short_count(text: &str) -> Result<u32, FieldFault>
+    ensures { result ≡ count_of text.now }
+{
+    match text.as_bytes() {
+        [digit @ b'0'..=b'9'] => Ok(u32::from(*digit - b'0')),
+        _ => read_count(text),
+    }
+}
+
 #[inline(always)]
 pub(crate) fn read_number(text: &str) -> Reading<u32>
     ensures empty { is_blank result ≡ is_empty text.now }
@@ -117,7 +114,7 @@ pub(crate) fn read_number(text: &str) -> Reading<u32>
     if text.is_empty() {
         return Reading::Empty;
     }
-    match read_count(text) {
+    match read_short_count(text) {
         Ok(number) => Reading::Value(number),
         Err(FieldFault::Form) => Reading::Fault(Code::E07),
         Err(FieldFault::Range) => Reading::Fault(Code::E08),
@@ -135,7 +132,7 @@ pub(crate) fn read_boarding(text: &str) -> Reading<Boarding>
     if text.is_empty() {
         return Reading::Empty;
     }
-    match read_count(text) {
+    match read_short_count(text) {
         Ok(0) => Reading::Value(Boarding::Regular),
         Ok(1) => Reading::Value(Boarding::Unavailable),
         Ok(2) => Reading::Value(Boarding::Phone),
@@ -157,7 +154,7 @@ pub(crate) fn read_is_exact(text: &str) -> Reading<bool>
     if text.is_empty() {
         return Reading::Empty;
     }
-    match read_count(text) {
+    match read_short_count(text) {
         Ok(0) => Reading::Value(false),
         Ok(1) => Reading::Value(true),
         Ok(2..) => Reading::Fault(Code::E08),

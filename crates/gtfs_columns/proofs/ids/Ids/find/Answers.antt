@@ -19,7 +19,7 @@ returns-in-Ok-clause-row c =
     let tie : HoldsAt (λ r. text_cmp (id_of r) id ≡ Equal) all c.in-Ok.number =
     rw (← c.deref.ensures.value) (c.in-Ok.ensures.position (λ r. text_cmp (id_of r) id) (always_returns_same _ _ _ (λ a r f k. search (rules, of_calls)))) in
     let within : c.in-Ok.number < length all = rw c.deref.ensures.value at c.in-Ok.ensures.bound in
-    sym (found id all c.self.invariant.ascending c.in-Ok.number c.index.result.now within tie c.index.ensures) ∙ c.self.invariant.first id ∙ ap (λ i. first_row_with i id) c.self.view_is
+    sym (found id all c.self.invariant.index.ascending c.in-Ok.number c.index.result.now within tie c.index.ensures) ∙ c.self.invariant.index.first id ∙ ap (λ i. first_row_with i id) c.self.view_is
 
 pub returns-in-Ok-clause-number : goal.returns-in-Ok-clause-number
 returns-in-Ok-clause-number c =
@@ -30,7 +30,7 @@ returns-in-Ok-clause-number c =
     let within : c.in-Ok.number < length all = rw c.deref.ensures.value at c.in-Ok.ensures.bound in
     let here : text_cmp (id_of c.index.result.now) id ≡ Equal = ap (λ r. text_cmp (id_of r) id) c.index.ensures ∙ tie c.index.result.now in
     let has : bytes_eq (id_of c.index.result.now) id ≡ true = sym (is_eq-slice_cmp (id_of c.index.result.now) id) ∙ ap is_eq here in
-    numbered_at _ all c.self.invariant id c.in-Ok.number c.index.result.now within c.index.ensures has ∙ ap (λ i. number_with i id) c.self.view_is
+    numbered_at _ all c.self.invariant.index id c.in-Ok.number c.index.result.now within c.index.ensures has ∙ ap (λ i. number_with i id) c.self.view_is
 
 pub returns-in-Err-clause-row : goal.returns-in-Err-clause-row
 returns-in-Err-clause-row c =
@@ -39,7 +39,7 @@ returns-in-Err-clause-row c =
     let rank : IsNonDecreasingBy (λ r. ordering_index (text_cmp (id_of r) id)) all
     → IsPartitionPoint (λ r. text_cmp (id_of r) id ≡ Less) (λ r. text_cmp (id_of r) id ≡ Greater) all c.in-Err.field-0 =
     rw (← c.deref.ensures.value) (c.in-Err.ensures.position (λ r. text_cmp (id_of r) id) (always_returns_same _ _ _ (λ a r f k. search (rules, of_calls)))) in
-    sym (missing id all c.self.invariant.ascending c.in-Err.field-0 rank) ∙ c.self.invariant.first id ∙ ap (λ i. first_row_with i id) c.self.view_is
+    sym (missing id all c.self.invariant.index.ascending c.in-Err.field-0 rank) ∙ c.self.invariant.index.first id ∙ ap (λ i. first_row_with i id) c.self.view_is
 
 pub returns-in-Err-clause-number : goal.returns-in-Err-clause-number
 returns-in-Err-clause-number c =
@@ -48,4 +48,4 @@ returns-in-Err-clause-number c =
     let rank : IsNonDecreasingBy (λ r. ordering_index (text_cmp (id_of r) id)) all
     → IsPartitionPoint (λ r. text_cmp (id_of r) id ≡ Less) (λ r. text_cmp (id_of r) id ≡ Greater) all c.in-Err.field-0 =
     rw (← c.deref.ensures.value) (c.in-Err.ensures.position (λ r. text_cmp (id_of r) id) (always_returns_same _ _ _ (λ a r f k. search (rules, of_calls)))) in
-    no_number _ all c.self.invariant id (missing id all c.self.invariant.ascending c.in-Err.field-0 rank) ∙ ap (λ i. number_with i id) c.self.view_is
+    no_number _ all c.self.invariant.index id (missing id all c.self.invariant.index.ascending c.in-Err.field-0 rank) ∙ ap (λ i. number_with i id) c.self.view_is

@@ -9,5 +9,5 @@ pub returns-clause-value : goal.returns-clause-value
 returns-clause-value c =
     let all = c.self.inside.rows.items in
     let many : length (ids_of c.args.self.now) ≡ length all =
-    ap (λ i. length (ids_of i)) (sym c.self.view_is) ∙ ap length (listed_ids _ all c.self.invariant) ∙ length-map all id_of in
+    ap (λ i. length (ids_of i)) (sym c.self.view_is) ∙ ap length (listed_ids _ all c.self.invariant.index) ∙ length-map all id_of in
     omega (arith, many, c.len.ensures, c.self.inside.rows.ok.0)

@@ -4,7 +4,10 @@ use Rattle.gtfs_columns.proofs.IdFacts.{ascending_once, listed_sorted}
 use Rattle.gtfs_columns.proofs.ids.Ids.new.Goals as goal
 
 pub invariant_of-result : goal.invariant_of-result
-invariant_of-result c = rw (dedup_is _ _ _ c.dedup.ensures.filtered) (record {
-  ascending = ascending_once _ c.in_ok-sort.ensures.sorted;
-  first = λ id. listed_sorted id _ _ c.in_ok-sort.ensures.stable ∙ c.in_ok-rows.ensures id;
-})
+invariant_of-result c = record {
+  index = rw (dedup_is _ _ _ c.dedup.ensures.filtered) (record {
+    ascending = ascending_once _ c.in_ok-sort.ensures.sorted;
+    first = λ id. listed_sorted id _ _ c.in_ok-sort.ensures.stable ∙ c.in_ok-rows.ensures id;
+  });
+  clear = λ is. rw c.deref.ensures.value at (c.are_clear-are_clear.ensures is);
+}
