@@ -27,7 +27,7 @@ two-digits n tens ones ten hundred first last =
 digit-plain : (b : ℕ) → is_ascii_digit b ≡ true → needs_byte default_writer b ≡ false
 digit-plain b h = let bounds = digit-bounds b h in grind (arith, nat_tests)
 
-digits-plain : (t : List ℕ) → all_ascii_digits t ≡ true → needs_quotes default_writer t ≡ false
+pub digits-plain : (t : List ℕ) → all_ascii_digits t ≡ true → needs_quotes default_writer t ≡ false
 digits-plain [] h = refl
 digits-plain (b ∷ t) h =
     let parts = and_parts (is_ascii_digit b) (all_ascii_digits t) h in
