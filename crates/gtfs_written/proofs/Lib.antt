@@ -1,7 +1,9 @@
+pub mod CellBounds
 pub mod Items
 pub mod PlainTexts
 pub mod Quotes
 pub mod TableFacts
+pub mod StopTimeBounds
 pub mod Taken
 pub mod TextAgain
 pub mod TextFacts

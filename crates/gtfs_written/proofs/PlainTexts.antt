@@ -1,5 +1,5 @@
 -- Texts that need no quotes, as counts and the ids of most stops.
-use Rattle.std.proofs.Common.{◌≡◌, ◌∙◌, ℕ, zero, suc, map, ◌/◌, ◌%◌, ◌+◌, ◌^◌, ◌<◌, ◌≤◌, ◌∷◌, List, [], false, true, ap, refl, arith}
+use Rattle.std.proofs.Common.{◌≡◌, ◌∙◌, ℕ, zero, suc, map, ◌/◌, ◌%◌, ◌+◌, ◌^◌, ◌<◌, ◌≤◌, ◌∷◌, List, [], drop, false, true, ap, refl, arith}
 use Rattle.std.specs.Char.{is_ascii_digit}
 use Rattle.std.specs.Fmt.{decimal}
 use Rattle.std.specs.List.{list_all}
@@ -7,7 +7,8 @@ use Rattle.std.specs.Str.{all_ascii_digits, IsAscii}
 use Rattle.std.proofs.lemmas.Bool.{and_parts, not-true}
 use Rattle.std.proofs.lemmas.Bool.Decides.{nat_tests}
 use Rattle.std.proofs.lemmas.Fmt.{IsAscii-decimal, decimal_digit, decimal_step}
-use Rattle.csv.specs.Writing.{default_writer, needs_byte, needs_quotes}
+use Rattle.std.proofs.lemmas.Str.Ascii.{IsAscii-cons}
+use Rattle.csv.specs.Writing.{comma, default_writer, needs_byte, needs_quotes}
 use Rattle.gtfs_field.specs.Canonical.{count_text}
 use Rattle.gtfs_field.proofs.Numerals.{digit-bounds}
 use Rattle.gtfs_field.proofs.Texts.{decimal-digits}
@@ -27,7 +28,7 @@ two-digits n tens ones ten hundred first last =
 digit-plain : (b : ℕ) → is_ascii_digit b ≡ true → needs_byte default_writer b ≡ false
 digit-plain b h = let bounds = digit-bounds b h in grind (arith, nat_tests)
 
-digits-plain : (t : List ℕ) → all_ascii_digits t ≡ true → needs_quotes default_writer t ≡ false
+pub digits-plain : (t : List ℕ) → all_ascii_digits t ≡ true → needs_quotes default_writer t ≡ false
 digits-plain [] h = refl
 digits-plain (b ∷ t) h =
     let parts = and_parts (is_ascii_digit b) (all_ascii_digits t) h in
@@ -37,8 +38,12 @@ digits-plain (b ∷ t) h =
 pub count-plain : (n : ℕ) (t : List ℕ) → n < 2 ^ 64 → t ≡ count_text n → needs_quotes default_writer t ≡ false
 count-plain n t fits is = ap (needs_quotes default_writer) is ∙ digits-plain (decimal n) (decimal-digits n fits)
 
-pub count-ascii : (n : ℕ) (t : List ℕ) → n < 2 ^ 64 → t ≡ count_text n → IsAscii t
-count-ascii n t fits is = rw is (IsAscii-decimal n fits)
+-- the same with a comma before it
+pub comma-ascii : (n : ℕ) (t : List ℕ) → n < 2 ^ 64 → t ≡ comma ∷ count_text n → IsAscii t
+comma-ascii n t fits is = rw is (IsAscii-cons comma (count_text n) (omega arith) (IsAscii-decimal n fits))
+
+pub comma-plain : (n : ℕ) (t : List ℕ) → n < 2 ^ 64 → t ≡ comma ∷ count_text n → needs_quotes default_writer (drop 1 t) ≡ false
+comma-plain n t fits is = count-plain n (drop 1 t) fits (ap (drop 1) is)
 
 -- ---- ids of stops
 

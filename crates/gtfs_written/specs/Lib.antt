@@ -1,3 +1,4 @@
+pub mod Bounds
 pub mod FileTexts
 pub mod Plain
 pub mod Taking

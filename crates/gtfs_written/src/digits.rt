@@ -1,34 +1,36 @@
-//! Short canonical texts of numbers, made on the stack.
-ghost use Rattle.std.specs.Prelude.{◌≡◌, ◌<◌, ◌≤◌, ◌+◌, ◌%◌};
+//! Short canonical texts of numbers with the comma before them, made on the stack.
+ghost use Rattle.std.specs.Prelude.{◌≡◌, ◌∷◌, ◌<◌, ◌≤◌, ◌+◌, ◌%◌};
 ghost use Rattle.std.specs.Str.{IsAscii};
+ghost use Rattle.csv.specs.Writing.{comma};
 ghost use Rattle.gtfs_field.specs.Canonical.{count_text, time_text};
 
 // The text of a count of one digit.
-pub(crate) fn one_digit(number: u32) -> [u8; 1]
+pub(crate) fn one_digit(number: u32) -> [u8; 2]
     requires { number < 10 }
-    ensures { result ≡ count_text number }
+    ensures { result ≡ comma ∷ count_text number }
 {
-    [b'0' + number as u8]
+    [b',', b'0' + number as u8]
 }
 
 // The text of a count of two digits.
-pub(crate) fn two_digits(number: u32) -> [u8; 2]
+pub(crate) fn two_digits(number: u32) -> [u8; 3]
     requires ten { 10 ≤ number }
     requires hundred { number < 100 }
-    ensures { result ≡ count_text number }
+    ensures { result ≡ comma ∷ count_text number }
 {
-    [digit(number / 10), digit(number)]
+    [b',', digit(number / 10), digit(number)]
 }
 
 // The text of a time before 100:00:00, by its seconds.
-pub(crate) fn short_time(seconds: u32) -> [u8; 8]
+pub(crate) fn short_time(seconds: u32) -> [u8; 9]
     requires { seconds < 360_000 }
-    ensures { result ≡ time_text seconds }
+    ensures { result ≡ comma ∷ time_text seconds }
 {
     let hours = seconds / 3600;
     let minutes = seconds / 60 % 60;
     let last = seconds % 60;
     [
+        b',',
         digit(hours / 10),
         digit(hours),
         b':',

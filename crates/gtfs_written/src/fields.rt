@@ -1,6 +1,6 @@
-ghost use Rattle.std.specs.Prelude.{◌≡◌, ℕ, List, if◌then◌else◌, option_map, OnOk, true, false, [], Some, None, ◌∷◌};
+ghost use Rattle.std.specs.Prelude.{◌≡◌, ℕ, List, if◌then◌else◌, drop, option_map, OnOk, true, false, [], Some, None, ◌∷◌};
 ghost use Rattle.std.specs.Str.{IsAscii};
-ghost use Rattle.csv.specs.Writing.{default_writer, needs_quotes};
+ghost use Rattle.csv.specs.Writing.{comma, default_writer, needs_quotes};
 ghost use Rattle.gtfs_field.specs.Canonical.{colour_text, coordinate_text, count_text, date_text, time_text};
 ghost use Rattle.gtfs_field.specs.declared.coord.Axis.{Axis};
 ghost use Rattle.gtfs_columns.specs.Columns.{Kind, choice, coordinate, count, time};
@@ -8,7 +8,7 @@ ghost use Rattle.gtfs_columns.specs.Values.{amount, word};
 ghost use Rattle.gtfs_rows.specs.Cells.{cell_text};
 ghost use Rattle.gtfs_rows.specs.RowCells.{number as numbered};
 
-use crate::digits::{as_text, one_digit, short_time, two_digits};
+use crate::digits::{one_digit, short_time, two_digits};
 use crate::sink::Sink;
 use crate::table_rows::TableRows;
 use gtfs_field::{
@@ -127,13 +127,14 @@ impl<S: Sink> Fields<S> {
         self.rows.next(self.buffer.as_str())
     }
 
-    // A field of ASCII bytes that need no quotes.
+    // A field of ASCII bytes that need no quotes, with its comma before it.
     fn plain(&mut self, bytes: &[u8]) -> Result<(), OutOfMemory>
         requires ascii { IsAscii bytes.now }
-        requires plain { needs_quotes default_writer bytes.now ≡ false }
-        ensures { OnOk result (self.new ≡ S.takes.next self.old bytes.now) }
+        requires comma { bytes.now ≡ comma ∷ drop 1 bytes.now }
+        requires plain { needs_quotes default_writer (drop 1 bytes.now) ≡ false }
+        ensures { OnOk result (self.new ≡ S.takes.next self.old (drop 1 bytes.now)) }
     {
-        self.rows.plain(as_text(bytes))
+        self.rows.plain_with_comma(bytes)
     }
 
     pub(crate) fn optional_count(&mut self, number: Option<u32>) -> Result<(), OutOfMemory>

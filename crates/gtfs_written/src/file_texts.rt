@@ -8,6 +8,7 @@ ghost use Rattle.gtfs_table.specs.Tables.{table_of, table_of_bytes};
 ghost use Rattle.gtfs_table.specs.Written.{text_of_table};
 ghost use Rattle.gtfs_written.specs.FileTexts.{is_longer};
 
+use crate::bounds::is_surely_within;
 use crate::fields::Fields;
 use crate::files::write_file;
 use crate::room_rows::RoomRows;
@@ -42,7 +43,7 @@ pub fn file_text(alloc: Global, parts: &Parts, file: File) -> Result<String, Out
 }
 
 /// Whether the text of some file of a feed, as [`file_text`] gives it, has more bytes than this limit. No text is made:
-/// each file is counted, in one pass.
+/// each file is counted, in one pass, unless the number of its rows and their longest texts tell already that it is short.
 ///
 /// Memory that is refused is an error.
 pub fn has_longer_file(alloc: Global, parts: &Parts, limit: u64) -> Result<bool, OutOfMemory>
@@ -62,6 +63,9 @@ fn is_longer(alloc: Global, parts: &Parts, file: File, limit: u64) -> Result<boo
     requires { IsSoundParts parts.now }
     ensures { IfOk result (λ longer. longer ≡ is_longer (content_of_parts parts.now) limit file) }
 {
+    if is_surely_within(parts, file, limit) {
+        return Ok(false);
+    }
     let mut rows = Fields::new(alloc, RoomRows::new(limit));
     let outcome = write_file(parts, file, &mut rows);
     let longer = rows.into_rows().is_passed();

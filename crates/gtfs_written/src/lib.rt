@@ -19,6 +19,7 @@
 #![tactic(auto)]
 
 mod agencies;
+mod bounds;
 mod calendar;
 mod calendar_dates;
 mod digits;

@@ -90,6 +90,11 @@ impl Sink for RoomRows {
         Ok(())
     }
 
+    fn plain_with_comma(&mut self, bytes: &[u8]) -> Result<(), OutOfMemory> {
+        self.take(bytes.len());
+        Ok(())
+    }
+
     fn last(&mut self) -> Result<(), OutOfMemory> {
         self.take(1);
         Ok(())

@@ -1,5 +1,6 @@
-ghost use Rattle.std.specs.Prelude.{◌≡◌, OnOk, false};
-ghost use Rattle.csv.specs.Writing.{default_writer, needs_quotes};
+ghost use Rattle.std.specs.Prelude.{◌≡◌, ◌∷◌, drop, OnOk, false};
+ghost use Rattle.std.specs.Str.{IsAscii};
+ghost use Rattle.csv.specs.Writing.{comma, default_writer, needs_quotes};
 ghost use Rattle.gtfs_written.specs.Taking.{Taking};
 
 use gtfs_field::OutOfMemory;
@@ -25,6 +26,13 @@ pub(crate) trait Sink {
     fn plain(&mut self, field: &str) -> Result<(), OutOfMemory>
         requires { needs_quotes default_writer field.now ≡ false }
         ensures { OnOk result (self.new ≡ takes.next self.old field.now) };
+
+    // The same in ASCII, with its comma before it, so that both are taken at once.
+    fn plain_with_comma(&mut self, bytes: &[u8]) -> Result<(), OutOfMemory>
+        requires ascii { IsAscii bytes.now }
+        requires comma { bytes.now ≡ comma ∷ drop 1 bytes.now }
+        requires plain { needs_quotes default_writer (drop 1 bytes.now) ≡ false }
+        ensures { OnOk result (self.new ≡ takes.next self.old (drop 1 bytes.now)) };
 
     // The end of the row.
     fn last(&mut self) -> Result<(), OutOfMemory>

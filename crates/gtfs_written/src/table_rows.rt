@@ -2,6 +2,7 @@ ghost use Rattle.std.specs.Prelude.{◌≡◌};
 ghost use Rattle.gtfs_table.specs.Tables.{empty_dataset};
 ghost use Rattle.gtfs_written.specs.Taking.{into_table};
 
+use crate::digits::as_text;
 use crate::sink::Sink;
 use gtfs_field::OutOfMemory;
 use gtfs_table::{File, Tables};
@@ -53,6 +54,10 @@ impl Sink for TableRows {
 
     fn plain(&mut self, field: &str) -> Result<(), OutOfMemory> {
         self.next(field)
+    }
+
+    fn plain_with_comma(&mut self, bytes: &[u8]) -> Result<(), OutOfMemory> {
+        self.next(as_text(&bytes[1..]))
     }
 
     fn last(&mut self) -> Result<(), OutOfMemory> {

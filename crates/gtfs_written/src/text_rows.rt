@@ -3,6 +3,7 @@ ghost use Rattle.std.specs.Str.{IsUtf8};
 ghost use Rattle.csv.specs.Writing.{default_writer, escaped, field_text, quoted};
 ghost use Rattle.gtfs_written.specs.Taking.{into_text};
 
+use crate::digits::as_text;
 use crate::quoting::is_quoted;
 use crate::sink::Sink;
 use gtfs_field::OutOfMemory;
@@ -59,6 +60,11 @@ impl Sink for TextRows {
     fn plain(&mut self, field: &str) -> Result<(), OutOfMemory> {
         self.text.push_str(",")?;
         self.text.push_str(field)?;
+        Ok(())
+    }
+
+    fn plain_with_comma(&mut self, bytes: &[u8]) -> Result<(), OutOfMemory> {
+        self.text.push_str(as_text(bytes))?;
         Ok(())
     }
 
