@@ -27,6 +27,7 @@ pub mod Timely
 pub mod Floors
 pub mod Opened
 pub mod ShownRows
+pub mod LastPeriods
 pub mod Results
 mod SheetTexts
 mod TextVectors

@@ -2,6 +2,7 @@
 ghost use Rattle.std.specs.Prelude.{◌≡◌, ◌<◌, ◌==◌, ◌&&◌, All, Some, [], IfSome, length, option_map, unwrap_or};
 ghost use Rattle.std.specs.List.{list_any};
 ghost use Rattle.std.specs.Option.{option_or};
+ghost use Rattle.gtfs_feed.specs.Trips.{ArePeriods};
 ghost use Rattle.gtfs_rows.specs.Views.{frequency_of, stop_ids, text_of_number, trip_ids};
 ghost use Rattle.gtfs_runs.specs.Trips.{starts_run};
 ghost use Rattle.gtfs_board.specs.Lent.{listed, plain_key};
@@ -99,16 +100,17 @@ fn text_or_empty(text: &Option<Text>) -> &str
     }
 }
 
-// The mark of a run of a trip with these frequencies.
+// The mark of a run of a trip with these frequencies. None begins before the one before it ends, so that only the last one
+// that has begun can start the run.
 fn mark_of(periods: &[Frequency], run: u32) -> Mark
-    requires { All (λ f. 0 < f.headway_secs) periods.now }
+    requires moves { All (λ f. 0 < f.headway_secs) periods.now }
+    requires apart { ArePeriods periods.now }
     ensures { result ≡ mark_if (list_any (λ p. starts_run (frequency_of p) run
         && ((frequency_of p).exact_times == 0)) periods.now) }
 {
-    for period in periods {
-        if is_inexact(period, run) {
-            return Mark::Frequency;
-        }
+    let begun = periods.partition_point(|period| period.start_time.seconds() <= run);
+    if begun > 0 && is_inexact(&periods[begun - 1], run) {
+        return Mark::Frequency;
     }
     Mark::Scheduled
 }

@@ -12,6 +12,7 @@ use Rattle.std.proofs.lemmas.List.Elements.{All-append, All-map, filter-append}
 use Rattle.std.proofs.lemmas.Option.{get_or_from_slice_get, slice_get_within}
 use Rattle.std.proofs.lemmas.Simd.{map-map}
 use Rattle.gtfs_columns.specs.Values.{if_there}
+use Rattle.gtfs_rows.specs.Content.{Content}
 use Rattle.gtfs_rows.specs.Rows as content
 use Rattle.gtfs_rows.specs.declared.frequency.Frequency.{Frequency}
 use Rattle.gtfs_rows.specs.declared.parts.Parts.{Parts}
@@ -24,6 +25,7 @@ use Rattle.gtfs_feed.proofs.TripFacts.{periods, stop_times}
 use Rattle.gtfs_feed.proofs.TripsAt.{content_trip}
 use Rattle.gtfs_runs.specs.Counts.{is_same, tally}
 use Rattle.gtfs_runs.specs.Events.{is_event}
+use Rattle.gtfs_runs.specs.Kinds.{IsPeriodLane}
 use Rattle.gtfs_runs.specs.Lanes.{Course, courses_of, departure_rows, has_periods, stops_of}
 use Rattle.gtfs_runs.specs.Places.{members}
 use Rattle.gtfs_runs.specs.StopLanes.{LaneValue}
@@ -325,6 +327,7 @@ module _ (p : Parts) (sound : IsSoundParts p) (s t : ℕ) (row : Trip) (rs : Lis
               })));
           own = subst (λ l. All (IsListed p) l) (sym pushed) (All-append (IsListed p) old (map f xs) was.own (All-map (IsListed p) f xs (λ k d h. own_course (get_or xs k d))));
           within = was.within;
+          runs = was.runs;
           courses = ap (map (λ x. course_of p x.course)) pushed ∙ map-append (λ x. course_of p x.course) old (map f xs) ∙ (λ i. was.courses i ++ courses_are i)
               ∙ sym (trips_more (λ w. not (has_periods w)) (courses_of c id) c.trips t v at);
           counted = was.counted ∙ ap length (sym (trips_more has_periods (λ w. flat_map (λ period. departure_rows c id w) w.frequencies) c.trips t v at ∙ append-nil _));
@@ -418,8 +421,9 @@ module _ (p : Parts) (sound : IsSoundParts p) (s t : ℕ) (row : Trip) (rs : Lis
       → ((k : ℕ) (e : Event) → times_told k e new ≡ times_told k e old + cond (row.service_id.0 == k) (times_passed_in t e (passings_of p s row rs fs) fs) 0)
       → length new ≡ length old + length fs * length (passings_of p s row rs fs)
       → ((n : ℕ) → row.service_id.0 < n → All (λ lane. lane.service < n) old → All (λ lane. lane.service < n) new)
+      → ((k : Content) (v : content.Trip) → slice_get k.trips t ≡ Some v → v.frequencies ≡ map frequency_of fs → All (IsPeriodLane k) old → All (IsPeriodLane k) new)
       → AreFound p s t listed old → AreFound p s (t + 1) listed new
-  periods_found listed old new told count serve was =
+  periods_found listed old new told count serve kind was =
       let c = content_of_parts p in
       let id = text_of_number (stop_ids p) s in
       let v = trip_of p row rs fs in
@@ -441,6 +445,7 @@ module _ (p : Parts) (sound : IsSoundParts p) (s t : ℕ) (row : Trip) (rs : Lis
         known = was.known;
         own = was.own;
         within = serve (length p.services) (trip_service p sound t row at_trip) was.within;
+        runs = kind c v at refl was.runs;
         courses = was.courses ∙ sym (trips_more (λ w. not (has_periods w)) (courses_of c id) c.trips t v at
             ∙ ap (λ b. flat_map (courses_of c id) (filter (λ w. not (has_periods w)) (take t c.trips)) ++ cond (not b) (courses_of c id v) []) has ∙ append-nil _);
         counted = count ∙ (λ i. was.counted i + sym each i) ∙ sym (length-append (flat_map group (filter has_periods (take t c.trips))) (group v))

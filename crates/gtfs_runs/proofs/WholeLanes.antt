@@ -138,7 +138,7 @@ module _ (p : Parts) (s : ℕ) (listed : List Stopping) (periods : List LaneValu
 
     pub are_by_kind : (greatest : ℕ) → length lists ≡ how_many is_same_course (map (λ x. x.course) sorted) → All (IsListLane (content_of_parts p)) lists
         → AreByKind (content_of_parts p) (text_of_number (stop_ids p) s) (record { lists = lists; periods = periods; greatest = greatest })
-    are_by_kind greatest count alike = record { lists = sym (listed_count count); periods = sym periodic; listed = alike }
+    are_by_kind greatest count alike = record { lists = sym (listed_count count); periods = sym periodic; listed = alike; runs = found.runs }
 
     pub are_lanes : length lists ≡ how_many is_same_course (map (λ x. x.course) sorted) → All (λ lane. lane.service < length p.services) lists
         → All (λ lane. Ascends event_cmp lane.events) lists → All (λ lane. Ascends event_cmp lane.events) periods

@@ -1,9 +1,12 @@
 -- The kinds of lanes of a stop: lists have the events of trips without rows of frequencies.txt, periods those of these rows.
 -- GTFS Schedule Reference, stop_times.txt, frequencies.txt and trips.txt.
-use Rattle.std.specs.Prelude.{◌≡◌, ℕ, All, AllPairs, Bool, true, not, List, length, slice_get, Option, option_map}
+use Rattle.std.specs.Prelude.{◌≡◌, ℕ, All, AllPairs, Bool, true, not, cond, List, length, slice_get, Option, Some, option_map}
 use Rattle.gtfs_columns.specs.Values.{if_there}
 use Rattle.gtfs_rows.specs.Content.{Content}
+use Rattle.gtfs_rows.specs.Rows.{Frequency, Trip}
+use Rattle.gtfs_runs.specs.Counts.{is_same, tally}
 use Rattle.gtfs_runs.specs.Lanes.{Course, has_periods, list_count, period_count, stops_of}
+use Rattle.gtfs_runs.specs.Periods.{is_of_period}
 use Rattle.gtfs_runs.specs.StopLanes.{LaneValue, StopLanesValue}
 use Rattle.gtfs_runs.specs.declared.event.Event.{Event}
 
@@ -20,8 +23,22 @@ pub record IsListLane (c : Content) (lane : LaneValue) : Type 0 where
   pub listed : All (λ e. is_listed c e ≡ true) lane.events
   pub alike : AllPairs (λ x y. course_at c x ≡ course_at c y) lane.events
 
--- as many lists and as many periods as defined; no run of a period stands in a list
+-- a lane for one row of frequencies.txt at one stop time of its trip: an event for each run of the row, and no other
+pub record IsPeriodLane (c : Content) (lane : LaneValue) : Type 0 where
+  -- the event of the first run
+  pub first : Event
+  pub trip : Trip
+  -- the row, and its place among those of the trip
+  pub period : Frequency
+  pub place : ℕ
+  pub of_trip : slice_get c.trips first.trip.0 ≡ Some trip
+  pub of_period : slice_get trip.frequencies place ≡ Some period
+  pub begins : first.run ≡ period.start_time
+  pub runs : (e : Event) → tally (is_same e) lane.events ≡ cond (is_of_period first period e) 1 0
+
+-- as many lists and as many periods as defined; no run of a period stands in a list, and no other run in a period
 pub record AreByKind (c : Content) (s : List ℕ) (lanes : StopLanesValue) : Type 0 where
   pub lists : length lanes.lists ≡ list_count c s
   pub periods : length lanes.periods ≡ period_count c s
   pub listed : All (IsListLane c) lanes.lists
+  pub runs : All (IsPeriodLane c) lanes.periods

@@ -6,6 +6,7 @@ use Rattle.gtfs_rows.specs.declared.frequency.Frequency.{Frequency}
 use Rattle.gtfs_rows.specs.declared.parts.Parts.{Parts}
 use Rattle.gtfs_runs.specs.Counts.{is_same, tally}
 use Rattle.gtfs_runs.specs.Events.{is_event}
+use Rattle.gtfs_runs.specs.Kinds.{IsPeriodLane}
 use Rattle.gtfs_runs.specs.Lanes.{courses_of, departure_rows, has_periods}
 use Rattle.gtfs_runs.specs.StopLanes.{LaneValue, events_of_service}
 use Rattle.gtfs_runs.specs.Trips.{starts_run}
@@ -54,6 +55,7 @@ pub record AreFound (p : Parts) (s n : ℕ) (listed : List Stopping) (periods : 
   pub known : All (λ x. IsCourse p x.course) listed
   pub own : All (IsListed p) listed
   pub within : All (λ lane. lane.service < length p.services) periods
+  pub runs : All (IsPeriodLane (content_of_parts p)) periods
   pub courses : map (λ x. course_of p x.course) listed
       ≡ flat_map (courses_of (content_of_parts p) (text_of_number (stop_ids p) s)) (filter (λ t. not (has_periods t)) (take n (content_of_parts p).trips))
   pub counted : length periods

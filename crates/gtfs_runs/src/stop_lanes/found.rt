@@ -1,6 +1,9 @@
-ghost use Rattle.std.specs.Prelude.{◌≡◌, ◌≤◌, ◌<◌, ◌+◌, ◌*◌, ◌++◌, ◌==◌, ℕ, All, IfOk, OnOk, cond, length, map};
+ghost use Rattle.std.specs.Prelude.{◌≡◌, ◌≤◌, ◌<◌, ◌+◌, ◌*◌, ◌++◌, ◌==◌, ℕ, All, IfOk, OnOk, Some, cond, length, map, slice_get};
 ghost use Rattle.gtfs_feed.specs.Content.{content_of};
-ghost use Rattle.gtfs_rows.specs.Views.{stop_ids, text_of_number};
+ghost use Rattle.gtfs_rows.specs.Content.{Content};
+ghost use Rattle.gtfs_rows.specs.Rows.{Trip};
+ghost use Rattle.gtfs_rows.specs.Views.{frequency_of, stop_ids, text_of_number};
+ghost use Rattle.gtfs_runs.specs.Kinds.{IsPeriodLane};
 ghost use Rattle.gtfs_runs.specs.Places.{members};
 ghost use Rattle.gtfs_runs.specs.StopLanes.{period_value};
 ghost use Rattle.gtfs_runs.specs.declared.event.Event.{Event as EventValue};
@@ -128,6 +131,10 @@ fn add_periods(
     ensures within { OnOk result ((n : ℕ) → service.0 < n
         → All (λ lane. lane.service < n) (map period_value periods.old.items)
         → All (λ lane. lane.service < n) (map period_value periods.new.items)) }
+    ensures kind { OnOk result ((c : Content) (t : Trip) → slice_get c.trips trip.0 ≡ Some t
+        → t.frequencies ≡ map frequency_of frequencies.now
+        → All (IsPeriodLane c) (map period_value periods.old.items)
+        → All (IsPeriodLane c) (map period_value periods.new.items)) }
 {
     for frequency in frequencies {
         add_period(service, trip, frequency, passings, periods)?;
@@ -154,6 +161,11 @@ fn add_period(
     ensures within { OnOk result ((n : ℕ) → service.0 < n
         → All (λ lane. lane.service < n) (map period_value periods.old.items)
         → All (λ lane. lane.service < n) (map period_value periods.new.items)) }
+    ensures kind { OnOk result ((c : Content) (t : Trip) (place : ℕ)
+        → slice_get c.trips trip.0 ≡ Some t
+        → slice_get t.frequencies place ≡ Some (frequency_of frequency.now)
+        → All (IsPeriodLane c) (map period_value periods.old.items)
+        → All (IsPeriodLane c) (map period_value periods.new.items)) }
 {
     for passing in passings {
         let first = passing.event(trip, frequency.start_time.seconds());

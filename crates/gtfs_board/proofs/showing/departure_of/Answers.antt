@@ -2,6 +2,7 @@ use Rattle.std.proofs.Common.{◌≡◌, ◌<◌, ◌∙◌, Some, length, sym, 
 use Rattle.std.specs.Prelude.{slice_get}
 use Rattle.std.proofs.lemmas.Option.{slice_get-get_or}
 use Rattle.gtfs_feed.proofs.NumberFacts.{trip_route}
+use Rattle.gtfs_feed.proofs.TripFacts.{periods}
 use Rattle.gtfs_board.proofs.ShownRows.{periods_move, shown_rows, stop_within}
 use Rattle.gtfs_board.proofs.showing.departure_of.Goals as goal
 
@@ -30,8 +31,11 @@ headsign_of-requires c =
     let at : slice_get rs k ≡ Some r = slice_get-get_or rs k r inside ∙ ap Some (sym c.index-trip_rows-candidate.is) in
     (stop_within p c.soundness.ensures n rs k r c.trip_rows.ensures at).1
 
-pub mark_of-requires : goal.mark_of-requires
-mark_of-requires c =
+pub mark_of-requires-clause-apart : goal.mark_of-requires-clause-apart
+mark_of-requires-clause-apart c = periods c.args.feed.now c.soundness.ensures c.args.candidate.now.trip c.trip_frequencies.result.now c.trip_frequencies.ensures
+
+pub mark_of-requires-clause-moves : goal.mark_of-requires-clause-moves
+mark_of-requires-clause-moves c =
     periods_move c.args.feed.now c.soundness.ensures c.args.candidate.now.trip c.trip_by_number-trip.result.now c.trip_rows.result.now c.trip_frequencies.result.now
     c.trip_by_number-trip.ensures c.trip_rows.ensures c.trip_frequencies.ensures
 

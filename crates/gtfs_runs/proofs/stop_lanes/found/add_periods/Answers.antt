@@ -1,5 +1,9 @@
-use Rattle.std.proofs.Common.{◌≡◌, ◌+◌, ◌==◌, ◌∙◌, cond, length, map, get_or, ap}
+use Rattle.std.proofs.Common.{◌≡◌, ◌+◌, ◌==◌, ◌∙◌, Some, cond, length, map, get_or, sym, ap}
+use Rattle.std.specs.Prelude.{option_map}
+use Rattle.std.specs.List.{slice_get}
 use Rattle.std.proofs.lemmas.List.{get_or_default}
+use Rattle.std.proofs.lemmas.Option.{slice_get-get_or, slice_get-map}
+use Rattle.gtfs_rows.specs.Views.{frequency_of}
 use Rattle.gtfs_rows.specs.declared.frequency.Frequency.{Frequency}
 use Rattle.gtfs_runs.specs.StopLanes.{period_value}
 use Rattle.gtfs_runs.specs.steps.Finds.{times_passed, times_told}
@@ -21,4 +25,9 @@ loop-frequency-preserved c =
           (c.in_ok-add_period.ensures.told k e ∙ ap (λ f. times_told k e mid + cond (c.args.service.0 == k) (times_passed c.args.trip.0 e c.args.passings.now f) 0) same);
       counted = lanes_counted _ n (length c.args.passings.now) _ _ c.loop-frequency.invariant.counted c.in_ok-add_period.ensures.counted;
       within = λ m serves known. c.in_ok-add_period.ensures.within m serves (c.loop-frequency.invariant.within m serves known);
+      kind = λ k t at rows were.
+          let f = c.frequency-item.result in
+          let item : slice_get (map frequency_of fs) n ≡ Some (frequency_of f) =
+          slice_get-map frequency_of fs n ∙ ap (option_map frequency_of) (slice_get-get_or fs n f within ∙ ap Some (sym c.frequency-item.is)) in
+          c.in_ok-add_period.ensures.kind k t n at (ap (λ l. slice_get l n) rows ∙ item) (c.loop-frequency.invariant.kind k t at rows were);
     }

@@ -2,6 +2,7 @@ use Rattle.std.proofs.Common.{◌<◌, ◌+◌, ◌++◌, ◌∙◌, ◌==◌, �
 use Rattle.std.specs.List.{All}
 use Rattle.std.proofs.lemmas.List.{length-map}
 use Rattle.gtfs_feed.specs.Trips.{stop_rows_by_trip}
+use Rattle.gtfs_runs.specs.Kinds.{IsPeriodLane}
 use Rattle.gtfs_runs.specs.StopLanes.{period_value}
 use Rattle.gtfs_runs.specs.steps.Courses.{stopping_of, stops_in}
 use Rattle.gtfs_runs.specs.steps.Finds.{AreFound, stopping_at, times_passed_in, times_told}
@@ -45,5 +46,6 @@ returns c = λ s place was.
           (length-map c.if-is_empty.periods.items period_value ∙ size ∙ w.in_ok-add_periods.ensures.counted
           ∙ (λ i. sym (length-map c.args.periods.now.items period_value) i + length fs * length (found i)))
           (λ n serves known. subst (λ l. All (λ lane. lane.service < n) l) (sym new) (w.in_ok-add_periods.ensures.within n serves known))
+          (λ k v at rows were. subst (λ l. All (IsPeriodLane k) l) (sym new) (w.in_ok-add_periods.ensures.kind k v at rows were))
           (subst (λ v. AreFound p s t (map stopping_of v.items) periods) (sym w.listed-is) was)
     ]
