@@ -99,13 +99,30 @@ impl<S: Sink> Fields<S> {
         self.rows.next(field)
     }
 
+    // The same of one that is mostly empty.
+    pub(crate) fn text_if_any(&mut self, field: &str) -> Result<(), OutOfMemory>
+        ensures { OnOk result (self.new ≡ S.takes.next self.old field.now) }
+    {
+        match field {
+            "" => self.nothing(),
+            _ => self.text(field),
+        }
+    }
+
+    // An empty field.
+    fn nothing(&mut self) -> Result<(), OutOfMemory>
+        ensures { OnOk result (self.new ≡ S.takes.next self.old []) }
+    {
+        self.plain(b",")
+    }
+
     pub(crate) fn optional_text(&mut self, field: &Option<Text>) -> Result<(), OutOfMemory>
         ensures { OnOk result ((kind : Kind)
             → self.new ≡ S.takes.next self.old (cell_text kind (option_map word field.now))) }
     {
         match field {
             Some(text) => self.text(text.as_str()),
-            None => self.text(""),
+            None => self.nothing(),
         }
     }
 
@@ -143,7 +160,7 @@ impl<S: Sink> Fields<S> {
     {
         match number {
             Some(number) => self.number(number),
-            None => self.text(""),
+            None => self.nothing(),
         }
     }
 
@@ -154,7 +171,7 @@ impl<S: Sink> Fields<S> {
     {
         match number {
             Some(number) => self.number(number),
-            None => self.text(""),
+            None => self.nothing(),
         }
     }
 
@@ -183,7 +200,7 @@ impl<S: Sink> Fields<S> {
     {
         match clock {
             Some(clock) => self.time(clock),
-            None => self.text(""),
+            None => self.nothing(),
         }
     }
 
@@ -210,7 +227,7 @@ impl<S: Sink> Fields<S> {
     {
         match coord {
             Some(coord) => self.coord(coord),
-            None => self.text(""),
+            None => self.nothing(),
         }
     }
 
