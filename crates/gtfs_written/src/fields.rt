@@ -76,6 +76,7 @@ impl<S: Sink> Fields<S> {
     }
 
     // A further field that needs no quotes where it is known to be plain.
+    #[inline(always)]
     pub(crate) fn known_text(&mut self, field: &str, is_plain: bool) -> Result<(), OutOfMemory>
         requires { is_plain ≡ true → needs_quotes default_writer field.now ≡ false }
         ensures { OnOk result (self.new ≡ S.takes.next self.old field.now) }
@@ -126,6 +127,7 @@ impl<S: Sink> Fields<S> {
         }
     }
 
+    #[inline(always)]
     pub(crate) fn number(&mut self, number: u32) -> Result<(), OutOfMemory>
         ensures { OnOk result (self.new ≡ S.takes.next self.old (count_text number)) }
     {
@@ -164,6 +166,7 @@ impl<S: Sink> Fields<S> {
         }
     }
 
+    #[inline(always)]
     pub(crate) fn optional_choice(&mut self, number: Option<u32>) -> Result<(), OutOfMemory>
         ensures { OnOk result ((ranges : List (ℕ × ℕ))
             → self.new ≡ S.takes.next self.old
@@ -175,6 +178,7 @@ impl<S: Sink> Fields<S> {
         }
     }
 
+    #[inline(always)]
     pub(crate) fn time(&mut self, clock: Clock) -> Result<(), OutOfMemory>
         ensures { OnOk result (self.new ≡ S.takes.next self.old (time_text clock)) }
     {
