@@ -76,6 +76,7 @@ impl<S: Sink> Fields<S> {
     }
 
     // A further field that needs no quotes where it is known to be plain.
+    #[inline(always)]
     pub(crate) fn known_text(&mut self, field: &str, is_plain: bool) -> Result<(), OutOfMemory>
         requires { is_plain ≡ true → needs_quotes default_writer field.now ≡ false }
         ensures { OnOk result (self.new ≡ S.takes.next self.old field.now) }
@@ -99,16 +100,34 @@ impl<S: Sink> Fields<S> {
         self.rows.next(field)
     }
 
+    // The same of one that is mostly empty.
+    pub(crate) fn text_if_any(&mut self, field: &str) -> Result<(), OutOfMemory>
+        ensures { OnOk result (self.new ≡ S.takes.next self.old field.now) }
+    {
+        match field {
+            "" => self.nothing(),
+            _ => self.text(field),
+        }
+    }
+
+    // An empty field.
+    fn nothing(&mut self) -> Result<(), OutOfMemory>
+        ensures { OnOk result (self.new ≡ S.takes.next self.old []) }
+    {
+        self.plain(b",")
+    }
+
     pub(crate) fn optional_text(&mut self, field: &Option<Text>) -> Result<(), OutOfMemory>
         ensures { OnOk result ((kind : Kind)
             → self.new ≡ S.takes.next self.old (cell_text kind (option_map word field.now))) }
     {
         match field {
             Some(text) => self.text(text.as_str()),
-            None => self.text(""),
+            None => self.nothing(),
         }
     }
 
+    #[inline(always)]
     pub(crate) fn number(&mut self, number: u32) -> Result<(), OutOfMemory>
         ensures { OnOk result (self.new ≡ S.takes.next self.old (count_text number)) }
     {
@@ -143,10 +162,11 @@ impl<S: Sink> Fields<S> {
     {
         match number {
             Some(number) => self.number(number),
-            None => self.text(""),
+            None => self.nothing(),
         }
     }
 
+    #[inline(always)]
     pub(crate) fn optional_choice(&mut self, number: Option<u32>) -> Result<(), OutOfMemory>
         ensures { OnOk result ((ranges : List (ℕ × ℕ))
             → self.new ≡ S.takes.next self.old
@@ -154,10 +174,11 @@ impl<S: Sink> Fields<S> {
     {
         match number {
             Some(number) => self.number(number),
-            None => self.text(""),
+            None => self.nothing(),
         }
     }
 
+    #[inline(always)]
     pub(crate) fn time(&mut self, clock: Clock) -> Result<(), OutOfMemory>
         ensures { OnOk result (self.new ≡ S.takes.next self.old (time_text clock)) }
     {
@@ -183,7 +204,7 @@ impl<S: Sink> Fields<S> {
     {
         match clock {
             Some(clock) => self.time(clock),
-            None => self.text(""),
+            None => self.nothing(),
         }
     }
 
@@ -210,7 +231,7 @@ impl<S: Sink> Fields<S> {
     {
         match coord {
             Some(coord) => self.coord(coord),
-            None => self.text(""),
+            None => self.nothing(),
         }
     }
 

@@ -82,9 +82,7 @@ fn write_stop_time<S: Sink>(
     rows.optional_time(row.departure_time.get())?;
     rows.known_text(stop_id(parts, row.stop_id), has_plain_stops)?;
     rows.number(row.stop_sequence)?;
-    // Most stop times have none.
-    let headsign = headsign_if_any(parts, row.stop_headsign);
-    rows.known_text(headsign, headsign.is_empty())?;
+    rows.text_if_any(headsign_if_any(parts, row.stop_headsign))?;
     rows.number(row.pickup_type.number())?;
     rows.number(row.drop_off_type.number())?;
     rows.optional_choice(row.timepoint.map(Timepoint::number))?;
