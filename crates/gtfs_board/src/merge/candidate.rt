@@ -69,8 +69,12 @@ impl Ord for Candidate {
 
     ghost matches_eq = { Prim.search (comparing, rules) depth 16 };
 
+    // Mostly the instants decide, so that the others are compared where these are one alone.
     fn cmp(&self, other: &Candidate) -> Ordering {
-        other.cmp_departure(self).then(other.cmp_lane(self))
+        match other.instant.cmp(&self.instant) {
+            Ordering::Equal => other.cmp_departure(self).then(other.cmp_lane(self)),
+            decided => decided,
+        }
     }
 }
 
