@@ -1,7 +1,6 @@
 -- What is reported of the length of a row of stop_times.txt and of its fields.
-use Rattle.std.proofs.Common.{◌≡◌, ℕ, List, [], ◌∷◌, true, false, Bool, arith, refl, sym, ap, ◌∙◌, codes, map, Option, Some, None}
-use Rattle.std.specs.Prelude.{◌&&◌, ◌||◌, bytes_eq, if◌then◌else◌, is_some, nat_lt}
-use Rattle.std.proofs.lemmas.Bool.Decides.{nat_tests}
+use Rattle.std.proofs.Common.{◌≡◌, ℕ, List, [], ◌∷◌, true, false, Bool, refl, sym, ap, ◌∙◌, codes, map, Option, Some, None}
+use Rattle.std.specs.Prelude.{◌&&◌, ◌||◌, if◌then◌else◌, is_some}
 use Rattle.std.specs.List.{list_any}
 use Rattle.gtfs_table.specs.Tables.{Dataset}
 use Rattle.gtfs_table.specs.declared.file.File.TheVariants as file
@@ -19,7 +18,7 @@ use Rattle.gtfs_columns.specs.Problems.{Problem, is_listed, is_problem}
 use Rattle.gtfs_trip_rules.specs.Readings.{code_in, fault_in, is_blank}
 use Rattle.gtfs_columns.specs.Rows.{is_named}
 use Rattle.gtfs_trip_rules.specs.StopTimePicks.{at_row}
-use Rattle.gtfs_trip_rules.specs.StopTimes.{cells_of, fields_report, text_at, AreFine, AreStopTimeColumns, IsReading, IsRow, ReportsOfRow}
+use Rattle.gtfs_trip_rules.specs.StopTimes.{cells_of, fields_report, text_at, AreStopTimeColumns, IsReading, IsRow, ReportsOfRow}
 use Rattle.gtfs_columns.specs.Values.{Value, if_there}
 use Rattle.gtfs_table.specs.Rows.{is_empty}
 use Rattle.gtfs_columns.proofs.FieldRowFacts.{cell_at, cell_reported, empty_is, here_reported, length_reported}
@@ -58,51 +57,6 @@ or_later false b c = refl
 pub all_cells : (first : Problem → Bool) (cells : List Cell) (p : Problem) → reported_cells first cells p ≡ (first p || list_any (is_at p) cells)
 all_cells first [] p = or_none (first p)
 all_cells first (c ∷ cs) p = all_cells (λ q. first q || is_at q c) cs p ∙ or_later (first p) (is_at p c) (list_any (is_at p) cs)
-
--- ---- where nothing is wrong
-
-nothing_found : (name : List ℕ) (p : Problem) → is_found_at None name p ≡ false
-nothing_found name p = none_under (bytes_eq p.column name)
-  where
-    none_under : (b : Bool) → (b && false) ≡ false
-    none_under true = refl
-    none_under false = refl
-
-nothing_in : (names : List (List ℕ)) (p : Problem) → list_any (is_at p) (map (λ name. (name, None)) names) ≡ false
-nothing_in [] p = refl
-nothing_in (name ∷ names) p = rw (nothing_found name p, nothing_in names p) refl
-
-same_length : (a b : ℕ) → a ≡ b → length_code a b ≡ None
-same_length a b same =
-    let above : nat_lt b a ≡ false = grind (arith, nat_tests, same) in
-    let below : nat_lt a b ≡ false = grind (arith, nat_tests, same) in
-    rw (above, below) refl
-
-nothing_at : (l : Bool) (r : Bool) → l ≡ (l || (r && false))
-nothing_at true r = refl
-nothing_at false true = refl
-nothing_at false false = refl
-
-module _ (c : StopTimeColumns) (s : ReadStopTime) (ps : List Problem) (fine : AreFine c s) where
-  no_report : (p : Problem) → fields_report c s p ≡ false
-  no_report p =
-      (λ i. is_found_at (same_length c.width s.fields fine.width i) [] p || list_any (is_at p) (
-      (codes "trip_id", fine.trip_id i)
-      ∷ (codes "arrival_time", fine.arrival_time i)
-      ∷ (codes "departure_time", fine.departure_time i)
-      ∷ (codes "stop_id", fine.stop_id i)
-      ∷ (codes "stop_sequence", fine.stop_sequence i)
-      ∷ (codes "stop_headsign", fine.stop_headsign i)
-      ∷ (codes "pickup_type", fine.pickup_type i)
-      ∷ (codes "drop_off_type", fine.drop_off_type i)
-      ∷ (codes "timepoint", fine.is_exact i)
-      ∷ []))
-      ∙ (λ i. nothing_found [] p i || nothing_in (map (λ cell. cell.0) (cells_of c s)) p i)
-
-  -- nothing is reported
-  pub nothing_added : Adds (λ p. is_in_row file.StopTimes s.row p && fields_report c s p) ps ps
-  nothing_added p = nothing_at (is_listed ps p) (is_in_row file.StopTimes s.row p)
-      ∙ (λ i. is_listed ps p || (is_in_row file.StopTimes s.row p && sym (no_report p) i))
 
 -- ---- a field and its column
 

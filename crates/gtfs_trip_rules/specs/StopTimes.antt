@@ -1,5 +1,5 @@
 -- The rows of stop_times.txt, each field of which was read once.
-use Rattle.std.specs.Prelude.{◌≡◌, ℕ, ◌||◌, Bool, true, false, List, [], ◌∷◌, codes, option_and_then, option_map, Option, None, is_some, pos}
+use Rattle.std.specs.Prelude.{◌≡◌, ℕ, ◌||◌, Bool, true, false, List, [], ◌∷◌, codes, option_and_then, option_map, Option, is_some, pos}
 use Rattle.std.specs.List.{list_any}
 use Prim.Native.String.{String as Literal}
 use Rattle.gtfs_table.specs.Tables.{Dataset, column_of}
@@ -84,19 +84,6 @@ cells_of c s =
 -- the length of the row and its fields
 abbrev pub fields_report : StopTimeColumns → ReadStopTime → Problem → Bool
 fields_report c s p = is_found_at (length_code c.width s.fields) [] p || list_any (λ cell. is_found_at cell.1 cell.0 p) (cells_of c s)
-
--- nothing is wrong with the length of the row and with its fields
-pub record AreFine (c : StopTimeColumns) (s : ReadStopTime) : Type 0 where
-  pub width : c.width ≡ s.fields
-  pub trip_id : code_in (is_some c.trip_id) s.trip_id ≡ None
-  pub arrival_time : code_in false s.arrival_time ≡ None
-  pub departure_time : code_in false s.departure_time ≡ None
-  pub stop_id : code_in (is_some c.stop_id) s.stop_id ≡ None
-  pub stop_sequence : code_in (is_some c.stop_sequence) s.stop_sequence ≡ None
-  pub stop_headsign : s.stop_headsign ≡ None
-  pub pickup_type : code_in false s.pickup_type ≡ None
-  pub drop_off_type : code_in false s.drop_off_type ≡ None
-  pub is_exact : code_in false s.is_exact ≡ None
 
 -- the record is a row, and this is what it says
 pub record IsRow (d : Dataset) (s : ReadStopTime) : Type 0 where

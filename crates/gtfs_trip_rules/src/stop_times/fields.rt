@@ -1,52 +1,17 @@
-ghost use Rattle.std.specs.Prelude.{◌&&◌, IsTrue, OnOk};
+ghost use Rattle.std.specs.Prelude.{◌&&◌, OnOk};
 ghost use Rattle.gtfs_table.specs.declared.file.File.TheVariants as file;
 ghost use Rattle.gtfs_columns.specs.steps.FieldCodes.{is_found_at, is_in_row};
 ghost use Rattle.gtfs_columns.specs.steps.Found.{Adds};
-ghost use Rattle.gtfs_trip_rules.specs.StopTimes.{fields_report, AreFine};
+ghost use Rattle.gtfs_trip_rules.specs.StopTimes.{fields_report};
 
 use crate::stop_times::columns::{ReadStopTime, StopTimeColumns};
 use crate::stop_times::problem;
 use gtfs_columns::{Code, Found, length_code};
 use gtfs_field::OutOfMemory;
 
-// Reports what is wrong with the length of a row and with its fields, where one look at all of them
-// finds that something is.
-pub(crate) fn report_fields<'a>(
-    columns: &StopTimeColumns<'a>,
-    stop_time: &ReadStopTime<'a>,
-    found: &mut Found<'a>,
-) -> Result<(), OutOfMemory>
-    ensures { OnOk result (Adds (λ p. is_in_row file.StopTimes stop_time.now.row p
-        && fields_report columns.now stop_time.now p) found.old found.new) }
-{
-    if are_fine(columns, stop_time) {
-        Ok(())
-    } else {
-        report_each(columns, stop_time, found)
-    }
-}
-
-// Whether nothing is wrong with the length of a row and with its fields.
-#[inline(always)]
-fn are_fine(columns: &StopTimeColumns<'_>, stop_time: &ReadStopTime<'_>) -> bool
-    ensures { IsTrue result → AreFine columns.now stop_time.now }
-{
-    columns.width == stop_time.fields
-        && stop_time.trip_id.is_value()
-        && stop_time.arrival_time.is_fine()
-        && stop_time.departure_time.is_fine()
-        && stop_time.stop_id.is_value()
-        && stop_time.stop_sequence.is_value()
-        && stop_time.stop_headsign.is_none()
-        && stop_time.pickup_type.is_fine()
-        && stop_time.drop_off_type.is_fine()
-        && stop_time.is_exact.is_fine()
-}
-
-// Reports what is wrong with the length of a row and with each of its fields. A column that the header does
+// Reports what is wrong with the length of a row and with its fields. A column that the header does
 // not name has to be filled in no row.
-#[cold]
-fn report_each<'a>(
+pub(crate) fn report_fields<'a>(
     columns: &StopTimeColumns<'a>,
     stop_time: &ReadStopTime<'a>,
     found: &mut Found<'a>,

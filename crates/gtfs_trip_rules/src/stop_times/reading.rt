@@ -1,4 +1,4 @@
-ghost use Rattle.std.specs.Prelude.{◌≡◌, Bool, false, option_map, pos, IsTrue, None};
+ghost use Rattle.std.specs.Prelude.{◌≡◌, option_map, pos};
 ghost use Rattle.gtfs_columns.specs.Columns.{count, time, up_to};
 ghost use Rattle.gtfs_trip_rules.specs.KeptChoices.{boarding_number, exact_number};
 ghost use Rattle.gtfs_trip_rules.specs.Readings.{code_in, fault_in, fault_of, is_blank, value_in, value_or};
@@ -27,30 +27,6 @@ impl<V: Copy> Reading<V> {
             Reading::Empty => true,
             Reading::Fault(_) => false,
             Reading::Value(_) => false,
-        }
-    }
-
-    // Whether there is a value, so that nothing is wrong with the field of any column.
-    #[inline(always)]
-    pub(crate) fn is_value(&self) -> bool
-        ensures { IsTrue result → (is_required : Bool) → code_in is_required self.now ≡ None }
-    {
-        match self {
-            Reading::Empty => false,
-            Reading::Fault(_) => false,
-            Reading::Value(_) => true,
-        }
-    }
-
-    // Whether nothing is wrong with the field of a column that may be empty.
-    #[inline(always)]
-    pub(crate) fn is_fine(&self) -> bool
-        ensures { IsTrue result → code_in false self.now ≡ None }
-    {
-        match self {
-            Reading::Empty => true,
-            Reading::Fault(_) => false,
-            Reading::Value(_) => true,
         }
     }
 
