@@ -56,7 +56,11 @@ fn meets_earlier<'a>(
         Some((trip, start, end)) => {
             covered.last = trip;
             let meets = covered.meets(trip, start, end);
-            covered.add(trip, start, end)?;
+            if meets {
+                covered.add(trip, start, end)?;
+            } else {
+                covered.put(trip, start, end)?;
+            }
             Ok(meets)
         }
         None => Ok(false),

@@ -62,7 +62,19 @@ impl<'a> Covered<'a> {
             first = first.min(met_start);
             past = past.max(met_end);
         }
-        self.spans.insert((trip, first), past)?;
+        self.put(trip, first, past)
+    }
+
+    // Covers the seconds of a period of which none is covered.
+    pub(crate) fn put(&mut self, trip: &'a str, start: u32, end: u32) -> Result<(), OutOfMemory>
+        requires { covers self.old.spans trip.now start end ≡ false }
+        ensures { OnOk result ((t : List ℕ) (s e : ℕ) → covers self.new.spans t s e
+            ≡ (covers self.old.spans t s e || (bytes_eq t trip.now && shares start end s e))) }
+    {
+        if start >= end {
+            return Ok(());
+        }
+        self.spans.insert((trip, start), end)?;
         Ok(())
     }
 }

@@ -1,6 +1,6 @@
 ghost use Rattle.std.specs.Prelude.{◌≡◌};
 ghost use Rattle.gtfs_trip_rules.specs.KeptRow.{with_trip};
-ghost use Rattle.gtfs_trip_rules.specs.KeptTimes.{arrival_time, arrives, departs, departure_time, is_placed, is_untimed};
+ghost use Rattle.gtfs_trip_rules.specs.KeptTimes.{arrival_time, arrives, departs, departure_time, is_placed, is_timed, is_untimed};
 
 /// How passengers board at a stop or get off (GTFS Schedule Reference, `pickup_type` and
 /// `drop_off_type` of stop_times.txt).
@@ -108,27 +108,28 @@ impl StopTime {
     pub(crate) fn arrives(&self) -> Option<u32>
         ensures { result ≡ arrives self.now }
     {
-        match self.times {
-            Times::Both => Some(self.arrival),
-            Times::Arrival => Some(self.arrival),
-            Times::Departure => Some(self.arrival),
-            Times::Neither => None,
-            Times::Unclear => None,
-            Times::Unplaced => None,
-        }
+        self.is_timed().then_some(self.arrival)
     }
 
     // When it is left: at its departure time, and else at its arrival time.
     pub(crate) fn departs(&self) -> Option<u32>
         ensures { result ≡ departs self.now }
     {
+        self.is_timed().then_some(self.departure)
+    }
+
+    // Whether it has a time, and none that is not as it has to be.
+    #[inline(always)]
+    fn is_timed(&self) -> bool
+        ensures { result ≡ is_timed self.now.times }
+    {
         match self.times {
-            Times::Both => Some(self.departure),
-            Times::Arrival => Some(self.departure),
-            Times::Departure => Some(self.departure),
-            Times::Neither => None,
-            Times::Unclear => None,
-            Times::Unplaced => None,
+            Times::Both => true,
+            Times::Arrival => true,
+            Times::Departure => true,
+            Times::Neither => false,
+            Times::Unclear => false,
+            Times::Unplaced => false,
         }
     }
 

@@ -1,7 +1,8 @@
+use Rattle.std.proofs.lemmas.Result.{on_ok_weaker}
 use Rattle.std.proofs.Common.{arith, ◌<◌, ap, ◌∙◌, bytes_eq, sym}
 use Rattle.std.specs.Prelude.{◌&&◌, ◌||◌, min}
-use Rattle.gtfs_trip_rules.proofs.SpanFacts.{taken_out, put_in}
-use Rattle.gtfs_trip_rules.proofs.SpanChanges.{absent, joined, merged, or_turned, out_apart, out_filled, settled}
+use Rattle.gtfs_trip_rules.proofs.SpanFacts.{taken_out}
+use Rattle.gtfs_trip_rules.proofs.SpanChanges.{joined, merged, out_apart, out_filled}
 use Rattle.gtfs_trip_rules.proofs.periods.covered.Covered.add.Goals as goal
 use Rattle.gtfs_trip_rules.specs.SpanView.{Key, covers, shares}
 
@@ -32,17 +33,5 @@ loop-met_start-preserved c = let old = c.loop-met_start.self in
           ∙ c.loop-met_start.invariant.same t s e;
     }
 
-pub invariant_of-self-2 : goal.invariant_of-self-2
-invariant_of-self-2 c = let old = c.loop-met_start.self in
-    let both = settled old.spans c.args.trip c.loop-met_start.first c.loop-met_start.past old.filled c.loop-met_start.invariant.filled c.in_default.ensures
-    c.insert.new.self c.insert.result old.apart c.insert.ensures.updates c.insert.ensures.err in
-    record { filled = both.0; apart = both.1 }
-
 pub returns : goal.returns
-returns c = let old = c.loop-met_start.self in
-    let a = c.loop-met_start.first in
-    let b = c.loop-met_start.past in
-    let none = absent old.spans c.args.trip a b old.filled c.loop-met_start.invariant.filled c.in_default.ensures in
-    λ t s e. put_in old.spans c.insert.new.self (c.args.trip, a) b none c.in_ok-insert.ensures.entries t s e
-    ∙ or_turned (bytes_eq t c.args.trip.now && shares a b s e) (covers old.spans t s e)
-    ∙ c.loop-met_start.invariant.same t s e
+returns c = on_ok_weaker c.put.result (λ put. λ t s e. put t s e ∙ c.loop-met_start.invariant.same t s e) c.put.ensures
