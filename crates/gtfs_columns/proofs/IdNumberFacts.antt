@@ -20,9 +20,11 @@ use Rattle.gtfs_columns.specs.IdNumbers.{first_rows}
 use Rattle.gtfs_columns.specs.Rows.{text_in}
 use Rattle.gtfs_columns.specs.steps.IdRows.{id_of, listed_row}
 use Rattle.gtfs_columns.specs.Values.{has_control}
-use Rattle.std.specs.List.{All}
-use Rattle.std.proofs.lemmas.List.Elements.{All-map}
-use Rattle.gtfs_columns.specs.steps.Ids.{AreClear, IdColumn, IsIdIndex, first_row_with, ids_of, number_with, rows_by_number}
+use Rattle.std.specs.List.{All, list_all}
+use Rattle.std.proofs.lemmas.Bool.{not-true}
+use Rattle.std.proofs.lemmas.List.Folds.{list_all-map}
+use Rattle.std.proofs.lemmas.List.Sums.{AllPass-from_list_all}
+use Rattle.gtfs_columns.specs.steps.Ids.{IdColumn, IsIdIndex, are_clear, first_row_with, ids_of, number_with, rows_are_clear, rows_by_number}
 use Rattle.gtfs_columns.proofs.IdFacts.{earlier, id_and_row, paired_numbers, paired_rows, row_paired}
 use Rattle.std.proofs.lemmas.List.Quantifiers.{position-Some}
 use Rattle.std.proofs.lemmas.Option.{slice_get-get_or}
@@ -193,11 +195,14 @@ module _ (i : IdColumn) (id : List ℕ) where
       let at = position-Some (λ k. bytes_eq k id) (ids_of i) n [] e in
       slice_get-get_or (ids_of i) n [] at.0 ∙ ap Some (text_is (get_or (ids_of i) n []) id at.1)
 
--- where the listed ids have no control character, no id with a number has one
-pub clear_numbered : (i : IdColumn) (listed : List IdRow) → IsIdIndex i listed → AreClear listed
-    → (id : List ℕ) (n : ℕ) → number_with i id ≡ Some n → has_control id ≡ false
-clear_numbered i listed index clear id n e =
+-- the ids have no control character where the listed ones have none
+pub clear_listed : (i : IdColumn) (listed : List IdRow) → IsIdIndex i listed → rows_are_clear listed ≡ are_clear i
+clear_listed i listed index =
+    sym (ap (list_all (λ k. not (has_control k))) (listed_ids i listed index) ∙ list_all-map (λ k. not (has_control k)) id_of listed)
+
+-- where no id has a control character, none that has a number has one
+pub clear_numbered : (i : IdColumn) → are_clear i ≡ true → (id : List ℕ) (n : ℕ) → number_with i id ≡ Some n → has_control id ≡ false
+clear_numbered i clear id n e =
     let at = position-Some (λ k. bytes_eq k id) (ids_of i) n [] e in
-    let all : All (λ k. has_control k ≡ false) (ids_of i) =
-    subst (All (λ k. has_control k ≡ false)) (sym (listed_ids i listed index)) (All-map (λ k. has_control k ≡ false) id_of listed clear) in
-    subst (λ (k : List ℕ). has_control k ≡ false) (text_is (get_or (ids_of i) n []) id at.1) (all n [] at.0)
+    let all : All (λ k. not (has_control k) ≡ true) (ids_of i) = AllPass-from_list_all (λ k. not (has_control k)) (ids_of i) clear in
+    not-true (has_control id) (subst (λ (k : List ℕ). not (has_control k) ≡ true) (text_is (get_or (ids_of i) n []) id at.1) (all n [] at.0))

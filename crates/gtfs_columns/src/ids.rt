@@ -1,6 +1,5 @@
-ghost use Rattle.std.specs.Prelude.{◌≡◌, ◌<◌, ◌^◌, ℕ, false, length, option_map, slice_index_or, IfOk, IfSome, IsTrue, List, Some};
-ghost use Rattle.gtfs_columns.specs.Values.{has_control};
-ghost use Rattle.gtfs_columns.specs.steps.Ids.{first_row_with, number_with, ids_in, ids_of, rows_by_number, AreClear, ListsFirstRows};
+ghost use Rattle.std.specs.Prelude.{◌≡◌, ◌<◌, ◌^◌, length, option_map, slice_index_or, IfOk, IfSome, Some};
+ghost use Rattle.gtfs_columns.specs.steps.Ids.{are_clear, first_row_with, number_with, ids_in, ids_of, rows_are_clear, rows_by_number, ListsFirstRows};
 
 use crate::cell::holds_control;
 use crate::finder::FoundId;
@@ -71,8 +70,7 @@ impl<'a> Ids<'a> {
     /// Whether no id holds a control character, so that a text that is an id holds none either.
     #[inline(always)]
     pub fn are_clear(&self) -> bool
-        ensures { IsTrue result → (id : List ℕ) (n : ℕ) → number_with self.now id ≡ Some n
-            → has_control id ≡ false }
+        ensures { result ≡ are_clear self.now }
     {
         self.are_clear
     }
@@ -136,7 +134,7 @@ impl<'a> Ids<'a> {
 
 // Whether no id holds a control character.
 fn are_clear(rows: &[IdRow<'_>]) -> bool
-    ensures { IsTrue result → AreClear rows.now }
+    ensures { result ≡ rows_are_clear rows.now }
 {
     rows.iter().all(|row| !holds_control(row.bytes()))
 }

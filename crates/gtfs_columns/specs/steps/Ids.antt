@@ -1,6 +1,6 @@
 -- The ids of one column of one file, and the first row of each.
-use Rattle.std.specs.Prelude.{◌≡◌, ℕ, Bool, true, false, List, Option}
-use Rattle.std.specs.List.{All}
+use Rattle.std.specs.Prelude.{◌≡◌, ℕ, Bool, not, List, Option}
+use Rattle.std.specs.List.{list_all}
 use Rattle.std.specs.FinMap as table
 use Rattle.std.specs.List.Sorted.{IsStrictlySortedBy}
 use Rattle.std.specs.Ordering.{on}
@@ -47,11 +47,15 @@ pub record IsIdIndex (i : IdColumn) (rows : List IdRow) : Type 0 where
   pub ascending : IsStrictlySortedBy (on id_of text_cmp) rows
   pub first : ListsFirstRows i rows
 
--- no id has a control character
-abbrev pub AreClear : List IdRow → Type 0
-AreClear rows = All (λ r. has_control (id_of r) ≡ false) rows
+-- no id of a column has a control character
+abbrev pub are_clear : IdColumn → Bool
+are_clear i = list_all (λ id. not (has_control id)) (ids_of i)
 
--- an index, and whether its ids are known to have no control character
-pub record IsClearIndex (i : IdColumn) (rows : List IdRow) (are_clear : Bool) : Type 0 where
+-- the same of ids as they are listed
+abbrev pub rows_are_clear : List IdRow → Bool
+rows_are_clear rows = list_all (λ r. not (has_control (id_of r))) rows
+
+-- an index, and whether its ids have no control character
+pub record IsClearIndex (i : IdColumn) (rows : List IdRow) (is_clear : Bool) : Type 0 where
   pub index : IsIdIndex i rows
-  pub clear : are_clear ≡ true → AreClear rows
+  pub clear : is_clear ≡ rows_are_clear rows

@@ -9,5 +9,5 @@ invariant_of-result c = record {
     ascending = ascending_once _ c.in_ok-sort.ensures.sorted;
     first = λ id. listed_sorted id _ _ c.in_ok-sort.ensures.stable ∙ c.in_ok-rows.ensures id;
   });
-  clear = λ is. rw c.deref.ensures.value at (c.are_clear-are_clear.ensures is);
+  clear = rw c.deref.ensures.value at c.are_clear-are_clear.ensures;
 }
