@@ -1,10 +1,10 @@
 -- A text cut of its blanks.
-use Rattle.std.proofs.Common.{◌≡◌, ◌<◌, ◌+◌, ◌-◌, ◌∷◌, ◌++◌, ◌∙◌, [], ℕ, List, length, take, drop, get_or, reverse, refl, sym, ap, subst, arith, true, false, inl, inr}
+use Rattle.std.proofs.Common.{◌≡◌, ◌==◌, ◌<◌, ◌+◌, ◌-◌, ◌∷◌, ◌++◌, ◌∙◌, [], ℕ, List, length, take, drop, get_or, reverse, refl, sym, ap, subst, arith, true, false, inl, inr}
 use Rattle.std.specs.Str.{IsUtf8}
 use Rattle.std.proofs.Math.Seq.{take-append_seam}
-use Rattle.std.proofs.lemmas.Bool.{cases_Bool}
+use Rattle.std.proofs.lemmas.Bool.{cases_Bool, ne_eqb}
 use Rattle.std.proofs.lemmas.Bool.Decides.{nat_tests}
-use Rattle.std.proofs.lemmas.List.{reverse-append, reverse-reverse, take_more, take_all, length_push, get_or_at}
+use Rattle.std.proofs.lemmas.List.{length-reverse, reverse-append, reverse-reverse, take_more, take_all, length_push, get_or_at}
 use Rattle.std.proofs.lemmas.Str.{IsUtf8-past_char, encode_ascii, IsUtf8-take, IsCharBoundary-before_ascii}
 use Rattle.gtfs_table.specs.Blanks.{is_blank, without_first_blanks, cut}
 
@@ -94,3 +94,21 @@ nothing-cut xs h first last = rw (start-other xs h first) (sym (end-other xs h l
 
 pub none-cut : (xs : List ℕ) → length xs < 1 → cut xs ≡ xs
 none-cut xs h = rw (sym (start-none xs h)) (sym (end-none xs h))
+
+-- of a text that begins with no blank something is left
+kept-last : (xs : List ℕ) (b : ℕ) → is_blank b ≡ false → 0 < length (without_first_blanks (xs ++ b ∷ []))
+unfolding without_first_blanks
+kept-last [] b e = rw e (omega arith)
+kept-last (x ∷ xs) b e = elim (cases_Bool (is_blank x)) [
+  | inl is ↦ rw is (kept-last xs b e)
+  | inr not ↦ rw not (omega arith)
+]
+
+pub something-left : (xs : List ℕ) → 0 < length xs → is_blank (get_or xs 0 0) ≡ false → (length (cut xs) == 0) ≡ false
+something-left [] h e = absurd (omega arith)
+something-left (b ∷ bs) h e =
+    let same : without_first_blanks (b ∷ bs) ≡ b ∷ bs = first-other b bs e in
+    let round : reverse (b ∷ bs) ≡ reverse bs ++ b ∷ [] = reverse-append (b ∷ []) bs in
+    let some = kept-last (reverse bs) b e in
+    let size = length-reverse (without_first_blanks (reverse bs ++ b ∷ [])) in
+    rw (same, round) (ne_eqb _ 0 (λ z. omega arith))

@@ -1,11 +1,12 @@
 -- Fields and columns of a table.
-use Rattle.std.proofs.Common.{◌≡◌, ◌<◌, ◌+◌, ◌-◌, ◌==◌, ◌∷◌, ◌∙◌, ◌⊎◌, [], ℕ, zero, suc, List, Bool, Some, None, length, take, get_or, refl, sym, ap, arith, true, false, inl, inr}
+use Rattle.std.proofs.Common.{◌≡◌, ◌<◌, ◌+◌, ◌-◌, ◌==◌, ◌∷◌, ◌∙◌, ◌⊎◌, [], ℕ, zero, suc, List, Bool, Some, None, length, not, take, get_or, refl, sym, ap, arith, true, false, inl, inr}
 use Rattle.std.specs.Prelude.{position, bytes_eq}
-use Rattle.std.specs.List.{position_from}
+use Rattle.std.specs.List.{list_any, position_from}
 use Rattle.std.proofs.lemmas.Bool.{cases_Bool, ne_eqb}
 use Rattle.std.proofs.lemmas.List.{get_or_past}
 use Rattle.std.proofs.lemmas.Iterator.Adapters.{position_from-zero}
 use Rattle.gtfs_table.specs.Blanks.{cut}
+use Rattle.gtfs_table.proofs.BlankFacts.{none-cut}
 use Rattle.gtfs_table.specs.Tables.{Records, record_at, field_cut, column_of}
 
 -- a row that is not there
@@ -48,3 +49,8 @@ pub column-at : (rs : Records) (name : List ℕ) (n : ℕ) → (length name == 0
 column-at rs name n some before h here =
     let p : List ℕ → Bool = λ column. bytes_eq (cut column) name in
     rw some (sym (position-at p (record_at rs 1) n [] before h here))
+
+-- a record whose first field has a value has one
+pub first-value : (fields : List (List ℕ)) → (length (cut (get_or fields 0 [])) == 0) ≡ false → list_any (λ field. not (length (cut field) == 0)) fields ≡ true
+first-value [] e = absurd (cc (e, none-cut [] (omega arith)))
+first-value (x ∷ fields) e = rw e refl

@@ -8,6 +8,7 @@ use Rattle.gtfs_table.specs.declared.state.State.TheVariants as state
 use Rattle.gtfs_table.specs.declared.texts.Texts.TheInside as texts
 use Rattle.gtfs_table.specs.declared.record.Record.TheInside as one
 use Rattle.gtfs_table.specs.declared.records.Records.TheInside as records
+use Rattle.gtfs_table.specs.declared.rows.Rows.TheInside as rows
 use Rattle.gtfs_table.specs.declared.table.FileTable.TheInside as table
 
 -- texts one after the other, each from its offset on
@@ -37,6 +38,11 @@ pub record IsRecordWithin (r : one.Inside) : Type 0 where
   pub rising : r.start ≤ r.end
   pub within : r.end ≤ length r.fields.now
   pub near : TellsFields r.bytes.now r.places.now (record_in r)
+
+-- the records are counted, and the header is among those passed
+pub record AreRowsWithin (r : rows.Inside) : Type 0 where
+  pub counted : r.count ≡ length r.records.now
+  pub passed : 0 < r.passed
 
 -- a kept file, which has records only where it was read
 abbrev pub table_with : State → Records → Table

@@ -1,5 +1,6 @@
 ghost use Rattle.std.specs.Prelude.{◌≡◌, reverse, true, false};
 ghost use Rattle.gtfs_table.specs.Blanks.{cut, is_blank as blank_of, without_first_blanks};
+ghost use Rattle.gtfs_table.specs.Rows.{is_empty};
 
 // The text without the blanks at its ends: a blank is a space or a control character (codes 0 to 31, and 127).
 #[inline(always)]
@@ -30,6 +31,15 @@ fn has_visible_ends(bytes: &[u8]) -> bool
         return true;
     }
     is_visible(bytes[0]) && is_visible(bytes[bytes.len() - 1])
+}
+
+// Whether something is left of a text, as its first byte tells of most.
+#[inline(always)]
+pub(crate) fn begins_visible(text: &str) -> bool
+    ensures { result ≡ true → is_empty (cut text.now) ≡ false }
+{
+    let bytes = text.as_bytes();
+    !bytes.is_empty() && is_visible(bytes[0])
 }
 
 #[inline(always)]

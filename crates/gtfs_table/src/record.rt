@@ -1,4 +1,4 @@
-ghost use Rattle.std.specs.Prelude.{◌≡◌, ◌==◌, ◌≤◌, ◌-◌, not, [], length, take, drop, slice_index_or};
+ghost use Rattle.std.specs.Prelude.{◌≡◌, ◌==◌, ◌≤◌, ◌-◌, true, not, [], length, take, drop, slice_index_or};
 ghost use Rattle.std.specs.List.{list_any};
 ghost use Rattle.gtfs_table.specs.Blanks.{cut};
 ghost use Rattle.gtfs_table.specs.Rows.{is_empty};
@@ -66,8 +66,24 @@ impl<'a> Record<'a> {
     }
 
     /// Whether it has a field that is not blank, as a row has.
-    #[inline]
+    #[inline(always)]
     pub fn has_value(&self) -> bool
+        ensures { result ≡ list_any (λ field. not (is_empty (cut field))) self.now }
+    {
+        self.begins_visible() || self.has_value_anywhere()
+    }
+
+    // Whether its first byte tells that it has a value, as that of most rows.
+    #[inline(always)]
+    fn begins_visible(&self) -> bool
+        ensures { result ≡ true → list_any (λ field. not (is_empty (cut field))) self.now ≡ true }
+    {
+        blanks::begins_visible(self.raw(0))
+    }
+
+    // The same where a search for a value is needed: no call, which would want the record in memory.
+    #[inline(always)]
+    fn has_value_anywhere(&self) -> bool
         ensures { result ≡ list_any (λ field. not (is_empty (cut field))) self.now }
     {
         for n in 0..self.len() {

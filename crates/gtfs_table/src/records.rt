@@ -1,4 +1,4 @@
-ghost use Rattle.std.specs.Prelude.{All, ◌≡◌, ◌<◌, ◌++◌, ◌∷◌, [], length, IfOk, OnOk, OnErr, slice_index_or};
+ghost use Rattle.std.specs.Prelude.{All, ◌≡◌, ◌<◌, ◌+◌, ◌++◌, ◌∷◌, [], length, IfOk, OnOk, OnErr, slice_index_or};
 ghost use Rattle.csv.specs.Records.{AllText, IsRecord, fields_of};
 ghost use Rattle.gtfs_table.specs.Parts.{add_to_last};
 ghost use Rattle.gtfs_table.specs.Tables.{record_at};
@@ -68,7 +68,16 @@ impl Records {
         if row == 0 || row > self.starts.len() {
             return Record::new(&self.fields, 0, 0);
         }
-        let (start, end) = self.starts.span(row - 1, self.fields.len());
+        self.record_after(row - 1)
+    }
+
+    // The record after the first ones, as many as `passed`.
+    #[inline(always)]
+    pub(crate) fn record_after(&self, passed: usize) -> Record<'_>
+        requires { passed < length self.now }
+        ensures { result ≡ record_at self.now (passed + 1) }
+    {
+        let (start, end) = self.starts.span(passed, self.fields.len());
         Record::new(&self.fields, start, end)
     }
 

@@ -12,6 +12,7 @@ use std::marker::Model;
 #[derive(Drop)]
 pub struct Rows<'a> {
     records: &'a Records,
+    count: usize,
     passed: usize,
 }
 
@@ -23,7 +24,9 @@ impl<'a> Model for Rows<'a> {
 
     ghost view = { λ r. rows_past r.records.now r.passed };
 
-    ghost invariant = { λ r. 0 < r.passed };
+    ghost use Rattle.gtfs_table.specs.Storage.{AreRowsWithin};
+
+    ghost invariant = { AreRowsWithin };
 }
 
 impl<'a> Rows<'a> {
@@ -32,7 +35,11 @@ impl<'a> Rows<'a> {
         requires { 0 < passed }
         ensures { result ≡ rows_past records.now passed }
     {
-        Rows { records, passed }
+        Rows {
+            records,
+            count: records.len(),
+            passed,
+        }
     }
 }
 
@@ -45,11 +52,11 @@ impl<'a> Iterator for Rows<'a> {
 
     ghost remaining = { item_count (λ rows. rows) };
 
-    #[inline]
+    #[inline(always)]
     fn next(&mut self) -> Option<(usize, Record<'a>)> {
-        while self.passed < self.records.len() {
+        while self.passed < self.count {
+            let record = self.records.record_after(self.passed);
             self.passed += 1;
-            let record = self.records.record(self.passed);
             if record.has_value() {
                 return Some((self.passed, record));
             }

@@ -2,7 +2,7 @@ use Rattle.std.proofs.Common.{◌≡◌, not, false, take}
 use Rattle.std.specs.List.{list_any}
 use Rattle.gtfs_table.specs.Blanks.{cut}
 use Rattle.gtfs_table.specs.Rows.{is_empty}
-use Rattle.gtfs_table.proofs.record.Record.has_value.Given as goal
+use Rattle.gtfs_table.proofs.record.Record.has_value_anywhere.Given as goal
 
 -- the fields so far are blank
 abbrev pub invariant-loop-n : goal.invariant-loop-n
