@@ -1,5 +1,6 @@
 pub mod DayFacts
 pub mod IdleFacts
+pub mod JoinedLists
 pub mod KeptFacts
 pub mod PeriodFacts
 pub mod PeriodReports

@@ -4,3 +4,4 @@ pub(crate) mod numbers;
 pub(crate) mod order;
 pub(crate) mod row;
 pub(crate) mod row_counts;
+mod stretches;

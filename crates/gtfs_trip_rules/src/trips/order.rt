@@ -14,6 +14,7 @@ ghost use Rattle.gtfs_trip_rules.specs.TripStopTimes.{trip_stop_time, trip_stop_
 
 use crate::trips::notes::TripNotes;
 use crate::trips::row::StopTime;
+use crate::trips::stretches::by_stretches;
 use gtfs_columns::{Code, FileName, Found, Problem};
 use gtfs_field::OutOfMemory;
 use gtfs_table::{File, Tables};
@@ -42,11 +43,12 @@ pub fn report_order<'a>(
 
 // The rows by trip, sequence and row. Where they stand in this order already, as they mostly do,
 // one pass finds it so.
-fn in_order(mut rows: Vec<StopTime>) -> Vec<StopTime>
+fn in_order(rows: Vec<StopTime>) -> Vec<StopTime>
     ensures order { (d : Dataset) → AreRowsNumbered (trip_stop_times_in d) rows.items
         → AreInOrder d result.items }
     ensures moved { IsPermutation rows.items result.items }
 {
+    let mut rows = by_stretches(rows);
     rows.sort_unstable_by(|a, b| order(a, b));
     rows
 }
