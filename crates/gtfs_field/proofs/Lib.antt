@@ -4,7 +4,12 @@ pub mod CoordinateTexts
 mod Coordinates
 pub mod Dates
 mod Fractions
+pub mod ListFacts
+pub mod NumberFacts
 pub mod Numerals
+pub mod OptionFacts
+pub mod OrderingFacts
+pub mod TestFacts
 pub mod Texts
 mod TimeColons
 mod Times
