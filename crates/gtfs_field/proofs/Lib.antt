@@ -1,4 +1,4 @@
-mod Choices
+pub mod Choices
 pub mod Colours
 pub mod CoordinateTexts
 mod Coordinates

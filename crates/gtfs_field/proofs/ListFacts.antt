@@ -1,5 +1,5 @@
 -- Lists: the first that passes a test, tests of all and of any, and elements by their indices.
-use Rattle.std.proofs.Common.{◌≡◌, ◌∙◌, ◌+◌, ◌++◌, ◌<◌, ◌≤◌, ℕ, zero, suc, Bool, true, false, cond, not, List, [], ◌∷◌, length, map, take, drop, get_or, max, nat_lt, count_by, Some, refl, sym, ap, subst, arith}
+use Rattle.std.proofs.Common.{◌≡◌, ◌∙◌, ◌+◌, ◌++◌, ◌<◌, ◌≤◌, ℕ, zero, suc, Bool, true, false, cond, not, List, [], ◌∷◌, length, map, take, drop, get_or, max, nat_lt, count_by, Some, refl, ap, subst, arith}
 use Rattle.std.specs.Prelude.{◌||◌, option_map, position}
 use Rattle.std.specs.List.{AllPairs, fold, list_all, list_any, position_or_len, range_with_len, slice_get}
 use Rattle.std.proofs.lemmas.Bool.{and_parts}

@@ -1,5 +1,5 @@
 -- What a comparison says, and what one that goes by two comparisons says of each.
-use Rattle.std.proofs.Common.{◌≡◌, ◌<◌, ◌≤◌, ℕ, true, false, T, ℤ, ◌<ℤ◌, int_cmp, nat_lt, refl, ◌==◌, arith}
+use Rattle.std.proofs.Common.{◌≡◌, ◌<◌, ◌≤◌, ℕ, true, T, ℤ, ◌<ℤ◌, int_cmp, refl, arith}
 use Rattle.std.specs.Ordering.{is_eq, is_lt, nat_cmp, ordering_then}
 use Rattle.std.specs.declared.cmp.Ordering.{Ordering}
 use Rattle.std.specs.declared.cmp.Ordering.TheVariants.{Less, Equal, Greater}
