@@ -1,7 +1,7 @@
 -- What the error output is told.
-use Rattle.std.proofs.Common.{◌≡◌, refl, subst, sym, ℕ, inl, inr, List, Option, Some, None, Result, Ok, Err, take, drop, take-append-drop}
+use Rattle.std.proofs.Common.{◌≡◌, subst, sym, ℕ, inl, inr, List, Result, Ok, Err, take, drop, take-append-drop}
 use Rattle.std.specs.Prelude.{IfErr, OnErr, OnOk}
-use Rattle.std.specs.Io.KnownBytes.{Appends, Keeps}
+use Rattle.std.specs.Io.KnownBytes.{Appends}
 use Rattle.gtfs_table.specs.Device.{Rises}
 use Rattle.gtfs_table.specs.declared.output.OutFault.{OutFault}
 use Rattle.gtfs_cli.specs.Sending.{Output, Sends}
@@ -12,8 +12,3 @@ pub sent-so : {A : Type 0} (r : Result A OutFault) (before after : Output) (text
 sent-so (Ok done) before after text whole first counted = inl whole
 sent-so (Err fault) before after text whole first counted =
     inr (record { sent = take fault.written text; left = drop fault.written text; whole = sym (take-append-drop fault.written text); out = first }, counted)
-
--- what is not written to keeps what it was told
-pub kept : (a : Option (List ℕ)) → Keeps a a
-kept None = tt
-kept (Some x) = refl

@@ -1,17 +1,18 @@
 -- The keys of the candidates that are left are the board.
-use Rattle.std.proofs.Common.{◌≡◌, ◌<◌, ℕ, ℤ, ◌&&◌, Bool, true, false, List, [], ◌∷◌, map, length, Option, refl, sym, ap, ◌∙◌, inl, inr, arith}
+use Rattle.std.proofs.Common.{◌≡◌, ◌<◌, ℕ, ℤ, ◌&&◌, Bool, true, List, [], ◌∷◌, map, length, Option, refl, sym, ap, ◌∙◌, inl, inr, arith}
 use Rattle.std.proofs.lemmas.Bool.{and_from, and_parts, or_cases, or_left, or_right}
 use Rattle.std.proofs.lemmas.List.Elements.{All-from_recursion}
 use Rattle.std.proofs.lemmas.List.Kept.{AllPairs-cons}
 use Rattle.std.specs.Cmp.{tied_itself}
 use Rattle.std.specs.List.{AllByRecursion, AllPairs, filter}
 use Rattle.std.specs.Ordering.{is_eq}
-use Rattle.std.specs.declared.cmp.Ordering.{Ordering}
-use Rattle.std.specs.declared.cmp.Ordering.TheVariants.{Less, Equal, Greater}
+use Rattle.std.specs.declared.cmp.Ordering.TheVariants.{Less}
+use Rattle.gtfs_field.proofs.OrderingFacts.{equal}
 use Rattle.gtfs_rows.proofs.SameElements.{pairs-map}
 use Rattle.gtfs_rows.specs.Content.{Content}
 use Rattle.gtfs_rows.specs.Order.{Ascends}
 use Rattle.gtfs_table.specs.Folder.{text_cmp}
+use Rattle.gtfs_columns.proofs.BoolFacts.{same_test as same_tests}
 use Rattle.gtfs_board.specs.CandidateKeys.{key_among}
 use Rattle.gtfs_board.specs.Departures.{IsBoard, Origins, is_listed, is_member}
 use Rattle.gtfs_board.specs.Key.{Key, key_cmp}
@@ -56,11 +57,6 @@ not_below_itself c h = cc (sym (candidates_strict.irrefl c) ∙ h)
 
 -- ---- members
 
-equal : (r : Ordering) → is_eq r ≡ true → r ≡ Equal
-equal Less e = cc e
-equal Equal e = refl
-equal Greater e = cc e
-
 member-in : (ids : List (List ℕ)) (k : Key) (cs : List Candidate) → is_member k (map (key_among ids) cs) ≡ true → (c : Candidate) × (In c cs × (key_among ids c ≡ k))
 member-in ids k [] h = cc h
 member-in ids k (c ∷ cs) h = elim (or_cases (is_eq (key_cmp k (key_among ids c))) (is_member k (map (key_among ids) cs)) h) [
@@ -77,11 +73,6 @@ in-member ids k (d ∷ cs) c there is = elim there [
       or_left (is_eq (key_cmp k (key_among ids d))) (is_member k (map (key_among ids) cs)) ties
   | inr later ↦ or_right (is_eq (key_cmp k (key_among ids d))) (is_member k (map (key_among ids) cs)) (in-member ids k cs c later is)
 ]
-
-same_tests : (a b : Bool) → (a ≡ true → b ≡ true) → (b ≡ true → a ≡ true) → a ≡ b
-same_tests true b to from = sym (to refl)
-same_tests false true to from = from refl
-same_tests false false to from = refl
 
 -- ---- the board
 

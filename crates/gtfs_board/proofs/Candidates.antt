@@ -1,20 +1,16 @@
 use Rattle.std.proofs.Common.{◌≡◌, true, false, refl, sym, ◌∙◌, ap, rules, inl, inr}
 use Rattle.std.specs.Prelude.{◌<ℤ◌, ◌≤ℤ◌}
-use Rattle.gtfs_board.proofs.Ints.{cases_int}
-use Rattle.std.proofs.lemmas.Bool.{true≢false, false≢true}
+use Rattle.std.proofs.lemmas.Bool.{true≢false}
 use Rattle.std.specs.Cmp.{IsTotalOrder, tied_itself, ranked, int_ranked, int_cmp_is}
 use Rattle.std.specs.Cmp.Rules.{comparing}
 use Rattle.std.specs.declared.cmp.Ordering.{Ordering}
 use Rattle.std.specs.declared.cmp.Ordering.TheVariants.{Less, Equal, Greater}
-use Rattle.std.specs.Ordering.{is_lt, ordering_then, ordering_reverse}
+use Rattle.std.specs.Ordering.{is_lt, ordering_reverse}
+use Rattle.gtfs_field.proofs.NumberFacts.{cases_int}
+use Rattle.gtfs_field.proofs.OrderingFacts.{less, tied as parts}
 use Rattle.gtfs_board.specs.declared.merge.candidate.Candidate.{Candidate}
 use Rattle.gtfs_board.specs.merge.Candidates.{candidate_cmp, candidate_lt}
 use Rattle.gtfs_board.specs.merge.Order.{IsStrict}
-
-less : (r : Ordering) → is_lt r ≡ true → r ≡ Less
-less Less h = refl
-less Equal h = absurd (false≢true h)
-less Greater h = absurd (false≢true h)
 
 tied : (r s : Ordering) → r ≡ ordering_reverse s → is_lt r ≡ false → is_lt s ≡ false → r ≡ Equal
 tied r Less e h k = absurd (true≢false k)
@@ -27,11 +23,6 @@ strict_from_total R o exact = record {
   trans = λ x y z h k. ap is_lt (o.trans x y z (less _ h) (less _ k));
   exact = λ x y h k. exact x y (tied (R x y) (R y x) (o.antisymm x y) h k);
 }
-
-parts : (r s : Ordering) → ordering_then r s ≡ Equal → (r ≡ Equal) × (s ≡ Equal)
-parts Less s h = absurd (true≢false (ap is_lt h))
-parts Equal s h = (refl, h)
-parts Greater s h = absurd (cc)
 
 pub candidates_total : IsTotalOrder candidate_cmp
 candidates_total = search (comparing, rules) depth 20

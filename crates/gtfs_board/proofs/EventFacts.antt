@@ -1,16 +1,16 @@
 -- The events of lanes and the departures of a feed: what one says of the other.
-use Rattle.std.proofs.Common.{◌≡◌, ◌+◌, ◌≤◌, ◌<◌, ℕ, zero, suc, ◌&&◌, Bool, true, false, cond, List, [], ◌∷◌, ◌++◌, inl, inr, map, length, get_or, Option, Some, None, refl, sym, ap, subst, ◌∙◌, arith, rules, unwrap_or}
+use Rattle.std.proofs.Common.{◌≡◌, ◌+◌, ◌≤◌, ◌<◌, ℕ, zero, suc, ◌&&◌, Bool, true, false, cond, List, [], ◌∷◌, inl, inr, map, length, get_or, Option, Some, None, refl, sym, ap, subst, ◌∙◌, arith}
 use Rattle.std.specs.Prelude.{◌==◌, slice_get, bytes_eq}
 use Rattle.std.specs.List.{filter, list_any}
-use Rattle.std.proofs.lemmas.Bool.{cases_Bool, cases_lt, cases_order, false≢true, and_parts, and_from, or_cases, or_left, or_right, eqb-true, eq-eqb}
+use Rattle.std.proofs.lemmas.Bool.{cases_Bool, cases_lt, cases_order, false≢true, and_parts, and_from, or_cases, eqb-true, eq-eqb}
 use Rattle.std.proofs.lemmas.Cmp.{nat_list_cmp_total, nat_cmp_total}
 use Rattle.std.proofs.lemmas.List.{get_or_past}
-use Rattle.std.proofs.lemmas.Option.{get_or_from_slice_get, slice_get-get_or, slice_get_within}
-use Rattle.std.specs.Cmp.{IsTotalOrder, ranked, tied_itself}
-use Rattle.std.specs.Cmp.Rules.{comparing}
-use Rattle.std.specs.Ordering.{is_eq, nat_cmp, on, ordering_then}
+use Rattle.std.proofs.lemmas.Option.{get_or_from_slice_get, same_Some as some_is, slice_get-get_or, slice_get_within}
+use Rattle.std.specs.Cmp.{tied_itself}
+use Rattle.std.specs.Ordering.{nat_cmp, on}
 use Rattle.std.specs.declared.cmp.Ordering.{Ordering}
-use Rattle.std.specs.declared.cmp.Ordering.TheVariants.{Less, Equal, Greater}
+use Rattle.std.specs.declared.cmp.Ordering.TheVariants.{Less, Equal}
+use Rattle.gtfs_field.proofs.OrderingFacts.{equal}
 use Rattle.gtfs_table.specs.Folder.{text_cmp}
 use Rattle.gtfs_columns.proofs.SiteFacts.{text_is, text_itself}
 use Rattle.gtfs_columns.specs.Values.{if_there}
@@ -24,23 +24,18 @@ use Rattle.gtfs_rows.specs.declared.stop_row.StopRow.{StopRow as StopTime}
 use Rattle.gtfs_rows.specs.declared.trip.Trip.{Trip as TripRow}
 use Rattle.gtfs_runs.specs.Counts.{is_same, tally}
 use Rattle.gtfs_runs.specs.Events.{is_event}
-use Rattle.gtfs_runs.specs.Order.{event_cmp}
 use Rattle.gtfs_runs.specs.Places.{is_in_place}
 use Rattle.gtfs_runs.specs.StopLanes.{AreLanesOf, LaneValue, StopLanesValue, events_of_service, lanes_of}
 use Rattle.gtfs_runs.specs.Trips.{is_run, is_departure_row, passes_at}
 use Rattle.gtfs_runs.specs.declared.event.Event.{Event}
+use Rattle.gtfs_runs.proofs.Counting.{same-is as event_same, same-self as same_itself}
+use Rattle.gtfs_runs.proofs.Tallies.{tally-append as tally_more}
 use Rattle.gtfs_board.specs.LaneDays.{lane_at, no_lane}
 use Rattle.gtfs_board.specs.merge.Order.{In}
 use Rattle.gtfs_board.proofs.LaneDays.{flat_map-in}
 use Rattle.gtfs_board.proofs.Rests.{filter-in}
 
-events_total : IsTotalOrder event_cmp
-events_total = search (comparing, rules) depth 20
-
 -- ---- elements of lists by their places
-
-pub some_is : {X : Type 0} (x y : X) → Some x ≡ Some y → x ≡ y
-some_is x y e = ap (λ o. unwrap_or o x) e
 
 pub any_at : {X : Type 0} (q : X → Bool) (xs : List X) → list_any q xs ≡ true → (n : ℕ) × (x : X) × ((slice_get xs n ≡ Some x) × (q x ≡ true))
 any_at q [] h = absurd (false≢true h)
@@ -48,11 +43,6 @@ any_at q (x ∷ xs) h = elim (or_cases (q x) (list_any q xs) h) [
   | inl now ↦ (0, x, (refl, now))
   | inr later ↦ let r = any_at q xs later in (suc r.0, r.1, (r.2.0, r.2.1))
 ]
-
-pub at_any : {X : Type 0} (q : X → Bool) (xs : List X) (n : ℕ) (x : X) → slice_get xs n ≡ Some x → q x ≡ true → list_any q xs ≡ true
-at_any q [] n x at h = cc
-at_any q (y ∷ ys) zero x at h = or_left (q y) (list_any q ys) (ap q (some_is y x at) ∙ h)
-at_any q (y ∷ ys) (suc n) x at h = or_right (q y) (list_any q ys) (at_any q ys n x at h)
 
 pub in_at : {X : Type 0} (xs : List X) (x : X) → In x xs → (n : ℕ) × (slice_get xs n ≡ Some x)
 in_at [] x here = absurd here
@@ -65,11 +55,6 @@ pub at_in : {X : Type 0} (xs : List X) (n : ℕ) (x : X) → slice_get xs n ≡ 
 at_in [] n x at = cc
 at_in (y ∷ ys) zero x at = inl (sym (some_is y x at))
 at_in (y ∷ ys) (suc n) x at = inr (at_in ys n x at)
-
-pub at_map : {A B : Type 0} (f : A → B) (xs : List A) (n : ℕ) (x : A) → slice_get xs n ≡ Some x → slice_get (map f xs) n ≡ Some (f x)
-at_map f [] n x at = cc
-at_map f (y ∷ ys) zero x at = ap (λ z. Some (f z)) (some_is y x at)
-at_map f (y ∷ ys) (suc n) x at = at_map f ys n x at
 
 pub map_at : {A B : Type 0} (f : A → B) (xs : List A) (n : ℕ) (y : B) → slice_get (map f xs) n ≡ Some y → (x : A) × ((slice_get xs n ≡ Some x) × (f x ≡ y))
 map_at f [] n y at = cc
@@ -162,36 +147,6 @@ of_passing f s service e h =
     (eq-eqb (passes_at h.trip e.run h.row) e.at h.at))
 
 -- ---- how often an event stands in lanes
-
-tie_parts : (r s : Ordering) → ordering_then r s ≡ Equal → (r ≡ Equal) × (s ≡ Equal)
-tie_parts Less s h = cc h
-tie_parts Equal s h = (refl, h)
-tie_parts Greater s h = cc h
-
-equal : (r : Ordering) → is_eq r ≡ true → r ≡ Equal
-equal Less e = cc e
-equal Equal e = refl
-equal Greater e = cc e
-
-pub event_same : (e x : Event) → is_same e x ≡ true → e ≡ x
-event_same e x h =
-    let a = tie_parts _ _ (equal (event_cmp e x) h) in
-    let b = tie_parts _ _ a.1 in
-    let d = tie_parts _ _ b.1 in
-    let g = tie_parts _ _ d.1 in
-    let at = ranked e.at x.at Equal (sym a.0) in
-    let trip = ranked e.trip.0 x.trip.0 Equal (sym b.0) in
-    let run = ranked e.run x.run Equal (sym d.0) in
-    let seq = ranked e.seq x.seq Equal (sym g.0) in
-    let row = ranked e.row x.row Equal (sym g.1) in
-    λ i. record { at = at i; trip = record { 0 = trip i }; run = run i; seq = seq i; row = row i }
-
-pub same_itself : (e : Event) → is_same e e ≡ true
-same_itself e = ap is_eq (tied_itself events_total e)
-
-tally_more : {X : Type 0} (p : X → Bool) (xs ys : List X) → tally p (xs ++ ys) ≡ tally p xs + tally p ys
-tally_more p [] ys = omega arith
-tally_more p (x ∷ xs) ys = rw (tally_more p xs ys) (omega arith)
 
 pub in_tally : (e : Event) (xs : List Event) → In e xs → 0 < tally (is_same e) xs
 in_tally e [] here = absurd here

@@ -12,6 +12,8 @@ use Rattle.std.proofs.lemmas.Int.{ints}
 use Rattle.std.proofs.lemmas.Map.Text.{is_eq-slice_cmp}
 use Rattle.std.proofs.lemmas.Option.{slice_get-get_or}
 use Rattle.std.specs.List.Sorted.{IsPartitionedBy, IsPartitionPoint}
+use Rattle.std.proofs.Math.Bool.{and-false as and_false, and-true as and_true}
+use Rattle.gtfs_field.proofs.NumberFacts.{cases_int, int_le-true, le-int_le}
 use Rattle.gtfs_rows.specs.declared.trip.Trip.{Trip}
 use Rattle.gtfs_board.proofs.EventFacts.{text_at}
 use Rattle.gtfs_columns.proofs.SiteFacts.{text_is, text_itself}
@@ -27,8 +29,6 @@ use Rattle.gtfs_board.specs.Key.{Key, key_cmp}
 use Rattle.gtfs_board.specs.declared.merge.candidate.Candidate.{Candidate}
 use Rattle.gtfs_board.specs.merge.Candidates.{candidate_lt, departure_cmp, lane_cmp}
 use Rattle.gtfs_board.proofs.CandidateKeys.{compares}
-use Rattle.gtfs_board.proofs.Ints.{cases_int}
-use Rattle.gtfs_board.proofs.Reach.{int_le-true, le-int_le}
 
 -- ---- a floor before the departures of an instant from a trip on
 
@@ -70,14 +70,6 @@ from_first x i n = elim (cases_int x i) [
     not_le x i h = grind (arith, ints)
 
 -- ---- from an instant on, and above a key
-
-and_true : (b : Bool) → (b && true) ≡ b
-and_true true = refl
-and_true false = refl
-
-and_false : (b : Bool) → (b && false) ≡ false
-and_false true = refl
-and_false false = refl
 
 pub above_none : (from : ℤ) (c : Key) → (int_le from c.instant && is_above None c) ≡ int_le from c.instant
 above_none from c = and_true (int_le from c.instant)

@@ -1,31 +1,16 @@
-use Rattle.std.proofs.Common.{◌≡◌, ◌<◌, true, false, ◌⊎◌, inl, inr, arith}
+use Rattle.std.proofs.Common.{◌≡◌, ◌<◌, false, ◌⊎◌, inl, inr, arith}
 use Rattle.std.specs.Prelude.{ℤ, pos, ◌+ℤ◌, ◌*ℤ◌, int_lt, ◌<ℤ◌, ◌≤ℤ◌, ◌-ℤ◌, unsigned_abs}
 use Rattle.std.proofs.lemmas.Int.{ints}
-use Rattle.std.proofs.lemmas.Bool.{cases_Bool}
-
-pub int_lt-true : (a b : ℤ) → int_lt a b ≡ true → a <ℤ b
-int_lt-true a b h = grind (arith, ints)
-
-pub int_lt-false : (a b : ℤ) → int_lt a b ≡ false → b ≤ℤ a
-int_lt-false a b h = grind (arith, ints)
-
-pub lt-int_lt : (a b : ℤ) → a <ℤ b → int_lt a b ≡ true
-lt-int_lt a b h = grind (arith, ints)
+use Rattle.gtfs_field.proofs.NumberFacts.{abs-above, cases_int}
 
 pub le-int_lt : (a b : ℤ) → b ≤ℤ a → int_lt a b ≡ false
 le-int_lt a b h = grind (arith, ints)
-
-pub cases_int : (a b : ℤ) → (a <ℤ b) ⊎ (b ≤ℤ a)
-cases_int a b = elim (cases_Bool (int_lt a b)) [ inl h ↦ inl (int_lt-true a b h) | inr h ↦ inr (int_lt-false a b h) ]
 
 pub cases_same_int : (a b : ℤ) → (a ≡ b) ⊎ (a ≡ b → ⊥)
 cases_same_int a b = elim (cases_int a b) [
   | inl h ↦ inr (λ e. omega (arith, ints, e))
   | inr h ↦ elim (cases_int b a) [ inl k ↦ inr (λ e. omega (arith, ints, e)) | inr k ↦ inl (omega (arith, ints)) ]
 ]
-
-pub abs-above : (a b : ℤ) → b ≤ℤ a → pos (unsigned_abs (a -ℤ b)) ≡ a -ℤ b
-abs-above a b h = grind (arith, ints)
 
 pub closer : (top day next : ℤ) → day <ℤ next → next ≤ℤ top → unsigned_abs (top -ℤ next) < unsigned_abs (top -ℤ day)
 closer top day next up to =

@@ -7,19 +7,10 @@ use Rattle.std.specs.FinMap.{IsAntisymmetric, nat_cmp-IsAntisymmetric, int_cmp-I
 use Rattle.std.specs.Ordering.{ordering_then, is_lt, int_cmp, MatchOrdering}
 use Rattle.std.specs.declared.cmp.Ordering.{Ordering}
 use Rattle.std.specs.declared.cmp.Ordering.TheVariants.{Less, Equal, Greater}
+use Rattle.gtfs_field.proofs.OrderingFacts.{less, tied_first, tied_second}
 use Rattle.gtfs_board.specs.Key.{Key, key_cmp}
 
 -- ---- two orders, one after the other
-
-tied_first : (r s : Ordering) → ordering_then r s ≡ Equal → r ≡ Equal
-tied_first Less s e = cc e
-tied_first Equal s e = refl
-tied_first Greater s e = cc e
-
-tied_second : (r s : Ordering) → ordering_then r s ≡ Equal → s ≡ Equal
-tied_second Less s e = cc e
-tied_second Equal s e = e
-tied_second Greater s e = cc e
 
 -- ---- the laws
 
@@ -43,11 +34,6 @@ key_cmp-IsAntisymmetric a b e =
     λ i. record { instant = instant i; trip = trip i; run = run i; sequence = sequence i; day = day i }
 
 -- ---- the same as tests
-
-less : (r : Ordering) → is_lt r ≡ true → r ≡ Less
-less Less e = refl
-less Equal e = cc e
-less Greater e = cc e
 
 pub key_lt_trans : (a b c : Key) → is_lt (key_cmp a b) ≡ true → is_lt (key_cmp b c) ≡ true → is_lt (key_cmp a c) ≡ true
 key_lt_trans a b c h k = ap is_lt (key_cmp_total.trans a b c (less (key_cmp a b) h) (less (key_cmp b c) k))

@@ -4,7 +4,7 @@ use Rattle.std.specs.Prelude.{slice_index}
 use Rattle.std.specs.Char.{is_ascii_digit}
 use Rattle.std.specs.Fmt.{decimal, signed_decimal}
 use Rattle.std.specs.Str.{all_ascii_digits}
-use Rattle.std.proofs.lemmas.Bool.{and_from, and_parts, and_right, cases_lt, or_left, or_right}
+use Rattle.std.proofs.lemmas.Bool.{and_from, and_parts, and_right, cases_lt, le-leb as at_most, or_left, or_right}
 use Rattle.std.proofs.lemmas.Bool.Decides.{nat_tests}
 use Rattle.std.proofs.lemmas.Fmt.{decimal_digit, decimal_nonempty, first_decimal, length-decimal-le}
 use Rattle.gtfs_field.specs.Calendar.{date_of_day}
@@ -17,21 +17,13 @@ use Rattle.gtfs_field.proofs.Dates.{date_of-text}
 use Rattle.gtfs_field.proofs.Numerals.{digits-append}
 use Rattle.gtfs_field.proofs.Texts.{decimal-digits, decimal-is_number, number-decimal}
 use Rattle.gtfs_field.proofs.Wides.{wide-digits}
+use Rattle.gtfs_field.proofs.Choices.{shaped-false, shaped-true, within-true}
 use Rattle.gtfs_board.specs.Key.{Key, IsInRange, last_run, last_sequence}
 use Rattle.gtfs_board.specs.KeyTexts.{key_text, key_of, plain_up_to, and_then}
 use Rattle.gtfs_board.specs.Parts.{LacksSlash, AreTexts}
 use Rattle.gtfs_board.proofs.Slashes.{digits-lack_slash, parts}
 
 -- ---- results that go by tests
-
-shaped-true : {V : Type 0} (b : Bool) (r : Result V FieldFault) → b ≡ true → shaped b r ≡ r
-shaped-true b r h = rw h refl
-
-shaped-false : {V : Type 0} (b : Bool) (r : Result V FieldFault) → b ≡ false → shaped b r ≡ Err Form
-shaped-false b r h = rw h refl
-
-within-true : {V : Type 0} (b : Bool) (v : V) → b ≡ true → within b v ≡ Ok v
-within-true b v h = rw h refl
 
 goes : {X Y : Type 0} (r : Result X FieldFault) (next : X → Result Y FieldFault) (x : X) → r ≡ Ok x → and_then r next ≡ next x
 goes r next x h = ap (λ s. and_then s next) h
@@ -109,9 +101,6 @@ plain-decimal n fits = and_from _ _ (decimal-is_number n fits) (front n fits (ca
         let zeroed : n ≡ 0 = omega arith in
         let digit : decimal n ≡ (48 + n) ∷ [] = decimal_digit n (omega arith) in
         or_left (length (decimal n) == 1) _ (ap (λ t. length t == 1) digit)
-
-at_most : (n m : ℕ) → n ≤ m → nat_le n m ≡ true
-at_most n m h = grind (arith, nat_tests)
 
 plain_up_to-decimal : (limit n : ℕ) → n ≤ limit → n < 2 ^ 64 → plain_up_to limit (decimal n) ≡ Ok n
 plain_up_to-decimal limit n most fits =

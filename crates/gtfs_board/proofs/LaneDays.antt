@@ -24,6 +24,9 @@ use Rattle.std.specs.Ordering.{is_lt, nat_cmp, int_cmp, ordering_then}
 use Rattle.std.specs.Cmp.{int_cmp_is, nat_cmp_is, tied_itself}
 use Rattle.std.proofs.lemmas.Bool.{cases_order}
 use Rattle.std.proofs.lemmas.Cmp.{int_cmp_total, nat_cmp_total}
+use Rattle.gtfs_field.proofs.NumberFacts.{cases_int, int_le-true, le-int_le}
+use Rattle.gtfs_field.proofs.ListFacts.{mapped_at}
+use Rattle.gtfs_days.proofs.ActiveDays.{before_service as day_too_early}
 use Rattle.gtfs_runs.specs.Order.{event_cmp, is_above, is_later}
 use Rattle.gtfs_runs.specs.declared.seek.Seek.{Seek}
 use Rattle.gtfs_runs.specs.StopLanes.{LaneValue, StopLanesValue, lanes_of}
@@ -35,9 +38,7 @@ use Rattle.gtfs_board.specs.merge.Candidates.{candidate_lt, IsAside, AreCandidat
 use Rattle.gtfs_board.specs.merge.Lanes.{AreAll}
 use Rattle.gtfs_board.specs.merge.Order.{In, Each, IsAscending}
 use Rattle.gtfs_board.proofs.Candidates.{candidates_strict, not_lt-instant}
-use Rattle.gtfs_board.proofs.Ints.{cases_int}
 use Rattle.gtfs_board.proofs.Orders.{Each-in, find-agree}
-use Rattle.gtfs_board.proofs.Reach.{int_le-true, le-int_le}
 use Rattle.gtfs_board.proofs.Rests.{in-filter, filter-in}
 use Rattle.gtfs_board.proofs.ServiceDays.{day_listed}
 use Rattle.gtfs_board.proofs.Window.{each_in, each_weaker}
@@ -203,9 +204,6 @@ runs_within d (Some s) out = rw out refl
 pub serves_within : (p : Parts) (n : ℕ) (d : ℤ) → is_service_day d ≡ false → serves_on p n d ≡ false
 serves_within p n d out = runs_within d (slice_get p.services n) out
 
-day_too_early : (d : ℤ) → d <ℤ first_service_day → is_service_day d ≡ false
-day_too_early d h = grind (arith, ints)
-
 day_too_late : (d : ℤ) → last_service_day <ℤ d → is_service_day d ≡ false
 day_too_late d h = grind (arith, ints)
 
@@ -225,11 +223,6 @@ got_right : {X : Type 0} (xs ys : List X) (i : ℕ) (d : X) → length xs ≤ i 
 got_right [] ys i d past = ap (λ n. get_or ys n d) (omega arith)
 got_right (z ∷ xs) ys zero d past = absurd (omega (arith, past))
 got_right (z ∷ xs) ys (suc i) d past = got_right xs ys i d (omega (arith, past)) ∙ ap (λ n. get_or ys n d) (omega arith)
-
-mapped_at : {A B : Type 0} (f : A → B) (xs : List A) (i : ℕ) (x : A) → slice_get xs i ≡ Some x → slice_get (map f xs) i ≡ Some (f x)
-mapped_at f [] i x at = cc
-mapped_at f (z ∷ xs) zero x at = ap (λ o. Some (f (unwrap_or o z))) at
-mapped_at f (z ∷ xs) (suc i) x at = mapped_at f xs i x at
 
 -- first the lists
 pub lane_list : {A : Type 0} (f : A → LaneValue) (xs : List A) (lanes : StopLanesValue) (i : ℕ) (x : A) → map f xs ≡ lanes.lists → slice_get xs i ≡ Some x → lane_at lanes i ≡ f x

@@ -1,19 +1,17 @@
 -- Of periods of which none begins before the one before it ends, only the last that has begun can start a run.
-use Rattle.std.proofs.Common.{◌≡◌, ◌≤◌, ◌<◌, ◌-◌, ◌∙◌, ◌⊎◌, ℕ, zero, suc, Bool, true, false, ◌&&◌, ◌||◌, List, [], ◌∷◌, length, get_or, refl, sym, subst, arith, inl, inr}
+use Rattle.std.proofs.Common.{◌≡◌, ◌≤◌, ◌<◌, ◌-◌, ◌∙◌, ℕ, zero, suc, Bool, true, false, ◌&&◌, List, [], ◌∷◌, length, get_or, refl, sym, subst, arith, inl, inr}
 use Rattle.std.specs.Prelude.{◌==◌, ◌%◌, nat_le, nat_lt}
 use Rattle.std.specs.List.{list_any}
 use Rattle.std.specs.List.Sorted.{IsPartitionPoint, IsPartitionedBy}
 use Rattle.std.proofs.lemmas.Bool.{and_parts, cases_Bool, false≢true, le-leb, leb-true, ltb-true}
+use Rattle.std.proofs.Math.Bool.{or-false as or_none}
+use Rattle.gtfs_field.proofs.NumberFacts.{cases_up_to as upto_cases}
 use Rattle.gtfs_rows.specs.declared.frequency.Frequency.{Frequency}
 use Rattle.gtfs_rows.specs.Views.{frequency_of}
 use Rattle.gtfs_feed.specs.Trips.{ArePeriods}
 use Rattle.gtfs_runs.specs.Trips.{starts_run}
 
 -- ---- lists of which at most one element passes a test
-
-or_none : (b : Bool) → (b || false) ≡ b
-or_none true = refl
-or_none false = refl
 
 module _ {X : Type 0} (q : X → Bool) where
   none_passes : (xs : List X) → ((k : ℕ) (d : X) → k < length xs → q (get_or xs k d) ≡ false) → list_any q xs ≡ false
@@ -50,9 +48,6 @@ not_started r f never = elim (cases_Bool (starts_run (frequency_of f) r)) [
   | inl starts ↦ absurd (never starts)
   | inr isnt ↦ rw isnt refl
 ]
-
-upto_cases : (i j : ℕ) → i ≤ j → (i < j) ⊎ (i ≡ j)
-upto_cases i j h = grind arith
 
 module _ (fs : List Frequency) (are : ArePeriods fs) (r : ℕ) where
   pub begun_first : IsPartitionedBy (has_begun r) fs

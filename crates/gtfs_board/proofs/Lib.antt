@@ -30,7 +30,7 @@ pub mod ShownRows
 pub mod LastPeriods
 pub mod Results
 mod SheetTexts
-mod TextVectors
+pub mod TextVectors
 mod BoardVectors
 mod SheetExamples
 mod SheetColumns

@@ -1,4 +1,4 @@
-use Rattle.std.proofs.Common.{◌≡◌, ℕ, zero, suc, ◌+◌, ◌*◌, ◌/◌, ◌≤◌, Bool, true, false, cond, List, [], ◌∷◌, ◌++◌, ◌⊎◌, inl, inr, Option, Some, None, refl, sym, ◌∙◌, ap, subst, arith, find, length, IsPermutation}
+use Rattle.std.proofs.Common.{◌≡◌, ℕ, zero, suc, ◌+◌, ◌*◌, ◌/◌, ◌≤◌, Bool, true, false, cond, List, [], ◌∷◌, ◌++◌, inl, inr, Option, Some, None, refl, sym, ◌∙◌, ap, subst, arith, find, length, IsPermutation}
 use Rattle.std.specs.Prelude.{ℤ, int_lt, pos, ◌+ℤ◌, ◌-ℤ◌, ◌*ℤ◌, ◌≤ℤ◌, ◌<ℤ◌}
 use Rattle.std.specs.List.{sum_by, filter}
 use Rattle.std.specs.Option.{option_to_list}
@@ -6,12 +6,12 @@ use Rattle.std.proofs.lemmas.Int.{ints}
 use Rattle.std.proofs.lemmas.Bool.{cases_Bool}
 use Rattle.std.proofs.lemmas.List.Sums.{sum_by-cons}
 use Rattle.std.proofs.lemmas.List.Sorted.{sum_by-IsPermutation}
+use Rattle.gtfs_field.proofs.NumberFacts.{cases_int, int_lt-true}
 use Rattle.gtfs_board.specs.declared.merge.candidate.Candidate.{Candidate}
 use Rattle.gtfs_board.specs.merge.Order.{In, Each, IsUpward, same, tally}
 use Rattle.gtfs_board.specs.merge.Lanes.{Events, AreLanes, AreHeads, AreAll, IsStopped, IsFrom, IsStartDay, AreStepsFew, is_reached, is_opened, rest_of}
 use Rattle.gtfs_board.specs.merge.Candidates.{candidate_lt, least_from, day_of, lane_of, instant_of, IsWithin, AreGathered, position, IsAside, IsFirst, IsWaiting, head_of}
 use Rattle.gtfs_board.proofs.Orders.{Each-in, find-in, find-least}
-use Rattle.gtfs_board.proofs.Ints.{cases_int, int_lt-true}
 use Rattle.gtfs_board.proofs.Heads.{in-from_tally, head-waits, least_of_all, heads_taken, head-found, find-passes}
 use Rattle.gtfs_board.proofs.Opening.{tally-append}
 use Rattle.gtfs_board.proofs.Window.{each_in, each_weaker, in_tally, waits-head, held_bound}
@@ -19,6 +19,8 @@ use Rattle.gtfs_board.proofs.Reach.{reached-opened, opened-reached}
 use Rattle.gtfs_board.proofs.Rests.{rest_taken, rest_empty, in-in_order, in-filter}
 use Rattle.gtfs_board.proofs.Candidates.{candidates_strict, not_lt-instant}
 use Rattle.gtfs_board.proofs.Gathers.{least_from-is, least_from-above}
+use Rattle.gtfs_board.proofs.LaneDays.{in-either}
+use Rattle.gtfs_board.proofs.Days.{least_from-none as least_none}
 
 pub tally_sum : {C : Type 0} (p : C → Bool) (xs : List C) → sum_by (λ x. cond (p x) 1 0) xs ≡ tally p xs
 tally_sum p [] = refl
@@ -36,14 +38,6 @@ in_alike xs ys alike x there =
 
 each_alike : (P : Candidate → Type 0) (xs ys : List Candidate) → ((x : Candidate) → tally (same candidate_lt x) ys ≡ tally (same candidate_lt x) xs) → Each P xs → Each P ys
 each_alike P xs ys alike all = each_in P ys (λ x there. Each-in P xs x all (in_alike xs ys alike x there))
-
-least_none : (end : ℤ) → least_from end [] ≡ end
-unfolding least_from
-least_none end = refl
-
-in-either : {C : Type 0} (xs ys : List C) (x : C) → In x (xs ++ ys) → In x xs ⊎ In x ys
-in-either [] ys x here = inr here
-in-either (z ∷ xs) ys x here = elim here [ inl e ↦ inl (inl e) | inr later ↦ elim (in-either xs ys x later) [ inl a ↦ inl (inr a) | inr b ↦ inr b ] ]
 
 in-option : {C : Type 0} (o : Option C) (x : C) → In x (option_to_list o) → o ≡ Some x
 in-option None x here = absurd here

@@ -2,21 +2,15 @@
 use Rattle.std.proofs.Common.{◌≡◌, ℕ, ℤ, ◌||◌, Bool, true, false, List, [], ◌∷◌, Option, refl, sym, ◌∙◌}
 use Rattle.std.specs.List.{Contains}
 use Rattle.std.specs.Ordering.{is_eq}
-use Rattle.std.specs.declared.cmp.Ordering.{Ordering}
-use Rattle.std.specs.declared.cmp.Ordering.TheVariants.{Less, Equal, Greater}
 use Rattle.std.proofs.lemmas.Cmp.{eq_by_cmp_equiv}
 use Rattle.std.proofs.lemmas.Map.Views.{list_any-from_Contains}
+use Rattle.gtfs_field.proofs.OrderingFacts.{equal}
 use Rattle.gtfs_rows.specs.Content.{Content}
 use Rattle.gtfs_rows.proofs.ByKey.{by_key_is}
 use Rattle.gtfs_rows.proofs.SameElements.{SameElements, contains-first, contains-later}
 use Rattle.gtfs_board.specs.Departures.{Origins, IsBoard, is_member}
 use Rattle.gtfs_board.specs.Key.{Key, key_cmp}
 use Rattle.gtfs_board.proofs.KeyOrder.{key_cmp_total, key_cmp-IsAntisymmetric}
-
-equal : (r : Ordering) → is_eq r ≡ true → r ≡ Equal
-equal Less e = cc e
-equal Equal e = refl
-equal Greater e = cc e
 
 contains_step : (k x : Key) (xs : List Key) → (is_member k xs ≡ true → Contains xs k) → (b : Bool) → is_eq (key_cmp k x) ≡ b → (b || is_member k xs) ≡ true → Contains (x ∷ xs) k
 contains_step k x xs later true e h = contains-first k x xs (sym (key_cmp-IsAntisymmetric k x (equal (key_cmp k x) e)))

@@ -9,12 +9,11 @@ use Rattle.std.proofs.lemmas.Cmp.{nat_cmp_total}
 use Rattle.std.proofs.lemmas.Int.{ints, clamps}
 use Rattle.std.proofs.lemmas.List.{length-map}
 use Rattle.std.proofs.lemmas.List.Elements.{All-from_recursion}
-use Rattle.std.proofs.lemmas.Option.{get_or_from_slice_get, slice_get_within}
+use Rattle.std.proofs.lemmas.Option.{get_or_from_slice_get, same_Some as some_is, slice_get_within}
 use Rattle.std.specs.Cmp.{tied_itself}
 use Rattle.std.specs.List.{AllByRecursion, filter, list_any, position}
+use Rattle.gtfs_field.proofs.NumberFacts.{int_lt-false, int_lt-true, le-int_le}
 use Rattle.gtfs_rows.specs.declared.stop.Stop.{Stop as StopRowOf}
-use Rattle.gtfs_board.proofs.Ints.{int_lt-true, int_lt-false}
-use Rattle.gtfs_board.proofs.Reach.{le-int_le}
 use Rattle.gtfs_board.proofs.Floors.{position_at, position_none, turned}
 use Rattle.gtfs_board.specs.LaneDays.{serves_on}
 use Rattle.gtfs_columns.proofs.SiteFacts.{text_is, text_itself}
@@ -52,7 +51,7 @@ use Rattle.gtfs_board.specs.merge.Order.{Each, In, IsAscending, tally}
 use Rattle.gtfs_board.proofs.BoardKeys.{board-of, in-member}
 use Rattle.gtfs_board.proofs.CandidateKeys.{compares}
 use Rattle.gtfs_board.proofs.Candidates.{candidates_strict}
-use Rattle.gtfs_board.proofs.EventFacts.{any_at, text_at, lane_there, map_at, some_is, trip_back}
+use Rattle.gtfs_board.proofs.EventFacts.{any_at, text_at, lane_there, map_at, trip_back}
 use Rattle.gtfs_board.proofs.Merges.{tally_sum}
 use Rattle.gtfs_board.proofs.KeyOrder.{key_cmp_total}
 use Rattle.gtfs_board.proofs.LaneDays.{day_there, serves_within}

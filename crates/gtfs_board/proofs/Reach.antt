@@ -2,17 +2,12 @@ use Rattle.std.proofs.Common.{◌≡◌, ◌+◌, ◌≤◌, Bool, true, false, 
 use Rattle.std.specs.Prelude.{ℤ, pos, ◌+ℤ◌, ◌*ℤ◌, int_lt, int_le, ◌<ℤ◌, ◌≤ℤ◌}
 use Rattle.std.proofs.lemmas.Int.{ints}
 use Rattle.std.proofs.lemmas.Bool.{cases_Bool, and_parts, and_from}
+use Rattle.gtfs_field.proofs.NumberFacts.{cases_int, int_le-true, int_lt-true, le-int_le, lt-int_lt}
 use Rattle.gtfs_board.specs.merge.Order.{In, Each, tally}
 use Rattle.gtfs_board.specs.merge.Lanes.{is_reached, is_opened}
 use Rattle.gtfs_board.proofs.Window.{tally-weaker, each_in}
-use Rattle.gtfs_board.proofs.Ints.{int_lt-true, lt-int_lt, le-int_lt, cases_int}
+use Rattle.gtfs_board.proofs.Ints.{le-int_lt}
 use Rattle.gtfs_board.proofs.Orders.{Each-in as Each_at}
-
-pub int_le-true : (a b : ℤ) → int_le a b ≡ true → a ≤ℤ b
-int_le-true a b h = grind (arith, ints)
-
-pub le-int_le : (a b : ℤ) → a ≤ℤ b → int_le a b ≡ true
-le-int_le a b h = grind (arith, ints)
 
 opened_since : (f d : ℤ) → (f ≤ℤ d → ⊥) → int_lt d f ≡ true
 opened_since f d h = elim (cases_int d f) [ inl a ↦ lt-int_lt d f a | inr b ↦ absurd (h b) ]

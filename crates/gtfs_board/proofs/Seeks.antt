@@ -8,13 +8,14 @@ use Rattle.std.specs.Cmp.{nat_cmp_is, int_cmp_is}
 use Rattle.std.specs.Ordering.{nat_cmp, int_cmp, is_lt, ordering_then}
 use Rattle.std.specs.declared.cmp.Ordering.{Ordering}
 use Rattle.std.specs.declared.cmp.Ordering.TheVariants.{Less, Equal, Greater}
+use Rattle.gtfs_field.proofs.NumberFacts.{cases_int}
 use Rattle.gtfs_runs.specs.Order.{is_above}
 use Rattle.gtfs_runs.specs.declared.event.Event.{Event}
 use Rattle.gtfs_runs.specs.declared.seek.Seek.{Seek}
 use Rattle.gtfs_board.specs.LaneDays.{departing}
 use Rattle.gtfs_board.specs.declared.merge.candidate.Candidate.{Candidate}
 use Rattle.gtfs_board.specs.merge.Candidates.{candidate_lt, lane_cmp}
-use Rattle.gtfs_board.proofs.Ints.{cases_int, cases_same_int}
+use Rattle.gtfs_board.proofs.Ints.{cases_same_int}
 
 -- what decides last decides alike
 last_alike : (a b c d s y l : Ordering) → is_lt d ≡ is_lt (ordering_then (ordering_then s y) l)

@@ -6,19 +6,21 @@ use Rattle.std.specs.List.Sorted.{IsSorted}
 use Rattle.std.specs.Cmp.{IsTotalOrder, ranked}
 use Rattle.std.specs.Cmp.Rules.{comparing}
 use Rattle.std.specs.FinMap.{nat_cmp-IsAntisymmetric}
-use Rattle.std.specs.declared.cmp.Ordering.{Ordering}
-use Rattle.std.specs.declared.cmp.Ordering.TheVariants.{Less, Equal, Greater}
+use Rattle.std.specs.declared.cmp.Ordering.TheVariants.{Less, Equal}
 use Rattle.std.specs.Ordering.{is_lt, nat_cmp, ordering_then}
 use Rattle.std.proofs.lemmas.Bool.{and_from, and_parts, cases_Bool, eq-eqb, eqb-true, not-true, true≢false}
 use Rattle.std.proofs.lemmas.List.{length-map}
 use Rattle.std.proofs.lemmas.List.Elements.{All-cons, All-head, All-nil, All-tail}
 use Rattle.std.proofs.lemmas.Simd.{map-map}
-use Rattle.std.proofs.lemmas.Option.{slice_get-get_or, slice_get_within}
+use Rattle.std.proofs.lemmas.Option.{same_Some as some_is, slice_get-get_or, slice_get_within}
+use Rattle.gtfs_field.proofs.OrderingFacts.{tied}
+use Rattle.gtfs_field.proofs.ListFacts.{some_of}
 use Rattle.gtfs_table.specs.Folder.{text_cmp}
 use Rattle.gtfs_table.proofs.PartFacts.{length-parts}
 use Rattle.gtfs_columns.proofs.SiteFacts.{text_is, text_itself}
 use Rattle.gtfs_columns.specs.Values.{if_there}
 use Rattle.gtfs_days.specs.Service.{ServiceDates, is_active}
+use Rattle.gtfs_columns.proofs.BoolFacts.{same_test as same_tests}
 use Rattle.gtfs_rows.proofs.Held.{text_antisymmetric}
 use Rattle.gtfs_rows.proofs.SameElements.{pairs-map}
 use Rattle.gtfs_rows.specs.Order.{Ascends}
@@ -46,7 +48,7 @@ use Rattle.gtfs_board.specs.declared.sheet.columns.Column.{Column}
 use Rattle.gtfs_board.specs.merge.Order.{In, IsAscending, IsStrict}
 use Rattle.gtfs_board.proofs.CandidateKeys.{numbers}
 use Rattle.gtfs_board.proofs.Candidates.{strict_from_total}
-use Rattle.gtfs_board.proofs.EventFacts.{same_number, some_is, text_at, there_some, trip_back}
+use Rattle.gtfs_board.proofs.EventFacts.{same_number, text_at, there_some, trip_back}
 use Rattle.gtfs_board.proofs.LaneDays.{flat_map-in, in-flat_map, in-map, map-in}
 use Rattle.gtfs_board.proofs.Rests.{ascending-in_order, ascending-unique, filter-in, in-filter, in-in_order, in_order-in}
 use Rattle.gtfs_board.proofs.SheetLists.{ascending-mapped, counted-in, find-one, in-counted, map-agree, sorted-ascends}
@@ -60,11 +62,6 @@ columns_total = search (comparing, rules) depth 20
 
 runs_total : IsTotalOrder run_cmp
 runs_total = search (comparing, rules) depth 20
-
-tied : (r s : Ordering) → ordering_then r s ≡ Equal → (r ≡ Equal) × (s ≡ Equal)
-tied Less s h = absurd (cc)
-tied Equal s h = (refl, h)
-tied Greater s h = absurd (cc)
 
 column_ties : (x y : Column) → column_cmp x y ≡ Equal → is_same_column x y ≡ true
 column_ties x y h =
@@ -131,18 +128,9 @@ trip-of p n t at =
     let r = trip_back p p.trips (stop_rows_by_trip p) (frequencies_by_trip p) n t at in
     record { row = r.0; rows = r.1; periods = r.2; at_trip = r.3.0; at_rows = r.3.1.0; at_periods = r.3.1.1.0; is = r.3.1.1.1 }
 
-same_tests : (a b : Bool) → (a ≡ true → b ≡ true) → (b ≡ true → a ≡ true) → a ≡ b
-same_tests true b to from = sym (to refl)
-same_tests false true to from = from refl
-same_tests false false to from = refl
-
 pub all-in : {X : Type 0} (P : X → Type 0) (xs : List X) → All P xs → (x : X) → In x xs → P x
 all-in P [] all x there = absurd there
 all-in P (y ∷ ys) all x there = elim there [ inl e ↦ subst P (sym e) (All-head P y ys all) | inr later ↦ all-in P ys (All-tail P y ys all) x later ]
-
-some_of : {X : Type 0} (xs : List X) (k : ℕ) → k < length xs → X
-some_of [] k within = absurd (omega arith)
-some_of (x ∷ xs) k within = x
 
 module _ (p : Parts) (sound : IsSoundParts p) where
   -- the trip of each number

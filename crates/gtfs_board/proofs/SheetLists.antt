@@ -5,21 +5,18 @@ use Rattle.std.specs.declared.cmp.Ordering.{Ordering}
 use Rattle.std.specs.declared.cmp.Ordering.TheVariants.{Less, Equal, Greater}
 use Rattle.std.specs.Ordering.{is_lt, ordering_reverse}
 use Rattle.std.specs.List.{All, AllPairs, filter, flat_map, range_with_len}
-use Rattle.std.specs.List.Sorted.{IsPermutation, IsSorted}
+use Rattle.std.specs.List.Sorted.{IsSorted}
 use Rattle.std.proofs.Math.Seq.{take-suc}
 use Rattle.std.proofs.lemmas.List.{map-append, take_all}
 use Rattle.std.proofs.lemmas.List.FromFn.{map-range_with_len_more}
 use Rattle.std.proofs.lemmas.Option.{get_or_from_slice_get, slice_get-get_or}
 use Rattle.std.proofs.lemmas.Bool.{cases_Bool, true≢false}
-use Rattle.std.proofs.lemmas.List.Recursion.{is_sum_by}
-use Rattle.std.proofs.lemmas.List.Sorted.{ranks_by, sorted_far, sum_by-IsPermutation}
+use Rattle.std.proofs.lemmas.List.Sorted.{ranks_by, sorted_far}
 use Rattle.gtfs_runs.specs.Counts.{tally}
+use Rattle.gtfs_runs.proofs.Tallies.{counted}
 use Rattle.gtfs_board.specs.merge.Order.{In, Each, IsAscending}
 
 -- ---- members
-
-counted : (b : Bool) → b ≡ true → ◌≡◌ {A = ℕ} (cond b 1 0) 1
-counted b is = ap (λ a. cond a 1 0) is
 
 module _ {X : Type 0} (q : X → Bool) where
   -- a member that passes is counted
@@ -183,8 +180,3 @@ pushed-more f xs n x old new y within item so_far pushed is =
     (pushed ∙ (λ i. so_far i ++ (is ∙ ap f item) i ∷ []))
 
 -- ---- counts
-
-pub tally-permuted : {X : Type 0} (q : X → Bool) (xs ys : List X) → IsPermutation xs ys → tally q ys ≡ tally q xs
-tally-permuted q xs ys same =
-    is_sum_by (tally q) (λ x. cond (q x) 1 0) refl (λ _ _. refl) ys ∙ sum_by-IsPermutation (λ x. cond (q x) 1 0) xs ys same
-    ∙ sym (is_sum_by (tally q) (λ x. cond (q x) 1 0) refl (λ _ _. refl) xs)

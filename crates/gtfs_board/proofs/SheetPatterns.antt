@@ -1,5 +1,5 @@
 -- The patterns of a route: which trips they have, and in which order they stand.
-use Rattle.std.proofs.Common.{rules, ◌≡◌, ◌≤◌, ◌<◌, ◌+◌, ◌++◌, ◌∙◌, ◌&&◌, ◌==◌, ℕ, zero, suc, Bool, true, false, cond, not, List, [], ◌∷◌, length, map, Option, Some, None, refl, sym, ap, subst, arith, inl, inr}
+use Rattle.std.proofs.Common.{rules, ◌≡◌, ◌≤◌, ◌<◌, ◌+◌, ◌++◌, ◌∙◌, ◌==◌, ℕ, zero, suc, Bool, true, false, not, List, [], ◌∷◌, length, map, Option, Some, None, refl, sym, ap, subst, arith, inl, inr}
 use Rattle.std.specs.Prelude.{option_and_then, option_map, unwrap_or}
 use Rattle.std.specs.List.{All, AllPairs, Contains, filter, flat_map, list_all, range_with_len, slice_get}
 use Rattle.std.specs.List.Sorted.{IsPermutation}
@@ -11,13 +11,14 @@ use Rattle.std.specs.FinMap.{nat_cmp-IsAntisymmetric, slice_cmp-IsAntisymmetric}
 use Rattle.std.specs.declared.cmp.Ordering.{Ordering}
 use Rattle.std.specs.declared.cmp.Ordering.TheVariants.{Less, Equal, Greater}
 use Rattle.std.specs.Ordering.{is_lt, nat_cmp, on, ordering_then, then_cmp}
-use Rattle.std.proofs.lemmas.Bool.{and_parts, cases_Bool, eq-eqb, eqb-false, eqb-true, not-true, true≢false}
+use Rattle.std.proofs.lemmas.Bool.{and_from as and_join, and_parts, cases_Bool, eq-eqb, eqb-false, eqb-true, not-true, true≢false}
 use Rattle.std.proofs.lemmas.Bool.Decides.{nat_tests}
 use Rattle.std.proofs.lemmas.List.{length-map}
-use Rattle.std.proofs.lemmas.List.Elements.{All-cons, All-head, All-map, All-nil, All-tail}
+use Rattle.std.proofs.lemmas.List.Elements.{All-head, All-map, All-tail}
 use Rattle.std.proofs.lemmas.List.Sorted.{Contains-permutation, IsPermutation-sym, ranks_by, sorted_far}
 use Rattle.std.proofs.lemmas.Option.{get_or_from_slice_get, slice_get-get_or, slice_get_within}
 use Rattle.std.proofs.lemmas.Simd.{map-map}
+use Rattle.gtfs_field.proofs.OrderingFacts.{tied}
 use Rattle.gtfs_columns.specs.Values.{if_there}
 use Rattle.gtfs_table.proofs.PartFacts.{length-parts}
 use Rattle.gtfs_table.specs.Folder.{text_cmp}
@@ -36,6 +37,9 @@ use Rattle.gtfs_runs.specs.Counts.{tally}
 use Rattle.gtfs_runs.specs.Lanes.{stops_of}
 use Rattle.gtfs_runs.specs.Patterns.{ArePatterns, Entry, Heading, are_apart, entries_of, entries_under, entry_cmp, entry_of, heading_of, is_filled, is_of_route, is_same_heading, rows_of, stops_cmp}
 use Rattle.gtfs_runs.specs.declared.pattern.Pattern.{Pattern}
+use Rattle.gtfs_runs.proofs.Counting.{tally-map as tally-mapped}
+use Rattle.gtfs_runs.proofs.Tallies.{tally-append as tally-joined, tally-permutation as tally-permuted}
+use Rattle.gtfs_runs.proofs.CourseOrder.{pairs-right}
 use Rattle.gtfs_board.specs.SheetSteps.{HasRow, IsPattern, stops_along}
 use Rattle.gtfs_board.specs.Timetable.{direction_place, heading_cmp, is_heading_before}
 use Rattle.gtfs_board.specs.Timetable as timetable
@@ -46,8 +50,9 @@ use Rattle.gtfs_board.proofs.EventFacts.{at_in, in_at}
 use Rattle.gtfs_board.proofs.LaneDays.{flat_map-in, in-flat_map, in-map, in-range, in-right, map-in}
 use Rattle.gtfs_board.proofs.Rests.{filter-in, in-filter}
 use Rattle.gtfs_board.proofs.SheetColumns.{all-in, trip-of}
-use Rattle.gtfs_board.proofs.SheetLists.{ascending-mapped, below, tally-permuted}
+use Rattle.gtfs_board.proofs.SheetLists.{ascending-mapped, below}
 use Rattle.gtfs_board.proofs.Window.{each_weaker}
+use Rattle.gtfs_board.proofs.Timely.{all-each as all-from}
 
 -- ---- members
 
@@ -64,10 +69,6 @@ range-in : (a n i : ℕ) → In i (range_with_len a n) → i < a + n
 range-in a zero i there = absurd there
 range-in a (suc n) i there = elim there [ inl e ↦ omega (arith, e) | inr later ↦ omega (arith, range-in (a + 1) n i later) ]
 
-all-from : {X : Type 0} (P : X → Type 0) (xs : List X) → ((x : X) → In x xs → P x) → All P xs
-all-from P [] each = All-nil P
-all-from P (x ∷ xs) each = All-cons P x xs (each x (inl refl)) (all-from P xs (λ y there. each y (inr there)))
-
 -- ---- headings by number
 
 abbrev number_cmp : Heading → Heading → Ordering
@@ -81,11 +82,6 @@ numbers_total = search (comparing, rules) depth 20
 
 entries_total : IsTotalOrder entry_cmp
 entries_total = search (comparing, rules) depth 20
-
-tied : (r s : Ordering) → ordering_then r s ≡ Equal → (r ≡ Equal) × (s ≡ Equal)
-tied Less s h = absurd (cc)
-tied Equal s h = (refl, h)
-tied Greater s h = absurd (cc)
 
 option_exact : (a b : Option ℕ) → option_cmp nat_cmp a b ≡ Equal → a ≡ b
 option_exact None None h = refl
@@ -102,10 +98,6 @@ number_exact a b h =
     let directions = option_exact a.direction b.direction both.0 in
     let stops = slice_cmp-IsAntisymmetric stop_exact a.stops b.stops both.1 in
     λ i. record { direction = directions i; stops = stops i }
-
-and_join : (a b : Bool) → a ≡ true → b ≡ true → (a && b) ≡ true
-and_join true b g h = h
-and_join false b g h = g
 
 heading_itself : (h : Heading) → is_same_heading h h ≡ true
 heading_itself h = and_join (option_eq (λ a b. a == b) h.direction h.direction) (pointwise (λ s t. s.0 == t.0) h.stops h.stops) (direction h.direction) (stops h.stops)
@@ -128,10 +120,6 @@ lt_front Greater b c h = refl
 
 abbrev NotBelow : Entry → Entry → Type 0
 NotBelow a b = is_lt (entry_cmp b a) ≡ false
-
-pairs-right : {X : Type 0} (R : X → X → Type 0) (xs ys : List X) → AllPairs R (xs ++ ys) → AllPairs R ys
-pairs-right R [] ys up = up
-pairs-right R (x ∷ xs) ys up = pairs-right R xs ys (pairs-tail R x (xs ++ ys) up)
 
 pairs-cross : {X : Type 0} (R : X → X → Type 0) (xs ys : List X) → AllPairs R (xs ++ ys) → (x y : X) → In x xs → In y ys → R x y
 pairs-cross R [] ys up x y in_x in_y = absurd in_x
@@ -220,14 +208,6 @@ module _ (p : Parts) (sound : IsSoundParts p) where
       λ i. (direction_place (direction i), stops i)
 
 -- ---- what the patterns of a route are
-
-tally-mapped : {X Y : Type 0} (q : Y → Bool) (f : X → Y) (xs : List X) → tally q (map f xs) ≡ tally (λ x. q (f x)) xs
-tally-mapped q f [] = refl
-tally-mapped q f (x ∷ xs) = ap (λ n. cond (q (f x)) 1 0 + n) (tally-mapped q f xs)
-
-tally-joined : {X : Type 0} (q : X → Bool) (xs ys : List X) → tally q (xs ++ ys) ≡ tally q xs + tally q ys
-tally-joined q [] ys = omega arith
-tally-joined q (x ∷ xs) ys = omega (arith, tally-joined q xs ys)
 
 tally-part : {X Y : Type 0} (q : Y → Bool) (f : X → List Y) (xs : List X) (x : X) → In x xs → tally q (f x) ≤ tally q (flat_map f xs)
 tally-part q f [] x there = absurd there

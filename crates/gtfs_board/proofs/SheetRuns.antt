@@ -1,73 +1,38 @@
 -- The runs of a trip of sound parts, by its stop times and its frequencies.
-use Rattle.std.proofs.Common.{◌≡◌, ◌≤◌, ◌<◌, ◌+◌, ◌-◌, ◌%◌, ◌∙◌, ◌++◌, ◌&&◌, ◌==◌, ◌||◌, ℕ, zero, suc, Bool, true, false, cond, List, [], ◌∷◌, length, take, add-one, get_or, nat_lt, nat_le, Option, Some, None, refl, sym, ap, subst, arith, inl, inr}
+use Rattle.std.proofs.Common.{◌≡◌, ◌≤◌, ◌<◌, ◌+◌, ◌∙◌, ◌++◌, ◌&&◌, ◌==◌, ◌||◌, ℕ, suc, Bool, true, false, cond, List, [], ◌∷◌, length, take, add-one, get_or, Option, Some, None, refl, sym, ap, subst, arith, inl, inr}
 use Rattle.std.specs.Prelude.{IfSome, is_some, unwrap_or, option_and_then}
 use Rattle.std.specs.List.{All, filter, list_any, range_with_len, slice_get}
 use Rattle.std.specs.List.Sorted.{IsPermutation}
-use Rattle.std.specs.Option.{option_or}
 use Rattle.std.proofs.Math.Seq.{take-suc}
-use Rattle.std.proofs.lemmas.Bool.{and_parts, cases_Bool, eqb-true, false≢true, leb-true, ltb-true, true≢false}
+use Rattle.std.proofs.lemmas.Bool.{cases_Bool, eqb-true, false≢true, true≢false}
 use Rattle.std.proofs.lemmas.Bool.Decides.{nat_tests}
 use Rattle.std.proofs.lemmas.List.{take_all}
 use Rattle.std.proofs.lemmas.List.Elements.{All-head, All-tail}
 use Rattle.std.proofs.lemmas.Option.{get_or_from_slice_get, slice_get-get_or}
+use Rattle.std.proofs.Math.Bool.{and_comm as and_swap}
+use Rattle.gtfs_field.proofs.ListFacts.{mapped_at as at_map}
 use Rattle.gtfs_rows.specs.Rows.{Trip}
-use Rattle.gtfs_rows.specs.Views.{IsSoundParts, frequency_of, stop_row_of, trip_of}
+use Rattle.gtfs_rows.specs.Views.{IsSoundParts, stop_row_of, trip_of}
 use Rattle.gtfs_rows.specs.declared.frequency.Frequency.{Frequency}
 use Rattle.gtfs_rows.specs.declared.parts.Parts.{Parts}
 use Rattle.gtfs_rows.specs.declared.stop_row.StopRow.{StopRow}
 use Rattle.gtfs_rows.specs.declared.trip.Trip.{Trip as TripRow}
-use Rattle.gtfs_feed.specs.Trips.{ArePeriods, AreStopTimes, frequencies_by_trip, left_at, stop_rows_by_trip}
+use Rattle.gtfs_feed.specs.Trips.{ArePeriods, frequencies_by_trip, left_at, stop_rows_by_trip}
 use Rattle.gtfs_runs.specs.Counts.{tally}
-use Rattle.gtfs_runs.specs.Trips.{is_run, passes_at, runs, starts_run}
+use Rattle.gtfs_runs.specs.Trips.{is_run, passes_at, runs}
 use Rattle.gtfs_runs.proofs.Bounds.{IsPeriod, periods_within, rows_within}
 use Rattle.gtfs_runs.proofs.ContentRows.{no_run, own_run, period_run}
+use Rattle.gtfs_runs.proofs.RunStarts.{one_period, starts, within}
+use Rattle.gtfs_runs.proofs.Tallies.{tally-permutation as tally-permuted, tally-push}
+use Rattle.gtfs_runs.proofs.TripTimes.{at_most}
 use Rattle.gtfs_board.specs.SheetSteps.{is_same_column}
 use Rattle.gtfs_board.specs.Timetable.{row_at, time_at}
 use Rattle.gtfs_board.specs.declared.sheet.columns.Column.{Column}
 use Rattle.gtfs_board.specs.merge.Order.{In}
-use Rattle.gtfs_board.proofs.EventFacts.{at_map}
 use Rattle.gtfs_board.proofs.LaneDays.{in-range}
 use Rattle.gtfs_board.proofs.Rests.{filter-in, in-filter}
-use Rattle.gtfs_board.proofs.SheetLists.{tally-permuted}
-use Rattle.gtfs_board.proofs.SheetStarts.{tally-push}
 
 -- ---- at most one period starts a run at a second
-
-abbrev pub starts : ℕ → Frequency → Bool
-starts r f = starts_run (frequency_of f) r
-
-within : (f : Frequency) (r : ℕ) → starts r f ≡ true → (f.start_time ≤ r) × (r < f.end_time)
-within f r holds =
-    let a = and_parts (nat_le f.start_time r && nat_lt r f.end_time) ((r - f.start_time) % f.headway_secs == 0) holds in
-    let b = and_parts (nat_le f.start_time r) (nat_lt r f.end_time) a.0 in
-    (leb-true f.start_time r b.0, ltb-true r f.end_time b.1)
-
-later_fails : (f : Frequency) (r : ℕ) → r < f.start_time → starts r f ≡ false
-later_fails f r before = elim (cases_Bool (starts r f)) [
-  | inl is ↦ absurd (omega (arith, (within f r is).0))
-  | inr isnt ↦ isnt
-]
-
-none_starts : (r : ℕ) (fs : List Frequency) → All (λ f. r < f.start_time) fs → tally (starts r) fs ≡ 0
-none_starts r [] later = refl
-none_starts r (f ∷ fs) later =
-    rw (later_fails f r (All-head (λ g. r < g.start_time) f fs later), none_starts r fs (All-tail (λ g. r < g.start_time) f fs later)) refl
-
-one_period : (fs : List Frequency) (r : ℕ) → ArePeriods fs → tally (starts r) fs ≡ cond (list_any (starts r) fs) 1 0
-one_period [] r are = refl
-one_period (f ∷ fs) r are = elim (cases_Bool (starts r f)) [
-  | inl here ↦
-      let after : All (λ g. r < g.start_time) fs = λ k d h. omega (arith, (within f r here).1, are.apart 0 (suc k) d (omega arith) (omega arith)) in
-      rw (here, none_starts r fs after) refl
-  | inr other ↦
-      rw other (zero_before (tally (starts r) fs) ∙ one_period fs r (record {
-        filled = λ k d h. are.filled (suc k) d (omega arith);
-        apart = λ i j d before h. are.apart (suc i) (suc j) d (omega arith) (omega arith);
-      }))
-]
-  where
-    zero_before : (n : ℕ) → 0 + n ≡ n
-    zero_before n = omega arith
 
 -- ---- the steps of the code
 
@@ -107,12 +72,6 @@ pub counted-sorted : {X Y : Type 0} (q : Y → Bool) (r : X → Bool) (xs : List
     → IsPermutation found sorted → tally q sorted ≡ tally r xs
 counted-sorted q r xs n found sorted past all same = tally-permuted q found sorted same ∙ all ∙ ap (tally r) (take_all n xs past)
 
-and_swap : (a b : Bool) → (a && b) ≡ (b && a)
-and_swap true true = refl
-and_swap true false = refl
-and_swap false true = refl
-and_swap false false = refl
-
 pub own-pushed : (p : Parts) (t : TripRow) (rs : List StopRow) (fs : List Frequency) (c x : Column) (first : StopRow) (old new : List Column) → 0 < length rs → (length fs == 0) ≡ true
     → first ≡ get_or rs 0 first → x.start ≡ unwrap_or (left_at first) 0 → new ≡ old ++ x ∷ []
     → tally (is_same_column c) new ≡ tally (is_same_column c) old + cond ((c.trip.0 == x.trip.0) && is_run (trip_of p t rs fs) c.start) 1 0
@@ -125,10 +84,6 @@ own-pushed p t (y ∷ rs) [] c x first old new filled none item start pushed =
     ∙ ap (λ b. tally (is_same_column c) old + cond b 1 0) (and_swap (c.start == x.start) (c.trip.0 == x.trip.0) ∙ ap (λ b. (c.trip.0 == x.trip.0) && b) (sym run))
 
 -- ---- runs start before the thousandth hour
-
-at_most : (o : Option ℕ) → IfSome o (λ a. a ≤ 3_599_999) → unwrap_or o 0 ≤ 3_599_999
-at_most None h = omega arith
-at_most (Some a) h = h
 
 any_ended : (fs : List Frequency) (r : ℕ) → All IsPeriod fs → list_any (starts r) fs ≡ true → r < 3_600_000
 any_ended [] r all is = absurd (false≢true is)
@@ -191,21 +146,6 @@ run-rows p row [] fs r is = absurd (false≢true (sym (no_run p row fs r) ∙ is
 run-rows p row (x ∷ rs) fs r is = omega arith
 
 -- ---- when a run passes a stop time
-
-chain : (first arrival departure : Option ℕ) → is_some first ≡ true → IfSome first (λ a. IfSome (option_or arrival departure) (λ b. a ≤ b))
-    → IfSome arrival (λ a. IfSome departure (λ b. a ≤ b)) → is_some (option_or departure arrival) ≡ true → unwrap_or first 0 ≤ unwrap_or (option_or departure arrival) 0
-chain None arrival departure timed on stay has = absurd (false≢true timed)
-chain (Some a) None None timed on stay has = absurd (false≢true has)
-chain (Some a) (Some b) None timed on stay has = on
-chain (Some a) None (Some c) timed on stay has = on
-chain (Some a) (Some b) (Some c) timed on stay has = omega (arith, on, stay)
-
-pub starts-before : (p : Parts) (rs : List StopRow) → AreStopTimes p rs → (k : ℕ) (d : StopRow) → k < length rs → is_some (left_at (get_or rs k d)) ≡ true
-    → unwrap_or (left_at (get_or rs 0 d)) 0 ≤ unwrap_or (left_at (get_or rs k d)) 0
-starts-before p rs are zero d within has = omega arith
-starts-before p rs are (suc k) d within has =
-    let row = get_or rs (suc k) d in
-    chain (left_at (get_or rs 0 d)) row.arrival_time row.departure_time (are.first_timed d (omega (arith, within))) (are.run_on 0 (suc k) d (omega arith) within) (are.stay (suc k) d within) has
 
 -- a stop time that has a time has it whatever the default
 pub timed-there : (rs : List StopRow) (k : ℕ) (d x : StopRow) (time : ℕ) → k < length rs → x ≡ get_or rs k x → left_at x ≡ Some time → is_some (left_at (get_or rs k d)) ≡ true

@@ -9,6 +9,7 @@ use Rattle.gtfs_rows.specs.Views.{frequency_of}
 use Rattle.gtfs_rows.specs.declared.frequency.Frequency.{Frequency}
 use Rattle.gtfs_runs.specs.Counts.{tally}
 use Rattle.gtfs_runs.specs.Trips.{starts_run}
+use Rattle.gtfs_runs.proofs.Tallies.{tally-push}
 use Rattle.gtfs_board.specs.SheetSteps.{is_same_column}
 use Rattle.gtfs_board.specs.declared.sheet.columns.Column.{Column}
 
@@ -87,10 +88,6 @@ next_from start next end headway r lasts moves low is = elim (cases_Bool (r == s
     apart a b e f = grind (arith, nat_tests)
 
 -- ---- the steps of the code
-
-pub tally-push : {X : Type 0} (q : X → Bool) (xs : List X) (x : X) → tally q (xs ++ x ∷ []) ≡ tally q xs + cond (q x) 1 0
-tally-push q [] x = let e : cond (q x) 1 0 + 0 ≡ 0 + cond (q x) 1 0 = omega arith in e
-tally-push q (y ∷ xs) x = let e = tally-push q xs x in omega (arith, e)
 
 pub period-begun : (c : Column) (t start end : ℕ) (f : Frequency) (n : ℕ) → start ≡ f.start_time → end ≡ f.end_time
     → n + cond ((c.trip.0 == t) && starts_from start end f.headway_secs c.start) 1 0 ≡ n + cond ((c.trip.0 == t) && starts_run (frequency_of f) c.start) 1 0

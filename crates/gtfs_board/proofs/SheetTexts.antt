@@ -4,15 +4,12 @@ use Rattle.std.specs.Prelude.{min, zip}
 use Rattle.std.specs.List.{flat_map}
 use Rattle.std.proofs.Math.Seq.{take-suc}
 use Rattle.std.proofs.lemmas.List.{take_all}
+use Rattle.std.proofs.lemmas.List.Folds.{flat_map-map as each-mapped}
 use Rattle.gtfs_board.specs.Timetable.{Run, Sheet, sheet_text, stop_text, tabbed, title_text, trips_text}
 
 each-append : {X : Type 0} (f : X → List ℕ) (xs : List X) (x : X) → flat_map f (xs ++ x ∷ []) ≡ flat_map f xs ++ f x
 each-append f [] x = append-nil (f x)
 each-append f (y ∷ ys) x = ap (λ t. f y ++ t) (each-append f ys x) ∙ sym (append_assoc (f y) (flat_map f ys) (f x))
-
-pub each-mapped : {X Y : Type 0} (f : Y → List ℕ) (g : X → Y) (xs : List X) → flat_map f (map g xs) ≡ flat_map (λ x. f (g x)) xs
-each-mapped f g [] = refl
-each-mapped f g (x ∷ xs) = ap (λ t. f (g x) ++ t) (each-mapped f g xs)
 
 pub nothing-yet : (old start new : List ℕ) → new ≡ old ++ start → new ≡ old ++ (start ++ [])
 nothing-yet old start new is = is ∙ ap (λ t. old ++ t) (sym (append-nil start))

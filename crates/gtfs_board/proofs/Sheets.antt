@@ -6,14 +6,14 @@ use Rattle.std.specs.Cmp.{IsTotalOrder, tied_itself}
 use Rattle.std.specs.Cmp.Lexicographic.{nat_list_cmp_total}
 use Rattle.std.specs.Cmp.Rules.{comparing}
 use Rattle.std.specs.FinMap.{nat_cmp-IsAntisymmetric, slice_cmp-IsAntisymmetric}
-use Rattle.std.specs.declared.cmp.Ordering.{Ordering}
-use Rattle.std.specs.declared.cmp.Ordering.TheVariants.{Less, Equal, Greater}
-use Rattle.std.specs.Ordering.{is_eq, is_lt, ordering_then}
+use Rattle.std.specs.declared.cmp.Ordering.TheVariants.{Less, Equal}
+use Rattle.std.specs.Ordering.{is_eq, is_lt}
 use Rattle.std.proofs.lemmas.Bool.{and_from, and_parts, cases_Bool, eq-eqb, eqb-true, not-true, or_left, or_right, true≢false}
 use Rattle.std.proofs.lemmas.Bool.Decides.{nat_tests}
 use Rattle.std.proofs.lemmas.List.{length-map}
 use Rattle.std.proofs.lemmas.Option.{slice_get_within}
 use Rattle.std.proofs.lemmas.Simd.{map-map}
+use Rattle.gtfs_field.proofs.OrderingFacts.{equal, tied}
 use Rattle.gtfs_columns.proofs.SiteFacts.{text_is, text_itself}
 use Rattle.gtfs_columns.specs.Values.{if_there}
 use Rattle.gtfs_feed.proofs.NumberFacts.{trip_route}
@@ -50,11 +50,6 @@ use Rattle.gtfs_board.proofs.SheetRuns.{in-some, run-rows, runs-in, some-in}
 headings_total : IsTotalOrder heading_cmp
 headings_total = search (comparing, rules, nat_list_cmp_total) depth 20
 
-tied : (r s : Ordering) → ordering_then r s ≡ Equal → (r ≡ Equal) × (s ≡ Equal)
-tied Less s h = absurd (cc)
-tied Equal s h = (refl, h)
-tied Greater s h = absurd (cc)
-
 heading_exact : (g h : Heading) → heading_cmp g h ≡ Equal → g ≡ h
 heading_exact g h e =
     let both = tied _ _ e in
@@ -64,11 +59,6 @@ heading_exact g h e =
 
 headings_strict : IsStrict is_heading_before
 headings_strict = strict_from_total heading_cmp headings_total heading_exact
-
-equal : (r : Ordering) → is_eq r ≡ true → r ≡ Equal
-equal Less h = absurd (cc)
-equal Equal h = refl
-equal Greater h = absurd (cc)
 
 has_own : (h : Heading) (t : Trip) → h ≡ heading_of t → has_heading h t ≡ true
 has_own h t is = ap (λ g. is_eq (heading_cmp g (heading_of t))) is ∙ ap is_eq (tied_itself headings_total (heading_of t))

@@ -1,9 +1,10 @@
 -- What the code shows of a candidate's rows.
-use Rattle.std.proofs.Common.{◌≡◌, ◌<◌, ℕ, ◌&&◌, Bool, List, [], ◌∷◌, map, length, Some, refl, sym, ap, subst, ◌∙◌, unwrap_or}
+use Rattle.std.proofs.Common.{◌≡◌, ◌<◌, ℕ, ◌&&◌, List, [], map, length, Some, sym, ap, subst, ◌∙◌, unwrap_or}
 use Rattle.std.specs.Prelude.{◌==◌, All, IfSome, option_map, option_and_then, slice_get}
 use Rattle.std.specs.List.{list_any}
 use Rattle.std.specs.Option.{option_or}
 use Rattle.std.proofs.lemmas.Option.{get_or_from_slice_get, slice_get_within}
+use Rattle.gtfs_field.proofs.ListFacts.{any_mapped, mapped_at as at_map}
 use Rattle.gtfs_feed.proofs.TripFacts.{stop_times}
 use Rattle.gtfs_feed.proofs.TripsAt.{content_trip}
 use Rattle.gtfs_feed.specs.Trips.{frequencies_by_trip, stop_rows_by_trip}
@@ -20,12 +21,8 @@ use Rattle.gtfs_board.specs.Lines.{Listed}
 use Rattle.gtfs_board.specs.Showing.{key_in, listed_in, trip_in}
 use Rattle.gtfs_board.specs.Shown.{mark_if, name_of, route_name, shown_at}
 use Rattle.gtfs_board.specs.declared.merge.candidate.Candidate.{Candidate}
-use Rattle.gtfs_board.proofs.EventFacts.{at_map, text_at}
+use Rattle.gtfs_board.proofs.EventFacts.{text_at}
 use Rattle.gtfs_board.proofs.Opened.{found_id, listed_at}
-
-any_mapped : {A B : Type 0} (q : B → Bool) (f : A → B) (xs : List A) → list_any q (map f xs) ≡ list_any (λ x. q (f x)) xs
-any_mapped q f [] = refl
-any_mapped q f (x ∷ xs) = rw (any_mapped q f xs) refl
 
 module _ (p : Parts) (sound : IsSoundParts p) where
   pub route_found : (n : ℕ) (r : RouteRow) → slice_get p.routes n ≡ Some r → route_name (content_of_parts p) (text_of_number (route_ids p) n) ≡ unwrap_or (option_or r.route_short_name r.route_long_name) []

@@ -3,8 +3,8 @@ use Rattle.std.proofs.Common.{◌≡◌, inl, inr, arith, w64, SFits}
 use Rattle.std.specs.Prelude.{ℤ, pos, negsuc, ◌+ℤ◌, ◌-ℤ◌, ◌*ℤ◌, ◌≤ℤ◌, ◌<ℤ◌}
 use Rattle.std.specs.Int.{int_max, int_min, int_div_euclid}
 use Rattle.std.proofs.lemmas.Int.{ints, clamps}
+use Rattle.gtfs_field.proofs.NumberFacts.{cases_int}
 use Rattle.gtfs_board.specs.merge.Lanes.{IsStartDay}
-use Rattle.gtfs_board.proofs.Ints.{cases_int}
 
 -- a quotient lies at or below its number, and less than one below
 pub quotient : (x : ℤ) → ((int_div_euclid x (pos 86_400) *ℤ pos 86_400) ≤ℤ x) × (x <ℤ (int_div_euclid x (pos 86_400) *ℤ pos 86_400 +ℤ pos 86_400))

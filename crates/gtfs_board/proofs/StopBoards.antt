@@ -6,7 +6,10 @@ use Rattle.std.specs.declared.cmp.Ordering.TheVariants.{Less}
 use Rattle.std.proofs.lemmas.Bool.{and_from, and_parts, eqb-true, eq-eqb}
 use Rattle.std.proofs.lemmas.Int.{ints}
 use Rattle.std.proofs.lemmas.List.{length-map}
-use Rattle.std.proofs.lemmas.Option.{get_or_from_slice_get, slice_get_within}
+use Rattle.std.proofs.lemmas.Option.{get_or_from_slice_get, same_Some as some_is, slice_get_within}
+use Rattle.std.proofs.lemmas.Map.Keys.{any_passes_from_place as at_any}
+use Rattle.gtfs_field.proofs.NumberFacts.{eq-int_eq, int_eq-true, int_le-true, le-int_le}
+use Rattle.gtfs_field.proofs.ListFacts.{mapped_at as at_map}
 use Rattle.gtfs_columns.proofs.SiteFacts.{text_is, text_itself}
 use Rattle.gtfs_columns.specs.Values.{if_there}
 use Rattle.gtfs_days.specs.Service.{is_active}
@@ -30,9 +33,8 @@ use Rattle.gtfs_board.specs.LaneDays.{all_departures, departing, lane_at, serves
 use Rattle.gtfs_board.specs.declared.merge.candidate.Candidate.{Candidate}
 use Rattle.gtfs_board.specs.merge.Order.{In}
 use Rattle.gtfs_board.proofs.BoardKeys.{StandFor}
-use Rattle.gtfs_board.proofs.EventFacts.{IsPassing, any_at, at_any, at_map, event_lane, lane_event, lane_one, map_at, of_passing, passing, same_number, same_row, service_within, some_is, text_at, there_some, trip_back}
+use Rattle.gtfs_board.proofs.EventFacts.{IsPassing, any_at, event_lane, lane_event, lane_one, map_at, of_passing, passing, same_number, same_row, service_within, text_at, there_some, trip_back}
 use Rattle.gtfs_board.proofs.LaneDays.{all-on, event-on, on-all, on-event}
-use Rattle.gtfs_board.proofs.Reach.{int_le-true, le-int_le}
 
 -- ---- a departure by its parts
 
@@ -51,12 +53,6 @@ pub record IsDeparting (f : Content) (origin : Origins) (s : List ℕ) (k : Key)
   pub departs : is_departure_row trip row ≡ true
   pub place : is_in_place f s row.stop_id ≡ true
   pub instant : k.instant ≡ origin k.day +ℤ pos (passes_at trip k.run row)
-
-int_eq-true : (a b : ℤ) → int_eq a b ≡ true → a ≡ b
-int_eq-true a b h = grind (arith, ints)
-
-eq-int_eq : (a b : ℤ) → a ≡ b → int_eq a b ≡ true
-eq-int_eq a b h = grind (arith, ints)
 
 pub departing_from : (f : Content) (origin : Origins) (s : List ℕ) (k : Key) → departs_at f origin s k ≡ true → IsDeparting f origin s k
 departing_from f origin s k h =

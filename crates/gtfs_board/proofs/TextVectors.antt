@@ -17,7 +17,7 @@ use Rattle.gtfs_board.specs.Lines.{clock_text, line_text}
 
 -- ---- a date that has the number of a day is the day's date
 
-same_digits : (d : Date) (k : ℕ) → k < 2_958_464 → epoch_day d ≡ negsuc 25_566 +ℤ pos k → digits_of_date (date_after k) ≡ digits_of_date d
+pub same_digits : (d : Date) (k : ℕ) → k < 2_958_464 → epoch_day d ≡ negsuc 25_566 +ℤ pos k → digits_of_date (date_after k) ≡ digits_of_date d
 same_digits d k inside number =
     let same = epoch_day_injective (date_after k) d (date_after-number k inside ∙ sym number) in
     rw (same.0, same.1, same.2) refl

@@ -1,15 +1,16 @@
 -- No event of a stop comes later than its latest, and each departure is an instant.
-use Rattle.std.proofs.Common.{◌≡◌, ◌+◌, ◌-◌, ◌≤◌, ◌<◌, ℕ, zero, suc, ℤ, Bool, true, false, List, [], ◌∷◌, inl, inr, map, length, get_or, Option, Some, None, refl, sym, ap, subst, ◌∙◌, arith, max, unwrap_or}
+use Rattle.std.proofs.Common.{◌≡◌, ◌+◌, ◌-◌, ◌≤◌, ◌<◌, ℕ, zero, suc, ℤ, Bool, true, false, List, [], ◌∷◌, inl, inr, map, length, get_or, Some, refl, sym, ap, subst, ◌∙◌, arith, max, unwrap_or}
 use Rattle.std.specs.Prelude.{◌==◌, ◌&&◌, not, IfSome, pos, ◌+ℤ◌, nat_lt, nat_le, slice_get, All}
 use Rattle.std.specs.List.{enumerate_from, filter, flat_map, fold, list_any, range_with_len}
 use Rattle.std.proofs.lemmas.Bool.{and_from, and_parts, eqb-true, ltb-true}
 use Rattle.std.proofs.lemmas.Int.{ints}
-use Rattle.std.proofs.lemmas.Option.{get_or_from_slice_get, slice_get_within}
+use Rattle.std.proofs.lemmas.Option.{get_or_from_slice_get, same_Some as some_is, slice_get_within}
 use Rattle.gtfs_days.specs.Service.{is_service_day}
 use Rattle.gtfs_days.specs.Zone.{IsInstant, noon_offset, zone_origin}
 use Rattle.gtfs_days.specs.declared.zone.Zone.{Zone}
 use Rattle.gtfs_feed.specs.Trips.{frequencies_by_trip, left_at, stop_rows_by_trip}
 use Rattle.gtfs_field.specs.Calendar.{date_of_day}
+use Rattle.gtfs_field.proofs.ListFacts.{fold-rises as fold_above}
 use Rattle.gtfs_rows.specs.Rows.{StopRow, Trip}
 use Rattle.gtfs_rows.specs.Sound.{leaves}
 use Rattle.gtfs_rows.specs.Views.{IsSoundParts, content_of_parts, frequency_of, service_ids, stop_row_of, trip_of}
@@ -21,17 +22,14 @@ use Rattle.gtfs_runs.specs.Places.{is_in_place}
 use Rattle.gtfs_runs.specs.StopLanes.{AreLanesOf, LaneValue, StopLanesValue, lanes_of}
 use Rattle.gtfs_runs.specs.Trips.{first_leaves, is_departure_row, is_run, passes_at, runs, starts_run, trip_start}
 use Rattle.gtfs_runs.specs.declared.event.Event.{Event}
+use Rattle.gtfs_runs.proofs.TripTimes.{at_most as most_left}
 use Rattle.gtfs_board.specs.LaneDays.{AreTimely, lane_at, no_lane}
 use Rattle.gtfs_board.specs.merge.Order.{In}
-use Rattle.gtfs_board.proofs.EventFacts.{IsPassing, any_at, at_in, lane_event, map_at, passing, some_is, trip_back}
+use Rattle.gtfs_board.proofs.EventFacts.{IsPassing, any_at, at_in, lane_event, map_at, passing, trip_back}
 use Rattle.gtfs_board.proofs.LaneDays.{day_there, in-flat_map, in-map, in-range}
 use Rattle.gtfs_board.proofs.Rests.{in-filter}
 
 -- ---- the greatest of a list
-
-fold_above : (a : ℕ) (xs : List ℕ) → a ≤ fold max a xs
-fold_above a [] = omega arith
-fold_above a (x ∷ xs) = let rest = fold_above (max a x) xs in omega (arith, rest)
 
 fold_most : (a : ℕ) (xs : List ℕ) (x : ℕ) → In x xs → x ≤ fold max a xs
 fold_most a [] x here = absurd here
@@ -59,10 +57,6 @@ run_listed n e t r is small = subst (In r) (runs_are n e t) (in-filter (is_run t
 pub record HasTimes (t : Trip) : Type 0 where
   pub rows : (n : ℕ) (row : StopRow) → slice_get t.stop_rows n ≡ Some row → unwrap_or (leaves row) 0 ≤ 3_599_999
   pub runs : (r : ℕ) → is_run t r ≡ true → r ≤ 3_599_999
-
-most_left : (o : Option ℕ) → IfSome o (λ a. a ≤ 3_599_999) → unwrap_or o 0 ≤ 3_599_999
-most_left None h = omega arith
-most_left (Some a) h = h
 
 all_got : {X : Type 0} (P : X → Type 0) (xs : List X) (n : ℕ) (x : X) → All P xs → slice_get xs n ≡ Some x → P x
 all_got P xs n x all at = subst P (get_or_from_slice_get xs n x x at) (all n x (slice_get_within xs n x at))
@@ -126,7 +120,7 @@ event_timely p sound s service e h =
     (in-map (λ r. passes_at h.trip r h.row) (runs h.trip) e.run run)) in
     subst (λ n. n ≤ latest f s) h.at (fold_most 0 _ (passes_at h.trip e.run h.row) all)
 
-all-each : {X : Type 0} (P : X → Type 0) (xs : List X) → ((x : X) → In x xs → P x) → All P xs
+pub all-each : {X : Type 0} (P : X → Type 0) (xs : List X) → ((x : X) → In x xs → P x) → All P xs
 all-each P [] h k d within = absurd (omega (arith, within))
 all-each P (x ∷ xs) h zero d within = h x (inl refl)
 all-each P (x ∷ xs) h (suc k) d within = all-each P xs (λ y there. h y (inr there)) k d (omega (arith, within))

@@ -2,11 +2,11 @@ use Rattle.std.proofs.Common.{◌≡◌, ℕ, zero, suc, ◌+◌, ◌*◌, ◌/�
 use Rattle.std.specs.Prelude.{ℤ, pos, ◌+ℤ◌, ◌-ℤ◌, ◌*ℤ◌, ◌≤ℤ◌, unsigned_abs, ◌==◌}
 use Rattle.std.proofs.lemmas.Int.{ints}
 use Rattle.std.proofs.lemmas.Bool.{cases_Bool, cases_eq, cases_lt, and_parts, eqb-true, eq-eqb}
+use Rattle.gtfs_field.proofs.NumberFacts.{abs-above, cases_int}
 use Rattle.gtfs_board.specs.merge.Order.{IsStrict, In, Each, same, tally}
 use Rattle.gtfs_board.specs.merge.Lanes.{Events, AreLanes, is_head, AreHeads}
 use Rattle.gtfs_board.proofs.Orders.{find-in, Each-in, same-self}
 use Rattle.gtfs_board.proofs.Heads.{head-found}
-use Rattle.gtfs_board.proofs.Ints.{cases_int}
 
 module _ {C : Type 0} where
   pub each_in : (P : C → Type 0) (xs : List C) → ((x : C) → In x xs → P x) → Each P xs
@@ -27,13 +27,10 @@ in_tally {C} {lt} o x (y ∷ q) here = elim here [
 lane_below : (n i : ℕ) → (n ≤ i → ⊥) → i < n
 lane_below n i h = elim (cases_lt i n) [ inl a ↦ a | inr b ↦ absurd (h b) ]
 
-above_is : (d a : ℤ) → d ≤ℤ a → pos (unsigned_abs (a -ℤ d)) ≡ a -ℤ d
-above_is d a h = grind (arith, ints)
-
 same_place : (d a b : ℤ) → d ≤ℤ a → d ≤ℤ b → unsigned_abs (a -ℤ d) ≡ unsigned_abs (b -ℤ d) → a ≡ b
 same_place d a b ha hb e =
-    let x = above_is d a ha in
-    let y = above_is d b hb in
+    let x = abs-above a d ha in
+    let y = abs-above b d hb in
     let z = ap pos e in
     omega (arith, ints, x, y, z)
 
@@ -43,7 +40,7 @@ below_quotient n w h = omega arith
 within_width : (latest : ℕ) (x0 d0 d t : ℤ) → d0 ≤ℤ d → (d *ℤ pos 86_400) ≤ℤ (x0 +ℤ pos 93_599)
     → t ≤ℤ (d0 *ℤ pos 86_400 +ℤ pos (latest + 93_599)) → x0 ≤ℤ t → unsigned_abs (d -ℤ d0) < (latest + 187_198) / 86_400 + 1
 within_width latest x0 d0 d t up down late low =
-    let e = above_is d0 d up in
+    let e = abs-above d d0 up in
     below_quotient (unsigned_abs (d -ℤ d0)) (latest + 187_198) (omega (arith, ints, e, down, late, low))
 
 module _ {C : Type 0} where

@@ -1,20 +1,17 @@
 -- What a device holds while the files of a feed are written.
-use Rattle.std.proofs.Common.{◌≡◌, ◌∙◌, ap, sym, subst, refl, ℕ, ◌+◌, ◌<◌, ◌≤◌, add-one, inr, List, [], ◌∷◌, ◌++◌, length, take, drop, take-append-drop, get_or, Option, Some, None, arith}
+use Rattle.std.proofs.Common.{◌≡◌, ◌∙◌, ap, sym, subst, refl, ℕ, ◌+◌, ◌<◌, ◌≤◌, add-one, inr, List, [], ◌∷◌, ◌++◌, length, take, drop, take-append-drop, get_or, Option, Some, None}
 use Rattle.std.proofs.Math.Seq.{take-suc}
 use Rattle.std.proofs.lemmas.List.{take_all}
-use Rattle.gtfs_table.specs.Device.{Rises}
 use Rattle.gtfs_table.specs.Files.{file_name}
 use Rattle.gtfs_table.specs.Folder.{put, Disturbs, Store, Writes}
 use Rattle.gtfs_table.specs.Reading.{kept_files}
 use Rattle.gtfs_table.specs.declared.file.File.{File}
+use Rattle.gtfs_table.proofs.FolderFacts.{rises-from}
 use Rattle.gtfs_rows.specs.Content.{Content}
 use Rattle.gtfs_cli.specs.Merges.{file_text, with_files, DisturbsAfter, HoldsFiles, IsFileEnd, IsWritingEnd}
 use Rattle.gtfs_cli.specs.declared.commands.refusal.Refusal.{Refusal}
 use Rattle.gtfs_cli.specs.declared.commands.refusal.Refusal.TheVariants.{Words, BadValue, NotThere, Unreadable, OverLimit, HasErrors, NoZone, UnknownStop, UnknownRoute, UntilBeforeFrom, ZonesDiffer, MergeTooLarge, Unwritable, OutputFailed, OutOfMemory}
 use Rattle.gtfs_cli.proofs.Sequences.{items-split}
-
-pub rises-within : (a b c : ℕ) → a ≤ b → Rises b c → Rises a c
-rises-within a b c before up = omega (arith, before, up)
 
 module _ (c : Content) (dir : List ℕ) where
   with_more : (xs : List File) (x : File) (store : Store) → with_files c dir (xs ++ x ∷ []) store ≡ put (with_files c dir xs store) dir (file_name x) (file_text c x)
@@ -66,7 +63,7 @@ module _ (c : Content) (dir : List ℕ) where
     h.0,
     inr (
       named,
-      rises-within first before end grows h.1,
+      rises-from first before end grows h.1,
       record {
         files = take i kept_files;
         one = get_or kept_files i x;

@@ -2,14 +2,13 @@ mod Moments
 mod Paths
 mod Endings
 mod Gravely
-pub mod PlainNames
 pub mod Counted
 pub mod Reported
 mod Parts
 mod Begun
 mod ControlSplit
 mod Asked
-mod Printed
+pub mod Printed
 mod Opening
 mod Ended
 mod Tabled

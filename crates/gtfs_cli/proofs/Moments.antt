@@ -7,7 +7,6 @@ use Rattle.std.proofs.lemmas.Int.{ints}
 use Rattle.std.proofs.lemmas.Bool.{and_parts}
 use Rattle.std.proofs.lemmas.Bool.Decides.{nat_tests}
 use Rattle.std.proofs.lemmas.Int.Digits.{digits_value-lt}
-use Rattle.std.proofs.lemmas.Str.Parse.{IsNumeralModel, numerals_by_value, tells_all_ascii_digits}
 use Rattle.std.proofs.Math.Nat.{pow-le-pow_right}
 use Rattle.jiff_core.specs.Calendar.{IsWithin}
 use Rattle.gtfs_field.specs.Digits.{number, is_number}
@@ -15,6 +14,7 @@ use Rattle.gtfs_field.specs.Kinds.{instant_of, is_minus, is_plain_number, shaped
 use Rattle.gtfs_field.specs.declared.fault.FieldFault.{FieldFault}
 use Rattle.gtfs_days.specs.Service.{first_service_day, is_service_day, last_service_day}
 use Rattle.clap.specs.Lexer.{strip_byte}
+use Rattle.gtfs_field.proofs.Numerals.{numerals}
 use Rattle.gtfs_cli.specs.Running.{after_at, service_day}
 use Rattle.gtfs_board.specs.Span.{is_span}
 use Rattle.gtfs_board.specs.declared.span.Span.{Span}
@@ -26,10 +26,6 @@ shaped-ok false r v h = cc h
 within-ok : {V : Type 0} (b : Bool) (w v : V) → within b w ≡ Ok v → (b ≡ true) × (w ≡ v)
 within-ok true w v h = (refl, cc h)
 within-ok false w v h = cc h
-
--- decimal digits, in the words of std
-numerals : IsNumeralModel (λ ds. all_ascii_digits ds ≡ true) number
-numerals = numerals_by_value _ tells_all_ascii_digits
 
 digits-small : (ds : List ℕ) → is_plain_number ds ≡ true → length ds ≤ 12 → number ds < 10 ^ 12
 digits-small ds plain few =

@@ -1,7 +1,8 @@
 -- Boards that were opened.
-use Rattle.std.proofs.Common.{◌≡◌, ◌∙◌, ap, sym, subst, refl, Bool, true, false, List, ℕ, All, Option, Some, None, option_map, option_copied, ℤ, ◌<ℤ◌, arith}
+use Rattle.std.proofs.Common.{◌≡◌, ◌∙◌, ap, sym, subst, true, false, List, ℕ, All, Option, Some, None, option_map, option_copied, ℤ, ◌<ℤ◌, arith}
 use Rattle.std.specs.Borrow.{Bor}
 use Rattle.std.proofs.lemmas.Int.{ints}
+use Rattle.std.proofs.lemmas.Bool.{true_from_ne_false}
 use Rattle.gtfs_days.specs.Zone.{zone_origin}
 use Rattle.gtfs_days.specs.declared.zone.Zone.{Zone}
 use Rattle.gtfs_rows.specs.Content.{Content}
@@ -16,10 +17,6 @@ use Rattle.gtfs_board.specs.declared.key.Key.{Key as LentKey}
 use Rattle.gtfs_board.specs.declared.span.Span.{Span}
 use Rattle.gtfs_cli.specs.Boards.{GoesOut, ListsBoard, OfBoard}
 use Rattle.gtfs_cli.specs.Running.{instant_at, Request}
-
-not-false : (b : Bool) → (b ≡ false → ⊥) → b ≡ true
-not-false true never = refl
-not-false false never = absurd (never refl)
 
 -- a span that ends before it begins is bad
 backward : (s : Span) → s.until <ℤ s.from → is_span s ≡ false
@@ -36,7 +33,7 @@ pub lists-board : (f : Content) (z : Zone) (stop : List ℕ) (r : Request) (s : 
     → ((is_stop f stop ≡ true) × (is_span s ≡ false) → ⊥) → IsBoard f (zone_origin z) stop s.from s.until after (keys_of ds) → All (IsShown f) ds
     → ListsBoard f z stop r ds
 lists-board f z stop r s x y after ds from_x until_y x_from y_until same_after never forward board shown =
-    let known = not-false (is_stop f stop) never in
+    let known = true_from_ne_false (is_stop f stop) never in
     let from = instant_at (zone_origin z) r.from in
     let until = instant_at (zone_origin z) r.until in
     let from_is : s.from ≡ from = from_x ∙ x_from in

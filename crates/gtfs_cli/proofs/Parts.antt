@@ -58,20 +58,11 @@ last-cut a b c text left h begun = one-cut a b c text left left [] h (sym (appen
 
 -- ---- calls that may fail
 
--- what holds, holds on an error
-pub on-error : {A B : Type 0} (r : Result A B) (P : Type 0) → P → OnErr r P
-on-error (Ok x) P h = tt
-on-error (Err e) P h = h
-
 -- of a text that did not go out whole the first bytes did
 pub first-sent : {A : Type 0} (r : Result A OutFault) (a b : Option (List ℕ)) (text : List ℕ) → IfErr r (λ fault. Appends a b (take fault.written text))
     → OnErr r (SendsBeginning a b text)
 first-sent (Ok x) a b text h = tt
 first-sent (Err fault) a b text h = some-sent a b text fault.written h
-
-pub ok-then : {A B : Type 0} (r : Result A B) (P Q : Type 0) → (P → Q) → OnOk r P → OnOk r Q
-ok-then (Ok x) P Q f h = f h
-ok-then (Err e) P Q f h = tt
 
 pub both-then : {A B : Type 0} (r : Result A B) (P Q R : Type 0) → (P → Q → R) → OnOk r P → OnOk r Q → OnOk r R
 both-then (Ok x) P Q R f p q = f p q

@@ -6,6 +6,7 @@ use Rattle.std.proofs.KnownBytes.{Appends-trans}
 use Rattle.std.proofs.Math.Seq.{take-suc}
 use Rattle.std.proofs.lemmas.List.{take_all}
 use Rattle.std.proofs.lemmas.List.Concat.{flat_map-append}
+use Rattle.std.proofs.lemmas.List.Folds.{flat_map-map}
 use Rattle.gtfs_cli.specs.Sending.{SendsBeginning}
 use Rattle.gtfs_cli.proofs.Parts.{Leaves, all-left, last-cut, one-cut}
 
@@ -43,11 +44,6 @@ module _ {X : Type 0} (f : X → List ℕ) where
       ap (flat_map f) (items-split xs i x inside) ∙ flat_map-append f (take i xs) (get_or xs i x ∷ drop (i + 1) xs) in
       let left : Leaves a b (flat_map f xs) (item ++ past) = record { sent = flat_map f (take i xs); whole = whole; out = out } in
       one-cut a b c (flat_map f xs) (item ++ past) item past left refl begun
-
--- the items may be made of others
-pub flat_map-map : {X Y : Type 0} (f : Y → List ℕ) (g : X → Y) (xs : List X) → flat_map f (map g xs) ≡ flat_map (λ x. f (g x)) xs
-flat_map-map f g [] = refl
-flat_map-map f g (x ∷ xs) = ap (λ t. f (g x) ++ t) (flat_map-map f g xs)
 
 pub sequence-of : {X Y : Type 0} (f : Y → List ℕ) (g : X → Y) (xs : List X) (ys : List Y) → map g xs ≡ ys → flat_map (λ x. f (g x)) xs ≡ flat_map f ys
 sequence-of f g xs ys are = sym (flat_map-map f g xs) ∙ ap (flat_map f) are

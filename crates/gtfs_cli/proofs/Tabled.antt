@@ -5,6 +5,7 @@ use Rattle.std.specs.Io.KnownBytes.{Appends, Keeps}
 use Rattle.std.proofs.lemmas.List.{map-append, map_more, take_all}
 use Rattle.std.proofs.lemmas.List.Concat.{flat_map-append}
 use Rattle.std.proofs.KnownBytes.{Appends-trans}
+use Rattle.std.proofs.lemmas.Bool.{true_from_ne_false}
 use Rattle.gtfs_table.specs.Folder.{Store}
 use Rattle.gtfs_rows.specs.Content.{Content}
 use Rattle.gtfs_feed.specs.Content.{content_of as content_of_feed}
@@ -130,13 +131,9 @@ sheet-cut a b c ss i s inside is out begun =
 
 -- ---- of a feed
 
-not-false : (b : Bool) → (b ≡ false → ⊥) → b ≡ true
-not-false true never = refl
-not-false false never = absurd (never refl)
-
 -- a route that is not refused is one of the feed
 pub known-route : (f : Content) (route : List ℕ) → (is_route f route ≡ false → ⊥) → is_route f route ≡ true
-known-route f route never = not-false (is_route f route) never
+known-route f route never = true_from_ne_false (is_route f route) never
 
 pub sending-cause : (f : Content) (route : List ℕ) (before after : ℕ) (r : Refusal) → IsSendingCause before after r → IsSheetsCause f route before after r
 sending-cause f route before after (Words text) h = absurd h

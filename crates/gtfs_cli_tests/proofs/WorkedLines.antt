@@ -1,24 +1,17 @@
 -- Texts of keys, clocks and lines.
-use Rattle.std.proofs.Common.{◌≡◌, ◌<◌, ◌++◌, ◌+ℤ◌, ℕ, pos, negsuc, [], codes, refl, sym, ap, ◌∙◌, arith, lit<, lit≤}
+use Rattle.std.proofs.Common.{◌≡◌, ◌++◌, pos, negsuc, [], codes, refl, ap, arith, lit<, lit≤}
 use Rattle.std.specs.Fmt.{digits}
 use Rattle.jiff_core.specs.Calendar.{days_from_civil, day_count, days_of_years, days_of_months}
-use Rattle.jiff_core.specs.Date.{epoch_day}
 use Rattle.jiff_core.specs.declared.civil.date.Date.{Date}
-use Rattle.jiff_core.proofs.DateLemmas.{epoch_day_injective}
 use Rattle.jiff_core.proofs.SignedLemmas.{signed_arith}
-use Rattle.gtfs_field.specs.Calendar.{date_after, date_after-number}
-use Rattle.gtfs_field.specs.Canonical.{digits_of_date, date_text}
+use Rattle.gtfs_field.specs.Canonical.{date_text}
 use Rattle.gtfs_board.specs.declared.departure.Mark.TheVariants as mark
 use Rattle.gtfs_board.specs.Key.{Key}
 use Rattle.gtfs_board.specs.KeyTexts.{key_text}
 use Rattle.gtfs_board.specs.Lines.{clock_text, line_text}
+use Rattle.gtfs_board.proofs.TextVectors.{same_digits}
 
 -- ---- 1 April 2024 is day 19814
-
-same_digits : (d : Date) (k : ℕ) → k < 2_958_464 → epoch_day d ≡ negsuc 25_566 +ℤ pos k → digits_of_date (date_after k) ≡ digits_of_date d
-same_digits d k inside number =
-    let same = epoch_day_injective (date_after k) d (date_after-number k inside ∙ sym number) in
-    rw (same.0, same.1, same.2) refl
 
 first_of_april : Date
 first_of_april = record {

@@ -13,10 +13,6 @@ pub no_test : (a : Bool) → (a ≡ true → false ≡ true) → a ≡ false
 no_test true f = sym (f refl)
 no_test false f = refl
 
-pub and_both : (a b : Bool) → a ≡ true → b ≡ true → (a && b) ≡ true
-and_both true b f g = g
-and_both false b f g = f
-
 -- what follows under a test may be changed where the test holds
 pub and_under : (a b c : Bool) → (a ≡ true → b ≡ c) → (a && b) ≡ (a && c)
 and_under true b c f = f refl

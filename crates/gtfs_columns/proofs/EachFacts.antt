@@ -1,11 +1,12 @@
 -- What is reported of each element of a list, one after the other.
-use Rattle.std.proofs.Common.{◌≡◌, ◌+◌, ◌<◌, ◌≤◌, ℕ, zero, suc, [], ◌∷◌, List, length, get_or, map, take, true, false, Bool, cond, refl, sym, ap, ◌∙◌, add_comm, zero-add, arith}
+use Rattle.std.proofs.Common.{◌≡◌, ◌+◌, ◌<◌, ◌≤◌, ℕ, zero, suc, [], ◌∷◌, List, length, get_or, take, true, false, Bool, cond, refl, sym, ap, ◌∙◌, add_comm, zero-add, arith}
 use Rattle.std.specs.Prelude.{◌&&◌, ◌||◌, ◌==◌, filter, not}
 use Rattle.std.specs.List.{list_any, range_with_len}
 use Rattle.std.proofs.lemmas.List.{take_all}
 use Rattle.std.proofs.lemmas.Bool.Decides.{nat_tests}
 use Rattle.std.proofs.lemmas.List.Folds.{list_any_at, list_any_more}
 use Rattle.std.proofs.lemmas.List.FromFn.{get_or-range_with_len, length-range_with_len}
+use Rattle.std.proofs.Math.Bool.{and-false}
 use Rattle.gtfs_table.specs.Tables.{Dataset}
 use Rattle.gtfs_columns.specs.steps.Found.{Reports}
 use Rattle.gtfs_columns.specs.Problems.{Problem, is_problem}
@@ -17,17 +18,9 @@ and_or : (a b c : Bool) → ((a && b) || (a && c)) ≡ (a && (b || c))
 and_or true b c = refl
 and_or false b c = refl
 
-no_and : (a : Bool) → false ≡ (a && false)
-no_and true = refl
-no_and false = refl
-
 pub any_and : {X : Type 0} (a : Bool) (t : X → Bool) (xs : List X) → list_any (λ x. a && t x) xs ≡ (a && list_any t xs)
-any_and a t [] = no_and a
+any_and a t [] = sym (and-false a)
 any_and a t (x ∷ xs) = ap (λ b. (a && t x) || b) (any_and a t xs) ∙ and_or a (t x) (list_any t xs)
-
-pub any_mapped : {X Y : Type 0} (f : X → Y) (t : Y → Bool) (xs : List X) → list_any t (map f xs) ≡ list_any (λ x. t (f x)) xs
-any_mapped f t [] = refl
-any_mapped f t (x ∷ xs) = ap (λ b. t (f x) || b) (any_mapped f t xs)
 
 -- an element that passes one test passes the other
 either : (a b : Bool) (s t : Bool) → (a ≡ true → s ≡ true) → (b ≡ true → t ≡ true) → (a || b) ≡ true → (s || t) ≡ true
@@ -89,8 +82,3 @@ none_in_range t a (suc n) none =
     let first : t a ≡ false = ap t (sym (zero-add a)) ∙ none 0 (omega arith) in
     let later : (m : ℕ) → m < n → t (m + (a + 1)) ≡ false = λ m below. let same : m + (a + 1) ≡ (m + 1) + a = omega arith in ap t same ∙ none (m + 1) (omega arith) in
     rw first (none_in_range t (a + 1) n later)
-
--- tests that agree everywhere
-pub any_alike : {X : Type 0} (p q : X → Bool) (xs : List X) → ((x : X) → p x ≡ q x) → list_any p xs ≡ list_any q xs
-any_alike p q [] same = refl
-any_alike p q (x ∷ xs) same = ap (λ b. b || list_any p xs) (same x) ∙ ap (λ b. q x || b) (any_alike p q xs same)

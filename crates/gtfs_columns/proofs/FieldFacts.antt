@@ -2,6 +2,7 @@
 use Rattle.std.proofs.Common.{arith, ◌≡◌, ℕ, List, [], ◌∷◌, true, false, Bool, refl, ap, ◌∙◌, Option, Some}
 use Rattle.std.specs.Prelude.{◌&&◌, not, if◌then◌else◌}
 use Rattle.std.proofs.lemmas.Bool.Decides.{nat_tests}
+use Rattle.gtfs_field.proofs.TestFacts.{and_later}
 use Rattle.gtfs_table.specs.Tables.{Dataset}
 use Rattle.gtfs_table.specs.declared.file.File.{File}
 use Rattle.gtfs_columns.specs.declared.code.Code.{Code}
@@ -42,10 +43,6 @@ no_control : (t : List ℕ) (a : Bool) → (not (is_empty t) && (a && has_contro
 no_control [] true = refl
 no_control [] false = refl
 no_control (b ∷ bs) a = let filled : is_empty (b ∷ bs) ≡ false = grind (arith, nat_tests) in rw filled refl
-
-and_later : (a b c : Bool) → (a && (b && c)) ≡ ((a && b) && c)
-and_later true b c = refl
-and_later false b c = refl
 
 -- an empty text has the code of its column
 empty_found : (empty named required : Bool) (found : Option Code) → is_found found code.E06 ≡ false

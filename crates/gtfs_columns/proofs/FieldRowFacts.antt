@@ -2,8 +2,9 @@
 use Rattle.std.proofs.Common.{arith, ◌≡◌, ℕ, List, [], ◌∷◌, true, false, Bool, refl, sym, ap, ◌∙◌, Option, Some, None}
 use Rattle.std.specs.Prelude.{◌&&◌, ◌||◌, ◌==◌, bytes_eq, if◌then◌else◌, nat_lt}
 use Rattle.std.specs.List.{list_any}
-use Rattle.std.proofs.lemmas.Bool.{and_right}
+use Rattle.std.proofs.lemmas.Bool.{and_right, eqb-true as same_number}
 use Rattle.std.proofs.lemmas.Bool.Decides.{nat_tests}
+use Rattle.gtfs_field.proofs.NumberFacts.{one_way}
 use Rattle.gtfs_table.specs.Tables.{Dataset}
 use Rattle.gtfs_table.specs.declared.file.File.{File}
 use Rattle.gtfs_columns.specs.declared.code.Code.{Code}
@@ -20,7 +21,7 @@ use Rattle.gtfs_columns.specs.Values.{if_there}
 use Rattle.gtfs_columns.proofs.BoolFacts.{and_parts, and_under}
 use Rattle.gtfs_columns.proofs.CellFacts.{cell_other}
 use Rattle.gtfs_columns.proofs.FieldFacts.{empty_reported, unreadable_reported, out_of_range_reported, control_in_id_reported, control_in_text_reported}
-use Rattle.gtfs_columns.proofs.SiteFacts.{file_is, same_number}
+use Rattle.gtfs_columns.proofs.SiteFacts.{file_is}
 use Rattle.gtfs_columns.proofs.RowFacts.{at_row}
 
 -- ---- the length of a row
@@ -34,9 +35,6 @@ long_found : (a b : Bool) → (a ≡ true → b ≡ false) → is_found (if a th
 long_found true b apart = sym (apart refl)
 long_found false true apart = refl
 long_found false false apart = refl
-
-one_way : (m n : ℕ) → nat_lt m n ≡ true → nat_lt n m ≡ false
-one_way m n below = grind (arith, nat_tests, below)
 
 length_other : (a b : Bool) (c : Code) → is_code c code.W01 ≡ false → is_code c code.W02 ≡ false
     → is_found (if a then Some code.W01 else when b code.W02) c ≡ false

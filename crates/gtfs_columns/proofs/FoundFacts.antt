@@ -11,12 +11,12 @@ use Rattle.std.proofs.Math.Bool.{and-true, or-false, or_assoc}
 use Rattle.std.proofs.lemmas.Bool.{cases_Bool}
 use Rattle.std.proofs.lemmas.List.Kept.{IsStrictlySortedBy-dedup}
 use Rattle.std.proofs.lemmas.List.Sorted.{list_any-IsPermutation}
+use Rattle.gtfs_field.proofs.ListFacts.{any_mapped}
 use Rattle.gtfs_columns.specs.declared.problem.Problem.{Problem as LentProblem}
 use Rattle.gtfs_columns.specs.steps.Found.{is_same, SameProblems}
 use Rattle.gtfs_columns.specs.steps.ProblemOrder.{problem_total}
 use Rattle.gtfs_columns.specs.Problems.{Problem, problem_cmp, is_listed}
 use Rattle.gtfs_columns.specs.View.{problem_of}
-use Rattle.gtfs_columns.proofs.EachFacts.{any_mapped}
 
 -- ---- a problem more
 
@@ -73,7 +73,7 @@ reported_alike p x y e = ap is_eq (alike_right problem_total (problem_of x) (pro
 
 pub same_once : (old mid : List LentProblem) → IsPermutation old mid → SameProblems (map problem_of old) (map problem_of (dedup (eq_by_cmp lent_cmp) mid))
 same_once old mid moved p =
-    any_mapped problem_of (λ q. is_same q p) (dedup (eq_by_cmp lent_cmp) mid)
+    any_mapped (λ q. is_same q p) problem_of (dedup (eq_by_cmp lent_cmp) mid)
     ∙ any_dedup (eq_by_cmp lent_cmp) (λ x. is_same (problem_of x) p) (reported_alike p) mid
     ∙ sym (list_any-IsPermutation (λ x. is_same (problem_of x) p) old mid moved)
-    ∙ sym (any_mapped problem_of (λ q. is_same q p) old)
+    ∙ sym (any_mapped (λ q. is_same q p) problem_of old)

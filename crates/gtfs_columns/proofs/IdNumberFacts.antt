@@ -1,6 +1,6 @@
 -- The rows of ids, as they are listed, are the ids by their numbers.
 use Rattle.std.proofs.Common.{◌≡◌, ℕ, zero, suc, ◌+◌, ◌<◌, ◌≤◌, ◌∷◌, [], List, map, length, get_or, option_map, cond, true, false, Bool, Option, Some, None, refl, subst, sym, ap, ◌∙◌, arith, inl, inr}
-use Rattle.std.specs.Prelude.{◌&&◌, bytes_eq, is_some, nat_lt, not, slice_get}
+use Rattle.std.specs.Prelude.{bytes_eq, is_some, nat_lt, not, slice_get}
 use Rattle.std.specs.Cmp.Lexicographic.{nat_list_cmp_total}
 use Rattle.std.specs.FinMap as table
 use Rattle.std.specs.FinMap.{nat_cmp-IsAntisymmetric, slice_cmp-IsAntisymmetric}
@@ -9,7 +9,7 @@ use Rattle.std.specs.List.{AllByRecursion, find as find_first, list_any, positio
 use Rattle.std.specs.List.Sorted.{IsStrictlySortedBy}
 use Rattle.std.specs.Ordering.{eq_by_cmp, is_lt, on}
 use Rattle.std.specs.declared.cmp.Ordering.TheVariants.{Less}
-use Rattle.std.proofs.lemmas.Bool.{cases_Bool, cases_lt}
+use Rattle.std.proofs.lemmas.Bool.{and_from as both, cases_Bool}
 use Rattle.std.proofs.lemmas.Bool.Decides.{nat_tests}
 use Rattle.std.proofs.lemmas.List.{length-map}
 use Rattle.std.proofs.lemmas.Map.Text.{is_eq-slice_cmp}
@@ -28,15 +28,11 @@ use Rattle.gtfs_columns.specs.steps.Ids.{IdColumn, IsIdIndex, are_clear, first_r
 use Rattle.gtfs_columns.proofs.IdFacts.{earlier, id_and_row, paired_numbers, paired_rows, row_paired}
 use Rattle.std.proofs.lemmas.List.Quantifiers.{position-Some}
 use Rattle.std.proofs.lemmas.Option.{slice_get-get_or}
-use Rattle.gtfs_columns.proofs.EachFacts.{any_alike}
+use Rattle.gtfs_field.proofs.ListFacts.{any_alike, position_any as is_placed}
 use Rattle.gtfs_columns.proofs.NamedFacts.{text_turned}
 use Rattle.gtfs_columns.proofs.SiteFacts.{text_is}
 
 -- ---- rows ascending by their ids are the entries of a map
-
-both : (a b : Bool) → a ≡ true → b ≡ true → (a && b) ≡ true
-both true b p q = q
-both false b p q = cc p
 
 below : (r : IdRow) (rs : List IdRow) → AllByRecursion (λ s. on id_of text_cmp r s ≡ Less) rs → below_all text_cmp (id_of r) (map id_and_row rs) ≡ true
 below r [] h = refl
@@ -143,25 +139,6 @@ module _ (i : IdColumn) (listed : List IdRow) (index : IsIdIndex i listed) (id :
       ∙ ap (λ b. cond b (Some (position_or_len has_id listed)) None) beyond)
 
 -- ---- ids that are there
-
-both_more : (a b : ℕ) → nat_lt (1 + a) (suc b) ≡ nat_lt a b
-both_more a b = elim (cases_lt a b) [
-  | inl below ↦
-      let later : nat_lt (1 + a) (suc b) ≡ true = grind (arith, nat_tests, below) in
-      let now : nat_lt a b ≡ true = grind (arith, nat_tests, below) in
-      later ∙ sym now
-  | inr past ↦
-      let later : nat_lt (1 + a) (suc b) ≡ false = grind (arith, nat_tests, past) in
-      let now : nat_lt a b ≡ false = grind (arith, nat_tests, past) in
-      later ∙ sym now
-]
-
-is_placed : {X : Type 0} (p : X → Bool) (xs : List X) → nat_lt (position_or_len p xs) (length xs) ≡ list_any p xs
-is_placed p [] = refl
-is_placed p (x ∷ xs) = elim (cases_Bool (p x)) [
-  | inl here ↦ (let below : nat_lt 0 (length (x ∷ xs)) ≡ true = grind (arith, nat_tests) in rw (here, below) refl)
-  | inr later ↦ rw later (both_more (position_or_len p xs) (length xs) ∙ is_placed p xs)
-]
 
 module _ (i : IdColumn) (id : List ℕ) where
   abbrev pairs : List (List ℕ × ℕ)

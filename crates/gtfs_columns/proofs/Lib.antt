@@ -8,6 +8,7 @@ pub mod FoundFacts
 pub mod IdFacts
 pub mod IdNumberFacts
 pub mod NamedFacts
+pub mod PlainTexts
 pub mod ReadFacts
 pub mod ReferenceFacts
 pub mod ReportingFacts
@@ -17,3 +18,4 @@ pub mod SiteFacts
 pub mod SiteSteps
 pub mod StepFacts
 pub mod StopTypeFacts
+pub mod ValueFacts

@@ -1,11 +1,9 @@
 -- A header names a column just where it has an index for it; the names of the kept columns of a file.
-use Rattle.std.proofs.Common.{arith, ◌≡◌, ◌+◌, ℕ, List, [], ◌∷◌, length, true, false, Bool, refl, sym, ap, ◌∙◌, cond, map, suc, Some, None, inl, inr}
-use Rattle.std.specs.Prelude.{◌&&◌, ◌||◌, not, nat_lt, bytes_eq, count_by, find}
+use Rattle.std.proofs.Common.{◌≡◌, ℕ, List, [], ◌∷◌, length, true, false, Bool, refl, sym, ap, ◌∙◌, cond, map, Some, inl, inr}
+use Rattle.std.specs.Prelude.{◌&&◌, not, nat_lt, bytes_eq, find}
 use Rattle.std.specs.List.{list_any, list_all, position_or_len}
 use Rattle.std.specs.Option.{is_some}
 use Rattle.std.proofs.lemmas.Bool.{cases_Bool, and_left, not-true, or_from, or_parts}
-use Rattle.std.proofs.lemmas.Bool.Decides.{nat_tests}
-use Rattle.std.proofs.lemmas.List.Sums.{sum_by-cons}
 use Rattle.gtfs_table.specs.Blanks.{cut}
 use Rattle.gtfs_table.specs.Tables.{Dataset, column_of, record_at}
 use Rattle.gtfs_table.specs.declared.file.File.{File}
@@ -14,9 +12,9 @@ use Rattle.gtfs_columns.specs.Columns.{Column, columns_of, column_named}
 use Rattle.gtfs_columns.specs.Rows.{is_named}
 use Rattle.gtfs_table.specs.Rows.{records_in, is_empty}
 use Rattle.gtfs_columns.specs.Values.{if_there}
-use Rattle.gtfs_columns.proofs.EachFacts.{any_alike}
-pub use Rattle.gtfs_columns.proofs.EachFacts.{any_mapped as any_of_mapped}
 use Rattle.std.proofs.Math.Bool.{or-false}
+use Rattle.gtfs_field.proofs.ListFacts.{any_alike, any_mapped, count_any, position_any}
+use Rattle.gtfs_field.proofs.OptionFacts.{is_some-cond}
 use Rattle.gtfs_columns.proofs.BoolFacts.{same_test, and_parts}
 use Rattle.gtfs_columns.proofs.SiteFacts.{text_is, text_itself}
 
@@ -27,32 +25,11 @@ text_turned a b = same_test (bytes_eq a b) (bytes_eq b a)
     (λ e. ap (bytes_eq b) (text_is a b e) ∙ text_itself b)
     (λ e. ap (bytes_eq a) (text_is b a e) ∙ text_itself a)
 
--- one that passes makes the count positive
-counted : (b : Bool) (n : ℕ) → nat_lt 0 (cond b 1 0 + n) ≡ (b || nat_lt 0 n)
-counted true n = grind (arith, nat_tests)
-counted false n = grind (arith, nat_tests)
-
-pub count_any : {X : Type 0} (p : X → Bool) (xs : List X) → nat_lt 0 (count_by p xs) ≡ list_any p xs
-count_any p [] = refl
-count_any p (x ∷ xs) = ap (nat_lt 0) (sum_by-cons (λ y. cond (p y) 1 0) x xs) ∙ counted (p x) (count_by p xs) ∙ ap (λ b. p x || b) (count_any p xs)
-
-is_some-cond : {X : Type 0} (b : Bool) (x : X) → is_some (cond b (Some x) None) ≡ b
-is_some-cond true x = refl
-is_some-cond false x = refl
-
-located_first : (b : Bool) (m n : ℕ) → nat_lt (cond (not b) (1 + m) 0) (suc n) ≡ (b || nat_lt m n)
-located_first true m n = grind (arith, nat_tests)
-located_first false m n = grind (arith, nat_tests)
-
-position_any : {X : Type 0} (p : X → Bool) (xs : List X) → nat_lt (position_or_len p xs) (length xs) ≡ list_any p xs
-position_any p [] = refl
-position_any p (x ∷ xs) = located_first (p x) (position_or_len p xs) (length xs) ∙ ap (λ b. p x || b) (position_any p xs)
-
 pub named_located : (d : Dataset) (x : File) (name : List ℕ) → is_empty name ≡ false → is_named d x name ≡ is_some (column_of (records_in d x) name)
 named_located d x name filled =
     let fields = record_at (records_in d x) 1 in
     count_any (bytes_eq name) (map cut fields)
-    ∙ any_of_mapped cut (bytes_eq name) fields
+    ∙ any_mapped (bytes_eq name) cut fields
     ∙ any_alike (λ t. bytes_eq name (cut t)) (λ t. bytes_eq (cut t) name) fields (λ t. text_turned name (cut t))
     ∙ sym (rw filled (is_some-cond (nat_lt (position_or_len (λ t. bytes_eq (cut t) name) fields) (length fields)) (position_or_len (λ t. bytes_eq (cut t) name) fields)
     ∙ position_any (λ t. bytes_eq (cut t) name) fields))
@@ -92,10 +69,6 @@ kept_apart file.Frequencies = refl
 kept_apart file.Transfers = refl
 
 -- of columns whose names differ at most one has a name
-false_and : (b : Bool) → (b && false) ≡ false
-false_and true = refl
-false_and false = refl
-
 none_named : (name : List ℕ) (f : Column → Bool) (cs : List Column) → list_any (has_name name) cs ≡ false → list_any (λ c. has_name name c && f c) cs ≡ false
 none_named name f [] none = refl
 none_named name f (c ∷ cs) none =

@@ -3,7 +3,7 @@ use Rattle.std.proofs.Common.{◌≡◌, ℕ, List, [], ◌∷◌, true, false, 
 use Rattle.std.specs.Prelude.{◌&&◌, ◌||◌, bytes_eq, not, if◌then◌else◌, nat_lt, nat_le, length, find, is_some, IsSome, option_and_then, option_map, ℤ, Result, Ok, Err}
 use Rattle.std.specs.List.{list_all, list_any}
 use Rattle.std.specs.Result.{result_ok}
-use Rattle.std.proofs.lemmas.Bool.{and_parts, cases_Bool}
+use Rattle.std.proofs.lemmas.Bool.{and_parts, cases_Bool, not-false as not_not}
 use Rattle.std.proofs.lemmas.Bool.Decides.{nat_tests}
 use Rattle.gtfs_field.specs.declared.fault.FieldFault.{FieldFault}
 use Rattle.gtfs_field.specs.declared.fault.FieldFault.TheVariants.{Form, Range}
@@ -24,6 +24,7 @@ use Rattle.gtfs_columns.specs.Rows.{is_named, text_in}
 use Rattle.gtfs_columns.specs.Values.{Value, word, as_amount, as_word, counted, has_control, meaning, measured, one_of, plain, read_as, readable}
 use Rattle.gtfs_columns.specs.Reads.{amount_of, word_of}
 use Rattle.gtfs_field.specs.Kinds.{shaped, count_of, time_of, date_of, colour_of, coordinate_of}
+use Rattle.gtfs_field.proofs.OptionFacts.{is_some-map as mapped_some}
 
 -- ---- what a default means is readable
 
@@ -70,10 +71,6 @@ no_fault colour t form range control = sound (read_as colour t) form range
 no_fault (coordinate axis) t form range control = sound (read_as (coordinate axis) t) form range
 
 -- ---- a row of a dataset that passes
-
-not_not : (b : Bool) → not b ≡ false → b ≡ true
-not_not true e = refl
-not_not false e = sym e
 
 module _ (d : Dataset) (passes : Passes d) (x : File) (n : ℕ) (name : List ℕ) (c : Column)
     (row : is_row (records_in d x) n ≡ true) (there : column_named x name ≡ Some c) where
@@ -185,10 +182,6 @@ amount_some time numbers t = counted_some (is_empty t) (time_of t)
 amount_some date numbers t = measured_some (is_empty t) (date_of t)
 amount_some colour numbers t = counted_some (is_empty t) (colour_of t)
 amount_some (coordinate axis) numbers t = measured_some (is_empty t) (coordinate_of axis t)
-
-mapped_some : {X Y : Type 0} (f : X → Y) (o : Option X) → is_some (option_map f o) ≡ is_some o
-mapped_some f None = refl
-mapped_some f (Some x) = refl
 
 is_there : {X : Type 0} (o : Option X) → is_some o ≡ true → IsSome o
 is_there None e = cc e

@@ -2,6 +2,7 @@
 use Rattle.std.proofs.Common.{◌≡◌, ◌++◌, ◌∷◌, ℕ, List, codes, true, Bool, refl, sym, ◌∙◌}
 use Rattle.std.specs.Prelude.{◌&&◌, not, bytes_eq, is_some}
 use Rattle.std.specs.List.{list_any}
+use Rattle.std.proofs.lemmas.Bool.{and_from as and_both}
 use Rattle.gtfs_table.specs.Tables.{Dataset}
 use Rattle.gtfs_table.specs.declared.file.File.{File}
 use Rattle.gtfs_table.specs.declared.file.File.TheVariants as file
@@ -14,7 +15,7 @@ use Rattle.gtfs_columns.specs.Problems.{FileName, kept, other}
 use Rattle.gtfs_columns.specs.Rows.{is_file, text_in, value_in}
 use Rattle.gtfs_table.specs.Rows.{is_row, records_in}
 use Rattle.gtfs_columns.specs.steps.UnknownIds.{is_unknown}
-use Rattle.gtfs_columns.proofs.BoolFacts.{and_parts, and_both}
+use Rattle.gtfs_columns.proofs.BoolFacts.{and_parts}
 use Rattle.gtfs_columns.proofs.SiteSteps.{is_site}
 use Rattle.gtfs_columns.proofs.EachFacts.{any_follows}
 use Rattle.gtfs_columns.proofs.NamedFacts.{text_turned}

@@ -1,15 +1,16 @@
 -- What is reported of the rows of a file in a loop that takes them one after the other.
 use Rattle.std.proofs.Common.{◌≡◌, ℕ, List, [], ◌∷◌, ◌++◌, true, false, Bool, refl, sym, ap, ◌∙◌, inl, inr}
-use Rattle.std.proofs.lemmas.Bool.{cases_Bool}
+use Rattle.std.proofs.lemmas.Bool.{and_from as and_both, cases_Bool}
 use Rattle.std.specs.Prelude.{◌&&◌, ◌||◌, ◌==◌}
 use Rattle.std.proofs.lemmas.List.Folds.{list_any-append}
+use Rattle.std.proofs.Math.Bool.{and-false as and_false}
 use Rattle.gtfs_table.specs.Rows.{Row, is_among, is_row, numbers, records_in, rows}
 use Rattle.gtfs_table.specs.Tables.{Dataset}
 use Rattle.gtfs_table.specs.declared.file.File.{File}
 use Rattle.gtfs_table.proofs.RowFacts.{numbers_more, row_among}
 use Rattle.gtfs_columns.specs.steps.Found.{Reports}
 use Rattle.gtfs_columns.specs.Problems.{Problem, is_problem}
-use Rattle.gtfs_columns.proofs.BoolFacts.{same_test, and_parts, and_both}
+use Rattle.gtfs_columns.proofs.BoolFacts.{same_test, and_parts}
 use Rattle.gtfs_columns.proofs.ReportingFacts.{reports_alike, reports_none, reports_then}
 
 -- the picked problems at a row
@@ -19,10 +20,6 @@ at_row picks n p = picks p && (p.row == n)
 -- the picked problems at the rows with these numbers
 abbrev pub at_rows : (Problem → Bool) → List ℕ → Problem → Bool
 at_rows picks ns p = picks p && is_among ns p.row
-
-and_false : (a : Bool) → (a && false) ≡ false
-and_false true = refl
-and_false false = refl
 
 -- before the first row
 pub reported_none : (d : Dataset) (picks : Problem → Bool) (ps : List Problem) → Reports d (at_rows picks []) ps ps

@@ -2,8 +2,9 @@
 use Rattle.std.proofs.Common.{◌≡◌, ℕ, List, true, refl, sym, ap, ◌∙◌}
 use Rattle.std.specs.Prelude.{◌&&◌, ◌==◌, bytes_eq}
 use Rattle.std.specs.Cmp.{Equal-is, tied_itself}
-use Rattle.std.proofs.lemmas.Bool.{eqb-true, eq-eqb}
+use Rattle.std.proofs.lemmas.Bool.{eqb-true, and_from as and_both}
 use Rattle.std.proofs.lemmas.Slice.Eq.{bytes_eq-Decides}
+use Rattle.gtfs_field.proofs.NumberFacts.{number_itself}
 use Rattle.gtfs_table.specs.declared.file.File.{File}
 use Rattle.gtfs_columns.specs.declared.code.Code.{Code}
 use Rattle.gtfs_columns.specs.Codes.{code_rank}
@@ -12,13 +13,7 @@ use Rattle.gtfs_columns.specs.steps.Picks.{at_column, is_kept}
 use Rattle.gtfs_columns.specs.Problems.{FileName, kept, other, Problem, is_code, problem_cmp}
 use Rattle.gtfs_columns.specs.steps.ProblemOrder.{problem_anti, problem_total, same_code, same_file}
 use Rattle.gtfs_columns.specs.Rows.{is_file, file_rank}
-use Rattle.gtfs_columns.proofs.BoolFacts.{same_test, and_parts, and_both}
-
-pub same_number : (a b : ℕ) → (a == b) ≡ true → a ≡ b
-same_number a b e = eqb-true a b e
-
-pub number_itself : (a : ℕ) → (a == a) ≡ true
-number_itself a = eq-eqb a a refl
+use Rattle.gtfs_columns.proofs.BoolFacts.{same_test, and_parts}
 
 pub code_is : (a b : Code) → is_code a b ≡ true → a ≡ b
 code_is a b e = same_code a b (eqb-true (code_rank a) (code_rank b) e)
@@ -66,5 +61,5 @@ same_at_column c x name n p = same_test (is_same (problem_at c x name n) p) (at_
     (λ e. ap (λ q. at_column c x name q && (q.row == n)) (is_same_is (problem_at c x name n) p e)
     ∙ and_both (at_column c x name (problem_at c x name n)) (n == n) (at_column_itself c x name n) (number_itself n))
     (λ e. let parts = and_parts (at_column c x name p) (p.row == n) e in
-    ap (is_same (problem_at c x name n)) (at_column_is c x name p parts.0 ∙ ap (problem_at c x name) (same_number p.row n parts.1))
+    ap (is_same (problem_at c x name n)) (at_column_is c x name p parts.0 ∙ ap (problem_at c x name) (eqb-true p.row n parts.1))
     ∙ same_itself (problem_at c x name n))

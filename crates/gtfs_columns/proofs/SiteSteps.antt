@@ -13,10 +13,11 @@ use Rattle.gtfs_columns.specs.steps.Picks.{at_column, elsewhere, is_kept}
 use Rattle.gtfs_columns.specs.steps.SitePicks.{at_sites}
 use Rattle.gtfs_columns.specs.Problems.{FileName, kept, other, Problem, holds, holds_in, is_code, is_problem}
 use Rattle.gtfs_columns.specs.Rows.{is_file}
-use Rattle.gtfs_columns.proofs.BoolFacts.{same_test, and_parts, and_both}
+use Rattle.gtfs_columns.proofs.BoolFacts.{same_test, and_parts}
 use Rattle.gtfs_columns.proofs.SiteFacts.{code_is}
 use Rattle.gtfs_columns.proofs.EachFacts.{any_follows, any_gives}
 use Rattle.std.proofs.Math.Bool.{or-false}
+use Rattle.std.proofs.lemmas.Bool.{and_from as and_both}
 use Rattle.gtfs_columns.proofs.ReportingFacts.{reports_alike, reports_then}
 
 -- at one column

@@ -3,7 +3,7 @@ use Rattle.std.proofs.Common.{◌≡◌, ℕ, List, [], ◌∷◌, true, false, 
 use Prim.Native.String.{String as Literal}
 use Rattle.std.specs.Prelude.{◌&&◌, ◌||◌, ◌==◌, bytes_eq}
 use Rattle.std.specs.List.{list_any}
-use Rattle.std.proofs.lemmas.Bool.{cases_Bool}
+use Rattle.std.proofs.lemmas.Bool.{and_from as and_both, cases_Bool, eqb-true as same_number}
 use Rattle.gtfs_table.specs.Tables.{Dataset}
 use Rattle.gtfs_table.specs.declared.file.File.{File}
 use Rattle.gtfs_columns.specs.declared.code.Code.{Code}
@@ -16,8 +16,9 @@ use Rattle.gtfs_table.specs.Rows.{is_row, records_in}
 use Rattle.gtfs_columns.proofs.EachFacts.{any_follows, any_gives}
 -- a test alone among none
 pub use Rattle.std.proofs.Math.Bool.{or-false as alone}
-use Rattle.gtfs_columns.proofs.BoolFacts.{same_test, and_parts, and_both, or_left, or_right}
-use Rattle.gtfs_columns.proofs.SiteFacts.{code_is, file_is, number_itself, same_number}
+use Rattle.gtfs_field.proofs.NumberFacts.{number_itself}
+use Rattle.gtfs_columns.proofs.BoolFacts.{same_test, and_parts, or_left, or_right}
+use Rattle.gtfs_columns.proofs.SiteFacts.{code_is, file_is}
 use Rattle.gtfs_columns.proofs.ReportingFacts.{reports_alike, reports_none, reports_then}
 
 -- ---- a test that takes in more, and no further problem

@@ -2,7 +2,7 @@
 use Rattle.std.proofs.Common.{◌≡◌, ◌==◌, ℕ, ◌+◌, ◌-◌, ◌<◌, ◌∷◌, [], ◌++◌, List, length, length-append, true, false, Bool, Option, Some, None, codes, refl, sym, ap, ◌∙◌, arith, inl, inr}
 use Rattle.std.specs.Prelude.{◌&&◌, ◌||◌, not, bytes_eq, option_and_then, ℤ}
 use Rattle.std.proofs.Math.Bool.{or-false}
-use Rattle.std.proofs.lemmas.Bool.{cases_lt}
+use Rattle.std.proofs.lemmas.Bool.{and_from as and_both, cases_lt}
 use Rattle.std.proofs.lemmas.Bool.Decides.{nat_tests}
 use Rattle.std.proofs.lemmas.List.{get_or_append_left, get_or_past, get_or_push}
 use Rattle.gtfs_table.specs.Blanks.{without_first_blanks}
@@ -17,7 +17,7 @@ use Rattle.gtfs_table.specs.Rows.{records_in}
 use Rattle.gtfs_columns.specs.steps.StopTypes.{AreStopTypes, type_in_text, type_of, type_with}
 use Rattle.gtfs_columns.specs.StopRules.{has_parent_of_other_type, names_none_of, wrong_kind_of_stop}
 use Rattle.gtfs_columns.specs.Values.{if_there, is_one_of}
-use Rattle.gtfs_columns.proofs.BoolFacts.{and_parts, and_both}
+use Rattle.gtfs_columns.proofs.BoolFacts.{and_parts}
 use Rattle.gtfs_columns.proofs.SiteSteps.{is_site}
 use Rattle.gtfs_columns.proofs.EachFacts.{any_follows}
 use Rattle.gtfs_columns.proofs.StepFacts.{Reported, is_file_turned, reported_there}

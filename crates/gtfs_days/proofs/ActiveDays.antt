@@ -1,28 +1,26 @@
 -- The first active day, from the first exception and the first day that the calendar row covers.
-use Rattle.std.proofs.Common.{◌≡◌, ◌≢◌, ℕ, zero, suc, ◌+◌, ◌<◌, ◌≤◌, ◌&&◌, ◌||◌, Bool, true, false, List, [], ◌∷◌, length, get_or, drop, Option, Some, None, ℤ, pos, ◌+ℤ◌, ◌<ℤ◌, ◌≤ℤ◌, int_eq, int_lt, if◌then◌else◌, refl, sym, ◌∙◌, ap, subst, inl, inr, ◌⊎◌, arith}
+use Rattle.std.proofs.Common.{◌≡◌, ◌≢◌, ℕ, zero, suc, ◌+◌, ◌<◌, ◌≤◌, ◌&&◌, Bool, true, false, List, [], ◌∷◌, length, get_or, drop, Option, Some, None, ℤ, pos, ◌+ℤ◌, ◌<ℤ◌, ◌≤ℤ◌, int_eq, int_lt, if◌then◌else◌, refl, sym, ◌∙◌, ap, subst, inl, inr, arith}
 use Rattle.std.specs.List.{All, list_any}
 use Rattle.std.specs.List.Sorted.{IsPartitionedBy, IsPartitionPoint}
 use Rattle.std.specs.Option.{option_map_or}
 use Rattle.std.proofs.lemmas.Bool.{and_left, and_right, and_parts, both_ways, cases_Bool, cases_lt, false≢true}
-use Rattle.std.proofs.lemmas.Int.{ints, by_lt_z}
+use Rattle.std.proofs.lemmas.Int.{ints}
 use Rattle.std.proofs.lemmas.List.{drop_more, drop_all, get_or-drop, length-drop}
+use Rattle.std.proofs.Math.Bool.{and-true, or-false, or-true}
 use Rattle.jiff_core.proofs.SignedLemmas.{signed_arith}
+use Rattle.gtfs_field.proofs.NumberFacts.{cases_int, eq-int_eq, int_lt-false, int_lt-true, lt-int_lt}
 use Rattle.gtfs_days.specs.declared.exception.Exception.{Exception}
 use Rattle.gtfs_days.specs.declared.exception.Exception.TheVariants.{Added, Removed}
 use Rattle.gtfs_days.specs.declared.week.Week.{Week}
 use Rattle.gtfs_days.specs.Service.{ServiceDates, is_service_day, is_regular, is_added, is_removed, is_active, first_service_day, IsByDay, IsFirstIfAny}
-use Rattle.gtfs_days.proofs.Weekdays.{lt_from, lt_true, not_lt_from}
-use Rattle.gtfs_days.proofs.Exceptions.{Row, eq-int_eq, ne-int_eq, no_exception, or_false, by_day_head, by_day_tail}
+use Rattle.gtfs_days.proofs.Exceptions.{Row, ne-int_eq, no_exception, by_day_head, by_day_tail}
 
 abbrev pub dates : Option Week → List Row → ServiceDates
 dates week es = record { week = week; exceptions = es }
 
-and_true : (b : Bool) → (b && true) ≡ b
-and_true true = refl
-and_true false = refl
-
-cases_int : (a b : ℤ) → (a <ℤ b) ⊎ (b ≤ℤ a)
-cases_int a b = by_lt_z a b (λ h. inl h) (λ h. inr h)
+-- days before the first service day
+pub before_service : (d : ℤ) → d <ℤ first_service_day → is_service_day d ≡ false
+before_service d h = grind (arith, ints)
 
 -- days after one that is past the last service day
 past_service : (d e : ℤ) → first_service_day ≤ℤ d → is_service_day d ≡ false → d ≤ℤ e → is_service_day e ≡ false
@@ -35,24 +33,20 @@ service_day-from_active s d h = (and_parts _ _ h).0
 -- a day without exceptions is active if it is regular
 regular_day : (week : Option Week) (es : List Row) (e : ℤ) → All (λ x. x.0 ≢ e) es → is_active (dates week es) e ≡ is_regular week e
 regular_day week es e apart =
-    rw (no_exception is_removed e es apart, no_exception is_added e es apart, or_false, and_true) refl
+    rw (no_exception is_removed e es apart, no_exception is_added e es apart, or-false, and-true) refl
 
 -- an exception for another day changes nothing
 other_day : (week : Option Week) (x : Row) (es : List Row) (e : ℤ) → x.0 ≢ e → is_active (dates week (x ∷ es)) e ≡ is_active (dates week es) e
 other_day week x es e apart = rw (ne-int_eq x.0 e apart) refl
 
-or_true : (b : Bool) → (b || true) ≡ true
-or_true true = refl
-or_true false = refl
-
 -- the day of a removal, where no later exception names it
 removed_day : (week : Option Week) (d : ℤ) (es : List Row) → All (λ x. x.0 ≢ d) es → is_active (dates week ((d, Removed) ∷ es)) d ≡ false
 removed_day week d es apart =
-    rw (eq-int_eq d d refl, no_exception is_added d es apart, or_false) (and_right _ _ (and_right _ _ refl))
+    rw (eq-int_eq d d refl, no_exception is_added d es apart, or-false) (and_right _ _ (and_right _ _ refl))
 
 -- the day of an addition
 added_day : (week : Option Week) (d : ℤ) (es : List Row) → is_active (dates week ((d, Added) ∷ es)) d ≡ is_service_day d
-added_day week d es = rw (eq-int_eq d d refl, or_true) (and_true (is_service_day d))
+added_day week d es = rw (eq-int_eq d d refl, or-true) (and-true (is_service_day d))
 
 -- no exception stands for a day before the first of them
 none_on : (x : Row) (es : List Row) → IsByDay (x ∷ es) → (e : ℤ) → e <ℤ x.0 → (k : ℕ) (z : Row) → k < length (x ∷ es) → (get_or (x ∷ es) k z).0 ≢ e
@@ -92,14 +86,14 @@ earlier_start p low mid (Some d) before quiet found = record {
 -- the first day is not before d, so none before d passes
 none_until : (p : ℤ → Bool) (low d : ℤ) (r : Option ℤ) → IsFirstIfAny p low r → option_map_or (λ f. int_lt f d) r false ≡ false → (e : ℤ) → low ≤ℤ e → e <ℤ d → p e ≡ false
 none_until p low d None none late e h l = none e h
-none_until p low d (Some f) found late e h l = let after = not_lt_from f d late in found.least e h (omega (arith, signed_arith))
+none_until p low d (Some f) found late e h l = let after = int_lt-false f d late in found.least e h (omega (arith, signed_arith))
 
 -- and it is the first from d on
 pub later_start : (p : ℤ → Bool) (low d : ℤ) (r : Option ℤ) → low ≤ℤ d → IsFirstIfAny p low r → option_map_or (λ f. int_lt f d) r false ≡ false → IsFirstIfAny p d r
 later_start p low d None before none late = λ e h. none e (omega (arith, signed_arith))
 later_start p low d (Some f) before found late = record {
   passes = found.passes;
-  not_before = not_lt_from f d late;
+  not_before = int_lt-false f d late;
   least = λ e h l. found.least e (omega (arith, signed_arith)) l;
 }
 
@@ -122,7 +116,7 @@ first_unique p from (Some a) (Some b) f g = elim (cases_int a b) [
 pub before_step : (week : Option Week) (x : Row) (es : List Row) (low : ℤ) (r : Option ℤ) → IsByDay (x ∷ es) → IsFirstIfAny (is_regular week) low r → option_map_or (λ f. int_lt f x.0) r false ≡ true → IsFirstIfAny (is_active (dates week (x ∷ es))) low r
 before_step week x es low None up none early = absurd (false≢true early)
 before_step week x es low (Some d) up found early =
-    let before = lt_from d x.0 early in
+    let before = int_lt-true d x.0 early in
     record {
       passes = regular_day week (x ∷ es) d (none_on x es up d before) ∙ found.passes;
       not_before = found.not_before;
@@ -254,8 +248,8 @@ parted : (es : List Row) (from : ℤ) → IsByDay es → IsPartitionedBy (λ e. 
 parted es from up i j z h l below = elim (cases_lt i j) [
   | inl before ↦
       let less = up i j z before l in
-      let last = lt_from (get_or es j z).0 from below in
-      lt_true (get_or es i z).0 from (omega (arith, signed_arith))
+      let last = int_lt-true (get_or es j z).0 from below in
+      lt-int_lt (get_or es i z).0 from (omega (arith, signed_arith))
   | inr on ↦
       let same : j ≡ i = omega arith in
       let F : ℕ → Type 0 = λ k. int_lt (get_or es k z).0 from ≡ true in
@@ -266,10 +260,10 @@ split_at : (es : List Row) (from : ℤ) (i : ℕ) → IsByDay es → (IsPartitio
 split_at es from i up parted_at =
     let sides = parted_at (parted es from up) in
     record {
-      before = λ k z h l. lt_from (get_or es k z).0 from (sides.0 k z (omega arith) h);
+      before = λ k z h l. int_lt-true (get_or es k z).0 from (sides.0 k z (omega arith) h);
       after = λ k z l.
           let l' : i + k < length es = omega (arith, length-drop i es) in
-          let later = not_lt_from (get_or es (i + k) z).0 from (sides.1 (i + k) z (omega arith) l') in
+          let later = int_lt-false (get_or es (i + k) z).0 from (sides.1 (i + k) z (omega arith) l') in
           rw (get_or-drop i es k z) later;
     }
 

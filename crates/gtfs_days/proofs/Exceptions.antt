@@ -1,5 +1,5 @@
 -- Lists of exceptions that ascend by day.
-use Rattle.std.proofs.Common.{◌≡◌, ◌≢◌, ℕ, zero, suc, ◌+◌, ◌<◌, ◌≤◌, ◌&&◌, ◌||◌, Bool, true, false, List, [], ◌∷◌, length, get_or, map, ℤ, pos, ◌<ℤ◌, int_cmp, int_eq, refl, sym, ◌∙◌, ap, subst, inl, inr, arith}
+use Rattle.std.proofs.Common.{◌≡◌, ◌≢◌, ℕ, zero, suc, ◌+◌, ◌<◌, ◌≤◌, ◌&&◌, Bool, false, List, [], ◌∷◌, length, get_or, map, ℤ, pos, ◌<ℤ◌, int_cmp, int_eq, sym, ◌∙◌, ap, subst, inl, inr, arith}
 use Rattle.std.specs.List.{All, HoldsAt, list_any, IsDistinct}
 use Rattle.std.specs.List.Sorted.{IsPermutation, IsSortedByKey, IsStrictlySortedBy, IsNonDecreasingBy, IsPartitionPoint}
 use Rattle.std.specs.Ordering.{is_lt, ordering_index}
@@ -11,6 +11,8 @@ use Rattle.std.proofs.lemmas.List.{get_or-map, length-map}
 use Rattle.std.proofs.lemmas.List.Folds.{list_any_none}
 use Rattle.std.proofs.lemmas.List.Sorted.{IsPermutation-map}
 use Rattle.std.proofs.lemmas.Map.Keys.{IsDistinct-from_apart, IsDistinct-IsPermutation, apart_from_distinct, sorted_from_all_adjacent, Less-from_sorted}
+use Rattle.std.proofs.Math.Bool.{or-false}
+use Rattle.gtfs_field.proofs.NumberFacts.{eq-int_eq, int_eq_flips}
 use Rattle.gtfs_days.specs.declared.exception.Exception.{Exception}
 use Rattle.gtfs_days.specs.declared.exception.Exception.TheVariants.{Removed}
 use Rattle.gtfs_days.specs.Service.{IsByDay, NamesEachDayOnce}
@@ -19,14 +21,8 @@ use Rattle.gtfs_days.specs.Service.{IsByDay, NamesEachDayOnce}
 abbrev pub Row : Type 0
 Row = ℤ × Exception
 
-pub eq-int_eq : (a b : ℤ) → a ≡ b → int_eq a b ≡ true
-eq-int_eq a b e = grind (arith, ints)
-
 pub ne-int_eq : (a b : ℤ) → a ≢ b → int_eq a b ≡ false
 ne-int_eq a b h = grind (arith, ints)
-
-pub int_eq_flips : (a b : ℤ) → int_eq a b ≡ int_eq b a
-int_eq_flips a b = grind (arith, ints)
 
 less_from : (a b : ℤ) → is_lt (int_cmp b a) ≡ false → int_eq a b ≡ false → int_cmp a b ≡ Less
 less_from a b h k = grind (arith, ints)
@@ -38,10 +34,6 @@ lt_from a b h = grind (arith, ints)
 pub no_exception : (kind : Exception → Bool) (d : ℤ) (es : List Row) → All (λ e. e.0 ≢ d) es → list_any (λ e. int_eq e.0 d && kind e.1) es ≡ false
 no_exception kind d es apart =
     list_any_none (λ (e : Row). int_eq e.0 d && kind e.1) es (λ k e h. rw (ne-int_eq (get_or es k e).0 d (apart k e h)))
-
-pub or_false : (b : Bool) → (b || false) ≡ b
-or_false true = refl
-or_false false = refl
 
 -- and ascend themselves
 pub by_day_tail : (y : Row) (es : List Row) → IsByDay (y ∷ es) → IsByDay es
@@ -56,7 +48,7 @@ pub one_exception : (kind : Exception → Bool) (d : ℤ) (es : List Row) (i : �
 one_exception kind d [] i x up h e = absurd (omega arith)
 one_exception kind d (y ∷ es) zero x up h e =
     let later : All (λ (z : Row). z.0 ≢ d) es = λ k z l same. let after = by_day_head y es up k z l in omega (arith, ints) in
-    rw (eq-int_eq y.0 d e, no_exception kind d es later) (or_false (kind y.1))
+    rw (eq-int_eq y.0 d e, no_exception kind d es later) (or-false (kind y.1))
 one_exception kind d (y ∷ es) (suc i) x up h e =
     let before : y.0 <ℤ (get_or es i x).0 = by_day_head y es up i x (omega arith) in
     let apart : y.0 ≢ d = λ same. omega (arith, ints) in

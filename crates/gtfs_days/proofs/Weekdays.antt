@@ -1,11 +1,12 @@
 -- The days that a calendar row covers.
-use Rattle.std.proofs.Common.{◌≡◌, ℕ, ◌%◌, ◌<◌, Bool, true, false, Some, List, get_or, ℤ, pos, ◌+ℤ◌, ◌-ℤ◌, ◌<ℤ◌, ◌≤ℤ◌, int_le, int_lt, unsigned_abs, to_z, of_z, to_z-of_z, FitsSigned, w32, refl, sym, ◌∙◌, ap, subst, arith}
+use Rattle.std.proofs.Common.{◌≡◌, ℕ, ◌%◌, ◌<◌, Bool, true, false, Some, List, get_or, ℤ, pos, ◌+ℤ◌, ◌-ℤ◌, ◌<ℤ◌, ◌≤ℤ◌, int_le, unsigned_abs, to_z, of_z, to_z-of_z, FitsSigned, w32, refl, sym, ◌∙◌, ap, subst, arith}
 use Rattle.std.specs.Int.{int_max, int_min}
 use Rattle.std.proofs.lemmas.Bool.{and_parts, and_from, both_ways, false_from_ne_true}
 use Rattle.std.proofs.lemmas.Int.{ints, clamps}
 use Rattle.jiff_core.specs.Calendar.{weekday_number}
 use Rattle.jiff_core.proofs.CalendarLemmas.{weekday_number-add}
 use Rattle.jiff_core.proofs.SignedLemmas.{signed_arith, one_part}
+use Rattle.gtfs_field.proofs.NumberFacts.{int_le-true, le-int_le}
 use Rattle.gtfs_days.specs.declared.week.Week.{Week}
 use Rattle.gtfs_days.specs.Service.{first_service_day, last_service_day, is_regular, IsFirst}
 
@@ -24,21 +25,6 @@ same_weekday first e h =
 pub no_weekday : (days : List Bool) (first : ℤ) → ((k : ℕ) → k < 7 → get_or days (weekday_number (first +ℤ pos k)) false ≡ false) → (e : ℤ) → first ≤ℤ e → get_or days (weekday_number e) false ≡ false
 no_weekday days first none e h = rw (same_weekday first e h) (none (unsigned_abs (e -ℤ first) % 7) (omega arith))
 
-le_from : (a b : ℤ) → int_le a b ≡ true → a ≤ℤ b
-le_from a b h = grind (arith, ints)
-
-le_true : (a b : ℤ) → a ≤ℤ b → int_le a b ≡ true
-le_true a b h = grind (arith, ints)
-
-pub lt_from : (a b : ℤ) → int_lt a b ≡ true → a <ℤ b
-lt_from a b h = grind (arith, ints)
-
-pub lt_true : (a b : ℤ) → a <ℤ b → int_lt a b ≡ true
-lt_true a b h = grind (arith, ints)
-
-pub not_lt_from : (a b : ℤ) → int_lt a b ≡ false → b ≤ℤ a
-not_lt_from a b h = grind (arith, ints)
-
 -- what a covered service day is, condition by condition
 record IsCovered (w : Week) (e : ℤ) : Type 0 where
   low : first_service_day ≤ℤ e
@@ -53,10 +39,10 @@ covered_from w e h =
     let days = and_parts _ _ all.0 in
     let row = and_parts _ _ all.1 in
     let span = and_parts _ _ row.0 in
-    record { low = le_from _ _ days.0; high = le_from _ _ days.1; start = le_from _ _ span.0; «end» = le_from _ _ span.1; named = row.1 }
+    record { low = int_le-true _ _ days.0; high = int_le-true _ _ days.1; start = int_le-true _ _ span.0; «end» = int_le-true _ _ span.1; named = row.1 }
 
 regular_from : (w : Week) (e : ℤ) → IsCovered w e → is_regular (Some w) e ≡ true
-regular_from w e h = and_from _ _ (and_from _ _ (le_true _ _ h.low) (le_true _ _ h.high)) (and_from _ _ (and_from _ _ (le_true _ _ h.start) (le_true _ _ h.«end»)) h.named)
+regular_from w e h = and_from _ _ (and_from _ _ (le-int_le _ _ h.low) (le-int_le _ _ h.high)) (and_from _ _ (and_from _ _ (le-int_le _ _ h.start) (le-int_le _ _ h.«end»)) h.named)
 
 -- the days on which the row can cover a service day from `from` on
 pub record IsSpan (w : Week) (from first last : ℤ) : Type 0 where

@@ -1,6 +1,7 @@
 -- The rows of a dataset that passed, with its stop times: they stand for its content, and make a feed.
-use Rattle.std.proofs.Common.{◌≡◌, ◌∙◌, [], ◌∷◌, List, length, map, refl, sym, ap, subst}
+use Rattle.std.proofs.Common.{◌≡◌, ◌∙◌, length, map, refl, sym, ap, subst}
 use Rattle.std.proofs.lemmas.List.{length-map}
+use Rattle.gtfs_field.proofs.ListFacts.{map_alike}
 use Rattle.gtfs_table.specs.Parts.{parts}
 use Rattle.gtfs_table.specs.Tables.{Dataset}
 use Rattle.gtfs_columns.specs.Problems.{Passes}
@@ -16,11 +17,6 @@ use Rattle.gtfs_stop_times.proofs.OfParts.{cut_in_parts, numbers_in_parts, rows_
 use Rattle.gtfs_stop_times.specs.Lists.{AreStopTimesOf, content_stop_ids}
 use Rattle.gtfs_stop_times.specs.declared.stop_times.StopTimes.{StopTimes}
 
--- what is read of the rows is read of what they stand for
-read_alike : {X Y Z : Type 0} (f : X → Y) (x : X → Z) (y : Y → Z) → ((r : X) → x r ≡ y (f r)) → (rs : List X) → map x rs ≡ map y (map f rs)
-read_alike f x y same [] = refl
-read_alike f x y same (r ∷ rs) = λ i. same r i ∷ read_alike f x y same rs i
-
 module _ (d : Dataset) (r : FeedRows) (are : AreRowsOf d r) where
   -- as many trips as the content has
   pub counted : length r.trips ≡ length (content_of d).trips
@@ -33,7 +29,7 @@ module _ (d : Dataset) (r : FeedRows) (are : AreRowsOf d r) where
 
   stops_named : map (λ s. s.stop_id) r.stops ≡ content_stop_ids d
   stops_named =
-      read_alike (stop_named (map (λ s. s.stop_id) r.stops)) (λ s. s.stop_id) (λ s. s.stop_id) (λ s. refl) r.stops ∙ ap (map (λ s. s.stop_id)) are.stops
+      map_alike (stop_named (map (λ s. s.stop_id) r.stops)) (λ s. s.stop_id) (λ s. s.stop_id) (λ s. refl) r.stops ∙ ap (map (λ s. s.stop_id)) are.stops
 
 module _ (d : Dataset) (passes : Passes d) (p : Parts) (are : AreRowsOf d (rows_in p)) (lists : StopTimes) (of : AreStopTimesOf d lists)
     (rows : p.stop_rows ≡ lists.stop_rows) (starts : p.stop_row_starts ≡ lists.stop_row_starts) (headsigns : p.headsigns ≡ lists.headsigns)

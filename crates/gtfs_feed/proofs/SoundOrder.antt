@@ -4,6 +4,7 @@ use Rattle.std.specs.List.{AllPairs}
 use Rattle.std.specs.Ordering.{on}
 use Rattle.std.specs.declared.cmp.Ordering.TheVariants.{Less}
 use Rattle.std.proofs.lemmas.Simd.{map-map}
+use Rattle.gtfs_field.proofs.ListFacts.{pairs-from_map}
 use Rattle.gtfs_table.specs.Folder.{text_cmp}
 use Rattle.gtfs_table.specs.Parts.{parts}
 use Rattle.gtfs_table.proofs.PartFacts.{length-parts}
@@ -14,14 +15,13 @@ use Rattle.gtfs_rows.specs.declared.trip.Trip.{Trip}
 use Rattle.gtfs_rows.specs.Order.{Ascends}
 use Rattle.gtfs_rows.specs.Views.{IsSoundParts, content_of_parts, agency_of, stop_of, route_of, service_of, trips_of}
 use Rattle.gtfs_rows.proofs.SameElements.{pairs-map}
-use Rattle.gtfs_feed.proofs.ListFacts.{pairs-from_map}
 
 -- rows with the same ids are in the same order
 same_order : {X Y : Type 0} (f : X → List ℕ) (g : Y → List ℕ) (xs : List X) (ys : List Y) → map f xs ≡ map g ys → Ascends (on f text_cmp) xs → Ascends (on g text_cmp) ys
 same_order f g xs ys same up =
     pairs-from_map g (λ a b. text_cmp a b ≡ Less) ys (subst (AllPairs (λ a b. text_cmp a b ≡ Less)) same (pairs-map f (λ a b. text_cmp a b ≡ Less) xs up))
 
-trip_ids-kept : (p : Parts) (ts : List Trip) (rs : List (List StopRow)) (fs : List (List Frequency)) → length rs ≡ length ts → length fs ≡ length ts
+pub trip_ids-kept : (p : Parts) (ts : List Trip) (rs : List (List StopRow)) (fs : List (List Frequency)) → length rs ≡ length ts → length fs ≡ length ts
     → map (λ t. t.trip_id) (trips_of p ts rs fs) ≡ map (λ t. t.trip_id) ts
 trip_ids-kept p [] rs fs r f = refl
 trip_ids-kept p (t ∷ ts) [] fs r f = absurd (omega (arith, r))

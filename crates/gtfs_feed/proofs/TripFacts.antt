@@ -8,9 +8,10 @@ use Rattle.std.proofs.lemmas.Bool.{and_parts, or_cases, or_left, or_right, cases
 use Rattle.std.proofs.lemmas.List.{get_or-map, length-map}
 use Rattle.std.proofs.lemmas.List.Folds.{list_all-map}
 use Rattle.std.proofs.lemmas.Option.{get_or_from_slice_get, slice_get-get_or, slice_get_within}
+use Rattle.gtfs_field.proofs.ListFacts.{pairs-from_map, some_of}
 use Rattle.gtfs_columns.specs.PeriodRules.{share_second}
 use Rattle.gtfs_columns.specs.Values.{if_both}
-use Rattle.gtfs_table.proofs.PartFacts.{length-parts}
+use Rattle.gtfs_table.proofs.PartFacts.{all_in_part, length-parts}
 use Rattle.gtfs_rows.specs.declared.frequency.Frequency.{Frequency}
 use Rattle.gtfs_rows.specs.declared.parts.Parts.{Parts}
 use Rattle.gtfs_rows.specs.declared.stop_row.StopRow.{StopRow}
@@ -20,7 +21,7 @@ use Rattle.gtfs_rows.specs.Sound.{comes, leaves, keeps_time, is_end, is_sound_in
 use Rattle.gtfs_rows.specs.Views.{IsSoundParts, content_of_parts, trip_of, stop_row_of, frequency_of, stop_time_names_rows, is_within}
 use Rattle.gtfs_rows.proofs.RowTexts.{all_at}
 use Rattle.gtfs_feed.specs.Trips.{AreStopTimes, ArePeriods, stop_rows_by_trip, frequencies_by_trip}
-use Rattle.gtfs_feed.proofs.ListFacts.{pairs-from_map, some_of, all_of, all_from, all_in_part, less_is}
+use Rattle.gtfs_feed.proofs.ListFacts.{all_of, all_from, less_is}
 use Rattle.gtfs_feed.proofs.TripsAt.{content_trip}
 
 -- ---- tests

@@ -1,6 +1,5 @@
 -- Answers that are there exactly where a test passes, and results that go by tests.
-use Rattle.std.proofs.Common.{◌≡◌, Bool, true, false, Some, None, Result, Ok, Err, if◌then◌else◌, refl, ap, List, ℕ, ◌<◌, ◌≤◌, nat_lt, nat_le, arith}
-use Rattle.std.proofs.lemmas.Bool.Decides.{nat_tests}
+use Rattle.std.proofs.Common.{◌≡◌, Bool, true, false, Some, None, Result, Ok, Err, if◌then◌else◌, refl, ap, List, ℕ}
 use Rattle.gtfs_field.specs.Kinds.{shaped, within}
 use Rattle.gtfs_field.specs.declared.fault.FieldFault.{FieldFault}
 use Rattle.gtfs_field.specs.declared.fault.FieldFault.TheVariants.{Form, Range}
@@ -34,10 +33,3 @@ none-test b y fails = rw fails refl
 -- equal texts have equal values
 pub same-value : {V : Type 0} (read : List ℕ → Result V FieldFault) {t u : List ℕ} {v w : V} → read t ≡ Ok v → read u ≡ Ok w → t ≡ u → v ≡ w
 same-value read first second same = cc (ap read same)
-
--- tests of numbers that are in order
-pub ltb_from : (a b : ℕ) → a < b → nat_lt a b ≡ true
-ltb_from a b h = grind (arith, nat_tests)
-
-pub leb_from : (a b : ℕ) → a ≤ b → nat_le a b ≡ true
-leb_from a b h = grind (arith, nat_tests)

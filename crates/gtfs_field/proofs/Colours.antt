@@ -3,14 +3,14 @@ use Rattle.std.proofs.Common.{◌≡◌, ◌≢◌, ℕ, ◌^◌, ◌<◌, ◌�
 use Rattle.std.specs.Char.{digit_value}
 use Rattle.std.specs.List.{list_all}
 use Rattle.std.specs.Str.Parse.{digits_value, AllDigits, IsNumeral, without_leading_plus}
-use Rattle.std.proofs.lemmas.Bool.{and_parts, and_from, ltb-true, eqb-true}
+use Rattle.std.proofs.lemmas.Bool.{and_parts, and_from, ltb-true, eqb-true, lt-ltb}
 use Rattle.std.proofs.lemmas.Bool.Decides.{nat_tests}
 use Rattle.std.proofs.lemmas.Int.Digits.{digits_value-lt}
 use Rattle.std.proofs.lemmas.Str.Parse.{without_leading_plus_none}
 use Rattle.gtfs_field.specs.Kinds.{is_six_hexadecimal, colour_of}
 use Rattle.gtfs_field.specs.Canonical.{colour_text}
 use Rattle.gtfs_field.specs.Digits.{wide_hex, hex_digit}
-use Rattle.gtfs_field.proofs.Choices.{shaped-true, same-value, ltb_from}
+use Rattle.gtfs_field.proofs.Choices.{shaped-true, same-value}
 use Rattle.std.proofs.Math.Nat.{pow-suc, div-add-mod'}
 use Rattle.std.proofs.lemmas.Int.Digits.{digits_push, digits_value_push}
 
@@ -63,7 +63,7 @@ wide_hex-value (suc k) n small =
 
 from_digits : (t : List ℕ) → AllDigits 16 t → list_all (λ b. nat_lt (digit_value b) 16) t ≡ true
 from_digits [] digits = refl
-from_digits (b ∷ t) digits = and_from _ _ (ltb_from (digit_value b) 16 digits.0) (from_digits t digits.1)
+from_digits (b ∷ t) digits = and_from _ _ (lt-ltb (digit_value b) 16 digits.0) (from_digits t digits.1)
 
 -- a colour reads back
 pub colour_of-text : (v : ℕ) → v ≤ 0xFF_FFFF → colour_of (colour_text v) ≡ Ok v

@@ -4,7 +4,7 @@ use Rattle.std.specs.List.{before_first, after_first, position_or_len}
 use Rattle.std.specs.Str.{all_ascii_digits}
 use Rattle.std.specs.Char.{is_ascii_digit}
 use Rattle.std.specs.Fmt.{decimal}
-use Rattle.std.proofs.lemmas.Bool.{and_from, and_parts, cases_Bool, eqb-true}
+use Rattle.std.proofs.lemmas.Bool.{and_from, and_parts, cases_Bool, eqb-true, le-leb}
 use Rattle.std.proofs.lemmas.Bool.Decides.{nat_tests}
 use Rattle.std.proofs.lemmas.Fmt.{decimal_nonempty}
 use Rattle.std.proofs.Math.Nat.{mul-div_cancel, one-le-pow}
@@ -15,7 +15,7 @@ use Rattle.gtfs_field.specs.Canonical.{coordinate_text, degrees_text}
 use Rattle.gtfs_field.specs.declared.fault.FieldFault.{FieldFault}
 use Rattle.gtfs_field.specs.declared.coord.Axis.{Axis}
 use Rattle.gtfs_field.specs.declared.coord.Axis.TheVariants.{Longitude}
-use Rattle.gtfs_field.proofs.Choices.{shaped-true, within-true, leb_from, same-value}
+use Rattle.gtfs_field.proofs.Choices.{shaped-true, within-true, same-value}
 use Rattle.gtfs_field.proofs.Coordinates.{digit-no-point, whole_of, fraction_of, shape-around, magnitude-around}
 use Rattle.gtfs_field.proofs.Texts.{decimal-digits, number-decimal}
 use Rattle.gtfs_field.proofs.Wides.{wide-digits, number-wide}
@@ -130,13 +130,13 @@ read-positive axis t n digit shape value inside =
     let m = magnitude (unsigned_part t) in
     let same : m ≡ n = rw body value in
     shaped-true _ _ (rw body shape)
-    ∙ within-true _ _ (leb_from m (most_degrees axis * 10 ^ 9) (rw same inside))
+    ∙ within-true _ _ (le-leb m (most_degrees axis * 10 ^ 9) (rw same inside))
     ∙ plus (is_minus (get_or t 0 0)) m n (digit-no-minus (get_or t 0 0) digit) same
 
 read-negative : (axis : Axis) (t : List ℕ) (n : ℕ) → has_coordinate_shape t ≡ true → magnitude t ≡ suc n → suc n ≤ most_degrees axis * 10 ^ 9 → coordinate_of axis (45 ∷ t) ≡ Ok (negsuc n)
 read-negative axis t n shape value inside =
     shaped-true _ _ shape
-    ∙ within-true _ _ (leb_from (magnitude t) (most_degrees axis * 10 ^ 9) (rw value inside))
+    ∙ within-true _ _ (le-leb (magnitude t) (most_degrees axis * 10 ^ 9) (rw value inside))
     ∙ ap (λ k. Ok (neg_ℤ (pos k))) value
 
 no-sign : (n : ℕ) (t : List ℕ) → (if int_lt (pos n) (pos 0) then 45 ∷ [] else []) ++ t ≡ t

@@ -1,5 +1,5 @@
 -- The shape of a coordinate, and its value, from what stands before the first point and after it.
-use Rattle.std.proofs.Common.{◌≡◌, ℕ, suc, ◌+◌, ◌-◌, ◌*◌, ◌/◌, ◌^◌, ◌<◌, ◌&&◌, ◌==◌, Bool, true, false, not, cond, Option, Some, None, if◌then◌else◌, nat_le, List, [], ◌∷◌, ◌++◌, length, count_by, arith, refl, sym, ap, ◌∙◌, inl, inr, length-append, min, get_or}
+use Rattle.std.proofs.Common.{◌≡◌, ℕ, suc, ◌+◌, ◌-◌, ◌*◌, ◌/◌, ◌^◌, ◌<◌, ◌&&◌, ◌==◌, true, false, not, cond, Option, Some, None, if◌then◌else◌, nat_le, List, [], ◌∷◌, ◌++◌, length, count_by, arith, refl, sym, ap, ◌∙◌, inl, inr, length-append, min, get_or}
 use Rattle.std.specs.List.{before_first, after_first, position_or_len}
 use Rattle.std.proofs.lemmas.List.Sums.{sum_by-cons}
 use Rattle.std.specs.Str.{all_ascii_digits, IsUtf8, IsCharBoundary}
@@ -12,6 +12,7 @@ use Rattle.std.proofs.lemmas.Bool.Decides.{nat_tests}
 use Rattle.std.proofs.Math.Nat.{pow-suc, mul-add-div_right, one-le-pow}
 use Rattle.gtfs_field.specs.Digits.{number}
 use Rattle.gtfs_field.specs.Kinds.{is_point, without_points, has_coordinate_shape, magnitude, is_sign, are_digits, billionths}
+use Rattle.gtfs_field.proofs.TestFacts.{and_exchange}
 
 pub digit-no-point : (b : ℕ) → is_ascii_digit b ≡ true → is_point b ≡ false
 digit-no-point b digit = grind (arith, nat_tests)
@@ -46,11 +47,6 @@ kept-other b t other = rw other refl
 point-no-digit : (b : ℕ) → is_point b ≡ true → is_ascii_digit b ≡ false
 point-no-digit b point = grind (arith, nat_tests)
 
-and-swap : (a d w : Bool) → (a && (d && w)) ≡ (d && (a && w))
-and-swap true d w = refl
-and-swap false true w = refl
-and-swap false false w = refl
-
 too_many : (n : ℕ) → nat_le (1 + n + 1) 1 ≡ false
 too_many n = grind (arith, nat_tests)
 
@@ -64,7 +60,7 @@ no_point (b ∷ t) = elim (cases_Bool (is_point b)) [
   | inr other ↦
       let same : cond (is_point b) 1 0 + count_by is_point t ≡ count_by is_point t = rw other (omega arith) in
       rw (count b t, same, kept-other b t other)
-      (and-swap (nat_le (count_by is_point t + 1) 1) (is_ascii_digit b) (all_ascii_digits (without_points t)) ∙ ap (λ r. is_ascii_digit b && r) (no_point t))
+      (and_exchange (nat_le (count_by is_point t + 1) 1) (is_ascii_digit b) (all_ascii_digits (without_points t)) ∙ ap (λ r. is_ascii_digit b && r) (no_point t))
 ]
 
 -- digits with at most one point, as the tests of a shape say it
@@ -79,7 +75,7 @@ one_point (b ∷ t) = elim (cases_Bool (is_point b)) [
       let around = around-other b t other in
       let same : cond (is_point b) 1 0 + count_by is_point t ≡ count_by is_point t = rw other (omega arith) in
       rw (count b t, same, kept-other b t other, around.0, around.1)
-      (and-swap (nat_le (count_by is_point t) 1) (is_ascii_digit b) (all_ascii_digits (without_points t))
+      (and_exchange (nat_le (count_by is_point t) 1) (is_ascii_digit b) (all_ascii_digits (without_points t))
       ∙ ap (λ r. is_ascii_digit b && r) (one_point t) ∙ sym (and_assoc (is_ascii_digit b) (all_ascii_digits (before_first is_point t)) (all_ascii_digits (after_first is_point t))))
 ]
 
@@ -107,7 +103,7 @@ no_bytes (b ∷ t) none = absurd (omega arith)
 
 shape-swap : (t : List ℕ) → has_coordinate_shape t ≡ (not (length (without_points t) == 0) && (all_ascii_digits (whole_of t) && all_ascii_digits (fraction_of t)))
 shape-swap t =
-    and-swap (nat_le (count_by is_point t) 1) (not (length (without_points t) == 0)) (all_ascii_digits (without_points t))
+    and_exchange (nat_le (count_by is_point t) 1) (not (length (without_points t) == 0)) (all_ascii_digits (without_points t))
     ∙ ap (λ r. not (length (without_points t) == 0) && r) (one_point t)
 
 empty-both : (a b : ℕ) → not (a + b == 0) ≡ not ((a == 0) && (b == 0))

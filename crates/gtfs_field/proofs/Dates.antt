@@ -1,7 +1,7 @@
 -- Dates of eight digits, and the calendar's days in numbers.
 use Rattle.std.proofs.Common.{subst, ℤ, unsigned_abs, ◌-ℤ◌, ◌++◌, ◌≡◌, ◌≢◌, ℕ, ◌+◌, ◌-◌, ◌*◌, ◌/◌, ◌%◌, ◌^◌, ◌<◌, ◌≤◌, ◌==◌, not, true, false, Option, Some, None, Ok, Err, if◌then◌else◌, List, [], ◌∷◌, length, take, drop, min, arith, refl, sym, ap, ◌∙◌, pos, negsuc, ◌≤ℤ◌, inl, inr}
 use Rattle.std.specs.Str.{all_ascii_digits, IsAscii}
-use Rattle.std.proofs.lemmas.Bool.{and_left, and_right, and_from, and_cases, and_parts}
+use Rattle.std.proofs.lemmas.Bool.{and_left, and_right, and_from, and_cases, and_parts, le-leb}
 use Rattle.std.proofs.lemmas.Bool.Decides.{nat_tests}
 use Rattle.std.specs.Char.{digit_value}
 use Rattle.jiff_core.specs.Calendar.{days_in_month}
@@ -17,7 +17,8 @@ use Rattle.gtfs_field.proofs.Wides.{wide-digits, number-wide}
 use Rattle.gtfs_field.specs.Calendar.{first_date, first_date-number, date_of_day, date_after-number}
 use Rattle.gtfs_field.specs.declared.fault.FieldFault.TheVariants.{Form}
 use Rattle.gtfs_field.proofs.Numerals.{numerals, digits-append, digits-ascii}
-use Rattle.gtfs_field.proofs.Choices.{test-some, test-none, shaped-true, shaped-false, within-true, leb_from, same-value}
+use Rattle.gtfs_field.proofs.Choices.{test-some, test-none, shaped-true, shaped-false, within-true, same-value}
+use Rattle.gtfs_field.proofs.NumberFacts.{abs-pos}
 
 -- the parts of eight digits
 pub record HasParts (n y m d : ℕ) : Type 0 where
@@ -88,8 +89,8 @@ is_calendar-date d y m n year month day from =
     let here : n ≤ days_in_month d.year m = rw (← day, ← month) d.day_in.1 in
     let P : ℤ → Type 0 = λ z. n ≤ days_in_month z m in
     let last : n ≤ days_in_month (pos y) m = subst P year here in
-    and_from _ _ (and_from _ _ (and_from _ _ (and_from _ _ (and_from _ _ (leb_from _ _ from) (leb_from _ _ most))
-    (leb_from _ _ (omega (arith, d.month_in)))) (leb_from _ _ (omega (arith, d.month_in)))) (leb_from _ _ (omega (arith, d.day_in)))) (leb_from _ _ last)
+    and_from _ _ (and_from _ _ (and_from _ _ (and_from _ _ (and_from _ _ (le-leb _ _ from) (le-leb _ _ most))
+    (le-leb _ _ (omega (arith, d.month_in)))) (le-leb _ _ (omega (arith, d.month_in)))) (le-leb _ _ (omega (arith, d.day_in)))) (le-leb _ _ last)
 
 -- the number of a date that the calendar has
 pub day_at-date : (d : Date) (y m n : ℕ) → d.year ≡ pos y → pos d.month ≡ pos m → pos d.day ≡ pos n → 1900 ≤ y → Ok (epoch_day d) ≡ day_at y m n
@@ -105,10 +106,6 @@ year-from d from = elim (cases_date first_date d) [
   | inr (inl earlier) ↦ absurd (omega (arith, signed_arith, epoch_day-lt d first_date earlier, first_date-number))
   | inr (inr same) ↦ omega (arith, signed_arith, same.0)
 ]
-
-abs-pos : (z : ℤ) → pos 0 ≤ℤ z → pos (unsigned_abs z) ≡ z
-abs-pos (pos n) from = refl
-abs-pos (negsuc n) from = absurd (omega (arith, signed_arith))
 
 -- the number of the date of a number
 pub day_number-date : (n : ℤ) → negsuc 25_566 ≤ℤ n → n ≤ℤ pos 2_932_896 → epoch_day (date_of_day n) ≡ n

@@ -6,7 +6,7 @@ use Rattle.std.specs.Result.{result_ok}
 use Rattle.std.specs.Str.{all_ascii_digits, IsAscii}
 use Rattle.std.specs.Char.{is_ascii_digit}
 use Rattle.std.specs.Fmt.{decimal}
-use Rattle.std.proofs.lemmas.Bool.{and_from, and_parts, cases_lt}
+use Rattle.std.proofs.lemmas.Bool.{and_from, and_parts, cases_lt, le-leb, lt-ltb}
 use Rattle.std.proofs.lemmas.Bool.Decides.{nat_tests}
 use Rattle.std.proofs.lemmas.Fmt.{decimal_digit, decimal_step, decimal_is_IsNumeral, decimal_nonempty, length-decimal-le}
 use Rattle.std.proofs.lemmas.Str.{IsAscii-append}
@@ -16,7 +16,7 @@ use Rattle.gtfs_field.specs.Kinds.{count_of, time_of, is_colon, is_sixtieth}
 use Rattle.gtfs_field.specs.Canonical.{count_text, time_text, hours_text}
 use Rattle.gtfs_field.specs.declared.fault.FieldFault.{FieldFault}
 use Rattle.gtfs_field.proofs.Numerals.{numerals, digits-ascii}
-use Rattle.gtfs_field.proofs.Choices.{shaped-true, within-true, some-test, ltb_from, leb_from}
+use Rattle.gtfs_field.proofs.Choices.{shaped-true, within-true, some-test}
 use Rattle.gtfs_field.proofs.Times.{time_from-ok, hours_at, sixtieth_at}
 use Rattle.gtfs_field.proofs.Wides.{wide-digits, number-wide}
 
@@ -42,7 +42,7 @@ count_of-text n small =
     let fits : n < 2 ^ 64 = omega arith in
     let value = number-decimal n fits in
     shaped-true _ _ (decimal-is_number n fits)
-    ∙ within-true _ _ (leb_from (number (decimal n)) 2_147_483_647 (rw value small))
+    ∙ within-true _ _ (le-leb (number (decimal n)) 2_147_483_647 (rw value small))
     ∙ ap (λ v. Ok v) value
 
 -- hours of three and of four digits
@@ -144,12 +144,12 @@ hours_at-text h high =
     let value = hours-number h (omega arith) in
     let digits = hours-digits h (omega arith) in
     let some : 0 < length (hours_text h) = hours-some h (omega arith) in
-    some-test _ _ _ (and_from _ _ (is_number-from (hours_text h) some digits) (leb_from _ _ (hours-short h high))) (sym value)
+    some-test _ _ _ (and_from _ _ (is_number-from (hours_text h) some digits) (le-leb _ _ (hours-short h high))) (sym value)
 
 sixtieth_at-text : (n : ℕ) → n < 60 → is_sixtieth (wide 2 n) ≡ true
 sixtieth_at-text n small =
     let value = number-wide 2 n (omega arith) in
-    let below : nat_lt (number (wide 2 n)) 60 ≡ true = ltb_from _ _ (rw value small) in
+    let below : nat_lt (number (wide 2 n)) 60 ≡ true = lt-ltb _ _ (rw value small) in
     and_from (is_wide 2 (wide 2 n)) _ (and_from _ _ refl (wide-digits 2 n)) below
 
 -- a time with at most three digits of hours reads back

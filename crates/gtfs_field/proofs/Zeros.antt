@@ -11,18 +11,16 @@ use Rattle.std.proofs.lemmas.List.{take-append-drop, length-replicate}
 use Rattle.std.proofs.Math.Seq.{drop-cons}
 use Rattle.std.proofs.Math.ListN.{drop_of_length-le}
 use Rattle.gtfs_field.specs.Digits.{without_last_zeros, number}
+use Rattle.gtfs_field.proofs.NumberFacts.{suc-not_zero}
 
 -- a zero at the end goes
 last-zero : (xs : List ℕ) → without_last_zeros (xs ++ 48 ∷ []) ≡ without_last_zeros xs
 last-zero [] = refl
 last-zero (x ∷ xs) = rw (last-zero xs) refl
 
-some : (n : ℕ) → (suc n == 0) ≡ false
-some n = grind (arith, nat_tests)
-
 some-length : (xs : List ℕ) (d : ℕ) → (length (xs ++ d ∷ []) == 0) ≡ false
 some-length xs d =
-    let more : length (xs ++ d ∷ []) ≡ suc (length xs) = omega (arith, length-append xs (d ∷ [])) in rw more (some (length xs))
+    let more : length (xs ++ d ∷ []) ≡ suc (length xs) = omega (arith, length-append xs (d ∷ [])) in rw more (suc-not_zero (length xs))
 
 not-zero : (d : ℕ) → d ≢ 48 → (d == 48) ≡ false
 not-zero d other = grind (arith, nat_tests)

@@ -1,9 +1,10 @@
 -- Rows that stand by their ids, one by one from entries that ascend by them.
-use Rattle.std.proofs.Common.{◌≡◌, ℕ, List, [], ◌∷◌, Some, Option, refl, sym, ap, ◌∙◌, subst, map, get_or, arith}
+use Rattle.std.proofs.Common.{◌≡◌, ℕ, List, [], ◌∷◌, Some, Option, refl, sym, ap, ◌∙◌, subst, map}
 use Rattle.std.specs.List.{AllPairs, Contains}
 use Rattle.std.specs.Ordering.{on}
 use Rattle.std.specs.declared.cmp.Ordering.TheVariants.{Less}
-use Rattle.std.proofs.lemmas.List.{get_or-map, length-map}
+use Rattle.std.proofs.lemmas.Option.{same_Some as some-is}
+use Rattle.gtfs_field.proofs.ListFacts.{pairs-from_map}
 use Rattle.gtfs_table.specs.Folder.{text_cmp}
 use Rattle.gtfs_table.proofs.ByTextLemmas.{texts_total}
 use Rattle.gtfs_rows.specs.Order.{Ascends}
@@ -11,16 +12,6 @@ use Rattle.gtfs_rows.proofs.ByKey.{by_key_is}
 use Rattle.gtfs_rows.proofs.Held.{text_antisymmetric}
 use Rattle.gtfs_rows.proofs.SameElements.{contains-first, contains-from_map, contains-later, contains-map, pairs-map}
 use Rattle.gtfs_merge.specs.Merged.{by_id}
-
--- a pair of places of a mapped list is one of the list
-pairs-from_map : {A X : Type 0} (f : A → X) (R : X → X → Type 0) (xs : List A) → AllPairs R (map f xs) → AllPairs (λ x y. R (f x) (f y)) xs
-pairs-from_map f R xs up i j d before within =
-    let first = get_or-map f xs i d (f d) (omega arith) in
-    let second = get_or-map f xs j d (f d) within in
-    subst (λ x. R x (f (get_or xs j d))) first (subst (λ y. R (get_or (map f xs) i (f d)) y) second (up i j (f d) before (omega (arith, length-map xs f))))
-
-some-is : {X : Type 0} (x y : X) → Some x ≡ Some y → x ≡ y
-some-is x y e = cc
 
 module _ {E X : Type 0} (entry_id : E → List ℕ) (id : X → List ℕ) (value : E → Option X) where
   -- a row of these for an entry

@@ -3,6 +3,7 @@ use Rattle.std.proofs.Common.{◌≡◌, ℕ, suc, ℤ, pos, ◌+ℤ◌, ◌-◌
 use Rattle.std.specs.Prelude.{◌&&◌, ◌==◌, nat_lt, if◌then◌else◌}
 use Rattle.std.specs.List.{list_any}
 use Rattle.std.proofs.lemmas.Bool.{and_parts, and_from}
+use Rattle.gtfs_field.proofs.ListFacts.{any_mapped as list_any-map}
 use Rattle.gtfs_rows.specs.Rows.{ServiceRow, StopRow, Trip}
 use Rattle.gtfs_rows.specs.Content.{Content}
 use Rattle.gtfs_board.specs.Key.{Key}
@@ -14,7 +15,7 @@ use Rattle.gtfs_merge.specs.Renaming.{Names, Renaming, has_id, ids, trip_with, s
 use Rattle.gtfs_merge.specs.Merged.{service_with}
 use Rattle.gtfs_merge.specs.Departures.{key_with}
 use Rattle.gtfs_merge.specs.declared.kind.Kind.TheVariants as kind
-use Rattle.gtfs_merge.proofs.Lookups.{In, list_any-In, In-list_any, list_any-map, list_any-alike, holds_at, holds_at-map, holds_at-Some, look, IsKeyed}
+use Rattle.gtfs_merge.proofs.Lookups.{In, list_any-In, In-list_any, list_any-alike, holds_at, holds_at-map, holds_at-Some, look, IsKeyed}
 use Rattle.gtfs_merge.proofs.MergedRows.{found, found_id, has_found}
 
 abbrev pub trip_id_of : Trip → List ℕ

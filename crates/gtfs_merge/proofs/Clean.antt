@@ -7,10 +7,12 @@ use Rattle.std.proofs.lemmas.List.Folds.{list_any-append}
 use Rattle.std.proofs.lemmas.Fmt.{decimal_by_steps_wide}
 use Rattle.gtfs_table.specs.Blanks.{cut, without_first_blanks, is_blank, is_control}
 use Rattle.gtfs_table.specs.Rows.{is_empty}
+use Rattle.gtfs_table.proofs.BlankFacts.{first-blank as first-goes, first-other as first-stays}
 use Rattle.gtfs_columns.specs.Values.{has_control}
+use Rattle.gtfs_columns.proofs.SiteFacts.{text_is as same_bytes}
 use Rattle.gtfs_rows.specs.Cells.{is_clean, is_filled}
 use Rattle.gtfs_merge.specs.Renaming.{merged_id}
-use Rattle.gtfs_merge.proofs.Lookups.{same_bytes, bytes_same}
+use Rattle.gtfs_merge.proofs.Lookups.{bytes_same}
 
 -- ---- digits
 
@@ -43,14 +45,6 @@ shorter (b ∷ bs) = elim (is_blank b) as (λ x. length (if x then without_first
   | true ↦ let r = shorter bs in omega arith
   | false ↦ omega arith
 ]
-
-first-stays : (b : ℕ) (bs : List ℕ) → is_blank b ≡ false → without_first_blanks (b ∷ bs) ≡ b ∷ bs
-unfolding without_first_blanks
-first-stays b bs e = ap (λ x. if x then without_first_blanks bs else b ∷ bs) e
-
-first-goes : (b : ℕ) (bs : List ℕ) → is_blank b ≡ true → without_first_blanks (b ∷ bs) ≡ without_first_blanks bs
-unfolding without_first_blanks
-first-goes b bs e = ap (λ x. if x then without_first_blanks bs else b ∷ bs) e
 
 length-cut : (t : List ℕ) → length (cut t) ≤ length (without_first_blanks t)
 length-cut t =

@@ -14,11 +14,12 @@ use Rattle.std.proofs.lemmas.List.Sorted.{sum_by-IsPermutation}
 use Rattle.std.proofs.lemmas.List.Sums.{sum_by-cons}
 use Rattle.gtfs_table.specs.Folder.{text_cmp}
 use Rattle.gtfs_table.proofs.ByTextLemmas.{texts_total}
+use Rattle.gtfs_columns.proofs.SiteFacts.{text_is as same_bytes}
 use Rattle.gtfs_rows.specs.Order.{Ascends}
 use Rattle.gtfs_rows.proofs.ByKey.{ascends-from_adjacent}
 use Rattle.gtfs_rows.proofs.Held.{text_antisymmetric}
 use Rattle.gtfs_rows.proofs.SameElements.{contains-first, contains-later, pairs-head, pairs-tail}
-use Rattle.gtfs_merge.proofs.Lookups.{bytes_same, same_bytes}
+use Rattle.gtfs_merge.proofs.Lookups.{bytes_same}
 
 -- ---- pairs of two lists
 

@@ -6,16 +6,11 @@ use Rattle.std.proofs.Math.Seq.{take-suc}
 use Rattle.std.proofs.lemmas.List.{map-append}
 use Rattle.gtfs_rows.specs.declared.parts.Parts.{Parts}
 use Rattle.gtfs_stop_times.specs.Headsigns.{AreDistinct, KeepsHeadsigns}
+use Rattle.gtfs_stop_times.proofs.HeadsignFacts.{kept-append as kept-longer}
 use Rattle.gtfs_merge.specs.Headsigns.{AreHeadsigns, AreNumbersOf, numbers_on}
 use Rattle.gtfs_merge.specs.Sides.{side_parts}
 use Rattle.gtfs_merge.specs.declared.kind.Side.{Side}
 use Rattle.gtfs_merge.specs.declared.kind.Side.TheVariants as side
-
--- what was there stays
-kept-longer : (ts more : List (List ℕ)) → KeepsHeadsigns ts (ts ++ more)
-kept-longer [] more k t e = cc e
-kept-longer (s ∷ ts) more zero t e = e
-kept-longer (s ∷ ts) more (suc k) t e = kept-longer ts more k t e
 
 pub kept-insert : {S : Type 0} (bytes : S → List ℕ) (there : Bool) (keys after : List S) (key : S) (old : List (List ℕ)) → map bytes keys ≡ old → after ≡ (if there then keys else keys ++ key ∷ [])
     → KeepsHeadsigns old (map bytes after)

@@ -1,5 +1,5 @@
 -- Lists that stand one after another in one list.
-use Rattle.std.proofs.Common.{◌≡◌, ◌+◌, ◌<◌, ◌∙◌, ◌++◌, ◌∷◌, [], ℕ, zero, suc, List, length, map, take, get_or, sym, ap, subst, refl, arith, length-append, add-one, append-nil}
+use Rattle.std.proofs.Common.{◌≡◌, ◌+◌, ◌<◌, ◌∙◌, ◌++◌, ◌∷◌, [], ℕ, suc, List, length, map, take, get_or, sym, ap, subst, refl, arith, length-append, add-one, append-nil}
 use Rattle.std.specs.List.{All, flat_map}
 use Rattle.std.proofs.Math.Seq.{take-suc}
 use Rattle.std.proofs.lemmas.List.Concat.{flat_map-append}
@@ -8,6 +8,7 @@ use Rattle.csv.specs.Records.{Rising}
 use Rattle.csv.proofs.RecordFacts.{rising-end, rising-more}
 use Rattle.gtfs_table.specs.Parts.{parts}
 use Rattle.gtfs_table.proofs.PartFacts.{length-parts, parts-push}
+use Rattle.gtfs_parts.proofs.Cuts.{first_push as first-stays}
 use Rattle.gtfs_merge.specs.TripRows.{StandInTurn}
 
 -- none yet
@@ -18,10 +19,6 @@ none-in_turn = record { whole = refl; stretches = refl; rising = omega arith; fr
 pub start-in_turn : {X : Type 0} (starts : List ℕ) (rows : List X) → starts ≡ [] → rows ≡ [] → StandInTurn [] starts rows
 start-in_turn {X = X} starts rows no_starts no_rows =
     subst (λ (ks : List ℕ). StandInTurn {X = X} [] ks rows) (sym no_starts) (subst (λ (rs : List X). StandInTurn {X = X} [] [] rs) (sym no_rows) none-in_turn)
-
-first-stays : (starts : List ℕ) (size later : ℕ) → get_or starts 0 size ≡ 0 → get_or (starts ++ size ∷ []) 0 later ≡ 0
-first-stays [] size later e = e
-first-stays (s ∷ starts) size later e = e
 
 -- one more list
 pub more-in_turn : {X : Type 0} (lists : List (List X)) (starts : List ℕ) (rows next : List X) → StandInTurn lists starts rows → StandInTurn (lists ++ next ∷ []) (starts ++ length rows ∷ []) (rows ++ next)
@@ -52,9 +49,3 @@ starts-in_turn lists starts rows stand = sym (length-parts starts rows) ∙ ap l
 pub all-mapped : {A B : Type 0} (v : A → B) (P : B → Type 0) (items : List A) (n : ℕ) (a : A) → All P (map v items) → n < length items → a ≡ get_or items n a → P (v a)
 all-mapped v P items n a all within is =
     subst P (get_or-map v items n a (v a) within ∙ ap v (sym is)) (all n (v a) (omega (arith, length-map items v)))
-
--- an element does not depend on what stands for none
-pub same-place : {X : Type 0} (xs : List X) (n : ℕ) (d e : X) → n < length xs → get_or xs n d ≡ get_or xs n e
-same-place [] n d e within = absurd (omega arith)
-same-place (x ∷ xs) zero d e within = refl
-same-place (x ∷ xs) (suc n) d e within = same-place xs n d e (omega arith)

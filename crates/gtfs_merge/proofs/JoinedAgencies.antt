@@ -2,6 +2,8 @@
 use Rattle.std.proofs.Common.{◌≡◌, ◌<◌, ◌+◌, ◌^◌, ℕ, Bool, true, false, not, List, [], ◌∷◌, ◌++◌, refl, sym, ap, ◌∙◌, subst, inl, inr, length, bytes_eq, codes, true≢false, length-append, arith}
 use Rattle.std.specs.Prelude.{◌&&◌, ◌||◌, ◌==◌, if◌then◌else◌}
 use Rattle.std.proofs.lemmas.Bool.{and_parts, and_from, cases_Bool, or_left, or_parts}
+use Rattle.gtfs_columns.proofs.SiteFacts.{text_is as same_bytes}
+use Rattle.gtfs_columns.proofs.BoolFacts.{same_test as same_tests}
 use Rattle.gtfs_rows.specs.Content.{Content}
 use Rattle.gtfs_rows.specs.Sound.{IsSound}
 use Rattle.gtfs_merge.specs.Renaming.{ids, has_id, free_id, renamed_b, agency_a, agency_b, joined_agency}
@@ -9,7 +11,7 @@ use Rattle.gtfs_merge.specs.declared.kind.Kind.TheVariants as kind
 use Rattle.gtfs_merge.proofs.Apart.{no-text, one-agency}
 use Rattle.gtfs_merge.proofs.Fresh.{free_number-free, joined_stays, renamed_into_a}
 use Rattle.gtfs_merge.proofs.FreeSearch.{has_both}
-use Rattle.gtfs_merge.proofs.Lookups.{bytes_same, same_bytes, same_tests}
+use Rattle.gtfs_merge.proofs.Lookups.{bytes_same}
 
 module _ (a b : Content) (sound_a : IsSound a) (few : length (ids kind.Agency a) + length (ids kind.Agency b) < 2 ^ 65) where
   abbrev ids_a : List (List ℕ)

@@ -5,6 +5,9 @@ use Rattle.std.specs.List.{list_any, position, position_or_len}
 use Rattle.std.proofs.lemmas.Bool.{and_parts, false_from_ne_true}
 use Rattle.std.proofs.lemmas.List.{get_or-map, length-map}
 use Rattle.std.proofs.lemmas.List.Quantifiers.{position-Some}
+use Rattle.gtfs_field.proofs.ListFacts.{position_any as before-any}
+use Rattle.gtfs_field.proofs.OptionFacts.{is_some-cond as placed}
+use Rattle.gtfs_columns.proofs.SiteFacts.{text_is as same_bytes}
 use Rattle.gtfs_rows.specs.Content.{Content}
 use Rattle.gtfs_rows.specs.declared.parts.Parts.{Parts}
 use Rattle.gtfs_rows.specs.Views.{IsSoundParts, content_of_parts}
@@ -13,9 +16,8 @@ use Rattle.gtfs_merge.specs.Numbered.{known_ids}
 use Rattle.gtfs_merge.specs.Renaming.{Nearness, has_id, ids, is_joined, joined_by, never_near}
 use Rattle.gtfs_merge.specs.declared.kind.Kind.{Kind}
 use Rattle.gtfs_merge.specs.declared.kind.Kind.TheVariants as kind
-use Rattle.gtfs_merge.proofs.FreeSearch.{before-any}
 use Rattle.gtfs_merge.proofs.JoinedKinds.{ids-known}
-use Rattle.gtfs_merge.proofs.Lookups.{list_any-In, same_bytes}
+use Rattle.gtfs_merge.proofs.Lookups.{list_any-In}
 use Rattle.gtfs_merge.proofs.MergedRows.{has_own}
 
 module _ {X : Type 0} (id : X → List ℕ) (same : X → X → Bool) (rows_a rows_b : List X) (x : List ℕ) (joined : joined_by id same rows_a rows_b x ≡ true) where
@@ -35,10 +37,6 @@ joined-has near kind.Stop a b x j = by-has (λ s. s.stop_id) _ a.stops b.stops x
 joined-has near kind.Route a b x j = by-has (λ r. r.route_id) _ a.routes b.routes x j
 joined-has near kind.Service a b x j = by-has (λ s. s.service_id) _ a.services b.services x j
 joined-has near kind.Trip a b x j = by-has (λ t. t.trip_id) _ a.trips b.trips x j
-
-placed : (b : Bool) (n : ℕ) → is_some (cond b (Some n) None) ≡ b
-placed true n = refl
-placed false n = refl
 
 -- an id has a number where it is there
 pub has-number : (xs : List (List ℕ)) (x : List ℕ) → is_some (position (bytes_eq x) xs) ≡ has_id xs x

@@ -1,39 +1,32 @@
 -- Rows of two feeds that are joined, kind by kind.
-use Rattle.std.proofs.Common.{◌≡◌, ◌<◌, ◌+◌, ◌^◌, ℕ, Bool, List, [], ◌∷◌, Some, None, Option, refl, sym, ap, ◌∙◌, length, map, get_or, bytes_eq, option_map, arith}
+use Rattle.std.proofs.Common.{◌≡◌, ◌<◌, ◌+◌, ◌^◌, ℕ, Bool, List, [], Some, None, Option, refl, sym, ap, ◌∙◌, length, map, get_or, bytes_eq, option_map, arith}
 use Rattle.std.specs.Prelude.{if◌then◌else◌}
 use Rattle.std.specs.List.{slice_get, position}
 use Rattle.std.proofs.lemmas.List.{get_or-map}
 use Rattle.std.proofs.lemmas.Option.{get_or_from_slice_get, slice_get_within}
 use Rattle.std.proofs.lemmas.Simd.{map-map}
+use Rattle.gtfs_field.proofs.ListFacts.{mapped_at as row-map}
 use Rattle.gtfs_table.specs.Parts.{parts}
 use Rattle.gtfs_table.proofs.PartFacts.{length-parts}
 use Rattle.gtfs_days.specs.Service.{ServiceDates}
 use Rattle.gtfs_rows.specs.declared.agency.Agency.{Agency}
-use Rattle.gtfs_rows.specs.declared.frequency.Frequency.{Frequency}
 use Rattle.gtfs_rows.specs.declared.parts.Parts.{Parts}
-use Rattle.gtfs_rows.specs.declared.stop_row.StopRow.{StopRow}
 use Rattle.gtfs_rows.specs.declared.trip.Trip.{Trip}
-use Rattle.gtfs_rows.specs.Views.{IsSoundParts, content_of_parts, agency_of, route_of, service_of, stop_of, trips_of, agency_ids, service_ids}
+use Rattle.gtfs_rows.specs.Views.{IsSoundParts, content_of_parts, agency_of, route_of, service_of, stop_of, agency_ids, service_ids}
+use Rattle.gtfs_feed.proofs.SoundOrder.{trip_ids-kept}
 use Rattle.gtfs_merge.specs.Joined.{joined_number}
 use Rattle.gtfs_merge.specs.Numbered.{known_ids}
 use Rattle.gtfs_merge.specs.Renaming.{ids}
 use Rattle.gtfs_merge.specs.Same.{same_agency, same_service}
 use Rattle.gtfs_merge.specs.declared.kind.Kind.{Kind}
 use Rattle.gtfs_merge.specs.declared.kind.Kind.TheVariants as kind
-use Rattle.gtfs_merge.proofs.JoinedRows.{row-map, number-same}
+use Rattle.gtfs_merge.proofs.JoinedRows.{number-same}
 
 -- the id of a row by its number
 pub id-at : {X : Type 0} (id : X → List ℕ) (xs : List X) (k : ℕ) (x : X) → slice_get xs k ≡ Some x → get_or (map id xs) k [] ≡ id x
 id-at id xs k x at = get_or-map id xs k x [] (slice_get_within xs k x at) ∙ ap id (get_or_from_slice_get xs k x x at)
 
 -- ---- ids of the content
-
-trip_ids-kept : (p : Parts) (ts : List Trip) (rs : List (List StopRow)) (fs : List (List Frequency)) → length rs ≡ length ts → length fs ≡ length ts
-    → map (λ t. t.trip_id) (trips_of p ts rs fs) ≡ map (λ t. t.trip_id) ts
-trip_ids-kept p [] rs fs r f = refl
-trip_ids-kept p (t ∷ ts) [] fs r f = absurd (omega (arith, r))
-trip_ids-kept p (t ∷ ts) (x ∷ rs) [] r f = absurd (omega (arith, f))
-trip_ids-kept p (t ∷ ts) (x ∷ rs) (y ∷ fs) r f = ap (λ ids. t.trip_id ∷ ids) (trip_ids-kept p ts rs fs (omega (arith, r)) (omega (arith, f)))
 
 pub ids-known : (k : Kind) (p : Parts) → IsSoundParts p → ids k (content_of_parts p) ≡ known_ids k p
 ids-known kind.Agency p sound = map-map (λ a. a.agency_id) agency_of p.agencies

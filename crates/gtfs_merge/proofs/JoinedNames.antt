@@ -6,6 +6,7 @@ use Rattle.std.specs.Option.{option_eq}
 use Rattle.std.specs.Ordering.{on}
 use Rattle.std.proofs.lemmas.Bool.{or_right}
 use Rattle.std.proofs.lemmas.List.{get_or-map, length-map}
+use Rattle.gtfs_field.proofs.ListFacts.{mapped_at as row-map}
 use Rattle.gtfs_columns.proofs.SiteFacts.{text_itself}
 use Rattle.gtfs_table.specs.Folder.{text_cmp}
 use Rattle.gtfs_rows.specs.Content.{Content}
@@ -23,7 +24,7 @@ use Rattle.gtfs_merge.specs.declared.kind.Kind.{Kind}
 use Rattle.gtfs_merge.specs.declared.kind.Kind.TheVariants as kind
 use Rattle.gtfs_merge.proofs.JoinedAgencies.{agencies-meet}
 use Rattle.gtfs_merge.proofs.JoinedKinds.{id-at, ids-known}
-use Rattle.gtfs_merge.proofs.JoinedRows.{row-map, number-same}
+use Rattle.gtfs_merge.proofs.JoinedRows.{number-same}
 use Rattle.gtfs_merge.proofs.JoinedStops.{by-number, renamed-number}
 
 -- an id at a place is one of the list

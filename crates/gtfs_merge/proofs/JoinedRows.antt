@@ -1,16 +1,17 @@
 -- Rows that are joined, by their numbers.
-use Rattle.std.proofs.Common.{◌≡◌, ◌<◌, ◌+◌, ℕ, zero, suc, Bool, true, false, cond, not, List, [], ◌∷◌, ◌++◌, Some, None, Option, refl, sym, ap, ◌∙◌, subst, length, map, take, get_or, bytes_eq, option_map, add-one, arith}
+use Rattle.std.proofs.Common.{◌≡◌, ◌<◌, ◌+◌, ℕ, suc, Bool, true, false, cond, not, List, [], ◌∷◌, ◌++◌, Some, None, Option, refl, sym, ap, ◌∙◌, subst, length, map, take, get_or, bytes_eq, option_map, add-one, arith}
 use Rattle.std.specs.Prelude.{if◌then◌else◌}
 use Rattle.std.specs.List.{slice_get, position, position_or_len}
 use Rattle.std.specs.Ordering.{on}
 use Rattle.std.proofs.Math.Seq.{take-suc}
 use Rattle.std.proofs.lemmas.List.{map-append}
 use Rattle.gtfs_table.specs.Folder.{text_cmp}
+use Rattle.gtfs_columns.proofs.NamedFacts.{text_turned as bytes_flip}
 use Rattle.gtfs_rows.specs.Order.{Ascends}
 use Rattle.gtfs_feed.proofs.NumberFacts.{own_number}
 use Rattle.gtfs_merge.specs.Joined.{number_if}
 use Rattle.gtfs_merge.specs.Renaming.{joined_by}
-use Rattle.gtfs_merge.proofs.Lookups.{bytes_flip, look, look_any, holds_at}
+use Rattle.gtfs_merge.proofs.Lookups.{look, look_any, holds_at}
 use Rattle.gtfs_merge.proofs.Premises.{keyed-ascending}
 
 -- ---- a loop that asks for each row in turn
@@ -24,11 +25,6 @@ numbered_more number f xs d k items new x within so_far pushed here =
     ∙ sym (map-append f (take k xs) (get_or xs k d ∷ [])) ∙ ap (map f) (sym (take-suc xs k d within)) ∙ ap (λ n. map f (take n xs)) (sym (add-one k))
 
 -- ---- a row of a mapped list
-
-pub row-map : {X Y : Type 0} (f : X → Y) (xs : List X) (k : ℕ) (x : X) → slice_get xs k ≡ Some x → slice_get (map f xs) k ≡ Some (f x)
-row-map f [] k x at = cc
-row-map f (y ∷ ys) zero x at = ap (option_map f) at
-row-map f (y ∷ ys) (suc k) x at = row-map f ys k x at
 
 module _ {X : Type 0} (id : X → List ℕ) where
   look-or : (rows : List X) (q : List ℕ) (x : X) (n : ℕ) → position_or_len (bytes_eq q) (map id rows) ≡ n → slice_get rows n ≡ Some x → look id rows q ≡ Some x

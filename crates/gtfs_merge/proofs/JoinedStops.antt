@@ -8,7 +8,11 @@ use Rattle.std.proofs.lemmas.Bool.{cases_Bool}
 use Rattle.std.proofs.lemmas.List.{get_or-map}
 use Rattle.std.proofs.lemmas.List.Quantifiers.{position-Some}
 use Rattle.std.proofs.lemmas.Option.{slice_get-get_or}
+use Rattle.gtfs_field.proofs.ListFacts.{mapped_at as row-map, position_any as before-any}
 use Rattle.gtfs_table.specs.Folder.{text_cmp}
+use Rattle.gtfs_columns.proofs.SiteFacts.{text_is as same_bytes}
+use Rattle.gtfs_columns.proofs.NamedFacts.{text_turned as bytes_flip}
+use Rattle.gtfs_columns.proofs.BoolFacts.{same_test as same_tests}
 use Rattle.gtfs_rows.specs.Content.{Content}
 use Rattle.gtfs_rows.specs.Order.{Ascends}
 use Rattle.gtfs_rows.specs.Rows.{Stop}
@@ -24,11 +28,9 @@ use Rattle.gtfs_merge.specs.Same.{same_stop, same_text}
 use Rattle.gtfs_merge.specs.Law.{AreFew}
 use Rattle.gtfs_merge.specs.Renaming.{Renaming, ids, has_id, renamed_b, never_near, near_stop_under, joined_stop, joined_stop_under, stop_b, stop_under, stop_with, stop_within}
 use Rattle.gtfs_merge.specs.declared.kind.Kind.TheVariants as kind
-use Rattle.gtfs_merge.proofs.Lookups.{bytes_flip, same_bytes, same_tests}
 use Rattle.gtfs_merge.proofs.Fresh.{joined_stays, renamed_into_a}
-use Rattle.gtfs_merge.proofs.FreeSearch.{before-any}
 use Rattle.gtfs_merge.proofs.JoinedKinds.{id-at, ids-known}
-use Rattle.gtfs_merge.proofs.JoinedRows.{row-map, number-same}
+use Rattle.gtfs_merge.proofs.JoinedRows.{number-same}
 
 -- ---- numbers of texts
 

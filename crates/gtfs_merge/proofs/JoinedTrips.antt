@@ -7,6 +7,7 @@ use Rattle.std.proofs.lemmas.Bool.{and_parts}
 use Rattle.std.proofs.lemmas.List.{length-map}
 use Rattle.std.proofs.lemmas.List.Quantifiers.{position-Some}
 use Rattle.std.proofs.lemmas.Option.{get_or_from_slice_get, slice_get-get_or}
+use Rattle.gtfs_field.proofs.ListFacts.{mapped_at as row-map, some_of}
 use Rattle.gtfs_rows.specs.Content.{Content}
 use Rattle.gtfs_rows.specs.Rows.{Trip}
 use Rattle.gtfs_rows.specs.Sound.{is_stop_of}
@@ -25,14 +26,9 @@ use Rattle.gtfs_merge.specs.Same.{same_trip}
 use Rattle.gtfs_merge.specs.declared.kind.Kind.TheVariants as kind
 use Rattle.gtfs_merge.proofs.JoinedKinds.{id-at, ids-known}
 use Rattle.gtfs_merge.proofs.JoinedNames.{joined-at-place, rule-meets}
-use Rattle.gtfs_merge.proofs.JoinedRows.{row-map, number-same}
+use Rattle.gtfs_merge.proofs.JoinedRows.{number-same}
 use Rattle.gtfs_merge.proofs.Lookups.{In}
 use Rattle.gtfs_merge.proofs.Premises.{sound-row}
-
--- an element of a list that is not empty
-some_of : {X : Type 0} (xs : List X) (k : ℕ) → k < length xs → X
-some_of [] k within = absurd (omega arith)
-some_of (x ∷ xs) k within = x
 
 in-at : {X : Type 0} (xs : List X) (k : ℕ) (x : X) → slice_get xs k ≡ Some x → In x xs
 in-at [] k x at = cc

@@ -10,11 +10,7 @@ use Rattle.std.specs.BTreeMap.{insert_entry}
 use Rattle.std.specs.declared.cmp.Ordering.{Ordering}
 use Rattle.std.specs.declared.cmp.Ordering.TheVariants.{Less, Equal, Greater}
 use Rattle.std.proofs.lemmas.List.{map-append}
-
-is_tie : (r : Ordering) → is_eq r ≡ true → r ≡ Equal
-is_tie Less e = cc e
-is_tie Equal e = refl
-is_tie Greater e = cc e
+use Rattle.gtfs_field.proofs.OrderingFacts.{equal as is_tie}
 
 module _ {K X : Type 0} (order : K → K → Ordering) where
   -- the map's words

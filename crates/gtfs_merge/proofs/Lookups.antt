@@ -1,31 +1,23 @@
 -- Rows by their ids: look-ups in a list of rows, and in rows that stand by id.
-use Rattle.std.proofs.Common.{◌≡◌, ℕ, Bool, true, false, cond, T, List, [], ◌∷◌, Some, None, Option, Less, Equal, Greater, Ordering, refl, sym, ap, ◌∙◌, subst, inl, inr, ◌⊎◌, ◌≤◌, zero-add, eqb-true, unwrap_or, arith, length, map, bytes_eq, find, option_map, count_by, is_some}
+use Rattle.std.proofs.Common.{◌≡◌, ℕ, Bool, true, false, cond, T, List, [], ◌∷◌, Some, None, Option, Less, Equal, Greater, Ordering, refl, sym, ap, ◌∙◌, subst, inl, inr, ◌⊎◌, ◌≤◌, zero-add, eqb-true, arith, length, map, bytes_eq, find, option_map, count_by, is_some}
 use Rattle.std.specs.Prelude.{◌&&◌, ◌||◌, ◌==◌, ◌+◌}
 use Rattle.std.specs.List.{list_any, list_all}
 use Rattle.std.specs.Ordering.{is_lt, is_eq, eq_by_cmp}
-use Rattle.std.specs.Cmp.Lexicographic.{nat_list_cmp_total, nat_list_eq_equiv, texts_ties, bytes_decides}
+use Rattle.std.specs.Cmp.Lexicographic.{nat_list_cmp_total, texts_ties, bytes_decides}
 use Rattle.std.specs.FinMap as table
 use Rattle.std.proofs.lemmas.Bool.{and_parts, or_cases, or_left, or_right, true≢false, false_from_ne_true}
 use Rattle.std.proofs.lemmas.List.Sums.{sum_by-cons}
+use Rattle.std.proofs.lemmas.Option.{same_Some as Some-same}
+use Rattle.std.proofs.Math.Bool.{or-false}
 use Rattle.gtfs_table.specs.Folder.{text_cmp}
+use Rattle.gtfs_columns.proofs.SiteFacts.{text_is as same_bytes}
+use Rattle.gtfs_columns.proofs.NamedFacts.{text_turned as bytes_flip}
 use Rattle.gtfs_merge.specs.Merged.{by_id}
 
 -- ---- texts
 
-pub same_bytes : (x y : List ℕ) → bytes_eq x y ≡ true → x ≡ y
-same_bytes x y e = (bytes_decides x y).0 e
-
 pub bytes_same : (x y : List ℕ) → x ≡ y → bytes_eq x y ≡ true
 bytes_same x y e = (bytes_decides x y).1 e
-
-pub bytes_flip : (x y : List ℕ) → bytes_eq x y ≡ bytes_eq y x
-bytes_flip x y = nat_list_eq_equiv.symm x y
-
--- two tests that follow from each other are one
-pub same_tests : (a b : Bool) → (a ≡ true → b ≡ true) → (b ≡ true → a ≡ true) → a ≡ b
-same_tests true b f g = sym (f refl)
-same_tests false true f g = g refl
-same_tests false false f g = refl
 
 -- ---- membership
 
@@ -47,10 +39,6 @@ In-list_any p [] x i h = elim i [ ]
 In-list_any p (y ∷ ys) x (inl e) h = or_left _ _ (ap p e ∙ h)
 In-list_any p (y ∷ ys) x (inr i) h = or_right _ _ (In-list_any p ys x i h)
 
-pub list_any-map : {X Y : Type 0} (p : Y → Bool) (f : X → Y) (xs : List X) → list_any p (map f xs) ≡ list_any (λ x. p (f x)) xs
-list_any-map p f [] = refl
-list_any-map p f (x ∷ xs) = ap (λ b. p (f x) || b) (list_any-map p f xs)
-
 -- tests that agree at each element
 pub list_any-alike : {X : Type 0} (p q : X → Bool) (xs : List X) → ((x : X) → In x xs → p x ≡ q x) → list_any p xs ≡ list_any q xs
 list_any-alike p q [] h = refl
@@ -68,9 +56,6 @@ pub list_all-In : {X : Type 0} (p : X → Bool) (xs : List X) → list_all p xs 
 list_all-In p [] e x i = elim i [ ]
 list_all-In p (y ∷ ys) e x (inl h) = ap p (sym h) ∙ (and_parts _ _ e).0
 list_all-In p (y ∷ ys) e x (inr h) = list_all-In p ys (and_parts _ _ e).1 x h
-
-Some-same : {X : Type 0} (x y : X) → Some x ≡ Some y → x ≡ y
-Some-same x y e = ap (λ o. unwrap_or o x) e
 
 Some-not-None : {X : Type 0} (x : X) → Some x ≡ None → ⊥
 Some-not-None x e = true≢false (ap is_some e)
@@ -126,10 +111,6 @@ less_not_equal : (r : Ordering) → is_lt r ≡ true → is_eq r ≡ true → �
 less_not_equal Less a b = true≢false (sym b)
 less_not_equal Equal a b = true≢false (sym a)
 less_not_equal Greater a b = true≢false (sym a)
-
-or-false : (b : Bool) → (b || false) ≡ b
-or-false true = refl
-or-false false = refl
 
 one_left : (b : Bool) (n : ℕ) → b ≡ true → cond b 1 0 + n ≤ 1 → n ≡ 0
 one_left true n e h = omega arith

@@ -1,9 +1,10 @@
 -- All lists of a merged feed stand for the merged content, and make a feed.
-use Rattle.std.proofs.Common.{◌≡◌, ◌∙◌, List, [], ◌∷◌, true, false, length, map, get_or, refl, sym, ap, subst}
+use Rattle.std.proofs.Common.{◌≡◌, ◌∙◌, List, [], ◌∷◌, true, false, length, map, refl, sym, ap, subst}
 use Rattle.std.specs.Prelude.{◌&&◌, nat_lt, option_map}
 use Rattle.std.specs.List.{list_all}
 use Rattle.std.specs.declared.cmp.Ordering.TheVariants.{Less}
 use Rattle.std.proofs.lemmas.List.{length-map}
+use Rattle.gtfs_field.proofs.ListFacts.{first_is as first-is, map_alike as read-alike, rest_is as rest-is}
 use Rattle.gtfs_parts.specs.Named.{route_named, stop_named, trip_named, without_rows}
 use Rattle.gtfs_parts.specs.TransferEnds.{transfer_named}
 use Rattle.gtfs_rows.specs.Order.{Ascends}
@@ -40,22 +41,7 @@ use Rattle.gtfs_merge.proofs.MergedStopTimes.{merged-periods, merged-rows, merge
 use Rattle.gtfs_merge.proofs.MergedTransfers.{transfers-named, transfers-within}
 use Rattle.gtfs_merge.proofs.Stops.{never-nearness}
 
--- what is read of the rows is read of what they stand for
-read-alike : {X Y Z : Type 0} (f : X → Y) (x : X → Z) (y : Y → Z) → ((r : X) → x r ≡ y (f r)) → (rs : List X) → map x rs ≡ map y (map f rs)
-read-alike f x y same [] = refl
-read-alike f x y same (r ∷ rs) = λ i. same r i ∷ read-alike f x y same rs i
-
 -- ---- trips
-
-first-is : {X : Type 0} (x y : X) (xs ys : List X) → x ∷ xs ≡ y ∷ ys → x ≡ y
-first-is x y xs ys e = ap (λ l. get_or l 0 x) e
-
-abbrev rest_of : {X : Type 0} → List X → List X
-rest_of [] = []
-rest_of (x ∷ xs) = xs
-
-rest-is : {X : Type 0} (x y : X) (xs ys : List X) → x ∷ xs ≡ y ∷ ys → xs ≡ ys
-rest-is x y xs ys e = ap rest_of e
 
 module _ (p : Parts) where
   abbrev as_named : TripRow → Trip

@@ -10,6 +10,7 @@ use Rattle.gtfs_table.specs.Rows.{is_empty}
 use Rattle.gtfs_table.specs.declared.file.File.TheVariants as file
 use Rattle.gtfs_columns.specs.Columns.{Column, columns_of, optional, id}
 use Rattle.gtfs_columns.specs.Values.{if_there, word}
+use Rattle.gtfs_columns.proofs.SiteFacts.{text_is as same_bytes}
 use Rattle.gtfs_rows.specs.Cells.{Cell, are_cells, is_cell, is_clean, is_filled}
 use Rattle.gtfs_rows.specs.Content.{Content}
 use Rattle.gtfs_rows.specs.RowCells.{id_cell, agency_cells, stop_cells}
@@ -21,7 +22,7 @@ use Rattle.gtfs_merge.specs.Renaming.{Names, Nearness, has_id, ids, free_id, ren
 use Rattle.gtfs_merge.specs.Same.{same_agency}
 use Rattle.gtfs_merge.specs.declared.kind.Kind.{Kind}
 use Rattle.gtfs_merge.specs.declared.kind.Kind.TheVariants as kind
-use Rattle.gtfs_merge.proofs.Lookups.{In, list_any-In, list_all-In, same_bytes, look}
+use Rattle.gtfs_merge.proofs.Lookups.{In, list_any-In, list_all-In, look}
 use Rattle.gtfs_merge.proofs.Fresh.{joined_stays}
 use Rattle.gtfs_merge.proofs.MergedRows.{found, found_id, has_own}
 use Rattle.gtfs_merge.proofs.Carried.{trip_id_of, service_id_of}

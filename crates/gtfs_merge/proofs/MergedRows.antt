@@ -5,9 +5,12 @@ use Rattle.std.specs.Option.{option_or}
 use Rattle.std.specs.List.{list_any}
 use Rattle.std.proofs.lemmas.Bool.{cases_Bool}
 use Rattle.std.proofs.lemmas.List.Folds.{find-append}
+use Rattle.gtfs_columns.proofs.SiteFacts.{text_is as same_bytes}
+use Rattle.gtfs_columns.proofs.NamedFacts.{text_turned as bytes_flip}
+use Rattle.gtfs_columns.proofs.BoolFacts.{same_test as same_tests}
 use Rattle.gtfs_merge.specs.Merged.{by_id}
 use Rattle.gtfs_merge.specs.Renaming.{has_id, joined_by, Renaming}
-use Rattle.gtfs_merge.proofs.Lookups.{same_bytes, bytes_same, bytes_flip, same_tests, In, In-list_any, find-alike, find-map, find-In, find-Some, find-None, holds_at-Some, look, look_any, IsKeyed, look-by_id}
+use Rattle.gtfs_merge.proofs.Lookups.{bytes_same, In, In-list_any, find-alike, find-map, find-In, find-Some, find-None, holds_at-Some, look, look_any, IsKeyed, look-by_id}
 
 module _ {X : Type 0} (id : X → List ℕ) where
   -- the ids of rows, and the rows found by them

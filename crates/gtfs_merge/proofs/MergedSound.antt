@@ -10,6 +10,7 @@ use Rattle.gtfs_table.specs.Folder.{text_cmp}
 use Rattle.gtfs_table.specs.declared.file.File.{File}
 use Rattle.gtfs_table.specs.declared.file.File.TheVariants as file
 use Rattle.gtfs_columns.specs.Columns.{columns_of}
+use Rattle.gtfs_columns.proofs.SiteFacts.{text_is as same_bytes}
 use Rattle.gtfs_rows.specs.Cells.{are_cells, is_clean}
 use Rattle.gtfs_rows.specs.Content.{Content}
 use Rattle.gtfs_rows.specs.Order.{Ascends, transfer_key, transfer_key_cmp}
@@ -23,7 +24,7 @@ use Rattle.gtfs_merge.specs.Merged.{merged, by_id, zones_differ, zone_text, agen
 use Rattle.gtfs_merge.specs.Renaming.{Names, Nearness, Renaming, ids, names_a, names_b, stop_with, route_with, stop_row_with, trip_with}
 use Rattle.gtfs_merge.specs.declared.kind.Kind.{Kind}
 use Rattle.gtfs_merge.specs.declared.kind.Kind.TheVariants as kind
-use Rattle.gtfs_merge.proofs.Lookups.{In, list_any-In, list_all-In, same_bytes, bytes_same}
+use Rattle.gtfs_merge.proofs.Lookups.{In, list_any-In, list_all-In, bytes_same}
 use Rattle.gtfs_merge.proofs.Equal.{exact-text}
 use Rattle.gtfs_merge.proofs.MergedRows.{has_own}
 use Rattle.gtfs_merge.proofs.Carried.{trip_id_of, service_id_of}

@@ -6,6 +6,7 @@ use Rattle.std.proofs.lemmas.Bool.{and_from, and_parts, lt-ltb}
 use Rattle.std.proofs.lemmas.List.{length-map}
 use Rattle.std.proofs.lemmas.List.Elements.{All-head, All-tail}
 use Rattle.std.proofs.lemmas.Option.{slice_get-get_or}
+use Rattle.gtfs_field.proofs.ListFacts.{some_of}
 use Rattle.gtfs_feed.specs.Trips.{frequencies_by_trip, stop_rows_by_trip}
 use Rattle.gtfs_feed.proofs.TripFacts.{stop_times}
 use Rattle.gtfs_feed.proofs.TripsAt.{content_trip}
@@ -26,13 +27,9 @@ use Rattle.gtfs_merge.specs.Renumbered.{AreNewNumbers}
 use Rattle.gtfs_merge.specs.Sides.{merged_ids, merged_parts, side_names, side_parts}
 use Rattle.gtfs_merge.specs.TripRows.{frequencies_from, renumbered_row, stop_rows_from}
 use Rattle.gtfs_merge.specs.declared.kind.Kind.TheVariants as kind
-use Rattle.gtfs_merge.specs.declared.kind.Side.{Side}
 use Rattle.gtfs_merge.specs.declared.kind.Side.TheVariants as side
 use Rattle.gtfs_merge.proofs.ReferenceNumbers.{headsign-named, headsign-within, number-named, number-within}
-
-pub side-sound : (s : Side) (p q : Parts) → IsSoundParts p → IsSoundParts q → IsSoundParts (side_parts s p q)
-side-sound side.A p q sound_p sound_q = sound_p
-side-sound side.B p q sound_p sound_q = sound_q
+use Rattle.gtfs_merge.proofs.MergedLists.{side-sound}
 
 within-told : (count : ℕ) (o : Option ℕ) → IfSome o (λ n. n < count) → is_within count o ≡ true
 within-told count None within = refl
@@ -73,10 +70,6 @@ module _ (p : Parts) (merged : List (List ℕ)) (rename : Renaming) (stops : Lis
       (rows-within rs (All-tail (λ r. r.stop_id.0 < length (stop_ids p)) r rs stop) (All-tail (λ r. IfSome r.stop_headsign (λ n. n < length p.headsigns)) r rs headsign))
 
 -- ---- the trip of a number
-
-some_of : {X : Type 0} (xs : List X) (k : ℕ) → k < length xs → X
-some_of [] k within = absurd (omega arith)
-some_of (x ∷ xs) k within = x
 
 record HasTrip (p : Parts) (n : ℕ) : Type 0 where
   pub row : TripByNumber

@@ -13,7 +13,7 @@ use Rattle.gtfs_rows.specs.declared.numbers.StopNo.{StopNo}
 use Rattle.gtfs_rows.specs.declared.numbers.TripNo.{TripNo}
 use Rattle.gtfs_rows.specs.declared.parts.Parts.{Parts}
 use Rattle.gtfs_rows.specs.declared.transfer.Transfer.{Transfer as ByNumber}
-use Rattle.gtfs_rows.proofs.ContentAgain.{transfer_total}
+use Rattle.gtfs_rows.proofs.ContentAgain.{transfer_antisymmetric as text_key_antisymmetric, transfer_total}
 use Rattle.gtfs_table.specs.Folder.{text_cmp}
 use Rattle.gtfs_merge.specs.KindRows.{AllEntries, AreMergedKinds}
 use Rattle.gtfs_merge.specs.Merged.{by_transfer, transfer_with}
@@ -26,10 +26,10 @@ use Rattle.gtfs_merge.specs.declared.kind.Side.TheVariants as side
 use Rattle.gtfs_merge.proofs.Kept.{In-append, In-by_key, In-map, list_all-from}
 use Rattle.gtfs_merge.proofs.KeyedOrders.{by_key-carried}
 use Rattle.gtfs_merge.proofs.Lookups.{In, list_all-In}
-use Rattle.gtfs_merge.proofs.MergedStopTimes.{side-sound}
 use Rattle.gtfs_merge.proofs.TripPlaces.{In-get}
 use Rattle.gtfs_merge.proofs.ReferenceNumbers.{numbers-length, option-named, option-within}
-use Rattle.gtfs_merge.proofs.TransferOrder.{ends_antisymmetric, ends_total, key-order, text_key_antisymmetric}
+use Rattle.gtfs_merge.proofs.TransferOrder.{ends_antisymmetric, ends_total, key-order}
+use Rattle.gtfs_merge.proofs.MergedLists.{side-sound}
 
 -- ---- numbers
 

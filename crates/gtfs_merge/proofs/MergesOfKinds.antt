@@ -4,6 +4,7 @@ use Rattle.std.specs.List.{All, Contains}
 use Rattle.std.specs.List.Sorted.{IsPermutation, IsSorted}
 use Rattle.std.specs.Ordering.{on}
 use Rattle.std.proofs.lemmas.Bool.{and_parts}
+use Rattle.std.proofs.lemmas.Option.{same_Some as some-is}
 use Rattle.gtfs_table.specs.Folder.{text_cmp}
 use Rattle.gtfs_rows.specs.Content.{Content}
 use Rattle.gtfs_rows.specs.Order.{Ascends}
@@ -49,9 +50,6 @@ record IsTwin {X : Type 0} (id : X → List ℕ) (same : X → X → Bool) (rows
   pub among : Contains rows row
   pub named : id row ≡ id s
   pub alike : same row s ≡ true
-
-some-is : {X : Type 0} (x y : X) → Some x ≡ Some y → x ≡ y
-some-is x y e = cc
 
 twin : {X : Type 0} (id : X → List ℕ) (same : X → X → Bool) (rows_a rows_b : List X) → Ascends (on id text_cmp) rows_a → Ascends (on id text_cmp) rows_b → (n : ℕ) (s : X) → slice_get rows_b n ≡ Some s
     → joined_by id same rows_a rows_b (id s) ≡ true → IsTwin id same rows_a s

@@ -2,6 +2,7 @@
 use Rattle.std.proofs.Common.{◌≡◌, ◌<◌, ◌+◌, ◌^◌, ℕ, Bool, true, false, List, [], ◌∷◌, Some, None, refl, sym, ap, ◌∙◌, subst, inl, inr, ◌⊎◌, length, filter, bytes_eq, true≢false}
 use Rattle.std.specs.Prelude.{if◌then◌else◌}
 use Rattle.std.proofs.lemmas.Bool.{or_cases, or_left, or_right}
+use Rattle.gtfs_columns.proofs.SiteFacts.{text_is as same_bytes}
 use Rattle.gtfs_rows.specs.Content.{Content}
 use Rattle.gtfs_rows.specs.Views.{IsSoundParts, content_of_parts}
 use Rattle.gtfs_rows.specs.declared.parts.Parts.{Parts}
@@ -9,7 +10,6 @@ use Rattle.gtfs_merge.specs.Names.{MeetWhereJoined, NamesOfKind, kind_names, new
 use Rattle.gtfs_merge.specs.Renaming.{Names, has_id, ids, is_joined, joined_ids, name_of, names_a, names_b, never_near, renaming}
 use Rattle.gtfs_merge.specs.declared.kind.Kind.{Kind}
 use Rattle.gtfs_merge.proofs.JoinedIds.{joined-has}
-use Rattle.gtfs_merge.proofs.Lookups.{same_bytes}
 use Rattle.gtfs_merge.proofs.MergesOfKinds.{ids-meet, joined-stays_a, joined-stays_b}
 use Rattle.gtfs_merge.proofs.NamesFacts.{named}
 use Rattle.gtfs_merge.proofs.Apart.{apart-a}

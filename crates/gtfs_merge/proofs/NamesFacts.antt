@@ -6,6 +6,8 @@ use Rattle.std.proofs.Math.Seq.{take-suc}
 use Rattle.std.proofs.lemmas.List.{get_or-map, length-map}
 use Rattle.std.proofs.lemmas.List.Quantifiers.{position-Some}
 use Rattle.std.proofs.lemmas.Option.{slice_get-get_or}
+use Rattle.std.proofs.lemmas.List.Elements.{filter-append}
+use Rattle.gtfs_columns.proofs.SiteFacts.{text_is as same_bytes}
 use Rattle.gtfs_rows.specs.Content.{Content}
 use Rattle.gtfs_rows.specs.declared.parts.Parts.{Parts}
 use Rattle.gtfs_rows.specs.Views.{IsSoundParts, content_of_parts}
@@ -19,7 +21,6 @@ use Rattle.gtfs_merge.specs.declared.kind.Side.{Side}
 use Rattle.gtfs_merge.specs.declared.kind.Side.TheVariants as side
 use Rattle.gtfs_merge.proofs.JoinedIds.{has-number}
 use Rattle.gtfs_merge.proofs.JoinedKinds.{ids-known}
-use Rattle.gtfs_merge.proofs.Lookups.{same_bytes}
 
 looked-up : (rename : Renaming) (xs : List (List ℕ)) (x : List ℕ) → new_id (new_ids rename xs) x ≡ (if has_id xs x then Some (rename x) else None)
 looked-up rename xs x = by (position (bytes_eq x) xs) refl
@@ -45,14 +46,6 @@ name-at k p q side.B n within = get_or-map (renaming (side_names side.B p q) k) 
 pub names-count : (k : Kind) (p q : Parts) (s : Side) → length (of_side (kind_names k p q) s).names ≡ length (known_ids k (side_parts s p q))
 names-count k p q side.A = length-map (known_ids k p) (renaming (side_names side.A p q) k)
 names-count k p q side.B = length-map (known_ids k q) (renaming (side_names side.B p q) k)
-
-filter-append : {X : Type 0} (p : X → Bool) (xs ys : List X) → filter p (xs ++ ys) ≡ filter p xs ++ filter p ys
-filter-append p [] ys = refl
-filter-append p (x ∷ xs) ys = by (p x) (filter-append p xs ys)
-  where
-    by : (t : Bool) → filter p (xs ++ ys) ≡ filter p xs ++ filter p ys → (if t then x ∷ filter p (xs ++ ys) else filter p (xs ++ ys)) ≡ (if t then x ∷ filter p xs else filter p xs) ++ filter p ys
-    by true h = ap (λ zs. x ∷ zs) h
-    by false h = h
 
 pub joined-more : (p : List ℕ → Bool) (xs : List (List ℕ)) (n : ℕ) (before after : List (List ℕ)) (x : List ℕ) → n < length xs → before ≡ filter p (take n xs) → after ≡ before ++ filter p (x ∷ []) → x ≡ get_or xs n []
     → after ≡ filter p (take (n + 1) xs)

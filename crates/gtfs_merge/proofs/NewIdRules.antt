@@ -4,6 +4,7 @@ use Rattle.std.specs.Prelude.{◌&&◌, ◌||◌, ◌==◌, if◌then◌else◌,
 use Rattle.std.specs.List.{list_any, range_with_len}
 use Rattle.std.proofs.lemmas.Bool.{and_parts, not-true, or_cases, false_from_ne_true}
 use Rattle.gtfs_table.specs.Rows.{is_empty}
+use Rattle.gtfs_columns.proofs.SiteFacts.{text_is as same_bytes}
 use Rattle.gtfs_rows.specs.Content.{Content}
 use Rattle.gtfs_rows.specs.Rows.{Agency, Stop}
 use Rattle.gtfs_rows.specs.Sound.{IsSound, is_sound_agency, is_stop_of, has_right_parent}
@@ -18,7 +19,7 @@ use Rattle.gtfs_merge.proofs.Apart.{no-text}
 use Rattle.gtfs_merge.proofs.JoinedKinds.{ids-known}
 use Rattle.gtfs_merge.proofs.JoinedStops.{stop-ruled}
 use Rattle.gtfs_merge.proofs.Fresh.{merged_id-number}
-use Rattle.gtfs_merge.proofs.Lookups.{In, bytes_same, list_all-In, same_bytes}
+use Rattle.gtfs_merge.proofs.Lookups.{In, bytes_same, list_all-In}
 use Rattle.gtfs_merge.proofs.MergedRows.{found, found_id}
 use Rattle.gtfs_merge.proofs.Premises.{of_type-found, right-parent, sound-parent, sound-places}
 use Rattle.gtfs_merge.proofs.Stops.{joined-same, never-nearness, stop_id_of, under-same}

@@ -1,33 +1,20 @@
 -- Rows that are gathered by their numbers, and sorted.
-use Rattle.std.proofs.Common.{◌≡◌, ◌<◌, ◌+◌, ◌++◌, ℕ, zero, suc, Bool, true, false, List, [], ◌∷◌, refl, sym, ap, ◌∙◌, subst, length, map, filter, get_or, append_assoc, arith}
-use Rattle.std.specs.Prelude.{if◌then◌else◌}
+use Rattle.std.proofs.Common.{◌≡◌, ◌<◌, ◌+◌, ◌++◌, ℕ, suc, Bool, List, [], ◌∷◌, sym, ap, ◌∙◌, subst, length, map, filter, get_or, append_assoc, arith}
 use Rattle.std.specs.List.{range_with_len}
 use Rattle.std.specs.List.Sorted.{IsSorted}
 use Rattle.std.specs.Ordering.{is_lt, on}
 use Rattle.std.proofs.lemmas.List.{get_or-map, length-map, map-append}
+use Rattle.std.proofs.lemmas.List.Elements.{filter-append}
+use Rattle.gtfs_field.proofs.ListFacts.{range-push as range-more}
 use Rattle.gtfs_table.specs.Folder.{text_cmp}
 use Rattle.gtfs_merge.specs.Order.{Entry, entry_value}
 use Rattle.gtfs_merge.specs.declared.order.MergedRow.{MergedRow}
-
-range-more : (a n : ℕ) → range_with_len a (suc n) ≡ range_with_len a n ++ (a + n) ∷ []
-range-more a zero = let e : a ≡ a + 0 = omega arith in ap (λ j. j ∷ []) e
-range-more a (suc n) =
-    let e : (a + 1) + n ≡ a + suc n = omega arith in
-    ap (λ l. a ∷ l) (range-more (a + 1) n) ∙ ap (λ j. a ∷ (range_with_len (a + 1) n ++ j ∷ [])) e
 
 range-next : (n : ℕ) → range_with_len 0 (n + 1) ≡ range_with_len 0 n ++ n ∷ []
 range-next n =
     let next : n + 1 ≡ suc n = omega arith in
     let last : 0 + n ≡ n = omega arith in
     ap (range_with_len 0) next ∙ range-more 0 n ∙ ap (λ j. range_with_len 0 n ++ j ∷ []) last
-
-filter-append : {X : Type 0} (p : X → Bool) (xs ys : List X) → filter p (xs ++ ys) ≡ filter p xs ++ filter p ys
-filter-append p [] ys = refl
-filter-append p (x ∷ xs) ys = by (p x) (filter-append p xs ys)
-  where
-    by : (t : Bool) → filter p (xs ++ ys) ≡ filter p xs ++ filter p ys → (if t then x ∷ filter p (xs ++ ys) else filter p (xs ++ ys)) ≡ (if t then x ∷ filter p xs else filter p xs) ++ filter p ys
-    by true h = ap (λ zs. x ∷ zs) h
-    by false h = h
 
 -- one more number, whose row was added
 pub rows-more : {X : Type 0} (f : ℕ → X) (n : ℕ) (olds news : List X) → olds ≡ map f (range_with_len 0 n) → news ≡ olds ++ f n ∷ [] → news ≡ map f (range_with_len 0 (n + 1))

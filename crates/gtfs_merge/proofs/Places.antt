@@ -2,9 +2,11 @@
 use Rattle.std.proofs.Common.{◌≡◌, ℕ, Bool, true, false, List, ◌++◌, Some, None, Option, refl, sym, ap, ◌∙◌, subst, inl, inr, ◌⊎◌, map, bytes_eq, option_map, unwrap_or, true≢false}
 use Rattle.std.specs.Prelude.{◌&&◌, ◌||◌, ◌==◌}
 use Rattle.std.proofs.lemmas.Bool.{and_parts, and_from, or_cases, or_left, or_right}
+use Rattle.std.proofs.Math.Bool.{and_assoc as and_three}
 use Rattle.gtfs_rows.specs.Rows.{Stop}
 use Rattle.gtfs_rows.specs.Content.{Content}
 use Rattle.gtfs_columns.specs.Values.{if_there}
+use Rattle.gtfs_columns.proofs.SiteFacts.{text_is as same_bytes}
 use Rattle.gtfs_board.specs.Key.{Key}
 use Rattle.gtfs_board.specs.Departures.{is_above, Origins, departs_at}
 use Rattle.gtfs_runs.specs.Places.{is_plain_stop, is_in_place}
@@ -13,7 +15,7 @@ use Rattle.gtfs_merge.specs.Renaming.{Nearness, kept_as_is, has_id, ids, names_a
 use Rattle.gtfs_merge.specs.Merged.{merged}
 use Rattle.gtfs_merge.specs.Departures.{key_with, IsImageAt, HasBoards}
 use Rattle.gtfs_merge.specs.declared.kind.Kind.TheVariants as kind
-use Rattle.gtfs_merge.proofs.Lookups.{same_bytes, bytes_same, list_any-alike, holds_at, look, IsKeyed, keyed-by_id}
+use Rattle.gtfs_merge.proofs.Lookups.{bytes_same, list_any-alike, holds_at, look, IsKeyed, keyed-by_id}
 use Rattle.gtfs_merge.proofs.MergedRows.{found, found_id}
 use Rattle.gtfs_merge.proofs.Carried.{HasKeys, NamesServices, departs-has, departs-row}
 use Rattle.gtfs_merge.proofs.Union.{AreFew, departs-a, departs-b, side-of}
@@ -22,10 +24,6 @@ use Rattle.gtfs_merge.proofs.Stops.{stop_id_of, IsNearness, HasPlaces, settled, 
 -- what a stop says of its place
 abbrev says_place : Option Stop → List ℕ → Bool
 says_place o s = holds_at o (λ y. is_plain_stop y && if_there y.parent_station (bytes_eq s))
-
-and_three : (a b c : Bool) → (a && b && c) ≡ (a && (b && c))
-and_three true b c = refl
-and_three false b c = refl
 
 place-look : (f : Content) → IsKeyed stop_id_of f.stops → (s x : List ℕ) → is_in_place f s x ≡ (bytes_eq x s || says_place (look stop_id_of f.stops x) s)
 place-look f keyed s x = ap (λ b. bytes_eq x s || b)

@@ -4,9 +4,11 @@ use Rattle.std.specs.Prelude.{◌==◌, not, if◌then◌else◌}
 use Rattle.std.specs.List.{list_any}
 use Rattle.std.specs.Ordering.{on}
 use Rattle.std.proofs.lemmas.Bool.{and_parts, or_cases}
+use Rattle.gtfs_field.proofs.ListFacts.{any_mapped as list_any-map}
 use Rattle.gtfs_table.specs.Folder.{text_cmp}
 use Rattle.gtfs_columns.specs.Values.{if_there}
 use Rattle.gtfs_table.proofs.ByTextLemmas.{texts_total}
+use Rattle.gtfs_columns.proofs.NamedFacts.{text_turned as bytes_flip}
 use Rattle.gtfs_rows.specs.Content.{Content}
 use Rattle.gtfs_rows.specs.Order.{Ascends}
 use Rattle.gtfs_rows.specs.Rows.{Stop, StopRow, Trip}
@@ -15,7 +17,7 @@ use Rattle.gtfs_rows.proofs.ByKey.{by_key_is}
 use Rattle.gtfs_rows.proofs.Held.{text_antisymmetric}
 use Rattle.gtfs_merge.specs.Merged.{by_id}
 use Rattle.gtfs_merge.specs.Renaming.{has_id}
-use Rattle.gtfs_merge.proofs.Lookups.{In, list_all-In, list_any-map, list_any-alike, bytes_flip, look, IsKeyed, keyed-by_id}
+use Rattle.gtfs_merge.proofs.Lookups.{In, list_all-In, list_any-alike, look, IsKeyed, keyed-by_id}
 use Rattle.gtfs_merge.proofs.MergedRows.{has_found, found_id}
 use Rattle.gtfs_merge.proofs.Carried.{trip_id_of, service_id_of, HasKeys, NamesServices}
 use Rattle.gtfs_merge.proofs.Stops.{stop_id_of, HasPlaces}

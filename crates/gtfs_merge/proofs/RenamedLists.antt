@@ -1,9 +1,11 @@
 -- Ids of a kind, put into a table with what each became.
-use Rattle.std.proofs.Common.{◌≡◌, ◌<◌, ◌≤◌, ◌+◌, ℕ, zero, suc, Bool, false, List, [], ◌∷◌, ◌++◌, Some, None, Option, refl, sym, ap, ◌∙◌, length, map, take, get_or, bytes_eq, option_map, option_and_then, add-one, arith}
-use Rattle.std.specs.List.{AllPairs, list_any, position, position_or_len, slice_get}
+use Rattle.std.proofs.Common.{◌≡◌, ◌<◌, ◌≤◌, ◌+◌, ℕ, zero, suc, false, List, [], ◌∷◌, ◌++◌, Some, None, Option, refl, sym, ap, ◌∙◌, length, map, take, get_or, bytes_eq, option_map, option_and_then, add-one, arith}
+use Rattle.std.specs.List.{AllPairs, list_any, position, slice_get}
 use Rattle.std.specs.declared.cmp.Ordering.TheVariants.{Less}
 use Rattle.std.proofs.Math.Seq.{take-suc}
-use Rattle.std.proofs.lemmas.List.{length-map, map-append, take_all}
+use Rattle.std.proofs.lemmas.List.{map-append, take_all}
+use Rattle.std.proofs.lemmas.Option.{slice_get-map as slice_get-mapped}
+use Rattle.gtfs_field.proofs.ListFacts.{position-map as position-mapped}
 use Rattle.gtfs_table.specs.Folder.{text_cmp}
 use Rattle.gtfs_rows.proofs.Held.{apart_turned}
 use Rattle.gtfs_rows.proofs.SameElements.{pairs-head, pairs-map, pairs-tail}
@@ -55,22 +57,6 @@ pub renamed-all : (rename : Renaming) (ids : List (List ℕ)) (n : ℕ) → leng
 renamed-all rename ids n past = ap (new_ids rename) (take_all n ids past)
 
 -- ---- places in mapped lists
-
-place-map : {A B : Type 0} (p : B → Bool) (f : A → B) (xs : List A) → position_or_len p (map f xs) ≡ position_or_len (λ x. p (f x)) xs
-place-map p f [] = refl
-place-map p f (x ∷ xs) = rw (place-map p f xs) refl
-
-pub position-mapped : {A B : Type 0} (p : B → Bool) (f : A → B) (xs : List A) → position p (map f xs) ≡ position (λ x. p (f x)) xs
-position-mapped p f xs = rw (place-map p f xs, length-map) refl
-
-pub any-mapped : {A B : Type 0} (p : B → Bool) (f : A → B) (xs : List A) → list_any p (map f xs) ≡ list_any (λ x. p (f x)) xs
-any-mapped p f [] = refl
-any-mapped p f (x ∷ xs) = rw (any-mapped p f xs) refl
-
-pub slice_get-mapped : {A B : Type 0} (f : A → B) (xs : List A) (n : ℕ) → slice_get (map f xs) n ≡ option_map f (slice_get xs n)
-slice_get-mapped f [] n = refl
-slice_get-mapped f (x ∷ xs) zero = refl
-slice_get-mapped f (x ∷ xs) (suc n) = slice_get-mapped f xs n
 
 -- ---- one more id and its name
 

@@ -6,7 +6,6 @@ use Rattle.std.specs.Cmp.Lexicographic.{lists_total, nat_list_cmp_total, options
 use Rattle.std.specs.FinMap as table
 use Rattle.std.specs.Option.{option_cmp}
 use Rattle.std.specs.Ordering.{nat_cmp, ordering_reverse, ordering_then}
-use Rattle.std.specs.declared.cmp.Ordering.{Ordering}
 use Rattle.std.specs.declared.cmp.Ordering.TheVariants.{Less, Equal, Greater}
 use Rattle.std.proofs.lemmas.Bool.{and_parts, cases_lt, ltb-true}
 use Rattle.std.proofs.lemmas.Bool.Decides.{nat_tests}
@@ -14,26 +13,17 @@ use Rattle.gtfs_parts.specs.TransferEnds.{names_ends, transfer_named, transfer_n
 use Rattle.gtfs_rows.specs.Order.{Ascends, transfer_key, transfer_key_cmp}
 use Rattle.gtfs_rows.specs.Views.{is_within, text_of_number}
 use Rattle.gtfs_rows.specs.declared.transfer.Transfer.{Transfer as ByNumber}
-use Rattle.gtfs_rows.proofs.Held.{text_antisymmetric}
 use Rattle.gtfs_table.specs.Folder.{text_cmp}
+use Rattle.gtfs_rows.proofs.ContentAgain.{same_option}
 use Rattle.gtfs_merge.specs.Transfers.{ends_cmp}
 
 -- ---- the orders of keys
-
-same_option : {K : Type 0} {R : K → K → Ordering} → table.IsAntisymmetric R → table.IsAntisymmetric (option_cmp R)
-same_option anti None None e = refl
-same_option anti None (Some y) e = cc
-same_option anti (Some x) None e = cc
-same_option anti (Some x) (Some y) e = ap Some (anti x y e)
 
 pub ends_total : IsTotalOrder ends_cmp
 ends_total = lists_total (options_total nat_cmp_total)
 
 pub ends_antisymmetric : table.IsAntisymmetric ends_cmp
 ends_antisymmetric = table.slice_cmp-IsAntisymmetric (same_option table.nat_cmp-IsAntisymmetric)
-
-pub text_key_antisymmetric : table.IsAntisymmetric transfer_key_cmp
-text_key_antisymmetric = table.slice_cmp-IsAntisymmetric (same_option text_antisymmetric)
 
 -- ---- numbers stand in the order of ids
 

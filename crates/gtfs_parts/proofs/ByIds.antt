@@ -8,16 +8,14 @@ use Rattle.std.specs.FinMap.Entries.{by_order, put}
 use Rattle.std.specs.List.{All, range_with_len}
 use Rattle.std.specs.declared.cmp.Ordering.{Ordering}
 use Rattle.std.specs.declared.cmp.Ordering.TheVariants.{Less, Equal, Greater}
-use Rattle.std.proofs.lemmas.List.{length-map, nil_from_length}
+use Rattle.std.proofs.lemmas.List.{length-map}
 use Rattle.std.proofs.lemmas.List.Elements.{All-cons, All-head, All-map, All-nil, All-tail, filter_passes}
 use Rattle.gtfs_table.specs.Folder.{text_cmp}
 use Rattle.gtfs_table.specs.Rows.{is_row, records_in, rows}
 use Rattle.gtfs_columns.specs.Rows.{text_in}
 use Rattle.gtfs_columns.specs.steps.Ids.{IdColumn, ids_of, rows_by_number}
 use Rattle.gtfs_rows.specs.Order.{by_key}
-
-pub no_entries : {K Z : Type 0} (R : K → K → Ordering) → table.entries (table.empty {X = Z} {R = R}) ≡ []
-no_entries {Z = Z} R = nil_from_length _ (sym (table.len-entries (table.empty {X = Z} {R = R})) ∙ table.len-empty R Z)
+use Rattle.gtfs_rows.proofs.KeyedRows.{no_entries}
 
 -- ---- a function of the values
 

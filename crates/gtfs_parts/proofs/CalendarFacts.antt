@@ -1,16 +1,16 @@
 -- The service of an id in a dataset that passes.
 use Rattle.std.proofs.Common.{◌≡◌, ℕ, ◌∷◌, [], List, map, get_or, true, false, Bool, codes, Option, Some, None, is_some, refl, sym, ap, ◌∙◌, subst, arith, inl, inr}
-use Rattle.std.specs.Prelude.{◌&&◌, bytes_eq, filter, find, option_and_then, unwrap_or, int_lt, ℤ, pos, ◌≤ℤ◌, ◌<ℤ◌}
+use Rattle.std.specs.Prelude.{◌&&◌, bytes_eq, filter, find, option_and_then, unwrap_or, int_lt, ℤ, pos, ◌≤ℤ◌}
 use Prim.Native.String.{String as Literal}
 use Rattle.std.specs.Cmp.{int_cmp_total}
 use Rattle.std.specs.FinMap as table
 use Rattle.std.specs.List.{All}
 use Rattle.std.specs.List.Sorted.{IsPermutation}
 use Rattle.std.specs.Ordering.{int_cmp}
-use Rattle.std.specs.declared.cmp.Ordering.TheVariants.{Less}
 use Rattle.std.proofs.lemmas.Bool.{cases_Bool}
 use Rattle.std.proofs.lemmas.Int.{ints}
 use Rattle.std.proofs.lemmas.List.Elements.{All-filter, All-head, All-tail}
+use Rattle.gtfs_field.proofs.OrderingFacts.{int-less}
 use Rattle.gtfs_days.specs.Service.{IsByDay, NamesEachDayOnce}
 use Rattle.gtfs_days.specs.declared.exception.Exception.{Exception}
 use Rattle.gtfs_table.specs.Rows.{is_row, records_in, rows}
@@ -128,9 +128,6 @@ module _ (d : Dataset) (passes : Passes d) where
       (date_at t j e l ∙ ap Some (sym same)))
 
 -- by day
-less_day : (a b : ℤ) → a <ℤ b → int_cmp a b ≡ Less
-less_day a b h = grind (arith, ints)
-
 pub by_day : (es fs : List (ℤ × Exception)) → IsPermutation es fs → IsByDay fs → by_key int_cmp (λ e. e.0) es ≡ fs
 by_day es fs moved up =
-    by_key_is int_cmp int_cmp_total (λ e. e.0) table.int_cmp-IsAntisymmetric es fs (same-from_permutation es fs moved) (λ i j d h l. less_day (get_or fs i d).0 (get_or fs j d).0 (up i j d h l))
+    by_key_is int_cmp int_cmp_total (λ e. e.0) table.int_cmp-IsAntisymmetric es fs (same-from_permutation es fs moved) (λ i j d h l. int-less (get_or fs i d).0 (get_or fs j d).0 (up i j d h l))

@@ -1,8 +1,8 @@
 -- The fields of a row, and the lists of rows that a loop makes.
-use Rattle.std.proofs.Common.{◌≡◌, ◌<◌, ◌≤◌, ◌+◌, ◌∷◌, ◌++◌, [], ℕ, zero, suc, List, length, map, take, get_or, true, Bool, codes, Option, Some, None, option_map, refl, sym, ap, subst, ◌∙◌, arith}
+use Rattle.std.proofs.Common.{◌≡◌, ◌<◌, ◌≤◌, ◌+◌, ◌∷◌, ◌++◌, [], ℕ, List, length, map, take, get_or, true, Bool, codes, Option, Some, None, option_map, refl, sym, ap, subst, ◌∙◌, arith}
 use Prim.Native.String.{String as Literal}
 use Rattle.std.specs.List.{All, list_all}
-use Rattle.std.proofs.lemmas.List.{map_more, map_push}
+use Rattle.std.proofs.lemmas.List.{map_more, map_push, take_all}
 use Rattle.std.proofs.lemmas.List.Folds.{list_all-append}
 use Rattle.gtfs_table.proofs.RowFacts.{value_is}
 use Rattle.gtfs_table.specs.Rows.{is_row, records_in}
@@ -12,6 +12,7 @@ use Rattle.gtfs_columns.specs.Rows.{text_in}
 use Rattle.gtfs_columns.specs.steps.Ids.{IdColumn, ids_in, rows_by_number}
 use Rattle.gtfs_parts.proofs.ByIds.{rows_are}
 use Rattle.std.proofs.lemmas.List.Elements.{All-head}
+use Rattle.std.proofs.lemmas.Simd.{map-map}
 use Rattle.gtfs_parts.proofs.CalendarFacts.{head_of}
 
 -- the text of a field, whose column was found in the header
@@ -30,15 +31,9 @@ pub listed_next : {X Y : Type 0} (f : X → Y) (g : ℕ → Y) (ns : List ℕ) (
     → map f out ≡ map g (take k ns) → f x ≡ g (get_or ns k 0) → map f (out ++ x ∷ []) ≡ map g (take (k + 1) ns)
 listed_next f g ns k out x h before here = listed_next_of f g ns k out x 0 h before here
 
-take-whole : {X : Type 0} (xs : List X) (n : ℕ) → length xs ≤ n → take n xs ≡ xs
-take-whole [] zero h = refl
-take-whole [] (suc n) h = refl
-take-whole (x ∷ xs) zero h = absurd (omega arith)
-take-whole (x ∷ xs) (suc n) h = ap (λ ys. x ∷ ys) (take-whole xs n (omega arith))
-
 pub listed_all : {A X Y : Type 0} (f : X → Y) (g : A → Y) (ns : List A) (k : ℕ) (out : List X) → length ns ≤ k
     → map f out ≡ map g (take k ns) → map f out ≡ map g ns
-listed_all f g ns k out h before = before ∙ ap (map g) (take-whole ns k h)
+listed_all f g ns k out h before = before ∙ ap (map g) (take_all k ns h)
 
 -- a row of a column by the number of its id
 pub numbered_row : (d : Dataset) (x : File) (name : List ℕ) (i : IdColumn) → i ≡ ids_in d x name → (k n : ℕ) → k < length (rows_by_number i)
@@ -51,10 +46,6 @@ pub numbers_of : {N Y : Type 0} (number : N → ℕ) (f : ℕ → Y) (o : Option
 numbers_of number f None = refl
 numbers_of number f (Some n) = refl
 
-pub map-twice : {X Y Z : Type 0} (f : Y → Z) (g : X → Y) (xs : List X) → map f (map g xs) ≡ map (λ x. f (g x)) xs
-map-twice f g [] = refl
-map-twice f g (x ∷ xs) = ap (λ ys. f (g x) ∷ ys) (map-twice f g xs)
-
 -- one more that passes
 pub all_next : {X : Type 0} (p : X → Bool) (xs : List X) (x : X) → list_all p xs ≡ true → p x ≡ true → list_all p (xs ++ x ∷ []) ≡ true
 all_next p xs x before here = list_all-append p xs (x ∷ []) ∙ rw (before, here) refl
@@ -63,8 +54,8 @@ all_next p xs x before here = list_all-append p xs (x ∷ []) ∙ rw (before, he
 pub read_next : {A B Y : Type 0} (f : B → Y) (rs : List (A × B)) (k : ℕ) (out : List Y) (y : Y) (z : A × B) → k < length rs
     → out ≡ map f (map (λ r. r.1) (take k rs)) → y ≡ f (get_or rs k z).1 → out ++ y ∷ [] ≡ map f (map (λ r. r.1) (take (k + 1) rs))
 read_next f rs k out y z h before here =
-    ap (λ ys. ys ++ y ∷ []) (before ∙ map-twice f (λ r. r.1) (take k rs)) ∙ ap (λ x. map (λ r. f r.1) (take k rs) ++ x ∷ []) here
-    ∙ sym (map-twice f (λ r. r.1) (take (k + 1) rs) ∙ map_more (λ r. f r.1) rs k z h)
+    ap (λ ys. ys ++ y ∷ []) (before ∙ map-map f (λ r. r.1) (take k rs)) ∙ ap (λ x. map (λ r. f r.1) (take k rs) ++ x ∷ []) here
+    ∙ sym (map-map f (λ r. r.1) (take (k + 1) rs) ∙ map_more (λ r. f r.1) rs k z h)
 
 -- the first of the rows that stand beside ids
 pub none_beside : {A : Type 0} (rs : List (A × ℕ)) → length rs < 1 → head_of (map (λ r. r.1) rs) ≡ None

@@ -1,5 +1,5 @@
 -- The ids of rows of a dataset that passes stand as they are, and those that name rows name them by their numbers.
-use Rattle.std.proofs.Common.{◌≡◌, ℕ, ◌-◌, ◌∷◌, [], List, map, length, get_or, true, false, Bool, bytes_eq, codes, Option, Some, None, option_map, is_some, refl, sym, ap, ◌∙◌, inl, inr, subst, arith, eqb-true}
+use Rattle.std.proofs.Common.{◌≡◌, ℕ, ◌-◌, ◌∷◌, [], List, map, length, get_or, true, false, Bool, bytes_eq, codes, Option, Some, None, option_map, is_some, refl, sym, ap, ◌∙◌, inl, inr, subst, arith}
 use Rattle.std.specs.Prelude.{◌&&◌, ◌||◌, not, find, option_and_then, unwrap_or}
 use Prim.Native.String.{String as Literal}
 use Rattle.std.specs.List.{All, list_any, range_with_len}
@@ -7,7 +7,6 @@ use Rattle.std.proofs.lemmas.Bool.{cases_Bool}
 use Rattle.std.proofs.lemmas.Bool.Decides.{nat_tests}
 use Rattle.std.proofs.lemmas.List.Quantifiers.{position-Some}
 use Rattle.gtfs_columns.proofs.IdNumberFacts.{number_known, number_there}
-use Rattle.std.proofs.lemmas.List.{nil_from_length}
 use Rattle.std.proofs.lemmas.List.Elements.{All-head, All-tail, filter_passes}
 use Rattle.std.specs.Cmp.Lexicographic.{nat_list_cmp_total}
 use Rattle.gtfs_table.specs.Folder.{text_cmp}
@@ -26,15 +25,13 @@ use Rattle.gtfs_columns.specs.Values.{as_word, has_control, readable}
 use Rattle.gtfs_columns.specs.steps.Ids.{IdColumn, first_row_with, ids_in, ids_of, number_with, rows_by_number}
 use Rattle.gtfs_columns.proofs.ReadFacts.{passes_read}
 use Rattle.std.proofs.lemmas.Slice.Eq.{bytes_eq-Decides}
+use Rattle.gtfs_table.proofs.BlankFacts.{no_text}
 use Rattle.gtfs_rows.specs.Order.{by_key}
 use Rattle.gtfs_rows.specs.Reading.{text_at}
 use Rattle.gtfs_rows.specs.Views.{is_within, text_of_number}
 use Rattle.gtfs_parts.proofs.ByIds.{by_key_made, ids_read, rows_are}
 
 -- ---- an id that is there
-
-pub no_text : (t : List ℕ) → is_empty t ≡ true → t ≡ []
-no_text t empty = nil_from_length t (eqb-true (length t) 0 empty)
 
 pub id_there : (t : List ℕ) → IsReadAs id t → is_empty t ≡ false → word_of id t ≡ Some t
 id_there t read filled = elim (cases_Bool (has_control t)) [

@@ -1,10 +1,9 @@
 mod ByIds
-mod CalendarFacts
-mod Cuts
+pub mod CalendarFacts
+pub mod Cuts
 mod Fields
 mod FrequencyFacts
 mod IdTexts
-mod PlainTexts
 mod ReferenceFacts
 mod RowKeys
 mod RowsAlike

@@ -25,15 +25,17 @@ use Rattle.gtfs_columns.proofs.SiteFacts.{text_itself}
 use Rattle.gtfs_columns.specs.FileRules.{is_absent_state, is_not_utf8_state, is_read, is_read_state}
 use Rattle.gtfs_table.specs.declared.state.State.{State}
 use Rattle.gtfs_table.specs.declared.state.State.TheVariants as state
+use Rattle.gtfs_table.proofs.BlankFacts.{no_text}
 use Rattle.gtfs_columns.specs.Rows.{row_with, text_in, word_in}
 use Rattle.gtfs_columns.specs.steps.Ids.{IdColumn, first_row_with, ids_in, ids_of as ids_of_column, number_with, rows_by_number}
 use Rattle.gtfs_rows.specs.Reading.{first_agency, text_at}
 use Rattle.gtfs_rows.specs.Views.{is_within, text_of_number}
 use Rattle.gtfs_rows.proofs.SameElements.{contains-first, contains-later}
+use Rattle.gtfs_rows.proofs.KeyedRows.{no_entries}
 use Rattle.gtfs_parts.specs.ServiceIds.{HasAll, NumbersText, service_ids, service_texts}
 use Rattle.gtfs_parts.specs.Named.{ids_of}
-use Rattle.gtfs_parts.proofs.ByIds.{ids_read, no_entries}
-use Rattle.gtfs_parts.proofs.IdTexts.{filled_required, known_one, no_empty_id, number_within, numbered, unnumbered, no_text, none_unknown, text_at_is, word_none, word_there}
+use Rattle.gtfs_parts.proofs.ByIds.{ids_read}
+use Rattle.gtfs_parts.proofs.IdTexts.{filled_required, known_one, no_empty_id, number_within, numbered, unnumbered, none_unknown, text_at_is, word_none, word_there}
 
 -- the number of an id of a column, by what these are
 same_number : {X : Type 0} (f : Option ℕ → X) (i j : IdColumn) (s t : List ℕ) (x : X) → i ≡ j → s ≡ t → x ≡ f (number_with i s) → x ≡ f (number_with j t)

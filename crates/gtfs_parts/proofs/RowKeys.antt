@@ -1,12 +1,10 @@
 -- No two rows of a dataset that passes have one key.
-use Rattle.std.proofs.Common.{◌≡◌, ℕ, zero, suc, ◌+◌, ◌-◌, ◌<◌, ◌∷◌, [], List, length, get_or, true, false, Bool, codes, Option, Some, None, option_map, refl, sym, ap, ◌∙◌, subst, arith, inl, inr}
-use Rattle.std.specs.Prelude.{◌==◌, ◌&&◌, bytes_eq, filter, nat_lt, option_and_then, ℤ}
+use Rattle.std.proofs.Common.{◌≡◌, ℕ, zero, suc, ◌+◌, ◌-◌, ◌<◌, ◌∷◌, [], List, length, get_or, true, false, Bool, codes, Some, refl, sym, ◌∙◌, subst, arith, inl, inr}
+use Rattle.std.specs.Prelude.{◌==◌, ◌&&◌, filter, nat_lt, option_and_then, ℤ}
 use Prim.Native.String.{String as Literal}
-use Rattle.std.specs.Cmp.{signed_Decides}
 use Rattle.std.specs.Cmp.Lexicographic.{pointwise}
 use Rattle.std.specs.List.{All, AllPairs, range_with_len}
-use Rattle.std.specs.Ordering.{int_eq}
-use Rattle.std.proofs.lemmas.Bool.{cases_Bool}
+use Rattle.std.proofs.lemmas.Bool.{and_from, cases_Bool, eqb-true}
 use Rattle.std.proofs.lemmas.Bool.Decides.{nat_tests}
 use Rattle.std.proofs.lemmas.List.Elements.{All-cons, All-filter, filter_passes}
 use Rattle.std.proofs.lemmas.List.Kept.{AllPairs-cons, AllPairs-filter}
@@ -19,10 +17,11 @@ use Rattle.gtfs_columns.specs.KeyRules.{all_there, key_in, same_key}
 use Rattle.gtfs_columns.specs.Problems.{Passes, kept}
 use Rattle.gtfs_columns.specs.References.{reported_column}
 use Rattle.gtfs_columns.specs.Rows.{value_in, word_in}
-use Rattle.gtfs_columns.specs.Values.{Value, amount, as_amount, as_word, if_both, is_word, value_eq, word}
-use Rattle.gtfs_columns.proofs.BoolFacts.{and_both}
+use Rattle.gtfs_columns.specs.Values.{amount, as_amount, if_both, is_word, value_eq, word}
 use Rattle.gtfs_columns.proofs.EachFacts.{any_follows}
-use Rattle.gtfs_columns.proofs.SiteFacts.{same_number, text_is, text_itself}
+use Rattle.gtfs_columns.proofs.SiteFacts.{text_itself}
+use Rattle.gtfs_columns.proofs.ValueFacts.{amount_value, is_word_some, word_value}
+use Rattle.gtfs_rules.proofs.PassedStopTimes.{have_one_key, one_key}
 
 -- ---- rows ascend
 
@@ -48,33 +47,13 @@ module _ (d : Dataset) (passes : Passes d) (x : File) where
     | inl same ↦
         let earlier : nat_lt m n ≡ true = grind (arith, nat_tests, below) in
         let there = any_follows (λ k. m == k) (λ k. nat_lt k n && same_key d x n k) (rows d x)
-        (λ k is. subst (λ (j : ℕ). (nat_lt j n && same_key d x n j) ≡ true) (same_number m k is) (and_both (nat_lt m n) (same_key d x n m) earlier same))
+        (λ k is. subst (λ (j : ℕ). (nat_lt j n && same_key d x n j) ≡ true) (eqb-true m k is) (and_from (nat_lt m n) (same_key d x n m) earlier same))
         (row_among d x m first) in
         cc (rw (text_itself (reported_column x), second, there) at (passes (record { file = kept x; row = n; code = code.E09; column = reported_column x }) refl))
     | inr other ↦ other
   ]
 
 -- ---- keys of two parts, an id and a number
-
-pub word_value : (v : Option Value) (t : List ℕ) → option_and_then as_word v ≡ Some t → v ≡ Some (word t)
-word_value None t e = cc e
-word_value (Some (word s)) t e = ap (λ o. option_map word o) e
-word_value (Some (amount x)) t e = cc e
-
-amount_value : (v : Option Value) (x : ℤ) → option_and_then as_amount v ≡ Some x → v ≡ Some (amount x)
-amount_value None x e = cc e
-amount_value (Some (word s)) x e = cc e
-amount_value (Some (amount y)) x e = ap (λ o. option_map amount o) e
-
-word_named : (o : Option (List ℕ)) (t : List ℕ) → is_word o t ≡ true → o ≡ Some t
-word_named None t e = cc e
-word_named (Some s) t e = ap Some (sym (text_is t s e))
-
-abbrev have_one_key : Option Value → Option Value → Option Value → Option Value → Bool
-have_one_key a b e f = if_both (all_there (a ∷ b ∷ [])) (all_there (e ∷ f ∷ [])) (pointwise value_eq)
-
-one_key : (t : List ℕ) (x : ℤ) → have_one_key (Some (word t)) (Some (amount x)) (Some (word t)) (Some (amount x)) ≡ true
-one_key t x = and_both (bytes_eq t t) (int_eq x x && true) (text_itself t) (and_both (int_eq x x) true ((signed_Decides x x).1 refl) refl)
 
 module _ (d : Dataset) (passes : Passes d) (x : File) (id number : Literal)
     (of_two : (n : ℕ) → key_in d x n ≡ all_there (value_in d x n (codes id) ∷ value_in d x n (codes number) ∷ [])) where
@@ -103,4 +82,4 @@ module _ (d : Dataset) (passes : Passes d) (x : File) (id number : Literal)
       let are = All-filter test (λ n. is_row (records_in d x) n ≡ true) (rows d x) (all_rows d x) in
       let named = filter_passes test (rows d x) in
       clash (get_or (rows_named t) i e) (get_or (rows_named t) j e) (are i e (omega (arith, h, l))) (are j e l) (up i j e h l) t a
-      (word_named _ t (named i e (omega (arith, h, l)))) (word_named _ t (named j e l)) first second
+      (is_word_some _ t (named i e (omega (arith, h, l)))) (is_word_some _ t (named j e l)) first second

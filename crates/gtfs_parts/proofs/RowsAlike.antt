@@ -4,6 +4,7 @@ use Rattle.std.specs.Prelude.{◌&&◌, nat_lt, option_map}
 use Rattle.std.specs.Cmp.Lexicographic.{nat_list_cmp_total}
 use Rattle.std.specs.List.{list_all}
 use Rattle.std.proofs.lemmas.List.{length-map}
+use Rattle.std.proofs.lemmas.Simd.{map-map}
 use Rattle.gtfs_table.specs.Folder.{text_cmp}
 use Rattle.gtfs_table.specs.Parts.{parts}
 use Rattle.gtfs_table.specs.Tables.{Dataset}
@@ -20,7 +21,6 @@ use Rattle.gtfs_parts.specs.Named.{ids_of, names_agency, names_parent, names_rou
 use Rattle.gtfs_parts.specs.ServiceIds.{service_ids}
 use Rattle.gtfs_parts.specs.TransferEnds.{names_ends, transfer_named}
 use Rattle.gtfs_parts.proofs.ByIds.{by_key_made}
-use Rattle.gtfs_parts.proofs.Fields.{map-twice}
 use Rattle.gtfs_parts.proofs.IdTexts.{content_ids}
 
 -- ids of rows are those of what they stand for
@@ -78,7 +78,7 @@ module _ (d : Dataset) (passes : Passes d) (r : FeedRows) (are : AreLists d r) w
 
   trip_ids : map (λ t. t.trip_id) r.trips ≡ ids_of d file.Trips "trip_id"
   trip_ids = own_ids (trip_named (ids_of d file.Routes "route_id") (service_ids d)) (λ t. t.trip_id) (λ t. t.trip_id) r.trips (map without_rows (content_of d).trips) _ (λ t. refl) are.trips
-      (map-twice (λ t. t.trip_id) without_rows (content_of d).trips
+      (map-map (λ t. t.trip_id) without_rows (content_of d).trips
       ∙ content_ids d passes file.Trips "trip_id" (required "trip_id" id) refl refl (λ t. t.trip_id) (trip_in d) (λ n. refl))
 
   -- as many ids as rows

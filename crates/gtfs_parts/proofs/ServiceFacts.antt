@@ -1,6 +1,6 @@
 -- The ids of both calendar files, in order, each once.
 use Rattle.std.proofs.Common.{◌≡◌, ◌<◌, ◌+◌, ◌++◌, ◌-◌, ℕ, List, [], ◌∷◌, get_or, length, map, None, inl, inr, arith, true, bytes_eq, Bool, Some, codes, Bor, refl, sym, ◌∙◌, ap, ap₂, subst}
-use Rattle.std.specs.List.{All, AllPairs, Contains, HoldsAt, dedup, range_with_len}
+use Rattle.std.specs.List.{All, Contains, HoldsAt, dedup, range_with_len}
 use Rattle.std.specs.List.Sorted.{IsNonDecreasingBy, IsPartitionPoint, IsPermutation, IsSorted, IsSortedBy, IsStrictlySortedBy}
 use Rattle.std.specs.Cmp.{tied_itself}
 use Rattle.std.specs.Ordering.{is_lt, on, ordering_index, ordering_reverse}
@@ -17,6 +17,7 @@ use Rattle.std.proofs.lemmas.List.Kept.{Any-dedup, Contains-from_dedup, IsStrict
 use Rattle.std.proofs.lemmas.Map.Keys.{Less-from_sorted}
 use Rattle.std.proofs.lemmas.Map.Text.{is_eq-slice_cmp}
 use Rattle.std.proofs.lemmas.Slice.Eq.{bytes_eq-Decides}
+use Rattle.gtfs_field.proofs.ListFacts.{pairs-from_map}
 use Rattle.gtfs_table.specs.Folder.{text_cmp}
 use Rattle.gtfs_table.specs.Rows.{is_row, records_in, rows}
 use Rattle.gtfs_table.specs.Tables.{Dataset}
@@ -90,17 +91,10 @@ all_kept d xs ys all moved t at =
 
 -- ---- a search among them
 
-pairs-unmap : {A X : Type 0} (f : A → X) (R : X → X → Type 0) (xs : List A) → AllPairs R (map f xs) → AllPairs (λ x y. R (f x) (f y)) xs
-pairs-unmap f R xs up i j d h l =
-    let l' : j < length (map f xs) = omega (arith, l, length-map xs f) in
-    let at_i : get_or (map f xs) i (f d) ≡ f (get_or xs i d) = get_or-map f xs i d (f d) (omega (arith, h, l)) in
-    let at_j : get_or (map f xs) j (f d) ≡ f (get_or xs j d) = get_or-map f xs j d (f d) l in
-    subst (λ y. R (f (get_or xs i d)) y) at_j (subst (λ x. R x (get_or (map f xs) j (f d))) at_i (up i j (f d) h l'))
-
 module _ (id : List ℕ) (xs : List (Bor (List ℕ))) (up : Ascends text_cmp (texts xs)) where
   ascends : IsSortedBy (λ (a b : Bor (List ℕ)). is_lt (text_cmp a.now b.now)) xs
   ascends k d low h =
-      let less = pairs-unmap (λ (t : Bor (List ℕ)). t.now) (λ x y. text_cmp x y ≡ Less) xs up k (k + 1) d (omega arith) h in
+      let less = pairs-from_map (λ (t : Bor (List ℕ)). t.now) (λ x y. text_cmp x y ≡ Less) xs up k (k + 1) d (omega arith) h in
       ap is_lt (nat_list_cmp_total.antisymm (get_or xs (k + 1) d).now (get_or xs k d).now ∙ ap ordering_reverse less)
 
   -- what a search finds is there

@@ -1,5 +1,6 @@
 -- The rows of a dataset with its stop times are its content.
-use Rattle.std.proofs.Common.{◌≡◌, ◌∷◌, [], List, map, get_or, refl, ap}
+use Rattle.std.proofs.Common.{◌≡◌, ◌∷◌, [], List, map, refl, ap}
+use Rattle.gtfs_field.proofs.ListFacts.{first_is, rest_is}
 use Rattle.gtfs_table.specs.Parts.{parts}
 use Rattle.gtfs_table.specs.Tables.{Dataset}
 use Rattle.gtfs_rows.specs.declared.frequency.Frequency.{Frequency as FrequencyRow}
@@ -11,16 +12,6 @@ use Rattle.gtfs_rows.specs.Rows.{Trip}
 use Rattle.gtfs_rows.specs.Views.{content_of_parts, frequency_of, route_ids, service_ids, stop_row_of, trip_of, trips_of}
 use Rattle.gtfs_parts.specs.FeedRows.{AreRowsOf, rows_in}
 use Rattle.gtfs_parts.specs.Named.{trip_named, without_rows}
-
-first_is : {X : Type 0} (x y : X) (xs ys : List X) → x ∷ xs ≡ y ∷ ys → x ≡ y
-first_is x y xs ys e = ap (λ l. get_or l 0 x) e
-
-abbrev rest_of : {X : Type 0} → List X → List X
-rest_of [] = []
-rest_of (x ∷ xs) = xs
-
-rest_is : {X : Type 0} (x y : X) (xs ys : List X) → x ∷ xs ≡ y ∷ ys → xs ≡ ys
-rest_is x y xs ys e = ap rest_of e
 
 module _ (p : Parts) where
   abbrev as_named : TripRow → Trip

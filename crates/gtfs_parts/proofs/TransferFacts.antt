@@ -10,7 +10,6 @@ use Rattle.std.specs.List.{All, AllPairs, list_all}
 use Rattle.std.specs.List.Sorted.{IsPermutation, IsSortedByKey}
 use Rattle.std.specs.Option.{option_cmp}
 use Rattle.std.specs.Ordering.{is_eq, is_lt, nat_cmp, ordering_reverse, ordering_then}
-use Rattle.std.specs.declared.cmp.Ordering.{Ordering}
 use Rattle.std.specs.declared.cmp.Ordering.TheVariants.{Less, Equal, Greater}
 use Rattle.std.proofs.lemmas.Bool.{and_parts, cases_Bool, cases_lt}
 use Rattle.std.proofs.lemmas.Bool.Decides.{nat_tests}
@@ -18,6 +17,7 @@ use Rattle.std.proofs.lemmas.List.Elements.{All-cons, All-head, All-nil, All-tai
 use Rattle.std.proofs.lemmas.List.Kept.{AllPairs-cons}
 use Rattle.std.proofs.lemmas.List.Sorted.{All-permutation}
 use lib.Dec.{T}
+use Rattle.gtfs_field.proofs.OrderingFacts.{less_so}
 use Rattle.gtfs_table.specs.Folder.{text_cmp}
 use Rattle.gtfs_table.specs.Rows.{is_empty, is_row, records_in, rows}
 use Rattle.gtfs_table.specs.Tables.{Dataset}
@@ -30,27 +30,23 @@ use Rattle.gtfs_columns.specs.Values.{Value, if_both, value_eq, word}
 use Rattle.gtfs_columns.specs.steps.Ids.{IdColumn, ids_of}
 use Rattle.gtfs_columns.specs.IdNumbers.{first_rows}
 use Rattle.gtfs_columns.proofs.SiteFacts.{text_itself}
+use Rattle.gtfs_columns.proofs.ValueFacts.{word_value}
 use Rattle.gtfs_rows.specs.declared.transfer.Transfer.{Transfer as TransferRow}
 use Rattle.gtfs_rows.specs.Order.{Ascends, by_key, transfer_key, transfer_key_cmp}
 use Rattle.gtfs_rows.specs.Reading.{transfer_in}
 use Rattle.gtfs_rows.specs.Rows.{Transfer}
 use Rattle.gtfs_rows.specs.Views.{is_within, text_of_number}
-use Rattle.gtfs_rows.proofs.ContentAgain.{transfer_total}
+use Rattle.gtfs_rows.proofs.ContentAgain.{transfer_antisymmetric, transfer_total}
 use Rattle.gtfs_rows.proofs.Held.{text_antisymmetric}
 use Rattle.gtfs_rows.proofs.RowTexts.{all_at}
 use Rattle.gtfs_rows.proofs.SameElements.{pairs-map}
 use Rattle.gtfs_parts.specs.TransferEnds.{names_ends, transfer_named, transfer_numbers}
 use Rattle.gtfs_parts.proofs.Fields.{numbers_of}
 use Rattle.gtfs_parts.proofs.IdTexts.{word_none, word_there}
-use Rattle.gtfs_parts.proofs.RowKeys.{all_rows, keys_apart, rows_up, word_value}
+use Rattle.gtfs_parts.proofs.RowKeys.{all_rows, keys_apart, rows_up}
 use Rattle.gtfs_parts.proofs.SortedKeys.{by_key_mapped}
 
 -- ---- ids ascend by their numbers
-
-less_is : (o : Ordering) → T (is_lt o) → o ≡ Less
-less_is Less h = refl
-less_is Equal h = absurd h
-less_is Greater h = absurd h
 
 both_hold : (a b : Bool) → T (a && b) → T a × T b
 both_hold true b h = (tt, h)
@@ -60,7 +56,7 @@ below_keys : (k : List ℕ) (es : List (List ℕ × ℕ)) → T (below_all text_
 below_keys k [] h = All-nil (λ y. text_cmp k y ≡ Less)
 below_keys k (e ∷ es) h =
     let parts = both_hold (is_lt (text_cmp k e.0)) (below_all text_cmp k es) h in
-    All-cons (λ y. text_cmp k y ≡ Less) e.0 (map (λ e. e.0) es) (less_is (text_cmp k e.0) parts.0) (below_keys k es parts.1)
+    All-cons (λ y. text_cmp k y ≡ Less) e.0 (map (λ e. e.0) es) (less_so (text_cmp k e.0) parts.0) (below_keys k es parts.1)
 
 keys_up : (es : List (List ℕ × ℕ)) → T (is_sorted text_cmp es) → Ascends text_cmp (map (λ e. e.0) es)
 keys_up [] h = λ i j d l m. absurd (omega arith)
@@ -145,15 +141,6 @@ module _ (stops routes trips : List (List ℕ)) (stops_up : Ascends text_cmp sto
 
 -- ---- no two rows have one key
 
-same_option : (a b : Option (List ℕ)) → option_cmp text_cmp a b ≡ Equal → a ≡ b
-same_option None None e = refl
-same_option None (Some y) e = cc e
-same_option (Some x) None e = cc e
-same_option (Some x) (Some y) e = ap Some (text_antisymmetric x y e)
-
-key_antisymmetric : table.IsAntisymmetric transfer_key_cmp
-key_antisymmetric = table.slice_cmp-IsAntisymmetric same_option
-
 abbrev as_value : Option (List ℕ) → Value
 as_value o = word (unwrap_or o [])
 
@@ -195,7 +182,7 @@ module _ (d : Dataset) (passes : Passes d) where
       let n = get_or (rows d file.Transfers) j e in
       elim (cases_Bool (is_eq (transfer_key_cmp (key_of m) (key_of n)))) [
         | inl tie ↦ absurd (clash m n (all_rows d file.Transfers i e (omega (arith, h, l))) (all_rows d file.Transfers j e l) (rows_up d file.Transfers i j e h l)
-            (key_antisymmetric (key_of m) (key_of n) ((Equal-is (transfer_key_cmp (key_of m) (key_of n))).0 tie)))
+            (transfer_antisymmetric (key_of m) (key_of n) ((Equal-is (transfer_key_cmp (key_of m) (key_of n))).0 tie)))
         | inr apart ↦ apart
       ])
 
@@ -218,7 +205,7 @@ transfers_sorted d passes i j k read sorted reads within moved up =
     let all : list_all test sorted ≡ true = all_moved test read sorted within moved in
     let apart : AllPairs (λ (t u : Transfer). is_eq (transfer_key_cmp (transfer_key t) (transfer_key u)) ≡ false) (map stands read) =
     subst (AllPairs (λ (t u : Transfer). is_eq (transfer_key_cmp (transfer_key t) (transfer_key u)) ≡ false)) (sym reads) (transfers_apart d passes) in
-    sym (by_key_mapped transfer_key_cmp transfer_total transfer_key stands key_antisymmetric read sorted apart moved (λ n z low h.
+    sym (by_key_mapped transfer_key_cmp transfer_total transfer_key stands transfer_antisymmetric read sorted apart moved (λ n z low h.
     sym (ap is_lt (key_order (ids_of i) (ids_of j) (ids_of k) (ids_up i) (ids_up j) (ids_up k) (get_or sorted (n + 1) z) (get_or sorted n z)
     (all_at test sorted (n + 1) z all h) (all_at test sorted n z all (omega (arith, h)))))
     ∙ up n z low h))

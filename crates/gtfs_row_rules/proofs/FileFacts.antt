@@ -1,8 +1,9 @@
 -- Where the problems of whole files stand.
-use Rattle.std.proofs.Common.{◌≡◌, ℕ, [], ◌∷◌, List, true, false, Bool, refl, sym, ap, subst, ◌∙◌, arith}
+use Rattle.std.proofs.Common.{◌≡◌, ℕ, [], ◌∷◌, List, true, false, Bool, refl, sym, ap, subst, ◌∙◌}
 use Rattle.std.specs.Prelude.{◌&&◌, ◌||◌, ◌==◌, bytes_eq}
 use Rattle.std.specs.List.{list_any}
-use Rattle.std.proofs.lemmas.Bool.Decides.{nat_tests}
+use Rattle.std.proofs.lemmas.Bool.{and_from, eqb-true}
+use Rattle.std.proofs.Math.Bool.{and-true}
 use Rattle.gtfs_table.specs.Reading.{kept_files}
 use Rattle.gtfs_table.specs.Tables.{Dataset}
 use Rattle.gtfs_table.specs.declared.file.File.{File}
@@ -16,9 +17,10 @@ use Rattle.gtfs_columns.specs.steps.Picks.{in_file, is_kept, of_codes}
 use Rattle.gtfs_columns.specs.Problems.{FileName, kept, other, Problem, holds, holds_in, is_code, is_problem}
 use Rattle.gtfs_columns.specs.Rows.{is_file}
 use Rattle.gtfs_table.specs.Rows.{is_empty}
-use Rattle.gtfs_columns.proofs.BoolFacts.{same_test, and_parts, and_both, or_left}
+use Rattle.gtfs_table.proofs.BlankFacts.{no_text}
+use Rattle.gtfs_columns.proofs.BoolFacts.{same_test, and_parts, or_left}
 use Rattle.gtfs_columns.proofs.EachFacts.{any_and, any_follows, any_gives, of_any}
-use Rattle.gtfs_columns.proofs.SiteFacts.{code_is, code_itself, file_is, file_itself, is_same_is, problem_at, same_itself, same_number, text_is}
+use Rattle.gtfs_columns.proofs.SiteFacts.{code_is, code_itself, file_is, file_itself, is_same_is, problem_at, same_itself, text_is}
 use Rattle.gtfs_columns.proofs.ReportingFacts.{reports_alike, reports_none, reports_one, reports_then}
 
 -- ---- a step for each of the nine files
@@ -34,10 +36,6 @@ one_of_the_nine file.CalendarDates = refl
 one_of_the_nine file.Frequencies = refl
 one_of_the_nine file.Transfers = refl
 
-and_true : (a : Bool) → (a && true) ≡ a
-and_true true = refl
-and_true false = refl
-
 -- of another name than the nine only W03 is reported
 no_other : (a w k : Bool) → (w ≡ true → a ≡ false) → ((a && false) && (w && k)) ≡ (a && (w && k))
 no_other true true k none = cc (none refl)
@@ -48,7 +46,7 @@ module _ (d : Dataset) (cs : List Code) (silent : list_any (is_code code.W03) cs
   files_hold : (c : Code) (f : FileName) (n : ℕ) (name : List ℕ)
       → (list_any (λ x. list_any (is_code c) cs && is_kept x f) kept_files && holds c d f n name) ≡ (list_any (is_code c) cs && holds c d f n name)
   files_hold c (kept y) n name = ap (λ b. b && holds_in c d y n name)
-      (any_and (list_any (is_code c) cs) (λ x. is_kept x (kept y)) kept_files ∙ rw (one_of_the_nine y) (and_true (list_any (is_code c) cs)))
+      (any_and (list_any (is_code c) cs) (λ x. is_kept x (kept y)) kept_files ∙ rw (one_of_the_nine y) (and-true (list_any (is_code c) cs)))
   files_hold c (other t) n name = ap (λ b. b && holds c d (other t) n name) (any_and (list_any (is_code c) cs) (λ x. is_kept x (other t)) kept_files)
       ∙ no_other (list_any (is_code c) cs) (is_code c code.W03) (file_not_kept d t n name)
       (λ e. ap (λ k. list_any (is_code k) cs) (code_is c code.W03 e) ∙ silent)
@@ -80,19 +78,15 @@ module _ (d : Dataset) (x : File) where
 pub asked : (d : Dataset) (q r : Problem) (holds : Bool) (old new : List Problem) → q ≡ r → holds ≡ is_problem d r → Adds (λ p. is_same q p && holds) old new → Reports d (is_same r) old new
 asked d q r holds old new site same adds = reports_one d r holds old new same (subst (λ s. Adds (λ p. is_same s p && holds) old new) site adds)
 
-no_length : (t : List ℕ) → is_empty t ≡ true → t ≡ []
-no_length [] e = refl
-no_length (b ∷ bs) e = let wrong : false ≡ true = grind (arith, nat_tests, e) in cc wrong
-
 at_no_column : (c : Code) (x : File) (r : ℕ) (p : Problem) → in_file c x p ≡ true → is_at r p.row p.column ≡ true → is_same (problem_at c x [] r) p ≡ true
 at_no_column c x r p picked at =
     let site = and_parts (is_code p.code c) (is_kept x p.file) picked in
     let stands = and_parts (p.row == r) (is_empty p.column) at in
     let same : p ≡ problem_at c x [] r = λ i. record {
       file = file_is x p.file site.1 i;
-      row = same_number p.row r stands.0 i;
+      row = eqb-true p.row r stands.0 i;
       code = code_is p.code c site.0 i;
-      column = no_length p.column stands.1 i;
+      column = no_text p.column stands.1 i;
     } in
     ap (is_same (problem_at c x [] r)) same ∙ same_itself (problem_at c x [] r)
 
@@ -110,14 +104,14 @@ held d c x p picked holds =
 module _ (d : Dataset) (c : Code) (x : File) (rows : List ℕ)
     (only : (n : ℕ) (name : List ℕ) → holds_in c d x n name ≡ true → list_any (λ r. is_at r n name) rows ≡ true) where
   there : (r : ℕ) (p : Problem) → is_same (problem_at c x [] r) p ≡ true → in_file c x p ≡ true
-  there r p e = ap (in_file c x) (is_same_is (problem_at c x [] r) p e) ∙ and_both (is_code c c) (is_file x x) (code_itself c) (file_itself x)
+  there r p e = ap (in_file c x) (is_same_is (problem_at c x [] r) p e) ∙ and_from (is_code c c) (is_file x x) (code_itself c) (file_itself x)
 
   rows_hold : (p : Problem) → (of_any (λ r. is_same (problem_at c x [] r)) rows p && is_problem d p) ≡ (in_file c x p && is_problem d p)
   rows_hold p = same_test (of_any (λ r. is_same (problem_at c x [] r)) rows p && is_problem d p) (in_file c x p && is_problem d p)
       (λ e. let parts = and_parts (of_any (λ r. is_same (problem_at c x [] r)) rows p) (is_problem d p) e in
-      and_both (in_file c x p) (is_problem d p) (any_gives (λ r. is_same (problem_at c x [] r) p) (in_file c x p) rows (λ r. there r p) parts.0) parts.1)
+      and_from (in_file c x p) (is_problem d p) (any_gives (λ r. is_same (problem_at c x [] r) p) (in_file c x p) rows (λ r. there r p) parts.0) parts.1)
       (λ e. let parts = and_parts (in_file c x p) (is_problem d p) e in
-      and_both (of_any (λ r. is_same (problem_at c x [] r)) rows p) (is_problem d p)
+      and_from (of_any (λ r. is_same (problem_at c x [] r)) rows p) (is_problem d p)
       (any_follows (λ r. is_at r p.row p.column) (λ r. is_same (problem_at c x [] r) p) rows (λ r at. at_no_column c x r p parts.0 at)
       (only p.row p.column (held d c x p parts.0 parts.1))) parts.1)
 
@@ -160,9 +154,9 @@ module _ (d : Dataset) where
       let stands = and_parts (n == 0) (is_empty column) at in
       let same : record { file = other name; row = n; code = code.W03; column = column } ≡ other_problem t = λ i. record {
         file = other (text_is name t e i);
-        row = same_number n 0 stands.0 i;
+        row = eqb-true n 0 stands.0 i;
         code = code.W03;
-        column = no_length column stands.1 i;
+        column = no_text column stands.1 i;
       } in
       ap (is_same (other_problem t)) same ∙ same_itself (other_problem t)
 
@@ -177,11 +171,11 @@ module _ (d : Dataset) where
   others_hold : (p : Problem) → (of_any (λ t. is_same (other_problem t)) d.others p && is_problem d p) ≡ (of_codes (code.W03 ∷ []) p && is_problem d p)
   others_hold p = same_test (of_any (λ t. is_same (other_problem t)) d.others p && is_problem d p) (of_codes (code.W03 ∷ []) p && is_problem d p)
       (λ e. let parts = and_parts (of_any (λ t. is_same (other_problem t)) d.others p) (is_problem d p) e in
-      and_both (of_codes (code.W03 ∷ []) p) (is_problem d p)
+      and_from (of_codes (code.W03 ∷ []) p) (is_problem d p)
       (any_gives (λ t. is_same (other_problem t) p) (of_codes (code.W03 ∷ []) p) d.others (λ t same. ap (of_codes (code.W03 ∷ [])) (is_same_is (other_problem t) p same)) parts.0) parts.1)
       (λ e. let parts = and_parts (of_codes (code.W03 ∷ []) p) (is_problem d p) e in
       let w03 : p.code ≡ code.W03 = code_is p.code code.W03 (or_none (is_code p.code code.W03) parts.0) in
-      and_both (of_any (λ t. is_same (other_problem t)) d.others p) (is_problem d p)
+      and_from (of_any (λ t. is_same (other_problem t)) d.others p) (is_problem d p)
       (ap (λ c. list_any (λ t. is_same (other_problem t) (record { file = p.file; row = p.row; code = c; column = p.column })) d.others) w03
       ∙ other_held p.file p.row p.column (ap (λ c. holds c d p.file p.row p.column) (sym w03) ∙ parts.1)) parts.1)
     where

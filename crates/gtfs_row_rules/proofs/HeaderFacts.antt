@@ -1,10 +1,10 @@
 -- Where the problems of headers stand.
-use Rattle.std.proofs.Common.{◌≡◌, ◌+◌, ◌<◌, ℕ, zero, suc, [], ◌∷◌, List, length, get_or, map, Option, Some, None, true, false, Bool, cond, refl, sym, ap, subst, ◌∙◌, zero-add, arith}
-use Rattle.std.specs.Prelude.{◌&&◌, ◌||◌, ◌==◌, not, nat_lt, bytes_eq, count_by, find, is_some}
+use Rattle.std.proofs.Common.{◌≡◌, ◌<◌, ℕ, zero, suc, [], ◌∷◌, List, length, get_or, map, Option, Some, None, true, false, Bool, cond, refl, sym, ap, subst, ◌∙◌, arith}
+use Rattle.std.specs.Prelude.{◌&&◌, ◌||◌, ◌==◌, not, nat_lt, bytes_eq, find, is_some}
 use Rattle.std.specs.List.{AllByRecursion, list_any}
-use Rattle.std.proofs.lemmas.Bool.Decides.{nat_tests}
 use Rattle.std.proofs.lemmas.List.{get_or-map, length-map}
-use Rattle.std.proofs.lemmas.List.Sums.{sum_by-cons}
+use Rattle.std.proofs.lemmas.Bool.{and_from}
+use Rattle.gtfs_field.proofs.ListFacts.{any_mapped, count_any}
 use Rattle.gtfs_table.specs.Blanks.{cut}
 use Rattle.gtfs_table.specs.Tables.{Dataset, Records, field_cut, record_at}
 use Rattle.gtfs_table.specs.declared.file.File.{File}
@@ -22,11 +22,12 @@ use Rattle.gtfs_columns.specs.Problems.{Problem, holds_in, is_code, is_problem}
 use Rattle.gtfs_table.specs.Rows.{has_no_record, records_in, is_empty}
 use Rattle.gtfs_columns.specs.Rows.{header, is_kept_column, is_named, times_named}
 use Rattle.gtfs_columns.specs.Values.{if_there}
-use Rattle.gtfs_columns.proofs.BoolFacts.{same_test, and_parts, and_both}
-use Rattle.gtfs_columns.proofs.EachFacts.{any_and, any_mapped, of_any}
+use Rattle.gtfs_columns.proofs.BoolFacts.{and_parts}
+use Rattle.gtfs_columns.proofs.EachFacts.{any_and, of_any}
 use Rattle.gtfs_row_rules.proofs.FileFacts.{held}
-use Rattle.gtfs_columns.proofs.SiteFacts.{at_column_is, problem_at, same_at_column, text_is, text_itself}
+use Rattle.gtfs_columns.proofs.SiteFacts.{at_column_is, problem_at, same_at_column}
 use Rattle.gtfs_columns.proofs.ReportingFacts.{reports_alike, reports_then}
+use Rattle.gtfs_columns.proofs.NamedFacts.{text_turned}
 
 -- ---- the kept columns of a file have different names
 
@@ -75,25 +76,11 @@ found_any : {X : Type 0} (t : X → Bool) (xs : List X) → is_some (find t xs) 
 found_any t [] = refl
 found_any t (x ∷ xs) = found_at t x xs (t x) (found_any t xs)
 
-counted_at : (b : Bool) (n : ℕ) (later : Bool) → nat_lt 0 n ≡ later → nat_lt 0 (cond b 1 0 + n) ≡ (b || later)
-counted_at true n later e = grind (arith, nat_tests)
-counted_at false n later e = rw zero-add e
-
-counted_any : {X : Type 0} (t : X → Bool) (xs : List X) → nat_lt 0 (count_by t xs) ≡ list_any t xs
-counted_any t [] = refl
-counted_any t (x ∷ xs) = rw (sum_by-cons (λ y. cond (t y) 1 0) x xs) (counted_at (t x) (count_by t xs) (list_any t xs) (counted_any t xs))
-
 -- whether a kept column of the file has the name
 pub kept_name : (x : File) (columns : List CodeColumn) (name : List ℕ) → map column_of columns ≡ columns_of x
     → list_any (λ column. bytes_eq column.name.now name) columns ≡ is_kept_column x name
 kept_name x columns name same =
-    sym (any_mapped column_of (λ c. bytes_eq c.name name) columns) ∙ ap (list_any (λ c. bytes_eq c.name name)) same ∙ sym (found_any (λ c. bytes_eq c.name name) (columns_of x))
-
-pub same_either_way : (a b : List ℕ) → bytes_eq a b ≡ bytes_eq b a
-same_either_way a b = same_test (bytes_eq a b) (bytes_eq b a) (λ e. turned a b e) (λ e. turned b a e)
-  where
-    turned : (a b : List ℕ) → bytes_eq a b ≡ true → bytes_eq b a ≡ true
-    turned a b e = ap (bytes_eq b) (text_is a b e) ∙ text_itself b
+    sym (any_mapped (λ c. bytes_eq c.name name) column_of columns) ∙ ap (list_any (λ c. bytes_eq c.name name)) same ∙ sym (found_any (λ c. bytes_eq c.name name) (columns_of x))
 
 -- what a picked problem lies among
 narrowed : (picked among h : Bool) → (picked ≡ true → h ≡ true → among ≡ true) → ((picked && among) && h) ≡ (picked && h)
@@ -156,7 +143,7 @@ module _ (d : Dataset) (x : File) where
   pub column_reported : (c : Column) (old mid new : List Problem) → Reports d (at_column code.E03 x c.name) old mid → Reports d (at_column code.E04 x c.name) mid new → Reports d (of_column x c) old new
   column_reported c old mid new missing twice = reports_alike d (λ p. at_column code.E03 x c.name p || at_column code.E04 x c.name p) (of_column x c) old new
       (λ p. ap (λ b. b && is_problem d p) (two_codes (is_code p.code code.E03) (is_code p.code code.E04) (is_kept x p.file) (bytes_eq p.column c.name)
-      ∙ ap (λ b. in_file_of (code.E03 ∷ code.E04 ∷ []) x p && b) (same_either_way p.column c.name)))
+      ∙ ap (λ b. in_file_of (code.E03 ∷ code.E04 ∷ []) x p && b) (text_turned p.column c.name)))
       (reports_then d (at_column code.E03 x c.name) (at_column code.E04 x c.name) old mid new missing twice)
 
   pub twice_holds : (c : Column) (times : ℕ) → column_named x c.name ≡ Some c → times ≡ times_named d x c.name → nat_lt 1 times ≡ holds_in code.E04 d x 1 c.name
@@ -175,8 +162,8 @@ module _ (d : Dataset) (x : File) where
   kept_alone p picked holds = by_code (is_code p.code code.E03) (is_code p.code code.E04) refl refl (and_parts (of_codes (code.E03 ∷ code.E04 ∷ []) p) (is_kept x p.file) picked)
     where
       by_code : (a b : Bool) → is_code p.code code.E03 ≡ a → is_code p.code code.E04 ≡ b → (((a || (b || false)) ≡ true) × (is_kept x p.file ≡ true)) → is_kept_column x p.column ≡ true
-      by_code true b first second parts = missing_is_kept p.row p.column (held d code.E03 x p (and_both (is_code p.code code.E03) (is_kept x p.file) first parts.1) holds)
-      by_code false true first second parts = twice_is_kept p.row p.column (held d code.E04 x p (and_both (is_code p.code code.E04) (is_kept x p.file) second parts.1) holds)
+      by_code true b first second parts = missing_is_kept p.row p.column (held d code.E03 x p (and_from (is_code p.code code.E03) (is_kept x p.file) first parts.1) holds)
+      by_code false true first second parts = twice_is_kept p.row p.column (held d code.E04 x p (and_from (is_code p.code code.E04) (is_kept x p.file) second parts.1) holds)
       by_code false false first second parts = cc (parts.0)
 
   columns_hold : (p : Problem) → (of_any (of_column x) (columns_of x) p && is_problem d p) ≡ (in_file_of (code.E03 ∷ code.E04 ∷ []) x p && is_problem d p)
@@ -187,7 +174,7 @@ module _ (d : Dataset) (x : File) where
       ∙ narrowed (in_file_of (code.E03 ∷ code.E04 ∷ []) x p) (is_kept_column x p.column) (is_problem d p) (kept_alone p)
 
   columns_mapped : (columns : List CodeColumn) (p : Problem) → map column_of columns ≡ columns_of x → of_any (λ c. of_column x (column_of c)) columns p ≡ of_any (of_column x) (columns_of x) p
-  columns_mapped columns p same = sym (any_mapped column_of (λ c. of_column x c p) columns) ∙ ap (list_any (λ c. of_column x c p)) same
+  columns_mapped columns p same = sym (any_mapped (λ c. of_column x c p) column_of columns) ∙ ap (list_any (λ c. of_column x c p)) same
 
   pub columns_reported : (columns : List CodeColumn) (old new : List Problem) → map column_of columns ≡ columns_of x
       → Reports d (of_any (λ c. of_column x (column_of c)) columns) old new → Reports d (in_file_of (code.E03 ∷ code.E04 ∷ []) x) old new
@@ -210,7 +197,7 @@ module _ (d : Dataset) (x : File) where
   names_hold p =
       ap (λ b. b && is_problem d p)
       (any_and (in_file code.W04 x p) (bytes_eq p.column) (header (records_in d x))
-      ∙ ap (λ b. in_file code.W04 x p && b) (sym (counted_any (bytes_eq p.column) (header (records_in d x)))))
+      ∙ ap (λ b. in_file code.W04 x p && b) (sym (count_any (bytes_eq p.column) (header (records_in d x)))))
       ∙ narrowed (in_file code.W04 x p) (is_named d x p.column) (is_problem d p) (λ picked holds. other_is_named p.row p.column (held d code.W04 x p picked holds))
       ∙ ap (λ b. b && is_problem d p) (or_none (is_code p.code code.W04) (is_kept x p.file))
 
@@ -220,7 +207,7 @@ module _ (d : Dataset) (x : File) where
   pub other_holds : (name : List ℕ) → list_any (bytes_eq name) (header (records_in d x)) ≡ true
       → (not (is_empty name) && not (is_kept_column x name)) ≡ holds_in code.W04 d x 1 name
   other_holds name e =
-      let named : is_named d x name ≡ true = counted_any (bytes_eq name) (header (records_in d x)) ∙ e in
+      let named : is_named d x name ≡ true = count_any (bytes_eq name) (header (records_in d x)) ∙ e in
       rw named (named_too (not (is_empty name)) (not (is_kept_column x name)))
     where
       named_too : (a b : Bool) → (a && b) ≡ ((a && true) && b)

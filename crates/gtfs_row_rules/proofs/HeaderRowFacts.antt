@@ -3,7 +3,8 @@ use Rattle.std.proofs.Common.{◌≡◌, ℕ, List, [], ◌∷◌, true, false, 
 use Rattle.std.specs.Prelude.{◌&&◌, ◌||◌, bytes_eq, filter_map, option_map}
 use Rattle.std.specs.List.{cons_option, list_any}
 use Rattle.std.specs.Option.{is_some}
-use Rattle.std.proofs.lemmas.Bool.{and_right}
+use Rattle.std.proofs.Math.Bool.{and-false}
+use Rattle.gtfs_field.proofs.ListFacts.{any_alike, any_mapped}
 use Rattle.gtfs_table.specs.Tables.{Dataset, column_of as index_of, field_under, record_at}
 use Rattle.gtfs_table.specs.declared.file.File.{File}
 use Rattle.gtfs_columns.specs.declared.code.Code.{Code}
@@ -19,8 +20,7 @@ use Rattle.gtfs_columns.specs.Rows.{text_in}
 use Rattle.gtfs_table.specs.Rows.{is_row, records_in}
 use Rattle.gtfs_columns.specs.Values.{if_there}
 use Rattle.gtfs_columns.proofs.AddFacts.{adds_alike}
-use Rattle.gtfs_columns.proofs.EachFacts.{any_alike}
-use Rattle.gtfs_columns.proofs.NamedFacts.{any_of_mapped, has_name, kept_any, kept_name_filled, kept_name_is, named_located}
+use Rattle.gtfs_columns.proofs.NamedFacts.{has_name, kept_any, kept_name_filled, kept_name_is, named_located}
 use Rattle.gtfs_columns.proofs.RowFacts.{at_row}
 use Rattle.gtfs_columns.proofs.FieldRowFacts.{cell_at, cell_reported, empty_is, here_reported, length_reported}
 
@@ -34,13 +34,10 @@ any_located h g (c ∷ cs) = one_more (g c) ∙ ap (λ b. if_there (g c) h || b)
     one_more None = refl
     one_more (Some k) = refl
 
-false_and : (b : Bool) → false ≡ (b && false)
-false_and b = sym (and_right b false refl)
-
 test_out : (c : Column) (o : Option ℕ) (name : List ℕ) (f : Located → Bool)
     → if_there (option_map (λ index. (c, index)) o) (λ k. bytes_eq name k.0.name && f k)
     ≡ (bytes_eq name c.name && if_there (option_map (λ index. (c, index)) o) f)
-test_out c None name f = false_and (bytes_eq name c.name)
+test_out c None name f = sym (and-false (bytes_eq name c.name))
 test_out c (Some index) name f = refl
 
 module _ (d : Dataset) (x : File) (n : ℕ) where
@@ -66,7 +63,7 @@ module _ (d : Dataset) (x : File) (n : ℕ) where
       → list_any (is_found_in fields p) ks ≡ if_there (column_named x p.column) (located_reported p.code)
   any_reported p ks kept =
       let test : Located → Bool = λ q. bytes_eq p.column q.0.name && is_found (located_code fields q) p.code in
-      sym (any_of_mapped located_of test ks)
+      sym (any_mapped test located_of ks)
       ∙ ap (list_any test) kept
       ∙ any_located test (located (records_in d x)) (columns_of x)
       ∙ any_alike (λ k. if_there (located (records_in d x) k) test) (λ k. has_name p.column k && located_reported p.code k) (columns_of x)

@@ -4,7 +4,7 @@ use Rattle.std.specs.Prelude.{◌&&◌, ◌||◌, not, if◌then◌else◌, nat_
 use Rattle.std.specs.Cmp.Lexicographic.{pointwise}
 use Rattle.std.specs.List.{filter, find, list_any, range_with_len}
 use Rattle.std.specs.Result.{result_ok}
-use Rattle.std.proofs.lemmas.Bool.{cases_Bool}
+use Rattle.std.proofs.lemmas.Bool.{and_from, cases_Bool}
 use Rattle.std.proofs.lemmas.Bool.Decides.{nat_tests}
 use Rattle.gtfs_field.specs.Kinds.{shaped}
 use Rattle.gtfs_table.specs.Tables.{Dataset}
@@ -22,7 +22,7 @@ use Rattle.gtfs_columns.specs.Rows.{text_in}
 use Rattle.gtfs_row_rules.specs.SingleKeys.{is_repeated}
 use Rattle.gtfs_columns.specs.Reads.{is_id}
 use Rattle.gtfs_columns.specs.Values.{Value, word, value_eq, has_control, if_both, if_there, readable}
-use Rattle.gtfs_columns.proofs.BoolFacts.{same_test, no_test, and_parts, and_both}
+use Rattle.gtfs_columns.proofs.BoolFacts.{same_test, no_test, and_parts}
 use Rattle.gtfs_columns.proofs.SiteFacts.{code_is, file_is, text_is, text_itself}
 use Rattle.gtfs_columns.proofs.ReportingFacts.{reports_alike}
 
@@ -52,7 +52,7 @@ no_key t u none = rw (read_none (readable id t) none) refl
 turned : (t u : List ℕ) → (bytes_eq t u && true) ≡ bytes_eq u t
 turned t u = same_test (bytes_eq t u && true) (bytes_eq u t)
     (λ e. ap (λ v. bytes_eq v t) (sym (text_is t u (and_parts (bytes_eq t u) true e).0)) ∙ text_itself t)
-    (λ e. and_both (bytes_eq t u) true (ap (λ v. bytes_eq v u) (sym (text_is u t e)) ∙ text_itself u) refl)
+    (λ e. and_from (bytes_eq t u) true (ap (λ v. bytes_eq v u) (sym (text_is u t e)) ∙ text_itself u) refl)
 
 same_text : (t u : List ℕ) → is_id t ≡ true → same_keys t u ≡ bytes_eq u t
 same_text t u there = elim (cases_Bool (is_id u)) [
@@ -125,10 +125,10 @@ pub reports_key : (d : Dataset) (x : File) (name : List ℕ) (xs ys : List Probl
 reports_key d x name xs ys column = reports_alike d (at_column code.E09 x name) (in_file code.E09 x) xs ys
     (λ p. same_test (at_column code.E09 x name p && is_problem d p) (in_file code.E09 x p && is_problem d p)
     (λ e. let parts = and_parts (at_column code.E09 x name p) (is_problem d p) e in
-    and_both (in_file code.E09 x p) (is_problem d p) (and_parts (in_file code.E09 x p) (bytes_eq p.column name) parts.0).0 parts.1)
+    and_from (in_file code.E09 x p) (is_problem d p) (and_parts (in_file code.E09 x p) (bytes_eq p.column name) parts.0).0 parts.1)
     (λ e. let parts = and_parts (in_file code.E09 x p) (is_problem d p) e in
     let site = and_parts (is_code p.code code.E09) (is_kept x p.file) parts.0 in
     let there : key_twice d x p.row p.column ≡ true = sym (λ i. holds (code_is p.code code.E09 site.0 i) d (file_is x p.file site.1 i) p.row p.column) ∙ parts.1 in
     let row = is_row (records_in d x) p.row in
     let at = (and_parts (bytes_eq p.column (reported_column x)) row (and_parts (bytes_eq p.column (reported_column x) && row) _ there).0).0 in
-    and_both (at_column code.E09 x name p) (is_problem d p) (and_both (in_file code.E09 x p) (bytes_eq p.column name) parts.0 (ap (bytes_eq p.column) (sym column) ∙ at)) parts.1))
+    and_from (at_column code.E09 x name p) (is_problem d p) (and_from (in_file code.E09 x p) (bytes_eq p.column name) parts.0 (ap (bytes_eq p.column) (sym column) ∙ at)) parts.1))

@@ -1,6 +1,6 @@
 -- The first zone, as a loop over the agencies finds it.
 use Rattle.std.proofs.Common.{◌≡◌, ℕ, List, true, false, Bool, refl, sym, ap, ◌∙◌, codes}
-use Rattle.std.specs.Prelude.{if◌then◌else◌, not, Option, None, Some, find, is_some, option_and_then, option_map, Ok}
+use Rattle.std.specs.Prelude.{if◌then◌else◌, not, Option, None, Some, find, is_some, option_and_then, Ok}
 use Rattle.std.specs.Result.{result_ok}
 use Rattle.gtfs_field.specs.Kinds.{shaped}
 use Rattle.gtfs_table.specs.Tables.{Dataset}
@@ -38,7 +38,3 @@ module _ (d : Dataset) (n : ℕ) (found : Option (List ℕ)) (read : found ≡ w
 -- no agency has one
 pub no_zone : (d : Dataset) → find (has_zone d) (rows d file.Agency) ≡ None → first_zone d ≡ None
 no_zone d none = ap (option_and_then (λ m. word_in d file.Agency m "agency_timezone")) none
-
-pub is_some_mapped : {A B : Type 0} (f : A → B) (o : Option A) → is_some (option_map f o) ≡ is_some o
-is_some_mapped f None = refl
-is_some_mapped f (Some x) = refl

@@ -1,5 +1,5 @@
 -- Rows ascending by a key: the list that a sort leaves.
-use Rattle.std.proofs.Common.{◌≡◌, suc, ◌&&◌, Bool, true, false, cond, List, [], ◌∷◌, length, map, Some, None, refl, sym, ◌∙◌, ap, subst, inl, inr, arith}
+use Rattle.std.proofs.Common.{◌≡◌, suc, ◌&&◌, true, false, cond, List, [], ◌∷◌, length, map, Some, None, refl, sym, ◌∙◌, ap, subst, inl, inr, arith}
 use Rattle.std.specs.FinMap as table
 use Rattle.std.specs.FinMap.Entries.{below_all}
 use Rattle.std.specs.Cmp.{IsTotalOrder}
@@ -9,6 +9,8 @@ use Rattle.std.specs.Ordering.{is_eq, is_lt, eq_by_cmp, on}
 use Rattle.std.specs.List.{All, AllAdjacentBelow, Contains}
 use Rattle.std.proofs.lemmas.Map.Keys.{sorted_from_all_adjacent, Less-from_sorted}
 use lib.Dec.{T}
+use Rattle.gtfs_field.proofs.OrderingFacts.{equal as tie-from}
+use Rattle.gtfs_field.proofs.TestFacts.{both_so as both_true}
 use Rattle.gtfs_rows.specs.Order.{Ascends}
 use Rattle.gtfs_rows.specs.Order.{by_key}
 use Rattle.gtfs_rows.proofs.SameElements.{SameElements, contains-first, contains-later, contains-cases, contains-none, same-map, pairs-head, pairs-tail, pairs-map}
@@ -16,15 +18,6 @@ use Rattle.gtfs_rows.proofs.SameElements.{SameElements, contains-first, contains
 -- a list of which each element is below the next ascends
 pub ascends-from_adjacent : {X : Type 0} {order : X → X → Ordering} → IsTotalOrder order → (xs : List X) → AllAdjacentBelow (λ x y. order x y ≡ Less) xs (length xs) → Ascends order xs
 ascends-from_adjacent {order = order} o xs up = λ i j d h l. Less-from_sorted order xs i j d (sorted_from_all_adjacent o xs d (λ k below. up k d below)) h l
-
-both_true : (a b : Bool) → T a → T b → T (a && b)
-both_true true b p q = q
-both_true false b p q = absurd p
-
-tie-from : (r : Ordering) → is_eq r ≡ true → r ≡ Equal
-tie-from Less e = cc
-tie-from Equal e = refl
-tie-from Greater e = cc
 
 module _ {K X : Type 0} (order : K → K → Ordering) (o : IsTotalOrder order) (key : X → K) where
   abbrev keyed : List X → List (K × X)

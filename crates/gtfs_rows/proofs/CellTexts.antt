@@ -1,5 +1,5 @@
 -- The text of a value that lies in its kind is cut and not empty, and is read back to the value.
-use Rattle.std.proofs.Common.{◌≡◌, ◌*◌, ◌^◌, ◌≤◌, ℕ, suc, List, [], ◌∷◌, length, true, false, Some, Result, Ok, Err, refl, sym, ap, ◌∙◌, arith, inl, inr}
+use Rattle.std.proofs.Common.{◌≡◌, ◌*◌, ◌^◌, ◌≤◌, ℕ, suc, List, [], ◌∷◌, true, false, Some, Result, Ok, Err, refl, sym, ap, ◌∙◌, arith, inl, inr}
 use Rattle.std.specs.Prelude.{not, bytes_eq, ℤ, pos, negsuc, int_le, unsigned_abs, ◌≤ℤ◌}
 use Rattle.std.proofs.lemmas.Bool.{and_parts, cases_Bool, not-true, leb-true}
 use Rattle.std.proofs.lemmas.Bool.Decides.{nat_tests}
@@ -13,11 +13,13 @@ use Rattle.gtfs_field.proofs.Texts.{count_of-text, time_of-text}
 use Rattle.gtfs_field.proofs.Dates.{date_of-text}
 use Rattle.gtfs_field.proofs.Colours.{colour_of-text}
 use Rattle.gtfs_field.proofs.CoordinateTexts.{coordinate_of-text}
-use Rattle.gtfs_table.specs.Blanks.{cut, is_control}
+use Rattle.gtfs_table.specs.Blanks.{cut}
 use Rattle.gtfs_table.specs.Rows.{is_empty}
+use Rattle.gtfs_table.proofs.BlankFacts.{no_text as empty-is}
 use Rattle.gtfs_columns.specs.Columns.{Kind, id, text, count, choice, time, date, colour, coordinate}
-use Rattle.gtfs_columns.specs.Values.{Value, word, amount, read_as, readable, has_control, plain, counted, measured, one_of}
+use Rattle.gtfs_columns.specs.Values.{Value, word, amount, read_as, readable, has_control, counted, measured, one_of}
 use Rattle.gtfs_columns.proofs.SiteFacts.{text_is}
+use Rattle.gtfs_columns.proofs.PlainTexts.{plain-itself as plain-clean}
 use Rattle.gtfs_rows.specs.Cells.{is_clean, is_filled, is_between, is_of_kind, text_of}
 use Rattle.gtfs_rows.proofs.Visible.{are_visible, cut-visible, visible-count, visible-time, visible-date, visible-colour, visible-coordinate}
 
@@ -37,11 +39,6 @@ pub record IsNatural (high : ℕ) (x : ℤ) : Type 0 where
 pub natural_between : (high : ℕ) (x : ℤ) → is_between (pos 0) (pos high) x ≡ true → IsNatural high x
 natural_between high (pos n) h = let parts = and_parts (int_le (pos 0) (pos n)) (int_le (pos n) (pos high)) h in record { below = leb-true n high parts.1; same = refl }
 natural_between high (negsuc n) h = let parts = and_parts (int_le (pos 0) (negsuc n)) (int_le (negsuc n) (pos high)) h in absurd (grind (arith, nat_tests))
-
--- a text that reads as something and has no byte of its own is not empty
-empty-is : (t : List ℕ) → is_empty t ≡ true → t ≡ []
-empty-is [] h = refl
-empty-is (b ∷ t) h = let e : suc (length t) ≡ 0 = grind (arith, nat_tests, h) in absurd (omega arith)
 
 err≢ok : {A : Type 0} (e : FieldFault) (v : A) → Err e ≡ Ok v → ⊥
 err≢ok e v h = cc
@@ -79,14 +76,6 @@ filled_from k v t h e = elim (cases_Bool (is_empty t)) [
 
 writes : (k : Kind) (v : Value) (t : List ℕ) → is_of_kind k v ≡ true → are_visible t ≡ true → read_as k t ≡ Ok v → Writes k t v
 writes k v t h visible e = record { cut = cut-visible t visible; filled = filled_from k v t h e; read = e }
-
--- a text without control characters is itself
-plain-clean : (t : List ℕ) → has_control t ≡ false → plain t ≡ t
-plain-clean [] h = refl
-plain-clean (b ∷ t) h = elim (cases_Bool (is_control b)) [
-  | inl control ↦ let yes : has_control (b ∷ t) ≡ true = rw control refl in cc
-  | inr other ↦ let rest : has_control t ≡ false = rw other at h in rw other (ap (λ u. b ∷ u) (plain-clean t rest))
-]
 
 -- the parts of a filled text
 pub record IsFilled (t : List ℕ) : Type 0 where

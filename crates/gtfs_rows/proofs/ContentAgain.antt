@@ -1,5 +1,5 @@
 -- The content of a written content is the content.
-use Rattle.std.proofs.Common.{◌≡◌, ◌+◌, ◌<◌, ℕ, suc, List, [], ◌∷◌, length, get_or, map, true, false, Some, None, refl, sym, ap, ◌∙◌, arith, inl, inr}
+use Rattle.std.proofs.Common.{◌≡◌, ◌+◌, ◌<◌, ℕ, List, [], ◌∷◌, length, get_or, map, true, false, Some, None, refl, sym, ap, ◌∙◌, arith, inl, inr}
 use Rattle.std.specs.Prelude.{◌==◌, ◌||◌, not, bytes_eq, codes, option_and_then, unwrap_or, is_some}
 use Rattle.std.specs.FinMap as table
 use Rattle.std.specs.Cmp.{IsTotalOrder}
@@ -8,11 +8,11 @@ use Rattle.std.specs.List.{list_all, range_with_len}
 use Rattle.std.specs.Option.{option_cmp}
 use Rattle.std.specs.declared.cmp.Ordering.{Ordering}
 use Rattle.std.proofs.lemmas.Bool.{and_parts, or_cases, cases_Bool, not-true, eqb-true}
-use Rattle.std.proofs.lemmas.Bool.Decides.{nat_tests}
 use Rattle.std.proofs.lemmas.List.{map-id}
 use Rattle.gtfs_table.specs.Folder.{text_cmp}
 use Rattle.gtfs_table.specs.declared.file.File.TheVariants as file
 use Rattle.gtfs_table.specs.Rows.{rows, is_empty}
+use Rattle.gtfs_table.proofs.BlankFacts.{no_text}
 use Rattle.gtfs_columns.specs.Rows.{word_in}
 use Rattle.gtfs_columns.specs.Values.{as_word}
 use Rattle.gtfs_columns.proofs.SiteFacts.{text_is}
@@ -32,7 +32,7 @@ use Rattle.gtfs_rows.proofs.Views.{rows_are, value_at, word_at, number_in_at, gi
 
 -- ---- the order of transfers
 
-same_option : {K : Type 0} {R : K → K → Ordering} → table.IsAntisymmetric R → table.IsAntisymmetric (option_cmp R)
+pub same_option : {K : Type 0} {R : K → K → Ordering} → table.IsAntisymmetric R → table.IsAntisymmetric (option_cmp R)
 same_option anti None None e = refl
 same_option anti None (Some y) e = cc
 same_option anti (Some x) None e = cc
@@ -41,14 +41,10 @@ same_option anti (Some x) (Some y) e = ap Some (anti x y e)
 pub transfer_total : IsTotalOrder transfer_key_cmp
 transfer_total = lists_total (options_total nat_list_cmp_total)
 
-transfer_antisymmetric : table.IsAntisymmetric transfer_key_cmp
+pub transfer_antisymmetric : table.IsAntisymmetric transfer_key_cmp
 transfer_antisymmetric = table.slice_cmp-IsAntisymmetric (same_option text_antisymmetric)
 
 -- ---- ids that may be empty
-
-pub no_text : (t : List ℕ) → is_empty t ≡ true → t ≡ []
-no_text [] h = refl
-no_text (b ∷ t) h = let e : suc (length t) ≡ 0 = grind (arith, nat_tests, h) in absurd (omega arith)
 
 -- the id in a cell, and else another
 id_or : (t other : List ℕ) → (is_empty t ≡ true → other ≡ t) → unwrap_or (option_and_then as_word (id_cell t)) other ≡ t

@@ -17,7 +17,7 @@ use Rattle.gtfs_table.specs.declared.file.File.TheVariants as file
 use Rattle.gtfs_columns.specs.Calendars.{service_rows, first_service_row, week_in, exception_in}
 use Rattle.gtfs_columns.specs.Rows.{word_in}
 use Rattle.gtfs_columns.specs.Values.{is_word}
-use Rattle.gtfs_columns.proofs.SiteFacts.{text_is}
+use Rattle.gtfs_columns.proofs.ValueFacts.{is_word_some}
 use Rattle.gtfs_rows.specs.Order.{Ascends, by_key, transfer_key, transfer_key_cmp}
 use Rattle.gtfs_rows.specs.Reading.{text_at, agency_in, stop_in, route_in, stop_row_in, frequency_in, rows_of, trip_in, transfer_in, services_named, service_row_in, content_of}
 use Rattle.gtfs_rows.specs.RowCells.{week_list, stop_times_of, frequencies_of, weeks_of, exceptions_of}
@@ -58,10 +58,6 @@ pub record NamesTrip (d : Dataset) (x : File) (trip : List ℕ) (m : ℕ) : Type
   pub row : is_row (records_in d x) m ≡ true
   pub among : Contains (rows d x) m
   pub named : word_in d x m "trip_id" ≡ Some trip
-
-is_word_some : (o : Option (List ℕ)) (t : List ℕ) → is_word o t ≡ true → o ≡ Some t
-is_word_some None t e = cc
-is_word_some (Some u) t e = ap (λ v. Some v) (sym (text_is t u e))
 
 pub names_word : (d : Dataset) (x : File) (trip : List ℕ) (m : ℕ) → Contains (rows d x) m → is_word (word_in d x m "trip_id") trip ≡ true → NamesTrip d x trip m
 names_word d x trip m at named = record { row = row_of d x m at; among = at; named = is_word_some (word_in d x m "trip_id") trip named }

@@ -1,5 +1,5 @@
 -- A written content has none of the problems of files and headers: E01 to E05; and no week that ends before it starts: E14.
-use Rattle.std.proofs.Common.{◌≡◌, ◌+◌, ◌<◌, ℕ, suc, List, [], ◌∷◌, length, get_or, map, true, false, Bool, Option, Some, None, refl, sym, ap, ◌∙◌, arith, inl, inr}
+use Rattle.std.proofs.Common.{◌≡◌, ◌+◌, ◌<◌, ℕ, List, [], ◌∷◌, length, get_or, map, true, false, Bool, Option, Some, None, refl, sym, ap, ◌∙◌, arith, inl, inr}
 use Rattle.std.specs.Prelude.{◌==◌, ◌&&◌, ◌||◌, not, bytes_eq, count_by, find, nat_lt, unwrap_or, is_some, ℤ, pos, int_le, int_lt}
 use Rattle.std.specs.List.{Contains, list_all, range_with_len}
 use Rattle.std.proofs.lemmas.Bool.{and_parts, and_left, and_right, or_from, cases_Bool, not-true, not_from_true, eqb-true}
@@ -7,6 +7,7 @@ use Rattle.std.proofs.lemmas.Bool.Decides.{nat_tests}
 use Rattle.std.proofs.lemmas.List.Elements.{Contains-get_or}
 use Rattle.std.proofs.lemmas.List.FromFn.{length-map-range_with_len}
 use Rattle.std.proofs.lemmas.List.{map-id}
+use Rattle.gtfs_field.proofs.NumberFacts.{suc-not_zero as not_none}
 use Rattle.gtfs_days.specs.declared.week.Week.{Week}
 use Rattle.gtfs_table.specs.Blanks.{cut, without_first_blanks}
 use Rattle.gtfs_table.specs.Tables.{table_of, table_state}
@@ -28,9 +29,6 @@ use Rattle.gtfs_rows.proofs.Held.{held_member}
 use Rattle.gtfs_rows.proofs.ServicesAgain.{week_again}
 use Rattle.gtfs_rows.proofs.TripCodes.{contained}
 use Rattle.gtfs_rows.proofs.Views.{rows_are, no_told}
-
-not_none : (n : ℕ) → (suc n == 0) ≡ false
-not_none n = grind (arith, nat_tests)
 
 -- ---- columns, each once in the header
 

@@ -9,8 +9,13 @@ use Rattle.std.specs.Ordering.{is_lt, is_eq, eq_by_cmp, on, ordering_reverse}
 use Rattle.std.proofs.lemmas.Bool.{and_parts, and_from, or_left, or_right, cases_Bool}
 use Rattle.std.proofs.lemmas.List.Elements.{Contains-get_or}
 use Rattle.std.proofs.lemmas.List.Kept.{AllPairs-cons}
+use Rattle.std.proofs.lemmas.List.{nil_from_length}
+use Rattle.gtfs_field.proofs.OrderingFacts.{equal as tie_from}
 use Rattle.gtfs_rows.specs.Order.{Ascends, by_key}
 use Rattle.gtfs_rows.proofs.SameElements.{contains-first, contains-later, contains-cases, contains-none, contains-from_map}
+
+pub no_entries : {K Z : Type 0} (R : K → K → Ordering) → table.entries (table.empty {X = Z} {R = R}) ≡ []
+no_entries {Z = Z} R = nil_from_length _ (sym (table.len-entries (table.empty {X = Z} {R = R})) ∙ table.len-empty R Z)
 
 -- what holds of each element holds of all
 pub all_from : {X : Type 0} (p : X → Bool) (xs : List X) → ((x : X) → Contains xs x → p x ≡ true) → list_all p xs ≡ true
@@ -51,11 +56,6 @@ found_is p (y ∷ xs) x found = elim (cases_Bool (p y)) [
       record { passes = sym (ap p same) ∙ here; among = contains-first x y xs same }
   | inr later ↦ let rest = found_is p xs x (rw later at found) in record { passes = rest.passes; among = contains-later x y xs rest.among }
 ]
-
-pub tie_from : (r : Ordering) → is_eq r ≡ true → r ≡ Equal
-tie_from Less e = cc
-tie_from Equal e = refl
-tie_from Greater e = cc
 
 module _ {K X : Type 0} (R : K → K → Ordering) (o : IsTotalOrder R) (key : X → K) where
   abbrev Entries : Type 0

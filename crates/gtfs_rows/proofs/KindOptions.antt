@@ -127,19 +127,6 @@ module _ (k : Kind) where
   numbers_back natural (Some (word t)) fits = absurd (no_word k t (natural_numbers k natural) (fits (word t) refl))
   numbers_back natural (Some (amount x)) fits = ap (λ y. Some (amount y)) (natural_of k x natural (fits (amount x) refl))
 
-pub mapped_some : {X Y : Type 0} (f : X → Y) (o : Option X) → is_some (option_map f o) ≡ is_some o
-mapped_some f None = refl
-mapped_some f (Some x) = refl
-
-pub numbers_again : (o : Option ℕ) → option_and_then as_amount (option_map number o) ≡ option_map pos o
-numbers_again None = refl
-numbers_again (Some n) = refl
-
-pub word_value : (o : Option Value) (t : List ℕ) → option_and_then as_word o ≡ Some t → o ≡ Some (word t)
-word_value None t e = cc
-word_value (Some (word u)) t e = let some : Some u ≡ Some t = e in ap (λ o. option_map word o) some
-word_value (Some (amount y)) t e = cc
-
 -- where there is a word there is a value
 pub value_of_word : (o : Option Value) (t : List ℕ) → option_and_then as_word o ≡ Some t → is_some o ≡ true
 value_of_word None t e = cc

@@ -108,7 +108,7 @@ few_hours hours digits few =
     let all = and_parts (not (length hours == 0)) (all_ascii_digits hours) digits in
     three_digits (length hours) (number hours) (leb-true (length hours) 3 few) (digits_value-lt 10 hours (numerals.to hours all.1))
 
-time_bound : (hours rest : List ℕ) (n : ℕ) → time_from hours rest ≡ Ok n → n ≤ 3_599_999
+pub time_bound : (hours rest : List ℕ) (n : ℕ) → time_from hours rest ≡ Ok n → n ≤ 3_599_999
 time_bound hours rest n e =
     let value = 3600 * number hours + 60 * number (take 2 rest) + number (drop 3 rest) in
     let shape = shaped_ok (has_time_shape hours rest) (Ok value) n e in

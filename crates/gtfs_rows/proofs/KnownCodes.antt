@@ -1,13 +1,15 @@
 -- Every reference of a written content names a row: E10.
-use Rattle.std.proofs.Common.{◌≡◌, ◌+◌, ◌<◌, ℕ, zero, suc, List, [], ◌∷◌, ◌++◌, length, get_or, map, true, false, Bool, Option, Some, None, refl, sym, ap, subst, ◌∙◌, arith, inl, inr}
+use Rattle.std.proofs.Common.{◌≡◌, ◌+◌, ◌<◌, ℕ, List, [], ◌∷◌, ◌++◌, length, get_or, map, true, false, Bool, Option, Some, None, refl, sym, ap, subst, ◌∙◌, inl, inr}
 use Rattle.std.specs.Prelude.{◌==◌, ◌&&◌, ◌||◌, not, bytes_eq, codes, if◌then◌else◌, option_map, is_some}
 use Prim.Native.String.{String as Literal}
-use Rattle.std.specs.List.{Contains, list_all, list_any}
+use Rattle.std.specs.List.{Contains, list_all}
 use Rattle.std.proofs.lemmas.Bool.{and_parts, and_left, and_right, or_cases, or_from, or_left, or_right, cases_Bool}
 use Rattle.std.proofs.lemmas.List.Elements.{Contains-append_cases}
+use Rattle.std.proofs.lemmas.List.Folds.{list_any_at as any_at}
 use Rattle.gtfs_table.specs.declared.file.File.{File}
 use Rattle.gtfs_table.specs.declared.file.File.TheVariants as file
 use Rattle.gtfs_table.specs.Rows.{is_row, records_in, is_empty}
+use Rattle.gtfs_table.proofs.BlankFacts.{no_text}
 use Rattle.gtfs_columns.specs.Columns.{columns_of, id}
 use Rattle.gtfs_columns.specs.KeyRules.{is_known, unknown_reference}
 use Rattle.gtfs_columns.specs.References.{stop_ids, route_ids, trip_ids}
@@ -21,7 +23,6 @@ use Rattle.gtfs_rows.specs.RowCells.{agency_cells, stop_cells, route_cells, trip
 use Rattle.gtfs_rows.specs.Rows.{ServiceRow, Stop, Route, StopRow, Frequency, Trip, Transfer}
 use Rattle.gtfs_rows.specs.Sound.{IsSound, has_ends, has_id, has_place, has_right_parent, if_given, is_end, is_sound_in, is_sound_period, is_sound_route, is_sound_service, is_sound_stop, is_sound_stop_row, is_sound_transfer, is_sound_trip, is_stop_of, keeps_time, leaves}
 use Rattle.gtfs_rows.specs.Written.{written_beside}
-use Rattle.gtfs_rows.proofs.ContentAgain.{no_text}
 use Rattle.gtfs_rows.proofs.PeriodCodes.{period}
 use Rattle.gtfs_rows.proofs.ReferenceCodes.{known_in}
 use Rattle.gtfs_rows.proofs.RowTexts.{all_at}
@@ -29,16 +30,9 @@ use Rattle.gtfs_rows.proofs.SameElements.{contains-first, contains-from_map, con
 use Rattle.gtfs_rows.proofs.ServicesAgain.{in_file}
 use Rattle.gtfs_rows.proofs.TripCodes.{contained, stop_time}
 use Rattle.gtfs_rows.proofs.UnknownCodes.{reference_ok, stop_is_known, route_is_known, trip_is_known}
+use Rattle.gtfs_rows.proofs.KeyedRows.{any_from as any_contained}
 
 -- ---- lists and values that may be missing
-
-any_at : {X : Type 0} (p : X → Bool) (xs : List X) (k : ℕ) (d : X) → k < length xs → p (get_or xs k d) ≡ true → list_any p xs ≡ true
-any_at p [] k d within h = absurd (omega arith)
-any_at p (x ∷ xs) zero d within h = or_left (p x) (list_any p xs) h
-any_at p (x ∷ xs) (suc k) d within h = or_right (p x) (list_any p xs) (any_at p xs k d (omega arith) h)
-
-any_contained : {X : Type 0} (p : X → Bool) (xs : List X) (x : X) → Contains xs x → p x ≡ true → list_any p xs ≡ true
-any_contained p xs x at h = any_at p xs at.0 x at.1 (ap p at.2 ∙ h)
 
 -- the row that has an id
 has_row : {X : Type 0} (id' : X → List ℕ) (xs : List X) (t : List ℕ) → has_id id' xs t ≡ true → (x : X) × (Contains xs x × (bytes_eq (id' x) t ≡ true))

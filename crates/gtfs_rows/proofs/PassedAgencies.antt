@@ -3,7 +3,7 @@ use Rattle.std.proofs.Common.{◌≡◌, ◌∙◌, ℕ, List, [], ◌∷◌, le
 use Rattle.std.specs.Prelude.{◌==◌, ◌&&◌, ◌||◌, not, nat_lt, bytes_eq, codes, find, is_some, option_and_then, unwrap_or}
 use Rattle.std.specs.Cmp.Lexicographic.{nat_list_cmp_total}
 use Rattle.std.specs.List.{Contains, list_all}
-use Rattle.std.proofs.lemmas.Bool.{and_from, or_left, or_right, cases_Bool, not_from_false, and_cases, true≢false}
+use Rattle.std.proofs.lemmas.Bool.{and_from, or_left, or_right, cases_Bool, not_from_false, and_cases, true≢false, not-false as not_false}
 use Rattle.std.proofs.lemmas.Bool.Decides.{nat_tests}
 use Rattle.gtfs_table.specs.Folder.{text_cmp}
 use Rattle.gtfs_table.specs.Rows.{is_row, records_in, rows, is_empty, has_no_record}
@@ -26,7 +26,7 @@ use Rattle.gtfs_rows.specs.Sound.{has_id, is_sound_agency, is_sound_route}
 use Rattle.gtfs_rows.proofs.ContentRows.{row_of, all_made}
 use Rattle.gtfs_rows.proofs.Held.{text_antisymmetric}
 use Rattle.gtfs_rows.proofs.KeyedRows.{stays, found_is}
-use Rattle.gtfs_rows.proofs.PassedReferences.{after, after_one, not_false, one_known, no_error, none_unknown, has_made, agency_known}
+use Rattle.gtfs_rows.proofs.PassedReferences.{after, after_one, one_known, no_error, none_unknown, has_made, agency_known}
 use Rattle.gtfs_rows.proofs.KindOptions.{value_of_word}
 use Rattle.gtfs_rows.proofs.PassedValues.{word_is, word_there, given_id, optional_id, word_if_filled}
 use Rattle.gtfs_rows.proofs.SameElements.{contains-first, contains-none, contains-cases, contains-map}

@@ -4,7 +4,8 @@ use Rattle.std.specs.Prelude.{◌==◌, ◌&&◌, not, codes, nat_lt, nat_le, po
 use Rattle.std.specs.Int.{int_max, int_min}
 use Rattle.std.specs.List.{list_any, list_all}
 use Rattle.std.specs.Ordering.{nat_cmp}
-use Rattle.std.proofs.lemmas.Bool.{and_from, or_left, or_right, cases_Bool, ltb-true, ltb-false, leb-false, lt-ltb, eq-eqb, not_from_false}
+use Rattle.std.proofs.lemmas.Bool.{and_from, or_left, or_right, cases_Bool, ltb-true, leb-false, lt-ltb, eq-eqb, not_from_false}
+use Rattle.gtfs_field.proofs.NumberFacts.{neither_less as same_number}
 use Rattle.gtfs_table.specs.Rows.{is_row, records_in, rows}
 use Rattle.gtfs_table.specs.Tables.{Dataset}
 use Rattle.gtfs_table.specs.declared.file.File.TheVariants as file
@@ -26,12 +27,6 @@ use Rattle.gtfs_rows.proofs.PassedStopTimes.{none_passes}
 use Rattle.gtfs_rows.proofs.PassedValues.{number_is}
 
 -- ---- two periods in either order
-
-same_number : (a b : ℕ) → nat_lt a b ≡ false → nat_lt b a ≡ false → a ≡ b
-same_number a b p q =
-    let above = ltb-false a b p in
-    let below = ltb-false b a q in
-    omega (arith, above, below)
 
 never_both : (a b : ℕ) → nat_lt a b ≡ true → nat_lt b a ≡ true → ⊥
 never_both a b p q =

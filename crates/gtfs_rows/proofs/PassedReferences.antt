@@ -6,8 +6,10 @@ use Rattle.std.specs.Cmp.Lexicographic.{nat_list_cmp_total}
 use Rattle.std.specs.List.{Contains, list_any}
 use Rattle.std.specs.Ordering.{is_eq, eq_by_cmp, int_eq}
 use Rattle.std.specs.Cmp.{tied_itself}
-use Rattle.std.proofs.lemmas.Bool.{or_cases}
+use Rattle.std.proofs.lemmas.Bool.{not-false as not_false, or_cases}
 use Rattle.std.proofs.lemmas.List.Elements.{Contains-append_left, Contains-append_right}
+use Rattle.gtfs_field.proofs.OrderingFacts.{equal as tie_from}
+use Rattle.gtfs_field.proofs.ListFacts.{any_alike}
 use Rattle.gtfs_table.specs.Folder.{text_cmp}
 use Rattle.gtfs_table.specs.Rows.{is_row, records_in, rows}
 use Rattle.gtfs_table.specs.Tables.{Dataset}
@@ -24,7 +26,6 @@ use Rattle.gtfs_columns.specs.Rows.{is_file, text_in, value_in, word_in, choice_
 use Rattle.gtfs_columns.specs.StopRules.{names_none_of}
 use Rattle.gtfs_columns.specs.Values.{if_there, is_one_of}
 use Rattle.gtfs_columns.proofs.BoolFacts.{same_test}
-use Rattle.gtfs_columns.proofs.EachFacts.{any_alike}
 use Rattle.gtfs_columns.proofs.SiteFacts.{text_is, text_itself}
 use Rattle.gtfs_rows.specs.Order.{by_key}
 use Rattle.gtfs_rows.specs.Reading.{text_at, number_at, stop_in, agency_in, route_in, trip_in, services_named, service_row_in, content_of}
@@ -33,7 +34,7 @@ use Rattle.gtfs_rows.specs.Sound.{has_id, is_stop_of}
 use Rattle.gtfs_rows.proofs.ContentRows.{row_of}
 use Rattle.gtfs_rows.proofs.PassedCells.{digit_cut}
 use Rattle.gtfs_rows.proofs.Held.{text_antisymmetric}
-use Rattle.gtfs_rows.proofs.KeyedRows.{any_from, find_agree, find_map, found_is, find_by_key, stays, ties, tie_from}
+use Rattle.gtfs_rows.proofs.KeyedRows.{any_from, find_agree, find_map, found_is, find_by_key, stays, ties}
 use Rattle.gtfs_rows.proofs.PassedValues.{required_id, given_id, choice_is}
 use Rattle.gtfs_rows.proofs.ReferenceCodes.{same_code}
 use Rattle.gtfs_rows.proofs.SameElements.{contains-map}
@@ -53,10 +54,6 @@ after_one false b h e = cc
 pub one_known : (a : Bool) → (not (a || false) || false) ≡ false → a ≡ true
 one_known true e = refl
 one_known false e = cc
-
-pub not_false : (a : Bool) → not a ≡ false → a ≡ true
-not_false true e = refl
-not_false false e = cc
 
 equal_texts : (t u : List ℕ) → eq_by_cmp text_cmp t u ≡ bytes_eq u t
 equal_texts t u = same_test (eq_by_cmp text_cmp t u) (bytes_eq u t)

@@ -19,12 +19,12 @@ use Rattle.gtfs_columns.specs.Rows.{value_in, amount_in, is_readable_in, is_empt
 use Rattle.gtfs_columns.specs.TripRules.{sequence_in, is_row_of, rows_of_trip, is_less, is_earlier_equal, stands_before, leaves_early, is_clear, arrival_in, departure_in, timed_rows, is_timed_before, goes_back}
 use Rattle.gtfs_columns.specs.Values.{word, value_eq, if_there, if_both, is_word}
 use Rattle.gtfs_columns.proofs.SiteFacts.{text_itself}
+use Rattle.gtfs_columns.proofs.ValueFacts.{word_value}
 use Rattle.gtfs_rows.specs.Reading.{number_in, number_at, stop_row_in}
 use Rattle.gtfs_rows.specs.RowCells.{number}
 use Rattle.gtfs_rows.specs.Sound.{comes, leaves, keeps_time}
 use Rattle.gtfs_rows.proofs.ContentRows.{NamesTrip, names_word}
 use Rattle.gtfs_rows.proofs.PassedReferences.{after, no_error}
-use Rattle.gtfs_rows.proofs.KindOptions.{word_value}
 use Rattle.gtfs_rows.proofs.PassedValues.{number_is, number_value, number_if_there, there_if_filled}
 use Rattle.gtfs_rows.proofs.SameElements.{contains-none, contains-first, contains-later, contains-cases, contains-filter, contains-from_filter}
 use Rattle.gtfs_rows.proofs.TripCodes.{both_numbers, or_numbers, if_clear}

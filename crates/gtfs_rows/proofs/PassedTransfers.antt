@@ -3,7 +3,7 @@ use Rattle.std.proofs.Common.{◌≡◌, ◌≤◌, ◌∙◌, ℕ, zero, suc, L
 use Rattle.std.specs.Prelude.{◌==◌, ◌&&◌, ◌||◌, not, nat_le, codes, is_some, pos}
 use Prim.Native.String.{String as Literal}
 use Rattle.std.specs.List.{list_all}
-use Rattle.std.proofs.lemmas.Bool.{and_from, or_left}
+use Rattle.std.proofs.lemmas.Bool.{and_from, not-false as not_false, or_left}
 use Rattle.gtfs_table.specs.Rows.{is_row, records_in, rows}
 use Rattle.gtfs_table.specs.Tables.{Dataset}
 use Rattle.gtfs_table.specs.declared.file.File.TheVariants as file
@@ -20,7 +20,7 @@ use Rattle.gtfs_rows.specs.Sound.{has_id, if_given, is_stop_of, has_ends, is_sou
 use Rattle.gtfs_rows.proofs.ContentAgain.{transfer_total}
 use Rattle.gtfs_rows.proofs.ContentRows.{row_of, all_made}
 use Rattle.gtfs_rows.proofs.PassedCells.{digit_cut}
-use Rattle.gtfs_rows.proofs.PassedReferences.{after_one, one_known, not_false, no_error, none_unknown, route_known, trip_known}
+use Rattle.gtfs_rows.proofs.PassedReferences.{after_one, one_known, no_error, none_unknown, route_known, trip_known}
 use Rattle.gtfs_rows.proofs.PassedStops.{few_types, named_stop, turned}
 use Rattle.gtfs_rows.proofs.KindOptions.{value_of_word}
 use Rattle.gtfs_rows.proofs.PassedValues.{choice_is, defaulting_number, optional_id, word_if_filled}

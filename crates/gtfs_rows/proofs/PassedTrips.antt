@@ -8,7 +8,7 @@ use Rattle.std.specs.FinMap.{nat_cmp-IsAntisymmetric}
 use Rattle.std.specs.List.{Contains, list_all}
 use Rattle.std.specs.Option.{option_or}
 use Rattle.std.specs.Ordering.{nat_cmp}
-use Rattle.std.proofs.lemmas.Bool.{and_from, or_left, or_right, or_from, or_parts, cases_Bool, ltb-true, not_from_false}
+use Rattle.std.proofs.lemmas.Bool.{and_from, or_left, or_right, or_from, or_parts, cases_Bool, ltb-true, not_from_false, not-false as not_false}
 use Rattle.std.proofs.lemmas.Bool.Decides.{nat_tests}
 use Rattle.std.proofs.lemmas.List.Folds.{list_all_at}
 use Rattle.gtfs_table.specs.Folder.{text_cmp}
@@ -30,7 +30,7 @@ use Rattle.gtfs_rows.specs.Sound.{has_id, is_stop_of, leaves, keeps_time, is_end
 use Rattle.gtfs_rows.proofs.ContentRows.{row_of, all_made, NamesTrip, stop_row_made}
 use Rattle.gtfs_rows.proofs.KeyedRows.{all_from, stays}
 use Rattle.gtfs_rows.proofs.PassedPeriods.{periods_sound}
-use Rattle.gtfs_rows.proofs.PassedReferences.{after, after_one, not_false, one_known, no_error, none_unknown, route_known, service_known}
+use Rattle.gtfs_rows.proofs.PassedReferences.{after, after_one, one_known, no_error, none_unknown, route_known, service_known}
 use Rattle.gtfs_rows.proofs.PassedStops.{named_stop}
 use Rattle.gtfs_rows.proofs.PassedStopTimes.{some_passes, some_mapped, sequence_is, not_early, of_trip, before_is, after_is, times_kept}
 use Rattle.gtfs_rows.proofs.KindOptions.{value_of_word}

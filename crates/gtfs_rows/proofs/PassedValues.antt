@@ -1,14 +1,15 @@
 -- The values of a row of a dataset that passes: each lies in its kind, and none is missing that its column wants.
-use Rattle.std.proofs.Common.{◌≡◌, ◌∙◌, ℕ, List, [], ◌∷◌, true, false, Bool, Option, Some, None, Ok, refl, sym, ap, subst, arith}
+use Rattle.std.proofs.Common.{◌≡◌, ◌∙◌, ℕ, List, [], true, false, Bool, Option, Some, None, Ok, refl, sym, ap, subst}
 use Rattle.std.specs.Prelude.{not, if◌then◌else◌, codes, is_some, option_and_then, option_map, unwrap_or, pos, unsigned_abs}
 use Prim.Native.String.{String as Literal}
 use Rattle.std.specs.Result.{result_ok}
-use Rattle.std.proofs.lemmas.Bool.{true≢false}
-use Rattle.std.proofs.lemmas.Bool.Decides.{nat_tests}
+use Rattle.std.proofs.lemmas.Bool.{not-false as not_not, true≢false}
 use Rattle.gtfs_field.specs.Kinds.{shaped}
+use Rattle.gtfs_field.proofs.OptionFacts.{is_some-map as mapped_some}
 use Rattle.gtfs_table.specs.Tables.{Dataset}
 use Rattle.gtfs_table.specs.declared.file.File.{File}
 use Rattle.gtfs_table.specs.Rows.{is_row, records_in, is_empty}
+use Rattle.gtfs_table.proofs.BlankFacts.{no_text as empty_is}
 use Rattle.gtfs_columns.specs.Calendars.{number_in as signed_in}
 use Rattle.gtfs_columns.specs.Columns.{Kind, id, Column, column_named, required, optional, defaulting}
 use Rattle.gtfs_columns.specs.Problems.{Passes}
@@ -16,12 +17,14 @@ use Rattle.gtfs_columns.specs.ReadRules.{IsReadUnder}
 use Rattle.gtfs_columns.specs.Rows.{text_in, value_in, word_in, amount_in, choice_in, is_empty_in}
 use Rattle.gtfs_columns.specs.Values.{Value, word, amount, as_word, as_amount, has_control, readable, meaning}
 use Rattle.gtfs_columns.proofs.ReadFacts.{passes_read}
+use Rattle.gtfs_columns.proofs.ValueFacts.{word_value}
 use Rattle.gtfs_rows.specs.Cells.{is_of_kind, is_cell}
 use Rattle.gtfs_rows.specs.Reading.{text_at, number_in, number_at}
 use Rattle.gtfs_rows.specs.RowCells.{number}
 use Rattle.gtfs_rows.proofs.CutTexts.{IsCut, text-is_cut}
 use Rattle.gtfs_rows.proofs.KindValues.{value_of_kind}
-use Rattle.gtfs_rows.proofs.KindOptions.{is_of_words, is_natural, HasWord, HasNumber, HasAmount, Fits, some_word, some_amount, some_number, words_back, amounts_back, numbers_back, mapped_some, numbers_again, word_value, fits_optional}
+use Rattle.gtfs_rows.proofs.KindOptions.{is_of_words, is_natural, HasWord, HasNumber, HasAmount, Fits, some_word, some_amount, some_number, words_back, amounts_back, numbers_back, fits_optional}
+use Rattle.gtfs_rows.proofs.Views.{amounts_back as numbers_again}
 
 -- ---- the columns of a row
 
@@ -162,14 +165,6 @@ id_same : (empty control : Bool) (t w : List ℕ) → (if empty then None else r
 id_same true control t w e = cc
 id_same false true t w e = cc
 id_same false false t w e = cc
-
-empty_is : (t : List ℕ) → is_empty t ≡ true → t ≡ []
-empty_is [] h = refl
-empty_is (b ∷ t) h = let never : is_empty (b ∷ t) ≡ false = grind (arith, nat_tests) in absurd (true≢false (sym h ∙ never))
-
-not_not : (b : Bool) → not b ≡ false → b ≡ true
-not_not true e = refl
-not_not false e = cc
 
 -- the text of an id is the id
 pub id_text : (t w : List ℕ) → readable id t ≡ Some (word w) → t ≡ w

@@ -5,6 +5,7 @@ use Prim.Native.String.{String as Literal}
 use Rattle.std.specs.List.{list_all}
 use Rattle.std.proofs.lemmas.Bool.{and_parts, and_left, and_right, or_cases, or_from, cases_Bool, not-true, leb-true, ltb-true, lt-leb, eqb-true, eq-eqb, both_ways}
 use Rattle.std.proofs.lemmas.List.FromFn.{length-range_with_len}
+use Rattle.gtfs_field.proofs.TestFacts.{and_fails as unless}
 use Rattle.gtfs_table.specs.declared.file.File.{File}
 use Rattle.gtfs_table.specs.declared.file.File.TheVariants as file
 use Rattle.gtfs_table.specs.Rows.{is_empty}
@@ -21,13 +22,6 @@ use Rattle.gtfs_rows.proofs.RowTexts.{all_at}
 use Rattle.gtfs_rows.proofs.Views.{choice_from, empty_at, no_told, rows_are, value_at}
 
 -- ---- tests
-
--- where the first test passes the second does not
-unless : (a b : Bool) → (a ≡ true → b ≡ false) → (a && b) ≡ false
-unless a b h = elim (cases_Bool a) [
-  | inl first ↦ and_right a b (h first)
-  | inr other ↦ and_left a b other
-]
 
 not_none : {X : Type 0} (o : Option X) (f : X → Value) → is_some o ≡ true → is_none (option_map f o) ≡ false
 not_none None f h = cc

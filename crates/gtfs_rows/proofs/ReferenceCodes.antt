@@ -6,6 +6,7 @@ use Rattle.std.specs.List.{list_all, list_any}
 use Rattle.std.specs.Ordering.{int_eq}
 use Rattle.std.proofs.lemmas.Bool.{and_parts, not_from_true, eqb-true, eq-eqb, or_from, and_left, and_right, cases_Bool, both_ways, false_from_ne_true}
 use Rattle.std.proofs.lemmas.Bool.Decides.{Decides-int_eq}
+use Rattle.gtfs_field.proofs.ListFacts.{any_alike}
 use Rattle.gtfs_table.specs.declared.file.File.{File}
 use Rattle.gtfs_table.specs.declared.file.File.TheVariants as file
 use Rattle.gtfs_table.specs.Rows.{is_empty}
@@ -14,7 +15,6 @@ use Rattle.gtfs_columns.specs.Rows.{text_in, word_in, choice_in, row_with}
 use Rattle.gtfs_columns.specs.StopRules.{names_none_of, has_parent_of_other_type, wrong_kind_of_stop}
 use Rattle.gtfs_columns.specs.Values.{if_there, is_one_of}
 use Rattle.gtfs_columns.proofs.BoolFacts.{same_test}
-use Rattle.gtfs_columns.proofs.EachFacts.{any_alike}
 use Rattle.gtfs_rows.specs.Cells.{Cell, are_cells}
 use Rattle.gtfs_rows.specs.Content.{Content}
 use Rattle.gtfs_rows.specs.Named.{text_named}

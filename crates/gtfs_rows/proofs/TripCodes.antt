@@ -7,11 +7,12 @@ use Rattle.std.specs.Ordering.{nat_cmp, int_eq}
 use Rattle.std.specs.declared.cmp.Ordering.TheVariants.{Less, Equal, Greater}
 use Rattle.std.proofs.lemmas.Bool.{and_parts, and_left, and_right, or_cases, or_from, or_left, or_right, or_parts, cases_Bool, not-true, not_from_true, lt-ltb, leb-false}
 use Rattle.std.proofs.lemmas.List.Elements.{Contains-get_or}
+use Rattle.std.proofs.Math.Bool.{and-true as and_yes}
 use Rattle.gtfs_table.specs.Rows.{is_empty}
-use Rattle.gtfs_columns.proofs.NamedFacts.{any_of_mapped}
 use Rattle.gtfs_table.specs.declared.file.File.{File}
 use Rattle.gtfs_table.specs.declared.file.File.TheVariants as file
 use Prim.Native.String.{String as Literal}
+use Rattle.gtfs_field.proofs.ListFacts.{any_mapped}
 use Rattle.gtfs_columns.specs.Columns.{columns_of, column_named}
 use Rattle.gtfs_columns.specs.Rows.{word_in, amount_in, is_empty_in}
 use Rattle.gtfs_columns.specs.TripRules.{leaves_early, departure_before_arrival}
@@ -59,10 +60,6 @@ timed_cells : (a b : Option ℕ) → is_some (option_or b a) ≡ true → (is_no
 timed_cells None None h = cc
 timed_cells None (Some n) h = refl
 timed_cells (Some m) b h = refl
-
-and_yes : (a : Bool) → (a && true) ≡ a
-and_yes true = refl
-and_yes false = refl
 
 pub none_kept : {X : Type 0} (p f : X → Bool) (xs : List X) → list_any f xs ≡ false → list_any f (filter p xs) ≡ false
 none_kept p f [] h = refl
@@ -197,7 +194,7 @@ module _ (others : List (List ℕ)) (c : Content) (sound : IsSound c) where
       let s = stop_time k e within in
       ap (λ ns. list_any f (filter (keeps q) ns)) (rows_are others c file.StopTimes (stop_times_of c) stop_time_cells refl (sound.cells file.StopTimes))
       ∙ any_filter_range (keeps q) (λ p. bytes_eq q p.0) f (λ p. F p.1) 2 (stop_times_of c) (record { at = kept_at q }) (record { at = same })
-      ∙ sym (any_of_mapped (λ p. p.1) F (filter (λ p. bytes_eq q p.0) (stop_times_of c)))
+      ∙ sym (any_mapped F (λ p. p.1) (filter (λ p. bytes_eq q p.0) (stop_times_of c)))
       ∙ ap (list_any F) (ap (λ t. map (λ p. p.1) (filter (λ p. bytes_eq t p.0) (stop_times_of c))) s.named ∙ held_at (λ t. t.trip_id) (λ t. t.stop_rows) c.trips s.place s.none s.within sound.in_order.trips)
 
   -- ---- E15

@@ -11,6 +11,7 @@ use Rattle.gtfs_table.specs.Rows.{rows, is_row, records_in, is_empty}
 use Rattle.gtfs_columns.specs.Columns.{Column, Empty, refused, nothing, means, columns_of, column_named}
 use Rattle.gtfs_columns.specs.Rows.{text_in, value_in, word_in, amount_in, choice_in, is_empty_in, is_file, Rule, reported_at}
 use Rattle.gtfs_columns.specs.Values.{Value, word, amount, as_word, as_amount, readable, meaning}
+use Rattle.gtfs_columns.proofs.ValueFacts.{amount_back}
 use Rattle.gtfs_rows.specs.Cells.{Cell, is_cell, are_cells, cell_text}
 use Rattle.gtfs_rows.specs.Content.{Content}
 use Rattle.gtfs_rows.specs.Named.{cell_named, text_named}
@@ -26,10 +27,6 @@ use Rattle.gtfs_rows.proofs.CellTexts.{writes_value}
 pub word_back : (o : Option (List ℕ)) → option_and_then as_word (option_map word o) ≡ o
 word_back None = refl
 word_back (Some t) = refl
-
-pub amount_back : (o : Option ℤ) → option_and_then as_amount (option_map amount o) ≡ o
-amount_back None = refl
-amount_back (Some x) = refl
 
 pub number_back : (o : Option ℕ) → option_map unsigned_abs (option_and_then as_amount (option_map number o)) ≡ o
 number_back None = refl

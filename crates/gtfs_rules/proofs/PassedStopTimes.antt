@@ -1,19 +1,19 @@
 -- The stop times that were kept of a dataset that passes are its stop times: one for each row, and each before those after it.
-use Rattle.std.proofs.Common.{◌≡◌, ℕ, suc, List, [], ◌∷◌, true, false, Bool, refl, sym, ap, ◌∙◌, subst, arith, codes, filter, get_or, length, map, Option, Some, None, inl, inr}
-use Rattle.std.specs.Prelude.{◌&&◌, ◌==◌, ◌-◌, bytes_eq, is_some, nat_lt, option_and_then, option_map, ℤ, pos, IsPermutation}
+use Rattle.std.proofs.Common.{◌≡◌, ℕ, suc, List, [], ◌∷◌, true, false, Bool, refl, sym, ap, ◌∙◌, subst, arith, codes, filter, get_or, length, map, Option, Some, inl, inr}
+use Rattle.std.specs.Prelude.{◌&&◌, ◌==◌, ◌-◌, bytes_eq, is_some, nat_lt, ℤ, pos, IsPermutation}
 use Rattle.std.specs.Cmp.{signed_Decides}
 use Rattle.std.specs.Cmp.Lexicographic.{pointwise}
 use Rattle.std.specs.FinMap.{nat_cmp-IsAntisymmetric}
 use Rattle.std.specs.List.{All, AllByRecursion, list_any, range_with_len}
 use Rattle.std.specs.List.Sorted.{IsStrictlySortedBy}
-use Rattle.std.specs.Ordering.{int_cmp, int_eq, nat_cmp, ordering_then}
+use Rattle.std.specs.Ordering.{int_eq, nat_cmp, ordering_then}
 use Rattle.std.specs.declared.cmp.Ordering.{Ordering}
 use Rattle.std.specs.declared.cmp.Ordering.TheVariants.{Less, Equal, Greater}
-use Rattle.std.proofs.lemmas.Bool.{cases_Bool}
-use Rattle.std.proofs.lemmas.Bool.Decides.{nat_tests}
+use Rattle.std.proofs.lemmas.Bool.{and_from, cases_Bool, eqb-true}
 use Rattle.std.proofs.lemmas.List.{get_or-map, length-map}
 use Rattle.std.proofs.lemmas.List.Elements.{filter_passes}
 use Rattle.std.proofs.lemmas.List.Sorted.{All-permutation, IsPermutation-map}
+use Rattle.gtfs_field.proofs.NumberFacts.{int_cmp-pos}
 use Rattle.gtfs_table.specs.Tables.{Dataset, Records}
 use Rattle.gtfs_table.specs.Rows.{is_row, records_in, rows}
 use Rattle.gtfs_table.specs.declared.file.File.TheVariants as file
@@ -23,15 +23,15 @@ use Rattle.gtfs_columns.specs.IdNumbers.{id_numbered}
 use Rattle.gtfs_columns.specs.KeyRules.{all_there, same_key}
 use Rattle.gtfs_columns.specs.Problems.{Passes, kept}
 use Rattle.gtfs_columns.specs.Rows.{amount_in, text_in, value_in, word_in}
-use Rattle.gtfs_columns.specs.Values.{Value, amount, as_amount, as_word, if_both, value_eq, word}
+use Rattle.gtfs_columns.specs.Values.{Value, amount, if_both, value_eq, word}
 use Rattle.gtfs_trip_rules.specs.declared.trips.row.StopTime.{StopTime}
 use Rattle.gtfs_trip_rules.specs.KeptOrder.{AreKeptOf}
 use Rattle.gtfs_trip_rules.specs.TripOrder.{kept_cmp}
 use Rattle.gtfs_trip_rules.specs.TripStopTimes.{TripStopTime, has_trip_stop_time, trip_stop_time, trip_stop_time_in, trip_stop_times_in}
 use Rattle.gtfs_rules.specs.StopTimes.{AreStopTimes, SaysStopTime, stop_time_cmp}
-use Rattle.gtfs_columns.proofs.BoolFacts.{and_both}
 use Rattle.gtfs_columns.proofs.EachFacts.{any_follows}
-use Rattle.gtfs_columns.proofs.SiteFacts.{same_number, text_itself}
+use Rattle.gtfs_columns.proofs.SiteFacts.{text_itself}
+use Rattle.gtfs_columns.proofs.ValueFacts.{amount_value, word_value}
 use Rattle.gtfs_rules.proofs.PassedRows.{says, sequence_there, trip_is}
 
 -- ---- each row comes once
@@ -72,40 +72,27 @@ less_is a b less = elim (cases_Bool (nat_lt a b)) [
   ]
 ]
 
-positive_cmp : (a b : ℕ) → int_cmp (pos a) (pos b) ≡ nat_cmp a b
-positive_cmp a b = grind (arith, nat_tests)
-
-word_value : (v : Option Value) (t : List ℕ) → option_and_then as_word v ≡ Some t → v ≡ Some (word t)
-word_value None t e = cc e
-word_value (Some (word s)) t e = ap (λ o. option_map word o) e
-word_value (Some (amount x)) t e = cc e
-
-amount_value : (v : Option Value) (x : ℤ) → option_and_then as_amount v ≡ Some x → v ≡ Some (amount x)
-amount_value None x e = cc e
-amount_value (Some (word s)) x e = cc e
-amount_value (Some (amount y)) x e = ap (λ o. option_map amount o) e
-
 -- two keys of two parts
-abbrev have_one_key : Option Value → Option Value → Option Value → Option Value → Bool
+abbrev pub have_one_key : Option Value → Option Value → Option Value → Option Value → Bool
 have_one_key a b e f = if_both (all_there (a ∷ b ∷ [])) (all_there (e ∷ f ∷ [])) (pointwise value_eq)
 
-one_key : (t : List ℕ) (x : ℤ) → have_one_key (Some (word t)) (Some (amount x)) (Some (word t)) (Some (amount x)) ≡ true
-one_key t x = and_both (bytes_eq t t) (int_eq x x && true) (text_itself t) (and_both (int_eq x x) true ((signed_Decides x x).1 refl) refl)
+pub one_key : (t : List ℕ) (x : ℤ) → have_one_key (Some (word t)) (Some (amount x)) (Some (word t)) (Some (amount x)) ≡ true
+one_key t x = and_from (bytes_eq t t) (int_eq x x && true) (text_itself t) (and_from (int_eq x x) true ((signed_Decides x x).1 refl) refl)
 
 module _ (d : Dataset) (passes : Passes d) where
   -- rows that stand in a dataset that passes have no key twice
   no_repeat : (m n : ℕ) → is_row (records_in d file.StopTimes) m ≡ true → is_row (records_in d file.StopTimes) n ≡ true → nat_lt m n ≡ true → same_key d file.StopTimes n m ≡ true → true ≡ false
   no_repeat m n first second below same =
       let there = any_follows (λ k. m == k) (λ k. nat_lt k n && same_key d file.StopTimes n k) (rows d file.StopTimes)
-      (λ k is. subst (λ (j : ℕ). (nat_lt j n && same_key d file.StopTimes n j) ≡ true) (same_number m k is) (and_both (nat_lt m n) (same_key d file.StopTimes n m) below same))
+      (λ k is. subst (λ (j : ℕ). (nat_lt j n && same_key d file.StopTimes n j) ≡ true) (eqb-true m k is) (and_from (nat_lt m n) (same_key d file.StopTimes n m) below same))
       (row_among d file.StopTimes m first) in
-      sym (and_both (is_row (records_in d file.StopTimes) n) (list_any (λ k. nat_lt k n && same_key d file.StopTimes n k) (rows d file.StopTimes)) second there)
+      sym (and_from (is_row (records_in d file.StopTimes) n) (list_any (λ k. nat_lt k n && same_key d file.StopTimes n k) (rows d file.StopTimes)) second there)
       ∙ passes (record { file = kept file.StopTimes; row = n; code = code.E09; column = codes "stop_sequence" }) refl
 
   apart : (x y : StopTime) → SaysStopTime d x → SaysStopTime d y → kept_cmp x y ≡ Less → stop_time_cmp x y ≡ Less
   apart x y of_x of_y less =
       less_then (nat_cmp x.trip y.trip) (nat_cmp x.stop_sequence y.stop_sequence) (nat_cmp x.row y.row)
-      (ap (λ o. ordering_then (nat_cmp x.trip y.trip) (ordering_then o (nat_cmp x.row y.row))) (sym (positive_cmp x.stop_sequence y.stop_sequence)) ∙ less)
+      (ap (λ o. ordering_then (nat_cmp x.trip y.trip) (ordering_then o (nat_cmp x.row y.row))) (sym (int_cmp-pos x.stop_sequence y.stop_sequence)) ∙ less)
       (λ trips sequences later. clash (nat_cmp-IsAntisymmetric x.trip y.trip trips) (nat_cmp-IsAntisymmetric x.stop_sequence y.stop_sequence sequences) (less_is x.row y.row later))
     where
       t : List ℕ
@@ -145,7 +132,7 @@ module _ (d : Dataset) (passes : Passes d) where
       all_in : (rs : Records) → rs ≡ records_in d file.StopTimes → filter (has_trip_stop_time d) (filter (is_row rs) (range_with_len 2 (length rs - 1))) ≡ filter (is_row rs) (range_with_len 2 (length rs - 1))
       all_in rs is = passing_all (has_trip_stop_time d) (is_row rs) (λ n row.
           let here : is_row (records_in d file.StopTimes) n ≡ true = subst (λ (q : Records). is_row q n ≡ true) is row in
-          and_both (is_some (word_in d file.StopTimes n "trip_id")) (is_some (amount_in d file.StopTimes n "stop_sequence"))
+          and_from (is_some (word_in d file.StopTimes n "trip_id")) (is_some (amount_in d file.StopTimes n "stop_sequence"))
           (ap is_some (trip_is d passes n here)) (sequence_there d passes n here)) (range_with_len 2 (length rs - 1))
 
   module _ (ss : List StopTime) (are : AreKeptOf d ss) where

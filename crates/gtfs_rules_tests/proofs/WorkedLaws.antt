@@ -6,10 +6,12 @@ use Rattle.std.specs.Cmp.{Equal-is}
 use Rattle.std.specs.FinMap.Entries.{below_all, is_sorted, find, is_some-find, is_sorted-put, find-put}
 use Rattle.std.specs.List.{AllByRecursion}
 use Rattle.std.specs.List.Sorted.{IsStrictlySortedBy}
-use Rattle.std.specs.Ordering.{eq_by_cmp, is_lt}
+use Rattle.std.specs.Ordering.{eq_by_cmp}
 use Rattle.std.specs.declared.cmp.Ordering.{Ordering}
-use Rattle.std.specs.declared.cmp.Ordering.TheVariants.{Less, Equal, Greater}
+use Rattle.std.specs.declared.cmp.Ordering.TheVariants.{Less}
 use Rattle.std.proofs.lemmas.Map.Views.{any-filter_same}
+use Rattle.gtfs_field.proofs.OrderingFacts.{less_so}
+use Rattle.gtfs_field.proofs.TestFacts.{first_so, second_so}
 use Rattle.gtfs_table.specs.Tables.{Dataset}
 use Rattle.gtfs_columns.specs.steps.ProblemOrder.{problem_total, problem_anti}
 use Rattle.gtfs_columns.specs.Problems.{Problem, problem_cmp, is_listed, is_problem, IsReport}
@@ -20,28 +22,15 @@ use Rattle.gtfs_rules_tests.proofs.WorkedTried.{all_tried}
 
 -- ---- ascending
 
-left : (a b : Bool) → T (a && b) → T a
-left true b h = tt
-left false b h = absurd h
-
-right : (a b : Bool) → T (a && b) → T b
-right true b h = h
-right false b h = absurd h
-
-less : (r : Ordering) → T (is_lt r) → r ≡ Less
-less Less h = refl
-less Equal h = absurd h
-less Greater h = absurd h
-
 module _ {K : Type 0} (R : K → K → Ordering) where
   each_less : (x : K) (es : List (K × Unit {0})) → T (below_all R x es) → AllByRecursion (λ y. R x y ≡ Less) (map (λ e. e.0) es)
   each_less x [] h = tt
-  each_less x (e ∷ es) h = (less (R x e.0) (left _ _ h), each_less x es (right _ _ h))
+  each_less x (e ∷ es) h = (less_so (R x e.0) (first_so _ _ h), each_less x es (second_so _ _ h))
 
   keys_ascend : (es : List (K × Unit {0})) → T (is_sorted R es) → IsStrictlySortedBy R (map (λ e. e.0) es)
   unfolding IsStrictlySortedBy
   keys_ascend [] h = tt
-  keys_ascend (e ∷ es) h = (each_less e.0 es (left _ _ h), keys_ascend es (right _ _ h))
+  keys_ascend (e ∷ es) h = (each_less e.0 es (first_so _ _ h), keys_ascend es (second_so _ _ h))
 
 entered_sorted : (ps : List Problem) → T (is_sorted problem_cmp (entered ps))
 entered_sorted [] = tt

@@ -4,11 +4,12 @@ use Rattle.std.proofs.Common.{arith, ◌≡◌, ◌+◌, ◌<◌, ◌∷◌, [],
 use Rattle.std.specs.Prelude.{◌==◌, ◌&&◌, ◌||◌, not, nat_lt, nat_le, bytes_eq, count_by, filter, flat_map, option_and_then}
 use Rattle.std.specs.List.{list_any, list_all}
 use Rattle.std.specs.Ordering.{is_eq}
-use Rattle.std.proofs.lemmas.Bool.{not-true, or_cases}
+use Rattle.std.proofs.lemmas.Bool.{and_from, eqb-true, not-true, or_cases}
 use Rattle.std.proofs.lemmas.Bool.Decides.{nat_tests}
 use Rattle.std.proofs.lemmas.List.Concat.{flat_map-cons}
 use Rattle.std.proofs.lemmas.List.Folds.{list_any-append}
 use Rattle.std.proofs.lemmas.Map.Views.{any-filter_same}
+use Rattle.gtfs_field.proofs.ListFacts.{any_mapped, count_any}
 use Rattle.gtfs_table.specs.Reading.{kept_files}
 use Rattle.gtfs_table.specs.Rows.{has_no_record, is_empty, is_row, records_in}
 use Rattle.gtfs_table.specs.Tables.{Dataset, Records}
@@ -29,11 +30,11 @@ use Rattle.gtfs_columns.specs.TripRules.{goes_back, has_few_rows, is_end_untimed
 use Rattle.gtfs_columns.specs.Values.{Value, has_control, if_there, read_as, readable}
 use Rattle.gtfs_columns.specs.declared.code.Code.{Code}
 use Rattle.gtfs_columns.specs.declared.code.Code.TheVariants as code
-use Rattle.gtfs_columns.proofs.BoolFacts.{and_both, and_parts, or_left, or_right}
-use Rattle.gtfs_columns.proofs.EachFacts.{any_follows, any_in_range, any_mapped}
+use Rattle.gtfs_columns.proofs.BoolFacts.{and_parts, or_left, or_right}
+use Rattle.gtfs_columns.proofs.EachFacts.{any_follows, any_in_range}
 use Rattle.gtfs_columns.proofs.FieldRowFacts.{empty_is}
-use Rattle.gtfs_columns.proofs.NamedFacts.{count_any, has_name, kept_any}
-use Rattle.gtfs_columns.proofs.SiteFacts.{code_is, same_itself, same_number, text_is}
+use Rattle.gtfs_columns.proofs.NamedFacts.{has_name, kept_any}
+use Rattle.gtfs_columns.proofs.SiteFacts.{code_is, same_itself, text_is}
 use Rattle.gtfs_columns.proofs.StepFacts.{Reported, condition_of}
 use Rattle.gtfs_columns.proofs.StopTypeFacts.{kind_rules}
 use Rattle.gtfs_row_rules.proofs.PresenceFacts.{presence_rules}
@@ -50,7 +51,7 @@ any_flat t f (x ∷ xs) =
     ∙ ap (λ b. list_any t (f x) || b) (any_flat t f xs)
 
 file_of : (x y : File) → is_file x y ≡ true → y ≡ x
-file_of x y same = sym (same_file x y (same_number (file_rank x) (file_rank y) same))
+file_of x y same = sym (same_file x y (eqb-true (file_rank x) (file_rank y) same))
 
 any_file : (g : File → Bool) (x : File) → g x ≡ true → list_any g kept_files ≡ true
 any_file g x here = any_follows (λ y. is_file x y) g kept_files
@@ -125,7 +126,7 @@ kept_listed d c x n name site =
     let here : list_any t (problems_tried d x n) ≡ true =
     any_flat t (λ k. map (λ tried_name. problem_in (kept x) n k tried_name) (names_tried d x)) all_codes
     ∙ any_code (λ k. list_any t (map (λ tried_name. problem_in (kept x) n k tried_name) (names_tried d x))) c
-    (any_mapped (λ tried_name. problem_in (kept x) n c tried_name) t (names_tried d x)
+    (any_mapped t (λ tried_name. problem_in (kept x) n c tried_name) (names_tried d x)
     ∙ any_follows (bytes_eq name) (λ tried_name. t (problem_in (kept x) n c tried_name)) (names_tried d x)
     (λ tried_name same. the_named (kept x) n c name tried_name same) site.named) in
     let same_row : n + 0 ≡ n = omega arith in
@@ -149,7 +150,7 @@ other_listed d c file_named n name h =
     ∙ or_right (list_any t (flat_map (λ y. flat_map (problems_tried d y) (rows_tried d y)) kept_files)) _
     (any_flat t (λ other_name. map (λ k. problem_in (other other_name) 0 k []) all_codes) d.others
     ∙ any_follows (bytes_eq file_named) (λ other_name. list_any t (map (λ k. problem_in (other other_name) 0 k []) all_codes)) d.others
-    (λ other_name same. any_mapped (λ k. problem_in (other other_name) 0 k []) t all_codes
+    (λ other_name same. any_mapped t (λ k. problem_in (other other_name) 0 k []) all_codes
     ∙ any_code (λ k. t (problem_in (other other_name) 0 k [])) c
     (the_other c file_named other_name n name same at.0 (empty_is name ∙ at.1))) parts.1)
   where
@@ -157,7 +158,7 @@ other_listed d c file_named n name h =
         → is_eq (problem_cmp (problem_in (other file_named) n c name) (problem_in (other other_name) 0 c [])) ≡ true
     the_other c file_named other_name n name same first none =
         (λ i. is_eq (problem_cmp (problem_in (other file_named) n c name)
-        (problem_in (other (sym (text_is file_named other_name same) i)) (sym (same_number n 0 first) i) c (sym (text_is name [] none) i))))
+        (problem_in (other (sym (text_is file_named other_name same) i)) (sym (eqb-true n 0 first) i) c (sym (text_is name [] none) i))))
         ∙ same_itself (problem_in (other file_named) n c name)
 
 -- ---- names that are tried
@@ -179,7 +180,7 @@ module _ (d : Dataset) (x : File) (name : List ℕ) where
   kept_name test there = or_right (bytes_eq name []) _
       (list_any-append (bytes_eq name) kept_names other_names
       ∙ or_left (list_any (bytes_eq name) kept_names) _
-      (any_mapped (λ c. c.name) (bytes_eq name) (columns_of x)
+      (any_mapped (bytes_eq name) (λ c. c.name) (columns_of x)
       ∙ any_follows (λ c. has_name name c && test c) (λ c. bytes_eq name c.name) (columns_of x)
       (λ c here. (and_parts (has_name name c) (test c) here).0) (kept_any x name test ∙ there)))
 
@@ -228,11 +229,11 @@ module _ (d : Dataset) (x : File) (n : ℕ) (name : List ℕ) where
   at_file : is_at 0 n name ≡ true → IsTried d x n name
   at_file h =
       let parts = and_parts (n == 0) (is_empty name) h in
-      let same : n ≡ 0 = same_number n 0 parts.0 in
+      let same : n ≡ 0 = eqb-true n 0 parts.0 in
       record { row = rw same (omega arith); named = no_name d x name parts.1 }
 
   at_header : 1 < length (records_in d x) + 1 → (n == 1) ≡ true → list_any (bytes_eq name) (names_tried d x) ≡ true → IsTried d x n name
-  at_header there first named = let same : n ≡ 1 = same_number n 1 first in record { row = rw same there; named = named }
+  at_header there first named = let same : n ≡ 1 = eqb-true n 1 first in record { row = rw same there; named = named }
 
   at_kept_row : (test : Column → List ℕ → Bool) → in_row test d x n name ≡ true → IsTried d x n name
   at_kept_row test h =
@@ -267,7 +268,7 @@ module _ (d : Dataset) (x : File) (n : ℕ) (name : List ℕ) where
       ]
 
   by_rule : (t : Reported) → is_kept_column t.0 (codes t.1) ≡ true → condition_of (t ∷ []) d x n name ≡ true → IsTried d x n name
-  by_rule t all h = by_rules (t ∷ []) (and_both (is_kept_column t.0 (codes t.1)) true all refl) h
+  by_rule t all h = by_rules (t ∷ []) (and_from (is_kept_column t.0 (codes t.1)) true all refl) h
 
   at_key : is_kept_column x (reported_column x) ≡ true → (repeats : Bool) → (bytes_eq name (reported_column x) && is_row (records_in d x) n && repeats) ≡ true → IsTried d x n name
   at_key kept_key repeats h =

@@ -6,6 +6,7 @@ use Rattle.std.proofs.lemmas.Bool.Decides.{nat_tests}
 use Rattle.std.proofs.lemmas.List.{get_or-map, length-map}
 use Rattle.std.proofs.lemmas.List.Elements.{All-head, All-tail}
 use Rattle.std.proofs.lemmas.Simd.{map-map}
+use Rattle.gtfs_field.proofs.ListFacts.{any_mapped, some_of}
 use Rattle.gtfs_rows.specs.Rows as content
 use Rattle.gtfs_rows.specs.declared.frequency.Frequency.{Frequency}
 use Rattle.gtfs_rows.specs.declared.parts.Parts.{Parts}
@@ -19,7 +20,7 @@ use Rattle.gtfs_feed.proofs.SoundOrder.{in_order}
 use Rattle.gtfs_runs.specs.Lanes.{departure_rows}
 use Rattle.gtfs_runs.specs.Places.{is_in_place, members}
 use Rattle.gtfs_runs.specs.Trips.{is_departure_row, is_run, passes_at, starts_run, trip_start}
-use Rattle.gtfs_runs.proofs.PlaceFacts.{id_at, same_number, some_of}
+use Rattle.gtfs_runs.proofs.PlaceFacts.{id_at, same_number}
 
 -- ---- lists
 
@@ -40,10 +41,6 @@ same_filter : {X : Type 0} (P : X → Type 0) (q r : ℕ × X → Bool) (a : ℕ
 same_filter P q r a [] all same = refl
 same_filter P q r a (x ∷ xs) all same =
     λ i. cond (same a x (All-head P x xs all) i) ((a, x) ∷ same_filter P q r (a + 1) xs (All-tail P x xs all) same i) (same_filter P q r (a + 1) xs (All-tail P x xs all) same i)
-
-any_mapped : {A B : Type 0} (p : B → Bool) (f : A → B) (xs : List A) → list_any p (map f xs) ≡ list_any (λ x. p (f x)) xs
-any_mapped p f [] = refl
-any_mapped p f (x ∷ xs) = rw (any_mapped p f xs) refl
 
 module _ (p : Parts) where
   -- ---- the place of a stop

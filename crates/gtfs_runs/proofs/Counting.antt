@@ -5,11 +5,11 @@ use Rattle.std.proofs.Math.Nat.{mul-mod_left, mul-div_cancel}
 use Rattle.std.proofs.lemmas.Nat.{div-add-mod'}
 use Rattle.std.specs.List.{range_with_len}
 use Rattle.std.specs.Cmp.{tied_itself, ranked, both_ways}
-use Rattle.std.specs.declared.cmp.Ordering.{Ordering}
-use Rattle.std.specs.declared.cmp.Ordering.TheVariants.{Less, Equal, Greater}
-use Rattle.std.specs.Ordering.{is_eq, is_lt, ordering_then}
-use Rattle.std.proofs.lemmas.Bool.{true≢false, false≢true, cases_Bool}
+use Rattle.std.specs.declared.cmp.Ordering.TheVariants.{Equal}
+use Rattle.std.specs.Ordering.{is_eq}
+use Rattle.std.proofs.lemmas.Bool.{cases_Bool, eqb-true as eq_test, le-leb as le_holds, lt-ltb as lt_holds, ltb-true as lt_test, leb-true as le_test, ltb-false as ge_test, le-ltb as lt_fails, and_parts as and-split}
 use Rattle.std.proofs.lemmas.Bool.Decides.{nat_tests}
+use Rattle.gtfs_field.proofs.OrderingFacts.{equal, tied as parts}
 use Rattle.gtfs_rows.specs.Rows.{Frequency}
 use Rattle.gtfs_runs.specs.declared.event.Event.{Event}
 use Rattle.gtfs_runs.specs.Counts.{is_same, tally}
@@ -18,16 +18,6 @@ use Rattle.gtfs_runs.specs.Trips.{starts_run}
 use Rattle.gtfs_runs.proofs.Orders.{events_total}
 
 -- ---- the same event
-
-equal : (r : Ordering) → is_eq r ≡ true → r ≡ Equal
-equal Less h = absurd (false≢true h)
-equal Equal h = refl
-equal Greater h = absurd (false≢true h)
-
-parts : (r s : Ordering) → ordering_then r s ≡ Equal → (r ≡ Equal) × (s ≡ Equal)
-parts Less s h = absurd (true≢false (ap is_lt h))
-parts Equal s h = (refl, h)
-parts Greater s h = absurd (cc)
 
 pub same-self : (e : Event) → is_same e e ≡ true
 same-self e = ap is_eq (tied_itself events_total e)
@@ -46,31 +36,6 @@ same-is e x h =
     λ i. record { at = ats i; trip = record { 0 = trips i }; run = runs i; seq = seqs i; row = rows i }
 
 -- ---- tests
-
-and-split : (a b : Bool) → (a && b) ≡ true → (a ≡ true) × (b ≡ true)
-and-split true b h = (refl, h)
-and-split false b h = absurd (false≢true h)
-
-lt_test : (a b : ℕ) → nat_lt a b ≡ true → a < b
-lt_test a b h = grind (arith, nat_tests)
-
-lt_holds : (a b : ℕ) → a < b → nat_lt a b ≡ true
-lt_holds a b h = grind (arith, nat_tests)
-
-le_test : (a b : ℕ) → nat_le a b ≡ true → a ≤ b
-le_test a b h = grind (arith, nat_tests)
-
-le_holds : (a b : ℕ) → a ≤ b → nat_le a b ≡ true
-le_holds a b h = grind (arith, nat_tests)
-
-eq_test : (a b : ℕ) → (a == b) ≡ true → a ≡ b
-eq_test a b h = grind (arith, nat_tests)
-
-ge_test : (a b : ℕ) → nat_lt a b ≡ false → b ≤ a
-ge_test a b h = grind (arith, nat_tests)
-
-lt_fails : (a b : ℕ) → b ≤ a → nat_lt a b ≡ false
-lt_fails a b h = grind (arith, nat_tests)
 
 neq_above : (a b : ℕ) → a ≤ b → (a == b) ≡ false → a + 1 ≤ b
 neq_above a b h k = grind (arith, nat_tests)

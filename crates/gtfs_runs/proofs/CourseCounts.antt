@@ -9,11 +9,12 @@ use Rattle.std.specs.Cmp.Rules.{comparing}
 use Rattle.std.specs.FinMap.{IsAntisymmetric, nat_cmp-IsAntisymmetric, slice_cmp-IsAntisymmetric}
 use Rattle.std.specs.FinSet as set
 use Rattle.std.specs.declared.cmp.Ordering.{Ordering}
-use Rattle.std.specs.declared.cmp.Ordering.TheVariants.{Less, Equal, Greater}
 use Rattle.std.specs.Ordering.{eq_by_cmp, is_eq}
-use Rattle.std.proofs.lemmas.Bool.{false≢true, cases_Bool, eqb-true}
+use Rattle.std.proofs.lemmas.Bool.{cases_Bool, eqb-true}
 use Rattle.std.proofs.lemmas.Bool.Decides.{nat_tests}
 use Rattle.std.proofs.lemmas.List.Elements.{All-head, All-tail}
+use Rattle.gtfs_field.proofs.OrderingFacts.{equal, tied as both_equal}
+use Rattle.gtfs_field.proofs.ListFacts.{some_of}
 use Rattle.gtfs_columns.proofs.SiteFacts.{text_itself}
 use Rattle.gtfs_rows.proofs.Held.{text_antisymmetric}
 use Rattle.gtfs_rows.specs.declared.parts.Parts.{Parts}
@@ -24,8 +25,8 @@ use Rattle.gtfs_runs.specs.Counts.{tally}
 use Rattle.gtfs_runs.specs.Lanes.{Course, course_cmp}
 use Rattle.gtfs_runs.specs.steps.Courses.{CourseNo, IsCourse, course_of, how_many, is_same_course}
 use Rattle.gtfs_runs.proofs.ContentRows.{same_service}
-use Rattle.gtfs_runs.proofs.CourseOrder.{both_equal, course_is, same_courses}
-use Rattle.gtfs_runs.proofs.PlaceFacts.{id_at, same_number, some_of}
+use Rattle.gtfs_runs.proofs.CourseOrder.{course_is, same_courses}
+use Rattle.gtfs_runs.proofs.PlaceFacts.{id_at, same_number}
 use Rattle.gtfs_runs.proofs.Tallies.{tally-permutation}
 
 any-counted : {X : Type 0} (q : X → Bool) (xs : List X) → list_any q xs ≡ nat_lt 0 (tally q xs)
@@ -45,11 +46,6 @@ any-permutation q xs ys same = any-counted q ys ∙ ap (nat_lt 0) (tally-permuta
 
 pub courses_total : IsTotalOrder course_cmp
 courses_total = search (comparing, rules, nat_list_cmp_total) depth 20
-
-equal : (r : Ordering) → is_eq r ≡ true → r ≡ Equal
-equal Less h = absurd (false≢true h)
-equal Equal h = refl
-equal Greater h = absurd (false≢true h)
 
 pub courses_antisymmetric : IsAntisymmetric course_cmp
 courses_antisymmetric a b h =

@@ -10,8 +10,10 @@ use Rattle.std.specs.declared.cmp.Ordering.{Ordering}
 use Rattle.std.specs.declared.cmp.Ordering.TheVariants.{Less, Equal, Greater}
 use Rattle.std.specs.Ordering.{is_eq, is_lt, ordering_then, ordering_reverse}
 use Rattle.std.proofs.lemmas.Bool.{true≢false, false≢true, cases_Bool}
-use Rattle.std.proofs.lemmas.List.{append-nil, get_or-map, get_or_append_left, length-append, length-map, map-append}
+use Rattle.std.proofs.lemmas.List.{append-nil, append_assoc as append-assoc, get_or-map, get_or_append_left, length-append, length-map, map-append}
 use Rattle.std.proofs.lemmas.List.Elements.{All-cons, All-head, All-tail, filter-append}
+use Rattle.std.proofs.lemmas.List.Folds.{list_any_none as none_any}
+use Rattle.gtfs_field.proofs.OrderingFacts.{equal, tied as both_equal}
 use Rattle.gtfs_rows.specs.Order.{Ascends}
 use Rattle.gtfs_rows.proofs.SameElements.{pairs-head, pairs-tail}
 use Rattle.gtfs_runs.specs.Order.{event_cmp}
@@ -38,16 +40,6 @@ sorted-mapped f order (x ∷ xs) up k d from within =
     ∙ up k x from inside
 
 -- ---- courses
-
-equal : (r : Ordering) → is_eq r ≡ true → r ≡ Equal
-equal Less h = absurd (false≢true h)
-equal Equal h = refl
-equal Greater h = absurd (false≢true h)
-
-pub both_equal : (r s : Ordering) → ordering_then r s ≡ Equal → (r ≡ Equal) × (s ≡ Equal)
-both_equal Less s h = absurd (true≢false (ap is_lt h))
-both_equal Equal s h = (refl, h)
-both_equal Greater s h = absurd (cc)
 
 pub course_is : (a b : CourseNo) → is_same_course a b ≡ true → a ≡ b
 course_is a b h =
@@ -142,10 +134,6 @@ lane_ascends (f ∷ fs) c up same i j d before within =
 
 -- ---- how many courses
 
-none_any : {X : Type 0} (q : X → Bool) (xs : List X) → All (λ x. q x ≡ false) xs → list_any q xs ≡ false
-none_any q [] none = refl
-none_any q (x ∷ xs) none = rw (All-head (λ y. q y ≡ false) x xs none) (none_any q xs (All-tail (λ y. q y ≡ false) x xs none))
-
 pub one_course : (cs : List Stopping) (bs : List Stopping) (c : CourseNo) → 0 < length cs → All (λ z. z.course ≡ c) cs → All (λ z. is_same_course c z.course ≡ false) bs
     → how_many is_same_course (map (λ z. z.course) (cs ++ bs)) ≡ how_many is_same_course (map (λ z. z.course) bs) + 1
 one_course [] bs c some same differ = absurd (omega arith)
@@ -184,10 +172,6 @@ one_service k service (z ∷ zs) same =
     pushed : (b : Bool) (ys : List Stopping) → map (λ x. x.event) ys ≡ cond b (map (λ x. x.event) zs) [] → map (λ x. x.event) (cond b (z ∷ ys) ys) ≡ cond b (z.event ∷ map (λ x. x.event) zs) []
     pushed true ys is = ap (λ l. z.event ∷ l) is
     pushed false ys is = is
-
-append-assoc : {X : Type 0} (xs ys zs : List X) → (xs ++ ys) ++ zs ≡ xs ++ (ys ++ zs)
-append-assoc [] ys zs = refl
-append-assoc (x ∷ xs) ys zs = ap (λ l. x ∷ l) (append-assoc xs ys zs)
 
 -- a lane more: what is left tells the less
 pub told_more : (k : ℕ) (lanes new : List LaneValue) (lane : LaneValue) (fs bs rest : List Stopping) (every : List Event)

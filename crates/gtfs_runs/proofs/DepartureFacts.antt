@@ -1,28 +1,17 @@
 -- A stop time that is not the last of its trip, by its position.
-use Rattle.std.proofs.Common.{◌≡◌, ◌<◌, ◌≤◌, ◌+◌, ◌-◌, ◌∙◌, ℕ, zero, suc, Bool, true, false, List, [], ◌∷◌, length, map, get_or, refl, sym, ap, arith, inl, inr, ◌||◌, ◌&&◌}
+use Rattle.std.proofs.Common.{◌≡◌, ◌<◌, ◌≤◌, ◌+◌, ◌-◌, ◌∙◌, ℕ, suc, Bool, true, false, List, [], ◌∷◌, length, map, get_or, refl, sym, ap, arith, inl, inr, ◌&&◌}
 use Rattle.std.specs.Prelude.{nat_lt, AllPairs}
 use Rattle.std.specs.List.{list_any}
 use Rattle.std.proofs.lemmas.Bool.{cases_Bool, ltb-true, ltb-false, lt-ltb, le-ltb}
+use Rattle.std.proofs.lemmas.List.Folds.{list_any_at as any_from}
+use Rattle.gtfs_field.proofs.ListFacts.{any_mapped}
 use Rattle.gtfs_rows.specs.declared.parts.Parts.{Parts}
 use Rattle.gtfs_rows.specs.declared.stop_row.StopRow.{StopRow}
 use Rattle.gtfs_rows.specs.Views.{stop_row_of}
 
-any_from : {X : Type 0} (q : X → Bool) (xs : List X) (k : ℕ) (d : X) → k < length xs → q (get_or xs k d) ≡ true → list_any q xs ≡ true
-any_from q [] k d within holds = absurd (omega arith)
-any_from q (x ∷ xs) zero d within holds = rw holds refl
-any_from q (x ∷ xs) (suc k) d within holds = rw (any_from q xs k d (omega arith) holds) (or_true (q x))
-  where
-    or_true : (b : Bool) → (b || true) ≡ true
-    or_true true = refl
-    or_true false = refl
-
 any_none : {X : Type 0} (q : X → Bool) (xs : List X) (d : X) → ((k : ℕ) → k < length xs → q (get_or xs k d) ≡ false) → list_any q xs ≡ false
 any_none q [] d none = refl
 any_none q (x ∷ xs) d none = rw (none 0 (omega arith)) (any_none q xs d (λ k within. none (suc k) (omega arith)))
-
-any_mapped : {A B : Type 0} (p : B → Bool) (f : A → B) (xs : List A) → list_any p (map f xs) ≡ list_any (λ x. p (f x)) xs
-any_mapped p f [] = refl
-any_mapped p f (x ∷ xs) = rw (any_mapped p f xs) refl
 
 -- rows ascend: a later one follows where the position is not the last
 pub not_last : (p : Parts) (rs : List StopRow) (k : ℕ) (d : StopRow) → AllPairs (λ r s. r.stop_sequence < s.stop_sequence) rs → k < length rs

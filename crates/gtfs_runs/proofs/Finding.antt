@@ -1,22 +1,12 @@
 -- The first element of a list that passes a test.
-use Rattle.std.proofs.Common.{◌≡◌, ◌≤◌, ◌<◌, ◌+◌, ◌⊎◌, inl, inr, ℕ, zero, suc, Bool, true, false, not, List, [], ◌∷◌, map, length, get_or, find, refl, sym, subst, ap, ◌∙◌, arith}
+use Rattle.std.proofs.Common.{◌≡◌, ◌≤◌, ◌<◌, ◌+◌, inl, inr, ℕ, zero, suc, Bool, true, false, not, List, [], ◌∷◌, map, length, get_or, find, refl, sym, subst, ap, ◌∙◌, arith}
 use Rattle.std.specs.List.{range_with_len, slice_get}
 use Rattle.std.specs.List.Sorted.{IsPartitionedBy, IsPartitionPoint}
 use Rattle.std.specs.declared.cmp.Ordering.{Ordering}
 use Rattle.std.specs.declared.cmp.Ordering.TheVariants.{Less}
-use Rattle.std.proofs.lemmas.Bool.{true≢false, cases_Bool}
+use Rattle.std.proofs.lemmas.Bool.{true≢false, cases_Bool, not-true as turned-back, not-false as turned}
+use Rattle.gtfs_field.proofs.NumberFacts.{cases_up_to as split_lt_eq}
 use Rattle.gtfs_rows.specs.Order.{Ascends}
-
-turned : (b : Bool) → not b ≡ false → b ≡ true
-turned true h = refl
-turned false h = absurd (true≢false h)
-
-turned-back : (b : Bool) → not b ≡ true → b ≡ false
-turned-back true h = absurd (true≢false (sym h))
-turned-back false h = refl
-
-split_lt_eq : (i j : ℕ) → i ≤ j → (i < j) ⊎ (i ≡ j)
-split_lt_eq i j h = grind arith
 
 -- where a test fails up to a place and holds from there on, the element there is the first that passes
 pub find-parted : {X : Type 0} (q : X → Bool) (xs : List X) (i : ℕ) → IsPartitionPoint (λ x. not (q x) ≡ true) (λ x. not (q x) ≡ false) xs i → i ≤ length xs
@@ -42,10 +32,6 @@ pub get_or-range : {X : Type 0} (f : ℕ → X) (a n i : ℕ) (d : X) → i < n 
 get_or-range f a zero i d h = absurd (omega arith)
 get_or-range f a (suc n) zero d h = let e : a + 0 ≡ a = omega arith in rw e refl
 get_or-range f a (suc n) (suc i) d h = let e : a + suc i ≡ (a + 1) + i = omega arith in rw e (get_or-range f (a + 1) n i d (omega arith))
-
-pub length-range : {X : Type 0} (f : ℕ → X) (a n : ℕ) → length (map f (range_with_len a n)) ≡ n
-length-range f a zero = refl
-length-range f a (suc n) = rw (length-range f (a + 1) n) refl
 
 pub get_or-range_0 : {X : Type 0} (f : ℕ → X) (n i : ℕ) (d : X) → i < n → get_or (map f (range_with_len 0 n)) i d ≡ f i
 get_or-range_0 f n i d h = get_or-range f 0 n i d h ∙ ap f (omega arith)

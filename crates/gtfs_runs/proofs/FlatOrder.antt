@@ -6,9 +6,10 @@ use Rattle.std.specs.Cmp.Derive.{both_true}
 use Rattle.std.specs.Cmp.Rules.{comparing}
 use Rattle.std.specs.declared.cmp.Ordering.{Ordering}
 use Rattle.std.specs.declared.cmp.Ordering.TheVariants.{Less, Equal, Greater}
-use Rattle.std.specs.Ordering.{is_eq, is_lt, ordering_reverse, ordering_then}
-use Rattle.std.proofs.lemmas.Bool.Decides.{nat_tests}
+use Rattle.std.specs.Ordering.{is_eq, is_lt, ordering_reverse}
 use Rattle.std.proofs.lemmas.List.Sorted.{ranks_by, sorted_far}
+use Rattle.gtfs_field.proofs.NumberFacts.{number_itself as itself}
+use Rattle.gtfs_field.proofs.OrderingFacts.{tied_first as first_tie, tied_second as second_tie}
 use Rattle.gtfs_rows.specs.Order.{Ascends}
 use Rattle.gtfs_rows.specs.declared.parts.Parts.{Parts}
 use Rattle.gtfs_runs.specs.Counts.{tally}
@@ -19,19 +20,6 @@ use Rattle.gtfs_runs.proofs.Tallies.{any-tally, tally-permutation, two_at}
 
 served_total : IsTotalOrder served_cmp
 served_total = search (comparing, rules) depth 20
-
-itself : (n : ℕ) → (n == n) ≡ true
-itself n = grind (arith, nat_tests)
-
-first_tie : (r s : Ordering) → ordering_then r s ≡ Equal → r ≡ Equal
-first_tie Less s h = absurd (cc)
-first_tie Equal s h = refl
-first_tie Greater s h = absurd (cc)
-
-second_tie : (r s : Ordering) → ordering_then r s ≡ Equal → s ≡ Equal
-second_tie Less s h = absurd (cc)
-second_tie Equal s h = h
-second_tie Greater s h = absurd (cc)
 
 -- what ties with an event is that event under the same number
 tied : (x y : Served) → served_cmp x y ≡ Equal → is_served x.0.0 x.1 y ≡ true

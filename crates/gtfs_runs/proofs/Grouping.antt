@@ -1,15 +1,15 @@
 -- Patterns that take one trip more.
-use Rattle.std.proofs.Common.{◌≡◌, ◌<◌, ◌+◌, ◌==◌, ◌&&◌, ◌++◌, ℕ, zero, suc, Bool, true, false, not, List, [], ◌∷◌, map, filter, length, get_or, Option, Some, None, is_lt, refl, sym, ap, subst, ◌∙◌, arith}
+use Rattle.std.proofs.Common.{◌≡◌, ◌<◌, ◌+◌, ◌==◌, ◌&&◌, ◌++◌, ℕ, suc, Bool, true, false, not, List, [], ◌∷◌, map, filter, length, get_or, Option, Some, None, is_lt, refl, sym, ap, subst, ◌∙◌, arith}
 use Rattle.std.specs.List.{flat_map, list_all, range_with_len}
 use Rattle.std.specs.List.Sorted.{IsPermutation, IsSorted}
 use Rattle.std.specs.Option.{option_eq}
 use Rattle.std.specs.Cmp.Lexicographic.{pointwise}
-use Rattle.std.proofs.lemmas.Bool.{true≢false}
+use Rattle.std.proofs.lemmas.Bool.{and_from as join, and_parts as both, eqb-true as same_number, true≢false}
 use Rattle.std.proofs.lemmas.Grind.{flat_map-append}
-use Rattle.std.proofs.lemmas.List.{map-append, get_or-map, length-map}
+use Rattle.std.proofs.lemmas.List.{map-append, get_or-map, length-map, append_assoc as append-assoc}
 use Rattle.std.proofs.lemmas.List.Elements.{filter-append}
 use Rattle.std.proofs.lemmas.List.Folds.{list_all-append}
-use Rattle.gtfs_columns.proofs.SiteFacts.{same_number}
+use Rattle.gtfs_field.proofs.ListFacts.{range-push as range-more}
 use Rattle.gtfs_rows.specs.declared.numbers.StopNo.{StopNo}
 use Rattle.gtfs_rows.specs.declared.numbers.TripNo.{TripNo}
 use Rattle.gtfs_rows.specs.declared.parts.Parts.{Parts}
@@ -17,21 +17,9 @@ use Rattle.gtfs_runs.specs.declared.pattern.Headed.{Headed}
 use Rattle.gtfs_runs.specs.declared.pattern.Pattern.{Pattern}
 use Rattle.gtfs_runs.specs.Patterns.{ArePatterns, AreGroups, Entry, Heading, are_apart, entries_of, entries_under, entry_cmp, entry_value, heading_of, is_filled, is_same_heading}
 
-both : (a b : Bool) → (a && b) ≡ true → (a ≡ true) × (b ≡ true)
-both true b h = (refl, h)
-both false b h = absurd (true≢false (sym h))
-
-join : (a b : Bool) → a ≡ true → b ≡ true → (a && b) ≡ true
-join true b g h = h
-join false b g h = g
-
 append-nil : {X : Type 0} (xs : List X) → xs ++ [] ≡ xs
 append-nil [] = refl
 append-nil (x ∷ xs) = ap (λ ys. x ∷ ys) (append-nil xs)
-
-append-assoc : {X : Type 0} (xs ys zs : List X) → (xs ++ ys) ++ zs ≡ xs ++ (ys ++ zs)
-append-assoc [] ys zs = refl
-append-assoc (x ∷ xs) ys zs = ap (λ l. x ∷ l) (append-assoc xs ys zs)
 
 -- ---- a new pattern after the last
 
@@ -83,12 +71,6 @@ told-more olds news xs l n e old new same trips under =
     ∙ ap (λ es. es ++ e ∷ []) (sym (under-last xs l) ∙ ap (flat_map entries_under) (sym old))
 
 -- ---- numbers of trips
-
-range-more : (a n : ℕ) → range_with_len a (suc n) ≡ range_with_len a n ++ (a + n) ∷ []
-range-more a zero = let e : a ≡ a + 0 = omega arith in ap (λ j. j ∷ []) e
-range-more a (suc n) =
-    let e : (a + 1) + n ≡ a + suc n = omega arith in
-    ap (λ l. a ∷ l) (range-more (a + 1) n) ∙ ap (λ j. a ∷ (range_with_len (a + 1) n ++ j ∷ [])) e
 
 pub trips-more : {X : Type 0} (p : ℕ → Bool) (f : ℕ → X) (n : ℕ) (olds news : List X) → olds ≡ map f (filter p (range_with_len 0 n))
     → news ≡ olds ++ map f (filter p (n ∷ [])) → news ≡ map f (filter p (range_with_len 0 (n + 1)))

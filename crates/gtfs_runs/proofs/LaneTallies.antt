@@ -1,11 +1,10 @@
 -- How often lanes tell an event, as lanes are added.
-use Rattle.std.proofs.Common.{◌≡◌, ◌≤◌, ◌<◌, ◌+◌, ◌*◌, ◌-◌, ◌++◌, ◌∙◌, ℕ, suc, Bool, true, false, cond, List, [], ◌∷◌, length, filter, take, get_or, nat_le, nat_lt, refl, sym, ap, arith, inl, inr, ◌&&◌, ◌==◌, zero-add}
+use Rattle.std.proofs.Common.{◌≡◌, ◌≤◌, ◌<◌, ◌+◌, ◌*◌, ◌-◌, ◌++◌, ◌∙◌, ℕ, Bool, true, false, cond, List, [], ◌∷◌, length, filter, take, get_or, nat_le, nat_lt, refl, sym, ap, arith, inl, inr, ◌&&◌, ◌==◌, zero-add}
 use Rattle.std.specs.Prelude.{◌%◌}
 use Rattle.std.specs.List.{flat_map}
-use Rattle.std.proofs.Math.Seq.{take-suc}
 use Rattle.std.proofs.lemmas.Bool.{and_parts, cases_Bool, leb-true, ltb-true}
 use Rattle.std.proofs.lemmas.Grind.{flat_map-append}
-use Rattle.std.proofs.lemmas.List.{append-nil}
+use Rattle.std.proofs.lemmas.List.{append-nil, take_more as taken}
 use Rattle.std.proofs.lemmas.List.Elements.{filter-append}
 use Rattle.gtfs_rows.specs.declared.frequency.Frequency.{Frequency}
 use Rattle.gtfs_rows.specs.Views.{frequency_of}
@@ -51,9 +50,6 @@ pub told-push : (k : ℕ) (e : Event) (xs : List LaneValue) (y : LaneValue) → 
 told-push k e xs y = told-append k e xs (y ∷ []) ∙ ap (λ n. times_told k e xs + n) (one_lane (y.service == k) e y)
 
 -- ---- one element more
-
-pub taken : {X : Type 0} (xs : List X) (n : ℕ) (d : X) → n < length xs → take (n + 1) xs ≡ take n xs ++ get_or xs n d ∷ []
-taken xs n d within = let e : n + 1 ≡ suc n = omega arith in ap (λ m. take m xs) e ∙ take-suc xs n d within
 
 -- ---- the runs of a period
 

@@ -2,14 +2,13 @@
 use Rattle.std.proofs.Common.{◌≡◌, ◌≤◌, ◌<◌, ◌+◌, ◌-◌, ◌++◌, ◌∙◌, ℕ, suc, List, [], ◌∷◌, length, map, take, get_or, Option, Some, None, nat_lt, if◌then◌else◌, refl, sym, ap, arith, inl, inr}
 use Rattle.std.specs.Prelude.{max, unwrap_or}
 use Rattle.std.specs.List.{flat_map, fold, range_with_len, slice_get}
-use Rattle.std.specs.declared.cmp.Ordering.{Ordering}
-use Rattle.std.specs.declared.cmp.Ordering.TheVariants.{Less, Equal, Greater}
-use Rattle.std.specs.Ordering.{nat_cmp, ordering_then}
-use Rattle.std.proofs.lemmas.Bool.Decides.{nat_tests}
+use Rattle.std.specs.declared.cmp.Ordering.TheVariants.{Less}
 use Rattle.std.proofs.lemmas.Bool.{cases_Bool, ltb-false, ltb-true}
 use Rattle.std.proofs.lemmas.Grind.{flat_map-append}
-use Rattle.std.proofs.lemmas.List.{append-nil, map-append}
+use Rattle.std.proofs.lemmas.List.{append-nil, map-append, take_more as taken}
 use Rattle.std.proofs.lemmas.Option.{get_or_from_slice_get, slice_get-get_or}
+use Rattle.std.proofs.lemmas.List.FromFn.{length-map-range_with_len as length-range}
+use Rattle.gtfs_field.proofs.OrderingFacts.{first_at_most as not_before}
 use Rattle.gtfs_rows.specs.Order.{Ascends}
 use Rattle.gtfs_rows.proofs.SameElements.{pairs-tail}
 use Rattle.gtfs_runs.specs.Order.{event_cmp}
@@ -17,8 +16,7 @@ use Rattle.gtfs_runs.specs.Periods.{run_event, run_events}
 use Rattle.gtfs_runs.specs.StopLanes.{LaneValue}
 use Rattle.gtfs_runs.specs.declared.event.Event.{Event}
 use Rattle.gtfs_runs.specs.steps.Lists.{latest_of}
-use Rattle.gtfs_runs.proofs.Finding.{get_or-range_0, length-range}
-use Rattle.gtfs_runs.proofs.LaneTallies.{taken}
+use Rattle.gtfs_runs.proofs.Finding.{get_or-range_0}
 
 max-zero : (a : ℕ) → max 0 a ≡ a
 max-zero a = omega arith
@@ -47,14 +45,6 @@ pub latest-append : (xs ys : List Event) → latest_of (xs ++ ys) ≡ max (lates
 latest-append xs ys =
     ap (fold max 0) (map-append (λ e. e.at) xs ys) ∙ fold-append 0 (map (λ e. e.at) xs) (map (λ e. e.at) ys)
     ∙ fold-start (latest_of xs) (map (λ e. e.at) ys)
-
-not_before : (a b : ℕ) (r : Ordering) → ordering_then (nat_cmp a b) r ≡ Less → a ≤ b
-not_before a b r h = upto (nat_cmp a b) refl h
-  where
-    upto : (s : Ordering) → nat_cmp a b ≡ s → ordering_then s r ≡ Less → a ≤ b
-    upto Less is h = grind (arith, nat_tests)
-    upto Equal is h = grind (arith, nat_tests)
-    upto Greater is h = absurd (cc)
 
 from_first : (e : Event) (es : List Event) (d : Event) → Ascends event_cmp (e ∷ es) → fold max e.at (map (λ x. x.at) es) ≡ (get_or (e ∷ es) (length es) d).at
 from_first e [] d up = refl

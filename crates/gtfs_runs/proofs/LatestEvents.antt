@@ -7,7 +7,9 @@ use Rattle.std.proofs.lemmas.Bool.{and_parts, cases_Bool, eqb-true, false≢true
 use Rattle.std.proofs.lemmas.Bool.Decides.{nat_tests}
 use Rattle.std.proofs.lemmas.List.{get_or_append_left, length-append, length-map}
 use Rattle.std.proofs.lemmas.List.Elements.{All-append, All-cons, All-head, All-map, All-nil, All-tail}
-use Rattle.std.proofs.lemmas.Option.{get_or_from_slice_get, slice_get-get_or, slice_get_within}
+use Rattle.std.proofs.lemmas.Option.{get_or_from_slice_get, same_Some as one, slice_get-get_or, slice_get_within}
+use Rattle.gtfs_field.proofs.NumberFacts.{number_itself as itself}
+use Rattle.gtfs_field.proofs.ListFacts.{fold-rises, some_of}
 use Rattle.gtfs_table.proofs.PartFacts.{length-parts}
 use Rattle.gtfs_columns.proofs.SiteFacts.{text_itself}
 use Rattle.gtfs_columns.specs.Values.{if_there}
@@ -35,15 +37,10 @@ use Rattle.gtfs_runs.proofs.Counting.{same-is, same-self}
 use Rattle.gtfs_runs.proofs.CourseOrder.{all-right}
 use Rattle.gtfs_runs.proofs.LaneTallies.{ended}
 use Rattle.gtfs_runs.proofs.Tallies.{one_at, tally-append}
-use Rattle.gtfs_runs.proofs.PlaceFacts.{some_of}
 use Rattle.gtfs_runs.proofs.TripTimes.{left_within, periods_run, rows_at}
 use Rattle.gtfs_runs.proofs.WholeLanes.{trips_within}
 
 -- ---- the greatest of numbers
-
-fold-rises : (a : ℕ) (xs : List ℕ) → a ≤ fold max a xs
-fold-rises a [] = omega arith
-fold-rises a (x ∷ xs) = let n = fold-rises (max a x) xs in let m : a ≤ max a x = omega arith in omega (arith, n, m)
 
 fold-upper : (a : ℕ) (xs : List ℕ) → All (λ x. x ≤ fold max a xs) xs
 fold-upper a [] = All-nil (λ x. x ≤ a)
@@ -63,9 +60,6 @@ fold-least n a (x ∷ xs) start all =
 left-all : {X : Type 0} (P : X → Type 0) (xs ys : List X) → All P (xs ++ ys) → All P xs
 left-all P xs ys all k d within =
     subst P (get_or_append_left xs ys d k within) (all k d (let size = length-append xs ys in omega (arith, size, within)))
-
-one : {X : Type 0} (x y : X) → Some x ≡ Some y → x ≡ y
-one x y e = ap (λ o. unwrap_or o x) e
 
 part-all : {X Y : Type 0} (P : Y → Type 0) (f : X → List Y) (xs : List X) (i : ℕ) (x : X) → All P (flat_map f xs) → slice_get xs i ≡ Some x → All P (f x)
 part-all P f [] i x all at = cc
@@ -192,9 +186,6 @@ there_is (Some x) q h = record { value = x; at = refl; holds = h }
 
 it_is : {X : Type 0} (o : Option X) (q : X → Bool) (x : X) → o ≡ Some x → q x ≡ true → if_there o q ≡ true
 it_is o q x at holds = ap (λ y. if_there y q) at ∙ holds
-
-itself : (n : ℕ) → (n == n) ≡ true
-itself n = grind (arith, nat_tests)
 
 -- ---- events and lanes
 

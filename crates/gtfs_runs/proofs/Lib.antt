@@ -1,31 +1,31 @@
 pub mod Bounds
 pub mod ContentEvents
 pub mod ContentRows
-mod Counting
+pub mod Counting
 mod DepartureFacts
 mod Examples
 mod Finding
 mod FlatExamples
 mod FlatOrder
 mod Grouping
-mod Orders
+pub mod Orders
 mod PlaceFacts
 mod PatternExamples
 pub mod Runs
-mod RowEvents
+pub mod RowEvents
 mod RowsSoFar
-mod RunStarts
+pub mod RunStarts
 mod Samples
 mod LaneTallies
 mod TripFinds
-mod TripTimes
+pub mod TripTimes
 mod Ranks
 mod Numbers
 mod OneList
-mod CourseOrder
+pub mod CourseOrder
 mod Latest
 mod CourseCounts
 mod WholeLanes
 mod Chunks
 mod LatestEvents
-mod Tallies
+pub mod Tallies

@@ -1,32 +1,24 @@
 -- What lies above an event or a seek lies above with all that follow.
-use Rattle.std.proofs.Common.{◌≡◌, true, false, refl, sym, ◌∙◌, ap, rules, ℕ, ◌<◌, arith}
+use Rattle.std.proofs.Common.{◌≡◌, true, false, refl, sym, ◌∙◌, ap, rules, arith}
 use Rattle.std.specs.Prelude.{ℤ, pos, ◌<ℤ◌}
 use Rattle.std.proofs.lemmas.Int.{ints}
-use Rattle.std.proofs.lemmas.Bool.{true≢false, false≢true}
-use Rattle.std.proofs.lemmas.Bool.Decides.{nat_tests}
+use Rattle.std.proofs.lemmas.Bool.{true≢false}
 use Rattle.std.specs.Cmp.{IsTotalOrder, alike_right}
 use Rattle.std.specs.Cmp.Rules.{comparing}
 use Rattle.std.specs.declared.cmp.Ordering.{Ordering}
 use Rattle.std.specs.declared.cmp.Ordering.TheVariants.{Less, Equal, Greater}
 use Rattle.std.specs.Ordering.{is_lt, is_gt, ordering_then, nat_cmp, int_cmp}
+use Rattle.gtfs_field.proofs.NumberFacts.{int_cmp-pos as same_cmp}
+use Rattle.gtfs_field.proofs.OrderingFacts.{int-less, less, nat-greater, nat-less}
 use Rattle.gtfs_runs.specs.declared.event.Event.{Event}
 use Rattle.gtfs_runs.specs.declared.seek.Seek.{Seek}
 use Rattle.gtfs_runs.specs.Order.{event_cmp, seek_cmp, seek_of, is_later, is_above, IsFrom}
-
-pub less : (r : Ordering) → is_lt r ≡ true → r ≡ Less
-less Less h = refl
-less Equal h = absurd (false≢true h)
-less Greater h = absurd (false≢true h)
 
 pub events_total : IsTotalOrder event_cmp
 events_total = search (comparing, rules) depth 20
 
 pub seeks_total : IsTotalOrder seek_cmp
 seeks_total = search (comparing, rules) depth 20
-
--- whole numbers that are natural compare as such
-same_cmp : (a b : ℕ) → int_cmp (pos a) (pos b) ≡ nat_cmp a b
-same_cmp a b = grind (arith, nat_tests)
 
 -- an order of which the last part is left out
 without_last : (a b c d e : Ordering) → ordering_then a (ordering_then b (ordering_then c (ordering_then d e))) ≡ Less → is_gt (ordering_then a (ordering_then b (ordering_then c d))) ≡ false
@@ -59,15 +51,6 @@ above-upward s x y rises above = ap is_lt (upto seeks_total s (seek_of x) (seek_
 
 int-greater : (a b : ℤ) → b <ℤ a → int_cmp a b ≡ Greater
 int-greater a b h = grind (arith, ints)
-
-int-less : (a b : ℤ) → a <ℤ b → int_cmp a b ≡ Less
-int-less a b h = grind (arith, ints)
-
-nat-greater : (a b : ℕ) → b < a → nat_cmp a b ≡ Greater
-nat-greater a b h = grind (arith, nat_tests)
-
-nat-less : (a b : ℕ) → a < b → nat_cmp a b ≡ Less
-nat-less a b h = grind (arith, nat_tests)
 
 -- time decides first
 pub above-from : (s : Seek) → IsFrom s.at (is_above s)

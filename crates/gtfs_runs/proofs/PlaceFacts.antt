@@ -1,15 +1,18 @@
 -- Whether a stop is at the place of another, by the numbers of both.
-use Rattle.std.proofs.Common.{◌≡◌, ◌<◌, ◌≤◌, ◌+◌, ◌++◌, add-one, take, ◌∙◌, ℕ, zero, suc, Bool, true, false, List, [], ◌∷◌, length, map, get_or, Option, Some, None, refl, sym, ap, subst, arith, inl, inr, ◌||◌, ◌&&◌}
+use Rattle.std.proofs.Common.{◌≡◌, ◌<◌, ◌+◌, ◌++◌, add-one, take, ◌∙◌, ℕ, zero, suc, Bool, true, false, List, [], ◌∷◌, length, map, get_or, Option, Some, None, refl, sym, ap, subst, arith, inl, inr, ◌||◌, ◌&&◌}
 use Rattle.std.specs.Prelude.{◌==◌, nat_lt, bytes_eq, option_map, IfSome}
 use Rattle.std.specs.List.{All, list_any, slice_get}
 use Rattle.std.specs.Ordering.{on}
 use Rattle.std.specs.declared.cmp.Ordering.TheVariants.{Less}
-use Rattle.std.proofs.lemmas.Bool.{cases_Bool, ltb-true, ltb-false, eqb-true}
+use Rattle.std.proofs.lemmas.Bool.{cases_Bool, ltb-true, ne_eqb as unequal}
 use Rattle.std.proofs.lemmas.Bool.Decides.{nat_tests}
 use Rattle.std.proofs.Math.Seq.{take-suc}
 use Rattle.std.proofs.lemmas.List.{get_or-map, map-append}
 use Rattle.std.proofs.lemmas.List.Elements.{All-head, All-tail}
 use Rattle.std.proofs.lemmas.Option.{get_or_from_slice_get, slice_get_within}
+use Rattle.std.proofs.Math.Bool.{and_assoc as and_group, or-false as or_none}
+use Rattle.gtfs_field.proofs.NumberFacts.{neither_less, number_itself as equal_itself}
+use Rattle.gtfs_field.proofs.ListFacts.{any_mapped as any-map}
 use Rattle.gtfs_table.specs.Folder.{text_cmp}
 use Rattle.gtfs_columns.specs.Values.{if_there}
 use Rattle.gtfs_columns.proofs.SiteFacts.{text_itself}
@@ -25,33 +28,15 @@ use Rattle.gtfs_feed.proofs.NumberFacts.{stop_parent}
 use Rattle.gtfs_feed.proofs.SoundOrder.{in_order}
 use Rattle.gtfs_runs.specs.Places.{is_in_place, is_plain_stop}
 
-or_none : (b : Bool) → (b || false) ≡ b
-or_none true = refl
-or_none false = refl
-
-any-map : {A B : Type 0} (p : B → Bool) (f : A → B) (xs : List A) → list_any p (map f xs) ≡ list_any (λ x. p (f x)) xs
-any-map p f [] = refl
-any-map p f (x ∷ xs) = rw (any-map p f xs) refl
-
-and_group : (a b c : Bool) → (a && b && c) ≡ (a && (b && c))
-and_group true b c = refl
-and_group false b c = refl
-
 regroup : {X : Type 0} (a b c : X → Bool) (xs : List X) → list_any (λ x. a x && b x && c x) xs ≡ list_any (λ x. a x && (b x && c x)) xs
 regroup a b c [] = refl
 regroup a b c (x ∷ xs) = λ i. and_group (a x) (b x) (c x) i || regroup a b c xs i
-
-equal_itself : (n : ℕ) → (n == n) ≡ true
-equal_itself n = grind (arith, nat_tests)
 
 not_equal : (i j : ℕ) → i < j → (i == j) ≡ false
 not_equal i j h = grind (arith, nat_tests)
 
 not_equal_turned : (i j : ℕ) → j < i → (i == j) ≡ false
 not_equal_turned i j h = grind (arith, nat_tests)
-
-neither_less : (i j : ℕ) → nat_lt i j ≡ false → nat_lt j i ≡ false → i ≡ j
-neither_less i j a b = omega (arith, ltb-false i j a, ltb-false j i b)
 
 -- rows that ascend by their ids
 module _ {X : Type 0} (id : X → List ℕ) where
@@ -120,12 +105,6 @@ module _ (p : Parts) (sound : IsSoundParts p) (d : Stop) where
 
 -- ---- the steps of the code
 
-unequal : (m n : ℕ) → (m ≡ n → ⊥) → (m == n) ≡ false
-unequal m n other = elim (cases_Bool (m == n)) [
-  | inl same ↦ absurd (other (eqb-true m n same))
-  | inr is ↦ is
-]
-
 pub itself : (x s : ℕ) (r q : Bool) → q ≡ ((x == s) || r) → x ≡ s → (x == s) ≡ q
 itself x s r q is same = let e : (x == s) ≡ true = ap (λ n. n == s) same ∙ equal_itself s in rw (is, e) refl
 
@@ -139,16 +118,6 @@ neither x s n code r q is other type never =
     let e : (code == 0) ≡ false = unequal code 0 (λ plain. never (type ∙ plain)) in
     let f : (n == 0) ≡ false = unequal n 0 never in
     rw (is, unequal x s other, e, f) refl
-
-pub some_of : {X : Type 0} (xs : List X) (k : ℕ) → k < length xs → X
-some_of [] k within = absurd (omega arith)
-some_of (x ∷ xs) k within = x
-
-pub all_taken : {X : Type 0} (n : ℕ) (xs : List X) → length xs ≤ n → take n xs ≡ xs
-all_taken zero [] past = refl
-all_taken zero (x ∷ xs) past = absurd (omega arith)
-all_taken (suc n) [] past = refl
-all_taken (suc n) (x ∷ xs) past = ap (λ ys. x ∷ ys) (all_taken n xs (omega arith))
 
 pub one_more : {X Y : Type 0} (f : X → Y) (xs : List X) (d : X) (n : ℕ) (old new : List Y) (r : Y) → n < length xs
     → old ≡ map f (take n xs) → new ≡ old ++ r ∷ [] → r ≡ f (get_or xs n d) → new ≡ map f (take (n + 1) xs)

@@ -1,5 +1,5 @@
 -- Numbers that are compared in the place of what they count.
-use Rattle.std.proofs.Common.{◌≡◌, ◌≤◌, ◌<◌, ◌+◌, ◌∙◌, ◌==◌, ℕ, zero, suc, Bool, true, false, cond, List, [], ◌∷◌, length, nat_lt, get_or, refl, sym, ap, arith}
+use Rattle.std.proofs.Common.{◌≡◌, ◌≤◌, ◌+◌, ◌∙◌, ℕ, zero, suc, Bool, true, false, cond, List, [], ◌∷◌, length, get_or, refl, sym, ap, arith}
 use Rattle.std.specs.List.{AllWithin}
 use Rattle.std.specs.List.Sorted.{IsPartitionedBy, IsSorted}
 use Rattle.std.specs.Cmp.{IsTotalOrder, tied_itself}
@@ -7,27 +7,14 @@ use Rattle.std.specs.FinMap.{IsAntisymmetric}
 use Rattle.std.specs.declared.cmp.Ordering.{Ordering}
 use Rattle.std.specs.declared.cmp.Ordering.TheVariants.{Less, Equal, Greater}
 use Rattle.std.specs.Ordering.{is_eq, is_lt, nat_cmp, ordering_reverse}
-use Rattle.std.proofs.lemmas.Bool.{lt-ltb, true≢false}
-use Rattle.std.proofs.lemmas.Bool.Decides.{nat_tests}
+use Rattle.std.proofs.lemmas.Bool.{true≢false}
 use Rattle.std.proofs.lemmas.Cmp.{nat_cmp_total}
 use Rattle.std.proofs.lemmas.List.Sorted.{ranks_by, sorted_far}
+use Rattle.gtfs_field.proofs.OrderingFacts.{less as is_less, nat-greater as greater, nat-less as less}
 use Rattle.gtfs_runs.specs.Counts.{tally}
+use Rattle.gtfs_runs.proofs.Tallies.{counted as yes_one}
 
 -- ---- numbers
-
-less : (m n : ℕ) → m < n → nat_cmp m n ≡ Less
-less m n h = let b : nat_lt m n ≡ true = lt-ltb m n h in rw b refl
-
-greater : (m n : ℕ) → n < m → nat_cmp m n ≡ Greater
-greater m n h =
-    let b : nat_lt m n ≡ false = grind (arith, nat_tests) in
-    let e : (m == n) ≡ false = grind (arith, nat_tests) in
-    rw (b, e) refl
-
-is_less : (r : Ordering) → is_lt r ≡ true → r ≡ Less
-is_less Less h = refl
-is_less Equal h = absurd (true≢false (sym h))
-is_less Greater h = absurd (true≢false (sym h))
 
 -- ---- how many elements lie below one
 
@@ -69,9 +56,6 @@ module _ {X K : Type 0} (R : K → K → Ordering) (o : IsTotalOrder R) (f : X �
       falls x y Less is far low = o.trans x y l is low
       falls x y Equal is far low = o.congr x y l is ∙ low
       falls x y Greater is far low = absurd (true≢false (sym (ap is_lt (o.antisymm y x ∙ ap ordering_reverse is)) ∙ far))
-
-yes_one : (b : Bool) → b ≡ true → ◌≡◌ {A = ℕ} (cond b 1 0) 1
-yes_one b is = ap (λ a. cond a 1 0) is
 
 no_none : (b : Bool) → b ≡ false → ◌≡◌ {A = ℕ} (cond b 1 0) 0
 no_none b is = ap (λ a. cond a 1 0) is

@@ -6,8 +6,9 @@ use Rattle.std.specs.Option.{option_or}
 use Rattle.std.specs.Cmp.{both_ways}
 use Rattle.std.specs.Cmp.Derive.{both_true}
 use Rattle.std.proofs.lemmas.Bool.{and_parts, cases_Bool, eqb-true, lt-ltb, ltb-true, ltb-false}
-use Rattle.std.proofs.lemmas.Bool.Decides.{nat_tests}
 use Rattle.std.proofs.lemmas.Option.{slice_get-get_or, slice_get_within}
+use Rattle.gtfs_field.proofs.NumberFacts.{number_itself as itself}
+use Rattle.gtfs_field.proofs.ListFacts.{some_of}
 use Rattle.gtfs_columns.specs.Values.{if_there}
 use Rattle.gtfs_rows.specs.declared.frequency.Frequency.{Frequency}
 use Rattle.gtfs_rows.specs.declared.parts.Parts.{Parts}
@@ -26,14 +27,7 @@ use Rattle.gtfs_runs.specs.Trips.{is_departure_row, is_run, passes_at}
 use Rattle.gtfs_runs.specs.declared.event.Event.{Event}
 use Rattle.gtfs_runs.proofs.ContentEvents.{event_is, is_at, no_event}
 use Rattle.gtfs_runs.proofs.Counting.{same-is, same-self, tally-map}
-use Rattle.gtfs_runs.proofs.PlaceFacts.{some_of}
 use Rattle.gtfs_runs.proofs.Tallies.{tally-and, tally-same}
-
-itself : (n : ℕ) → (n == n) ≡ true
-itself n = grind (arith, nat_tests)
-
-equal_holds : (m n : ℕ) → m ≡ n → (m == n) ≡ true
-equal_holds m n same = grind (arith, nat_tests)
 
 -- ---- a stop time of a trip
 

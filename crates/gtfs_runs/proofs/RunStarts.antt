@@ -19,19 +19,19 @@ abbrev pub starts : ℕ → Frequency → Bool
 starts r f = starts_run (frequency_of f) r
 
 -- a run of a period lies within it
-within : (f : Frequency) (r : ℕ) → starts r f ≡ true → (f.start_time ≤ r) × (r < f.end_time)
+pub within : (f : Frequency) (r : ℕ) → starts r f ≡ true → (f.start_time ≤ r) × (r < f.end_time)
 within f r holds =
     let a = and_parts (nat_le f.start_time r && nat_lt r f.end_time) ((r - f.start_time) % f.headway_secs == 0) holds in
     let b = and_parts (nat_le f.start_time r) (nat_lt r f.end_time) a.0 in
     (leb-true f.start_time r b.0, ltb-true r f.end_time b.1)
 
-later_fails : (f : Frequency) (r : ℕ) → r < f.start_time → starts r f ≡ false
+pub later_fails : (f : Frequency) (r : ℕ) → r < f.start_time → starts r f ≡ false
 later_fails f r before = elim (cases_Bool (starts r f)) [
   | inl is ↦ absurd (omega (arith, (within f r is).0))
   | inr isnt ↦ isnt
 ]
 
-one_period : (fs : List Frequency) (r : ℕ) → ArePeriods fs → tally (starts r) fs ≡ cond (list_any (starts r) fs) 1 0
+pub one_period : (fs : List Frequency) (r : ℕ) → ArePeriods fs → tally (starts r) fs ≡ cond (list_any (starts r) fs) 1 0
 one_period [] r are = refl
 one_period (f ∷ fs) r are = elim (cases_Bool (starts r f)) [
   | inl here ↦

@@ -4,16 +4,14 @@ use Rattle.std.specs.Prelude.{ℤ, pos, ◌+ℤ◌, ◌<ℤ◌, ◌≤ℤ◌}
 use Rattle.std.specs.List.{range_with_len}
 use Rattle.std.proofs.lemmas.Int.{ints}
 use Rattle.std.specs.declared.cmp.Ordering.TheVariants.{Less}
-use Rattle.std.specs.Ordering.{nat_cmp}
 use Rattle.std.proofs.lemmas.Bool.Decides.{nat_tests}
+use Rattle.std.proofs.lemmas.List.FromFn.{length-map-range_with_len as length-range}
+use Rattle.gtfs_field.proofs.OrderingFacts.{nat-less as less-at}
 use Rattle.gtfs_rows.specs.Order.{Ascends}
 use Rattle.gtfs_runs.specs.declared.event.Event.{Event}
 use Rattle.gtfs_runs.specs.Order.{event_cmp, IsFrom, first_of_two}
 use Rattle.gtfs_runs.specs.Periods.{run_event, run_events}
-use Rattle.gtfs_runs.proofs.Finding.{get_or-range_0, length-range}
-
-less-at : (a b : ℕ) → a < b → nat_cmp a b ≡ Less
-less-at a b h = grind (arith, nat_tests)
+use Rattle.gtfs_runs.proofs.Finding.{get_or-range_0}
 
 step-up : (first : ℕ) (i j h : ℕ) → i < j → 0 < h → first + i * h < first + j * h
 step-up first i j h above moves = grind arith

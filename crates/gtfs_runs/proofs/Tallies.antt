@@ -126,7 +126,7 @@ pub tally-none : {X : Type 0} (q : X → Bool) (xs : List X) → All (λ x. q x 
 tally-none q [] none = refl
 tally-none q (x ∷ xs) none = rw (All-head (λ y. q y ≡ false) x xs none, tally-none q xs (All-tail (λ y. q y ≡ false) x xs none)) refl
 
-counted : (b : Bool) → b ≡ true → ◌≡◌ {A = ℕ} (cond b 1 0) 1
+pub counted : (b : Bool) → b ≡ true → ◌≡◌ {A = ℕ} (cond b 1 0) 1
 counted b is = ap (λ a. cond a 1 0) is
 
 not_counted : (b : Bool) (n m : ℕ) → b ≡ false → cond b 1 0 + n ≡ m → n ≡ m

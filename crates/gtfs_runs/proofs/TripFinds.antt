@@ -4,10 +4,10 @@ use Rattle.std.specs.Prelude.{is_some, option_map, unwrap_or}
 use Rattle.std.specs.List.{All, enumerate_from, flat_map, list_any, slice_get}
 use Rattle.std.specs.Cmp.{both_ways}
 use Rattle.std.specs.Cmp.Derive.{both_true}
-use Rattle.std.proofs.lemmas.Bool.{and_parts, cases_Bool, eqb-true}
+use Rattle.std.proofs.lemmas.Bool.{and_parts, cases_Bool, eq-eqb as equal_holds, eqb-true}
 use Rattle.std.proofs.lemmas.Bool.Decides.{nat_tests}
 use Rattle.std.proofs.lemmas.Grind.{flat_map-append}
-use Rattle.std.proofs.lemmas.List.{append-nil, length-append, length-map, map-append}
+use Rattle.std.proofs.lemmas.List.{append-nil, length-append, length-map, map-append, take_more as taken}
 use Rattle.std.proofs.lemmas.List.Elements.{All-append, All-map, filter-append}
 use Rattle.std.proofs.lemmas.Option.{get_or_from_slice_get, slice_get_within}
 use Rattle.std.proofs.lemmas.Simd.{map-map}
@@ -39,7 +39,7 @@ use Rattle.gtfs_runs.proofs.ContentEvents.{event_is, is_at}
 use Rattle.gtfs_runs.proofs.ContentRows.{departure_rows_are, own_run, period_run}
 use Rattle.gtfs_runs.proofs.Counting.{same-is, same-self, tally-map}
 use Rattle.gtfs_runs.proofs.CourseOrder.{stopping-append}
-use Rattle.gtfs_runs.proofs.LaneTallies.{begun, ended, plus-zero, taken, tally-guard, tally-nothing}
+use Rattle.gtfs_runs.proofs.LaneTallies.{begun, ended, plus-zero, tally-guard, tally-nothing}
 use Rattle.gtfs_runs.proofs.Tallies.{one_more_below, tally-append}
 use Rattle.gtfs_runs.proofs.TripTimes.{starts_before}
 
@@ -84,9 +84,6 @@ one_at q t (suc j) a (x ∷ xs) one =
 there-same : {X : Type 0} (o : Option X) (f g : X → Bool) → ((x : X) → o ≡ Some x → f x ≡ g x) → if_there o f ≡ if_there o g
 there-same None f g same = refl
 there-same (Some x) f g same = same x refl
-
-equal_holds : (m n : ℕ) → m ≡ n → (m == n) ≡ true
-equal_holds m n same = grind (arith, nat_tests)
 
 not_same : (e y : Event) → (e ≡ y → ⊥) → is_same e y ≡ false
 not_same e y other = elim (cases_Bool (is_same e y)) [

@@ -6,6 +6,7 @@ use Rattle.std.specs.Option.{option_or}
 use Rattle.std.proofs.lemmas.Bool.{eqb-true, false≢true}
 use Rattle.std.proofs.lemmas.List.{map-append}
 use Rattle.std.proofs.lemmas.Option.{slice_get_within, slice_get-get_or}
+use Rattle.gtfs_field.proofs.ListFacts.{some_of}
 use Rattle.gtfs_table.proofs.PartFacts.{length-parts}
 use Rattle.gtfs_rows.specs.declared.frequency.Frequency.{Frequency}
 use Rattle.gtfs_rows.specs.declared.parts.Parts.{Parts}
@@ -16,11 +17,10 @@ use Rattle.gtfs_feed.proofs.TripFacts.{periods}
 use Rattle.gtfs_runs.specs.steps.Finds.{HasRuns}
 use Rattle.gtfs_runs.specs.steps.Passings.{first_left}
 use Rattle.gtfs_runs.proofs.Bounds.{periods_within, rows_within}
-use Rattle.gtfs_runs.proofs.PlaceFacts.{some_of}
 use Rattle.gtfs_runs.proofs.RowsSoFar.{row_passes, row_fails}
 
 -- of a time that is there: it lies at or after one at or before which the stop time is reached
-chain : (first arrival departure : Option ℕ) → is_some first ≡ true → IfSome first (λ a. IfSome (option_or arrival departure) (λ b. a ≤ b))
+pub chain : (first arrival departure : Option ℕ) → is_some first ≡ true → IfSome first (λ a. IfSome (option_or arrival departure) (λ b. a ≤ b))
     → IfSome arrival (λ a. IfSome departure (λ b. a ≤ b)) → is_some (option_or departure arrival) ≡ true → unwrap_or first 0 ≤ unwrap_or (option_or departure arrival) 0
 chain None arrival departure timed on stay has = absurd (false≢true timed)
 chain (Some a) None None timed on stay has = absurd (false≢true has)
@@ -36,7 +36,7 @@ starts_before p (r ∷ rs) are (suc k) d within has =
     let row = get_or rs k d in
     chain (left_at r) row.arrival_time row.departure_time (are.first_timed d (omega arith)) (are.run_on 0 (suc k) d (omega arith) within) (are.stay (suc k) d within) has
 
-at_most : (o : Option ℕ) → IfSome o (λ a. a ≤ 3_599_999) → unwrap_or o 0 ≤ 3_599_999
+pub at_most : (o : Option ℕ) → IfSome o (λ a. a ≤ 3_599_999) → unwrap_or o 0 ≤ 3_599_999
 at_most None h = omega arith
 at_most (Some a) h = h
 

@@ -9,11 +9,12 @@ use Rattle.std.specs.declared.cmp.Ordering.{Ordering}
 use Rattle.std.specs.declared.cmp.Ordering.TheVariants.{Less, Equal, Greater}
 use Rattle.std.specs.Ordering.{eq_by_cmp, is_eq, is_lt, ordering_reverse}
 use Rattle.std.proofs.lemmas.Bool.{cases_Bool, ltb-false, true≢false}
-use Rattle.std.proofs.lemmas.Bool.Decides.{nat_tests}
-use Rattle.std.proofs.lemmas.List.{length-append, length-map}
+use Rattle.std.proofs.lemmas.List.{length-append, length-map, take_all as all_taken}
 use Rattle.std.proofs.lemmas.List.Elements.{All-append, All-map}
 use Rattle.std.proofs.lemmas.List.Sorted.{All-permutation, IsPermutation-map, ranks_by, sorted_far}
 use Rattle.std.proofs.lemmas.Simd.{map-map}
+use Rattle.gtfs_field.proofs.NumberFacts.{number_itself as itself}
+use Rattle.gtfs_field.proofs.OrderingFacts.{tied as both_equal}
 use Rattle.gtfs_rows.specs.Content.{Content}
 use Rattle.gtfs_rows.specs.Order.{Ascends}
 use Rattle.gtfs_rows.specs.declared.frequency.Frequency.{Frequency}
@@ -34,9 +35,8 @@ use Rattle.gtfs_runs.specs.steps.Finds.{AreFound, times_found, times_told}
 use Rattle.gtfs_runs.proofs.ContentEvents.{no_event}
 use Rattle.gtfs_runs.proofs.Counting.{same-self}
 use Rattle.gtfs_runs.proofs.CourseCounts.{as_many, set_permuted}
-use Rattle.gtfs_runs.proofs.CourseOrder.{both_equal, stoppings_total}
+use Rattle.gtfs_runs.proofs.CourseOrder.{stoppings_total}
 use Rattle.gtfs_runs.proofs.LaneTallies.{told-append}
-use Rattle.gtfs_runs.proofs.PlaceFacts.{all_taken}
 use Rattle.gtfs_runs.proofs.Tallies.{tally-permutation, two_at}
 
 -- ---- events of a service, by a test
@@ -58,9 +58,6 @@ upward : (r : Ordering) → is_lt r ≡ false → (r ≡ Equal → ⊥) → orde
 upward Less not_less other = absurd (true≢false not_less)
 upward Equal not_less other = absurd (other refl)
 upward Greater not_less other = refl
-
-itself : (n : ℕ) → (n == n) ≡ true
-itself n = grind (arith, nat_tests)
 
 pub trips_within : (p : Parts) (ts : List Trip) (rs : List (List StopRow)) (fs : List (List Frequency)) → length (trips_of p ts rs fs) ≤ length ts
 trips_within p [] rs fs = omega arith

@@ -1,12 +1,9 @@
 -- The lists of stop times while they are made: none, one more, and all.
 use Rattle.std.proofs.Common.{◌≡◌, ◌<◌, ◌≤◌, ◌+◌, ◌-◌, ◌++◌, ◌∷◌, ◌∙◌, [], ℕ, suc, List, length, map, take, get_or, true, false, Option, refl, sym, ap, subst, arith, inl, inr}
-use Rattle.std.specs.Prelude.{◌&&◌, ◌||◌, ◌==◌, Bool, nat_lt, replicate}
+use Rattle.std.specs.Prelude.{◌&&◌, ◌||◌, replicate}
 use Rattle.std.specs.List.{All, list_all, list_any}
-use Rattle.std.specs.Ordering.{nat_cmp, ordering_then}
-use Rattle.std.specs.declared.cmp.Ordering.{Ordering}
-use Rattle.std.specs.declared.cmp.Ordering.TheVariants.{Less}
-use Rattle.std.proofs.lemmas.Bool.{cases_lt}
-use Rattle.std.proofs.lemmas.Bool.Decides.{nat_tests}
+use Rattle.std.specs.Ordering.{nat_cmp}
+use Rattle.std.proofs.lemmas.Bool.{and_from as and_both, cases_lt, or_left, or_right}
 use Rattle.std.proofs.lemmas.Map.Keys.{Less-from_sorted}
 use Rattle.std.proofs.lemmas.List.{get_or-take, get_or_default, length-append, length-map, length-replicate, length-take-le, length_push, map_push, take_all, take_more}
 use Rattle.std.proofs.lemmas.List.Elements.{All-append, All-cons, All-head, All-nil}
@@ -14,13 +11,13 @@ use Rattle.std.proofs.lemmas.List.Folds.{list_all-append}
 use Rattle.std.proofs.lemmas.List.Folds.{list_any-append}
 use Rattle.csv.specs.Records.{Rising}
 use Rattle.csv.proofs.RecordFacts.{rising-more}
+use Rattle.gtfs_field.proofs.NumberFacts.{number_itself}
+use Rattle.gtfs_field.proofs.OrderingFacts.{first_at_most as lower-trip}
 use Rattle.gtfs_table.specs.Parts.{parts}
 use Rattle.gtfs_table.specs.Tables.{Dataset}
 use Rattle.gtfs_table.specs.declared.file.File.TheVariants as file
 use Rattle.gtfs_columns.specs.Problems.{Passes}
 use Rattle.gtfs_columns.specs.Rows.{word_in}
-use Rattle.gtfs_columns.proofs.BoolFacts.{and_both}
-use Rattle.gtfs_columns.proofs.SiteFacts.{number_itself}
 use Rattle.gtfs_trip_rules.specs.declared.trips.row.StopTime.{StopTime}
 use Rattle.gtfs_rules.specs.StopTimes.{AreStopTimes, SaysStopTime, stop_time_cmp}
 use Rattle.gtfs_rows.specs.Reading.{content_of, stop_row_in}
@@ -57,13 +54,6 @@ gathered-none d g empty = record {
   numbers = ap (list_all (has_numbers_below (length (content_of d).stops) (length g.headsigns))) empty.rows;
   used = λ k h. let many = ap length empty.headsigns in absurd (omega (arith, h, many));
 }
-
-or_left : (a b : Bool) → a ≡ true → (a || b) ≡ true
-or_left a b here = ap (λ x. x || b) here
-
-or_right : (a b : Bool) → b ≡ true → (a || b) ≡ true
-or_right true b there = refl
-or_right false b there = there
 
 -- ---- starts up to a number of trips
 
@@ -165,15 +155,6 @@ module _ (d : Dataset) (passes : Passes d) (ss : List StopTime) (s : StopTime) (
       at-end (r ∷ ss) s n all = at-end ss s n (λ k e h. all (suc k) e (omega (arith, h)))
 
 -- ---- the next one
-
-lower-trip : (a b : ℕ) (r : Ordering) → ordering_then (nat_cmp a b) r ≡ Less → a ≤ b
-lower-trip a b r less = elim (cases_lt b a) [
-  | inl above ↦
-      let past : nat_lt a b ≡ false = grind (arith, nat_tests, above) in
-      let apart : (a == b) ≡ false = grind (arith, nat_tests, above) in
-      cc (rw (past, apart) at less)
-  | inr low ↦ low
-]
 
 module _ (d : Dataset) (passes : Passes d) (all : List StopTime) (are : AreStopTimes d all) (i : ℕ) (e : StopTime) (within : i < length all) where
   before : All (λ r. r.trip ≤ (get_or all i e).trip) (take i all)

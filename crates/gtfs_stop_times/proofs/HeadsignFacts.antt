@@ -1,8 +1,8 @@
 -- A list of headsigns, to which one is added where it is new.
 use Rattle.std.proofs.Common.{◌≡◌, ◌∙◌, ◌++◌, ◌∷◌, [], ℕ, zero, suc, List, length, map, Bool, false, bytes_eq, Some, refl, sym, ap, arith}
 use Rattle.std.specs.Prelude.{if◌then◌else◌}
-use Rattle.std.specs.List.{AllPairs, IsDistinct, list_any, position_or_len, position, slice_get}
-use Rattle.std.proofs.lemmas.List.{length-map, length_push, map-append}
+use Rattle.std.specs.List.{AllPairs, IsDistinct, list_any, position, slice_get}
+use Rattle.std.proofs.lemmas.List.{length_push, map-append}
 use Rattle.std.proofs.lemmas.List.Elements.{All-append, All-cons, All-from_recursion, All-nil}
 use Rattle.std.proofs.lemmas.List.Kept.{AllPairs-cons}
 use Rattle.std.proofs.lemmas.List.Quantifiers.{position-Some}
@@ -11,13 +11,6 @@ use Rattle.gtfs_columns.specs.Values.{plain}
 use Rattle.gtfs_columns.proofs.SiteFacts.{text_is}
 use Rattle.gtfs_rows.proofs.SameElements.{pairs-map}
 use Rattle.gtfs_stop_times.specs.Headsigns.{AddsOnly, AreDistinct, ArePlain, KeepsHeadsigns}
-
-place-map : {A B : Type 0} (p : B → Bool) (f : A → B) (xs : List A) → position_or_len p (map f xs) ≡ position_or_len (λ x. p (f x)) xs
-place-map p f [] = refl
-place-map p f (x ∷ xs) = rw (place-map p f xs) refl
-
-pub position-map : {A B : Type 0} (p : B → Bool) (f : A → B) (xs : List A) → position p (map f xs) ≡ position (λ x. p (f x)) xs
-position-map p f xs = rw (place-map p f xs, length-map) refl
 
 -- the text of a place that was found
 pub found-at : (t : List ℕ) (ts : List (List ℕ)) (k : ℕ) → position (bytes_eq t) ts ≡ Some k → slice_get ts k ≡ Some t

@@ -1,6 +1,5 @@
 -- Rows by key, made of the numbers of rows: what is made of the numbers in order.
-use Rattle.std.proofs.Common.{◌≡◌, ◌∷◌, [], List, map, Bool, true, false, T, refl, sym, ap, ◌∙◌, subst, arith}
-use Rattle.std.specs.Prelude.{◌&&◌}
+use Rattle.std.proofs.Common.{◌≡◌, ◌∷◌, [], List, map, true, T, refl, sym, ap, ◌∙◌, subst, arith}
 use Rattle.std.specs.Cmp.{IsTotalOrder}
 use Rattle.std.specs.FinMap as table
 use Rattle.std.specs.FinMap.Entries.{below_all, by_order, put}
@@ -8,13 +7,12 @@ use Rattle.std.specs.List.{All, AllPairs}
 use Rattle.std.specs.Ordering.{is_lt}
 use Rattle.std.specs.declared.cmp.Ordering.{Ordering}
 use Rattle.std.specs.declared.cmp.Ordering.TheVariants.{Less, Equal, Greater}
-use Rattle.std.proofs.lemmas.List.{nil_from_length}
 use Rattle.std.proofs.lemmas.List.Elements.{All-cons, All-head, All-nil, All-tail}
 use Rattle.std.proofs.lemmas.List.Kept.{AllPairs-cons}
+use Rattle.gtfs_field.proofs.OrderingFacts.{less_so as less-from}
+use Rattle.gtfs_field.proofs.TestFacts.{first_so as first_true, second_so as second_true}
 use Rattle.gtfs_rows.specs.Order.{by_key}
-
-no_entries : {K Z : Type 0} (R : K → K → Ordering) → table.entries (table.empty {X = Z} {R = R}) ≡ []
-no_entries {Z = Z} R = nil_from_length _ (sym (table.len-entries (table.empty {X = Z} {R = R})) ∙ table.len-empty R Z)
+use Rattle.gtfs_rows.proofs.KeyedRows.{no_entries}
 
 -- ---- a function of the values
 
@@ -100,19 +98,6 @@ module _ {X : Type 0} {K : Type 0} (R : K → K → Ordering) (o : IsTotalOrder 
     values_are = rows_of (table.entries made) (entries_keyed xs all)
 
 -- ---- keys ascend
-
-first_true : (a b : Bool) → T (a && b) → T a
-first_true true b t = tt
-first_true false b t = t
-
-second_true : (a b : Bool) → T (a && b) → T b
-second_true true b t = t
-second_true false b t = absurd t
-
-less-from : (r : Ordering) → T (is_lt r) → r ≡ Less
-less-from Less t = refl
-less-from Equal t = absurd t
-less-from Greater t = absurd t
 
 module _ {K X : Type 0} (R : K → K → Ordering) where
   below_each : (k : K) (es : List (K × X)) → T (below_all R k es) → All (λ q. R k q ≡ Less) (map (λ e. e.0) es)

@@ -4,7 +4,6 @@ pub mod Gathers
 pub mod HeadsignFacts
 pub mod Keyed
 pub mod OfParts
-pub mod PlainTexts
 pub mod RowSays
 pub mod Starts
 pub mod TimeBound

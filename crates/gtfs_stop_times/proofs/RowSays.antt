@@ -2,8 +2,7 @@
 use Rattle.std.proofs.Common.{◌≡◌, ◌<◌, ◌∙◌, ◌∷◌, [], ℕ, List, length, map, get_or, true, codes, Option, Some, None, refl, sym, ap, arith}
 use Rattle.std.specs.Prelude.{nat_lt, option_map, ℤ, pos, unsigned_abs, unwrap_or}
 use Rattle.std.specs.List.{list_all, slice_get}
-use Rattle.std.proofs.lemmas.Bool.{and_parts, ltb-true}
-use Rattle.std.proofs.lemmas.Bool.Decides.{nat_tests}
+use Rattle.std.proofs.lemmas.Bool.{and_from as and_both, and_parts, lt-ltb as below-true, ltb-true}
 use Rattle.std.proofs.lemmas.List.{length-map}
 use Rattle.std.proofs.lemmas.Option.{get_or_from_slice_get, slice_get-get_or, slice_get_within, unwrap_or-slice_get}
 use Rattle.gtfs_table.specs.Tables.{Dataset}
@@ -11,7 +10,6 @@ use Rattle.gtfs_table.specs.declared.file.File.TheVariants as file
 use Rattle.gtfs_columns.specs.IdNumbers.{ids_by_bytes}
 use Rattle.gtfs_columns.specs.Problems.{Passes}
 use Rattle.gtfs_columns.specs.Rows.{amount_in, text_in, word_in}
-use Rattle.gtfs_columns.proofs.BoolFacts.{and_both}
 use Rattle.gtfs_trip_rules.specs.KeptChoices.{timepoint_number}
 use Rattle.gtfs_trip_rules.specs.KeptTimes.{arrival_time, departure_time}
 use Rattle.gtfs_trip_rules.specs.declared.trips.row.StopTime.{StopTime}
@@ -36,9 +34,6 @@ headsign-is : (ts : List (List ℕ)) (h : Option ℕ) (w : Option (List ℕ)) �
 headsign-is ts None w names = sym names
 headsign-is ts (Some k) None names = absurd names
 headsign-is ts (Some k) (Some t) names = ap Some (get_or_from_slice_get ts k t [] names)
-
-below-true : (a b : ℕ) → a < b → nat_lt a b ≡ true
-below-true a b h = grind (arith, nat_tests)
 
 headsign-within : (ts : List (List ℕ)) (h : Option ℕ) (w : Option (List ℕ)) → NamesHeadsign ts h w → is_within (length ts) h ≡ true
 headsign-within ts None w names = refl

@@ -1,5 +1,5 @@
 -- The stop times of a dataset that passes are the rows of its trips.
-use Rattle.std.proofs.Common.{◌≡◌, ◌<◌, ◌∙◌, ◌∷◌, [], ℕ, List, length, map, get_or, Bool, true, codes, Option, Some, None, refl, sym, ap, subst, arith}
+use Rattle.std.proofs.Common.{◌≡◌, ◌<◌, ◌∙◌, [], ℕ, List, length, map, get_or, Bool, true, codes, Some, sym, ap, subst, arith}
 use Rattle.std.specs.Prelude.{◌==◌, option_map, pos, unsigned_abs, unwrap_or}
 use Rattle.std.specs.Cmp.{tied_itself}
 use Rattle.std.specs.FinMap.{nat_cmp-IsAntisymmetric}
@@ -15,6 +15,8 @@ use Rattle.std.proofs.lemmas.List.Kept.{AllPairs-filter}
 use Rattle.std.proofs.lemmas.List.Sorted.{Contains-permutation, IsPermutation-sym}
 use Rattle.std.proofs.lemmas.Map.Keys.{Less-from_sorted}
 use Rattle.std.proofs.lemmas.Option.{slice_get-get_or, slice_get-map, slice_get_within}
+use Rattle.std.proofs.lemmas.Bool.{eqb-true as same_number}
+use Rattle.std.proofs.lemmas.Simd.{map-map as map-twice}
 use Rattle.gtfs_table.specs.Rows.{rows}
 use Rattle.gtfs_table.specs.Tables.{Dataset}
 use Rattle.gtfs_table.specs.declared.file.File.TheVariants as file
@@ -22,7 +24,8 @@ use Rattle.gtfs_columns.specs.IdNumbers.{ids_by_bytes}
 use Rattle.gtfs_columns.specs.Problems.{Passes}
 use Rattle.gtfs_columns.specs.Rows.{text_in, word_in}
 use Rattle.gtfs_columns.specs.Values.{is_word}
-use Rattle.gtfs_columns.proofs.SiteFacts.{same_number, text_is, text_itself}
+use Rattle.gtfs_columns.proofs.SiteFacts.{text_itself}
+use Rattle.gtfs_columns.proofs.ValueFacts.{is_word_some as word-is}
 use Rattle.gtfs_trip_rules.specs.declared.trips.row.StopTime.{StopTime}
 use Rattle.gtfs_rules.specs.StopTimes.{AreStopTimes, SaysStopTime, stop_time_cmp}
 use Rattle.gtfs_rules.proofs.PassedRows.{trip_is}
@@ -34,14 +37,6 @@ use Rattle.gtfs_rows.proofs.SameElements.{contains-filter, contains-from_filter,
 use Rattle.gtfs_stop_times.specs.Gathering.{by_trip, of_trip}
 use Rattle.gtfs_stop_times.proofs.ContentIds.{ids_are, numbered_rows, one_number, rows_are, trip_id_at, trips_are}
 use Rattle.gtfs_stop_times.proofs.Starts.{by_trip-at, length-by_trip}
-
-pub map-twice : {X Y Z : Type 0} (f : Y → Z) (g : X → Y) (xs : List X) → map f (map g xs) ≡ map (λ x. f (g x)) xs
-map-twice f g [] = refl
-map-twice f g (x ∷ xs) = ap (λ ys. f (g x) ∷ ys) (map-twice f g xs)
-
-word-is : (o : Option (List ℕ)) (t : List ℕ) → is_word o t ≡ true → o ≡ Some t
-word-is None t e = cc e
-word-is (Some s) t e = ap Some (sym (text_is t s e))
 
 -- of two stop times of a trip the first has the lower sequence
 lower : (a b : ℕ) (r : Ordering) → a ≡ b → ordering_then (nat_cmp a b) r ≡ Less → r ≡ Less

@@ -2,14 +2,19 @@
 use Rattle.std.proofs.Common.{◌≡◌, ◌==◌, ◌<◌, ◌+◌, ◌-◌, ◌∷◌, ◌++◌, ◌∙◌, [], ℕ, List, length, take, drop, get_or, reverse, refl, sym, ap, subst, arith, true, false, inl, inr}
 use Rattle.std.specs.Str.{IsUtf8}
 use Rattle.std.proofs.Math.Seq.{take-append_seam}
-use Rattle.std.proofs.lemmas.Bool.{cases_Bool, ne_eqb}
+use Rattle.std.proofs.lemmas.Bool.{cases_Bool, eqb-true, ne_eqb}
 use Rattle.std.proofs.lemmas.Bool.Decides.{nat_tests}
-use Rattle.std.proofs.lemmas.List.{length-reverse, reverse-append, reverse-reverse, take_more, take_all, length_push, get_or_at}
+use Rattle.std.proofs.lemmas.List.{nil_from_length, length-reverse, reverse-append, reverse-reverse, take_more, take_all, length_push, get_or_at}
 use Rattle.std.proofs.lemmas.Str.{IsUtf8-past_char, encode_ascii, IsUtf8-take, IsCharBoundary-before_ascii}
 use Rattle.gtfs_table.specs.Blanks.{is_blank, without_first_blanks, cut}
+use Rattle.gtfs_table.specs.Rows.{is_empty}
 
 pub blank-ascii : (b : ℕ) → is_blank b ≡ true → b < 128
 blank-ascii b e = grind (arith, nat_tests)
+
+-- a text that is empty
+pub no_text : (t : List ℕ) → is_empty t ≡ true → t ≡ []
+no_text t empty = nil_from_length t (eqb-true (length t) 0 empty)
 
 -- what starts with a blank, and what does not
 pub first-blank : (b : ℕ) (bs : List ℕ) → is_blank b ≡ true → without_first_blanks (b ∷ bs) ≡ without_first_blanks bs

@@ -1,5 +1,5 @@
 -- A tree under texts, seen as the map from the texts' bytes.
-use Rattle.std.proofs.Common.{◌≡◌, ℕ, Ordering, Less, Equal, Greater, Bool, true, false, ◌&&◌, cond, T, List, [], ◌∷◌, map, refl, sym, ap, subst, ◌∙◌, Some, None, unwrap_or, String, string_bytes, Bor, IsSome}
+use Rattle.std.proofs.Common.{◌≡◌, ℕ, Less, Bool, true, false, cond, T, List, [], ◌∷◌, map, refl, sym, ap, subst, ◌∙◌, Some, None, unwrap_or, String, string_bytes, Bor, IsSome}
 use Rattle.std.specs.FinMap as fin
 use Rattle.std.specs.FinMap.Entries.{below_all}
 use Rattle.std.specs.BTreeMap as tree
@@ -13,6 +13,8 @@ use Rattle.std.specs.List.Sorted.{IsStrictlySortedBy}
 use Rattle.std.specs.List.{AllByRecursion}
 use Rattle.std.proofs.lemmas.Cmp.{eq_by_cmp_equiv}
 use Rattle.std.proofs.lemmas.Map.Text.{is_eq-slice_cmp, btree_map_updates_text}
+use Rattle.gtfs_field.proofs.OrderingFacts.{equal}
+use Rattle.gtfs_field.proofs.TestFacts.{both_so}
 use Rattle.gtfs_table.specs.Folder.{Files, Store, text_cmp, put, put_folder}
 use Rattle.gtfs_table.specs.ByText.{by_text}
 
@@ -47,19 +49,14 @@ by_text-inserted k x m n u = by_text-updated (string_bytes k) x m n u
 
 -- ---- the keys in order
 
-both : (a b : Bool) → T a → T b → T (a && b)
-both true true p q = tt
-both true false p q = q
-both false b p q = p
-
 below-bytes_of : {X Y : Type 0} (k : String Y) (es : List (String Y × X)) → AllByRecursion (λ y. string_cmp k y ≡ Less) (keys_of es) → T (below_all text_cmp (string_bytes k) (map bytes_of es))
 below-bytes_of k [] p = tt
-below-bytes_of k (e ∷ es) p = both (is_lt (string_cmp k e.0)) _ (subst (λ r. T (is_lt r)) (sym p.0) tt) (below-bytes_of k es p.1)
+below-bytes_of k (e ∷ es) p = both_so (is_lt (string_cmp k e.0)) _ (subst (λ r. T (is_lt r)) (sym p.0) tt) (below-bytes_of k es p.1)
 
 sorted-bytes_of : {X Y : Type 0} (es : List (String Y × X)) → IsStrictlySortedBy string_cmp (keys_of es) → T (fin.is_sorted text_cmp (map bytes_of es))
 unfolding IsStrictlySortedBy
 sorted-bytes_of [] p = tt
-sorted-bytes_of (e ∷ es) p = both (below_all text_cmp (string_bytes e.0) (map bytes_of es)) _ (below-bytes_of e.0 es p.0) (sorted-bytes_of es p.1)
+sorted-bytes_of (e ∷ es) p = both_so (below_all text_cmp (string_bytes e.0) (map bytes_of es)) _ (below-bytes_of e.0 es p.0) (sorted-bytes_of es p.1)
 
 -- the map of sorted entries has just these
 entries-from_entries : {X : Type 0} (es : List (List ℕ × X)) → T (fin.is_sorted text_cmp es) → fin.entries (fin.from_entries {R = text_cmp} es) ≡ es
@@ -82,13 +79,8 @@ map-deref (k ∷ ks) = ap (λ ts. string_bytes k.now ∷ ts) (map-deref ks)
 
 -- ---- a store with one more file
 
-pub equal_of : (r : Ordering) → is_eq r ≡ true → r ≡ Equal
-equal_of Less p = cc
-equal_of Equal p = refl
-equal_of Greater p = cc
-
 same-or : {X : Type 0} (m : fin.FinMap text_cmp X) (k q : List ℕ) (x : X) → fin.get m k ≡ Some x → (b : Bool) → eq_by_cmp text_cmp q k ≡ b → cond b (Some x) (fin.get m q) ≡ fin.get m q
-same-or m k q x h true e = sym h ∙ fin.get_tied texts_total m q k (equal_of (text_cmp q k) e)
+same-or m k q x h true e = sym h ∙ fin.get_tied texts_total m q k (equal (text_cmp q k) e)
 same-or m k q x h false e = refl
 
 -- to insert what a map has is to change nothing

@@ -65,7 +65,7 @@ sets-all (Some store) dir names old new h e sets =
     held-in (finmap.get store dir) files new there named
 
 -- a fault of one call, as one of the whole
-rises-from : (n m k : ℕ) → n ≤ m → Rises m k → Rises n k
+pub rises-from : (n m k : ℕ) → n ≤ m → Rises m k → Rises n k
 rises-from n m k h r = omega arith
 
 pub refused-read : (fault : FolderFault) (limit : ℕ) (told : Option Store) (dir : List ℕ) (x : File) (n m k : ℕ) → n ≤ m → RefusesRead fault limit told dir (file_name x) m k

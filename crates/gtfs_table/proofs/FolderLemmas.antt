@@ -3,14 +3,15 @@ use Rattle.std.proofs.Common.{◌≡◌, ◌≢◌, ℕ, Bool, true, false, cond
 use Rattle.std.specs.FinMap as fin
 use Rattle.std.specs.Ordering.{eq_by_cmp}
 use Rattle.std.proofs.lemmas.Cmp.{eq_by_cmp_equiv}
+use Rattle.gtfs_field.proofs.OrderingFacts.{equal}
 use Rattle.gtfs_table.specs.Folder.{Store, text_cmp, files_of, file_in, put, put_folder}
-use Rattle.gtfs_table.proofs.ByTextLemmas.{texts_total, texts_exact, equal_of}
+use Rattle.gtfs_table.proofs.ByTextLemmas.{texts_total, texts_exact}
 
 same : (text : List ℕ) → eq_by_cmp text_cmp text text ≡ true
 same text = (eq_by_cmp_equiv texts_total).refl text
 
 decided : (a b : List ℕ) → a ≢ b → (t : Bool) → eq_by_cmp text_cmp a b ≡ t → eq_by_cmp text_cmp a b ≡ false
-decided a b n true e = absurd (n (texts_exact a b (equal_of (text_cmp a b) e)))
+decided a b n true e = absurd (n (texts_exact a b (equal (text_cmp a b) e)))
 decided a b n false e = e
 
 other : (a b : List ℕ) → a ≢ b → eq_by_cmp text_cmp a b ≡ false

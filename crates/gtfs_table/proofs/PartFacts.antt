@@ -1,11 +1,13 @@
 -- A list cut at rising offsets.
-use Rattle.std.proofs.Common.{◌≡◌, ◌<◌, ◌≤◌, ◌+◌, ◌-◌, ◌∷◌, ◌++◌, ◌∙◌, [], ℕ, zero, suc, List, length, take, drop, get_or, refl, sym, ap, arith, length-append}
+use Rattle.std.proofs.Common.{◌≡◌, ◌<◌, ◌≤◌, ◌+◌, ◌-◌, ◌∷◌, ◌++◌, ◌∙◌, [], ℕ, zero, suc, Bool, true, List, length, take, drop, get_or, Some, refl, sym, ap, subst, arith, length-append}
 use Rattle.std.proofs.Math.Seq.{drop-append_seam, take-length}
 use Rattle.std.proofs.lemmas.List.{take-append-le, drop-append-le, length-drop, length_push, take_all}
 use Rattle.std.proofs.lemmas.List.Elements.{All-nil, All-cons, All-head, All-tail}
-use Rattle.std.specs.List.{All}
+use Rattle.std.proofs.lemmas.Option.{get_or_from_slice_get, slice_get_within}
+use Rattle.std.specs.List.{All, list_all, slice_get}
 use Rattle.csv.specs.Records.{Rising}
 use Rattle.csv.proofs.RecordFacts.{rising-first}
+use Rattle.gtfs_field.proofs.ListFacts.{all_dropped, all_taken}
 use Rattle.gtfs_table.specs.Parts.{parts, add_to_last}
 
 pub length-parts : {X : Type 0} (starts : List ℕ) (xs : List X) → length (parts starts xs) ≡ length starts
@@ -20,6 +22,14 @@ unfolding parts
 part-at [] xs i h = absurd (omega arith)
 part-at (s ∷ starts) xs zero h = refl
 part-at (s ∷ starts) xs (suc i) h = let e : suc i + 1 ≡ suc (i + 1) = omega arith in rw e (part-at starts xs i (omega arith))
+
+-- what holds of all holds of those of a part
+pub all_in_part : {X : Type 0} (q : X → Bool) (starts : List ℕ) (xs : List X) (i : ℕ) (part : List X) → list_all q xs ≡ true → slice_get (parts starts xs) i ≡ Some part
+    → list_all q part ≡ true
+all_in_part q starts xs i part all at =
+    let within : i < length starts = omega (arith, slice_get_within (parts starts xs) i part at, length-parts starts xs) in
+    let is = sym (part-at starts xs i within) ∙ get_or_from_slice_get (parts starts xs) i part [] at in
+    subst (λ ys. list_all q ys ≡ true) is (all_taken q _ (drop (get_or starts i 0) xs) (all_dropped q (get_or starts i 0) xs all))
 
 -- where a part begins and ends
 pub part-bounds : (s : ℕ) (starts : List ℕ) (size i : ℕ) → Rising s starts size → i < length starts

@@ -148,7 +148,7 @@ unmarked-text ((field ∷ fields) ∷ rs) h e = unmarked-row field fields (text_
 byte-utf8 : (b : ℕ) → b < 128 → scalar b ≡ true → IsUtf8 (b ∷ [])
 byte-utf8 b low known = subst IsUtf8 (encode_ascii b low) (IsUtf8-encode b known)
 
-escaped-append : (xs ys : List ℕ) → escaped default_writer (xs ++ ys) ≡ escaped default_writer xs ++ escaped default_writer ys
+pub escaped-append : (xs ys : List ℕ) → escaped default_writer (xs ++ ys) ≡ escaped default_writer xs ++ escaped default_writer ys
 unfolding escaped
 escaped-append [] ys = refl
 escaped-append (x ∷ xs) ys = elim (cases_Bool (x == 34)) [

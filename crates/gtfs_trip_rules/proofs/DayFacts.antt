@@ -5,17 +5,18 @@ use Rattle.std.specs.List.{list_all, AllByRecursion, IsAllAdjacentAnswer, IsDist
 use Rattle.std.specs.List.Sorted.{IsPermutation, IsSorted}
 use Rattle.std.specs.Ordering.{int_eq, is_lt}
 use Rattle.std.specs.declared.cmp.Ordering.TheVariants.{Less}
-use Rattle.std.proofs.lemmas.Bool.{cases_Bool}
+use Rattle.std.proofs.lemmas.Bool.{and_from as and_both, cases_Bool, not-true as not_true}
 use Rattle.std.proofs.lemmas.Cmp.{int_cmp_total}
 use Rattle.std.proofs.lemmas.Int.{ints}
 use Rattle.std.proofs.lemmas.List.{drop_more, get_or-map, length-map, map-append, take-append-drop, take_more}
 use Rattle.std.proofs.lemmas.List.Sorted.{IsPermutation-sym}
 use Rattle.std.proofs.lemmas.Map.Keys.{IsDistinct-IsPermutation, IsDistinct-from_apart, apart_from_distinct, Less-from_sorted, sorted_from_all_adjacent}
+use Rattle.gtfs_field.proofs.NumberFacts.{int_eq_flips as flips}
 use Rattle.gtfs_days.specs.Service.{NamesEachDayOnce}
 use Rattle.gtfs_days.specs.declared.exception.Exception.{Exception}
 use Rattle.gtfs_columns.specs.KeyRules.{all_there}
 use Rattle.gtfs_trip_rules.specs.ServiceView.{each_day_once, exceptions_of_rows}
-use Rattle.gtfs_columns.proofs.BoolFacts.{and_both, and_parts, no_test}
+use Rattle.gtfs_columns.proofs.BoolFacts.{and_parts, no_test}
 
 -- ---- one more row
 
@@ -52,13 +53,6 @@ module _ {A B X : Type 0} (g : B → Option X) (h : A → B) (rs : List A) (i : 
       ap all_there (rest ∙ ap (λ o. map g (map h (take i rs)) ++ o ∷ map g (map h (drop (i + 1) rs))) is) ∙ all_there_none (map g (map h (take i rs))) (map g (map h (drop (i + 1) rs)))
 
 -- ---- days apart
-
-flips : (a b : ℤ) → int_eq a b ≡ int_eq b a
-flips a b = grind (arith, ints)
-
-not_true : (a : Bool) → not a ≡ true → a ≡ false
-not_true true e = cc e
-not_true false e = refl
 
 abbrev days : List (ℤ × Exception) → List ℤ
 days es = map (λ e. e.0) es

@@ -1,36 +1,25 @@
 -- A service runs on no day where it runs on none of the days that it names.
-use Rattle.std.proofs.Common.{◌≡◌, ℕ, ◌+◌, ◌<◌, Bool, true, false, List, [], ◌∷◌, map, length, get_or, Option, Some, None, ℤ, pos, negsuc, ◌+ℤ◌, ◌≤ℤ◌, ◌<ℤ◌, refl, sym, ap, subst, ◌∙◌, inl, inr, ◌⊎◌, arith}
+use Rattle.std.proofs.Common.{◌≡◌, ℕ, ◌+◌, ◌<◌, Bool, true, false, List, [], ◌∷◌, map, length, get_or, Option, Some, None, ℤ, pos, ◌+ℤ◌, ◌≤ℤ◌, refl, sym, ap, subst, ◌∙◌, inl, inr, arith}
 use Rattle.std.specs.Prelude.{◌&&◌, ◌||◌, not, is_none, is_some, unsigned_abs, ◌-ℤ◌, int_le}
 use Rattle.std.specs.List.{list_any, range_with_len}
 use Rattle.std.specs.List.Sorted.{IsPermutation}
 use Rattle.std.specs.Ordering.{int_eq}
-use Rattle.std.proofs.lemmas.Bool.{cases_Bool}
-use Rattle.std.proofs.lemmas.Int.{ints, by_lt_z}
+use Rattle.std.proofs.lemmas.Bool.{cases_Bool, or_cases}
+use Rattle.std.proofs.lemmas.Int.{ints}
 use Rattle.std.proofs.lemmas.List.Folds.{list_any-append, list_any_at}
 use Rattle.std.proofs.lemmas.List.FromFn.{get_or-map-range_with_len, length-map-range_with_len}
 use Rattle.std.proofs.lemmas.List.Sorted.{list_any-IsPermutation}
+use Rattle.gtfs_field.proofs.NumberFacts.{abs-above, cases_int, int_eq-true as same_day, int_le-true as at_or_after}
+use Rattle.gtfs_field.proofs.ListFacts.{any_silent}
 use Rattle.gtfs_days.specs.Service.{ServiceDates, covered_by, covers, first_service_day, has_exception, is_active, is_added, is_removed, is_service_day, IsFirstIfAny}
 use Rattle.gtfs_days.specs.declared.exception.Exception.{Exception}
 use Rattle.gtfs_days.specs.declared.week.Week.{Week}
+use Rattle.gtfs_days.proofs.ActiveDays.{before_service}
 use Rattle.gtfs_columns.specs.Calendars.{days_named, days_of_week}
 use Rattle.gtfs_trip_rules.specs.ServiceView.{is_never_active}
 use Rattle.gtfs_columns.proofs.BoolFacts.{and_parts, or_left, or_right}
-use Rattle.gtfs_trip_rules.proofs.SoundRows.{or_cases}
 
 -- ---- days of a calendar row
-
-abs_is : (z : ℤ) → pos 0 ≤ℤ z → pos (unsigned_abs z) ≡ z
-abs_is (pos n) h = refl
-abs_is (negsuc n) h = absurd (omega (arith, ints))
-
-apart : (a b : ℤ) → a ≤ℤ b → pos (unsigned_abs (b -ℤ a)) ≡ b -ℤ a
-apart a b h = abs_is (b -ℤ a) (omega (arith, ints))
-
-at_or_after : (a b : ℤ) → int_le a b ≡ true → a ≤ℤ b
-at_or_after a b h = grind (arith, ints)
-
-same_day : (a b : ℤ) → int_eq a b ≡ true → a ≡ b
-same_day a b h = grind (arith, ints)
 
 in_row : (test : ℤ → Bool) (w : Week) (d : ℤ) → covers w d ≡ true → test d ≡ true → list_any test (days_of_week (Some w)) ≡ true
 in_row test w d covered passes =
@@ -40,8 +29,8 @@ in_row test w d covered passes =
     let before : d ≤ℤ w.end = at_or_after d w.end ends.1 in
     let i = unsigned_abs (d -ℤ w.start) in
     let n = unsigned_abs (w.end -ℤ w.start) + 1 in
-    let here : pos i ≡ d -ℤ w.start = apart w.start d after in
-    let all : pos (unsigned_abs (w.end -ℤ w.start)) ≡ w.end -ℤ w.start = apart w.start w.end (omega (arith, ints)) in
+    let here : pos i ≡ d -ℤ w.start = abs-above d w.start after in
+    let all : pos (unsigned_abs (w.end -ℤ w.start)) ≡ w.end -ℤ w.start = abs-above w.end w.start (omega (arith, ints)) in
     let below : i < n = omega (arith, ints) in
     let day : ℕ → ℤ = λ k. w.start +ℤ pos k in
     let is : day i ≡ d = omega (arith, ints) in
@@ -74,16 +63,6 @@ active_is_named s d active =
       | inr added ↦ or_right (list_any (is_active s) (days_of_week s.week)) _ (among_exceptions (is_active s) is_added d active s.exceptions added)
     ])
 
-none_passes : {X : Type 0} (test : X → Bool) → ((x : X) → test x ≡ false) → (xs : List X) → list_any test xs ≡ false
-none_passes test quiet [] = refl
-none_passes test quiet (x ∷ xs) = rw (quiet x) (none_passes test quiet xs)
-
-before_service : (e : ℤ) → e <ℤ first_service_day → is_service_day e ≡ false
-before_service e h = grind (arith, ints)
-
-cases_int : (a b : ℤ) → (a <ℤ b) ⊎ (b ≤ℤ a)
-cases_int a b = by_lt_z a b (λ h. inl h) (λ h. inr h)
-
 never_before : (s : ServiceDates) → ((e : ℤ) → first_service_day ≤ℤ e → is_active s e ≡ false) → (e : ℤ) → is_active s e ≡ false
 never_before s never e = elim (cases_int e first_service_day) [
   | inl early ↦ rw (before_service e early) refl
@@ -92,7 +71,7 @@ never_before s never e = elim (cases_int e first_service_day) [
 
 -- no first active day from the first service day on
 pub idle_is : (s : ServiceDates) (found : Option ℤ) → IsFirstIfAny (is_active s) first_service_day found → is_none found ≡ is_never_active s
-idle_is s None never = ap not (sym (none_passes (is_active s) (never_before s never) (days_named s)))
+idle_is s None never = ap not (sym (any_silent (is_active s) (days_named s) (never_before s never)))
 idle_is s (Some d) first = ap not (sym (active_is_named s d first.passes))
 
 -- ---- exceptions in another order

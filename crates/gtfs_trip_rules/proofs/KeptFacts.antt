@@ -3,6 +3,7 @@ use Rattle.std.proofs.Common.{◌≡◌, ℕ, List, [], ◌∷◌, true, false, 
 use Rattle.std.specs.Prelude.{◌&&◌, ◌||◌, not, if◌then◌else◌, is_some, option_and_then, ℤ, pos}
 use Rattle.std.specs.Option.{option_or, unwrap_or}
 use Rattle.std.proofs.lemmas.Bool.{cases_Bool}
+use Rattle.gtfs_field.proofs.OptionFacts.{is_some-map as some_mapped}
 use Rattle.gtfs_table.specs.Tables.{Dataset}
 use Rattle.gtfs_table.specs.Rows.{is_empty}
 use Rattle.gtfs_table.specs.declared.file.File.TheVariants as file
@@ -29,7 +30,7 @@ use Rattle.gtfs_trip_rules.specs.StopTimes.{text_at, AreNumbersOf, IsReading, Is
 use Rattle.gtfs_trip_rules.specs.TripNotes.{trip_note}
 use Rattle.gtfs_trip_rules.specs.TripStopTimes.{TripStopTime}
 use Rattle.gtfs_trip_rules.specs.TripTexts.{note_of_values, note_read, time_of_texts}
-use Rattle.gtfs_trip_rules.proofs.StopTimeFacts.{counted_text, some_mapped, worded_text}
+use Rattle.gtfs_trip_rules.proofs.StopTimeFacts.{counted_text, worded_text}
 
 -- ---- the two times
 

@@ -1,14 +1,14 @@
 -- The periods of the rows, and which of them an earlier one of the trip meets.
 use Rattle.std.proofs.Common.{arith, ◌≡◌, ◌+◌, ◌-◌, ◌≤◌, ℕ, zero, suc, List, [], ◌∷◌, ◌++◌, length, true, false, Bool, drop, get_or, refl, sym, ap, ◌∙◌, Option, Some, None, inl, inr}
-use Rattle.std.specs.Prelude.{◌&&◌, ◌||◌, ℤ, bytes_eq, nat_lt, filter, option_and_then, option_map, pos, Result, Ok, Err, codes}
+use Rattle.std.specs.Prelude.{◌&&◌, ◌||◌, ℤ, bytes_eq, nat_lt, filter, option_and_then, option_map, pos, codes}
 use Prim.Native.String.{String as Literal}
 use Rattle.std.specs.List.{list_any, range_with_len}
-use Rattle.std.specs.Result.{result_ok}
 use Rattle.std.proofs.lemmas.Bool.{cases_Bool}
 use Rattle.std.proofs.lemmas.Bool.Decides.{nat_tests}
 use Rattle.std.proofs.lemmas.List.Folds.{list_any-append}
-use Rattle.gtfs_field.specs.declared.fault.FieldFault.{FieldFault}
+use Rattle.std.proofs.Math.Bool.{and-false as and_false, or-false}
 use Rattle.gtfs_field.specs.Kinds.{time_of}
+use Rattle.gtfs_field.proofs.ListFacts.{any_alike, any_silent as no_entry}
 use Rattle.gtfs_table.specs.Tables.{Dataset}
 use Rattle.gtfs_table.specs.declared.file.File.TheVariants as file
 use Rattle.gtfs_columns.specs.Columns.{id, time}
@@ -18,15 +18,10 @@ use Rattle.gtfs_columns.specs.Reads.{seconds_of, word_of}
 use Rattle.gtfs_table.specs.Rows.{Row, is_row, numbers, records_in, rows, is_empty}
 use Rattle.gtfs_table.proofs.RowFacts.{numbers_more, IsTurn}
 use Rattle.gtfs_columns.specs.Rows.{text_in, word_in}
-use Rattle.gtfs_columns.specs.Values.{as_amount, counted, if_both, if_there, is_word, readable}
-use Rattle.gtfs_columns.proofs.EachFacts.{any_alike}
-use Rattle.gtfs_trip_rules.proofs.SpanFacts.{no_entry}
+use Rattle.gtfs_columns.specs.Values.{as_amount, if_both, if_there, is_word, readable}
+use Rattle.gtfs_columns.proofs.ValueFacts.{counted_amount}
 
 -- ---- the seconds of a time
-
-counted_amount : (r : Result ℕ FieldFault) → option_and_then as_amount (result_ok (counted r)) ≡ option_map pos (result_ok r)
-counted_amount (Ok n) = refl
-counted_amount (Err e) = refl
 
 time_amount : (t : List ℕ) → option_and_then as_amount (readable time t) ≡ option_map pos (seconds_of t)
 time_amount [] = refl
@@ -71,15 +66,11 @@ taken_before p test a (suc k) (t ∷ taken) n left e = elim (cases_Bool (p a)) [
       (omega (arith, later.0), rw other later.1)
 ]
 
-or_false : (a : Bool) → a ≡ (a || false)
-or_false true = refl
-or_false false = refl
-
 -- one row more
 pub known_more : (d : Dataset) (taken : List Row) (n : ℕ) (r : List (List ℕ)) (trip : List ℕ) (start end : ℕ)
     → (met_among d (numbers taken) trip start end || meets_one (period_in d n) trip start end) ≡ met_among d (numbers (taken ++ (n, r) ∷ [])) trip start end
 known_more d taken n r trip start end =
-    ap (λ b. met_among d (numbers taken) trip start end || b) (or_false (meets_one (period_in d n) trip start end))
+    ap (λ b. met_among d (numbers taken) trip start end || b) (sym (or-false (meets_one (period_in d n) trip start end)))
     ∙ sym (list_any-append (λ m. meets_one (period_in d m) trip start end) (numbers taken) (n ∷ []))
     ∙ ap (λ ns. met_among d ns trip start end) (sym (numbers_more taken n r))
 
@@ -92,10 +83,6 @@ no_both : (a b : Option ℤ) → if_both a b (λ x y. false) ≡ false
 no_both None b = refl
 no_both (Some x) None = refl
 no_both (Some x) (Some y) = refl
-
-and_false : (a : Bool) → (a && false) ≡ false
-and_false true = refl
-and_false false = refl
 
 -- a row with a period, by its three values
 meets_by : (before : Bool) (word : Option (List ℕ)) (start end : Option ℕ) (trip : List ℕ) (from to : ℕ)

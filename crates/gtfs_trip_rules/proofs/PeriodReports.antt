@@ -1,6 +1,7 @@
 -- What is reported of periods that an earlier one meets.
 use Rattle.std.proofs.Common.{◌≡◌, ℕ, List, [], ◌∷◌, true, false, Bool, refl, sym, ap, ◌∙◌}
 use Rattle.std.specs.Prelude.{◌&&◌, ◌||◌, bytes_eq, codes}
+use Rattle.std.proofs.lemmas.Bool.{and_from as and_both, eqb-true as same_number}
 use Rattle.gtfs_table.specs.Tables.{Dataset}
 use Rattle.gtfs_table.specs.declared.file.File.TheVariants as file
 use Rattle.gtfs_columns.specs.declared.code.Code.TheVariants as code
@@ -11,8 +12,8 @@ use Rattle.gtfs_columns.specs.Problems.{FileName, kept, other, Problem, holds, h
 use Rattle.gtfs_columns.specs.steps.ProblemOrder.{same_file}
 use Rattle.gtfs_columns.specs.Rows.{file_rank, is_file}
 use Rattle.gtfs_table.specs.Rows.{is_row, records_in}
-use Rattle.gtfs_columns.proofs.BoolFacts.{and_both, and_parts, or_left, same_test}
-use Rattle.gtfs_columns.proofs.SiteFacts.{code_is, file_itself, problem_at, same_number}
+use Rattle.gtfs_columns.proofs.BoolFacts.{and_parts, or_left, same_test}
+use Rattle.gtfs_columns.proofs.SiteFacts.{code_is, file_itself, problem_at}
 use Rattle.gtfs_columns.proofs.RowFacts.{at_row}
 use Rattle.gtfs_columns.proofs.RuleFacts.{row_reported}
 use Rattle.gtfs_columns.proofs.ReportingFacts.{reports_alike}

@@ -1,6 +1,7 @@
 -- A service as the code judges it, by its rows, is the service that the definition judges.
 use Rattle.std.proofs.Common.{◌≡◌, ℕ, Bool, true, false, List, [], ◌∷◌, map, Option, Some, None, ℤ, refl, sym, ap, ◌∙◌}
 use Rattle.std.specs.Prelude.{◌&&◌, ◌||◌, ◌==◌, bytes_eq, codes, filter, if◌then◌else◌, is_none, option_map}
+use Rattle.std.proofs.Math.Bool.{and-false as and_false, and-true as and_true, or-false as or_false}
 use Rattle.gtfs_days.specs.declared.exception.Exception.{Exception}
 use Rattle.gtfs_days.specs.declared.week.Week.{Week}
 use Rattle.gtfs_table.specs.Tables.{Dataset}
@@ -18,7 +19,7 @@ use Rattle.gtfs_columns.specs.ServiceRules.{has_sound_rows, is_reported_row, nev
 use Rattle.gtfs_trip_rules.specs.ServiceView.{are_idle, file_of, first_of, is_never_active, is_sound_and_idle, is_reported, of_source, reported_row, Calendars}
 use Rattle.gtfs_columns.specs.Values.{if_there}
 use Rattle.gtfs_trip_rules.proofs.ServiceTexts.{id_word}
-use Rattle.gtfs_trip_rules.proofs.SoundRows.{and_false, and_true, find_first, or_false}
+use Rattle.gtfs_trip_rules.proofs.SoundRows.{find_first}
 use Rattle.gtfs_trip_rules.proofs.SoundServices.{dates, exceptions_sound, has_date_id, has_week_id, kept_rows, rows_of_id, weeks, weeks_sound}
 
 -- ---- both files

@@ -11,7 +11,9 @@ use Rattle.std.proofs.lemmas.Cmp.{nat_list_cmp_total}
 use Rattle.std.proofs.lemmas.List.{get_or-drop, length-drop}
 use Rattle.std.proofs.lemmas.List.Sorted.{ranks_by, sorted_far}
 use Rattle.std.proofs.lemmas.Map.Text.{is_eq-slice_cmp}
+use Rattle.std.proofs.lemmas.List.Elements.{filter_agree as same_filter}
 use denote.Ref.{Bor}
+use Rattle.gtfs_field.proofs.OrderingFacts.{less as less-from}
 use Rattle.gtfs_table.specs.Folder.{text_cmp}
 use Rattle.gtfs_trip_rules.specs.RowsById.{row_with_id, rows_of, IdRow, IsById}
 
@@ -56,11 +58,6 @@ above_not_tied : (r : Ordering) → is_le r ≡ false → is_eq r ≡ false
 above_not_tied Less e = refl
 above_not_tied Equal e = cc
 above_not_tied Greater e = refl
-
-less-from : (r : Ordering) → is_lt r ≡ true → r ≡ Less
-less-from Less e = refl
-less-from Equal e = cc
-less-from Greater e = cc
 
 not_gt : (r : Ordering) → is_le r ≡ true → is_gt r ≡ false
 not_gt Less e = refl
@@ -158,9 +155,6 @@ ties_texts : (a b : List ℕ) → (not (is_lt (text_cmp a b)) && not (is_lt (tex
 ties_texts a b =
     ap (λ r. not (is_lt r) && not (is_lt (text_cmp b a))) (nat_list_cmp_total.antisymm a b)
     ∙ tied_by (text_cmp b a) ∙ is_eq-slice_cmp b a
-
-same_filter : {X : Type 0} (p q : X → Bool) → ((x : X) → p x ≡ q x) → (xs : List X) → filter p xs ≡ filter q xs
-same_filter p q same xs = ap (λ t. filter t xs) (λ i x. same x i)
 
 pub kept_in_order : (rs sorted : List IdRow) (g : Bor (List ℕ)) → IsStableByKey (λ r. r.0.now) text_cmp rs sorted
     → filter (λ r. bytes_eq (id_of r) g.now) sorted ≡ filter (λ r. bytes_eq (id_of r) g.now) rs

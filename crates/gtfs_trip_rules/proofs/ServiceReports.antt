@@ -2,6 +2,7 @@
 use Rattle.std.proofs.Common.{◌≡◌, ℕ, List, [], ◌∷◌, true, false, Bool, sym, ap, ◌∙◌, inl, inr, ◌⊎◌, arith}
 use Rattle.std.specs.Prelude.{◌&&◌, ◌||◌, ◌==◌, codes, bytes_eq, Result, Ok, Err, OnOk}
 use Rattle.std.proofs.lemmas.Bool.Decides.{nat_tests}
+use Rattle.std.proofs.lemmas.Bool.{and_from as and_both, or_cases}
 use Rattle.gtfs_table.specs.Tables.{Dataset}
 use Rattle.gtfs_table.specs.declared.file.File.{File}
 use Rattle.gtfs_table.specs.declared.file.File.TheVariants as file
@@ -12,10 +13,9 @@ use Rattle.gtfs_columns.specs.Problems.{FileName, kept, other, Problem, holds, i
 use Rattle.gtfs_columns.specs.Rows.{file_rank, is_file, reported_at, Rule}
 use Rattle.gtfs_table.specs.Rows.{is_row, records_in}
 use Rattle.gtfs_columns.specs.ServiceRules.{is_never_active}
-use Rattle.gtfs_columns.proofs.BoolFacts.{and_both, and_parts, or_left, or_right, same_test}
+use Rattle.gtfs_columns.proofs.BoolFacts.{and_parts, or_left, or_right, same_test}
 use Rattle.gtfs_columns.proofs.SiteFacts.{code_is}
 use Rattle.gtfs_columns.proofs.ReportingFacts.{reports_alike, reports_then}
-use Rattle.gtfs_trip_rules.proofs.SoundRows.{or_cases}
 
 flipped : (a b : ℕ) → (a == b) ≡ true → (b == a) ≡ true
 flipped a b h = grind (arith, nat_tests, h)

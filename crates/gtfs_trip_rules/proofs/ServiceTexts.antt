@@ -21,6 +21,7 @@ use Rattle.gtfs_trip_rules.specs.ServiceView.{exception_type_of}
 use Rattle.gtfs_columns.specs.Values.{word, amount, as_amount, as_word, counted, has_control, measured, one_of, readable}
 use Rattle.gtfs_table.specs.Rows.{is_empty}
 use Rattle.gtfs_columns.proofs.BoolFacts.{and_parts}
+use Rattle.gtfs_columns.proofs.ValueFacts.{amount_back, counted_amount}
 
 -- ---- ids
 
@@ -35,10 +36,6 @@ pub id_word : (t : List ℕ) → option_and_then as_word (readable id t) ≡ (if
 id_word t = word_at (is_empty t) (has_control t) t
 
 -- ---- choices and dates
-
-counted_amount : (r : Result ℕ FieldFault) → option_and_then as_amount (result_ok (counted r)) ≡ option_map pos (result_ok r)
-counted_amount (Ok n) = refl
-counted_amount (Err e) = refl
 
 counted_some : (r : Result ℕ FieldFault) → is_some (result_ok (counted r)) ≡ is_some (result_ok r)
 counted_some (Ok n) = refl
@@ -73,10 +70,6 @@ date_value [] = refl
 date_value (b ∷ bs) =
     let filled : is_empty (b ∷ bs) ≡ false = grind (arith, nat_tests) in
     rw filled (measured_is (date_of (b ∷ bs)))
-
-amount_back : (o : Option ℤ) → option_and_then as_amount (option_map amount o) ≡ o
-amount_back None = refl
-amount_back (Some x) = refl
 
 some_amount : (o : Option ℤ) → is_some (option_map amount o) ≡ is_some o
 some_amount None = refl

@@ -1,34 +1,20 @@
 -- Rows of a list that are apart, and those that can be read.
-use Rattle.std.proofs.Common.{◌≡◌, ℕ, zero, suc, ◌+◌, Bool, true, false, List, [], ◌∷◌, map, Option, Some, None, ℤ, pos, refl, sym, ap, ◌∙◌, inl, inr, ◌⊎◌, arith}
+use Rattle.std.proofs.Common.{◌≡◌, ℕ, zero, suc, ◌+◌, Bool, true, false, List, [], ◌∷◌, map, Option, Some, None, ℤ, pos, refl, sym, ap, ◌∙◌, inl, inr, arith}
 use Rattle.std.specs.Prelude.{◌&&◌, ◌||◌, not, nat_lt, filter, find, if◌then◌else◌, is_some, option_map, option_and_then, unwrap_or, int_le}
 use Rattle.std.specs.List.{list_all, list_any, range_with_len}
 use Rattle.std.specs.Ordering.{int_eq}
-use Rattle.std.proofs.lemmas.Bool.{cases_Bool}
+use Rattle.std.proofs.lemmas.Bool.{and_from as and_both, cases_Bool}
 use Rattle.std.proofs.lemmas.Bool.Decides.{nat_tests}
+use Rattle.std.proofs.Math.Bool.{and-false as and_false, and-true as and_true}
+use Rattle.gtfs_field.proofs.NumberFacts.{one_way as not_above}
 use Rattle.gtfs_days.specs.declared.exception.Exception.{Exception}
 use Rattle.gtfs_days.specs.declared.week.Week.{Week}
 use Rattle.gtfs_columns.specs.KeyRules.{all_there}
 use Rattle.gtfs_trip_rules.specs.ServiceView.{each_day_once, first_of, if_ordered, week_of_rows}
 use Rattle.gtfs_columns.specs.Values.{if_both}
-use Rattle.gtfs_columns.proofs.BoolFacts.{and_both, and_parts}
+use Rattle.gtfs_columns.proofs.BoolFacts.{and_parts}
 
 -- ---- tests
-
-pub and_true : (a : Bool) → (a && true) ≡ a
-and_true true = refl
-and_true false = refl
-
-pub and_false : (a : Bool) → (a && false) ≡ false
-and_false true = refl
-and_false false = refl
-
-pub or_false : (a : Bool) → (a || false) ≡ a
-or_false true = refl
-or_false false = refl
-
-pub or_cases : (a b : Bool) → (a || b) ≡ true → (a ≡ true) ⊎ (b ≡ true)
-or_cases true b h = inl refl
-or_cases false b h = inr h
 
 four : (a b x y : Bool) → ((a && b) && (x && y)) ≡ ((a && x) && (b && y))
 four true true x y = refl
@@ -104,9 +90,6 @@ rising_range a (suc n) =
 
 not_below_itself : (n : ℕ) → nat_lt n n ≡ false
 not_below_itself n = grind (arith, nat_tests)
-
-not_above : (m n : ℕ) → nat_lt m n ≡ true → nat_lt n m ≡ false
-not_above m n h = grind (arith, nat_tests, h)
 
 module _ (S : ℕ → ℕ → Bool) where
   -- no row is the same as one before it

@@ -7,6 +7,7 @@ use Rattle.std.specs.Cmp.Lexicographic.{pointwise}
 use Rattle.std.specs.Result.{result_ok}
 use Rattle.std.proofs.lemmas.Bool.{cases_Bool}
 use Rattle.std.proofs.lemmas.Int.{ints}
+use Rattle.std.proofs.Math.Bool.{and-false as and_false, and-true as and_true}
 use Rattle.gtfs_days.specs.declared.exception.Exception.{Exception}
 use Rattle.gtfs_field.specs.Kinds.{date_of}
 use Rattle.gtfs_table.specs.Tables.{Dataset}
@@ -24,17 +25,13 @@ use Rattle.gtfs_trip_rules.specs.ServiceRows.{date_text, exception_in_texts, id_
 use Rattle.gtfs_columns.specs.ServiceRules.{ends_before_start, has_sound_rows, is_sound_row}
 use Rattle.gtfs_trip_rules.specs.ServiceView.{each_day_once, exceptions_of_rows, file_of, week_of_rows}
 use Rattle.gtfs_columns.specs.Values.{Value, word, amount, as_word, if_both, if_there, is_word, readable, value_eq}
-use Rattle.gtfs_columns.proofs.BoolFacts.{and_parts, same_test}
-use Rattle.gtfs_columns.proofs.SiteFacts.{text_is, text_itself}
+use Rattle.gtfs_columns.proofs.BoolFacts.{and_parts}
+use Rattle.gtfs_columns.proofs.SiteFacts.{text_is}
+use Rattle.gtfs_columns.proofs.NamedFacts.{text_turned as same_text}
 use Rattle.gtfs_trip_rules.proofs.ServiceTexts.{date_amount, date_readable, date_value, day_is, exception_is, id_word, is_date_readable, is_week_readable, readable_days, week_is, week_readable}
-use Rattle.gtfs_trip_rules.proofs.SoundRows.{all_alike, all_both, all_read, and_false, and_true, any_kept, apart, apart_is, days_once, find_first, rising_filter, rising_range, week_sound, Rising}
+use Rattle.gtfs_trip_rules.proofs.SoundRows.{all_alike, all_both, all_read, any_kept, apart, apart_is, days_once, find_first, rising_filter, rising_range, week_sound, Rising}
 
 -- ---- the rows of a service
-
-same_text : (a b : List ℕ) → bytes_eq a b ≡ bytes_eq b a
-same_text a b = same_test (bytes_eq a b) (bytes_eq b a)
-    (λ e. ap (λ c. bytes_eq c a) (sym (text_is a b e)) ∙ text_itself a)
-    (λ e. ap (λ c. bytes_eq c b) (sym (text_is b a e)) ∙ text_itself b)
 
 -- a text with a readable id is that id
 is_that_id : (t a : List ℕ) → is_id t ≡ true → bytes_eq a t ≡ if_there (option_and_then as_word (readable id a)) (bytes_eq t)

@@ -7,15 +7,17 @@ use Rattle.std.proofs.lemmas.Cmp.{nat_list_cmp_total}
 use Rattle.std.specs.Cmp.Lexicographic.{slice_cmp}
 use Rattle.std.specs.List.{All, list_any}
 use Rattle.std.specs.Map.{lookup, remove_entry}
-use Rattle.std.specs.Ordering.{nat_cmp, ordering_then}
+use Rattle.std.specs.Ordering.{nat_cmp}
 use Rattle.std.specs.declared.cmp.Ordering.{Ordering}
 use Rattle.std.specs.declared.cmp.Ordering.TheVariants.{Less, Equal, Greater}
-use Rattle.std.proofs.lemmas.Bool.{cases_Bool}
+use Rattle.std.proofs.lemmas.Bool.{and_from as and_both, cases_Bool}
 use Rattle.std.proofs.lemmas.Bool.Decides.{nat_tests}
 use Rattle.std.proofs.lemmas.List.Elements.{All-head, All-tail}
 use Rattle.std.proofs.lemmas.Map.Lookups.{exact_bytes, exact_unsigned}
 use Rattle.std.proofs.lemmas.Map.Views.{All-found}
-use Rattle.gtfs_columns.proofs.BoolFacts.{and_parts, and_both, no_test}
+use Rattle.gtfs_field.proofs.OrderingFacts.{tied as then_equal}
+use Rattle.gtfs_field.proofs.ListFacts.{any_silent as no_entry}
+use Rattle.gtfs_columns.proofs.BoolFacts.{and_parts, no_test}
 use Rattle.gtfs_columns.proofs.SiteFacts.{text_itself}
 use Rattle.gtfs_trip_rules.specs.SpanView.{Key, Spans, covers, key_cmp, shares, span_end}
 
@@ -76,10 +78,6 @@ any_with {K} {X} cmp p k v (e ∷ es) none = by (cmp k e.0) refl (any_with cmp p
     by Greater r later = let rest : lookup (is_at (cmp k)) es ≡ None = rw r at none in
         rw r (ap (λ x. p e || x) (later rest) ∙ or_swap (p e) (p (k, v)) (list_any p es))
 
-pub no_entry : {X : Type 0} (p : X → Bool) (xs : List X) → ((x : X) → p x ≡ false) → list_any p xs ≡ false
-no_entry p [] none = refl
-no_entry p (x ∷ xs) none = rw (none x) (no_entry p xs none)
-
 -- what holds of each entry holds of one that passes
 any_entry : {X : Type 0} (p : X → Bool) (P : X → Type 0) (xs : List X) → list_any p xs ≡ true → All P xs → (x : X) × (p x ≡ true) × P x
 any_entry p P [] e all = cc e
@@ -92,11 +90,6 @@ any_entry p P (x ∷ xs) e all = elim (cases_Bool (p x)) [
 
 pub key_total : IsTotalOrder key_cmp
 key_total = then_total (on_total (λ (k : Key). k.0.now) nat_list_cmp_total) (on_total (λ (k : Key). k.1) nat_cmp_total)
-
-then_equal : (o r : Ordering) → ordering_then o r ≡ Equal → (o ≡ Equal) × (r ≡ Equal)
-then_equal Less r e = cc e
-then_equal Equal r e = (refl, e)
-then_equal Greater r e = cc e
 
 pub same_key : (j k : Key) → is_at (key_cmp j) k ≡ true → (j.0.now ≡ k.0.now) × (j.1 ≡ k.1)
 same_key j k e =

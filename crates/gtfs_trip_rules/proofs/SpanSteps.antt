@@ -15,6 +15,7 @@ use Rattle.std.proofs.lemmas.Cmp.{nat_list_cmp_total, ranked, tied_itself}
 use Rattle.std.proofs.lemmas.Map.Keys.{ge_from_not_lt}
 use Rattle.std.proofs.lemmas.Map.Lookups.{exact_bytes}
 use denote.Ref.{Bor}
+use Rattle.gtfs_field.proofs.OrderingFacts.{nat-less as less_first}
 use Rattle.gtfs_columns.proofs.BoolFacts.{no_test, and_parts}
 use Rattle.gtfs_columns.proofs.SiteFacts.{text_is}
 use Rattle.gtfs_trip_rules.proofs.SpanFacts.{covered_by, covers_by, shares_all, shares_parts}
@@ -30,9 +31,6 @@ zero_first n = elim (cases_Bool (nat_lt 0 n)) [
   | inl above ↦ rw above refl
   | inr none ↦ let same : n ≡ 0 = grind (arith, nat_tests, none) in rw same refl
 ]
-
-less_first : (a b : ℕ) → a < b → nat_cmp a b ≡ Less
-less_first a b below = let e : nat_lt a b ≡ true = grind (arith, nat_tests, below) in rw e refl
 
 pub starts_before : (trip : Bor (List ℕ)) (end : ℕ) → is_gt (key_cmp (trip, 0) (trip, end)) ≡ false
 starts_before trip end = rw (text_tied trip.now) (zero_first end)

@@ -9,6 +9,7 @@ use Rattle.std.specs.declared.cmp.Ordering.{Ordering}
 use Rattle.std.specs.declared.cmp.Ordering.TheVariants.{Less}
 use Rattle.std.proofs.lemmas.Bool.{cases_Bool}
 use Rattle.std.proofs.lemmas.List.{drop_more, reverse-append, reverse-reverse, take-append-drop, take_more}
+use Rattle.std.proofs.Math.Bool.{and-false as and_none, and-true as and_so, or-false as or_none}
 use Rattle.gtfs_columns.specs.Values.{if_there}
 use Rattle.gtfs_columns.proofs.BoolFacts.{no_test}
 
@@ -65,18 +66,6 @@ moved false false c = refl
 any_onto : {X : Type 0} (p : X → Bool) (before after : List X) → list_any p (onto before after) ≡ (list_any p before || list_any p after)
 any_onto p [] after = refl
 any_onto p (b ∷ before) after = any_onto p before (b ∷ after) ∙ moved (list_any p before) (p b) (list_any p after)
-
-or_none : (a : Bool) → (a || false) ≡ a
-or_none true = refl
-or_none false = refl
-
-and_none : (a : Bool) → (a && false) ≡ false
-and_none true = refl
-and_none false = refl
-
-and_so : (a : Bool) → (a && true) ≡ a
-and_so true = refl
-and_so false = refl
 
 -- ---- an ascending list
 

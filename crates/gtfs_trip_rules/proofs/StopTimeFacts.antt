@@ -4,6 +4,7 @@ use Rattle.std.specs.Prelude.{◌&&◌, ◌||◌, ◌==◌, not, if◌then◌els
 use Rattle.std.specs.Result.{result_ok}
 use Rattle.gtfs_field.specs.Kinds.{shaped}
 use Rattle.std.specs.Borrow.{Bor}
+use Rattle.gtfs_field.proofs.OptionFacts.{is_some-map as some_mapped}
 use Rattle.gtfs_table.specs.Tables.{Dataset}
 use Rattle.gtfs_table.specs.declared.file.File.{File}
 use Rattle.gtfs_table.specs.declared.file.File.TheVariants as file
@@ -64,10 +65,6 @@ row_first d n c name sites = rows_then d n (at_column c file.StopTimes name) (at
 pub counted_text : (v : Option ℕ) → option_and_then as_amount (option_map (λ x. amount (pos x)) v) ≡ option_map pos v
 counted_text None = refl
 counted_text (Some x) = refl
-
-pub some_mapped : {X Y : Type 0} (f : X → Y) (v : Option X) → is_some (option_map f v) ≡ is_some v
-some_mapped f None = refl
-some_mapped f (Some x) = refl
 
 pub worded_text : (v : Option (Bor (List ℕ))) → option_and_then as_word (option_map (λ t. word t.now) v) ≡ text_of v
 worded_text None = refl

@@ -2,6 +2,8 @@
 use Rattle.std.proofs.Common.{◌≡◌, ℕ, List, [], ◌∷◌, true, false, Bool, refl, sym, ap, ◌∙◌, codes, map, Option, Some, None}
 use Rattle.std.specs.Prelude.{◌&&◌, ◌||◌, if◌then◌else◌, is_some}
 use Rattle.std.specs.List.{list_any}
+use Rattle.std.proofs.Math.Bool.{or-false}
+use Rattle.gtfs_field.proofs.ListFacts.{any_mapped}
 use Rattle.gtfs_table.specs.Tables.{Dataset}
 use Rattle.gtfs_table.specs.declared.file.File.TheVariants as file
 use Rattle.gtfs_columns.specs.declared.code.Code.{Code}
@@ -22,7 +24,7 @@ use Rattle.gtfs_trip_rules.specs.StopTimes.{cells_of, fields_report, text_at, Ar
 use Rattle.gtfs_columns.specs.Values.{Value, if_there}
 use Rattle.gtfs_table.specs.Rows.{is_empty}
 use Rattle.gtfs_columns.proofs.FieldRowFacts.{cell_at, cell_reported, empty_is, here_reported, length_reported}
-use Rattle.gtfs_columns.proofs.NamedFacts.{any_of_mapped, kept_any, kept_name_is, named_located}
+use Rattle.gtfs_columns.proofs.NamedFacts.{kept_any, kept_name_is, named_located}
 use Rattle.gtfs_columns.proofs.AddFacts.{adds_alike}
 
 -- ---- one field after the other
@@ -46,16 +48,12 @@ abbrev pub reported_cells : (Problem → Bool) → List Cell → Problem → Boo
 reported_cells first [] p = first p
 reported_cells first (c ∷ cs) p = reported_cells (λ q. first q || is_at q c) cs p
 
-or_none : (a : Bool) → a ≡ (a || false)
-or_none true = refl
-or_none false = refl
-
 or_later : (a b c : Bool) → ((a || b) || c) ≡ (a || (b || c))
 or_later true b c = refl
 or_later false b c = refl
 
 pub all_cells : (first : Problem → Bool) (cells : List Cell) (p : Problem) → reported_cells first cells p ≡ (first p || list_any (is_at p) cells)
-all_cells first [] p = or_none (first p)
+all_cells first [] p = sym (or-false (first p))
 all_cells first (c ∷ cs) p = all_cells (λ q. first q || is_at q c) cs p ∙ or_later (first p) (is_at p c) (list_any (is_at p) cs)
 
 -- ---- a field and its column
@@ -123,7 +121,7 @@ module _ (d : Dataset) (c : StopTimeColumns) (columns : AreStopTimeColumns d c) 
   cells_reported : (p : Problem) → list_any (is_at p) (cells_of c s) ≡ cell_reported d file.StopTimes s.row p.column p.code
   cells_reported p =
       ap (list_any (is_at p)) cells_are
-      ∙ any_of_mapped (λ (k : Column). (k.name, cell_at d file.StopTimes s.row k.name k)) (is_at p) (columns_of file.StopTimes)
+      ∙ any_mapped (is_at p) (λ (k : Column). (k.name, cell_at d file.StopTimes s.row k.name k)) (columns_of file.StopTimes)
       ∙ kept_any file.StopTimes p.column (λ k. is_found (cell_at d file.StopTimes s.row k.name k) p.code)
       ∙ same_there (column_named file.StopTimes p.column) _ _
       (λ k there. ap (λ name. is_found (cell_at d file.StopTimes s.row name k) p.code) (kept_name_is file.StopTimes p.column k there))

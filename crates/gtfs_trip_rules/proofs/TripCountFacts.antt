@@ -4,10 +4,11 @@ use Rattle.std.specs.Prelude.{◌&&◌, ◌==◌, bytes_eq, codes, nat_lt, not}
 use Rattle.std.specs.BTreeMap.{BTreeMap}
 use Rattle.std.specs.List.{All}
 use Rattle.std.specs.Option.{unwrap_or}
-use Rattle.std.proofs.lemmas.Bool.{cases_Bool}
+use Rattle.std.proofs.lemmas.Bool.{cases_Bool, eqb-true as same_number}
 use Rattle.std.proofs.lemmas.List.{get_or_default, get_or-set_other, get_or-set_same}
 use Rattle.std.proofs.lemmas.List.Elements.{All-push, All-tail, filter-append}
 use Rattle.std.proofs.lemmas.List.Filters.{length-filter_both}
+use Rattle.gtfs_field.proofs.NumberFacts.{number_itself}
 use Rattle.gtfs_table.specs.Tables.{Dataset}
 use Rattle.gtfs_table.specs.declared.file.File.TheVariants as file
 use Rattle.gtfs_columns.specs.declared.code.Code.TheVariants as code
@@ -23,7 +24,7 @@ use Rattle.gtfs_columns.specs.Columns.{id as id_kind}
 use Rattle.gtfs_columns.specs.Reads.{word_of}
 use Rattle.gtfs_columns.specs.Values.{if_there}
 use Rattle.gtfs_columns.proofs.BoolFacts.{and_parts, same_test}
-use Rattle.gtfs_columns.proofs.SiteFacts.{number_itself, same_number, text_is, text_itself}
+use Rattle.gtfs_columns.proofs.SiteFacts.{text_is, text_itself}
 use Rattle.gtfs_trip_rules.proofs.TripNumberFacts.{one_numbered, rows_stay}
 use Rattle.gtfs_trip_rules.proofs.TripStopTimeFacts.{as_many, named_rows}
 

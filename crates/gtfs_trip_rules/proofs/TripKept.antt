@@ -1,30 +1,25 @@
 -- Rows of trips as they are kept: what the numbers of their trips say of the rows next to a row.
-use Rattle.std.proofs.Common.{◌≡◌, ◌+◌, ◌-◌, ◌<◌, ◌≤◌, ◌∙◌, ℕ, Bool, true, false, List, [], ◌∷◌, arith, length, map, get_or, take, reverse, sym, ap, subst, Some}
+use Rattle.std.proofs.Common.{◌≡◌, ◌+◌, ◌-◌, ◌<◌, ◌≤◌, ◌∙◌, ℕ, Bool, List, [], ◌∷◌, arith, length, map, get_or, take, reverse, sym, ap, subst, Some}
 use Rattle.std.specs.Prelude.{◌&&◌, ◌||◌, ◌==◌, bytes_eq, not, pos}
 use Rattle.std.specs.List.{slice_get}
 use Rattle.std.specs.Option.{unwrap_or}
 use Rattle.std.specs.Ordering.{int_eq}
 use Rattle.std.specs.Cmp.{signed_Decides}
-use Rattle.std.proofs.lemmas.Bool.{eq-eqb}
+use Rattle.std.proofs.lemmas.Bool.{eq-eqb, eqb-true as same_number}
 use Rattle.std.proofs.lemmas.List.{map_more, reverse-append, take_all}
 use Rattle.std.proofs.lemmas.Option.{get_or_from_slice_get, slice_get_within}
+use Rattle.gtfs_field.proofs.NumberFacts.{number_itself}
 use Rattle.gtfs_trip_rules.specs.TripNumbers.{AllNumbered, IsNumbered}
 use Rattle.gtfs_trip_rules.specs.TripOrder.{ends, follows, repeats, same_trip}
 use Rattle.gtfs_trip_rules.specs.TripStopTimes.{TripStopTime, trip_stop_time}
 use Rattle.gtfs_trip_rules.specs.declared.trips.row.StopTime.{StopTime}
-use Rattle.gtfs_columns.proofs.BoolFacts.{no_test, same_test}
-use Rattle.gtfs_columns.proofs.SiteFacts.{number_itself, same_number, text_is, text_itself}
-
-pub one_number : (a b : ℕ) → a ≡ b → (a == b) ≡ true
-one_number = eq-eqb
-
-pub two_numbers : (a b : ℕ) → (a ≡ b → ⊥) → (a == b) ≡ false
-two_numbers a b apart = no_test (a == b) (λ e. absurd (apart (same_number a b e)))
+use Rattle.gtfs_columns.proofs.BoolFacts.{same_test}
+use Rattle.gtfs_columns.proofs.SiteFacts.{text_is, text_itself}
 
 same_integers : (a b : ℕ) → (a == b) ≡ int_eq (pos a) (pos b)
 same_integers a b = same_test (a == b) (int_eq (pos a) (pos b))
     (λ e. (signed_Decides (pos a) (pos b)).1 (ap pos (same_number a b e)))
-    (λ e. one_number a b (cc ((signed_Decides (pos a) (pos b)).0 e)))
+    (λ e. eq-eqb a b (cc ((signed_Decides (pos a) (pos b)).0 e)))
 
 module _ (number : List ℕ → ℕ) (name : ℕ → List ℕ) where
   abbrev row_of : StopTime → TripStopTime

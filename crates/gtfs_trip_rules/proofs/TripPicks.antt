@@ -1,7 +1,9 @@
 -- Where the problems of the order of stop times are reported.
-use Rattle.std.proofs.Common.{◌≡◌, ◌⊎◌, ℕ, List, true, false, Bool, sym, ap, ◌∙◌, inl, inr}
+use Rattle.std.proofs.Common.{◌≡◌, ℕ, List, true, false, Bool, sym, ap, ◌∙◌, inl, inr}
 use Rattle.std.specs.Prelude.{◌&&◌, ◌||◌, ◌==◌, ◌∷◌, [], bytes_eq, codes}
+use Rattle.std.proofs.lemmas.Bool.{and_from as and_both, eqb-true as same_number, or_cases}
 use Prim.Native.String.{String as Literal}
+use Rattle.gtfs_field.proofs.NumberFacts.{number_itself}
 use Rattle.gtfs_table.specs.Tables.{Dataset}
 use Rattle.gtfs_table.specs.declared.file.File.{File}
 use Rattle.gtfs_table.specs.declared.file.File.TheVariants as file
@@ -14,13 +16,9 @@ use Rattle.gtfs_columns.specs.Problems.{FileName, kept, other, Problem, holds, i
 use Rattle.gtfs_columns.specs.Rows.{Rule, file_rank, is_file, reported_at}
 use Rattle.gtfs_table.specs.Rows.{is_row, records_in}
 use Rattle.gtfs_columns.specs.TripRules.{goes_back, is_end_untimed}
-use Rattle.gtfs_columns.proofs.BoolFacts.{and_both, and_parts, or_left, or_right, same_test}
-use Rattle.gtfs_columns.proofs.SiteFacts.{code_is, file_is, number_itself, same_number}
+use Rattle.gtfs_columns.proofs.BoolFacts.{and_parts, or_left, or_right, same_test}
+use Rattle.gtfs_columns.proofs.SiteFacts.{code_is, file_is}
 use Rattle.gtfs_columns.proofs.ReportingFacts.{reports_alike, reports_then}
-
-or_cases : (a b : Bool) → (a || b) ≡ true → (a ≡ true) ⊎ (b ≡ true)
-or_cases true b e = inl e
-or_cases false b e = inr e
 
 -- a rule that is reported at one column
 in_stop_times : (x : File) → is_file x file.StopTimes ≡ true → is_file file.StopTimes x ≡ true

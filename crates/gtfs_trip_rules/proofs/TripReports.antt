@@ -3,11 +3,13 @@ use Rattle.std.proofs.Common.{◌≡◌, Option, Some, None, option_map, ℕ, ze
 use Rattle.std.specs.Prelude.{◌&&◌, ◌||◌, ◌==◌, codes, not, nat_lt, nat_le, pos, int_lt, ℤ, IsPermutation}
 use Rattle.std.specs.List.{All, AllByRecursion, list_any, range_with_len}
 use Rattle.std.specs.Option.{option_or}
-use Rattle.std.proofs.lemmas.Bool.{cases_Bool}
+use Rattle.std.proofs.lemmas.Bool.{and_from as and_both, cases_Bool, eqb-true as same_number}
 use Rattle.std.proofs.lemmas.Bool.Decides.{nat_tests}
 use Rattle.std.proofs.lemmas.List.{drop-map, drop_more, get_or-map, length-map, map_more, reverse-append, take-map, take_all, take_rest}
 use Rattle.std.proofs.lemmas.List.Elements.{All-from_recursion, All-get_or}
 use Rattle.std.proofs.lemmas.List.Sorted.{All-permutation, IsPermutation-reverse, IsPermutation-trans, list_any-IsPermutation}
+use Rattle.gtfs_field.proofs.NumberFacts.{number_itself}
+use Rattle.gtfs_field.proofs.ListFacts.{any_mapped as any_map}
 use Rattle.gtfs_table.specs.Tables.{Dataset, Records, record_at}
 use Rattle.gtfs_table.specs.Blanks.{cut}
 use Rattle.gtfs_table.specs.declared.file.File.TheVariants as file
@@ -24,14 +26,14 @@ use Rattle.gtfs_trip_rules.specs.TripOrder.{ends, is_left_later, is_untimed_end,
 use Rattle.gtfs_trip_rules.specs.TripStopTimes.{TripStopTime, has_trip_stop_time, trip_stop_time, trip_stop_time_in, trip_stop_times_in}
 use Rattle.gtfs_columns.specs.Values.{if_there}
 use Rattle.gtfs_columns.specs.View.{problem_of}
-use Rattle.gtfs_columns.proofs.BoolFacts.{and_both, and_parts, or_left, or_right, same_test}
-use Rattle.gtfs_columns.proofs.SiteFacts.{at_column_is, number_itself, problem_at, same_number}
+use Rattle.gtfs_columns.proofs.BoolFacts.{and_parts, or_left, or_right, same_test}
+use Rattle.gtfs_columns.proofs.SiteFacts.{at_column_is, problem_at}
 use Rattle.gtfs_columns.proofs.RowFacts.{at_row}
 use Rattle.gtfs_columns.proofs.RuleFacts.{row_reported}
 use Rattle.gtfs_trip_rules.proofs.SplitLists.{IsAscending, IsSplit, ascends_from_sorted, onto, onto_index, split_of}
 use Rattle.gtfs_columns.proofs.ReportingFacts.{reports_alike, reports_none, reports_then}
 use Rattle.gtfs_trip_rules.proofs.TripPositions.{earlier_row, earlier_twin, is_left_late, is_timed_in, last_left_late, later_row}
-use Rattle.gtfs_trip_rules.proofs.TripRestated.{any_filter, any_map, back_restated, end_restated, ends_untimed, goes_back_among, key_restated, repeats_among}
+use Rattle.gtfs_trip_rules.proofs.TripRestated.{any_filter, back_restated, end_restated, ends_untimed, goes_back_among, key_restated, repeats_among}
 use Rattle.gtfs_trip_rules.proofs.TripStopTimeOrder.{is_earlier_twin, is_lower, stands_first}
 
 -- ---- the rows of a dataset

@@ -6,9 +6,12 @@ use Rattle.std.specs.List.{list_any}
 use Rattle.std.specs.Option.{unwrap_or}
 use Rattle.std.specs.Ordering.{int_eq}
 use Rattle.std.specs.Result.{result_ok}
-use Rattle.std.proofs.lemmas.Bool.{cases_Bool}
+use Rattle.std.proofs.lemmas.Bool.{and_from as and_both, cases_Bool}
+use Rattle.std.proofs.Math.Bool.{and-false as and_none, and-true as and_so}
 use Rattle.gtfs_field.specs.declared.fault.FieldFault.{FieldFault}
 use Rattle.gtfs_field.specs.Kinds.{count_of, shaped}
+use Rattle.gtfs_field.proofs.TestFacts.{and_exchange as across, and_later as later}
+use Rattle.gtfs_field.proofs.ListFacts.{any_alike, any_mapped as any_map, any_silent}
 use Rattle.gtfs_table.specs.Tables.{Dataset}
 use Rattle.gtfs_table.specs.declared.file.File.TheVariants as file
 use Rattle.gtfs_columns.specs.KeyRules.{all_there, key_in, same_key}
@@ -18,18 +21,11 @@ use Rattle.gtfs_trip_rules.specs.TripOrder.{same_sequence, same_trip}
 use Rattle.gtfs_trip_rules.specs.TripStopTimes.{TripStopTime, has_trip_stop_time, trip_stop_time_in, trip_stop_times_in}
 use Rattle.gtfs_columns.specs.TripRules.{arrival_in, departure_in, goes_back, is_end_untimed, is_first_row, is_earlier_equal, is_last_row, is_timed_before, sequence_in, stands_before, timed_rows}
 use Rattle.gtfs_columns.specs.Values.{Value, amount, as_amount, as_word, counted, has_control, if_both, if_there, is_word, value_eq, word}
-use Rattle.gtfs_columns.proofs.BoolFacts.{and_both, and_parts, no_test}
+use Rattle.gtfs_columns.proofs.BoolFacts.{and_parts, no_test}
 use Rattle.gtfs_trip_rules.proofs.TripPositions.{is_left_late, is_timed_in, left_late}
 use Rattle.gtfs_trip_rules.proofs.TripStopTimeOrder.{is_earlier_twin, is_lower, stands_first}
 
 -- ---- tests of a list
-
-any_alike : {X : Type 0} (p q : X → Bool) (xs : List X) → ((x : X) → p x ≡ q x) → list_any p xs ≡ list_any q xs
-any_alike p q xs f = ap (λ t. list_any t xs) (λ i x. f x i)
-
-any_silent : {X : Type 0} (p : X → Bool) (xs : List X) → ((x : X) → p x ≡ false) → list_any p xs ≡ false
-any_silent p [] f = refl
-any_silent p (x ∷ xs) f = λ i. f x i || any_silent p xs f i
 
 pub any_filter : {X : Type 0} (t p : X → Bool) (xs : List X) → list_any t (filter p xs) ≡ list_any (λ x. p x && t x) xs
 any_filter t p [] = refl
@@ -37,10 +33,6 @@ any_filter t p (x ∷ xs) = elim (p x) as (λ b. list_any t (cond b (x ∷ filte
   | true ↦ ap (λ b. t x || b) (any_filter t p xs)
   | false ↦ any_filter t p xs
 ]
-
-pub any_map : {X Y : Type 0} (t : Y → Bool) (f : X → Y) (xs : List X) → list_any t (map f xs) ≡ list_any (λ x. t (f x)) xs
-any_map t f [] = refl
-any_map t f (x ∷ xs) = ap (λ b. t (f x) || b) (any_map t f xs)
 
 -- ---- tests of values that are there
 
@@ -66,14 +58,6 @@ is_there : {X : Type 0} (o : Option X) (p : X → Bool) → if_there o p ≡ tru
 is_there None p e = e
 is_there (Some x) p e = refl
 
-and_so : (b : Bool) → (b && true) ≡ b
-and_so true = refl
-and_so false = refl
-
-and_none : (b : Bool) → (b && false) ≡ false
-and_none true = refl
-and_none false = refl
-
 word_test : (w : Option (List ℕ)) (t : List ℕ) (s : Bool) → (is_word w t && s) ≡ ((is_some w && s) && bytes_eq t (unwrap_or w []))
 word_test None t s = refl
 word_test (Some x) t true = and_so (bytes_eq t x)
@@ -83,10 +67,6 @@ under_both : (h x t u : Bool) → (h ≡ true → t ≡ u) → ((h && x) && t) �
 under_both true true t u f = f refl
 under_both true false t u f = refl
 under_both false x t u f = refl
-
-later : (a b c : Bool) → (a && (b && c)) ≡ ((a && b) && c)
-later true b c = refl
-later false b c = refl
 
 -- ---- rows by the values of their columns
 
@@ -287,11 +267,6 @@ no_key : (w : Option (List ℕ)) (z : Option ℤ) (o : Option (List Value)) → 
 no_key None z o e = refl
 no_key (Some x) None o e = refl
 no_key (Some x) (Some y) o e = cc e
-
-across : (a h p : Bool) → (a && (h && p)) ≡ (h && (a && p))
-across true h p = refl
-across false true p = refl
-across false false p = refl
 
 module _ (d : Dataset) (n : ℕ) where
   -- an earlier row has the key of the row

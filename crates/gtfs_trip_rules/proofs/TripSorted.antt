@@ -9,12 +9,13 @@ use Rattle.std.specs.List.Sorted.{IsSorted, IsStrictlySortedBy}
 use Rattle.std.specs.Ordering.{eq_by_cmp, int_cmp, is_lt, nat_cmp, ordering_then}
 use Rattle.std.specs.declared.cmp.Ordering.{Ordering}
 use Rattle.std.specs.declared.cmp.Ordering.TheVariants.{Less, Equal, Greater}
-use Rattle.std.proofs.lemmas.Bool.{cases_Bool}
+use Rattle.std.proofs.lemmas.Bool.{cases_Bool, eqb-true as same_number}
 use Rattle.std.proofs.lemmas.Bool.Decides.{nat_tests}
 use Rattle.std.proofs.lemmas.List.Kept.{IsStrictlySortedBy-dedup}
 use Rattle.std.proofs.lemmas.List.Sorted.{All-permutation, IsPermutation-map, sum_by-IsPermutation}
 use Rattle.std.proofs.lemmas.List.Sums.{sum_by-cons}
 use Rattle.std.proofs.lemmas.Cmp.{int_cmp_total}
+use Rattle.gtfs_field.proofs.NumberFacts.{number_itself}
 use Rattle.gtfs_table.specs.Folder.{text_cmp}
 use Rattle.gtfs_table.specs.Tables.{Dataset, Records}
 use Rattle.gtfs_table.specs.declared.file.File.TheVariants as file
@@ -25,7 +26,6 @@ use Rattle.gtfs_trip_rules.specs.TripOrder.{kept_cmp, row_cmp, AreInOrder, InOrd
 use Rattle.gtfs_trip_rules.specs.TripStopTimes.{TripStopTime, has_trip_stop_time, trip_stop_time, trip_stop_time_in, trip_stop_times_in}
 use Rattle.gtfs_columns.proofs.BoolFacts.{no_test}
 use Rattle.gtfs_columns.proofs.FoundFacts.{sorted_mapped}
-use Rattle.gtfs_columns.proofs.SiteFacts.{number_itself, same_number}
 use Rattle.gtfs_trip_rules.proofs.TripStopTimeOrder.{row_total}
 
 -- ---- each row of a file comes once

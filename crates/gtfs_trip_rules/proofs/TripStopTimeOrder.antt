@@ -1,17 +1,22 @@
 -- The order of rows of trips, and the tests that the rules ask of two rows.
 use Rattle.std.proofs.Common.{◌≡◌, ℕ, List, true, false, Bool, cond, refl, sym, ap, ◌∙◌, bytes_eq}
 use Rattle.std.specs.Prelude.{◌&&◌, ◌||◌, ◌==◌, nat_lt, int_lt, ℤ}
-use Rattle.std.specs.Cmp.{Equal-is, IsTotalOrder, nat_cmp_total, on_total, then_total, tied_itself}
+use Rattle.std.specs.Cmp.{IsTotalOrder, nat_cmp_total, on_total, then_total, tied_itself}
 use Rattle.std.specs.Cmp.Lexicographic.{nat_list_cmp_total}
 use Rattle.std.specs.FinMap.{int_cmp-IsAntisymmetric, nat_cmp-IsAntisymmetric, slice_cmp-IsAntisymmetric}
 use Rattle.std.specs.Ordering.{int_cmp, int_eq, is_eq, is_lt, nat_cmp, on, ordering_reverse, ordering_then, then_cmp}
 use Rattle.std.specs.declared.cmp.Ordering.{Ordering}
 use Rattle.std.specs.declared.cmp.Ordering.TheVariants.{Less, Equal, Greater}
 use Rattle.std.proofs.lemmas.Cmp.{int_cmp_total, int_eq_equiv}
+use Rattle.std.proofs.lemmas.Bool.{and_from as and_both}
+use Rattle.std.proofs.Math.Bool.{and_comm as turned}
+use Rattle.gtfs_field.proofs.NumberFacts.{eq-int_eq as same_numbers, int_eq-true as same_number}
+use Rattle.gtfs_field.proofs.OrderingFacts.{tied_second as last_ties}
+use Rattle.gtfs_field.proofs.TestFacts.{and_fails}
 use Rattle.gtfs_table.specs.Folder.{text_cmp}
 use Rattle.gtfs_trip_rules.specs.TripOrder.{row_cmp, same_sequence, same_trip, trip_cmp}
 use Rattle.gtfs_trip_rules.specs.TripStopTimes.{TripStopTime}
-use Rattle.gtfs_columns.proofs.BoolFacts.{and_both, and_parts, and_under}
+use Rattle.gtfs_columns.proofs.BoolFacts.{and_parts, and_under}
 use Rattle.gtfs_columns.proofs.SiteFacts.{text_is, text_itself}
 
 abbrev sequence_cmp : TripStopTime → TripStopTime → Ordering
@@ -26,9 +31,6 @@ is_earlier_twin a b = nat_lt a.row b.row && int_eq a.sequence b.sequence
 
 abbrev pub stands_first : TripStopTime → TripStopTime → Bool
 stands_first a b = is_lower a b || is_earlier_twin a b
-
-same_number : (a b : ℤ) → int_eq a b ≡ true → a ≡ b
-same_number a b e = int_cmp-IsAntisymmetric a b ((Equal-is (int_cmp a b)).0 e)
 
 number_itself : (a : ℤ) → int_cmp a a ≡ Equal
 number_itself a = tied_itself int_cmp_total a
@@ -51,12 +53,6 @@ number_test : (u v : Bool) → is_lt (cond u Less (cond v Equal Greater)) ≡ u
 number_test true v = refl
 number_test false true = refl
 number_test false false = refl
-
-turned : (a b : Bool) → (a && b) ≡ (b && a)
-turned true true = refl
-turned true false = refl
-turned false true = refl
-turned false false = refl
 
 module _ {X K : Type 0} (f : X → K) (R : K → K → Ordering) (o : IsTotalOrder R) (tie : (a b : K) → R a b ≡ Equal → a ≡ b) (S : X → X → Ordering) where
   then_less : (r s : Ordering) → ordering_then r s ≡ Less → r ≡ Greater → Less ≡ Greater
@@ -81,9 +77,6 @@ sequence_between = key_between (λ (r : TripStopTime). r.sequence) int_cmp int_c
 same_texts : (a b : TripStopTime) → a.trip_id ≡ b.trip_id → same_trip a b ≡ true
 same_texts a b e = ap (bytes_eq a.trip_id) (sym e) ∙ text_itself a.trip_id
 
-same_numbers : (a b : ℤ) → a ≡ b → int_eq a b ≡ true
-same_numbers a b e = ap (int_eq a) (sym e) ∙ (Equal-is (int_cmp a a)).1 (number_itself a)
-
 pub trip_itself : (e : TripStopTime) → same_trip e e ≡ true
 trip_itself e = text_itself e.trip_id
 
@@ -93,10 +86,6 @@ is_higher_in_trip e m = same_trip e m && is_lower e m
 or_first : (a b : Bool) → (a || b) ≡ false → a ≡ false
 or_first true b e = e
 or_first false b e = refl
-
-and_fails : (a b : Bool) → (a ≡ true → b ≡ false) → (a && b) ≡ false
-and_fails true b f = f refl
-and_fails false b f = refl
 
 or_second : (a b c : Bool) → (a || (b && c)) ≡ true → c ≡ false → a ≡ true
 or_second true b c e f = refl
@@ -121,11 +110,6 @@ parted true false true i j e = e ∙ sym (or_none j)
 parted true false false i j e = refl
 parted false l true i j e = refl
 parted false l false i j e = refl
-
-last_ties : (r s : Ordering) → ordering_then r s ≡ Equal → s ≡ Equal
-last_ties Less s e = cc
-last_ties Equal s e = e
-last_ties Greater s e = cc
 
 -- ---- the order by some numbers of trips
 

@@ -4,6 +4,7 @@ use Rattle.std.specs.Prelude.{IsSome, find, fold, option_and_then, if◌then◌e
 use Rattle.std.specs.List.{list_all, list_any}
 use Rattle.std.specs.Option.{option_map_or}
 use Rattle.std.specs.Str.{bytes_eq, chars}
+use Rattle.std.proofs.lemmas.Bool.{and_parts}
 use Rattle.clap.specs.Lexer.{long_of, short_of}
 use Rattle.clap.specs.Facts.{explicit_source, unwrap_or_range}
 use Rattle.clap.specs.Walk.{Held, Names, Outcome, Row, Rule, Step, Text, Waiting, Walk, action_of, after_flag, after_step, arg_by_id, arg_by_index, arg_by_long, arg_by_short, at_row, attached_value, bundle, bundle_met, bundle_step, default_rows, done, finished, first_of, flag_met, has_long, has_row, has_short, idle, is_pending, long_met, long_or_other, more_values, next, nothing_held, option, option_met, option_word, plain, plain_word, positional, positional_held, pushed, reacted, reading_by, refused, rows_after, settled, settled_rows, short_met, short_or_plain, subcommand, subcommand_met, subcommand_or_other, takes_several, takes_values, to_positional, trailing, used, used_as, used_by_id, value, values_or_missing, waits, walk, most_values, walk_from, walked, walked_from, with_default, with_values, without, word_met}
@@ -14,7 +15,7 @@ use Rattle.clap.specs.declared.builder.action.ArgAction.TheVariants as action
 use Rattle.clap.specs.declared.builder.value_parser.Reading.{Reading}
 use Rattle.clap.specs.declared.parser.matches.ValueSource.{ValueSource}
 use Rattle.clap.specs.declared.parser.matches.ValueSource.TheVariants.{CommandLine, DefaultValue}
-use Rattle.gtfs_words.proofs.TakenWords.{both, first_passes}
+use Rattle.gtfs_words.proofs.TakenWords.{first_passes}
 
 -- ---- rows
 
@@ -33,14 +34,14 @@ text_added (t ∷ ts) v vs = refl
 filled_append : (xs ys : List Row) → are_filled xs ≡ true → are_filled ys ≡ true → are_filled (xs ++ ys) ≡ true
 filled_append [] ys e f = f
 filled_append (x ∷ xs) ys e f =
-    let parts = both (has_text x.values) (are_filled xs) e in
+    let parts = and_parts (has_text x.values) (are_filled xs) e in
     rw (parts.0) (filled_append xs ys parts.1 f)
 
 filled_at : (id : Text) (change : Row → List Row) (missing rows : List Row) → ((r : Row) → are_filled (change r) ≡ true) → are_filled missing ≡ true
     → are_filled rows ≡ true → are_filled (at_row id change missing rows) ≡ true
 filled_at id change missing [] changed new e = new
 filled_at id change missing (r ∷ rs) changed new e =
-    go (bytes_eq r.id id) (both (has_text r.values) (are_filled rs) e) (filled_at id change missing rs changed new)
+    go (bytes_eq r.id id) (and_parts (has_text r.values) (are_filled rs) e) (filled_at id change missing rs changed new)
   where
     go : (b : Bool) → (has_text r.values ≡ true) × (are_filled rs ≡ true) → (are_filled rs ≡ true → are_filled (at_row id change missing rs) ≡ true)
         → are_filled (if b then change r ++ rs else r ∷ at_row id change missing rs) ≡ true
@@ -78,7 +79,7 @@ no_text least e f = grind arith
 used_filled : (again : Bool) (a : Rule) (values : List Text) (rows : List Row) → asks a ≡ true → take.use_passes again a values rows ≡ true
     → are_filled rows ≡ true → are_filled (used a values rows) ≡ true
 used_filled again a values rows ask passes filled =
-    go (action_of a) values ask (both (nat_le (unwrap_or_range a.range).start_inclusive (length values))
+    go (action_of a) values ask (and_parts (nat_le (unwrap_or_range a.range).start_inclusive (length values))
     (nat_le (length values) (most_values a) && take.action_passes (action_of a) again a (values_or_missing a values) rows) passes).0
   where
     go : (x : ArgAction) (values : List Text) → asks_by x a ≡ true → nat_le (unwrap_or_range a.range).start_inclusive (length values) ≡ true
@@ -114,7 +115,7 @@ settled_filled c again (Some p) rows ask passes filled = by_rule c again (arg_by
 reacted_filled : (c : List Rule) (again : Bool) (a : Rule) (values : List Text) (h : Held) → list_all asks c ≡ true → asks a ≡ true
     → take.react_passes c again a values h ≡ true → are_filled h.rows ≡ true → are_filled (reacted c a values h).rows ≡ true
 reacted_filled c again a values h all ask passes filled =
-    let parts = both (take.settle_passes c again h) (take.use_passes again a values (settled c h).rows) passes in
+    let parts = and_parts (take.settle_passes c again h) (take.use_passes again a values (settled c h).rows) passes in
     used_filled again a values (settled c h).rows ask parts.1 (settled_filled c again h.pending h.rows all parts.0 filled)
 
 option_filled : (c : List Rule) (again : Bool) (a : Rule) (v : Option Text) (h : Held) → list_all asks c ≡ true → asks a ≡ true
@@ -148,7 +149,7 @@ short_filled c again (Some a) rest h then_held then_passes all ask more passes f
         → are_filled (if takes then option_met c a (attached_value rest) h else then_held (reacted c a [] h)).0.rows ≡ true
     go true passes = option_filled c again a (attached_value rest) h all (ask a refl) passes filled
     go false passes =
-        let parts = both (take.react_passes c again a [] h) (then_passes (reacted c a [] h)) passes in
+        let parts = and_parts (take.react_passes c again a [] h) (then_passes (reacted c a [] h)) passes in
         more (reacted c a [] h) parts.1 (reacted_filled c again a [] h all (ask a refl) parts.0 filled)
 
 flag_filled : (c : List Rule) (again : Bool) (first : Option ℕ) (flags : Text) (skip : ℕ) (so_far : Outcome) (h : Held)
@@ -252,7 +253,7 @@ turn_filled s names w word all passes filled = go w.stopped passes
     go (Some p) passes = filled
     go None passes =
         let met = word_met s.rules names w.is_trailing w.waiting w.position word w.held in
-        let parts = both (take.word_passes s names w.is_trailing w.waiting word w.held) (take.step_passes s w.position met.0 met.1) passes in
+        let parts = and_parts (take.word_passes s names w.is_trailing w.waiting word w.held) (take.step_passes s w.position met.0 met.1) passes in
         step_filled s w word met.0 met.1 all parts.1 (word_filled s names w.is_trailing w.waiting w.position word w.held all parts.0 filled)
 
 walk_filled : (s : Shape) (names : Names) (w : Walk) (words : List Text) → list_all asks s.rules ≡ true → take.walk_passes s names w words ≡ true
@@ -260,7 +261,7 @@ walk_filled : (s : Shape) (names : Names) (w : Walk) (words : List Text) → lis
 unfolding take.walk_passes
 walk_filled s names w [] all passes filled = filled
 walk_filled s names w (word ∷ rest) all passes filled =
-    let parts = both (take.turn_passes s names w word) (take.walk_passes s names (walked s.rules names w word) rest) passes in
+    let parts = and_parts (take.turn_passes s names w word) (take.walk_passes s names (walked s.rules names w word) rest) passes in
     walk_filled s names (walked s.rules names w word) rest all parts.1 (turn_filled s names w word all parts.0 filled)
 
 -- ---- after the words
@@ -283,8 +284,8 @@ pub level_filled : (s : Shape) (names : Names) (words : List Text) (has : Bool) 
 level_filled s names words has all passes =
     let end = (walk s.rules names nothing_held words).held in
     let checks = list_all take.default_passes s.rules && take.is_valid s (finished s.rules end) has in
-    let walks = both (take.walk_passes s names (walk_from nothing_held) words) (take.settle_passes s.rules s.args_override_self end && checks) passes in
-    let settles = both (take.settle_passes s.rules s.args_override_self end) checks walks.1 in
+    let walks = and_parts (take.walk_passes s names (walk_from nothing_held) words) (take.settle_passes s.rules s.args_override_self end && checks) passes in
+    let settles = and_parts (take.settle_passes s.rules s.args_override_self end) checks walks.1 in
     let filled = walk_filled s names (walk_from nothing_held) words all walks.0 refl in
     defaults_filled s.rules (settled s.rules end).rows (settled_filled s.rules s.args_override_self end.pending end.rows all settles.0 filled)
 
@@ -298,13 +299,13 @@ level_given s names words passes =
     let given = list_all (λ a. not a.required || take.is_given a.id rows) s.rules in
     let free = list_all (λ a. a.is_free) s.rules && ((s.subcommand_negates_reqs && false) || given) in
     let commands = (not s.subcommand_required || false) && free in
-    let walks = both (take.walk_passes s names (walk_from nothing_held) words) (take.settle_passes s.rules s.args_override_self end
+    let walks = and_parts (take.walk_passes s names (walk_from nothing_held) words) (take.settle_passes s.rules s.args_override_self end
     && (list_all take.default_passes s.rules && take.is_valid s rows false)) passes in
-    let settles = both (take.settle_passes s.rules s.args_override_self end) (list_all take.default_passes s.rules && take.is_valid s rows false) walks.1 in
-    let defaults = both (list_all take.default_passes s.rules) (take.is_valid s rows false) settles.1 in
-    let helps = both (not s.arg_required_else_help || (false || used)) commands defaults.1 in
-    let needs = both (not s.subcommand_required || false) free helps.1 in
-    let last = both (list_all (λ a. a.is_free) s.rules) ((s.subcommand_negates_reqs && false) || given) needs.1 in
+    let settles = and_parts (take.settle_passes s.rules s.args_override_self end) (list_all take.default_passes s.rules && take.is_valid s rows false) walks.1 in
+    let defaults = and_parts (list_all take.default_passes s.rules) (take.is_valid s rows false) settles.1 in
+    let helps = and_parts (not s.arg_required_else_help || (false || used)) commands defaults.1 in
+    let needs = and_parts (not s.subcommand_required || false) free helps.1 in
+    let last = and_parts (list_all (λ a. a.is_free) s.rules) ((s.subcommand_negates_reqs && false) || given) needs.1 in
     go s.subcommand_negates_reqs given last.1
   where
     go : (negates given : Bool) → ((negates && false) || given) ≡ true → given ≡ true
@@ -334,10 +335,10 @@ level_command s names words has required passes =
     let given = list_all (λ a. not a.required || take.is_given a.id rows) s.rules in
     let free = list_all (λ a. a.is_free) s.rules && ((s.subcommand_negates_reqs && has) || given) in
     let commands = (not s.subcommand_required || has) && free in
-    let walks = both (take.walk_passes s names (walk_from nothing_held) words) (take.settle_passes s.rules s.args_override_self end
+    let walks = and_parts (take.walk_passes s names (walk_from nothing_held) words) (take.settle_passes s.rules s.args_override_self end
     && (list_all take.default_passes s.rules && take.is_valid s rows has)) passes in
-    let settles = both (take.settle_passes s.rules s.args_override_self end) (list_all take.default_passes s.rules && take.is_valid s rows has) walks.1 in
-    let defaults = both (list_all take.default_passes s.rules) (take.is_valid s rows has) settles.1 in
-    let helps = both (not s.arg_required_else_help || (has || used)) commands defaults.1 in
-    let needs = both (not s.subcommand_required || has) free helps.1 in
+    let settles = and_parts (take.settle_passes s.rules s.args_override_self end) (list_all take.default_passes s.rules && take.is_valid s rows has) walks.1 in
+    let defaults = and_parts (list_all take.default_passes s.rules) (take.is_valid s rows has) settles.1 in
+    let helps = and_parts (not s.arg_required_else_help || (has || used)) commands defaults.1 in
+    let needs = and_parts (not s.subcommand_required || has) free helps.1 in
     subst (λ wanted. (not wanted || has) ≡ true) required needs.0

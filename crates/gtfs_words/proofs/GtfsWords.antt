@@ -2,6 +2,7 @@
 use Rattle.std.proofs.Common.{◌≡◌, ◌⊎◌, ◌∙◌, ◌&&◌, Bool, true, false, List, [], ◌∷◌, Option, Some, None, is_some, refl, sym, subst, inl, inr, codes}
 use Rattle.std.specs.Prelude.{option_map, if◌then◌else◌}
 use Rattle.std.specs.Option.{option_map_or}
+use Rattle.std.proofs.lemmas.Bool.{and_parts, false_from_ne_true}
 use Rattle.clap.specs.Words.{App, Row, Text, HasMatchesOf, IsAmong, fault_of, is_simple_and_free, subcommand_of, subcommand_rows_of, takes}
 use Rattle.clap.specs.Simple.{Shape, argument_words, built, built_leaf, entered, inherited, label_of, marked_built, names_of, rows_at, with_leaf_noted}
 use Rattle.clap.specs.Takes as take
@@ -15,7 +16,7 @@ use Rattle.gtfs_words.specs.Untaken.{no_memory, IsFaultOf, IsToldOf}
 use Rattle.gtfs_words.specs.declared.fault.WordsFault.{WordsFault}
 use Rattle.gtfs_words.specs.declared.fault.WordsFault.TheVariants as fault
 use Rattle.gtfs_words.proofs.HelpAlone.{alone, built_alone, only_help}
-use Rattle.gtfs_words.proofs.TakenWords.{both, built_taken}
+use Rattle.gtfs_words.proofs.TakenWords.{built_taken}
 use Rattle.gtfs_words.proofs.GivenTexts.{are_filled, given_text, level_command, level_filled, level_given}
 
 help_is_no_memory : kind.DisplayHelp ≡ kind.OutOfMemory → ⊥
@@ -46,7 +47,7 @@ are_four = refl
 
 -- where nothing required is wanting, the id of `check` has a text
 has_check : (rows : List Row) → are_filled rows ≡ true → (take.is_given (codes "DIR") rows && true) ≡ true → HasCheck rows
-has_check rows filled all = given_text (codes "DIR") rows filled (both (take.is_given (codes "DIR") rows) true all).0
+has_check rows filled all = given_text (codes "DIR") rows filled (and_parts (take.is_given (codes "DIR") rows) true all).0
 
 -- and each id that `board` needs
 has_board : (rows : List Row) → are_filled rows ≡ true
@@ -58,11 +59,11 @@ has_board rows filled all =
     let from = take.is_given (codes "from") rows && until in
     let stop = take.is_given (codes "stop") rows && from in
     let zone = take.is_given (codes "zone") rows && stop in
-    let dirs = both (take.is_given (codes "DIR") rows) zone all in
-    let zones = both (take.is_given (codes "zone") rows) stop dirs.1 in
-    let stops = both (take.is_given (codes "stop") rows) from zones.1 in
-    let froms = both (take.is_given (codes "from") rows) until stops.1 in
-    let untils = both (take.is_given (codes "until") rows) true froms.1 in
+    let dirs = and_parts (take.is_given (codes "DIR") rows) zone all in
+    let zones = and_parts (take.is_given (codes "zone") rows) stop dirs.1 in
+    let stops = and_parts (take.is_given (codes "stop") rows) from zones.1 in
+    let froms = and_parts (take.is_given (codes "from") rows) until stops.1 in
+    let untils = and_parts (take.is_given (codes "until") rows) true froms.1 in
     record {
       dir = given_text (codes "DIR") rows filled dirs.0;
       zone = given_text (codes "zone") rows filled zones.0;
@@ -78,9 +79,9 @@ has_timetable : (rows : List Row) → are_filled rows ≡ true
 has_timetable rows filled all =
     let date = take.is_given (codes "date") rows && true in
     let route = take.is_given (codes "route") rows && date in
-    let dirs = both (take.is_given (codes "DIR") rows) route all in
-    let routes = both (take.is_given (codes "route") rows) date dirs.1 in
-    let dates = both (take.is_given (codes "date") rows) true routes.1 in
+    let dirs = and_parts (take.is_given (codes "DIR") rows) route all in
+    let routes = and_parts (take.is_given (codes "route") rows) date dirs.1 in
+    let dates = and_parts (take.is_given (codes "date") rows) true routes.1 in
     record {
       dir = given_text (codes "DIR") rows filled dirs.0;
       route = given_text (codes "route") rows filled routes.0;
@@ -94,9 +95,9 @@ has_merge : (rows : List Row) → are_filled rows ≡ true
 has_merge rows filled all =
     let out = take.is_given (codes "OUT") rows && true in
     let second = take.is_given (codes "B") rows && out in
-    let firsts = both (take.is_given (codes "A") rows) second all in
-    let seconds = both (take.is_given (codes "B") rows) out firsts.1 in
-    let outs = both (take.is_given (codes "OUT") rows) true seconds.1 in
+    let firsts = and_parts (take.is_given (codes "A") rows) second all in
+    let seconds = and_parts (take.is_given (codes "B") rows) out firsts.1 in
+    let outs = and_parts (take.is_given (codes "OUT") rows) true seconds.1 in
     record {
       a = given_text (codes "A") rows filled firsts.0;
       b = given_text (codes "B") rows filled seconds.0;
@@ -149,7 +150,7 @@ whole words e =
     let stop = (walk app.top.rules (names_of app) nothing_held args).stopped in
     let below = take.entered_passes app stop in
     let above = take.level_passes app.top (names_of app) nothing_held args (is_some (entered app stop)) in
-    let levels = both below above e in
+    let levels = and_parts below above e in
     entered_whole stop levels.0 (level_command app.top (names_of app) args (is_some (entered app stop)) refl levels.1)
 
 -- what a parse of the words gives, where a is the command line of `gtfs`
@@ -163,10 +164,6 @@ module _ (a : App) (words : List Text) (is : a ≡ gtfs_app) where
   pub whole_by : (m : ArgMatches) → HasMatchesOf a words m → (is_simple_and_free a ≡ true → fault_of a words ≡ []) → IsWhole (subcommand_rows_of m)
   whole_by m matches faults = subst IsWhole (sym (read_by m matches)) (whole words (taken_by faults))
 
-not_true : (b : Bool) → (b ≡ true → ⊥) → b ≡ false
-not_true true never = absurd (never refl)
-not_true false never = refl
-
 -- help is the only kind that is named beside no other
 help_alone : (words : List Text) → alone (fault_of gtfs_app words) ≡ true
 help_alone words = built_alone (built gtfs_app) nothing_held (argument_words gtfs_app words) refl refl
@@ -175,7 +172,7 @@ help_alone words = built_alone (built gtfs_app) nothing_held (argument_words gtf
 pub fault_is : (words : List Text) (k : ErrorKind) (told : WordsFault) → (takes gtfs_app words ≡ true → k ≡ kind.OutOfMemory)
     → (k ≡ kind.OutOfMemory) ⊎ IsAmong k (fault_of gtfs_app words) → IsToldOf k told → IsFaultOf words told
 fault_is words k (fault.Refused text) passes among is = (
-  not_true (takes gtfs_app words) (λ e. is.1 (passes e)),
+  false_from_ne_true (takes gtfs_app words) (λ e. is.1 (passes e)),
   λ asks. elim among [ inl no_room ↦ is.1 no_room | inr found ↦ other_kind (subst (IsAmong k) asks found) ],
 )
   where
@@ -183,7 +180,7 @@ fault_is words k (fault.Refused text) passes among is = (
     other_kind (inl same) = is.0 same
     other_kind (inr none) = none
 fault_is words k (fault.Help text) passes among is = (
-  not_true (takes gtfs_app words) (λ e. help_is_no_memory (sym is ∙ passes e)),
+  false_from_ne_true (takes gtfs_app words) (λ e. help_is_no_memory (sym is ∙ passes e)),
   elim among [
     | inl no_room ↦ absurd (help_is_no_memory (sym is ∙ no_room))
     | inr found ↦ only_help (fault_of gtfs_app words) (help_alone words) (subst (λ x. IsAmong x (fault_of gtfs_app words)) is found)

@@ -1,9 +1,12 @@
 -- Where `clap` finds no fault in the words of a simple command without defaults, it takes them.
-use Rattle.std.proofs.Common.{◌≡◌, ◌&&◌, ◌||◌, ℕ, zero, suc, Bool, true, false, not, List, [], ◌∷◌, length, drop, Option, Some, None, is_some, refl, ap, arith, nat_le}
-use Rattle.std.specs.Prelude.{find, unwrap_or, if◌then◌else◌, encode_utf8, slice_get, codes}
+use Rattle.std.proofs.Common.{◌≡◌, ◌&&◌, ◌||◌, ℕ, zero, suc, Bool, true, false, not, List, [], ◌∷◌, length, drop, Option, Some, None, is_some, refl, arith, nat_le}
+use Rattle.std.specs.Prelude.{find, if◌then◌else◌, encode_utf8, slice_get, codes}
 use Rattle.std.specs.List.{list_all, list_any}
 use Rattle.std.specs.Option.{option_map_or}
 use Rattle.std.specs.Str.{bytes_eq, chars}
+use Rattle.std.proofs.lemmas.Bool.{and_from, and_parts}
+use Rattle.std.proofs.lemmas.Option.{same_Some}
+use Rattle.std.proofs.Math.Bool.{or-true}
 use Rattle.clap.specs.Lexer.{long_of, short_of}
 use Rattle.clap.specs.Facts.{explicit_source, parser_of_value, unwrap_or_range}
 use Rattle.clap.specs.Values.{refused_kind}
@@ -20,17 +23,6 @@ use Rattle.clap.specs.declared.builder.value_parser.ValueParser.{ValueParser}
 
 -- ---- tests
 
-some_same : {X : Type 0} (x y : X) → Some x ≡ Some y → x ≡ y
-some_same x y e = ap (λ o. unwrap_or o x) e
-
-pub both : (a b : Bool) → (a && b) ≡ true → (a ≡ true) × (b ≡ true)
-both true true e = (refl, refl)
-both true false e = cc
-both false b e = cc
-
-pub and_true : (a b : Bool) → a ≡ true → b ≡ true → (a && b) ≡ true
-and_true a b e f = rw (e, f) refl
-
 pub none_first : (a b : Kinds) → or_else a b ≡ [] → (a ≡ []) × (b ≡ [])
 none_first [] b e = (refl, e)
 none_first (k ∷ ks) b e = cc
@@ -38,10 +30,10 @@ none_first (k ∷ ks) b e = cc
 -- the first that passes a test passes each test that all pass
 pub first_passes : {X : Type 0} (p q : X → Bool) (xs : List X) (x : X) → list_all q xs ≡ true → find p xs ≡ Some x → q x ≡ true
 first_passes p q [] x all found = cc
-first_passes {X} p q (y ∷ ys) x all found = go (p y) found (first_passes p q ys x (both (q y) (list_all q ys) all).1)
+first_passes {X} p q (y ∷ ys) x all found = go (p y) found (first_passes p q ys x (and_parts (q y) (list_all q ys) all).1)
   where
     go : (b : Bool) → (if b then Some y else find p ys) ≡ Some x → (find p ys ≡ Some x → q x ≡ true) → q x ≡ true
-    go true e rest = rw (← some_same y x e) (both (q y) (list_all q ys) all).0
+    go true e rest = rw (← same_Some y x e) (and_parts (q y) (list_all q ys) all).0
     go false e rest = rest e
 
 -- ---- one use of an argument
@@ -57,7 +49,7 @@ values_taken : (i : Bool) (p : ValueParser) (ts : List Text) → values_kinds i 
 values_taken i p [] e = refl
 values_taken i p (t ∷ ts) e =
     let parts = none_first (value_kinds i p t) (values_kinds i p ts) e in
-    and_true _ _ (value_taken i p t parts.0) (values_taken i p ts parts.1)
+    and_from _ _ (value_taken i p t parts.0) (values_taken i p ts parts.1)
 
 range_taken : (least most n : ℕ) → range_kinds least most n ≡ [] → (nat_le least n ≡ true) × (nat_le n most ≡ true)
 range_taken least most n e = (grind arith, grind arith)
@@ -65,7 +57,7 @@ range_taken least most n e = (grind arith, grind arith)
 set_taken : (again : Bool) (a : Rule) (values : List Text) (rows : List Row) → fault.set_fault again a values rows ≡ [] → take.set_passes again a values rows ≡ true
 set_taken again a values rows e =
     let parts = none_first (fault.repeat_fault again a.id rows) (fault.values_fault a values) e in
-    and_true _ _ (go (has_row a.id rows) again parts.0) (values_taken a.ignore_case (parser_of_value a.parser) values parts.1)
+    and_from _ _ (go (has_row a.id rows) again parts.0) (values_taken a.ignore_case (parser_of_value a.parser) values parts.1)
   where
     go : (has again : Bool) → (if has && not again then kind.ArgumentConflict ∷ [] else []) ≡ [] → (not has || again) ≡ true
     go true true e = refl
@@ -92,7 +84,7 @@ use_taken : (again : Bool) (a : Rule) (values : List Text) (rows : List Row) →
 use_taken again a values rows e =
     let parts = none_first _ _ e in
     let range = range_taken (unwrap_or_range a.range).start_inclusive (most_values a) (length values) parts.0 in
-    and_true _ _ range.0 (and_true _ _ range.1 (action_taken (action_of a) again a (values_or_missing a values) rows parts.1))
+    and_from _ _ range.0 (and_from _ _ range.1 (action_taken (action_of a) again a (values_or_missing a values) rows parts.1))
 
 -- ---- one word
 
@@ -114,7 +106,7 @@ react_taken : (c : List Rule) (again : Bool) (a : Rule) (values : List Text) (h 
     → take.react_passes c again a values h ≡ true
 react_taken c again a values h e =
     let parts = none_first _ _ e in
-    and_true _ _ (settle_taken c again h parts.0) (use_taken again a values (settled c h).rows parts.1)
+    and_from _ _ (settle_taken c again h parts.0) (use_taken again a values (settled c h).rows parts.1)
 
 option_taken : (c : List Rule) (again : Bool) (a : Rule) (v : Option Text) (h : Held) → fault.option_fault c again a v h ≡ []
     → take.option_passes c again a v h ≡ true
@@ -146,7 +138,7 @@ short_taken c again (Some a) rest h then_fault then_passes more e = go (takes_va
     go true e = option_taken c again a (attached_value rest) h e
     go false e =
         let parts = none_first _ _ e in
-        and_true _ _ (react_taken c again a [] h parts.0) (more _ parts.1)
+        and_from _ _ (react_taken c again a [] h parts.0) (more _ parts.1)
 
 flag_taken : (c : List Rule) (again : Bool) (first : Option ℕ) (flags : Text) (skip : ℕ) (h : Held)
     (then_fault : Text → ℕ → Held → Kinds) (then_passes : Text → ℕ → Held → Bool)
@@ -230,14 +222,14 @@ turn_taken s names w word e =
     go h step true e = refl
     go h step false e =
         let parts = none_first _ _ e in
-        and_true _ _ (word_taken s names w.is_trailing w.waiting word w.held parts.0) (step_taken s w.position h step parts.1)
+        and_from _ _ (word_taken s names w.is_trailing w.waiting word w.held parts.0) (step_taken s w.position h step parts.1)
 
 walk_taken : (s : Shape) (names : Names) (w : Walk) (words : List Text) → fault.walk_fault s names w words ≡ [] → take.walk_passes s names w words ≡ true
 unfolding fault.walk_fault take.walk_passes
 walk_taken s names w [] e = refl
 walk_taken s names w (word ∷ rest) e =
     let parts = none_first _ _ e in
-    and_true _ _ (turn_taken s names w word parts.0) (walk_taken s names (walked s.rules names w word) rest parts.1)
+    and_from _ _ (turn_taken s names w word parts.0) (walk_taken s names (walked s.rules names w word) rest parts.1)
 
 -- ---- the whole command
 
@@ -252,10 +244,6 @@ none_wanting rows (a ∷ rest) e = go a.required (take.is_given a.id rows) e (no
     go true true e more = more e
     go true false e more = cc
     go false given e more = more e
-
-or_true : (b : Bool) → (b || true) ≡ true
-or_true true = refl
-or_true false = refl
 
 all_true : (a b c : Bool) → a ≡ true → b ≡ true → c ≡ true → (a && (b && (true && c))) ≡ true
 all_true a b c e f g = rw (e, f, g) refl
@@ -272,7 +260,7 @@ checks_taken : (has wants_help used wants_command free negates wanting given : B
     → ((not wants_help || (has || used)) && ((not wants_command || has) && (free && ((negates && has) || given)))) ≡ true
 checks_taken has wants_help used wants_command false negates wanting given all is_free e = cc
 checks_taken true wants_help used wants_command true negates wanting given all is_free e =
-    all_true _ _ _ (or_true (not wants_help)) (or_true (not wants_command)) (none_wants (negates && true) wanting given all e)
+    all_true _ _ _ (or-true (not wants_help)) (or-true (not wants_command)) (none_wants (negates && true) wanting given all e)
 checks_taken false true false wants_command true negates wanting given all is_free e = cc
 checks_taken false true true true true negates wanting given all is_free e = cc
 checks_taken false true true false true negates wanting given all is_free e = none_wants (negates && false) wanting given all e
@@ -293,15 +281,15 @@ level_taken : (s : Shape) (names : Names) (h : Held) (words : List Text) (has : 
     → fault.level_fault s names h words has below ≡ [] → (below ≡ []) × (take.level_passes s names h words has ≡ true)
 level_taken s names h words has below bare e =
     let end = (walk s.rules names h words).held in
-    let free = both (fault.has_free_rules s) (list_all take.default_passes s.rules) bare in
+    let free = and_parts (fault.has_free_rules s) (list_all take.default_passes s.rules) bare in
     let walks = none_first (fault.walk_fault s names (walk_from h) words) _ e in
     let belows = none_first below _ walks.1 in
     let settles = none_first (fault.settle_fault s.rules s.args_override_self end) _ belows.1 in
     let defaults = none_first (fault.defaults_fault (settled s.rules end).rows s.rules) _ settles.1 in (
       belows.0,
-      and_true _ _ (walk_taken s names (walk_from h) words walks.0)
-          (and_true _ _ (settle_taken s.rules s.args_override_self end settles.0)
-          (and_true _ _ free.1 (check_taken s (finished s.rules end) has free.0 defaults.1))),
+      and_from _ _ (walk_taken s names (walk_from h) words walks.0)
+          (and_from _ _ (settle_taken s.rules s.args_override_self end settles.0)
+          (and_from _ _ free.1 (check_taken s (finished s.rules end) has free.0 defaults.1))),
     )
 
 entered_taken : (a : App) (stop : Option (Text × List Text)) → list_all is_bare a.subs ≡ true → fault.entered_fault a stop ≡ [] → take.entered_passes a stop ≡ true
@@ -319,4 +307,4 @@ pub built_taken : (a : App) (h : Held) (words : List Text) → is_bare a.top ≡
 built_taken a h words top subs e =
     let stop = (walk a.top.rules (names_of a) h words).stopped in
     let levels = level_taken a.top (names_of a) h words (is_some (entered a stop)) (fault.entered_fault a stop) top e in
-    and_true _ _ (entered_taken a stop subs levels.0) levels.1
+    and_from _ _ (entered_taken a stop subs levels.0) levels.1

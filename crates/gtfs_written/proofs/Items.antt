@@ -1,11 +1,10 @@
 -- The items of a loop, and the trips of a content with what they hold.
-use Rattle.std.proofs.Common.{◌≡◌, ◌∙◌, ap, sym, refl, subst, ℕ, zero, suc, ◌+◌, ◌<◌, ◌≤◌, ◌++◌, ◌∷◌, List, [], Bool, true, Some, get_or, take, drop, map, length, drop-cons, add-one, arith}
+use Rattle.std.proofs.Common.{◌≡◌, ◌∙◌, ap, sym, ℕ, suc, ◌+◌, ◌<◌, ◌≤◌, ◌++◌, ◌∷◌, List, [], Bool, true, Some, get_or, drop, map, length, drop-cons, add-one, arith}
 use Rattle.std.specs.List.{list_all, slice_get}
-use Rattle.std.proofs.lemmas.Bool.{and_parts}
 use Rattle.std.proofs.lemmas.List.{drop_all}
-use Rattle.std.proofs.lemmas.Option.{get_or_from_slice_get, slice_get_within}
+use Rattle.std.proofs.lemmas.Option.{get_or_from_slice_get}
 use Rattle.gtfs_table.specs.Parts.{parts}
-use Rattle.gtfs_table.proofs.PartFacts.{length-parts, part-at}
+use Rattle.gtfs_table.proofs.PartFacts.{length-parts}
 use Rattle.gtfs_rows.specs.declared.frequency.Frequency.{Frequency}
 use Rattle.gtfs_rows.specs.declared.parts.Parts.{Parts}
 use Rattle.gtfs_rows.specs.declared.stop_row.StopRow.{StopRow}
@@ -81,24 +80,6 @@ module _ (p : Parts) (sound : IsSoundParts p) (ts : List Trip) (same : ts ≡ p.
       ap (λ n. with_rows t s' (rows (trips_left p n))) (add-one i) ∙ step t _ _ (rows (trips_left p (suc i))) split s s' end before taken
 
 -- ---- stretches
-
-all_taken : {X : Type 0} (q : X → Bool) (n : ℕ) (xs : List X) → list_all q xs ≡ true → list_all q (take n xs) ≡ true
-all_taken q zero xs all = refl
-all_taken q (suc n) [] all = refl
-all_taken q (suc n) (x ∷ xs) all = let both = and_parts (q x) (list_all q xs) all in rw both.0 (all_taken q n xs both.1)
-
-all_dropped : {X : Type 0} (q : X → Bool) (n : ℕ) (xs : List X) → list_all q xs ≡ true → list_all q (drop n xs) ≡ true
-all_dropped q zero xs all = all
-all_dropped q (suc n) [] all = refl
-all_dropped q (suc n) (x ∷ xs) all = all_dropped q n xs ((and_parts (q x) (list_all q xs) all).1)
-
--- what holds of each item of a list holds in each stretch of it
-pub all_in_part : {X : Type 0} (q : X → Bool) (starts : List ℕ) (xs : List X) (i : ℕ) (part : List X) → list_all q xs ≡ true → slice_get (parts starts xs) i ≡ Some part
-    → list_all q part ≡ true
-all_in_part q starts xs i part all at =
-    let within : i < length starts = omega (arith, slice_get_within (parts starts xs) i part at, length-parts starts xs) in
-    let is = sym (part-at starts xs i within) ∙ get_or_from_slice_get (parts starts xs) i part [] at in
-    subst (λ ys. list_all q ys ≡ true) is (all_taken q _ (drop (get_or starts i 0) xs) (all_dropped q (get_or starts i 0) xs all))
 
 -- a stretch, by the lists that are cut
 pub stretch_is : {X : Type 0} (starts starts' : List ℕ) (xs xs' : List X) (i : ℕ) (part : List X) → starts ≡ starts' → xs ≡ xs' → slice_get (parts starts xs) i ≡ Some part

@@ -1,17 +1,11 @@
 -- Quotes in a field, character by character.
-use Rattle.std.proofs.Common.{◌≡◌, ◌∙◌, ap, sym, refl, ℕ, suc, inl, inr, ◌<◌, ◌≤◌, ◌++◌, ◌∷◌, ◌==◌, List, [], get_or, length, append-nil, arith, false}
+use Rattle.std.proofs.Common.{◌≡◌, ◌∙◌, ap, sym, refl, ℕ, suc, inl, inr, ◌<◌, ◌≤◌, ◌++◌, ◌∷◌, ◌==◌, List, [], get_or, length, arith, false}
 use Rattle.std.specs.Prelude.{encode_utf8}
-use Rattle.std.proofs.lemmas.Bool.{cases_Bool, cases_lt, ne_eqb}
-use Rattle.std.proofs.lemmas.Str.{encode_ascii, inside_one}
+use Rattle.std.proofs.lemmas.Bool.{cases_lt, ne_eqb}
+use Rattle.std.proofs.lemmas.Str.{encode_ascii}
 use Rattle.csv.specs.Writing.{default_writer, escaped}
-
-escaped-append : (xs ys : List ℕ) → escaped default_writer (xs ++ ys) ≡ escaped default_writer xs ++ escaped default_writer ys
-unfolding escaped
-escaped-append [] ys = refl
-escaped-append (x ∷ xs) ys = elim (cases_Bool (x == 34)) [
-  | inl is ↦ rw (is, escaped-append xs ys) refl
-  | inr not ↦ rw (not, escaped-append xs ys) refl
-]
+use Rattle.gtfs_table.proofs.WriteFacts.{escaped-append}
+use Rattle.gtfs_columns.proofs.PlainTexts.{high-bytes}
 
 escaped-high : (bs : List ℕ) → ((k : ℕ) → k < length bs → 128 ≤ get_or bs k 0) → escaped default_writer bs ≡ bs
 unfolding escaped
@@ -20,13 +14,6 @@ escaped-high (b ∷ bs) high =
     let big = high 0 (omega arith) in
     let other : (b == 34) ≡ false = ne_eqb b 34 (λ e. omega (arith, big, e)) in
     rw (other, escaped-high bs (λ k l. high (suc k) (omega arith))) refl
-
--- no byte of such a character is ASCII
-high-bytes : (c : ℕ) → 128 ≤ c → (k : ℕ) → k < length (encode_utf8 c) → 128 ≤ get_or (encode_utf8 c) k 0
-high-bytes c high k l = elim (cases_lt (get_or (encode_utf8 c) k 0) 128) [
-  | inl low ↦ absurd (let same = inside_one c [] (encode_utf8 c) k (sym (append-nil (encode_utf8 c))) l low in omega (arith, same))
-  | inr h ↦ h
-]
 
 -- a quote stands twice
 pub doubled-quote : escaped default_writer (encode_utf8 34) ≡ 34 ∷ 34 ∷ []

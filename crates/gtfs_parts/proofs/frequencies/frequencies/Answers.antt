@@ -1,6 +1,7 @@
 use Rattle.std.proofs.Common.{◌≡◌, ◌∙◌, ◌<◌, ◌≤◌, ◌++◌, ◌∷◌, [], ℕ, List, true, ap, arith, codes, get_or, length, map, refl, subst, sym}
 use Rattle.std.specs.Ordering.{nat_cmp}
 use Rattle.std.proofs.lemmas.List.{length-append, length-map}
+use Rattle.std.proofs.lemmas.Simd.{map-map}
 use Rattle.csv.specs.Records.{Rising}
 use Rattle.gtfs_table.specs.Parts.{parts}
 use Rattle.gtfs_table.specs.Rows.{is_row, records_in}
@@ -15,7 +16,7 @@ use Rattle.gtfs_rows.specs.Reading.{frequency_in, rows_of, trip_in}
 use Rattle.gtfs_rows.specs.Views.{frequency_of}
 use Rattle.gtfs_parts.proofs.ByIds.{as_many}
 use Rattle.gtfs_parts.proofs.Cuts.{first_push, no_parts, rising_none, rising_push}
-use Rattle.gtfs_parts.proofs.Fields.{listed_all, listed_next, map-twice, numbered_row}
+use Rattle.gtfs_parts.proofs.Fields.{listed_all, listed_next, numbered_row}
 use Rattle.gtfs_parts.proofs.IdTexts.{content_list, text_at_is}
 use Rattle.gtfs_parts.proofs.frequencies.frequencies.Goals as goal
 
@@ -68,7 +69,7 @@ returns-clause-rows c =
     ∙ listed_all (map frequency_of) (λ n. (trip_in d n).frequencies) ns c.loop-number.number (parts c.loop-number.starts.items c.loop-number.frequencies.items) whole c.loop-number.invariant.listed
     ∙ ap (λ i. map (λ n. (trip_in d n).frequencies) (rows_by_number i)) c.requires.trips
     ∙ sym (ap (map (λ t. t.frequencies)) (content_list d c.requires.passes file.Trips "trip_id" (required "trip_id" id) refl refl (λ r. r.trip_id) (trip_in d) (λ n. refl))
-    ∙ map-twice (λ t. t.frequencies) (trip_in d) (rows_by_number (ids_in d file.Trips (codes "trip_id"))))
+    ∙ map-map (λ t. t.frequencies) (trip_in d) (rows_by_number (ids_in d file.Trips (codes "trip_id"))))
 
 pub returns-clause-cut : goal.returns-clause-cut
 returns-clause-cut c =

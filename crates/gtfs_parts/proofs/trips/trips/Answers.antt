@@ -1,5 +1,6 @@
 use Rattle.std.proofs.Common.{◌≡◌, ◌∙◌, ◌<◌, ◌≤◌, ap, arith, codes, get_or, length, map, refl, subst, sym}
 use Rattle.std.specs.List.{list_all}
+use Rattle.std.proofs.lemmas.Simd.{map-map}
 use Rattle.gtfs_table.specs.Rows.{is_row, records_in}
 use Rattle.gtfs_table.specs.declared.file.File.TheVariants as file
 use Rattle.gtfs_columns.specs.Columns.{id, required}
@@ -7,7 +8,7 @@ use Rattle.gtfs_columns.specs.steps.Ids.{ids_in, rows_by_number}
 use Rattle.gtfs_rows.specs.Reading.{trip_in}
 use Rattle.gtfs_parts.specs.Named.{ids_of, names_route_and_service, trip_named, without_rows}
 use Rattle.gtfs_parts.specs.ServiceIds.{service_ids}
-use Rattle.gtfs_parts.proofs.Fields.{all_next, listed_all, listed_next, map-twice, numbered_row}
+use Rattle.gtfs_parts.proofs.Fields.{all_next, listed_all, listed_next, numbered_row}
 use Rattle.gtfs_parts.proofs.IdTexts.{content_list}
 use Rattle.gtfs_parts.proofs.trips.trips.Goals as goal
 
@@ -44,7 +45,7 @@ returns-clause-rows c =
     ∙ listed_all (trip_named (ids_of d file.Routes "route_id") (service_ids d)) (λ n. without_rows (trip_in d n)) ns c.loop-number.number c.loop-number.trips.items whole c.loop-number.invariant.listed
     ∙ ap (λ i. map (λ n. without_rows (trip_in d n)) (rows_by_number i)) c.requires.ids
     ∙ sym (ap (map without_rows) (content_list d c.requires.passes file.Trips "trip_id" (required "trip_id" id) refl refl (λ r. r.trip_id) (trip_in d) (λ n. refl))
-    ∙ map-twice without_rows (trip_in d) (rows_by_number (ids_in d file.Trips (codes "trip_id"))))
+    ∙ map-map without_rows (trip_in d) (rows_by_number (ids_in d file.Trips (codes "trip_id"))))
 
 pub returns-clause-numbers : goal.returns-clause-numbers
 returns-clause-numbers c = ap (list_all (names_route_and_service (ids_of c.args.tables.now file.Routes "route_id") (service_ids c.args.tables.now))) c.new.ensures ∙ c.loop-number.invariant.within

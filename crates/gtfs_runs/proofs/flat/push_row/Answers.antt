@@ -2,6 +2,7 @@ use Rattle.std.proofs.Common.{◌≡◌, ◌<◌, ◌+◌, ◌++◌, ◌∙◌, 
 use Rattle.std.specs.List.{All}
 use Rattle.std.proofs.lemmas.Bool.{and_parts}
 use Rattle.std.proofs.lemmas.Option.{slice_get-get_or}
+use Rattle.gtfs_field.proofs.ListFacts.{some_of}
 use Rattle.gtfs_rows.specs.declared.stop_row.StopRow.{StopRow}
 use Rattle.gtfs_rows.specs.Views.{stop_row_of, trip_of}
 use Rattle.gtfs_feed.proofs.TripFacts.{periods, stop_times}
@@ -9,7 +10,6 @@ use Rattle.gtfs_runs.specs.Counts.{tally}
 use Rattle.gtfs_runs.specs.FlatEvents.{is_served, served_at}
 use Rattle.gtfs_runs.specs.Trips.{allows_boarding, is_departure_row, is_not_last, is_timed}
 use Rattle.gtfs_runs.proofs.Bounds.{periods_within}
-use Rattle.gtfs_runs.proofs.PlaceFacts.{some_of}
 use Rattle.gtfs_runs.proofs.RowEvents.{leaves_here, leaves_later, row_left, row_pushed}
 use Rattle.gtfs_runs.proofs.Tallies.{kept, tally-append}
 use Rattle.gtfs_runs.proofs.flat.push_row.Goals as goal

@@ -5,9 +5,10 @@ use Rattle.gtfs_rows.specs.Cells.{record_text}
 use Rattle.gtfs_rows.specs.RowCells.{stop_time_cells, held_by}
 use Rattle.gtfs_rows.specs.Views.{stop_row_of, stop_time_names_rows}
 use Rattle.gtfs_table.specs.declared.file.File.TheVariants as file
+use Rattle.gtfs_table.proofs.PartFacts.{all_in_part}
 use Rattle.gtfs_written.specs.Plain.{is_plain_stop}
 use Rattle.gtfs_written.specs.Taking.{with_rows}
-use Rattle.gtfs_written.proofs.Items.{after_trip, all_in_part, left-none, stretch_is}
+use Rattle.gtfs_written.proofs.Items.{after_trip, left-none, stretch_is}
 use Rattle.gtfs_written.proofs.stop_times.write_stop_times.Goals as goal
 
 pub write_trip_rows-requires-clause-plain : goal.write_trip_rows-requires-clause-plain

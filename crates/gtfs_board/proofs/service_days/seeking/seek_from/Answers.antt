@@ -2,9 +2,9 @@ use Rattle.std.proofs.Common.{rules, ◌≡◌, w32, w64, SFits, to_z, of_z, ◌
 use Rattle.std.specs.Prelude.{◌-ℤ◌}
 use Rattle.std.specs.Int.{saturate_signed}
 use Rattle.std.proofs.lemmas.Int.{to_z-of_z}
+use Rattle.gtfs_field.proofs.NumberFacts.{cases_int}
 use Rattle.gtfs_board.specs.LaneDays.{departing}
 use Rattle.gtfs_board.specs.merge.Candidates.{lane_cmp}
-use Rattle.gtfs_board.proofs.Ints.{cases_int}
 use Rattle.gtfs_board.proofs.Seeks.{apart_days, later_day, same_day, stands_for}
 use Rattle.gtfs_board.proofs.service_days.seeking.seek_from.Goals as goal
 

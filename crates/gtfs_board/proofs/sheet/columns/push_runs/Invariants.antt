@@ -1,8 +1,8 @@
 use Rattle.std.proofs.Common.{◌≡◌, ◌+◌, ◌==◌, cond, take}
 use Rattle.gtfs_runs.specs.Counts.{tally}
+use Rattle.gtfs_runs.proofs.RunStarts.{starts}
 use Rattle.gtfs_board.specs.SheetSteps.{is_same_column}
 use Rattle.gtfs_board.specs.declared.sheet.columns.Column.{Column}
-use Rattle.gtfs_board.proofs.SheetRuns.{starts}
 use Rattle.gtfs_board.proofs.sheet.columns.push_runs.Given as goal
 
 -- the runs of the periods so far

@@ -1,8 +1,8 @@
 use Rattle.std.proofs.Common.{◌≡◌, length, ap, arith}
 use Rattle.gtfs_feed.proofs.TripFacts.{stop_times}
 use Rattle.gtfs_runs.specs.Patterns.{rows_of}
+use Rattle.gtfs_runs.proofs.RowEvents.{leaves_later}
 use Rattle.gtfs_board.proofs.SheetColumns.{column-time, late-rows, rows-are}
-use Rattle.gtfs_board.proofs.SheetRuns.{starts-before}
 use Rattle.gtfs_board.proofs.sheet.times.time_at.Goals as goal
 
 pub time_among-requires-clause-within : goal.time_among-requires-clause-within
@@ -20,7 +20,7 @@ pub time_among-requires-clause-later : goal.time_among-requires-clause-later
 time_among-requires-clause-later c = λ d has.
     let rows = c.trip_rows-rows.result.now in
     let long : length (rows_of c.args.feed.now c.args.column.trip.0) ≡ length rows = ap length (rows-are c.args.feed.now c.args.column.trip.0 rows c.trip_rows-rows.ensures) in
-    starts-before c.args.feed.now rows (stop_times c.args.feed.now c.soundness.ensures c.args.column.trip.0 rows c.trip_rows-rows.ensures) c.args.place d (omega (arith, c.requires.reaches, long)) has
+    leaves_later c.args.feed.now rows (stop_times c.args.feed.now c.soundness.ensures c.args.column.trip.0 rows c.trip_rows-rows.ensures) c.args.place d (omega (arith, c.requires.reaches, long)) has
 
 pub returns : goal.returns
 returns c =

@@ -1,5 +1,6 @@
 use Rattle.std.proofs.Common.{◌∙◌, ℕ, ◌≤◌, refl, arith}
 use Rattle.std.proofs.lemmas.Result.{IfErr-weaker}
+use Rattle.gtfs_table.proofs.StoreFacts.{on_ok-map}
 use Rattle.gtfs_board.specs.Page.{IsPage}
 use Rattle.gtfs_cli.specs.Boards.{EndsBoard}
 use Rattle.gtfs_words.specs.Words.{texts_of}
@@ -7,7 +8,6 @@ use Rattle.gtfs_cli.specs.Running.{Failures, HoldsPassing, HoldsZone}
 use Rattle.gtfs_cli.specs.Refusals.{IsCause}
 use Rattle.gtfs_cli.proofs.Endings.{board-cause, told-up}
 use Rattle.gtfs_cli.proofs.Gravely.{of-any, passed-up, unless-then}
-use Rattle.gtfs_cli.proofs.Parts.{ok-then}
 use Rattle.gtfs_cli.proofs.Printed.{cause-of, ends-of, first-bad-cause, first-bad-ends, has-passing, has-values, kept, lists-of, moved, none-out}
 use Rattle.gtfs_cli.proofs.commands.board.print_board.Goals as goal
 
@@ -99,7 +99,7 @@ returns-clause-printed g c =
     let held = g.F.Folders.held c.args.folders.now in
     let asked = texts_of c.args.words.now in
     let zone_held = moved (λ l h. HoldsZone l h asked.zone c.in_ok-zone.zone) _ _ _ _ c.read_feed.ensures.same_limit c.read_feed.ensures.unchanged c.in_ok-zone.ensures.read in
-    ok-then c.print_lines.result _ _
+    on_ok-map c.print_lines.result _ _
     (lists-of limit held asked c.in_ok-feed.feed c.in_ok-zone.zone c.in_ok-values.values c.in_ok-feed.ensures.read zone_held c.in_ok-values.ensures.read
     IsPage (g.O.Out.told c.args.out.now) (g.O.Out.told c.print_lines.new.out))
     c.print_lines.ensures.printed

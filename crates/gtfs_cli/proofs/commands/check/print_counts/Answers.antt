@@ -1,7 +1,8 @@
 use Rattle.std.proofs.Common.{string_bytes}
+use Rattle.gtfs_table.proofs.FolderFacts.{on_err-always}
 use Rattle.gtfs_cli.specs.Checking.{counts_text}
 use Rattle.gtfs_cli.specs.Sending.{SendsBeginning}
-use Rattle.gtfs_cli.proofs.Parts.{line-begun, on-error}
+use Rattle.gtfs_cli.proofs.Parts.{line-begun}
 use Rattle.gtfs_cli.proofs.commands.check.print_counts.Goals as goal
 
 pub returns-in_err-write_text-clause-cut_short : goal.returns-in_err-write_text-clause-cut_short
@@ -9,6 +10,6 @@ returns-in_err-write_text-clause-cut_short g c =
     let before = g.O.Out.told c.args.out.now in
     let after = g.O.Out.told c.write_text.new.out in
     let text = counts_text c.args.errors c.args.warnings in
-    on-error c.from_residual-in_err-write_text.result (SendsBeginning before after text)
+    on_err-always c.from_residual-in_err-write_text.result (SendsBeginning before after text)
     (line-begun before after text c.as_bytes.result.now (string_bytes c.push_counts.new.text) (string_bytes c.clear.new.self) c.in_err-write_text.field-0.0.written
     c.as_bytes.ensures.value c.in_ok-push_counts.ensures.appended c.clear.ensures.bytes c.in_err-write_text.ensures.prefix)

@@ -1,9 +1,9 @@
 use Rattle.std.proofs.Common.{◌∙◌, arith, map}
+use Rattle.gtfs_table.proofs.FolderFacts.{on_err-always}
 use Rattle.gtfs_rules.specs.Report.{report_text}
 use Rattle.gtfs_columns.specs.View.{problem_of}
 use Rattle.gtfs_cli.specs.Sending.{SendsBeginning}
 use Rattle.gtfs_cli.proofs.Begun.{counts-cut, line-cut}
-use Rattle.gtfs_cli.proofs.Parts.{on-error}
 use Rattle.gtfs_cli.proofs.Reported.{all-sent, line-sent}
 use Rattle.gtfs_cli.proofs.commands.check.print_problems.Goals as goal
 
@@ -21,12 +21,12 @@ returns-clause-printed g c =
 
 pub returns-in_err-print_problem-clause-cut_short : goal.returns-in_err-print_problem-clause-cut_short
 returns-in_err-print_problem-clause-cut_short g c =
-    on-error c.from_residual.result (SendsBeginning (g.O.Out.told c.args.out.now) (g.O.Out.told c.print_problem.new.out) (report_text (map problem_of c.args.problems.now)))
+    on_err-always c.from_residual.result (SendsBeginning (g.O.Out.told c.args.out.now) (g.O.Out.told c.print_problem.new.out) (report_text (map problem_of c.args.problems.now)))
     (line-cut _ _ _ c.args.problems.now c.loop-problem.problem-index _ c.loop-problem-test.true c.loop-problem.invariant.sent c.in_err-print_problem.ensures.cut_short)
 
 pub returns-in_err-print_counts-clause-cut_short : goal.returns-in_err-print_counts-clause-cut_short
 returns-in_err-print_counts-clause-cut_short g c =
-    on-error c.from_residual-in_err-print_counts.result
+    on_err-always c.from_residual-in_err-print_counts.result
     (SendsBeginning (g.O.Out.told c.args.out.now) (g.O.Out.told c.print_counts.new.out) (report_text (map problem_of c.args.problems.now)))
     (counts-cut _ _ _ c.args.problems.now c.loop-problem.problem-index c.errors_among-errors.result c.loop-problem-test.false
     c.errors_among-errors.ensures.value c.errors_among-errors.ensures.within c.loop-problem.invariant.sent c.in_err-print_counts.ensures.cut_short)

@@ -1,5 +1,6 @@
 use Rattle.std.proofs.Common.{ℕ, ◌≤◌, inl, map, refl, subst, arith}
 use Rattle.gtfs_table.specs.Tables.{Dataset}
+use Rattle.gtfs_table.proofs.StoreFacts.{on_ok-map}
 use Rattle.gtfs_columns.specs.Problems.{IsReport}
 use Rattle.gtfs_columns.specs.View.{problem_of}
 use Rattle.gtfs_cli.specs.CheckRun.{BeginsReport, EndsCheck}
@@ -8,7 +9,7 @@ use Rattle.gtfs_cli.specs.Refusals.{IsCheckCause}
 use Rattle.gtfs_cli.proofs.Endings.{told-up}
 use Rattle.gtfs_cli.proofs.Gravely.{of-any, passed-up, unless-sent}
 use Rattle.gtfs_cli.specs.declared.commands.refusal.Refusal.TheVariants.{OutOfMemory}
-use Rattle.gtfs_cli.proofs.Parts.{err-then, ok-then}
+use Rattle.gtfs_cli.proofs.Parts.{err-then}
 use Rattle.gtfs_cli.proofs.Printed.{kept}
 use Rattle.gtfs_cli.proofs.Unchecked.{check-ends, none-checked}
 use Rattle.gtfs_cli.proofs.commands.check.print_report.Goals as goal
@@ -68,4 +69,4 @@ returns-in_err-report-clause-no_failure g c = of-any c.from_residual-in_err-repo
 pub returns-clause-no_failure : goal.returns-clause-no_failure
 returns-clause-no_failure g c =
     unless-sent c.print_problems.result _ _ _ c.print_problems.ensures.refused
-    (ok-then c.print_problems.result _ _ (λ same. (c.in_ok-tables.ensures.no_failure, same)) c.print_problems.ensures.no_failure)
+    (on_ok-map c.print_problems.result _ _ (λ same. (c.in_ok-tables.ensures.no_failure, same)) c.print_problems.ensures.no_failure)

@@ -2,6 +2,7 @@ use Rattle.std.proofs.Common.{◌∙◌, ℕ, ◌≤◌, Option, refl, subst, ar
 use Rattle.std.proofs.lemmas.Result.{IfErr-weaker}
 use Rattle.gtfs_table.specs.Folder.{Store}
 use Rattle.gtfs_table.specs.Reading.{kept_files}
+use Rattle.gtfs_table.proofs.StoreFacts.{on_ok-map}
 use Rattle.gtfs_feed.specs.Content.{content_of}
 use Rattle.gtfs_rows.proofs.Passing.{written_form}
 use Rattle.gtfs_words.specs.Words.{merge_texts_of}
@@ -10,7 +11,6 @@ use Rattle.gtfs_cli.specs.NamesReport.{names_report}
 use Rattle.gtfs_cli.specs.Running.{Failures}
 use Rattle.gtfs_cli.proofs.Endings.{told-up}
 use Rattle.gtfs_cli.proofs.Gravely.{passed-up, unless-sent}
-use Rattle.gtfs_cli.proofs.Parts.{ok-then}
 use Rattle.gtfs_cli.proofs.Printed.{kept}
 use Rattle.gtfs_cli.proofs.ReadBack.{reads-again}
 use Rattle.gtfs_cli.proofs.Unmerged.{all-printed, both-err, merging-cause, merging-ends, printing-cause, printing-ends, writing-cause, writing-ends}
@@ -90,7 +90,7 @@ returns-clause-printed g c =
     let f = content_of m.feed in
     let files = subst (λ (h : Option Store). HoldsFiles h now asked.out f kept_files) c.merge_folders.ensures.unchanged c.in_ok-write_feed.ensures.written in
     let again = reads-again f held now asked.out (written_form f c.soundness.ensures.content) c.in_ok-write_feed.ensures.read files in
-    ok-then c.print_names.result _ _
+    on_ok-map c.print_names.result _ _
     (all-printed limit held asked f (names_report m.names) c.in_ok-merged.ensures.merged now (g.O.Out.told c.args.out.now) (g.O.Out.told c.print_names.new.out)
     c.in_ok-write_feed.ensures.named files again)
     c.print_names.ensures.printed
@@ -136,4 +136,4 @@ returns-in_err-write_feed-clause-no_failure g c =
 pub returns-clause-no_failure : goal.returns-clause-no_failure
 returns-clause-no_failure g c =
     let written = c.in_ok-write_feed.ensures.no_failure ∙ c.in_ok-merged.ensures.no_failure in
-    unless-sent c.print_names.result _ _ _ c.print_names.ensures.refused (ok-then c.print_names.result _ _ (λ same. (written, same)) c.print_names.ensures.no_failure)
+    unless-sent c.print_names.result _ _ _ c.print_names.ensures.refused (on_ok-map c.print_names.result _ _ (λ same. (written, same)) c.print_names.ensures.no_failure)

@@ -3,7 +3,8 @@ use Rattle.gtfs_columns.specs.Values.{plain}
 use Rattle.gtfs_cli.specs.Messages.{line_of}
 use Rattle.gtfs_cli.specs.Sending.{SendsBeginning}
 use Rattle.std.specs.Io.KnownBytes.{Appends}
-use Rattle.gtfs_cli.proofs.Parts.{all-left, err-then, first-sent, last-cut, on-error, one-cut, one-sent, some-sent}
+use Rattle.gtfs_table.proofs.FolderFacts.{on_err-always}
+use Rattle.gtfs_cli.proofs.Parts.{all-left, err-then, first-sent, last-cut, one-cut, one-sent, some-sent}
 use Rattle.gtfs_cli.proofs.commands.messages.write_line.Goals as goal
 
 pub returns-in_err-write_text-clause-cut_short : goal.returns-in_err-write_text-clause-cut_short
@@ -12,7 +13,7 @@ returns-in_err-write_text-clause-cut_short g c =
     let after = g.E.Out.told c.write_text.new.out in
     let text = line_of c.args.first.now c.args.second.now in
     let past = plain c.args.first.now ++ (plain c.args.second.now ++ codes "\n") in
-    on-error c.from_residual.result (SendsBeginning before after text)
+    on_err-always c.from_residual.result (SendsBeginning before after text)
     (one-cut before before after text text (codes "gtfs: ") past (all-left before text) refl
     (some-sent before after (codes "gtfs: ") c.in_err-write_text.field-0.0.written c.in_err-write_text.ensures.prefix))
 
@@ -25,7 +26,7 @@ returns-in_err-write_shown-clause-cut_short g c =
     let first = plain c.args.first.now in
     let past = plain c.args.second.now ++ codes "\n" in
     let left = one-sent before before begun text text (codes "gtfs: ") (first ++ past) (all-left before text) refl c.in_ok-write_text.ensures.whole in
-    on-error c.from_residual-in_err-write_shown.result (SendsBeginning before after text)
+    on_err-always c.from_residual-in_err-write_shown.result (SendsBeginning before after text)
     (one-cut before begun after text (first ++ past) first past left refl
     (subst (λ (t : List ℕ). SendsBeginning begun after (plain t)) c.as_bytes.ensures.value c.in_err-write_shown.ensures.cut_short))
 
@@ -42,7 +43,7 @@ returns-in_err-write_shown-2-clause-cut_short g c =
     let left = one-sent before before begun text text (codes "gtfs: ") (first ++ past) (all-left before text) refl c.in_ok-write_text.ensures.whole in
     let more = one-sent before begun mid text (first ++ past) first past left refl
     (subst (λ (t : List ℕ). Appends begun mid (plain t)) c.as_bytes.ensures.value c.in_ok-write_shown.ensures.whole) in
-    on-error c.from_residual-in_err-write_shown-2.result (SendsBeginning before after text)
+    on_err-always c.from_residual-in_err-write_shown-2.result (SendsBeginning before after text)
     (one-cut before mid after text past second (codes "\n") more refl
     (subst (λ (t : List ℕ). SendsBeginning mid after (plain t)) c.as_bytes-2.ensures.value c.in_err-write_shown-2.ensures.cut_short))
 

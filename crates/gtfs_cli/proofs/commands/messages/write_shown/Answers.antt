@@ -1,10 +1,12 @@
 use Rattle.std.proofs.Common.{◌+◌, ◌∷◌, List, [], ℕ, refl, subst, sym, take, drop, arith}
 use Rattle.std.specs.Io.KnownBytes.{Appends}
 use Rattle.std.proofs.lemmas.List.{take_rest}
+use Rattle.gtfs_table.proofs.FolderFacts.{on_err-always}
+use Rattle.gtfs_table.proofs.StoreFacts.{on_ok-map}
 use Rattle.gtfs_columns.specs.Values.{plain}
 use Rattle.gtfs_cli.specs.Sending.{SendsBeginning}
 use Rattle.gtfs_cli.proofs.ControlSplit.{none-found, split-at}
-use Rattle.gtfs_cli.proofs.Parts.{Leaves, err-then, first-sent, last-cut, last-sent, ok-then, on-error, one-cut, one-sent, some-sent}
+use Rattle.gtfs_cli.proofs.Parts.{Leaves, err-then, first-sent, last-cut, last-sent, one-cut, one-sent, some-sent}
 use Rattle.gtfs_cli.proofs.commands.messages.write_shown.Goals as goal
 
 pub returns-in_err-write_text-clause-cut_short : goal.returns-in_err-write_text-clause-cut_short
@@ -17,7 +19,7 @@ returns-in_err-write_text-clause-cut_short g c =
     let at = c.in-Some.at in
     let front = take at rest in
     let past = plain (drop (at + 1) rest) in
-    on-error c.from_residual.result (SendsBeginning before after text)
+    on_err-always c.from_residual.result (SendsBeginning before after text)
     (one-cut before now after text (plain rest) front (32 ∷ past) c.loop-at.invariant.leaves (split-at rest at c.in-Some.ensures.index)
     (some-sent now after front c.in_err-write_text.field-0.0.written c.in_err-write_text.ensures.prefix))
 
@@ -33,7 +35,7 @@ returns-in_err-write_text-2-clause-cut_short g c =
     let front = take at rest in
     let past = plain (drop (at + 1) rest) in
     let left = one-sent before now mid text (plain rest) front (32 ∷ past) c.loop-at.invariant.leaves (split-at rest at c.in-Some.ensures.index) c.in_ok-write_text.ensures.whole in
-    on-error c.from_residual-in_err-write_text-2.result (SendsBeginning before after text)
+    on_err-always c.from_residual-in_err-write_text-2.result (SendsBeginning before after text)
     (one-cut before mid after text (32 ∷ past) (32 ∷ []) past left refl
     (some-sent mid after (32 ∷ []) c.in_err-write_text-2.field-0.0.written c.in_err-write_text-2.ensures.prefix))
 
@@ -63,7 +65,7 @@ returns-clause-whole g c =
     let text = plain c.args.text.now in
     let rest = c.loop-at.rest.now in
     let same = none-found rest c.first_control.result c.first_control.ensures.index c.in_default.not-Some in
-    ok-then c.write_text-2.result (Appends now after rest) (Appends before after text)
+    on_ok-map c.write_text-2.result (Appends now after rest) (Appends before after text)
     (λ out. last-sent before now after text (plain rest) c.loop-at.invariant.leaves (subst (λ (t : List ℕ). Appends now after t) (sym same) out))
     c.write_text-2.ensures.whole
 

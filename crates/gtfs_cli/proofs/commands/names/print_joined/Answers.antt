@@ -1,9 +1,9 @@
 use Rattle.std.proofs.Common.{◌∙◌, arith}
 use Rattle.std.specs.Prelude.{flat_map}
+use Rattle.gtfs_table.proofs.FolderFacts.{on_err-always}
 use Rattle.gtfs_merge.specs.Report.{kinds}
 use Rattle.gtfs_cli.specs.NamesReport.{count_line}
 use Rattle.gtfs_cli.specs.Sending.{SendsBeginning}
-use Rattle.gtfs_cli.proofs.Parts.{on-error}
 use Rattle.gtfs_cli.proofs.Sequences.{item-cut, item-sent, items-sent}
 use Rattle.gtfs_cli.proofs.commands.names.print_joined.Goals as goal
 
@@ -19,6 +19,6 @@ returns-clause-printed g c = items-sent (count_line c.args.names.now) _ _ kinds 
 
 pub returns-in_err-print_count-clause-cut_short : goal.returns-in_err-print_count-clause-cut_short
 returns-in_err-print_count-clause-cut_short g c =
-    on-error c.from_residual.result
+    on_err-always c.from_residual.result
     (SendsBeginning (g.O.Out.told c.args.out.now) (g.O.Out.told c.print_count.new.out) (flat_map (count_line c.args.names.now) kinds))
     (item-cut (count_line c.args.names.now) _ _ _ kinds c.loop-kind.kind-index _ c.loop-kind-test.true c.loop-kind.invariant.sent c.in_err-print_count.ensures.cut_short)

@@ -1,9 +1,11 @@
 use Rattle.std.proofs.Common.{◌∙◌, ◌++◌}
 use Rattle.std.specs.Prelude.{flat_map}
+use Rattle.gtfs_table.proofs.FolderFacts.{on_err-always}
+use Rattle.gtfs_table.proofs.StoreFacts.{on_ok-map}
 use Rattle.gtfs_merge.specs.Report.{kinds}
 use Rattle.gtfs_cli.specs.NamesReport.{both_lines, count_line}
 use Rattle.gtfs_cli.specs.Sending.{SendsBeginning}
-use Rattle.gtfs_cli.proofs.Parts.{err-then, ok-then, on-error}
+use Rattle.gtfs_cli.proofs.Parts.{err-then}
 use Rattle.gtfs_cli.proofs.Sequences.{both-sent, first-cut, second-cut}
 use Rattle.gtfs_cli.proofs.commands.names.print_names.Goals as goal
 
@@ -13,11 +15,11 @@ returns-in_err-print_renamed-clause-cut_short g c =
     let b = g.O.Out.told c.print_renamed.new.out in
     let first = flat_map (both_lines c.args.names.now) kinds in
     let second = flat_map (count_line c.args.names.now) kinds in
-    on-error c.from_residual.result (SendsBeginning a b (first ++ second)) (first-cut a b first second c.in_err-print_renamed.ensures.cut_short)
+    on_err-always c.from_residual.result (SendsBeginning a b (first ++ second)) (first-cut a b first second c.in_err-print_renamed.ensures.cut_short)
 
 pub returns-clause-printed : goal.returns-clause-printed
 returns-clause-printed g c =
-    ok-then c.print_joined.result _ _
+    on_ok-map c.print_joined.result _ _
     (both-sent (g.O.Out.told c.args.out.now) (g.O.Out.told c.print_renamed.new.out) (g.O.Out.told c.print_joined.new.out) (flat_map (both_lines c.args.names.now) kinds) (flat_map (count_line c.args.names.now) kinds) c.in_ok-print_renamed.ensures.printed)
     c.print_joined.ensures.printed
 
@@ -28,4 +30,4 @@ returns-clause-cut_short g c =
     c.print_joined.ensures.cut_short
 
 pub returns-clause-no_failure : goal.returns-clause-no_failure
-returns-clause-no_failure g c = ok-then c.print_joined.result _ _ (λ same. same ∙ c.in_ok-print_renamed.ensures.no_failure) c.print_joined.ensures.no_failure
+returns-clause-no_failure g c = on_ok-map c.print_joined.result _ _ (λ same. same ∙ c.in_ok-print_renamed.ensures.no_failure) c.print_joined.ensures.no_failure

@@ -1,8 +1,8 @@
 use Rattle.std.proofs.Common.{◌∙◌, ℕ, List, ap, subst, string_bytes, arith}
 use Rattle.std.specs.Io.KnownBytes.{Appends}
+use Rattle.gtfs_table.proofs.FolderFacts.{on_err-always}
 use Rattle.gtfs_cli.specs.NamesReport.{id_line, side_lines}
 use Rattle.gtfs_cli.specs.Sending.{SendsBeginning}
-use Rattle.gtfs_cli.proofs.Parts.{on-error}
 use Rattle.gtfs_cli.proofs.Sequences.{item-cut, item-sent, items-sent, sequence-of}
 use Rattle.gtfs_cli.proofs.commands.names.print_side.Goals as goal
 
@@ -25,7 +25,7 @@ returns-in_err-print_id-clause-cut_short g c =
     let line = id_line c.args.names.now c.args.side c.args.kind in
     let before = g.O.Out.told c.args.out.now in
     let after = g.O.Out.told c.print_id.new.out in
-    on-error c.from_residual.result (SendsBeginning before after (side_lines c.args.names.now c.args.side c.args.kind))
+    on_err-always c.from_residual.result (SendsBeginning before after (side_lines c.args.names.now c.args.side c.args.kind))
     (subst (λ (t : List ℕ). SendsBeginning before after t) (sequence-of line string_bytes c.ids-id-items.result.now _ c.ids-id-items.ensures)
     (item-cut (λ id. line (string_bytes id)) _ _ _ c.ids-id-items.result.now c.loop-id.id-index c.id-item.result c.loop-id-test.true c.loop-id.invariant.sent
     (subst (λ (t : List ℕ). SendsBeginning (g.O.Out.told c.loop-id.out) after (line t)) (c.as_str.ensures.value ∙ ap string_bytes c.id-item.is) c.in_err-print_id.ensures.cut_short)))

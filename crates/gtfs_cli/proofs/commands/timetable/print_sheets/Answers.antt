@@ -2,6 +2,7 @@ use Rattle.std.proofs.Common.{◌∙◌, ap, refl, subst, List, map}
 use Rattle.std.specs.Prelude.{flat_map, OnErr, OnOk}
 use Rattle.std.specs.Io.KnownBytes.{Appends}
 use Rattle.std.proofs.lemmas.Result.{IfErr-weaker}
+use Rattle.gtfs_table.proofs.StoreFacts.{on_ok-map}
 use Rattle.gtfs_feed.specs.Content.{content_of}
 use Rattle.gtfs_board.specs.LentSheets.{plain_sheet}
 use Rattle.gtfs_board.specs.Timetable.{Sheet, sheet_text}
@@ -9,7 +10,6 @@ use Rattle.gtfs_cli.specs.Sending.{SendsBeginning}
 use Rattle.gtfs_cli.specs.Timetables.{timetable_request_of, EndsSheets, IsSheetsCause}
 use Rattle.gtfs_cli.proofs.Endings.{told-up}
 use Rattle.gtfs_cli.proofs.Gravely.{of-any, unless-sent}
-use Rattle.gtfs_cli.proofs.Parts.{ok-then}
 use Rattle.gtfs_cli.proofs.Printed.{kept}
 use Rattle.gtfs_cli.proofs.Tabled.{no-sheets, sending-cause, sent-ends}
 use Rattle.gtfs_cli.proofs.commands.timetable.print_sheets.Goals as goal
@@ -31,7 +31,7 @@ returns-in_err-sheets-clause-refused g c =
     told-up c.from_residual.result r (IsSheetsCause f c.args.route.now count count) c.from_residual.ensures.1 (c.in_err-sheets.ensures.refused count count)
 
 pub returns-clause-known : goal.returns-clause-known
-returns-clause-known g c = ok-then c.send_sheets.result _ _ (λ _. c.in_ok-sheets.ensures.known) c.send_sheets.ensures.sent
+returns-clause-known g c = on_ok-map c.send_sheets.result _ _ (λ _. c.in_ok-sheets.ensures.known) c.send_sheets.ensures.sent
 
 pub returns-clause-printed : goal.returns-clause-printed
 returns-clause-printed g c =

@@ -1,9 +1,9 @@
 use Rattle.std.proofs.Common.{◌∙◌, arith, map}
 use Rattle.std.specs.Prelude.{flat_map}
+use Rattle.gtfs_table.proofs.FolderFacts.{on_err-always}
 use Rattle.gtfs_board.specs.LentSheets.{plain_sheet}
 use Rattle.gtfs_board.specs.Timetable.{sheet_text}
 use Rattle.gtfs_cli.specs.Sending.{SendsBeginning}
-use Rattle.gtfs_cli.proofs.Parts.{on-error}
 use Rattle.gtfs_cli.proofs.Tabled.{sheet-cut, sheet-sent, sheets-sent}
 use Rattle.gtfs_cli.proofs.commands.timetable.send_sheets.Goals as goal
 
@@ -19,6 +19,6 @@ returns-clause-sent g c = sheets-sent _ _ c.args.sheets.now c.loop-sheet.sheet-i
 
 pub returns-in_err-send_sheet-clause-cut_short : goal.returns-in_err-send_sheet-clause-cut_short
 returns-in_err-send_sheet-clause-cut_short g c =
-    on-error c.from_residual.result
+    on_err-always c.from_residual.result
     (SendsBeginning (g.O.Out.told c.args.out.now) (g.O.Out.told c.send_sheet.new.out) (flat_map sheet_text (map plain_sheet c.args.sheets.now)))
     (sheet-cut _ _ _ c.args.sheets.now c.loop-sheet.sheet-index c.sheet-item.result c.loop-sheet-test.true c.sheet-item.is c.loop-sheet.invariant.sent c.in_err-send_sheet.ensures.cut_short)

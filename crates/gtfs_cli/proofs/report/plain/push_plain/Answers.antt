@@ -1,7 +1,7 @@
 use Rattle.std.proofs.Common.{◌∙◌, ap, sym, ◌++◌, append_assoc, arith, string_bytes}
 use Rattle.std.specs.Prelude.{encode_utf8}
 use Rattle.gtfs_columns.specs.Values.{plain}
-use Rattle.gtfs_cli.proofs.PlainNames.{length-past, plain-past}
+use Rattle.gtfs_columns.proofs.PlainTexts.{length-past, plain-past}
 use Rattle.gtfs_cli.proofs.report.plain.push_plain.Goals as goal
 
 pub loop-character-preserved : goal.loop-character-preserved

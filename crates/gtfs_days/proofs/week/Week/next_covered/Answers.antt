@@ -1,7 +1,8 @@
 use Rattle.std.proofs.Common.{arith, rules, subst, ◌≡◌, ℤ, pos, ◌+ℤ◌, to_z, of_z, to_z-of_z, FitsSigned, w32, below_more, false, get_or}
 use Rattle.jiff_core.proofs.SignedLemmas.{signed_arith}
 use Rattle.jiff_core.specs.Calendar.{weekday_number}
-use Rattle.gtfs_days.proofs.Weekdays.{NamesNone, span_passed, day_passed, none_before_end, none_in_week, first_named, lt_from, not_lt_from}
+use Rattle.gtfs_field.proofs.NumberFacts.{int_lt-false, int_lt-true}
+use Rattle.gtfs_days.proofs.Weekdays.{NamesNone, span_passed, day_passed, none_before_end, none_in_week, first_named}
 use Rattle.gtfs_days.proofs.week.Week.next_covered.Goals as goal
 
 pub returns-then-day-last : goal.returns-then-day-last
@@ -15,7 +16,7 @@ returns-then-day-last c =
     let fits_end : FitsSigned w32 c.min-last.result = search rules in
     let back_end : to_z w32 (of_z w32 c.min-last.result) ≡ c.min-last.result = to_z-of_z fits_end in
     let past = rw (back_end, day) at c.if-day-last.true in
-    none_before_end c.args.self.now c.args.from c.max-first.result c.min-last.result c.loop-ahead.ahead span none (lt_from c.min-last.result (c.max-first.result +ℤ pos c.loop-ahead.ahead) past)
+    none_before_end c.args.self.now c.args.from c.max-first.result c.min-last.result c.loop-ahead.ahead span none (int_lt-true c.min-last.result (c.max-first.result +ℤ pos c.loop-ahead.ahead) past)
 
 pub weekday-requires : goal.weekday-requires
 weekday-requires c =
@@ -25,7 +26,7 @@ weekday-requires c =
     let day = day_passed c.max-first.result c.from.result c.loop-ahead.ahead fits (search rules) span.low span.high c.from.ensures c.loop-ahead-test.true in
     let fits_end : FitsSigned w32 c.min-last.result = search rules in
     let back_end : to_z w32 (of_z w32 c.min-last.result) ≡ c.min-last.result = to_z-of_z fits_end in
-    let within = not_lt_from c.min-last.result (c.max-first.result +ℤ pos c.loop-ahead.ahead) (rw (back_end, day) at c.if-day-last.false) in
+    let within = int_lt-false c.min-last.result (c.max-first.result +ℤ pos c.loop-ahead.ahead) (rw (back_end, day) at c.if-day-last.false) in
     rw day (omega (arith, signed_arith, span.low), omega (arith, signed_arith, span.service))
 
 pub returns-then-self-weekday : goal.returns-then-self-weekday
@@ -38,7 +39,7 @@ returns-then-self-weekday c =
     let day = day_passed c.max-first.result c.from.result c.loop-ahead.ahead fits (search rules) span.low span.high c.from.ensures c.loop-ahead-test.true in
     let fits_end : FitsSigned w32 c.min-last.result = search rules in
     let back_end : to_z w32 (of_z w32 c.min-last.result) ≡ c.min-last.result = to_z-of_z fits_end in
-    let within = not_lt_from c.min-last.result (c.max-first.result +ℤ pos c.loop-ahead.ahead) (rw (back_end, day) at c.if-day-last.false) in
+    let within = int_lt-false c.min-last.result (c.max-first.result +ℤ pos c.loop-ahead.ahead) (rw (back_end, day) at c.if-day-last.false) in
     let named = rw (c.weekday.ensures.value, day) at c.if-self-weekday.true in
     rw day (first_named c.args.self.now c.args.from c.max-first.result c.min-last.result c.loop-ahead.ahead span c.requires.0 none within named)
 

@@ -1,9 +1,11 @@
 use Rattle.std.proofs.Common.{◌<◌, ◌≤◌, ◌∙◌, Bool, length, map, sym, ap, arith}
 use Rattle.std.proofs.lemmas.Simd.{map-map}
+use Rattle.std.proofs.lemmas.List.{take_all}
+use Rattle.gtfs_field.proofs.ListFacts.{some_of}
 use Rattle.gtfs_rows.specs.declared.stop.Stop.{Stop}
 use Rattle.gtfs_rows.specs.Views.{content_of_parts, stop_ids, stop_of, text_of_number}
 use Rattle.gtfs_runs.specs.Places.{is_in_place}
-use Rattle.gtfs_runs.proofs.PlaceFacts.{id_at, some_of, all_taken, one_more}
+use Rattle.gtfs_runs.proofs.PlaceFacts.{id_at, one_more}
 use Rattle.gtfs_runs.proofs.place.Place.of_stop.Goals as goal
 
 pub loop-number-init : goal.loop-number-init
@@ -27,4 +29,4 @@ returns c =
     let s = text_of_number (stop_ids p) c.args.stop.0 in
     let past : length p.stops ≤ n = omega (arith, c.stop_count-number-end.ensures) in
     let test : Stop → Bool = λ stop. is_in_place (content_of_parts p) s stop.stop_id in
-    c.loop-number.invariant ∙ ap (map test) (all_taken n p.stops past) ∙ sym (map-map (λ stop. is_in_place (content_of_parts p) s stop.stop_id) (stop_of p) p.stops)
+    c.loop-number.invariant ∙ ap (map test) (take_all n p.stops past) ∙ sym (map-map (λ stop. is_in_place (content_of_parts p) s stop.stop_id) (stop_of p) p.stops)

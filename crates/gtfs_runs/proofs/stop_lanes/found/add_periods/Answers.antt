@@ -3,11 +3,11 @@ use Rattle.std.specs.Prelude.{option_map}
 use Rattle.std.specs.List.{slice_get}
 use Rattle.std.proofs.lemmas.List.{get_or_default}
 use Rattle.std.proofs.lemmas.Option.{slice_get-get_or, slice_get-map}
+use Rattle.gtfs_field.proofs.ListFacts.{some_of}
 use Rattle.gtfs_rows.specs.Views.{frequency_of}
 use Rattle.gtfs_rows.specs.declared.frequency.Frequency.{Frequency}
 use Rattle.gtfs_runs.specs.StopLanes.{period_value}
 use Rattle.gtfs_runs.specs.steps.Finds.{times_passed, times_told}
-use Rattle.gtfs_runs.proofs.PlaceFacts.{some_of}
 use Rattle.gtfs_runs.proofs.LaneTallies.{lanes_counted, periods_more}
 use Rattle.gtfs_runs.proofs.stop_lanes.found.add_periods.Goals as goal
 

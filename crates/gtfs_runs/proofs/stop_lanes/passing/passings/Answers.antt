@@ -4,6 +4,7 @@ use Rattle.std.specs.List.{All}
 use Rattle.std.proofs.lemmas.Bool.{and_parts}
 use Rattle.std.proofs.lemmas.List.{get_or_default}
 use Rattle.std.proofs.lemmas.List.Elements.{All-push}
+use Rattle.gtfs_field.proofs.ListFacts.{some_of}
 use Rattle.gtfs_rows.specs.declared.stop_row.StopRow.{StopRow}
 use Rattle.gtfs_rows.specs.declared.frequency.Frequency.{Frequency}
 use Rattle.gtfs_rows.specs.declared.parts.Parts.{Parts}
@@ -14,7 +15,6 @@ use Rattle.gtfs_feed.proofs.TripFacts.{stop_times}
 use Rattle.gtfs_runs.specs.Trips.{allows_boarding, is_departure_row, is_not_last, is_timed}
 use Rattle.gtfs_runs.specs.Places.{members}
 use Rattle.gtfs_runs.specs.steps.Passings.{first_left, leaves, passing_at}
-use Rattle.gtfs_runs.proofs.PlaceFacts.{some_of}
 use Rattle.gtfs_runs.proofs.TripTimes.{left_within, picked_fails, picked_passes, starts_before}
 use Rattle.gtfs_runs.proofs.stop_lanes.passing.passings.Goals.{then-leaves_place+in_ok-push, else-leaves_place}
 use Rattle.gtfs_runs.proofs.stop_lanes.passing.passings.Goals as goal

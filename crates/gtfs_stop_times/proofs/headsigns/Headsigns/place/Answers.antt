@@ -2,7 +2,7 @@ use Rattle.std.proofs.Common.{◌≡◌, ◌∙◌, ap, sym, Some, false}
 use Rattle.std.proofs.Common.{rules}
 use Rattle.std.specs.List.{slice_get}
 use Rattle.gtfs_columns.specs.Values.{has_control}
-use Rattle.gtfs_stop_times.proofs.PlainTexts.{plain-itself, plain-plain}
+use Rattle.gtfs_columns.proofs.PlainTexts.{plain-itself, plain-plain}
 use Rattle.gtfs_stop_times.proofs.headsigns.Headsigns.place.Goals as goal
 use Rattle.gtfs_stop_times.proofs.headsigns.Headsigns.place.Goals.{then-has_control+in_ok-text+in_ok-place, else-has_control+in_ok-place-2}
 

@@ -1,8 +1,9 @@
 use Rattle.std.proofs.Common.{◌≡◌, ◌∙◌, ◌++◌, ◌∷◌, [], ap, sym, subst, bytes_eq, string_bytes, map, length, Some}
 use Rattle.std.specs.List.{slice_get}
 use Rattle.std.proofs.lemmas.List.{length-map}
+use Rattle.gtfs_field.proofs.ListFacts.{position-map}
 use Rattle.gtfs_stop_times.specs.Headsigns.{AddsOnly, ArePlain, KeepsHeadsigns}
-use Rattle.gtfs_stop_times.proofs.HeadsignFacts.{position-map, found-at, kept-append, last-added, last-at, plain-more, texts-more}
+use Rattle.gtfs_stop_times.proofs.HeadsignFacts.{found-at, kept-append, last-added, last-at, plain-more, texts-more}
 use Rattle.gtfs_stop_times.proofs.headsigns.Headsigns.place_of_plain.Goals as goal
 
 pub returns-in-Some-clause-place : goal.returns-in-Some-clause-place
