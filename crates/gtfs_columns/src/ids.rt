@@ -164,7 +164,8 @@ fn id_rows<'a>(
     ensures { IfOk result (λ rows. ListsFirstRows (ids_in tables.now file column.now) rows.items) }
 {
     let index = tables.column(file, column);
-    let mut rows = Vec::new(alloc);
+    // Room that is asked for at once may stand on large pages, where a search by chance costs less.
+    let mut rows = Vec::with_capacity(alloc, tables.records(file))?;
     for (row, record) in tables.rows(file) {
         let id = record.value(index);
         rows.push(IdRow::new(id, row))?;
