@@ -4,7 +4,7 @@ ghost use Rattle.gtfs_columns.specs.steps.Ids.{are_clear, first_row_with, number
 use crate::cell::holds_control;
 use crate::finder::FoundId;
 use crate::id_row::IdRow;
-use crate::slots::{Slot, fill_slot, free_slots, tag_of};
+use crate::slots::{Slot, fill_slot, free_slots, slots_of, tag_of};
 use gtfs_field::OutOfMemory;
 use gtfs_table::{File, Tables};
 use std::alloc::Global;
@@ -13,11 +13,12 @@ use std::marker::Model;
 /// The first row of each id of one column of one file, as a [`Finder`](crate::Finder) looks it up.
 #[derive(Drop)]
 pub struct Ids<'a> {
-    alloc: Global,
     tables: &'a Tables,
     file: File,
     column: &'static str,
     rows: Vec<IdRow<'a>>,
+    // The numbers of all ids, by what is mixed of them.
+    slots: Vec<Slot>,
     // Whether no id holds a control character.
     are_clear: bool,
 }
@@ -36,7 +37,7 @@ impl<'a> Ids<'a> {
     /// The ids of this column, whose texts they borrow from the tables.
     ///
     /// # Errors
-    /// `OutOfMemory` where the list of rows cannot grow, or there is no room to sort it.
+    /// `OutOfMemory` where the list of rows cannot grow, or there is no room to sort it or to find by.
     pub fn new(
         alloc: Global,
         tables: &'a Tables,
@@ -49,12 +50,13 @@ impl<'a> Ids<'a> {
         rows.sort()?;
         rows.dedup();
         let are_clear = are_clear(&rows);
+        let slots = slots_for(alloc, &rows)?;
         Ok(Ids {
-            alloc,
             tables,
             file,
             column,
             rows,
+            slots,
             are_clear,
         })
     }
@@ -97,18 +99,22 @@ impl<'a> Ids<'a> {
         }
     }
 
-    // The slots of all ids.
-    pub(crate) fn slots(&self) -> Result<Vec<Slot>, OutOfMemory> {
-        let mut slots = free_slots(self.alloc, self.rows.len())?;
-        for (number, row) in self.rows.iter().enumerate() {
-            fill_slot(&mut slots, tag_of(row.bytes()), number);
+    // This id, where it stands in its slots.
+    #[inline(always)]
+    pub(crate) fn guess(&self, id: &str) -> Option<FoundId>
+        ensures row { IfSome result (λ found. Some found.row ≡ first_row_with self.now id.now) }
+        ensures number { IfSome result
+            (λ found. Some found.number ≡ number_with self.now id.now) }
+    {
+        let tag = tag_of(id.as_bytes());
+        for slot in slots_of(&self.slots, tag) {
+            if slot.tag == tag
+                && let Some(found) = self.at(slot.number(), id)
+            {
+                return Some(found);
+            }
         }
-        Ok(slots)
-    }
-
-    // No slots, which take no memory.
-    pub(crate) fn no_slots(&self) -> Vec<Slot> {
-        Vec::new(self.alloc)
+        None
     }
 
     // This id, where it has this number.
@@ -132,6 +138,15 @@ impl<'a> Ids<'a> {
     }
 }
 
+// The slots of the ids of these rows.
+fn slots_for(alloc: Global, rows: &[IdRow<'_>]) -> Result<Vec<Slot>, OutOfMemory> {
+    let mut slots = free_slots(alloc, rows.len())?;
+    for (number, row) in rows.iter().enumerate() {
+        fill_slot(&mut slots, tag_of(row.bytes()), number);
+    }
+    Ok(slots)
+}
+
 // Whether no id holds a control character.
 fn are_clear(rows: &[IdRow<'_>]) -> bool
     ensures { result ≡ rows_are_clear rows.now }
@@ -149,7 +164,8 @@ fn id_rows<'a>(
     ensures { IfOk result (λ rows. ListsFirstRows (ids_in tables.now file column.now) rows.items) }
 {
     let index = tables.column(file, column);
-    let mut rows = Vec::new(alloc);
+    // Room that is asked for at once may stand on large pages, where a search by chance costs less.
+    let mut rows = Vec::with_capacity(alloc, tables.records(file))?;
     for (row, record) in tables.rows(file) {
         let id = record.value(index);
         rows.push(IdRow::new(id, row))?;

@@ -61,10 +61,12 @@ pub(crate) fn fill_slot(slots: &mut [Slot], tag: u32, number: usize) {
     }
 }
 
-// There are TRIES slots more than a power of two, which all first ones are below.
+// The place among the first ones that the highest bits of a tag tell, which depend on each byte of an id. There are TRIES
+// slots more than first ones.
 #[inline(always)]
 fn first_slot(slots: usize, tag: u32) -> usize {
-    tag as usize & slots.saturating_sub(TRIES).saturating_sub(1)
+    let firsts = slots.saturating_sub(TRIES) as u64;
+    (u64::from(tag).wrapping_mul(firsts) >> 32) as usize
 }
 
 // A number that depends on each byte: those of eight after eight, and of the last eight, which may overlap.
@@ -80,8 +82,7 @@ pub(crate) fn tag_of(bytes: &[u8]) -> u32 {
     (mixed >> 32) as u32
 }
 
-// The last eight bytes as one number, the last one lowest, where it moves the slot most. Of fewer bytes the first and
-// the last four, and of fewer than four all.
+// The last eight bytes as one number. Of fewer bytes the first and the last four, and of fewer than four all.
 #[inline(always)]
 fn last_bytes(bytes: &[u8]) -> u64 {
     if let [.., a, b, c, d, e, f, g, h] = bytes {

@@ -47,8 +47,9 @@ time_part o t e = ap (option_map amount) e ∙ counted_back (is_empty t) (time_o
 -- ---- an id and a number
 
 numbered : {X : Type 0} (text : X → List ℕ) (a : Option X) (b : Option ℤ)
-    → option_map (λ k. word (text k.0) ∷ amount k.1 ∷ []) (option_zip a b) ≡ all_there (option_map (λ x. word (text x)) a ∷ option_map amount b ∷ [])
-numbered text None b = refl
+    → option_map (λ k. word (text k.1) ∷ amount k.0 ∷ []) (option_zip b a) ≡ all_there (option_map (λ x. word (text x)) a ∷ option_map amount b ∷ [])
+numbered text None None = refl
+numbered text None (Some y) = refl
 numbered text (Some x) None = refl
 numbered text (Some x) (Some y) = refl
 
@@ -57,5 +58,5 @@ number_part numbers.Date o t e = date_part o t e
 number_part numbers.Time o t e = time_part o t e
 
 pub numbered_read : {X : Type 0} (kind : Number) (text : X → List ℕ) (a : Option X) (b : Option ℤ) (t u : List ℕ) → option_map text a ≡ word_of id t
-    → b ≡ amount_of (kind_of kind) u → option_map (λ k. word (text k.0) ∷ amount k.1 ∷ []) (option_zip a b) ≡ numbered_key kind t u
+    → b ≡ amount_of (kind_of kind) u → option_map (λ k. word (text k.1) ∷ amount k.0 ∷ []) (option_zip b a) ≡ numbered_key kind t u
 numbered_read kind text a b t u e f = numbered text a b ∙ (λ i. all_there (id_part text a t e i ∷ number_part kind b u f i ∷ []))

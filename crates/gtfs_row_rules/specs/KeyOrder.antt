@@ -18,10 +18,16 @@ and_true : (a : Bool) → a ≡ (a && true)
 and_true true = refl
 and_true false = refl
 
--- an id and a number
+and_turned : (a b : Bool) → (a && b) ≡ (b && (a && true))
+and_turned true true = refl
+and_turned true false = refl
+and_turned false true = refl
+and_turned false false = refl
+
+-- a number and an id
 pub numbered_alike : (a b : List ℕ) (x y : ℤ)
-    → is_eq (ordering_then (slice_cmp nat_cmp a b) (int_cmp x y)) ≡ pointwise value_eq (word a ∷ amount x ∷ []) (word b ∷ amount y ∷ [])
-numbered_alike a b x y = tied_then (slice_cmp nat_cmp a b) (int_cmp x y) ∙ (λ i. is_eq-slice_cmp a b i && and_true (int_eq x y) i)
+    → is_eq (ordering_then (int_cmp x y) (slice_cmp nat_cmp a b)) ≡ pointwise value_eq (word a ∷ amount x ∷ []) (word b ∷ amount y ∷ [])
+numbered_alike a b x y = tied_then (int_cmp x y) (slice_cmp nat_cmp a b) ∙ (λ i. int_eq x y && is_eq-slice_cmp a b i) ∙ and_turned (int_eq x y) (bytes_eq a b)
 
 -- six ids
 six_tests : (a b c d e f : Bool) → (a && b && c && d && e && f) ≡ (a && (b && (c && (d && (e && (f && true))))))

@@ -29,9 +29,8 @@ trait Keys {
 
     ghost key_at: { Self → ℕ → Option (List Value) };
 
-    // The key of a row, where each part of it is there. What it has in common with the key of the last row it takes from
-    // that, so that keys that stand together name one text, which stays in the caches.
-    fn key(&self, row: usize, last: &Option<Self::Key>) -> Option<Self::Key>
+    // The key of a row, where each part of it is there.
+    fn key(&self, row: usize) -> Option<Self::Key>
         ensures { option_map parts result ≡ key_at self.now row };
 
     ghost alike: { (a b : Self.Key) → is_eq (Self.Key.cmp a b)
@@ -68,7 +67,6 @@ fn report_repeats<'a, K: Keys>(
         (Reports tables.now (at_column Code.E09 file column.now) found.old found.new) }
 {
     let mut seen = BTreeSet::new(alloc);
-    let mut last = None;
     for (row, _) in tables.rows(file) {
         let problem = Problem {
             file: FileName::Kept(file),
@@ -76,9 +74,7 @@ fn report_repeats<'a, K: Keys>(
             code: Code::E09,
             column,
         };
-        let key = keys.key(row, &last);
-        last = key;
-        let repeats = was_seen(&mut seen, key)?;
+        let repeats = was_seen(&mut seen, keys.key(row))?;
         found.report(problem, repeats)?;
     }
     Ok(())
@@ -103,7 +99,7 @@ impl Number {
 }
 
 // Keys of an id and a number. In calendar_dates.txt they are the id of a service and a date, in frequencies.txt the id
-// of a trip and the start of a period.
+// of a trip and the start of a period. The number comes first: it mostly tells two keys apart without a look at texts.
 #[derive(Clone, Copy)]
 struct NumberedKeys<'a> {
     tables: &'a Tables,
@@ -114,30 +110,21 @@ struct NumberedKeys<'a> {
 }
 
 impl<'a> Keys for NumberedKeys<'a> {
-    type Key = (&'a str, i64);
+    type Key = (i64, &'a str);
 
-    ghost parts = { λ k. word k.0.now ∷ amount k.1 ∷ [] };
+    ghost parts = { λ k. word k.1.now ∷ amount k.0 ∷ [] };
 
     ghost key_at = { λ s n. let r = record_at (records_in s.tables.now s.file) n in
         numbered_key s.kind (field_under r s.id) (field_under r s.number) };
 
-    fn key(&self, row: usize, last: &Option<Self::Key>) -> Option<Self::Key> {
+    fn key(&self, row: usize) -> Option<Self::Key> {
         let record = self.tables.record(self.file, row);
-        let id = like_last(values::id(record.value(self.id)), *last);
-        id.zip(self.kind.read(record.value(self.number)))
+        let id = values::id(record.value(self.id));
+        let number = self.kind.read(record.value(self.number));
+        number.zip(id)
     }
 
-    ghost alike = { λ a b. numbered_alike a.0.now b.0.now a.1 b.1 };
-}
-
-// An id, as that of the last key where both are the same.
-fn like_last<'a>(id: Option<&'a str>, last: Option<(&'a str, i64)>) -> Option<&'a str>
-    ensures { option_map (λ t. t.now) result ≡ option_map (λ t. t.now) id.entry }
-{
-    match (id, last) {
-        (Some(id), Some((last_id, _))) if last_id == id => Some(last_id),
-        _ => id,
-    }
+    ghost alike = { λ a b. numbered_alike a.1.now b.1.now a.0 b.0 };
 }
 
 // The keys of transfers.txt: the ids of both stops, both routes and both trips, some of them empty.
@@ -164,7 +151,7 @@ impl<'a> Keys for TransferKeys<'a> {
         ∷ end_part (field_under r s.from_route) ∷ end_part (field_under r s.to_route)
         ∷ end_part (field_under r s.from_trip) ∷ end_part (field_under r s.to_trip) ∷ []) };
 
-    fn key(&self, row: usize, _last: &Option<Self::Key>) -> Option<Self::Key> {
+    fn key(&self, row: usize) -> Option<Self::Key> {
         let record = self.tables.record(File::Transfers, row);
         let from_stop = end_id(record.value(self.from_stop))?;
         let to_stop = end_id(record.value(self.to_stop))?;

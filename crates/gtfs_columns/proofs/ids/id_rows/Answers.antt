@@ -7,7 +7,7 @@ use Rattle.gtfs_columns.proofs.IdFacts.{id_and_row, lists_first}
 use Rattle.gtfs_columns.proofs.ids.id_rows.Goals as goal
 
 pub loop-row-init : goal.loop-row-init
-loop-row-init c = ap (map id_and_row) c.new-rows.ensures.items
+loop-row-init c = ap (map id_and_row) c.in_ok-rows.ensures.items
 
 pub loop-row-preserved : goal.loop-row-preserved
 loop-row-preserved c =

@@ -18,13 +18,13 @@ loop-row-preserved g c =
     let taken = c.loop-row.yielded in
     let n = c.in-Some.row in
     let t = turn d x _ taken _ (c.into_iter-row-iterator.ensures.into_iter_gives ∙ c.rows-row-items.ensures) c.loop-row.yielded_by n _ _ c.in-Some.ensures.steps in
-    let repeats = c.in_ok-repeats.ensures.answer ∙ seen_here g.K.Keys.parts key taken n [] c.key-key.result _ c.loop-row.invariant.has c.key-key.ensures
+    let repeats = c.in_ok-repeats.ensures.answer ∙ seen_here g.K.Keys.parts key taken n [] c.key.result _ c.loop-row.invariant.has c.key.ensures
     ∙ repeated_among key d x n (numbers taken) _ t.split in
     record {
       reported = reported_more d (at_column code.E09 x name) taken n _ _ _ _ c.loop-row.invariant.reported
           (row_reported d code.E09 x name (repeats_key key d x) c.requires n _ _ t.is_row
           (rw (← repeats) c.in_ok-report.ensures));
-      has = λ q. has_more g.K.Keys.parts key taken n _ g.K.Key.Ord.cmp g.met.K.Key.Ord.total g.met.K.Keys.alike c.key-key.result c.key-key.ensures q _ _
+      has = λ q. has_more g.K.Keys.parts key taken n _ g.K.Key.Ord.cmp g.met.K.Key.Ord.total g.met.K.Keys.alike c.key.result c.key.ensures q _ _
           (c.loop-row.invariant.has q) (c.in_ok-repeats.ensures.added q);
     }
 

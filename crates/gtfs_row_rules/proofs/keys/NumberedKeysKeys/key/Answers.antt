@@ -13,5 +13,5 @@ returns c =
     let keys = c.args.self.now in
     let r = record_at (records_in keys.tables.now keys.file) c.args.row in
     ap (option_map _) c.zip.ensures
-    ∙ numbered_read keys.kind (λ t. t.now) c.like_last-id.result c.read.result (field_under r keys.id) (field_under r keys.number)
-    (c.like_last-id.ensures ∙ c.id.ensures ∙ ap (word_of id) (c.value.ensures ∙ ap (λ r. field_under r keys.id) c.record-record.ensures)) (c.read.ensures ∙ ap (amount_of (kind_of keys.kind)) (c.value-2.ensures ∙ ap (λ r. field_under r keys.number) c.record-record.ensures))
+    ∙ numbered_read keys.kind (λ t. t.now) c.id-id.result c.read-number.result (field_under r keys.id) (field_under r keys.number)
+    (c.id-id.ensures ∙ ap (word_of id) (c.value.ensures ∙ ap (λ r. field_under r keys.id) c.record-record.ensures)) (c.read-number.ensures ∙ ap (amount_of (kind_of keys.kind)) (c.value-2.ensures ∙ ap (λ r. field_under r keys.number) c.record-record.ensures))
