@@ -59,8 +59,8 @@ module _ {count latest : ℕ} {events : Events Candidate} (ls : AreLanes candida
   gathered_more floor end others before after day next mark falls old reached joined fell up skips =
       let hs = heads_on events floor day count in
       let opened = heads_opened candidates_strict ls (candidate_lt floor) day (others ++ before) old.heads in
-      let place : (others ++ before) ++ hs ≡ others ++ after = append_assoc others before hs ∙ ap (λ k. others ++ k) (sym joined) in
-      let there = subst (λ q. AreHeads candidate_lt day_of lane_of events (day +ℤ pos 1) (candidate_lt floor) q) place opened in
+      let regrouped : (others ++ before) ++ hs ≡ others ++ after = append_assoc others before hs ∙ ap (λ k. others ++ k) (sym joined) in
+      let there = subst (λ q. AreHeads candidate_lt day_of lane_of events (day +ℤ pos 1) (candidate_lt floor) q) regrouped opened in
       let low : (day *ℤ pos 86_400) ≤ℤ (falls +ℤ pos 93_599) =
       let above = least_from-above (day *ℤ pos 86_400 -ℤ pos 93_599) mark hs (omega (arith, ints, reached))
       (each_in (λ c. (day *ℤ pos 86_400 -ℤ pos 93_599) ≤ℤ c.instant) hs (λ c here.
@@ -70,7 +70,7 @@ module _ {count latest : ℕ} {events : Events Candidate} (ls : AreLanes candida
       omega (arith, ints, above, fell) in (
         record {
           heads = heads_skipped candidates_strict ls (candidate_lt floor) (day +ℤ pos 1) next (others ++ after) up skips there;
-          least = fell ∙ ap (λ m. least_from m hs) old.least ∙ sym (least_from-append end (others ++ before) hs) ∙ ap (least_from end) place;
+          least = fell ∙ ap (λ m. least_from m hs) old.least ∙ sym (least_from-append end (others ++ before) hs) ∙ ap (least_from end) regrouped;
           within = each_in (IsWithin falls) (others ++ after) (λ c here.
               let head = waits-head candidates_strict ls (day +ℤ pos 1) (candidate_lt floor) (others ++ after) there c here in
               let below = (head-found candidates_strict ls (day +ℤ pos 1) (candidate_lt floor) c head).0 in

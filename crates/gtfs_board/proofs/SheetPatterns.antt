@@ -37,7 +37,7 @@ use Rattle.gtfs_runs.specs.Lanes.{stops_of}
 use Rattle.gtfs_runs.specs.Patterns.{ArePatterns, Entry, Heading, are_apart, entries_of, entries_under, entry_cmp, entry_of, heading_of, is_filled, is_of_route, is_same_heading, rows_of, stops_cmp}
 use Rattle.gtfs_runs.specs.declared.pattern.Pattern.{Pattern}
 use Rattle.gtfs_board.specs.SheetSteps.{HasRow, IsPattern, stops_along}
-use Rattle.gtfs_board.specs.Timetable.{direction_place, heading_cmp, is_heading_before}
+use Rattle.gtfs_board.specs.Timetable.{direction_rank, heading_cmp, is_heading_before}
 use Rattle.gtfs_board.specs.Timetable as timetable
 use Rattle.gtfs_board.specs.merge.Order.{In, IsAscending, IsStrict}
 use Rattle.gtfs_board.proofs.CandidateKeys.{numbers}
@@ -178,9 +178,9 @@ rise (x ∷ y ∷ xs) far filled apart =
 -- ---- headings by text
 
 abbrev pub heading_along : Parts → Pattern → timetable.Heading
-heading_along p x = (direction_place x.direction, stops_along p x)
+heading_along p x = (direction_rank x.direction, stops_along p x)
 
-directions : (a b : Option ℕ) → nat_cmp (direction_place a) (direction_place b) ≡ option_cmp nat_cmp a b
+directions : (a b : Option ℕ) → nat_cmp (direction_rank a) (direction_rank b) ≡ option_cmp nat_cmp a b
 directions None None = refl
 directions None (Some b) = grind (arith, nat_tests)
 directions (Some a) None = grind (arith, nat_tests)
@@ -217,7 +217,7 @@ module _ (p : Parts) (sound : IsSoundParts p) where
       ∙ ap (λ o. map (λ s. text_of_number (stop_ids p) s.0) (map (λ row. row.stop_id) (unwrap_or o []))) r.at_rows
       ∙ map-map (λ s. text_of_number (stop_ids p) s.0) (λ row. row.stop_id) r.rows
       ∙ sym (map-map (λ row. row.stop_id) (stop_row_of p) r.rows) ∙ ap (λ (u : Trip). stops_of u) r.is in
-      λ i. (direction_place (direction i), stops i)
+      λ i. (direction_rank (direction i), stops i)
 
 -- ---- what the patterns of a route are
 

@@ -18,7 +18,7 @@ turned-back false h = refl
 split_lt_eq : (i j : ℕ) → i ≤ j → (i < j) ⊎ (i ≡ j)
 split_lt_eq i j h = grind arith
 
--- where a test fails up to a place and holds from there on, the element there is the first that passes
+-- where a test fails up to an index and holds from there on, the element there is the first that passes
 pub find-parted : {X : Type 0} (q : X → Bool) (xs : List X) (i : ℕ) → IsPartitionPoint (λ x. not (q x) ≡ true) (λ x. not (q x) ≡ false) xs i → i ≤ length xs
     → find q xs ≡ slice_get xs i
 find-parted q [] i parted within = refl

@@ -20,7 +20,7 @@ pub struct Candidate {
     pub trip: usize,
     // The lane that gives it.
     pub lane: usize,
-    // The place of its stop time in the trip, from 0.
+    // The position of its stop time in the trip, from 0.
     pub row: usize,
     // The second of the service day at which its run starts.
     pub run: u32,
