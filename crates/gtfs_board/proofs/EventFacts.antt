@@ -35,7 +35,7 @@ use Rattle.gtfs_board.specs.merge.Order.{In}
 use Rattle.gtfs_board.proofs.LaneDays.{flat_map-in}
 use Rattle.gtfs_board.proofs.Rests.{filter-in}
 
--- ---- elements of lists by their places
+-- ---- elements of lists by their indices
 
 pub any_at : {X : Type 0} (q : X → Bool) (xs : List X) → list_any q xs ≡ true → (n : ℕ) × (x : X) × ((slice_get xs n ≡ Some x) × (q x ≡ true))
 any_at q [] h = absurd (false≢true h)
@@ -252,11 +252,11 @@ module _ (f : Content) (s : List ℕ) (ids : List (List ℕ)) (lanes : StopLanes
       let there = tally_in e (events_of_service k (lanes_of lanes)) (omega (arith, count)) in
       let from = flat_map-in (λ (lane : LaneValue). lane.events) (filter (λ lane. lane.service == k) (lanes_of lanes)) e there in
       let kept = filter-in (λ (lane : LaneValue). lane.service == k) (lanes_of lanes) from.0 from.1.0 in
-      let place = in_at (lanes_of lanes) from.0 kept.0 in
-      let own : lane_at lanes place.0 ≡ from.0 = get_or_from_slice_get (lanes_of lanes) place.0 from.0 no_lane place.1 in (
-        place.0,
+      let index = in_at (lanes_of lanes) from.0 kept.0 in
+      let own : lane_at lanes index.0 ≡ from.0 = get_or_from_slice_get (lanes_of lanes) index.0 from.0 no_lane index.1 in (
+        index.0,
         (
-          slice_get_within (lanes_of lanes) place.0 from.0 place.1,
+          slice_get_within (lanes_of lanes) index.0 from.0 index.1,
           (ap (λ (l : LaneValue). l.service) own ∙ eqb-true from.0.service k kept.1, subst (λ (l : LaneValue). In e l.events) (sym own) from.1.1),
         ),
       )

@@ -228,14 +228,14 @@ trips_parted id ts up i j d upto within below = elim (cases_lt i j) [
     less Equal h = cc h
     less Greater h = cc h
 
-pub count_below : (id : List ℕ) (ts : List Trip) (place : ℕ) → IsPartitionPoint (λ t. is_lt (text_cmp t.trip_id id) ≡ true) (λ t. is_lt (text_cmp t.trip_id id) ≡ false) ts place
-    → (n : ℕ) → n < length ts → nat_lt n place ≡ is_lt (text_cmp (text_of_number (map (λ t. t.trip_id) ts) n) id)
-count_below id [] place parted n within = absurd (omega (arith, within))
-count_below id (t ∷ ts) place parted n within =
+pub count_below : (id : List ℕ) (ts : List Trip) (index : ℕ) → IsPartitionPoint (λ t. is_lt (text_cmp t.trip_id id) ≡ true) (λ t. is_lt (text_cmp t.trip_id id) ≡ false) ts index
+    → (n : ℕ) → n < length ts → nat_lt n index ≡ is_lt (text_cmp (text_of_number (map (λ t. t.trip_id) ts) n) id)
+count_below id [] index parted n within = absurd (omega (arith, within))
+count_below id (t ∷ ts) index parted n within =
     let text : text_of_number (map (λ u. u.trip_id) (t ∷ ts)) n ≡ (get_or (t ∷ ts) n t).trip_id = text_at (λ u. u.trip_id) (t ∷ ts) n (get_or (t ∷ ts) n t) (slice_get-get_or (t ∷ ts) n t within) in
-    elim (cases_lt n place) [
-      | inl before ↦ lt-ltb n place before ∙ sym (ap (λ x. is_lt (text_cmp x id)) text ∙ parted.0 n t (omega arith) before)
-      | inr past ↦ le-ltb n place past ∙ sym (ap (λ x. is_lt (text_cmp x id)) text ∙ parted.1 n t past within)
+    elim (cases_lt n index) [
+      | inl before ↦ lt-ltb n index before ∙ sym (ap (λ x. is_lt (text_cmp x id)) text ∙ parted.0 n t (omega arith) before)
+      | inr past ↦ le-ltb n index past ∙ sym (ap (λ x. is_lt (text_cmp x id)) text ∙ parted.1 n t past within)
     ]
 
 pub trip_ids_ascend : (p : Parts) → IsSoundParts p → Ascends text_cmp (trip_ids p)

@@ -1,4 +1,4 @@
-use Rattle.std.proofs.Common.{◌≡◌, ℕ, zero, suc, ◌+◌, ◌*◌, ◌≤◌, List, [], ◌∷◌, ◌++◌, ◌⊎◌, inl, inr, Option, Some, None, refl, sym, ◌∙◌, ap, subst, arith, find, append_assoc, length}
+use Rattle.std.proofs.Common.{◌≡◌, ℕ, zero, suc, ◌+◌, ◌*◌, ◌≤◌, List, [], ◌∷◌, ◌++◌, ◌⊎◌, inl, inr, Option, Some, None, refl, sym, ◌∙◌, ap, subst, arith, find, append_assoc, append-nil, length}
 use Rattle.std.specs.Prelude.{ℤ, pos, ◌+ℤ◌, ◌-ℤ◌, ◌*ℤ◌, ◌≤ℤ◌, ◌<ℤ◌}
 use Rattle.std.specs.List.{filter_map, cons_option, range_with_len}
 use Rattle.std.specs.Int.{int_min}
@@ -59,8 +59,8 @@ module _ {count latest : ℕ} {events : Events Candidate} (ls : AreLanes candida
   gathered_more floor end others before after day next mark falls old reached joined fell up skips =
       let hs = heads_on events floor day count in
       let opened = heads_opened candidates_strict ls (candidate_lt floor) day (others ++ before) old.heads in
-      let place : (others ++ before) ++ hs ≡ others ++ after = append_assoc others before hs ∙ ap (λ k. others ++ k) (sym joined) in
-      let there = subst (λ q. AreHeads candidate_lt day_of lane_of events (day +ℤ pos 1) (candidate_lt floor) q) place opened in
+      let regrouped : (others ++ before) ++ hs ≡ others ++ after = append_assoc others before hs ∙ ap (λ k. others ++ k) (sym joined) in
+      let there = subst (λ q. AreHeads candidate_lt day_of lane_of events (day +ℤ pos 1) (candidate_lt floor) q) regrouped opened in
       let low : (day *ℤ pos 86_400) ≤ℤ (falls +ℤ pos 93_599) =
       let above = least_from-above (day *ℤ pos 86_400 -ℤ pos 93_599) mark hs (omega (arith, ints, reached))
       (each_in (λ c. (day *ℤ pos 86_400 -ℤ pos 93_599) ≤ℤ c.instant) hs (λ c here.
@@ -70,7 +70,7 @@ module _ {count latest : ℕ} {events : Events Candidate} (ls : AreLanes candida
       omega (arith, ints, above, fell) in (
         record {
           heads = heads_skipped candidates_strict ls (candidate_lt floor) (day +ℤ pos 1) next (others ++ after) up skips there;
-          least = fell ∙ ap (λ m. least_from m hs) old.least ∙ sym (least_from-append end (others ++ before) hs) ∙ ap (least_from end) place;
+          least = fell ∙ ap (λ m. least_from m hs) old.least ∙ sym (least_from-append end (others ++ before) hs) ∙ ap (least_from end) regrouped;
           within = each_in (IsWithin falls) (others ++ after) (λ c here.
               let head = waits-head candidates_strict ls (day +ℤ pos 1) (candidate_lt floor) (others ++ after) there c here in
               let below = (head-found candidates_strict ls (day +ℤ pos 1) (candidate_lt floor) c head).0 in
@@ -91,13 +91,14 @@ pub nothing_there : {X : Type 0} (xs : List X) → length xs ≤ 0 → xs ≡ []
 nothing_there [] h = refl
 nothing_there (x ∷ xs) h = absurd (omega arith)
 
-pub gathered_first : (events : Events Candidate) (floor : Candidate) (end : ℤ) (others none fresh : List Candidate) (head : Option Candidate) (day waiting mark : ℤ)
+pub gathered_first : (events : Events Candidate) (floor : Candidate) (end : ℤ) (others fresh : List Candidate) (head : Option Candidate) (day waiting mark : ℤ)
     → AreHeads candidate_lt day_of lane_of events day (candidate_lt floor) (others ++ option_to_list head)
     → Each (IsWithin (least_from end (others ++ option_to_list head))) (others ++ option_to_list head)
-    → none ≡ [] → fresh ≡ none ++ option_to_list head → waiting ≡ least_from end others → mark ≡ least_from waiting (option_to_list head)
-    → AreGathered events floor end others fresh day mark × (mark ≡ least_from end (others ++ option_to_list head))
-gathered_first events floor end others none fresh head day waiting mark heads within empty joined first least =
-    let same : fresh ≡ option_to_list head = joined ∙ ap (λ k. k ++ option_to_list head) empty in
+    → fresh ≡ [] → waiting ≡ least_from end others → mark ≡ least_from waiting (option_to_list head)
+    → AreGathered events floor end (others ++ option_to_list head) fresh day mark × (mark ≡ least_from end (others ++ option_to_list head))
+gathered_first events floor end others fresh head day waiting mark heads within empty first least =
+    let all_heads = others ++ option_to_list head in
+    let same : all_heads ++ fresh ≡ all_heads = ap (λ k. all_heads ++ k) empty ∙ append-nil all_heads in
     let all : mark ≡ least_from end (others ++ option_to_list head) = least ∙ ap (λ m. least_from m (option_to_list head)) first ∙ sym (least_from-append end others (option_to_list head)) in
     (record { heads = rw same heads; least = rw same all; within = rw (same, all) within }, all)
 

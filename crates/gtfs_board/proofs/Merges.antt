@@ -58,28 +58,41 @@ uncounted (x ∷ xs) h =
     let none = h x in
     absurd (omega (arith, some, none))
 
--- a heap that took in another list and gave one away
-pub joined_counts : (others fresh added joined rest : List Candidate) (c : Candidate)
-    → IsPermutation fresh added → IsPermutation (others ++ added) joined → IsPermutation joined (c ∷ rest)
-    → (x : Candidate) → tally (same candidate_lt x) (c ∷ rest) ≡ tally (same candidate_lt x) (others ++ fresh)
-joined_counts others fresh added joined rest c from join pops x =
+-- a heap that took in another list
+pub appended_counts : (others fresh added joined : List Candidate) → IsPermutation fresh added → IsPermutation (others ++ added) joined
+    → (x : Candidate) → tally (same candidate_lt x) joined ≡ tally (same candidate_lt x) (others ++ fresh)
+appended_counts others fresh added joined from join x =
     let t = same candidate_lt x in
-    let a = tally-permutation t joined (c ∷ rest) pops in
-    let b = tally-permutation t (others ++ added) joined join in
-    let d = tally-permutation t fresh added from in
-    let e = tally-append t others added in
-    let f = tally-append t others fresh in
-    a ∙ b ∙ e ∙ ap (λ n. tally t others + n) d ∙ sym f
+    let a = tally-permutation t (others ++ added) joined join in
+    let b = tally-permutation t fresh added from in
+    a ∙ tally-append t others added ∙ ap (λ n. tally t others + n) b ∙ sym (tally-append t others fresh)
 
-pub joined_none : (others fresh added joined : List Candidate) → IsPermutation fresh added → IsPermutation (others ++ added) joined → joined ≡ []
-    → (x : Candidate) → tally (same candidate_lt x) [] ≡ tally (same candidate_lt x) (others ++ fresh)
-joined_none others fresh added joined from join none x =
+-- a heap that took in one, where no list is
+pub pushed_counts : (others fresh joined : List Candidate) (c : Candidate) → fresh ≡ [] → IsPermutation (c ∷ others) joined
+    → (x : Candidate) → tally (same candidate_lt x) joined ≡ tally (same candidate_lt x) ((others ++ c ∷ []) ++ fresh)
+pushed_counts others fresh joined c none push x =
     let t = same candidate_lt x in
-    let b = tally-permutation t (others ++ added) joined join in
-    let d = tally-permutation t fresh added from in
-    let e = tally-append t others added in
-    let f = tally-append t others fresh in
-    sym (ap (tally t) none) ∙ b ∙ e ∙ ap (λ n. tally t others + n) d ∙ sym f
+    let a = tally-permutation t (c ∷ others) joined push in
+    let b = tally-append t others (c ∷ []) in
+    let d : tally t ((others ++ c ∷ []) ++ fresh) ≡ tally t (others ++ c ∷ []) = ap (λ k. tally t ((others ++ c ∷ []) ++ k)) none ∙ ap (tally t) (append-nil (others ++ c ∷ [])) in
+    a ∙ omega (arith, b) ∙ sym d
+
+-- what the list has is counted alike before it and at its end
+pub moved_counts : (others fresh more joined : List Candidate) (c : Candidate) → more ≡ fresh ++ c ∷ []
+    → ((x : Candidate) → tally (same candidate_lt x) joined ≡ tally (same candidate_lt x) (others ++ more))
+    → (x : Candidate) → tally (same candidate_lt x) joined ≡ tally (same candidate_lt x) ((others ++ c ∷ []) ++ fresh)
+moved_counts others fresh more joined c is counts x =
+    let t = same candidate_lt x in
+    let a = tally-append t others more in
+    let b : tally t more ≡ tally t fresh + tally t (c ∷ []) = ap (tally t) is ∙ tally-append t fresh (c ∷ []) in
+    let d = tally-append t (others ++ c ∷ []) fresh in
+    let e = tally-append t others (c ∷ []) in
+    counts x ∙ omega (arith, a, b, d, e)
+
+-- a heap that gave one away
+pub popped_counts : (all joined rest : List Candidate) (c : Candidate) → ((x : Candidate) → tally (same candidate_lt x) joined ≡ tally (same candidate_lt x) all)
+    → IsPermutation joined (c ∷ rest) → (x : Candidate) → tally (same candidate_lt x) (c ∷ rest) ≡ tally (same candidate_lt x) all
+popped_counts all joined rest c counts pops x = tally-permutation (same candidate_lt x) joined (c ∷ rest) pops ∙ counts x
 
 none_found : {C : Type 0} (p : C → Bool) (xs : List C) → ((c : C) → In c xs → p c ≡ false) → find p xs ≡ None
 none_found p [] h = refl

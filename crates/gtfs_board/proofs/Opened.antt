@@ -102,10 +102,10 @@ module _ (p : Parts) (sound : IsSoundParts p) (s : List ℕ) (lanes : StopLanesV
       let t = traced p sound s lanes are (zone_origin zone) end c there in
       let e = t.event in
       let number : c.trip ≡ e.trip.0 = ap (λ (x : Candidate). x.trip) t.is in
-      let place : c.row ≡ e.row = ap (λ (x : Candidate). x.row) t.is in
+      let row_is : c.row ≡ e.row = ap (λ (x : Candidate). x.row) t.is in
       let sequence : c.sequence ≡ t.passes.row.stop_sequence = ap (λ (x : Candidate). x.sequence) t.is ∙ sym t.passes.sequence in
       let trip : trip_in p c ≡ Some t.passes.trip = ap (slice_get f.trips) number ∙ t.passes.trip_at in
-      let row : slice_get t.passes.trip.stop_rows c.row ≡ Some t.passes.row = ap (slice_get t.passes.trip.stop_rows) place ∙ t.passes.row_at in
+      let row : slice_get t.passes.trip.stop_rows c.row ≡ Some t.passes.row = ap (slice_get t.passes.trip.stop_rows) row_is ∙ t.passes.row_at in
       let id : (key_in p c).trip ≡ t.passes.trip.trip_id = ap (text_of_number (trip_ids p)) number ∙ (trip_numbered p sound s lanes are (zone_origin zone) end e.trip.0 t.passes.trip t.passes.trip_at).1 in
       let named : trip_named f (key_in p c).trip ≡ Some t.passes.trip = ap (trip_named f) id ∙ found_id (λ x. x.trip_id) f.trips e.trip.0 t.passes.trip sound.content.in_order.trips t.passes.trip_at in
       let up : Ascends (on (λ x. x.stop_sequence) nat_cmp) t.passes.trip.stop_rows =
@@ -120,7 +120,7 @@ module _ (p : Parts) (sound : IsSoundParts p) (s : List ℕ) (lanes : StopLanesV
       let t = traced p sound s lanes are (zone_origin zone) end c there in
       let e = t.event in
       let number : c.trip ≡ e.trip.0 = ap (λ (x : Candidate). x.trip) t.is in
-      let place : c.row ≡ e.row = ap (λ (x : Candidate). x.row) t.is in
+      let row_is : c.row ≡ e.row = ap (λ (x : Candidate). x.row) t.is in
       let r = trip_back p p.trips (stop_rows_by_trip p) (frequencies_by_trip p) e.trip.0 t.passes.trip t.passes.trip_at in
       let rows : times_of p c.trip ≡ r.1 = ap (times_of p) number ∙ ap (λ o. unwrap_or o []) r.3.1.0 in
       let at : slice_get (map (stop_row_of p) r.1) e.row ≡ Some t.passes.row = subst (λ (x : Trip). slice_get x.stop_rows e.row ≡ Some t.passes.row) (sym r.3.1.1.1) t.passes.row_at in
@@ -129,7 +129,7 @@ module _ (p : Parts) (sound : IsSoundParts p) (s : List ℕ) (lanes : StopLanesV
       let days = day_there c.day service in
       record {
         trip = omega (arith, numbered p sound s lanes are (zone_origin zone) end c there, length-map p.trips (λ x. x.trip_id));
-        row = subst (λ n. n < length (times_of p c.trip)) (sym place) (subst (λ xs. e.row < length xs) (sym rows) (slice_get_within r.1 e.row m.0 m.1.0));
+        row = subst (λ n. n < length (times_of p c.trip)) (sym row_is) (subst (λ xs. e.row < length xs) (sym rows) (slice_get_within r.1 e.row m.0 m.1.0));
         day_from = days.0;
         day_to = days.1;
         instant = instant_there zone c.day e.at c.instant service (event_small p sound s _ e t.passes) (ap (λ (x : Candidate). x.instant) t.is);
@@ -206,14 +206,14 @@ keys_listed p (c ∷ cs) = ap (λ ks. key_in p c ∷ ks) (keys_listed p cs)
 tally_count : (q : ℤ → Bool) (xs : List ℤ) → tally q xs ≡ count_by q xs
 tally_count q xs = sym (tally_sum q xs)
 
-place_is : (p : Parts) (end : ℤ) (cs : List Candidate) → first_instant (end +ℤ pos 1) (map (listed_in p) cs) ≡ merge.position end (head_of cs)
-place_is p end [] = omega (arith, ints)
-place_is p end (c ∷ cs) = refl
+position_is : (p : Parts) (end : ℤ) (cs : List Candidate) → first_instant (end +ℤ pos 1) (map (listed_in p) cs) ≡ merge.position end (head_of cs)
+position_is p end [] = omega (arith, ints)
+position_is p end (c ∷ cs) = refl
 
 pub reach_is : (p : Parts) (z : Zone) (v : MergeValue) → v.days ≡ service_days
     → board.reach v.latest v.start (board.position (board_value p z v)) ≡ merge.reach v
 reach_is p z v days =
-    ap (λ x. count_by (may_be_opened v.latest v.start x) service_days) (place_is p v.end v.rest)
+    ap (λ x. count_by (may_be_opened v.latest v.start x) service_days) (position_is p v.end v.rest)
     ∙ sym (tally_count (is_reached (v.start -ℤ pos (v.latest + 93_599)) (merge.stands v)) service_days)
     ∙ ap (tally (is_reached (v.start -ℤ pos (v.latest + 93_599)) (merge.stands v))) (sym days)
 

@@ -1,4 +1,4 @@
--- The place at which a lane is asked for what lies above a floor.
+-- The position at which a lane is asked for what lies above a floor.
 use Rattle.std.proofs.Common.{◌≡◌, ◌<◌, ◌^◌, ℕ, ℤ, refl, sym, ap, ◌∙◌, inl, inr, w64, arith}
 use Rattle.std.specs.Prelude.{min, ◌-◌, pos, negsuc, ◌+ℤ◌, ◌-ℤ◌, ◌<ℤ◌, ◌≤ℤ◌}
 use Rattle.std.specs.Int.{saturate_signed}

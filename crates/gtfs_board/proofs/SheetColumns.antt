@@ -234,16 +234,16 @@ module _ (p : Parts) (sound : IsSoundParts p) where
       left-within p sound n (get_or p.trips n e) rs (get_or (frequencies_by_trip p) n []) (slice_get-get_or p.trips n e within) at_rows (slice_get-get_or (frequencies_by_trip p) n [] periods) k d inside
 
   -- what the stop times of a trip say is what the content says
-  pub column-time : (c : Column) (place : ℕ) (rs : List StopRow) (o : Option ℕ) → slice_get (stop_rows_by_trip p) c.trip.0 ≡ Some rs
-      → ((row : TripRow) (fs : List Frequency) → o ≡ option_and_then (time_at (trip_of p row rs fs) c.start) (row_at (trip_of p row rs fs) place)) → o ≡ time_of_column (content_of_parts p) place c
-  column-time c place rs o at_rows is =
+  pub column-time : (c : Column) (position : ℕ) (rs : List StopRow) (o : Option ℕ) → slice_get (stop_rows_by_trip p) c.trip.0 ≡ Some rs
+      → ((row : TripRow) (fs : List Frequency) → o ≡ option_and_then (time_at (trip_of p row rs fs) c.start) (row_at (trip_of p row rs fs) position)) → o ≡ time_of_column (content_of_parts p) position c
+  column-time c position rs o at_rows is =
       let n = c.trip.0 in
       let within : n < length p.trips = omega (arith, slice_get_within (stop_rows_by_trip p) n rs at_rows, length-parts p.stop_row_starts p.stop_rows, sound.stop_rows.0) in
       let periods : n < length (frequencies_by_trip p) = omega (arith, within, length-parts p.frequency_starts p.frequencies, sound.frequencies.0) in
       let e = some_of p.trips n within in
       let row = get_or p.trips n e in
       let fs = get_or (frequencies_by_trip p) n [] in
-      time-in-content (content_of_parts p).trips n c.start place (trip_of p row rs fs) o
+      time-in-content (content_of_parts p).trips n c.start position (trip_of p row rs fs) o
       (content_trip p n row rs fs (slice_get-get_or p.trips n e within) at_rows (slice_get-get_or (frequencies_by_trip p) n [] periods)) (is row fs)
 
 pub rows-are : (p : Parts) (n : ℕ) (rs : List StopRow) → slice_get (stop_rows_by_trip p) n ≡ Some rs → rows_of p n ≡ rs
@@ -394,8 +394,8 @@ module _ (p : Parts) (sound : IsSoundParts p) (d : ℤ) (x : Pattern) (pattern :
       map-agree (time_of_column (content_of_parts p) i) (λ c. time_of_run ts i (named_column p c)) cs (time-is i)
       ∙ sym (map-map (time_of_run ts i) (named_column p) cs) ∙ ap (map (time_of_run ts i)) runs-are
 
-  pub times-are : (places : ℕ) → column_times (content_of_parts p) places cs ≡ map (λ i. map (time_of_run ts i) (runs_of ts)) (range_with_len 0 places)
-  times-are places = map-agree (λ i. map (time_of_column (content_of_parts p) i) cs) (λ i. map (time_of_run ts i) (runs_of ts)) (range_with_len 0 places) (λ i there. row-of-times i)
+  pub times-are : (stop_count : ℕ) → column_times (content_of_parts p) stop_count cs ≡ map (λ i. map (time_of_run ts i) (runs_of ts)) (range_with_len 0 stop_count)
+  times-are stop_count = map-agree (λ i. map (time_of_column (content_of_parts p) i) cs) (λ i. map (time_of_run ts i) (runs_of ts)) (range_with_len 0 stop_count) (λ i there. row-of-times i)
 
   -- ---- the sheet
 

@@ -41,7 +41,7 @@ use Rattle.gtfs_runs.proofs.Counting.{tally-map as tally-mapped}
 use Rattle.gtfs_runs.proofs.Tallies.{tally-append as tally-joined, tally-permutation as tally-permuted}
 use Rattle.gtfs_runs.proofs.CourseOrder.{pairs-right}
 use Rattle.gtfs_board.specs.SheetSteps.{HasRow, IsPattern, stops_along}
-use Rattle.gtfs_board.specs.Timetable.{direction_place, heading_cmp, is_heading_before}
+use Rattle.gtfs_board.specs.Timetable.{direction_rank, heading_cmp, is_heading_before}
 use Rattle.gtfs_board.specs.Timetable as timetable
 use Rattle.gtfs_board.specs.merge.Order.{In, IsAscending, IsStrict}
 use Rattle.gtfs_board.proofs.CandidateKeys.{numbers}
@@ -166,9 +166,9 @@ rise (x ∷ y ∷ xs) far filled apart =
 -- ---- headings by text
 
 abbrev pub heading_along : Parts → Pattern → timetable.Heading
-heading_along p x = (direction_place x.direction, stops_along p x)
+heading_along p x = (direction_rank x.direction, stops_along p x)
 
-directions : (a b : Option ℕ) → nat_cmp (direction_place a) (direction_place b) ≡ option_cmp nat_cmp a b
+directions : (a b : Option ℕ) → nat_cmp (direction_rank a) (direction_rank b) ≡ option_cmp nat_cmp a b
 directions None None = refl
 directions None (Some b) = grind (arith, nat_tests)
 directions (Some a) None = grind (arith, nat_tests)
@@ -205,7 +205,7 @@ module _ (p : Parts) (sound : IsSoundParts p) where
       ∙ ap (λ o. map (λ s. text_of_number (stop_ids p) s.0) (map (λ row. row.stop_id) (unwrap_or o []))) r.at_rows
       ∙ map-map (λ s. text_of_number (stop_ids p) s.0) (λ row. row.stop_id) r.rows
       ∙ sym (map-map (λ row. row.stop_id) (stop_row_of p) r.rows) ∙ ap (λ (u : Trip). stops_of u) r.is in
-      λ i. (direction_place (direction i), stops i)
+      λ i. (direction_rank (direction i), stops i)
 
 -- ---- what the patterns of a route are
 

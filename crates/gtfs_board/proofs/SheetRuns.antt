@@ -153,28 +153,28 @@ timed-there rs k d x time within item timed =
     let same : get_or rs k x ≡ get_or rs k d = get_or_from_slice_get rs k (get_or rs k d) x (slice_get-get_or rs k d within) in
     ap (λ y. is_some (left_at y)) (sym same ∙ sym item) ∙ ap is_some timed
 
--- the row at a place of the content, and the time there
+-- the row at a position of the content, and the time there
 module _ (p : Parts) (t : TripRow) (rs : List StopRow) (fs : List Frequency) where
-  row-is : (place : ℕ) (d : StopRow) → place < length rs → row_at (trip_of p t rs fs) place ≡ Some (stop_row_of p (get_or rs place d))
-  row-is place d within = at_map (stop_row_of p) rs place (get_or rs place d) (slice_get-get_or rs place d within)
+  row-is : (position : ℕ) (d : StopRow) → position < length rs → row_at (trip_of p t rs fs) position ≡ Some (stop_row_of p (get_or rs position d))
+  row-is position d within = at_map (stop_row_of p) rs position (get_or rs position d) (slice_get-get_or rs position d within)
 
   -- the time there, where the row is timed by the option
-  shown : (start place : ℕ) (d : StopRow) (o : Option ℕ) → place < length rs → left_at (get_or rs place d) ≡ o
-      → option_and_then (time_at (trip_of p t rs fs) start) (row_at (trip_of p t rs fs) place) ≡ cond (is_some o) (Some (passes_at (trip_of p t rs fs) start (stop_row_of p (get_or rs place d)))) None
-  shown start place d o within is =
-      ap (option_and_then (time_at (trip_of p t rs fs) start)) (row-is place d within)
-      ∙ ap (λ x. cond (is_some x) (Some (passes_at (trip_of p t rs fs) start (stop_row_of p (get_or rs place d)))) None) is
+  shown : (start position : ℕ) (d : StopRow) (o : Option ℕ) → position < length rs → left_at (get_or rs position d) ≡ o
+      → option_and_then (time_at (trip_of p t rs fs) start) (row_at (trip_of p t rs fs) position) ≡ cond (is_some o) (Some (passes_at (trip_of p t rs fs) start (stop_row_of p (get_or rs position d)))) None
+  shown start position d o within is =
+      ap (option_and_then (time_at (trip_of p t rs fs) start)) (row-is position d within)
+      ∙ ap (λ x. cond (is_some x) (Some (passes_at (trip_of p t rs fs) start (stop_row_of p (get_or rs position d)))) None) is
 
-  pub untimed-is : (start place : ℕ) (d : StopRow) → place < length rs → d ≡ get_or rs place d → left_at d ≡ None
-      → None ≡ option_and_then (time_at (trip_of p t rs fs) start) (row_at (trip_of p t rs fs) place)
-  untimed-is start place d within item none = sym (shown start place d None within (ap left_at (sym item) ∙ none))
+  pub untimed-is : (start position : ℕ) (d : StopRow) → position < length rs → d ≡ get_or rs position d → left_at d ≡ None
+      → None ≡ option_and_then (time_at (trip_of p t rs fs) start) (row_at (trip_of p t rs fs) position)
+  untimed-is start position d within item none = sym (shown start position d None within (ap left_at (sym item) ∙ none))
 
-  pub timed-is : (start place clock time : ℕ) (d : StopRow) → place < length rs → d ≡ get_or rs place d → left_at d ≡ Some time
-      → clock ≡ passes_at (trip_of p t rs fs) start (stop_row_of p (get_or rs place d))
-      → Some clock ≡ option_and_then (time_at (trip_of p t rs fs) start) (row_at (trip_of p t rs fs) place)
-  timed-is start place clock time d within item timed is = ap Some is ∙ sym (shown start place d (Some time) within (ap left_at (sym item) ∙ timed))
+  pub timed-is : (start position clock time : ℕ) (d : StopRow) → position < length rs → d ≡ get_or rs position d → left_at d ≡ Some time
+      → clock ≡ passes_at (trip_of p t rs fs) start (stop_row_of p (get_or rs position d))
+      → Some clock ≡ option_and_then (time_at (trip_of p t rs fs) start) (row_at (trip_of p t rs fs) position)
+  timed-is start position clock time d within item timed is = ap Some is ∙ sym (shown start position d (Some time) within (ap left_at (sym item) ∙ timed))
 
 -- the same of a trip of the feed
-pub time-in-content : (f : List Trip) (n start place : ℕ) (t : Trip) (o : Option ℕ) → slice_get f n ≡ Some t → o ≡ option_and_then (time_at t start) (row_at t place)
-    → o ≡ option_and_then (λ u. option_and_then (time_at u start) (row_at u place)) (slice_get f n)
-time-in-content f n start place t o at is = is ∙ sym (ap (option_and_then (λ u. option_and_then (time_at u start) (row_at u place))) at)
+pub time-in-content : (f : List Trip) (n start position : ℕ) (t : Trip) (o : Option ℕ) → slice_get f n ≡ Some t → o ≡ option_and_then (time_at t start) (row_at t position)
+    → o ≡ option_and_then (λ u. option_and_then (time_at u start) (row_at u position)) (slice_get f n)
+time-in-content f n start position t o at is = is ∙ sym (ap (option_and_then (λ u. option_and_then (time_at u start) (row_at u position))) at)

@@ -31,7 +31,7 @@ use Rattle.gtfs_runs.specs.declared.pattern.Pattern.{Pattern}
 use Rattle.gtfs_table.specs.Folder.{text_cmp}
 use Rattle.gtfs_board.specs.Departures.{runs_on}
 use Rattle.gtfs_board.specs.SheetSteps.{goes, is_idle, running_at, sheet_along, sheets_along}
-use Rattle.gtfs_board.specs.Timetable.{Heading, Run, Sheet, direction_at, direction_place, has_heading, has_run_on, heading_cmp, heading_of, headings, is_heading_before, is_route, named_runs, row_at, running, runs_of, runs_under, sheet_under, sheets, time_at, time_of_run, wants}
+use Rattle.gtfs_board.specs.Timetable.{Heading, Run, Sheet, direction_at, direction_rank, has_heading, has_run_on, heading_cmp, heading_of, headings, is_heading_before, is_route, named_runs, row_at, running, runs_of, runs_under, sheet_under, sheets, time_at, time_of_run, wants}
 use Rattle.gtfs_board.specs.declared.sheet.TableFault.{TableFault}
 use Rattle.gtfs_board.specs.declared.sheet.TableFault.TheVariants.{UnknownRoute}
 use Rattle.gtfs_board.specs.merge.Order.{In, IsStrict}
@@ -63,13 +63,13 @@ headings_strict = strict_from_total heading_cmp headings_total heading_exact
 has_own : (h : Heading) (t : Trip) → h ≡ heading_of t → has_heading h t ≡ true
 has_own h t is = ap (λ g. is_eq (heading_cmp g (heading_of t))) is ∙ ap is_eq (tied_itself headings_total (heading_of t))
 
-goes-wants : (o : Option ℕ) (x : Pattern) (t : Trip) → direction_place x.direction ≡ direction_place t.direction_id → goes o x ≡ wants o t
+goes-wants : (o : Option ℕ) (x : Pattern) (t : Trip) → direction_rank x.direction ≡ direction_rank t.direction_id → goes o x ≡ wants o t
 goes-wants None x t same = refl
 goes-wants (Some d) x t same = ap (λ n. n == d + 1) same
 
-place_back : (o : Option ℕ) → direction_at (direction_place o) ≡ o
-place_back None = refl
-place_back (Some d) =
+rank_back : (o : Option ℕ) → direction_at (direction_rank o) ≡ o
+rank_back None = refl
+rank_back (Some d) =
     let some : (d + 1 == 0) ≡ false = grind (arith, nat_tests) in
     let less : d + 1 - 1 ≡ d = omega arith in
     ap (λ b. cond b None (Some (d + 1 - 1))) some ∙ ap Some less
@@ -268,14 +268,14 @@ module _ (p : Parts) (sound : IsSoundParts p) (n : ℕ) (within : n < length p.r
   sheet-is : (x : Pattern) → In x kept → sheet_under id d trips (heading_along p x) ≡ sheet_along p id d x
   sheet-is x there =
       let k = kept-in x there in
-      let direction_is = place_back x.direction in
+      let direction_is = rank_back x.direction in
       let runs_are = runs-same x k.0 k.1.0 in
-      let places : length (heading_along p x).1 ≡ length x.stops.items = length-map x.stops.items (λ s. text_of_number (stop_ids p) s.0) in
+      let stop_count : length (heading_along p x).1 ≡ length x.stops.items = length-map x.stops.items (λ s. text_of_number (stop_ids p) s.0) in
       let rows : (i : ℕ) → map (time_of_run trips i) (runs_under (heading_along p x) trips) ≡ map (time_of_run (trips_along x) i) (runs_of (trips_along x)) =
       λ i. ap (map (time_of_run trips i)) runs_are ∙ map-agree (time_of_run trips i) (time_of_run (trips_along x) i) (runs_of (trips_along x)) (time-same x k.0 k.1.0 i) in
       let times : (sheet_under id d trips (heading_along p x)).times ≡ (sheet_along p id d x).times =
       map-agree (λ i. map (time_of_run trips i) (runs_under (heading_along p x) trips)) (λ i. map (time_of_run (trips_along x) i) (runs_of (trips_along x))) (range_with_len 0 (length (heading_along p x).1)) (λ i _. rows i)
-      ∙ ap (λ m. map (λ i. map (time_of_run (trips_along x) i) (runs_of (trips_along x))) (range_with_len 0 m)) places in
+      ∙ ap (λ m. map (λ i. map (time_of_run (trips_along x) i) (runs_of (trips_along x))) (range_with_len 0 m)) stop_count in
       λ i. record {
         route = id;
         direction = direction_is i;

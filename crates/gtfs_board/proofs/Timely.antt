@@ -112,11 +112,11 @@ event_timely p sound s service e h =
     let times = has_times p sound e.trip.0 h.trip h.trip_at in
     let most = times.runs e.run h.run in
     let run = run_listed 3_600_000 refl h.trip e.run h.run (omega (arith, most)) in
-    let place : In (0 + e.row, h.row) (departure_rows f s h.trip) = in-filter (λ x. is_departure_row h.trip x.1 && is_in_place f s x.1.stop_id) (enumerate_from 0 h.trip.stop_rows) (0 + e.row, h.row)
+    let among : In (0 + e.row, h.row) (departure_rows f s h.trip) = in-filter (λ x. is_departure_row h.trip x.1 && is_in_place f s x.1.stop_id) (enumerate_from 0 h.trip.stop_rows) (0 + e.row, h.row)
     (in-enumerate 0 h.trip.stop_rows e.row h.row h.row_at) (and_from (is_departure_row h.trip h.row) (is_in_place f s h.row.stop_id) h.departs h.place) in
     let all : In (passes_at h.trip e.run h.row) (flat_map (λ t. flat_map (λ x. map (λ r. passes_at t r x.1) (runs t)) (departure_rows f s t)) f.trips) =
     in-flat_map (λ t. flat_map (λ x. map (λ r. passes_at t r x.1) (runs t)) (departure_rows f s t)) f.trips h.trip (passes_at h.trip e.run h.row) (at_in f.trips e.trip.0 h.trip h.trip_at)
-    (in-flat_map (λ x. map (λ r. passes_at h.trip r x.1) (runs h.trip)) (departure_rows f s h.trip) (0 + e.row, h.row) (passes_at h.trip e.run h.row) place
+    (in-flat_map (λ x. map (λ r. passes_at h.trip r x.1) (runs h.trip)) (departure_rows f s h.trip) (0 + e.row, h.row) (passes_at h.trip e.run h.row) among
     (in-map (λ r. passes_at h.trip r h.row) (runs h.trip) e.run run)) in
     subst (λ n. n ≤ latest f s) h.at (fold_most 0 _ (passes_at h.trip e.run h.row) all)
 

@@ -27,8 +27,8 @@ in_tally {C} {lt} o x (y ∷ q) here = elim here [
 lane_below : (n i : ℕ) → (n ≤ i → ⊥) → i < n
 lane_below n i h = elim (cases_lt i n) [ inl a ↦ a | inr b ↦ absurd (h b) ]
 
-same_place : (d a b : ℤ) → d ≤ℤ a → d ≤ℤ b → unsigned_abs (a -ℤ d) ≡ unsigned_abs (b -ℤ d) → a ≡ b
-same_place d a b ha hb e =
+same_distance : (d a b : ℤ) → d ≤ℤ a → d ≤ℤ b → unsigned_abs (a -ℤ d) ≡ unsigned_abs (b -ℤ d) → a ≡ b
+same_distance d a b ha hb e =
     let x = abs-above a d ha in
     let y = abs-above b d hb in
     let z = ap pos e in
@@ -53,49 +53,49 @@ module _ {C : Type 0} where
         | inr isnt ↦ rw isnt (omega arith)
       ]
 
-  -- how many members that pass stand at the places below n
-  abbrev placed : (C → Bool) → (C → ℕ) → ℕ → List C → ℕ
-  placed r f zero xs = 0
-  placed r f (suc n) xs = tally (λ x. r x && (f x == n)) xs + placed r f n xs
+  -- how many members that pass stand at the numbers below n
+  abbrev numbered : (C → Bool) → (C → ℕ) → ℕ → List C → ℕ
+  numbered r f zero xs = 0
+  numbered r f (suc n) xs = tally (λ x. r x && (f x == n)) xs + numbered r f n xs
 
-  placed-skip : (r : C → Bool) (f : C → ℕ) (n : ℕ) (x : C) (xs : List C) → placed r f n xs ≤ placed r f n (x ∷ xs)
-  placed-skip r f zero x xs = omega arith
-  placed-skip r f (suc n) x xs = let rest = placed-skip r f n x xs in omega arith
+  numbered-skip : (r : C → Bool) (f : C → ℕ) (n : ℕ) (x : C) (xs : List C) → numbered r f n xs ≤ numbered r f n (x ∷ xs)
+  numbered-skip r f zero x xs = omega arith
+  numbered-skip r f (suc n) x xs = let rest = numbered-skip r f n x xs in omega arith
 
-  placed-more : (r : C → Bool) (f : C → ℕ) (n : ℕ) (x : C) (xs : List C) → r x ≡ true → f x < n → 1 + placed r f n xs ≤ placed r f n (x ∷ xs)
-  placed-more r f zero x xs is low = absurd (omega arith)
-  placed-more r f (suc n) x xs is low = elim (cases_eq (f x) n) [
+  numbered-more : (r : C → Bool) (f : C → ℕ) (n : ℕ) (x : C) (xs : List C) → r x ≡ true → f x < n → 1 + numbered r f n xs ≤ numbered r f n (x ∷ xs)
+  numbered-more r f zero x xs is low = absurd (omega arith)
+  numbered-more r f (suc n) x xs is low = elim (cases_eq (f x) n) [
     | inl at ↦
         let t : (f x == n) ≡ true = eq-eqb (f x) n at in
-        let rest = placed-skip r f n x xs in
+        let rest = numbered-skip r f n x xs in
         rw (is, t) (omega arith)
     | inr past ↦
-        let rest = placed-more r f n x xs is (omega arith) in
+        let rest = numbered-more r f n x xs is (omega arith) in
         omega arith
   ]
 
-  tally-placed : (r : C → Bool) (f : C → ℕ) (n : ℕ) (xs : List C) → Each (λ x. r x ≡ true → f x < n) xs → tally r xs ≤ placed r f n xs
-  tally-placed r f n [] h = omega arith
-  tally-placed r f n (x ∷ xs) h =
-      let rest = tally-placed r f n xs h.1 in
+  tally-numbered : (r : C → Bool) (f : C → ℕ) (n : ℕ) (xs : List C) → Each (λ x. r x ≡ true → f x < n) xs → tally r xs ≤ numbered r f n xs
+  tally-numbered r f n [] h = omega arith
+  tally-numbered r f n (x ∷ xs) h =
+      let rest = tally-numbered r f n xs h.1 in
       elim (cases_Bool (r x)) [
-        | inl is ↦ let more = placed-more r f n x xs is (h.0 is) in rw is (omega arith)
-        | inr isnt ↦ let more = placed-skip r f n x xs in rw isnt (omega arith)
+        | inl is ↦ let more = numbered-more r f n x xs is (h.0 is) in rw is (omega arith)
+        | inr isnt ↦ let more = numbered-skip r f n x xs in rw isnt (omega arith)
       ]
 
-  placed-few : (r : C → Bool) (f : C → ℕ) (n m : ℕ) (xs : List C) → ((v : ℕ) → tally (λ x. r x && (f x == v)) xs ≤ m) → placed r f n xs ≤ n * m
-  placed-few r f zero m xs h = omega arith
-  placed-few r f (suc n) m xs h =
-      let rest = placed-few r f n m xs h in
+  numbered-few : (r : C → Bool) (f : C → ℕ) (n m : ℕ) (xs : List C) → ((v : ℕ) → tally (λ x. r x && (f x == v)) xs ≤ m) → numbered r f n xs ≤ n * m
+  numbered-few r f zero m xs h = omega arith
+  numbered-few r f (suc n) m xs h =
+      let rest = numbered-few r f n m xs h in
       let here = h n in
       omega (arith, rest, here)
 
-  -- n places with at most m each
+  -- n numbers with at most m each
   pub pigeons : (r : C → Bool) (f : C → ℕ) (n m : ℕ) (xs : List C) → Each (λ x. r x ≡ true → f x < n) xs
       → ((v : ℕ) → tally (λ x. r x && (f x == v)) xs ≤ m) → tally r xs ≤ n * m
   pigeons r f n m xs low few =
-      let a = tally-placed r f n xs low in
-      let b = placed-few r f n m xs few in
+      let a = tally-numbered r f n xs low in
+      let b = numbered-few r f n m xs few in
       omega arith
 
   pub tally-all : (xs : List C) → tally (λ _. true) xs ≡ length xs
@@ -170,33 +170,33 @@ module _ {C : Type 0} {lt : C → C → Bool} {instant day : C → ℤ} {lane : 
       let least = least_day day c r in
       let d0 = least.0 in
       let first = least.1.0 in
-      let place : C → ℕ = λ y. unsigned_abs (day y -ℤ d0) in
+      let distance : C → ℕ = λ y. unsigned_abs (day y -ℤ d0) in
       let of_head = waits-head f p q heads in
       let first_head = head-found o ls f p first (of_head first least.1.1) in
       let first_in = find-in p _ first first_head.1 in
       let first_late = ls.late (lane first) (day first) first first_in in
       let first_low = Each-in (λ y. x0 ≤ℤ instant y) q first low least.1.1 in
-      let inside : (y : C) → In y q → place y < w = λ y there.
+      let inside : (y : C) → In y q → distance y < w = λ y there.
       let up = Each-in (λ y. d0 ≤ℤ day y) q y least.2 there in
       let down = Each-in (λ y. (day y *ℤ pos 86_400) ≤ℤ (x0 +ℤ pos 93_599)) q y high there in
       within_width latest x0 d0 (day y) (instant first) up down (rw least.1.2 at first_late) first_low in
       let lanes : Each (λ y. (true ≡ true) → lane y < count) q = each_in (λ y. (true ≡ true) → lane y < count) q (λ y there _.
       let h = head-found o ls f p y (of_head y there) in
       lane_below count (lane y) (λ past. let none = ls.few (lane y) (day y) past in let at = find-in p _ y h.1 in rw none at at)) in
-      let one : (i k : ℕ) → tally (λ y. (true && (lane y == i)) && (place y == k)) q ≤ 1 = λ i k.
-      one_each o (λ y. (true && (lane y == i)) && (place y == k)) q (λ x y a b px py.
-      let sx = and_parts (lane x == i) (place x == k) px in
-      let sy = and_parts (lane y == i) (place y == k) py in
+      let one : (i k : ℕ) → tally (λ y. (true && (lane y == i)) && (distance y == k)) q ≤ 1 = λ i k.
+      one_each o (λ y. (true && (lane y == i)) && (distance y == k)) q (λ x y a b px py.
+      let sx = and_parts (lane x == i) (distance x == k) px in
+      let sy = and_parts (lane y == i) (distance y == k) py in
       let lx = eqb-true (lane x) i sx.0 in
       let ly = eqb-true (lane y) i sy.0 in
-      let kx = eqb-true (place x) k sx.1 in
-      let ky = eqb-true (place y) k sy.1 in
+      let kx = eqb-true (distance x) k sx.1 in
+      let ky = eqb-true (distance y) k sy.1 in
       let ux = Each-in (λ y. d0 ≤ℤ day y) q x least.2 a in
       let uy = Each-in (λ y. d0 ≤ℤ day y) q y least.2 b in
-      alike_heads f p x y (of_head x a) (of_head y b) (lx ∙ sym ly) (same_place d0 (day x) (day y) ux uy (kx ∙ sym ky)))
+      alike_heads f p x y (of_head x a) (of_head y b) (lx ∙ sym ly) (same_distance d0 (day x) (day y) ux uy (kx ∙ sym ky)))
       (waits_once f p q heads) in
       let each_lane : (i : ℕ) → tally (λ y. true && (lane y == i)) q ≤ w = λ i.
-      let t = pigeons (λ y. true && (lane y == i)) place w 1 q (each_in (λ y. (true && (lane y == i)) ≡ true → place y < w) q (λ y there _. inside y there)) (one i) in
+      let t = pigeons (λ y. true && (lane y == i)) distance w 1 q (each_in (λ y. (true && (lane y == i)) ≡ true → distance y < w) q (λ y there _. inside y there)) (one i) in
       omega (arith, t) in
       let all = pigeons (λ _. true) lane count w q lanes each_lane in
       rw (← tally-all q) all

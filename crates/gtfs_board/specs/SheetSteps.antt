@@ -14,7 +14,7 @@ use Rattle.gtfs_runs.specs.Patterns.{rows_of}
 use Rattle.gtfs_runs.specs.Trips.{is_run}
 use Rattle.gtfs_runs.specs.declared.pattern.Pattern.{Pattern}
 use Rattle.gtfs_board.specs.Departures.{runs_on}
-use Rattle.gtfs_board.specs.Timetable.{Run, Sheet, direction_place, has_run_on, row_at, runs_of, time_at, time_of_run}
+use Rattle.gtfs_board.specs.Timetable.{Run, Sheet, direction_rank, has_run_on, row_at, runs_of, time_at, time_of_run}
 use Rattle.gtfs_board.specs.declared.sheet.columns.Column.{Column}
 
 -- ---- columns
@@ -42,12 +42,12 @@ abbrev pub HasRow : Parts → TripNo → Type 0
 HasRow p n = (n.0 < length p.trips) × (0 < length (rows_of p n.0))
 
 -- the times of a column can be shown at this many stop rows of its trip
-pub record IsShownAlong (p : Parts) (places : ℕ) (c : Column) : Type 0 where
+pub record IsShownAlong (p : Parts) (stop_count : ℕ) (c : Column) : Type 0 where
   pub trip : c.trip.0 < length p.trips
-  pub reaches : places ≤ length (rows_of p c.trip.0)
+  pub reaches : stop_count ≤ length (rows_of p c.trip.0)
   pub early : c.start < 3_600_000
 
--- when the run passes the row at a place, none where the row is untimed
+-- when the run passes the row at a position, none where the row is untimed
 abbrev pub time_of_column : Content → ℕ → Column → Option ℕ
 time_of_column f i c = option_and_then (λ t. option_and_then (time_at t c.start) (row_at t i)) (slice_get f.trips c.trip.0)
 
@@ -55,14 +55,14 @@ abbrev pub named_column : Parts → Column → Run
 named_column p c = (c.start, text_of_number (trip_ids p) c.trip.0)
 
 abbrev pub column_times : Content → ℕ → List Column → List (List (Option ℕ))
-column_times f places cs = map (λ i. map (time_of_column f i) cs) (range_with_len 0 places)
+column_times f stop_count cs = map (λ i. map (time_of_column f i) cs) (range_with_len 0 stop_count)
 
 -- ---- patterns
 
 -- the trips of a pattern go in the direction, where one is given
 abbrev pub goes : Option ℕ → Pattern → Bool
 goes None x = true
-goes (Some d) x = direction_place x.direction == d + 1
+goes (Some d) x = direction_rank x.direction == d + 1
 
 -- a pattern of the parts: its trips have its stops, and each stands once
 pub record IsPattern (p : Parts) (x : Pattern) : Type 0 where

@@ -30,9 +30,9 @@ abbrev pub Heading : Type 0
 Heading = ℕ × List (List ℕ)
 
 -- no direction comes before 0, and 0 before 1
-abbrev pub direction_place : Option ℕ → ℕ
-direction_place None = 0
-direction_place (Some d) = d + 1
+abbrev pub direction_rank : Option ℕ → ℕ
+direction_rank None = 0
+direction_rank (Some d) = d + 1
 
 abbrev pub direction_at : ℕ → Option ℕ
 direction_at n = if n == 0 then None else Some (n - 1)
@@ -44,7 +44,7 @@ abbrev pub is_heading_before : Heading → Heading → Bool
 is_heading_before x y = is_lt (heading_cmp x y)
 
 abbrev pub heading_of : Trip → Heading
-heading_of t = (direction_place t.direction_id, stops_of t)
+heading_of t = (direction_rank t.direction_id, stops_of t)
 
 abbrev pub has_heading : Heading → Trip → Bool
 has_heading h t = is_eq (heading_cmp h (heading_of t))
@@ -58,7 +58,7 @@ is_route f id = list_any (λ r. bytes_eq r.route_id id) f.routes
 -- a trip goes in the direction, where one is given
 abbrev pub wants : Option ℕ → Trip → Bool
 wants None t = true
-wants (Some d) t = direction_place t.direction_id == d + 1
+wants (Some d) t = direction_rank t.direction_id == d + 1
 
 -- a trip has a run on the day
 abbrev pub has_run_on : Content → ℤ → Trip → Bool
@@ -85,7 +85,7 @@ runs_of trips = in_order is_run_before (flat_map named_runs trips)
 abbrev pub runs_under : Heading → List Trip → List Run
 runs_under h trips = runs_of (filter (has_heading h) trips)
 
--- the row of a trip at a place; the trips of a sheet have as many
+-- the row of a trip at a position; the trips of a sheet have as many
 abbrev pub row_at : Trip → ℕ → Option StopRow
 row_at t i = slice_get t.stop_rows i
 

@@ -28,7 +28,7 @@ impl Mark {
 /// A departure as a board lists it. The feed lends its texts.
 #[derive(Clone, Copy, Debug, PartialEq, Eq)]
 pub struct Departure<'a> {
-    /// Its place on the board.
+    /// Its position on the board.
     pub key: Key<'a>,
     /// `stop_id` of the stop from which it leaves, which may be a platform of the board's station.
     pub stop: &'a str,

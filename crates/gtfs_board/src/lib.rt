@@ -1,7 +1,7 @@
 //! Departure boards of a GTFS feed.
 //!
 //! - A [`Board`] lists the departures of a stop over a [`Span`] one after another; [`write_page`] writes their lines.
-//! - A [`Departure`] is what a board lists, and its [`Key`] its place there. [`push_line`] appends its line to a text.
+//! - A [`Departure`] is what a board lists, and its [`Key`] its position there. [`push_line`] appends its line to a text.
 //! - [`read_key`] and [`push_key`] read and write the text of a key, after which a board can be opened again.
 //! - [`timetable`] makes the sheets of a route on a day. A [`Sheet`] has the runs in one direction along one list of stops;
 //!   [`push_sheet`] appends its text.

@@ -29,7 +29,7 @@ pub(crate) fn push_ascii(text: &mut String, bytes: &[u8])
         .unwrap();
 }
 
-// Writes the last two digits of a number in place of the two bytes from a place on.
+// Writes the last two digits of a number in place of the two bytes from an index on.
 pub(crate) fn write_two_digits(bytes: &mut [u8], at: usize, number: u32)
     requires { at + 2 ≤ length bytes.old }
     ensures written { bytes.new

@@ -81,7 +81,7 @@ impl<'a> Days<'a> {
         self.feed.service_by_number(self.service_no(lane))
     }
 
-    // The first event of a lane above a place.
+    // The first event of a lane above a position.
     fn first_after(&self, lane: usize, seek: &Seek, steps: &mut Steps) -> Option<Event>
         requires { lane < length (lanes_of self.now.lanes) }
         ensures first { result ≡ find (is_above seek.now) (lane_at self.now.lanes lane).events }

@@ -125,9 +125,9 @@ fn order_of(key: &Key<'_>, other: &str) -> Option<Ordering> {
 
 #[test]
 fn keys_stand_by_their_parts(rt: HostRuntime) {
-    for (place, text) in ASCENDING.iter().enumerate() {
-        for (other_place, other) in ASCENDING.iter().enumerate() {
-            let wanted = Some(place.cmp(&other_place));
+    for (index, text) in ASCENDING.iter().enumerate() {
+        for (other_index, other) in ASCENDING.iter().enumerate() {
+            let wanted = Some(index.cmp(&other_index));
             assert!(rt; order(text, other) == wanted, "{text} {other}");
         }
     }

@@ -16,7 +16,7 @@ const DAY: i64 = 86_400;
 // origin lies from midnight in UTC.
 const FARTHEST: i64 = 7_199_997 + 93_599;
 
-/// The place of a departure on a board: by instant, trip, run, sequence and day, as keys stand. The numbers of trips follow
+/// The position of a departure on a board: by instant, trip, run, sequence and day, as keys stand. The numbers of trips follow
 /// the bytes of their ids.
 #[derive(Clone, Copy, Debug, PartialEq, Eq, PartialOrd, Ord)]
 pub(crate) struct PlainKey {
@@ -124,7 +124,7 @@ impl PlainKey {
             .is_gt()
     }
 
-    /// Whether a departure has this place, and shows what the rows of its trip say.
+    /// Whether a departure has this position, and shows what the rows of its trip say.
     pub(crate) fn is_of(&self, feed: &Feed, departure: &Departure<'_>) -> bool {
         self.is_key(feed, &departure.key) && self.is_shown(feed, departure)
     }

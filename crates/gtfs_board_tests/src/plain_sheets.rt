@@ -132,8 +132,8 @@ fn push_sheet_of(
     let Some((_, first)) = runs.first() else {
         return Ok(());
     };
-    for place in 0..rows_of(feed, *first).len() {
-        push_stop(alloc, feed, &runs, place, text)?;
+    for position in 0..rows_of(feed, *first).len() {
+        push_stop(alloc, feed, &runs, position, text)?;
     }
     Ok(())
 }
@@ -176,44 +176,44 @@ fn push_runs(feed: &Feed, trip: TripNo, runs: &mut Vec<(u32, TripNo)>) -> Result
     Ok(())
 }
 
-// When a trip leaves the stop of a place by its own times, or else arrives there.
-fn time_at(feed: &Feed, trip: TripNo, place: usize) -> Option<u32> {
-    let row = rows_of(feed, trip).get(place)?;
+// When a trip leaves the stop at a position by its own times, or else arrives there.
+fn time_at(feed: &Feed, trip: TripNo, position: usize) -> Option<u32> {
+    let row = rows_of(feed, trip).get(position)?;
     match row.departure_time.get() {
         Some(time) => Some(time.seconds()),
         None => Some(row.arrival_time.get()?.seconds()),
     }
 }
 
-fn stop_at(feed: &Feed, trip: TripNo, place: usize) -> StopNo {
-    match rows_of(feed, trip).get(place) {
+fn stop_at(feed: &Feed, trip: TripNo, position: usize) -> StopNo {
+    match rows_of(feed, trip).get(position) {
         Some(row) => row.stop_id,
         None => StopNo(usize::MAX),
     }
 }
 
-// Adds the line of the stop of a place.
+// Adds the line of the stop at a position.
 fn push_stop(
     alloc: Global,
     feed: &Feed,
     runs: &[(u32, TripNo)],
-    place: usize,
+    position: usize,
     text: &mut String,
 ) -> Result<(), Fail> {
     for (column, (start, trip)) in runs.iter().enumerate() {
         if column == 0 {
-            text.push_str(stop_shown(feed, stop_at(feed, *trip, place)))?;
+            text.push_str(stop_shown(feed, stop_at(feed, *trip, position)))?;
         }
-        let shown = time_shown(alloc, run_time(feed, *trip, *start, place))?;
+        let shown = time_shown(alloc, run_time(feed, *trip, *start, position))?;
         text.push_str(&shown)?;
     }
     Ok(text.push_str("\n")?)
 }
 
-// When a run that starts at a second passes a place.
-fn run_time(feed: &Feed, trip: TripNo, start: u32, place: usize) -> Option<u32> {
+// When a run that starts at a second passes a position.
+fn run_time(feed: &Feed, trip: TripNo, start: u32, position: usize) -> Option<u32> {
     let first = time_at(feed, trip, 0)?;
-    let time = time_at(feed, trip, place)?;
+    let time = time_at(feed, trip, position)?;
     Some(start.saturating_add(time).saturating_sub(first))
 }
 

@@ -36,7 +36,7 @@ const BEGINNING: Seek = Seek {
 // No lane of a test has more events.
 const MOST: usize = 100_000;
 
-// The place of an event, or of this sequence beside it.
+// The position of an event, or of this sequence beside it.
 fn seek_at(event: &Event, seq: i64) -> Seek {
     Seek {
         at: i64::from(event.at),

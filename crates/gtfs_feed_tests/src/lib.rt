@@ -7,7 +7,7 @@
 //! - `ids` has the numbers of ids, `orders` rows in every order, and `rows` what the rows of a feed say.
 //! - `written` has the written form of feeds, and `again` feeds that are written and read again.
 //! - `events` has what passes a stop, by worked cases, and `lanes` walks the lanes of each of them; `seeks` asks a lane
-//!   from places between its events, and `unions` all lanes of each stop together.
+//!   from positions between its events, and `unions` all lanes of each stop together.
 //! - `large` has more rows of each kind than two bytes can number.
 //! - `patterns` compares the patterns of a route with those that a slow plain search finds.
 #![tactic(auto)]

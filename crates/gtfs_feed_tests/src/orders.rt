@@ -102,8 +102,8 @@ fn put_rows(
     order: [usize; 3],
 ) -> Result<(), OutOfMemory> {
     let mut text = String::from_str(alloc, rows.header)?;
-    for place in order {
-        if let Some(row) = rows.rows.get(place) {
+    for index in order {
+        if let Some(row) = rows.rows.get(index) {
             text.push_str(row)?;
         }
     }

@@ -1,4 +1,4 @@
-//! A lane that is asked from places before, at, between and past its events.
+//! A lane that is asked from positions before, at, between and past its events.
 
 use crate::named::stop_named;
 use gtfs_feed::Feed;
@@ -48,7 +48,7 @@ const OF_A_PERIOD: &[Asked] = &[
 ];
 
 #[test]
-fn a_period_is_asked_from_any_place(rt: HostRuntime) -> Result<(), Fail> {
+fn a_period_is_asked_from_any_position(rt: HostRuntime) -> Result<(), Fail> {
     let frequencies = "trip_id,start_time,end_time,headway_secs\nT1,06:00:00,07:00:00,1800\n";
     let feed = feed_with(&rt, rt.alloc(), &[("frequencies.txt", frequencies)])?;
     let stop = stop_named(&rt, &feed, "S1");
@@ -72,7 +72,7 @@ const OF_A_LIST: &[Asked] = &[
 ];
 
 #[test]
-fn a_list_is_asked_from_any_place(rt: HostRuntime) -> Result<(), Fail> {
+fn a_list_is_asked_from_any_position(rt: HostRuntime) -> Result<(), Fail> {
     let trips = "route_id,service_id,trip_id\nR1,C1,T2\nR1,C1,T10\n";
     let stop_times = "trip_id,arrival_time,departure_time,stop_id,stop_sequence\n\
 T2,25:10:00,25:10:00,S1,1\nT2,25:20:00,25:20:00,S2,2\nT10,25:10:00,25:10:00,S1,1\nT10,25:20:00,25:20:00,S2,2\n";

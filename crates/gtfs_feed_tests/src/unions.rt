@@ -20,13 +20,13 @@ fn first_listed(events: &[(ServiceNo, Event)], service: ServiceNo, seek: &Seek) 
 
 // Whether an event lies above a seek: by its second, trip, run and sequence.
 fn lies_above(seek: &Seek, event: &Event) -> bool {
-    let event_place = (
+    let event_position = (
         i64::from(event.at),
         event.trip.0,
         event.run,
         i64::from(event.seq),
     );
-    event_place > (seek.at, seek.trip.0, seek.run, seek.seq)
+    event_position > (seek.at, seek.trip.0, seek.run, seek.seq)
 }
 
 // The lesser of two events, where there are two.
@@ -55,7 +55,7 @@ fn least<L: Lane>(
     found
 }
 
-// Places around an event: itself, and those that differ from it in one part.
+// Positions around an event: itself, and those that differ from it in one part.
 fn around(event: &Event) -> [Seek; 9] {
     let at = Seek {
         at: i64::from(event.at),
@@ -101,8 +101,8 @@ fn around(event: &Event) -> [Seek; 9] {
     ]
 }
 
-// For every service and every place around an event of the stop, the least event that a lane of the service has above the
-// place is the first that the plain list has.
+// For every service and every position around an event of the stop, the least event that a lane of the service has above the
+// position is the first that the plain list has.
 fn assert_union(rt: &impl Abort, alloc: Global, feed: &Feed, stop: StopNo) -> Result<(), Fail>
     requires { stop.0 < length feed.now.stops }
 {

@@ -168,10 +168,10 @@ fn push_stops(
     let last = dice.roll(4).saturating_add(1);
     let mut sequence = dice.roll(3);
     let mut seconds = dice.roll(40).saturating_mul(2_400);
-    for place in 0..=last {
+    for position in 0..=last {
         let stop = stop_of(dice);
         let (hours, minutes) = (seconds / 3_600, seconds / 60 % 60);
-        let times = if place > 0 && place < last && dice.is_one_of(3) {
+        let times = if position > 0 && position < last && dice.is_one_of(3) {
             String::from_str(alloc, ",")?
         } else {
             format!(in alloc; "{hours}:{minutes:02}:00,{hours}:{minutes:02}:00")?

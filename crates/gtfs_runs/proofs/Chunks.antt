@@ -78,9 +78,9 @@ module _ (xs : List Listed) (n : ℕ) (first : Listed) (some : 0 < n) (upto : n 
         let left : length bs ≡ length xs - n = length-map (drop n xs) stopping_of ∙ length-drop n xs in
         let inside : n < length xs = omega (arith, left, more) in
         let here : 0 < length (drop n xs) = omega (arith, length-drop n xs, inside) in
-        let place : n + 0 ≡ n = omega arith in
+        let same_index : n + 0 ≡ n = omega arith in
         let at : get_or bs 0 d ≡ stopping_of (get_or xs n first) =
-        get_or-map stopping_of (drop n xs) 0 first d here ∙ ap stopping_of (get_or-drop n xs 0 first ∙ ap (λ m. get_or xs m first) place) in
+        get_or-map stopping_of (drop n xs) 0 first d here ∙ ap stopping_of (get_or-drop n xs 0 first ∙ ap (λ m. get_or xs m first) same_index) in
         ap (λ z. is_same_course c z.course) at ∙ ap (λ x. is_same_course (stopping_of x).course (stopping_of (get_or xs n first)).course) head ∙ ends first inside)
 
     pub fewer : how_many is_same_course (map (λ x. x.course) (map stopping_of xs)) ≡ how_many is_same_course (map (λ x. x.course) (map stopping_of (drop n xs))) + 1

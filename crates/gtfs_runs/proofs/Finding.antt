@@ -8,7 +8,7 @@ use Rattle.std.proofs.lemmas.Bool.{true≢false, cases_Bool, not-true as turned-
 use Rattle.gtfs_field.proofs.NumberFacts.{cases_up_to as split_lt_eq}
 use Rattle.gtfs_rows.specs.Order.{Ascends}
 
--- where a test fails up to a place and holds from there on, the element there is the first that passes
+-- where a test fails up to an index and holds from there on, the element there is the first that passes
 pub find-parted : {X : Type 0} (q : X → Bool) (xs : List X) (i : ℕ) → IsPartitionPoint (λ x. not (q x) ≡ true) (λ x. not (q x) ≡ false) xs i → i ≤ length xs
     → find q xs ≡ slice_get xs i
 find-parted q [] i parted within = refl

@@ -225,7 +225,7 @@ module _ (p : Parts) (sound : IsSoundParts p) (s : ℕ) where
   abbrev id : List ℕ
   id = text_of_number (stop_ids p) s
 
-  -- what stands in the place of a number of trips
+  -- what the number of a trip stands for
   record IsAt (n : ℕ) (t : content.Trip) : Type 0 where
     pub row : Trip
     pub rows : List StopRow

@@ -32,8 +32,8 @@ without_last Equal Equal Equal Less e h = refl
 without_last Equal Equal Equal Equal e h = refl
 without_last Equal Equal Equal Greater e h = absurd (cc)
 
-pub places-rise : (x y : Event) → event_cmp x y ≡ Less → is_gt (seek_cmp (seek_of x) (seek_of y)) ≡ false
-places-rise x y h =
+pub seeks-rise : (x y : Event) → event_cmp x y ≡ Less → is_gt (seek_cmp (seek_of x) (seek_of y)) ≡ false
+seeks-rise x y h =
     rw (same_cmp x.at y.at, same_cmp x.seq y.seq) (without_last (nat_cmp x.at y.at) (nat_cmp x.trip.0 y.trip.0) (nat_cmp x.run y.run) (nat_cmp x.seq y.seq) (nat_cmp x.row y.row) h)
 
 module _ {K : Type 0} {R : K → K → Ordering} (o : IsTotalOrder R) where
@@ -47,7 +47,7 @@ pub later-upward : (e x y : Event) → event_cmp x y ≡ Less → is_later e x �
 later-upward e x y rises above = ap is_lt (events_total.trans e x y (less _ above) rises)
 
 pub above-upward : (s : Seek) (x y : Event) → event_cmp x y ≡ Less → is_above s x ≡ true → is_above s y ≡ true
-above-upward s x y rises above = ap is_lt (upto seeks_total s (seek_of x) (seek_of y) _ (less _ above) refl (places-rise x y rises))
+above-upward s x y rises above = ap is_lt (upto seeks_total s (seek_of x) (seek_of y) _ (less _ above) refl (seeks-rise x y rises))
 
 int-greater : (a b : ℤ) → b <ℤ a → int_cmp a b ≡ Greater
 int-greater a b h = grind (arith, ints)

@@ -84,13 +84,13 @@ module _ (p : Parts) (sound : IsSoundParts p) (s t : ℕ) (row : Trip) (rs : Lis
         from holds =
             let service = row.service_id.0 == k in
             let trip = e.trip.0 == t in
-            let place = e.row == n in
+            let numbered = e.row == n in
             let seq = x.stop_sequence == e.seq in
             let pass = passes_at (trip_of p row rs fs) e.run (stop_row_of p x) == e.at in
             let a = and_parts (e.run == r) (says k e) holds in
-            let b = and_parts (service && trip && place && seq) pass a.1 in
-            let c = and_parts (service && trip && place) seq b.0 in
-            let d = and_parts (service && trip) place c.0 in
+            let b = and_parts (service && trip && numbered && seq) pass a.1 in
+            let c = and_parts (service && trip && numbered) seq b.0 in
+            let d = and_parts (service && trip) numbered c.0 in
             let f = and_parts service trip d.0 in
             let run : e.run ≡ r = eqb-true e.run r a.0 in
             let at : e.at ≡ passes_at (trip_of p row rs fs) r (stop_row_of p x) = sym (eqb-true _ e.at b.1) ∙ ap (λ q. passes_at (trip_of p row rs fs) q (stop_row_of p x)) run in
@@ -127,7 +127,7 @@ module _ (p : Parts) (sound : IsSoundParts p) (s t : ℕ) (row : Trip) (rs : Lis
         from holds =
             let service = row.service_id.0 == k in
             let trip = e.trip.0 == t in
-            let place = e.row == n in
+            let numbered = e.row == n in
             let seq = x.stop_sequence == e.seq in
             let pass = passes_at (trip_of p row rs fs) e.run (stop_row_of p x) == e.at in
             let departs = is_departure_row (trip_of p row rs fs) (stop_row_of p x) in
@@ -135,9 +135,9 @@ module _ (p : Parts) (sound : IsSoundParts p) (s t : ℕ) (row : Trip) (rs : Lis
             let a = and_parts (is_run (trip_of p row rs fs) e.run && leaves) (says k e) holds in
             let r = and_parts (is_run (trip_of p row rs fs) e.run) leaves a.0 in
             let l = and_parts departs flag r.1 in
-            let b = and_parts (service && trip && place && seq) pass a.1 in
-            let c = and_parts (service && trip && place) seq b.0 in
-            let d = and_parts (service && trip) place c.0 in
+            let b = and_parts (service && trip && numbered && seq) pass a.1 in
+            let c = and_parts (service && trip && numbered) seq b.0 in
+            let d = and_parts (service && trip) numbered c.0 in
             let f = and_parts service trip d.0 in
             let within : k < length p.services = subst (λ m. m < length p.services) (eqb-true row.service_id.0 k f.0) (trip_service p sound t row at_trip) in
             let at : if_there (slice_get rs e.row) (is_at p s row rs fs e) ≡ true =

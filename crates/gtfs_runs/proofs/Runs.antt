@@ -26,14 +26,14 @@ runs-ascend first headway count moves i j d above within =
     let last : j < count = rw (length-range f 0 count) at within in
     rw (get_or-range_0 f count i d (omega arith), get_or-range_0 f count j d last) (event-less first headway i j above moves)
 
--- the element at a place, where it passes and those before it do not
+-- the element at an index, where it passes and those before it do not
 second-found : (f : ℕ → Event) (test : Event → Bool) (a n : ℕ) → test (f (a + 1)) ≡ true → find test (map f (range_with_len (a + 1) n)) ≡ cond (nat_lt 1 (suc n)) (Some (f (a + 1))) None
 second-found f test a zero after = refl
 second-found f test a (suc n) after =
     let two : nat_lt 1 (suc (suc n)) ≡ true = grind (arith, nat_tests) in
     rw (two, after) refl
 
--- where no element before a place passes and each after it does
+-- where no element before an index passes and each after it does
 two-found : (f : ℕ → Event) (test : Event → Bool) (a n i : ℕ) → ((j : ℕ) → a ≤ j → j < a + i → test (f j) ≡ false) → test (f (a + i + 1)) ≡ true
     → find test (map f (range_with_len a n)) ≡ first_of_two test (cond (nat_lt i n) (Some (f (a + i))) None) (cond (nat_lt (i + 1) n) (Some (f (a + i + 1))) None)
 two-found f test a zero i before after =

@@ -28,11 +28,11 @@ pub record IsPeriodLane (c : Content) (lane : LaneValue) : Type 0 where
   -- the event of the first run
   pub first : Event
   pub trip : Trip
-  -- the row, and its place among those of the trip
+  -- the row, and its index among those of the trip
   pub period : Frequency
-  pub place : ℕ
+  pub index : ℕ
   pub of_trip : slice_get c.trips first.trip.0 ≡ Some trip
-  pub of_period : slice_get trip.frequencies place ≡ Some period
+  pub of_period : slice_get trip.frequencies index ≡ Some period
   pub begins : first.run ≡ period.start_time
   pub runs : (e : Event) → tally (is_same e) lane.events ≡ cond (is_of_period first period e) 1 0
 

@@ -1,4 +1,4 @@
--- The order of events, and of the places from which a lane is asked.
+-- The order of events, and of the positions from which a lane is asked.
 use Rattle.std.specs.Prelude.{◌≡◌, ◌<ℤ◌, ℤ, Bool, true, false, pos, Option, Some, None, if◌then◌else◌}
 use Rattle.std.specs.declared.cmp.Ordering.{Ordering}
 use Rattle.std.specs.Ordering.{nat_cmp, int_cmp, is_lt, on, then_cmp}
@@ -24,7 +24,7 @@ seek_cmp = then_cmp (on (λ s. s.at) int_cmp)
     (then_cmp (on (λ s. s.run) nat_cmp)
     (on (λ s. s.seq) int_cmp)))
 
--- the place of an event
+-- the position of an event
 abbrev pub seek_of : Event → Seek
 seek_of e = record { at = pos e.at; trip = e.trip; run = e.run; seq = pos e.seq }
 

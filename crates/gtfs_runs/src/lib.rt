@@ -1,7 +1,7 @@
 //! What passes a stop, and when, without unfolding a day.
 //!
 //! - An [`Event`] is a run of a trip that passes a row at which riders can leave a stop: when, after the origin of
-//!   whichever service day. Events have an order, and a [`Seek`] is a place between them.
+//!   whichever service day. Events have an order, and a [`Seek`] is a position between them.
 //! - A [`Lane`] tells events of one service, each after the one before: a [`ListLane`] those of a list, a [`StepLane`]
 //!   those of a row of `frequencies.txt`, which it does not list.
 //! - A [`Pattern`] has the trips of a route that go in one direction along one list of stops; [`patterns`] has them all.

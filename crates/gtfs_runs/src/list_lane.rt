@@ -32,14 +32,14 @@ impl Lane for ListLane {
 
     fn first_after(&self, _feed: &Feed, seek: &Seek, steps: &mut Steps) -> Option<Event> {
         steps.add_one();
-        let place = self.events.partition_point(|event| !seek.is_below(event));
-        self.event(place)
+        let index = self.events.partition_point(|event| !seek.is_below(event));
+        self.event(index)
     }
 
     fn next(&self, _feed: &Feed, event: &Event, steps: &mut Steps) -> Option<Event> {
         steps.add_one();
-        let place = self.events.partition_point(|other| !event.is_below(other));
-        self.event(place)
+        let index = self.events.partition_point(|other| !event.is_below(other));
+        self.event(index)
     }
 }
 
@@ -63,10 +63,10 @@ impl ListLane {
         }
     }
 
-    // The event at a place in the list, if there is one.
-    fn event(&self, place: usize) -> Option<Event>
-        ensures { result ≡ slice_get self.now.events.items place }
+    // The event at an index of the list, if there is one.
+    fn event(&self, index: usize) -> Option<Event>
+        ensures { result ≡ slice_get self.now.events.items index }
     {
-        self.events.get(place).copied()
+        self.events.get(index).copied()
     }
 }

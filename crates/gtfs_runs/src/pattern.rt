@@ -30,7 +30,7 @@ impl Pattern {
 }
 
 // A trip under its heading. The order of the fields is that of patterns.
-#[derive(Debug, Drop, PartialEq, Eq, PartialOrd, Ord)]
+#[derive(Drop, PartialEq, Eq, PartialOrd, Ord)]
 pub(crate) struct Headed {
     direction: Option<u8>,
     stops: Vec<StopNo>,

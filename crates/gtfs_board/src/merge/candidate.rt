@@ -12,7 +12,7 @@ use std::mem::size_of;
 // A departure that may be the next one: numbers alone, so that many can wait.
 //
 // A heap gives its greatest first, so the candidate that comes first is the greatest.
-#[derive(Clone, Copy, Debug, PartialEq, Eq)]
+#[derive(Clone, Copy, PartialEq, Eq)]
 pub struct Candidate {
     // When it departs, in seconds since 1970-01-01T00:00:00Z.
     pub instant: i64,
@@ -20,7 +20,7 @@ pub struct Candidate {
     pub trip: usize,
     // The lane that gives it.
     pub lane: usize,
-    // The place of its stop time in the trip, from 0.
+    // The position of its stop time in the trip, from 0.
     pub row: usize,
     // The second of the service day at which its run starts.
     pub run: u32,

@@ -18,7 +18,7 @@ const SECONDS_OF_DAY: i64 = 86_400;
 // How far the origin of a service day can lie from midnight UTC of its date, in seconds.
 const ORIGIN_DISTANCE: i64 = 93_599;
 
-// What waits beside the queue once days were opened.
+// What waits beside the queue and its new head once days were opened.
 #[derive(Drop)]
 pub struct Gathered {
     pub fresh: Vec<Candidate>,
@@ -48,7 +48,7 @@ pub(super) fn gather<S: Source>(
     requires to { day ≤ℤ (S.last source.now +ℤ pos 1) }
     ensures gathered { IfOk result (λ r. AreGathered (S.events source.now) floor.now
         (S.end source.now)
-        (heap_items queue.now) r.fresh.items r.day r.least) }
+        (with_head (heap_items queue.now) head) r.fresh.items r.day r.least) }
     ensures stopped { IfOk result (λ r. IsStopped (S.last source.now) r.day r.least) }
     ensures range { IfOk result (λ r. (day ≤ℤ r.day) × (r.day ≤ℤ (S.last source.now +ℤ pos 1))) }
     ensures steps { IfOk result (λ r. AreStepsFew (S.count source.now) (S.last source.now)
@@ -59,7 +59,7 @@ pub(super) fn gather<S: Source>(
     source.laws();
     let mut fresh = Vec::new(alloc);
     let waiting = least_waiting(queue, source.end());
-    let mut least = keep(&mut fresh, head, waiting)?;
+    let mut least = least_with(waiting, head);
     let last = source.last();
     while is_due(day, last, least) {
         least = open_day(source, day, floor, &mut fresh, least, steps)?;
@@ -108,12 +108,19 @@ fn keep(fresh: &mut Vec<Candidate>, head: Option<Candidate>, least: i64) -> Resu
     ensures heads { OnOk result (fresh.new.items ≡ fresh.old.items ++ option_to_list head) }
     ensures least { IfOk result (λ t. t ≡ least_from least (option_to_list head)) }
 {
+    if let Some(head) = head {
+        fresh.push(head)?;
+    }
+    Ok(least_with(least, head))
+}
+
+// The least instant so far and that of a head, if there is one.
+fn least_with(least: i64, head: Option<Candidate>) -> i64
+    ensures { result ≡ least_from least (option_to_list head) }
+{
     match head {
-        Some(head) => {
-            fresh.push(head)?;
-            Ok(least.min(head.instant))
-        }
-        None => Ok(least),
+        Some(head) => least.min(head.instant),
+        None => least,
     }
 }
 

@@ -75,7 +75,7 @@ impl<S: Source + Drop> Merge<S> {
         let day = source.next_day(from);
         let mut others = BinaryHeap::new(alloc);
         let gathered = gather(alloc, &source, &others, None, &floor, day, &mut steps)?;
-        let first = join(&mut others, gathered.fresh)?;
+        let first = join(&mut others, None, gathered.fresh)?;
         Ok(Merge {
             alloc,
             source,
@@ -111,7 +111,7 @@ impl<S: Source + Drop> Merge<S> {
             &mut self.steps,
         )?;
         // The last that can be refused: until here nothing but the count of steps is written.
-        self.first = join(&mut self.others, gathered.fresh)?;
+        self.first = join(&mut self.others, head, gathered.fresh)?;
         self.floor = first;
         self.day = gathered.day;
         Ok(Some(first))

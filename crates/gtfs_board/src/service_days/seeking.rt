@@ -8,7 +8,7 @@ use crate::merge::Candidate;
 use gtfs_rows::TripNo;
 use gtfs_runs::Seek;
 
-// The place above which a lane has the departures of a day that lie above a floor, where the floor lies on an earlier
+// The position above which a lane has the departures of a day that lie above a floor, where the floor lies on an earlier
 // day or belongs to a later lane. On a later day a departure with the floor's time, trip, run and sequence lies above it.
 pub(super) fn seek_from(floor: &Candidate, origin: i64, day: i32) -> Seek
     ensures { (lane : ℕ) (e : Event) → e.at < 2 ^ 32 → (floor.now.day <ℤ day)

@@ -83,8 +83,8 @@ fn push_stops(alloc: Global, text: &mut String, sheet: &Sheet<'_>) -> Result<(),
 {
     let stops = sheet.stops.as_slice();
     let times = sheet.times.as_slice();
-    for place in 0..stops.len().min(times.len()) {
-        push_stop(alloc, text, stops[place], times[place].as_slice())?;
+    for position in 0..stops.len().min(times.len()) {
+        push_stop(alloc, text, stops[position], times[position].as_slice())?;
     }
     Ok(())
 }

@@ -21,16 +21,16 @@ use std::alloc::Global;
 pub(super) fn times(
     alloc: Global,
     feed: &Feed,
-    places: usize,
+    stop_count: usize,
     columns: &[Column],
 ) -> Result<Vec<Vec<Option<Clock>>>, OutOfMemory>
-    requires { All (IsShownAlong feed.now places) columns.now }
+    requires { All (IsShownAlong feed.now stop_count) columns.now }
     ensures { IfOk result (λ lines. map (λ line. line.items) lines.items
-        ≡ column_times (content_of feed.now) places columns.now) }
+        ≡ column_times (content_of feed.now) stop_count columns.now) }
 {
-    let mut lines = Vec::with_capacity(alloc, places)?;
-    for place in 0..places {
-        lines.push(times_at(alloc, feed, place, columns)?)?;
+    let mut lines = Vec::with_capacity(alloc, stop_count)?;
+    for position in 0..stop_count {
+        lines.push(times_at(alloc, feed, position, columns)?)?;
     }
     Ok(lines)
 }
@@ -39,60 +39,60 @@ pub(super) fn times(
 fn times_at(
     alloc: Global,
     feed: &Feed,
-    place: usize,
+    position: usize,
     columns: &[Column],
 ) -> Result<Vec<Option<Clock>>, OutOfMemory>
-    requires { All (IsShownAlong feed.now (place + 1)) columns.now }
+    requires { All (IsShownAlong feed.now (position + 1)) columns.now }
     ensures { IfOk result (λ times. times.items
-        ≡ map (time_of_column (content_of feed.now) place) columns.now) }
+        ≡ map (time_of_column (content_of feed.now) position) columns.now) }
 {
     let mut times = Vec::with_capacity(alloc, columns.len())?;
     for column in columns {
-        times.push(time_at(feed, *column, place))?;
+        times.push(time_at(feed, *column, position))?;
     }
     Ok(times)
 }
 
-// When a run passes the stop time of this place among those of its trip, None where that is untimed.
-fn time_at(feed: &Feed, column: Column, place: usize) -> Option<Clock>
-    requires { IsShownAlong feed.now (place + 1) column }
-    ensures { result ≡ time_of_column (content_of feed.now) place column }
+// When a run passes the stop time of this position among those of its trip, None where that is untimed.
+fn time_at(feed: &Feed, column: Column, position: usize) -> Option<Clock>
+    requires { IsShownAlong feed.now (position + 1) column }
+    ensures { result ≡ time_of_column (content_of feed.now) position column }
 {
     feed.soundness();
     let rows = feed.trip_rows(column.trip);
-    time_among(rows, column.start, place)
+    time_among(rows, column.start, position)
 }
 
 // The same by the stop times of the trip.
-fn time_among(rows: &[StopRow], start: u32, place: usize) -> Option<Clock>
-    requires within { place < length rows.now }
+fn time_among(rows: &[StopRow], start: u32, position: usize) -> Option<Clock>
+    requires within { position < length rows.now }
     requires early { start < 3_600_000 }
     requires late { (d : StopTime)
-        → unwrap_or (left_at (slice_index_or rows.now place d)) 0 ≤ 3_599_999 }
-    requires later { (d : StopTime) → is_some (left_at (slice_index_or rows.now place d)) ≡ true
+        → unwrap_or (left_at (slice_index_or rows.now position d)) 0 ≤ 3_599_999 }
+    requires later { (d : StopTime) → is_some (left_at (slice_index_or rows.now position d)) ≡ true
         → unwrap_or (left_at (slice_index_or rows.now 0 d)) 0
-        ≤ unwrap_or (left_at (slice_index_or rows.now place d)) 0 }
+        ≤ unwrap_or (left_at (slice_index_or rows.now position d)) 0 }
     ensures { (p : Parts) (t : Trip) (fs : List PeriodRow) → result
         ≡ option_and_then (time_at (trip_of p t rows.now fs) start)
-        (row_at (trip_of p t rows.now fs) place) }
+        (row_at (trip_of p t rows.now fs) position) }
 {
-    match leaves(&rows[place]) {
-        Some(_) => Some(passes(rows, start, place)),
+    match leaves(&rows[position]) {
+        Some(_) => Some(passes(rows, start, position)),
         None => None,
     }
 }
 
-// When a run that starts at a second passes the stop time of this place.
-fn passes(rows: &[StopRow], start: u32, place: usize) -> Clock
-    requires within { place < length rows.now }
+// When a run that starts at a second passes the stop time of this position.
+fn passes(rows: &[StopRow], start: u32, position: usize) -> Clock
+    requires within { position < length rows.now }
     requires early { start < 3_600_000 }
     requires late { (d : StopTime)
-        → unwrap_or (left_at (slice_index_or rows.now place d)) 0 ≤ 3_599_999 }
+        → unwrap_or (left_at (slice_index_or rows.now position d)) 0 ≤ 3_599_999 }
     requires ascend { (d : StopTime) → unwrap_or (left_at (slice_index_or rows.now 0 d)) 0
-        ≤ unwrap_or (left_at (slice_index_or rows.now place d)) 0 }
+        ≤ unwrap_or (left_at (slice_index_or rows.now position d)) 0 }
     ensures { (p : Parts) (t : Trip) (fs : List PeriodRow) (d : StopTime) → result
         ≡ passes_at (trip_of p t rows.now fs) start
-        (stop_row_of p (slice_index_or rows.now place d)) }
+        (stop_row_of p (slice_index_or rows.now position d)) }
 {
-    Clock::from_seconds(start + seconds_left(&rows[place]) - seconds_left(&rows[0]))
+    Clock::from_seconds(start + seconds_left(&rows[position]) - seconds_left(&rows[0]))
 }

@@ -1,4 +1,4 @@
--- The numbers of the stops of trips, which are compared in their place.
+-- The numbers of the stops of trips, which are compared instead of them.
 use Rattle.std.specs.Prelude.{◌≡◌, ℕ, All, List}
 use Rattle.std.specs.Cmp.Lexicographic.{slice_cmp}
 use Rattle.std.specs.Ordering.{is_eq, is_lt, nat_cmp, on, then_cmp}

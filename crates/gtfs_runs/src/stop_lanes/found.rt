@@ -161,9 +161,9 @@ fn add_period(
     ensures within { OnOk result ((n : ℕ) → service.0 < n
         → All (λ lane. lane.service < n) (map period_value periods.old.items)
         → All (λ lane. lane.service < n) (map period_value periods.new.items)) }
-    ensures kind { OnOk result ((c : Content) (t : Trip) (place : ℕ)
+    ensures kind { OnOk result ((c : Content) (t : Trip) (index : ℕ)
         → slice_get c.trips trip.0 ≡ Some t
-        → slice_get t.frequencies place ≡ Some (frequency_of frequency.now)
+        → slice_get t.frequencies index ≡ Some (frequency_of frequency.now)
         → All (IsPeriodLane c) (map period_value periods.old.items)
         → All (IsPeriodLane c) (map period_value periods.new.items)) }
 {

@@ -10,7 +10,7 @@ use std::cmp::Ordering;
 // An event of a trip without frequencies.
 //
 // Its lane is that of its course: the service, the position of the stop time and the stops of the trip.
-#[derive(Clone, Copy, Debug)]
+#[derive(Clone, Copy)]
 pub(crate) struct Listed<'a> {
     pub(crate) service: ServiceNo,
     // The stop times of the trip, which the feed lends.

@@ -42,7 +42,7 @@ fn firsts<'a>(alloc: Global, listed: &[Listed<'a>]) -> Result<Vec<Listed<'a>>, O
     Ok(firsts)
 }
 
-// Whether the event at this place is of the trip of the one before it, and so has its stops.
+// Whether the event at this index is of the trip of the one before it, and so has its stops.
 fn goes_on(listed: &[Listed<'_>], n: usize) -> bool
     requires lists { HaveOneList (map stopping_of listed.now) }
     requires within { n < length listed.now }
@@ -77,7 +77,7 @@ fn with_numbers<'a>(firsts: &[Listed<'a>], mut listed: Vec<Listed<'a>>) -> Vec<L
     listed
 }
 
-// The number of the stops of the event at this place, where the events before it have theirs.
+// The number of the stops of the event at this index, where the events before it have theirs.
 fn number_at(firsts: &[Listed<'_>], listed: &[Listed<'_>], n: usize) -> usize
     requires in_order { IsSorted (λ x y. list_cmp (list_of x) (list_of y)) firsts.now }
     requires lists { HaveOneList (map stopping_of listed.now) }

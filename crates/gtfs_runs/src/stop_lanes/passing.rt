@@ -17,7 +17,7 @@ use gtfs_rows::{StopRow, TripNo};
 use std::alloc::Global;
 
 // A stop time at which riders can leave the place of a stop, and how many seconds after its start a run passes it.
-#[derive(Clone, Copy, Debug)]
+#[derive(Clone, Copy)]
 pub(crate) struct Passing {
     pub(crate) after: u32,
     // `stop_sequence`.

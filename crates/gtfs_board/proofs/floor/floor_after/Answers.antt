@@ -17,8 +17,8 @@ returns-in-Some-clause-value c x known =
     let day_fits : SFits w32 c.number.result = search rules in
     let instant_fits : SFits w64 c.args.key.now.instant = search rules in
     let day = to_z-of_z w32 c.number.result day_fits ∙ c.number.ensures.value in
-    let place : position (bytes_eq k.trip) (trip_ids p) ≡ Some c.in-Some.trip.0 = sym c.trip.ensures ∙ ap (option_map (λ n. n.0)) c.in-Some.is in
-    let there = position_at (bytes_eq k.trip) (trip_ids p) c.in-Some.trip.0 place in
+    let found : position (bytes_eq k.trip) (trip_ids p) ≡ Some c.in-Some.trip.0 = sym c.trip.ensures ∙ ap (option_map (λ n. n.0)) c.in-Some.is in
+    let there = position_at (bytes_eq k.trip) (trip_ids p) c.in-Some.trip.0 found in
     let id : text_of_number (trip_ids p) c.in-Some.trip.0 ≡ k.trip = sym (text_is k.trip (text_of_number (trip_ids p) c.in-Some.trip.0) there.1) in
     let floor : Candidate = record { instant = k.instant; trip = c.in-Some.trip.0; lane = c.args.lanes; row = 0; run = k.run; sequence = k.sequence; day = k.day; at = 0 } in
     let same : key_among (trip_ids p) floor ≡ k = λ i. record { instant = k.instant; trip = id i; run = k.run; sequence = k.sequence; day = k.day } in
@@ -31,7 +31,7 @@ returns-in-None-clause-value c x known =
     let k = plain_key c.args.key.now in
     let instant_fits : SFits w64 c.args.key.now.instant = search rules in
     let value = rw (to_z-of_z w64 c.args.key.now.instant instant_fits) at c.floor_before.ensures.value in
-    let place : position (bytes_eq k.trip) (trip_ids p) ≡ None = sym c.trip.ensures ∙ ap (option_map (λ n. n.0)) c.in-None.is in
+    let found : position (bytes_eq k.trip) (trip_ids p) ≡ None = sym c.trip.ensures ∙ ap (option_map (λ n. n.0)) c.in-None.is in
     let in_ids : x.trip < length (trip_ids p) = omega (arith, known.trip, length-map p.trips (λ t. t.trip_id)) in
     absent_lt (trip_ids p) x k c.trips_below.result _ (value x known.day) (c.trips_below.ensures x.trip known.trip)
-    (position_none (bytes_eq k.trip) (trip_ids p) place x.trip in_ids)
+    (position_none (bytes_eq k.trip) (trip_ids p) found x.trip in_ids)

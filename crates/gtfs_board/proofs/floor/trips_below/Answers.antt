@@ -12,8 +12,8 @@ pub returns : goal.returns
 returns c =
     let trips : List Trip = c.args.feed.now.trips in
     let id = c.args.id.now in
-    let place = c.partition_point.result in
-    let parted : IsPartitionPoint (λ t. is_lt (text_cmp t.trip_id id) ≡ true) (λ t. is_lt (text_cmp t.trip_id id) ≡ false) trips place =
-    IsPartitionPoint-from_clause (λ t. is_lt (text_cmp t.trip_id id)) trips place (rw (c.as_slice-trips.ensures, c.parts.ensures.value) at c.partition_point.ensures.partitioned)
+    let index = c.partition_point.result in
+    let parted : IsPartitionPoint (λ t. is_lt (text_cmp t.trip_id id) ≡ true) (λ t. is_lt (text_cmp t.trip_id id) ≡ false) trips index =
+    IsPartitionPoint-from_clause (λ t. is_lt (text_cmp t.trip_id id)) trips index (rw (c.as_slice-trips.ensures, c.parts.ensures.value) at c.partition_point.ensures.partitioned)
     (trips_parted id trips (in_order c.args.feed.now c.soundness.ensures).trips) (λ a r f k. search (rules, of_calls)) in
-    count_below id trips place parted
+    count_below id trips index parted

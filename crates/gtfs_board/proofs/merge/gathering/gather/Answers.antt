@@ -13,7 +13,7 @@ loop-fresh-init g c =
     let source = c.args.source.now in
     let items = heap_items c.args.queue.now in
     let waiting = c.least_waiting-waiting.result in
-    let least = c.in_ok-least.least in
+    let least = c.least_with-least.result in
     let end_fits : SFits w64 c.end.result = search rules in
     let waiting_fits : SFits w64 waiting = search rules in
     let least_fits : SFits w64 least = search rules in
@@ -22,9 +22,8 @@ loop-fresh-init g c =
     let least_is = to_z-of_z w64 least least_fits in
     let end_is = to_z-of_z w64 c.end.result end_fits ∙ c.end.ensures in
     let waits = waiting_is ∙ c.least_waiting-waiting.ensures ∙ ap (λ e. least_from e items) end_is in
-    let kept = c.in_ok-least.ensures in
-    let r = gathered_first (g.S.Source.events source) c.args.floor.now (g.S.Source.end source) items _ _ c.args.head c.args.day _ _
-    c.requires.heads c.requires.within c.new-fresh.ensures.items kept.heads waits kept.least in
+    let r = gathered_first (g.S.Source.events source) c.args.floor.now (g.S.Source.end source) items _ c.args.head c.args.day _ _
+    c.requires.heads c.requires.within c.new-fresh.ensures.items waits c.least_with-least.ensures in
     let last = c.last-last.ensures.value in
     record {
       gathered = rw (day_is, least_is) r.0;
@@ -65,13 +64,13 @@ loop-fresh-preserved g c =
     let source = c.args.source.now in
     let due = c.loop-fresh-test.ensures.due (search rules) in
     let next = c.next_day-day.ensures in
-    let step = c.in_ok-least-2.ensures in
+    let step = c.in_ok-least.ensures in
     let i = c.loop-fresh.invariant in
     let last = c.last-last.ensures in
     let day = to_z w32 c.loop-fresh.day-bits in
     let mark = to_z w64 c.loop-fresh.least-bits in
     let next_day = c.next_day-day.result in
-    let falls = c.in_ok-least-2.least in
+    let falls = c.in_ok-least.least in
     let next_fits : SFits w32 next_day = search rules in
     let falls_fits : SFits w64 falls = search rules in
     let next_is = to_z-of_z w32 next_day next_fits in
@@ -79,7 +78,7 @@ loop-fresh-preserved g c =
     let plus : to_z w32 (of_z w32 (day +ℤ pos 1)) ≡ day +ℤ pos 1 = omega (arith, ints, due, i.last, i.up, last.low, last.high, c.requires.from) in
     let up : (day +ℤ pos 1) ≤ℤ next_day = rw plus at next.up in
     let skips = rw plus at next.skips in
-    let more = gathered_more (c.laws.ensures.lanes) c.args.floor.now (g.S.Source.end source) (heap_items c.args.queue.now)
+    let more = gathered_more (c.laws.ensures.lanes) c.args.floor.now (g.S.Source.end source) (heap_items c.args.queue.now ++ option_to_list c.args.head)
     c.loop-fresh.fresh.items c.open_day.new.fresh.items day next_day mark falls i.gathered due.1 step.heads step.least up skips in
     let day_is = to_z-of_z w32 c.args.day c.ranges.day in
     let since = rw day_is at i.up in

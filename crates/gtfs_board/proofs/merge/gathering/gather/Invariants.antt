@@ -8,7 +8,7 @@ use Rattle.gtfs_board.proofs.merge.gathering.gather.Given as goal
 
 abbrev pub invariant-loop-fresh : goal.invariant-loop-fresh
 invariant-loop-fresh g l = record {
-  gathered : AreGathered (g.S.Source.events l.source) l.floor (g.S.Source.end l.source) (heap_items l.queue) l.fresh.items l.day l.least;
+  gathered : AreGathered (g.S.Source.events l.source) l.floor (g.S.Source.end l.source) (heap_items l.queue ++ option_to_list l.fn.head) l.fresh.items l.day l.least;
   last : l.last ≡ g.S.Source.last l.source;
   up : l.fn.day ≤ℤ l.day;
   to : l.day ≤ℤ (g.S.Source.last l.source +ℤ pos 1);

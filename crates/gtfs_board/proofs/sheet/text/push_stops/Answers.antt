@@ -2,16 +2,16 @@ use Rattle.std.proofs.Common.{string_bytes, append-nil, sym}
 use Rattle.gtfs_board.proofs.SheetTexts.{lines-more, lines-all}
 use Rattle.gtfs_board.proofs.sheet.text.push_stops.Goals as goal
 
-pub loop-place-init : goal.loop-place-init
-loop-place-init c = sym (append-nil (string_bytes c.args.text.now))
+pub loop-position-init : goal.loop-position-init
+loop-position-init c = sym (append-nil (string_bytes c.args.text.now))
 
-pub loop-place-preserved : goal.loop-place-preserved
-loop-place-preserved c =
-    lines-more (λ stop. stop.now) (λ times. times.items) c.args.sheet.now.stops.items _ c.args.sheet.now.times.items _ c.loop-place.place _ _ c.index-times-place.result _
-    (string_bytes c.args.text.now) _ _ c.loop-place-test.true c.min-place-end.ensures c.as_slice-stops.ensures.value c.as_slice-times.ensures.value
-    c.index-times-place.is c.as_slice.ensures.value c.loop-place.invariant c.in_ok-push_stop.ensures
+pub loop-position-preserved : goal.loop-position-preserved
+loop-position-preserved c =
+    lines-more (λ stop. stop.now) (λ times. times.items) c.args.sheet.now.stops.items _ c.args.sheet.now.times.items _ c.loop-position.position _ _ c.index-times-position.result _
+    (string_bytes c.args.text.now) _ _ c.loop-position-test.true c.min-position-end.ensures c.as_slice-stops.ensures.value c.as_slice-times.ensures.value
+    c.index-times-position.is c.as_slice.ensures.value c.loop-position.invariant c.in_ok-push_stop.ensures
 
 pub returns : goal.returns
 returns c =
-    lines-all (λ stop. stop.now) (λ times. times.items) c.args.sheet.now.stops.items _ c.args.sheet.now.times.items _ c.loop-place.place _
-    (string_bytes c.args.text.now) _ c.loop-place-test.false c.min-place-end.ensures c.as_slice-stops.ensures.value c.as_slice-times.ensures.value c.loop-place.invariant
+    lines-all (λ stop. stop.now) (λ times. times.items) c.args.sheet.now.stops.items _ c.args.sheet.now.times.items _ c.loop-position.position _
+    (string_bytes c.args.text.now) _ c.loop-position-test.false c.min-position-end.ensures c.as_slice-stops.ensures.value c.as_slice-times.ensures.value c.loop-position.invariant

@@ -6,5 +6,5 @@ use Rattle.gtfs_board.specs.Timetable.{stop_text}
 use Rattle.gtfs_board.proofs.sheet.text.push_stops.Given as goal
 
 -- the lines so far
-abbrev pub invariant-loop-place : goal.invariant-loop-place
-invariant-loop-place l = let s = plain_sheet l.sheet in string_bytes l.text ≡ string_bytes l.fn.text ++ flat_map stop_text (take l.place (zip s.stops s.times))
+abbrev pub invariant-loop-position : goal.invariant-loop-position
+invariant-loop-position l = let s = plain_sheet l.sheet in string_bytes l.text ≡ string_bytes l.fn.text ++ flat_map stop_text (take l.position (zip s.stops s.times))

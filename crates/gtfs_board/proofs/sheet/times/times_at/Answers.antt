@@ -10,8 +10,8 @@ loop-column-preserved c =
     let cs = c.args.columns.now in
     let n = c.loop-column.column-index in
     let first : Column = record { start = 0; trip = record { 0 = 0 } } in
-    pushed-more (time_of_column (content_of_parts c.args.feed.now) c.args.place) cs n (get_or cs n first) _ _ _
+    pushed-more (time_of_column (content_of_parts c.args.feed.now) c.args.position) cs n (get_or cs n first) _ _ _
     c.loop-column-test.true (item-at cs n first c.loop-column-test.true) c.loop-column.invariant c.in_ok-push.ensures.items c.time_at.ensures
 
 pub returns : goal.returns
-returns c = mapped-all (time_of_column (content_of_parts c.args.feed.now) c.args.place) c.args.columns.now c.loop-column.column-index _ c.loop-column-test.false c.loop-column.invariant
+returns c = mapped-all (time_of_column (content_of_parts c.args.feed.now) c.args.position) c.args.columns.now c.loop-column.column-index _ c.loop-column-test.false c.loop-column.invariant

@@ -5,4 +5,4 @@ use Rattle.gtfs_board.proofs.sheet.times.times_at.Given as goal
 
 -- the times of the columns so far
 abbrev pub invariant-loop-column : goal.invariant-loop-column
-invariant-loop-column l = l.times.items ≡ map (time_of_column (content_of_parts l.feed) l.place) (take l.column-index l.columns)
+invariant-loop-column l = l.times.items ≡ map (time_of_column (content_of_parts l.feed) l.position) (take l.column-index l.columns)

@@ -11,7 +11,7 @@ pub returns-clause-first : goal.returns-clause-first
 returns-clause-first c =
     let xs : List Event = c.args.self.now.events.items in
     let test : Event → Bool = is_above c.args.seek.now in
-    let place = c.partition_point-place.result in
-    let parted : IsPartitionPoint (λ x. not (test x) ≡ true) (λ x. not (test x) ≡ false) xs place =
-    IsPartitionPoint-from_clause (λ x. not (test x)) xs place (rw c.deref.ensures.value at c.partition_point-place.ensures.partitioned) (parted-upward event_cmp test (above-upward c.args.seek.now) xs c.args.self.now.ascending) (λ a r f k. search (rules, of_calls)) in
-    c.event.ensures ∙ sym (find-parted test xs place parted (rw c.deref.ensures.value at c.partition_point-place.ensures.bound))
+    let index = c.partition_point-index.result in
+    let parted : IsPartitionPoint (λ x. not (test x) ≡ true) (λ x. not (test x) ≡ false) xs index =
+    IsPartitionPoint-from_clause (λ x. not (test x)) xs index (rw c.deref.ensures.value at c.partition_point-index.ensures.partitioned) (parted-upward event_cmp test (above-upward c.args.seek.now) xs c.args.self.now.ascending) (λ a r f k. search (rules, of_calls)) in
+    c.event.ensures ∙ sym (find-parted test xs index parted (rw c.deref.ensures.value at c.partition_point-index.ensures.bound))

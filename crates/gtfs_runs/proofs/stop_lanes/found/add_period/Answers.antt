@@ -36,16 +36,16 @@ loop-passing-preserved c =
       within = λ m serves known.
           subst (λ l. All (λ x. x.service < m) l) (sym pushed)
           (All-push (λ x. x.service < m) (map period_value mid) (period_value lane) (c.loop-passing.invariant.within m serves known) (subst (λ v. v.0 < m) (sym c.of_period.ensures.serves) serves));
-      kind = λ k t place at row were.
+      kind = λ k t index at row were.
           let own : IsPeriodLane k (period_value lane) = record {
             first = passing_event c.args.trip.0 f.start_time (get_or xs n d);
             trip = t;
             period = frequency_of f;
-            place = place;
+            index = index;
             of_trip = at;
             of_period = row;
             begins = refl;
             runs = runs;
           } in
-          subst (λ l. All (IsPeriodLane k) l) (sym pushed) (All-push (IsPeriodLane k) (map period_value mid) (period_value lane) (c.loop-passing.invariant.kind k t place at row were) own);
+          subst (λ l. All (IsPeriodLane k) l) (sym pushed) (All-push (IsPeriodLane k) (map period_value mid) (period_value lane) (c.loop-passing.invariant.kind k t index at row were) own);
     }

@@ -17,6 +17,6 @@ invariant-loop-passing l = record {
       ≡ times_told k e (map period_value l.fn.periods.items) + cond (l.service.0 == k) (times_passed l.trip.0 e (take l.passing-index l.passings) l.frequency) 0;
   counted : length l.periods.items ≡ length l.fn.periods.items + l.passing-index;
   within : (n : ℕ) → l.service.0 < n → All (λ lane. lane.service < n) (map period_value l.fn.periods.items) → All (λ lane. lane.service < n) (map period_value l.periods.items);
-  kind : (c : Content) (t : Trip) (place : ℕ) → slice_get c.trips l.trip.0 ≡ Some t → slice_get t.frequencies place ≡ Some (frequency_of l.frequency)
+  kind : (c : Content) (t : Trip) (index : ℕ) → slice_get c.trips l.trip.0 ≡ Some t → slice_get t.frequencies index ≡ Some (frequency_of l.frequency)
       → All (IsPeriodLane c) (map period_value l.fn.periods.items) → All (IsPeriodLane c) (map period_value l.periods.items);
 }

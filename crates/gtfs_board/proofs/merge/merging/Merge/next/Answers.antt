@@ -1,5 +1,6 @@
-use Rattle.std.proofs.Common.{rules, ◌+◌, ◌∷◌, w32, SFits, refl, sym, ◌∙◌, ap, inl, inr, heap_items, pos}
+use Rattle.std.proofs.Common.{rules, ◌+◌, ◌++◌, ◌∷◌, w32, SFits, refl, sym, ◌∙◌, ap, inl, inr, heap_items, pos}
 use Rattle.std.specs.Prelude.{◌≤ℤ◌, ◌-ℤ◌}
+use Rattle.std.specs.Option.{option_to_list}
 use Rattle.std.proofs.lemmas.Int.{to_z-of_z}
 use Rattle.gtfs_board.specs.merge.Candidates.{position}
 use Rattle.gtfs_board.proofs.Ints.{le_chain}
@@ -89,7 +90,7 @@ invariant_of-self-2 g c =
     let day_is = to_z-of_z w32 day day_fits in
     let up = rw (to_z-of_z w32 c.self.inside.day old_fits) at got.range.0 in
     let r = committed_either (c.self.invariant.0.lanes) (g.S.Source.end s) (g.S.Source.last s) (c.self.invariant.0.ends) (c.self.invariant.0.beyond)
-    c.in-Some.first (heap_items c.self.inside.others) c.in_ok-gathered.gathered.fresh.items (heap_items c.join.new.others) c.in_ok-self-inside.field-0 day c.in_ok-gathered.gathered.least
+    c.in-Some.first (heap_items c.self.inside.others ++ option_to_list c.after-head.result) c.in_ok-gathered.gathered.fresh.items (heap_items c.join.new.others) c.in_ok-self-inside.field-0 day c.in_ok-gathered.gathered.least
     got.gathered got.stopped j.counts j.first in
     rw day_is (
       c.self.invariant.0,
@@ -109,7 +110,7 @@ returns-clause-queued g c =
     let j = c.in_ok-self-inside.ensures in
     let day = c.in_ok-gathered.gathered.day in
     let r = committed_either (c.self.invariant.0.lanes) (g.S.Source.end s) (g.S.Source.last s) (c.self.invariant.0.ends) (c.self.invariant.0.beyond)
-    c.in-Some.first (heap_items c.self.inside.others) c.in_ok-gathered.gathered.fresh.items (heap_items c.join.new.others) c.in_ok-self-inside.field-0 day c.in_ok-gathered.gathered.least
+    c.in-Some.first (heap_items c.self.inside.others ++ option_to_list c.after-head.result) c.in_ok-gathered.gathered.fresh.items (heap_items c.join.new.others) c.in_ok-self-inside.field-0 day c.in_ok-gathered.gathered.least
     got.gathered got.stopped j.counts j.first in
     let q = queued (c.self.invariant.0.lanes) (g.S.Source.end s) (g.S.Source.last s) (c.self.invariant.0.ends) (c.self.invariant.0.beyond) (g.S.Source.all s) (c.self.invariant.0.whole) c.in-Some.first c.in_ok-self-inside.field-0 (heap_items c.join.new.others) day r.0 in
     let b = waiting_bound (c.self.invariant.0.lanes) (g.S.Source.end s) (g.S.Source.last s) (c.self.invariant.0.ends) (c.self.invariant.0.beyond) c.in-Some.first c.in_ok-self-inside.field-0 (heap_items c.join.new.others) day r.0 in
@@ -129,7 +130,7 @@ returns-clause-steps g c =
     let low = c.self.inside.start -ℤ pos (g.S.Source.latest s + 93_599) in
     let old_fits : SFits w32 c.self.inside.day = search rules in
     let r = committed_either (c.self.invariant.0.lanes) (g.S.Source.end s) (g.S.Source.last s) (c.self.invariant.0.ends) (c.self.invariant.0.beyond)
-    first (heap_items c.self.inside.others) c.in_ok-gathered.gathered.fresh.items (heap_items c.join.new.others) c.in_ok-self-inside.field-0 day least
+    first (heap_items c.self.inside.others ++ option_to_list c.after-head.result) c.in_ok-gathered.gathered.fresh.items (heap_items c.join.new.others) c.in_ok-self-inside.field-0 day least
     got.gathered got.stopped j.counts j.first in
     let q_new = queued (c.self.invariant.0.lanes) (g.S.Source.end s) (g.S.Source.last s) (c.self.invariant.0.ends) (c.self.invariant.0.beyond) (g.S.Source.all s) (c.self.invariant.0.whole) first c.in_ok-self-inside.field-0 (heap_items c.join.new.others) day r.0 in
     let q_old = queued (c.self.invariant.0.lanes) (g.S.Source.end s) (g.S.Source.last s) (c.self.invariant.0.ends) (c.self.invariant.0.beyond) (g.S.Source.all s) (c.self.invariant.0.whole) c.self.inside.floor c.self.inside.first (heap_items c.self.inside.others) c.self.inside.day c.self.invariant.1.waiting in

@@ -88,7 +88,7 @@ invariant_of-result g c =
     let up2 = rw (to_z-of_z w32 next_day next_fits) at got.range.0 in
     let up = le_chain begin next_day day up1 up2 in
     let r = committed_either (c.laws.ensures.lanes) (g.S.Source.end s) (g.S.Source.last s) (c.laws.ensures.ends) (c.laws.ensures.beyond)
-    floor (heap_items c.new-others.result) c.in_ok-gathered.gathered.fresh.items (heap_items c.join.new.others) c.in_ok-first.first day c.in_ok-gathered.gathered.least
+    floor (heap_items c.new-others.result ++ []) c.in_ok-gathered.gathered.fresh.items (heap_items c.join.new.others) c.in_ok-first.first day c.in_ok-gathered.gathered.least
     got.gathered got.stopped j.counts j.first in
     rw (to_z-of_z w32 day day_fits, to_z-of_z w64 floor.instant instant_fits) (
       c.laws.ensures,
@@ -108,7 +108,7 @@ returns-clause-queued g c =
     let j = c.in_ok-first.ensures in
     let day = c.in_ok-gathered.gathered.day in
     let r = committed_either (c.laws.ensures.lanes) (g.S.Source.end s) (g.S.Source.last s) (c.laws.ensures.ends) (c.laws.ensures.beyond)
-    c.args.floor (heap_items c.new-others.result) c.in_ok-gathered.gathered.fresh.items (heap_items c.join.new.others) c.in_ok-first.first day c.in_ok-gathered.gathered.least
+    c.args.floor (heap_items c.new-others.result ++ []) c.in_ok-gathered.gathered.fresh.items (heap_items c.join.new.others) c.in_ok-first.first day c.in_ok-gathered.gathered.least
     got.gathered got.stopped j.counts j.first in
     let q = queued (c.laws.ensures.lanes) (g.S.Source.end s) (g.S.Source.last s) (c.laws.ensures.ends) (c.laws.ensures.beyond) (g.S.Source.all s) (c.laws.ensures.whole) c.args.floor c.in_ok-first.first (heap_items c.join.new.others) day r.0 in
     let b = waiting_bound (c.laws.ensures.lanes) (g.S.Source.end s) (g.S.Source.last s) (c.laws.ensures.ends) (c.laws.ensures.beyond) c.args.floor c.in_ok-first.first (heap_items c.join.new.others) day r.0 in
@@ -136,7 +136,7 @@ returns-clause-steps g c =
     let least = c.in_ok-gathered.gathered.least in
     let low = floor.instant -ℤ pos (g.S.Source.latest s + 93_599) in
     let r = committed_either (c.laws.ensures.lanes) (g.S.Source.end s) (g.S.Source.last s) (c.laws.ensures.ends) (c.laws.ensures.beyond)
-    floor (heap_items c.new-others.result) c.in_ok-gathered.gathered.fresh.items (heap_items c.join.new.others) c.in_ok-first.first day least
+    floor (heap_items c.new-others.result ++ []) c.in_ok-gathered.gathered.fresh.items (heap_items c.join.new.others) c.in_ok-first.first day least
     got.gathered got.stopped j.counts j.first in
     let q = queued (c.laws.ensures.lanes) (g.S.Source.end s) (g.S.Source.last s) (c.laws.ensures.ends) (c.laws.ensures.beyond) (g.S.Source.all s) (c.laws.ensures.whole) floor c.in_ok-first.first (heap_items c.join.new.others) day r.0 in
     let few = rw (to_z-of_z w32 next_day next_fits) at got.steps in

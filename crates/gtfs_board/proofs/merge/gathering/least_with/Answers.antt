@@ -1,10 +1,10 @@
 use Rattle.std.proofs.Common.{rules, ◌∙◌, w64, SFits}
 use Rattle.std.proofs.lemmas.Int.{to_z-of_z}
 use Rattle.gtfs_board.proofs.Days.{least_from-none, least_from-one}
-use Rattle.gtfs_board.proofs.merge.gathering.keep.Goals as goal
+use Rattle.gtfs_board.proofs.merge.gathering.least_with.Goals as goal
 
-pub returns-in_ok-push-in-Some-clause-least : goal.returns-in_ok-push-in-Some-clause-least
-returns-in_ok-push-in-Some-clause-least c =
+pub returns-in-Some : goal.returns-in-Some
+returns-in-Some c =
     let v = c.min.ensures.value in
     let least_fits = c.ranges.least in
     let instant_fits : SFits w64 c.in-Some.head.instant = search rules in
@@ -12,5 +12,5 @@ returns-in_ok-push-in-Some-clause-least c =
     let plain = simp to_z-of_z at v in
     rw (c.in-Some.is, least_from-one) (to_z-of_z w64 c.min.result result_fits ∙ plain)
 
-pub returns-in-None-clause-least : goal.returns-in-None-clause-least
-returns-in-None-clause-least c = rw (c.in-None.is, least_from-none) (to_z-of_z w64 c.args.least c.ranges.least)
+pub returns-in-None : goal.returns-in-None
+returns-in-None c = rw (c.in-None.is, least_from-none) (to_z-of_z w64 c.args.least c.ranges.least)
