@@ -1,4 +1,4 @@
--- Elements of lists, by their places.
+-- Elements of lists, by index.
 use Rattle.std.proofs.Common.{◌≡◌, ◌<◌, ◌∙◌, ℕ, zero, suc, Bool, true, false, cond, inl, inr, List, [], ◌∷◌, length, map, take, drop, get_or, Some, sym, ap, subst, refl, arith}
 use Rattle.std.specs.Prelude.{◌==◌, nat_lt}
 use Rattle.std.specs.Ordering.{nat_cmp}
@@ -11,7 +11,7 @@ use Rattle.gtfs_table.specs.Parts.{parts}
 use Rattle.gtfs_table.proofs.PartFacts.{part-at, length-parts}
 use Rattle.gtfs_rows.proofs.RowTexts.{all_at}
 
--- a pair of places of a mapped list is one of the list
+-- a pair of indices of a mapped list is one of the list
 pub pairs-from_map : {A X : Type 0} (f : A → X) (R : X → X → Type 0) (xs : List A) → AllPairs R (map f xs) → AllPairs (λ x y. R (f x) (f y)) xs
 pairs-from_map f R xs up i j d before within =
     let first = get_or-map f xs i d (f d) (omega arith) in
@@ -23,7 +23,7 @@ pub some_of : {X : Type 0} (xs : List X) (k : ℕ) → k < length xs → X
 some_of [] k within = absurd (omega arith)
 some_of (x ∷ xs) k within = x
 
--- what holds of all holds of the one at a place
+-- what holds of all holds of the one at an index
 pub all_of : {X : Type 0} (q : X → Bool) (xs : List X) (k : ℕ) (x : X) → list_all q xs ≡ true → slice_get xs k ≡ Some x → q x ≡ true
 all_of q xs k x all at = ap q (sym (get_or_from_slice_get xs k x x at)) ∙ all_at q xs k x all (slice_get_within xs k x at)
 

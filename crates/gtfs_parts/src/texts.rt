@@ -18,14 +18,14 @@ pub(crate) fn id(alloc: Global, text: &str) -> Result<Text, OutOfMemory>
     own(alloc, values::id(text).unwrap_or(""))
 }
 
-// A text, a space in the place of each control character; the empty text where there is none.
+// A text, a space in place of each control character; the empty text where there is none.
 pub(crate) fn text(alloc: Global, text: &str) -> Result<Text, OutOfMemory>
     ensures { IfOk result (λ t. t ≡ unwrap_or (word_of kind.text text.now) []) }
 {
     plain(alloc, text)
 }
 
-// A text, a space in the place of each control character, or none.
+// A text, a space in place of each control character, or none.
 pub(crate) fn optional_text(alloc: Global, text: &str) -> Result<Option<Text>, OutOfMemory>
     ensures { IfOk result (λ t. t ≡ word_of kind.text text.now) }
 {
@@ -42,7 +42,7 @@ pub(crate) fn own(alloc: Global, text: &str) -> Result<Text, OutOfMemory>
     Ok(Text::new(String::from_str(alloc, text)?))
 }
 
-// The text with a space in the place of each control character.
+// The text with a space in place of each control character.
 fn plain(alloc: Global, text: &str) -> Result<Text, OutOfMemory>
     ensures { IfOk result (λ t. t ≡ plain text.now) }
 {
@@ -54,7 +54,7 @@ fn plain(alloc: Global, text: &str) -> Result<Text, OutOfMemory>
     Ok(Text::new(shown))
 }
 
-// Appends a text with a space in the place of each control character.
+// Appends a text with a space in place of each control character.
 fn push_plain(shown: &mut String, text: &str)
     requires { string_len shown.old + length text.now ≤ string_capacity shown.old }
     ensures { string_bytes shown.new ≡ string_bytes shown.old ++ plain text.now }

@@ -12,14 +12,14 @@ use Rattle.gtfs_columns.proofs.SiteFacts.{text_is}
 use Rattle.gtfs_rows.proofs.SameElements.{pairs-map}
 use Rattle.gtfs_stop_times.specs.Headsigns.{AddsOnly, AreDistinct, ArePlain, KeepsHeadsigns}
 
-place-map : {A B : Type 0} (p : B → Bool) (f : A → B) (xs : List A) → position_or_len p (map f xs) ≡ position_or_len (λ x. p (f x)) xs
-place-map p f [] = refl
-place-map p f (x ∷ xs) = rw (place-map p f xs) refl
+position_or_len-map : {A B : Type 0} (p : B → Bool) (f : A → B) (xs : List A) → position_or_len p (map f xs) ≡ position_or_len (λ x. p (f x)) xs
+position_or_len-map p f [] = refl
+position_or_len-map p f (x ∷ xs) = rw (position_or_len-map p f xs) refl
 
 pub position-map : {A B : Type 0} (p : B → Bool) (f : A → B) (xs : List A) → position p (map f xs) ≡ position (λ x. p (f x)) xs
-position-map p f xs = rw (place-map p f xs, length-map) refl
+position-map p f xs = rw (position_or_len-map p f xs, length-map) refl
 
--- the text of a place that was found
+-- the text at an index that was found
 pub found-at : (t : List ℕ) (ts : List (List ℕ)) (k : ℕ) → position (bytes_eq t) ts ≡ Some k → slice_get ts k ≡ Some t
 found-at t ts k e =
     let at = position-Some (bytes_eq t) ts k [] e in
@@ -34,7 +34,7 @@ pub last-at : (ts : List (List ℕ)) (t : List ℕ) → slice_get (ts ++ t ∷ [
 last-at [] t = refl
 last-at (s ∷ ts) t = last-at ts t
 
--- the new place alone is new
+-- the new index alone is new
 pub last-added : (ts : List (List ℕ)) (t : List ℕ) → AddsOnly ts (ts ++ t ∷ []) (Some (length ts))
 last-added ts t k low within = let same : length ts ≡ k = omega (arith, length_push ts t) in ap Some same
 

@@ -1,5 +1,5 @@
 use Rattle.std.proofs.Common.{◌∙◌, sym, bytes_eq, string_bytes}
-use Rattle.gtfs_feed.proofs.Places.{position-map}
+use Rattle.gtfs_feed.proofs.Positions.{position-map}
 use Rattle.gtfs_feed.proofs.ids.Ids.number.Goals as goal
 
 pub returns : goal.returns

@@ -1,7 +1,7 @@
 use Rattle.std.proofs.Common.{◌≡◌, ◌∙◌, sym, bytes_eq, string_bytes, false}
 use Rattle.std.specs.List.{list_any}
 use Rattle.std.proofs.lemmas.List.{map-append}
-use Rattle.gtfs_feed.proofs.Places.{any-map}
+use Rattle.gtfs_feed.proofs.Positions.{any-map}
 use Rattle.gtfs_feed.proofs.ids.Ids.push.Goals as goal
 
 pub returns : goal.returns
