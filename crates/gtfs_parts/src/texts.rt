@@ -11,6 +11,11 @@ use gtfs_columns::{has_control, values};
 use gtfs_field::{OutOfMemory, Text};
 use std::alloc::Global;
 
+// The empty text. It takes no memory.
+pub(crate) fn empty(alloc: Global) -> Text {
+    Text::new(String::new(alloc))
+}
+
 // An id, or the empty text where there is none.
 pub(crate) fn id(alloc: Global, text: &str) -> Result<Text, OutOfMemory>
     ensures { IfOk result (λ t. t ≡ unwrap_or (word_of kind.id text.now) []) }
