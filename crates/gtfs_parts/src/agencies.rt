@@ -89,14 +89,14 @@ impl<'a> AgencyFile<'a> {
         ensures { OnOk result (agency_of agency.new ≡ agency_in self.now row) }
     {
         let record = self.tables.record(File::Agency, row);
-        agency.agency_id = id(alloc, record.value(self.agency_id))?;
-        agency.agency_name = text(alloc, record.value(self.agency_name))?;
-        agency.agency_url = text(alloc, record.value(self.agency_url))?;
-        agency.agency_timezone = id(alloc, record.value(self.agency_timezone))?;
-        agency.agency_lang = optional_text(alloc, record.value(self.agency_lang))?;
-        agency.agency_phone = optional_text(alloc, record.value(self.agency_phone))?;
-        agency.agency_fare_url = optional_text(alloc, record.value(self.agency_fare_url))?;
-        agency.agency_email = optional_text(alloc, record.value(self.agency_email))?;
+        agency.agency_id = id(alloc, &record, self.agency_id)?;
+        agency.agency_name = text(alloc, &record, self.agency_name)?;
+        agency.agency_url = text(alloc, &record, self.agency_url)?;
+        agency.agency_timezone = id(alloc, &record, self.agency_timezone)?;
+        agency.agency_lang = optional_text(alloc, &record, self.agency_lang)?;
+        agency.agency_phone = optional_text(alloc, &record, self.agency_phone)?;
+        agency.agency_fare_url = optional_text(alloc, &record, self.agency_fare_url)?;
+        agency.agency_email = optional_text(alloc, &record, self.agency_email)?;
         Ok(())
     }
 }

@@ -136,11 +136,11 @@ impl<'a> RouteFile<'a> {
         ensures { OnOk result ((row : ℕ) → fields.now ≡ record_at (records_in self.now file.Routes) row
             → route.new ≡ route_with_texts self.now row route.old) }
     {
-        route.route_id = id(alloc, fields.value(self.route_id))?;
-        route.route_short_name = optional_text(alloc, fields.value(self.route_short_name))?;
-        route.route_long_name = optional_text(alloc, fields.value(self.route_long_name))?;
-        route.route_desc = optional_text(alloc, fields.value(self.route_desc))?;
-        route.route_url = optional_text(alloc, fields.value(self.route_url))?;
+        route.route_id = id(alloc, fields, self.route_id)?;
+        route.route_short_name = optional_text(alloc, fields, self.route_short_name)?;
+        route.route_long_name = optional_text(alloc, fields, self.route_long_name)?;
+        route.route_desc = optional_text(alloc, fields, self.route_desc)?;
+        route.route_url = optional_text(alloc, fields, self.route_url)?;
         Ok(())
     }
 }

@@ -133,13 +133,13 @@ impl<'a> StopFile<'a> {
         ensures { OnOk result ((row : ℕ) → fields.now ≡ record_at (records_in self.now file.Stops) row
             → stop.new ≡ stop_with_texts self.now row stop.old) }
     {
-        stop.stop_id = id(alloc, fields.value(self.stop_id))?;
-        stop.stop_code = optional_text(alloc, fields.value(self.stop_code))?;
-        stop.stop_name = optional_text(alloc, fields.value(self.stop_name))?;
-        stop.tts_stop_name = optional_text(alloc, fields.value(self.tts_stop_name))?;
-        stop.stop_desc = optional_text(alloc, fields.value(self.stop_desc))?;
-        stop.stop_url = optional_text(alloc, fields.value(self.stop_url))?;
-        stop.platform_code = optional_text(alloc, fields.value(self.platform_code))?;
+        stop.stop_id = id(alloc, fields, self.stop_id)?;
+        stop.stop_code = optional_text(alloc, fields, self.stop_code)?;
+        stop.stop_name = optional_text(alloc, fields, self.stop_name)?;
+        stop.tts_stop_name = optional_text(alloc, fields, self.tts_stop_name)?;
+        stop.stop_desc = optional_text(alloc, fields, self.stop_desc)?;
+        stop.stop_url = optional_text(alloc, fields, self.stop_url)?;
+        stop.platform_code = optional_text(alloc, fields, self.platform_code)?;
         Ok(())
     }
 }

@@ -6,9 +6,11 @@ ghost use Rattle.gtfs_columns.specs.Columns as kind;
 ghost use Rattle.gtfs_columns.specs.Reads.{word_of};
 ghost use Rattle.gtfs_columns.specs.Values.{plain};
 ghost use Rattle.gtfs_table.specs.Blanks.{is_control};
+ghost use Rattle.gtfs_table.specs.Tables.{field_under};
 
 use gtfs_columns::{has_control, values};
 use gtfs_field::{OutOfMemory, Text};
+use gtfs_table::Record;
 use std::alloc::Global;
 
 // The empty text. It takes no memory.
@@ -16,24 +18,39 @@ pub(crate) fn empty(alloc: Global) -> Text {
     Text::new(String::new(alloc))
 }
 
-// An id, or the empty text where there is none.
-pub(crate) fn id(alloc: Global, text: &str) -> Result<Text, OutOfMemory>
-    ensures { IfOk result (λ t. t ≡ unwrap_or (word_of kind.id text.now) []) }
+// An id of a row, or the empty text where there is none.
+pub(crate) fn id(
+    alloc: Global,
+    fields: &Record<'_>,
+    column: Option<usize>,
+) -> Result<Text, OutOfMemory>
+    ensures { IfOk result
+        (λ t. t ≡ unwrap_or (word_of kind.id (field_under fields.now column)) []) }
 {
-    own(alloc, values::id(text).unwrap_or(""))
+    own(alloc, values::id(fields.value(column)).unwrap_or(""))
 }
 
-// A text, a space in place of each control character; the empty text where there is none.
-pub(crate) fn text(alloc: Global, text: &str) -> Result<Text, OutOfMemory>
-    ensures { IfOk result (λ t. t ≡ unwrap_or (word_of kind.text text.now) []) }
+// A text of a row, a space in place of each control character; the empty text where there is none.
+pub(crate) fn text(
+    alloc: Global,
+    fields: &Record<'_>,
+    column: Option<usize>,
+) -> Result<Text, OutOfMemory>
+    ensures { IfOk result
+        (λ t. t ≡ unwrap_or (word_of kind.text (field_under fields.now column)) []) }
 {
-    plain(alloc, text)
+    plain(alloc, fields.value(column))
 }
 
-// A text, a space in place of each control character, or none.
-pub(crate) fn optional_text(alloc: Global, text: &str) -> Result<Option<Text>, OutOfMemory>
-    ensures { IfOk result (λ t. t ≡ word_of kind.text text.now) }
+// A text of a row, a space in place of each control character, or none.
+pub(crate) fn optional_text(
+    alloc: Global,
+    fields: &Record<'_>,
+    column: Option<usize>,
+) -> Result<Option<Text>, OutOfMemory>
+    ensures { IfOk result (λ t. t ≡ word_of kind.text (field_under fields.now column)) }
 {
+    let text = fields.value(column);
     if text.is_empty() {
         return Ok(None);
     }

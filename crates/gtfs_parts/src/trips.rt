@@ -139,9 +139,9 @@ impl<'a> TripFile<'a> {
         ensures { OnOk result ((row : ℕ) → fields.now ≡ record_at (records_in self.now file.Trips) row
             → trip.new ≡ trip_with_texts self.now row trip.old) }
     {
-        trip.trip_id = id(alloc, fields.value(self.trip_id))?;
-        trip.trip_headsign = optional_text(alloc, fields.value(self.trip_headsign))?;
-        trip.trip_short_name = optional_text(alloc, fields.value(self.trip_short_name))?;
+        trip.trip_id = id(alloc, fields, self.trip_id)?;
+        trip.trip_headsign = optional_text(alloc, fields, self.trip_headsign)?;
+        trip.trip_short_name = optional_text(alloc, fields, self.trip_short_name)?;
         Ok(())
     }
 }

@@ -1,4 +1,4 @@
-use Rattle.std.proofs.Common.{◌∙◌, [], ap, sym}
+use Rattle.std.proofs.Common.{◌∙◌, [], ap, refl, sym}
 use Rattle.std.specs.Prelude.{unwrap_or}
 use Rattle.gtfs_table.specs.Rows.{records_in}
 use Rattle.gtfs_table.specs.Tables.{record_at}
@@ -13,7 +13,7 @@ returns c = λ row read.
     let d = c.args.self.now in
     let found = read ∙ ap (λ e. record_at (records_in e file.Trips) row) (sym c.self.view_is) in
     λ i. record c.args.trip.now {
-      trip_id = (c.in_ok-trip.ensures ∙ ap (λ t. unwrap_or (word_of kind.id t) []) (field_is _ d c.self.view_is file.Trips _ _ _ "trip_id" _ found c.self.invariant.trip_id c.value.ensures)) i;
-      trip_headsign = (c.in_ok-trip-2.ensures ∙ ap (word_of kind.text) (field_is _ d c.self.view_is file.Trips _ _ _ "trip_headsign" _ found c.self.invariant.trip_headsign c.value-2.ensures)) i;
-      trip_short_name = (c.in_ok-trip-3.ensures ∙ ap (word_of kind.text) (field_is _ d c.self.view_is file.Trips _ _ _ "trip_short_name" _ found c.self.invariant.trip_short_name c.value-3.ensures)) i;
+      trip_id = (c.in_ok-trip.ensures ∙ ap (λ t. unwrap_or (word_of kind.id t) []) (field_is _ d c.self.view_is file.Trips _ _ _ "trip_id" _ found c.self.invariant.trip_id refl)) i;
+      trip_headsign = (c.in_ok-trip-2.ensures ∙ ap (word_of kind.text) (field_is _ d c.self.view_is file.Trips _ _ _ "trip_headsign" _ found c.self.invariant.trip_headsign refl)) i;
+      trip_short_name = (c.in_ok-trip-3.ensures ∙ ap (word_of kind.text) (field_is _ d c.self.view_is file.Trips _ _ _ "trip_short_name" _ found c.self.invariant.trip_short_name refl)) i;
     }
