@@ -51,8 +51,8 @@ pub(crate) fn fill_slot(slots: &mut [Slot], tag: u32, number: usize) {
         return;
     };
     let first = first_slot(slots.len(), tag);
-    for place in first..first.saturating_add(TRIES) {
-        if let Some(slot) = slots.get_mut(place)
+    for index in first..first.saturating_add(TRIES) {
+        if let Some(slot) = slots.get_mut(index)
             && slot.number == NO_NUMBER
         {
             *slot = Slot { tag, number };

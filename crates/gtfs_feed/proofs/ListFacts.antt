@@ -1,4 +1,4 @@
--- Elements of lists, by their places.
+-- Elements of lists, by index.
 use Rattle.std.proofs.Common.{◌≡◌, ◌<◌, ◌∙◌, ℕ, suc, Bool, true, false, cond, inl, inr, List, [], ◌∷◌, length, get_or, Some, sym, ap, refl, arith}
 use Rattle.std.specs.Prelude.{◌==◌, nat_lt}
 use Rattle.std.specs.Ordering.{nat_cmp}
@@ -8,7 +8,7 @@ use Rattle.std.proofs.lemmas.Bool.{cases_Bool, ltb-true}
 use Rattle.std.proofs.lemmas.Option.{get_or_from_slice_get, slice_get_within}
 use Rattle.gtfs_rows.proofs.RowTexts.{all_at}
 
--- what holds of all holds of the one at a place
+-- what holds of all holds of the one at an index
 pub all_of : {X : Type 0} (q : X → Bool) (xs : List X) (k : ℕ) (x : X) → list_all q xs ≡ true → slice_get xs k ≡ Some x → q x ≡ true
 all_of q xs k x all at = ap q (sym (get_or_from_slice_get xs k x x at)) ∙ all_at q xs k x all (slice_get_within xs k x at)
 

@@ -69,13 +69,13 @@ module _ (p : Parts) (sound : IsSoundParts p) where
 
 -- the number of a row's own id, where rows ascend by their ids, is the row's
 module _ {X : Type 0} (id : X → List ℕ) where
-  place : (xs : List X) (k : ℕ) (x : X) → Ascends (on id text_cmp) xs → slice_get xs k ≡ Some x → position_or_len (bytes_eq (id x)) (map id xs) ≡ k
-  place [] k x up at = cc
-  place (y ∷ ys) zero x up at = rw (ap (bytes_eq (id x)) (ap id (get_or_from_slice_get (y ∷ ys) 0 x x at)) ∙ text_itself (id x)) refl
-  place (y ∷ ys) (suc k) x up at =
+  own_position : (xs : List X) (k : ℕ) (x : X) → Ascends (on id text_cmp) xs → slice_get xs k ≡ Some x → position_or_len (bytes_eq (id x)) (map id xs) ≡ k
+  own_position [] k x up at = cc
+  own_position (y ∷ ys) zero x up at = rw (ap (bytes_eq (id x)) (ap id (get_or_from_slice_get (y ∷ ys) 0 x x at)) ∙ text_itself (id x)) refl
+  own_position (y ∷ ys) (suc k) x up at =
       let less = pairs-head (λ a b. text_cmp (id a) (id b) ≡ Less) y ys up k x (slice_get_within ys k x at) in
       let later : text_cmp (id y) (id x) ≡ Less = ap (λ z. text_cmp (id y) (id z)) (sym (get_or_from_slice_get ys k x x at)) ∙ less in
-      rw (apart_turned (id y) (id x) later) (ap (λ n. 1 + n) (place ys k x (pairs-tail (λ a b. text_cmp (id a) (id b) ≡ Less) y ys up) at) ∙ one k)
+      rw (apart_turned (id y) (id x) later) (ap (λ n. 1 + n) (own_position ys k x (pairs-tail (λ a b. text_cmp (id a) (id b) ≡ Less) y ys up) at) ∙ one k)
     where
       one : (n : ℕ) → 1 + n ≡ suc n
       one n = omega arith
@@ -83,4 +83,4 @@ module _ {X : Type 0} (id : X → List ℕ) where
   pub own_number : (xs : List X) (k : ℕ) (x : X) → Ascends (on id text_cmp) xs → slice_get xs k ≡ Some x → position (bytes_eq (id x)) (map id xs) ≡ Some k
   own_number xs k x up at =
       let within : k < length (map id xs) = omega (arith, slice_get_within xs k x at, length-map xs id) in
-      rw (place xs k x up at, lt-ltb k (length (map id xs)) within) refl
+      rw (own_position xs k x up at, lt-ltb k (length (map id xs)) within) refl

@@ -11,7 +11,7 @@ use std::alloc::Global;
 use std::hash::RandomState;
 use std::marker::Model;
 
-// The ids of one kind by number: an id's place is its number.
+// The ids of one kind by number: an id's index is its number.
 #[derive(Drop)]
 pub(crate) struct Ids {
     ids: IndexSet<String, RandomState>,

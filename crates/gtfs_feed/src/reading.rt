@@ -16,7 +16,7 @@ use std::alloc::Global;
 use std::hash::RandomState;
 
 impl Feed {
-    /// The feed of a dataset that passed the validator: its content with numbers in the place of ids (GTFS Schedule
+    /// The feed of a dataset that passed the validator: its content with numbers in place of ids (GTFS Schedule
     /// Reference, "Dataset Files").
     ///
     /// Stop times were read when the dataset was checked, and are not read again. The dataset is lent and not changed, and

@@ -7,6 +7,9 @@ use Rattle.gtfs_columns.specs.IdNumbers.{ids_by_bytes}
 use Rattle.gtfs_rows.specs.declared.route.Route.{Route as RouteRow}
 use Rattle.gtfs_rows.specs.declared.stop.Stop.{Stop as StopRow}
 use Rattle.gtfs_rows.specs.declared.trip.Trip.{Trip as TripRow}
+use Rattle.gtfs_table.specs.declared.file.File.TheVariants as file
+use Rattle.gtfs_columns.specs.Rows.{word_in}
+use Rattle.gtfs_rows.specs.Reading.{text_at}
 use Rattle.gtfs_rows.specs.Choices.{bikes_code, boarding_code, direction_code, location_code, wheelchair_code}
 use Rattle.gtfs_rows.specs.Rows.{Route, Stop, Trip}
 use Rattle.gtfs_rows.specs.Views.{is_within, text_of_number}
@@ -32,6 +35,18 @@ stop_named ids s = record {
   platform_code = s.platform_code;
 }
 
+-- a stop that has the texts of a row
+abbrev pub stop_with_texts : Dataset → ℕ → StopRow → StopRow
+stop_with_texts d n s = record s {
+  stop_id = text_at d file.Stops n "stop_id";
+  stop_code = word_in d file.Stops n "stop_code";
+  stop_name = word_in d file.Stops n "stop_name";
+  tts_stop_name = word_in d file.Stops n "tts_stop_name";
+  stop_desc = word_in d file.Stops n "stop_desc";
+  stop_url = word_in d file.Stops n "stop_url";
+  platform_code = word_in d file.Stops n "platform_code";
+}
+
 -- the number of its parent, if it has one, is that of one of these ids
 abbrev pub names_parent : List (List ℕ) → StopRow → Bool
 names_parent ids s = is_within (length ids) (option_map (λ n. n.0) s.parent_station)
@@ -51,6 +66,16 @@ route_named ids r = record {
   route_sort_order = r.route_sort_order;
 }
 
+-- a route that has the texts of a row
+abbrev pub route_with_texts : Dataset → ℕ → RouteRow → RouteRow
+route_with_texts d n r = record r {
+  route_id = text_at d file.Routes n "route_id";
+  route_short_name = word_in d file.Routes n "route_short_name";
+  route_long_name = word_in d file.Routes n "route_long_name";
+  route_desc = word_in d file.Routes n "route_desc";
+  route_url = word_in d file.Routes n "route_url";
+}
+
 -- the number of its agency is that of one of these ids
 abbrev pub names_agency : List (List ℕ) → RouteRow → Bool
 names_agency ids r = nat_lt r.agency_id.0 (length ids)
@@ -68,6 +93,14 @@ trip_named routes services t = record {
   bikes_allowed = bikes_code t.bikes_allowed;
   stop_rows = [];
   frequencies = [];
+}
+
+-- a trip that has the texts of a row
+abbrev pub trip_with_texts : Dataset → ℕ → TripRow → TripRow
+trip_with_texts d n t = record t {
+  trip_id = text_at d file.Trips n "trip_id";
+  trip_headsign = word_in d file.Trips n "trip_headsign";
+  trip_short_name = word_in d file.Trips n "trip_short_name";
 }
 
 -- the numbers of its route and of its service are those of ids

@@ -1,13 +1,13 @@
 //! The rows of agency.txt (GTFS Schedule Reference, `agency.txt`).
 
-ghost use Rattle.std.specs.Prelude.{◌≡◌, IfOk, codes, map};
+ghost use Rattle.std.specs.Prelude.{◌≡◌, IfOk, OnOk, codes, map};
 ghost use Rattle.gtfs_columns.specs.Problems.{Passes};
 ghost use Rattle.gtfs_columns.specs.steps.Ids.{ids_in};
 ghost use Rattle.gtfs_rows.specs.Reading.{agency_in, content_of};
 ghost use Rattle.gtfs_rows.specs.Views.{agency_of};
 ghost use Rattle.gtfs_table.specs.declared.file.File.TheVariants as file;
 
-use crate::texts::{id, optional_text, text};
+use crate::texts::{empty, id, optional_text, text};
 use gtfs_columns::Ids;
 use gtfs_field::{List, OutOfMemory};
 use gtfs_rows::Agency;
@@ -79,16 +79,38 @@ impl<'a> AgencyFile<'a> {
     fn agency(&self, alloc: Global, row: usize) -> Result<Agency, OutOfMemory>
         ensures { IfOk result (λ a. agency_of a ≡ agency_in self.now row) }
     {
+        let mut agency = empty_agency(alloc);
+        self.read_texts(alloc, row, &mut agency)?;
+        Ok(agency)
+    }
+
+    // Reads the texts of a row into an agency, which has one owner whichever text finds no memory.
+    fn read_texts(&self, alloc: Global, row: usize, agency: &mut Agency) -> Result<(), OutOfMemory>
+        ensures { OnOk result (agency_of agency.new ≡ agency_in self.now row) }
+    {
         let record = self.tables.record(File::Agency, row);
-        Ok(Agency {
-            agency_id: id(alloc, record.value(self.agency_id))?,
-            agency_name: text(alloc, record.value(self.agency_name))?,
-            agency_url: text(alloc, record.value(self.agency_url))?,
-            agency_timezone: id(alloc, record.value(self.agency_timezone))?,
-            agency_lang: optional_text(alloc, record.value(self.agency_lang))?,
-            agency_phone: optional_text(alloc, record.value(self.agency_phone))?,
-            agency_fare_url: optional_text(alloc, record.value(self.agency_fare_url))?,
-            agency_email: optional_text(alloc, record.value(self.agency_email))?,
-        })
+        agency.agency_id = id(alloc, &record, self.agency_id)?;
+        agency.agency_name = text(alloc, &record, self.agency_name)?;
+        agency.agency_url = text(alloc, &record, self.agency_url)?;
+        agency.agency_timezone = id(alloc, &record, self.agency_timezone)?;
+        agency.agency_lang = optional_text(alloc, &record, self.agency_lang)?;
+        agency.agency_phone = optional_text(alloc, &record, self.agency_phone)?;
+        agency.agency_fare_url = optional_text(alloc, &record, self.agency_fare_url)?;
+        agency.agency_email = optional_text(alloc, &record, self.agency_email)?;
+        Ok(())
+    }
+}
+
+// An agency of which no text is read yet.
+fn empty_agency(alloc: Global) -> Agency {
+    Agency {
+        agency_id: empty(alloc),
+        agency_name: empty(alloc),
+        agency_url: empty(alloc),
+        agency_timezone: empty(alloc),
+        agency_lang: None,
+        agency_phone: None,
+        agency_fare_url: None,
+        agency_email: None,
     }
 }

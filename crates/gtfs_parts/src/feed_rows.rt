@@ -68,11 +68,20 @@ impl FeedRows {
     {
         let tables = passed.tables();
         let ids = FeedIds::new(alloc, tables)?;
-        let services = ServiceIds::new(alloc, tables)?;
-        FeedRows::read(alloc, tables, &ids, &services)
+        FeedRows::with_ids(alloc, tables, &ids)
     }
 
-    // The rows of these tables.
+    // The rows of tables whose ids have their numbers.
+    fn with_ids(alloc: Global, tables: &Tables, ids: &FeedIds<'_>) -> Result<FeedRows, OutOfMemory>
+        requires passes { Passes tables.now }
+        requires ids { AreIdsOf tables.now ids.now }
+        ensures { IfOk result (AreRowsOf tables.now) }
+    {
+        let services = ServiceIds::new(alloc, tables)?;
+        FeedRows::read(alloc, tables, ids, &services)
+    }
+
+    // The same, with the services by their numbers.
     fn read(
         alloc: Global,
         tables: &Tables,

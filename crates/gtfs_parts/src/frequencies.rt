@@ -41,12 +41,29 @@ pub(crate) fn frequencies(
     ensures cut { IfOk result (λ f. IsCutInto (length (ids_of trips.now)) f.starts f.rows) }
 {
     let file = FrequencyFile::new(alloc, tables)?;
+    by_trip(alloc, tables, &file, trips)
+}
+
+// The same of a file whose rows were found.
+fn by_trip(
+    alloc: Global,
+    tables: &Tables,
+    found: &FrequencyFile<'_>,
+    trips: &Ids<'_>,
+) -> Result<TripFrequencies, OutOfMemory>
+    requires passes { Passes tables.now }
+    requires found { found.now ≡ tables.now }
+    requires trips { trips.now ≡ ids_in tables.now file.Trips (codes "trip_id") }
+    ensures rows { IfOk result (λ f. map (map frequency_of) (parts f.starts f.rows)
+        ≡ map (λ t. t.frequencies) (content_of tables.now).trips) }
+    ensures cut { IfOk result (λ f. IsCutInto (length (ids_of trips.now)) f.starts f.rows) }
+{
     let trip_id = tables.column(File::Trips, "trip_id");
     let mut frequencies = Vec::new(alloc);
     let mut starts = Vec::with_capacity(alloc, trips.len())?;
     for number in 0..trips.len() {
         let record = tables.record(File::Trips, trips.row(number));
-        let periods = file.of_trip(alloc, record.value(trip_id))?;
+        let periods = found.of_trip(alloc, record.value(trip_id))?;
         let start = frequencies.len();
         starts.push(start)?;
         frequencies.extend_from_slice(&periods)?;
@@ -84,14 +101,17 @@ impl<'a> FrequencyFile<'a> {
         ensures { IfOk result (λ file. file ≡ tables.now) }
     {
         let trip_id = tables.column(File::Frequencies, "trip_id");
-        let rows = RowsById::new(alloc, tables, File::Frequencies, trip_id)?;
+        let start_time = tables.column(File::Frequencies, "start_time");
+        let end_time = tables.column(File::Frequencies, "end_time");
+        let headway_secs = tables.column(File::Frequencies, "headway_secs");
+        let exact_times = tables.column(File::Frequencies, "exact_times");
         Ok(FrequencyFile {
             tables,
-            rows,
-            start_time: tables.column(File::Frequencies, "start_time"),
-            end_time: tables.column(File::Frequencies, "end_time"),
-            headway_secs: tables.column(File::Frequencies, "headway_secs"),
-            exact_times: tables.column(File::Frequencies, "exact_times"),
+            rows: RowsById::new(alloc, tables, File::Frequencies, trip_id)?,
+            start_time,
+            end_time,
+            headway_secs,
+            exact_times,
         })
     }
 

@@ -1,22 +1,23 @@
 //! The rows of routes.txt (GTFS Schedule Reference, `routes.txt`).
 
-ghost use Rattle.std.specs.Prelude.{◌≡◌, IfOk, codes, map, true};
+ghost use Rattle.std.specs.Prelude.{◌≡◌, ℕ, IfOk, OnOk, codes, map, true};
 ghost use Rattle.gtfs_columns.specs.Problems.{Passes};
 ghost use Rattle.gtfs_columns.specs.steps.Ids.{ids_in};
-ghost use Rattle.gtfs_parts.specs.Named.{ids_of, names_agency, route_named};
+ghost use Rattle.gtfs_parts.specs.Named.{ids_of, names_agency, route_named, route_with_texts};
 ghost use Rattle.std.specs.List.{list_all};
 ghost use Rattle.gtfs_rows.specs.Reading.{content_of, route_in};
 ghost use Rattle.gtfs_table.specs.Rows.{is_row, records_in};
+ghost use Rattle.gtfs_table.specs.Tables.{record_at};
 ghost use Rattle.gtfs_table.specs.declared.file.File.TheVariants as file;
 
 use crate::choices::route_type;
 use crate::numbers::{colour, optional_count};
 use crate::references::number;
-use crate::texts::{id, optional_text};
+use crate::texts::{empty, id, optional_text};
 use gtfs_columns::{Finder, Ids};
 use gtfs_field::{List, OutOfMemory};
 use gtfs_rows::{AgencyNo, Route};
-use gtfs_table::{File, Tables};
+use gtfs_table::{File, Record, Tables};
 use std::alloc::Global;
 use std::marker::Model;
 
@@ -108,18 +109,38 @@ impl<'a> RouteFile<'a> {
         ensures same { agencies.new.ids.now ≡ agencies.old.ids.now }
     {
         let record = self.tables.record(File::Routes, row);
-        let agency = number(agencies, record.value(self.agency_id));
-        Ok(Route {
-            route_id: id(alloc, record.value(self.route_id))?,
+        let agency = number(agencies, record.value(self.agency_id)).unwrap_or(0);
+        let mut route = Route {
+            route_id: empty(alloc),
             agency_id: AgencyNo(agency),
-            route_short_name: optional_text(alloc, record.value(self.route_short_name))?,
-            route_long_name: optional_text(alloc, record.value(self.route_long_name))?,
-            route_desc: optional_text(alloc, record.value(self.route_desc))?,
+            route_short_name: None,
+            route_long_name: None,
+            route_desc: None,
             route_type: route_type(record.value(self.route_type)),
-            route_url: optional_text(alloc, record.value(self.route_url))?,
+            route_url: None,
             route_color: colour("FFFFFF", record.value(self.route_color)),
             route_text_color: colour("000000", record.value(self.route_text_color)),
             route_sort_order: optional_count(record.value(self.route_sort_order)),
-        })
+        };
+        self.read_texts(alloc, &record, &mut route)?;
+        Ok(route)
+    }
+
+    // Reads the texts of a row into a route, which has one owner whichever text finds no memory.
+    fn read_texts(
+        &self,
+        alloc: Global,
+        fields: &Record<'_>,
+        route: &mut Route,
+    ) -> Result<(), OutOfMemory>
+        ensures { OnOk result ((row : ℕ) → fields.now ≡ record_at (records_in self.now file.Routes) row
+            → route.new ≡ route_with_texts self.now row route.old) }
+    {
+        route.route_id = id(alloc, fields, self.route_id)?;
+        route.route_short_name = optional_text(alloc, fields, self.route_short_name)?;
+        route.route_long_name = optional_text(alloc, fields, self.route_long_name)?;
+        route.route_desc = optional_text(alloc, fields, self.route_desc)?;
+        route.route_url = optional_text(alloc, fields, self.route_url)?;
+        Ok(())
     }
 }

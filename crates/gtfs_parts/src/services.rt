@@ -1,9 +1,11 @@
 //! The services, with their rows of calendar.txt and calendar_dates.txt (GTFS Schedule Reference, both files).
 
-ghost use Rattle.std.specs.Prelude.{◌≡◌, IfOk, map, option_map};
+ghost use Rattle.std.specs.Prelude.{◌≡◌, ℕ, List, IfOk, codes, map, option_map};
 ghost use Rattle.gtfs_columns.specs.Calendars.{first_service_row, week_in};
 ghost use Rattle.gtfs_columns.specs.Problems.{Passes};
 ghost use Rattle.gtfs_days.specs.Service.{IsOrdered};
+ghost use Rattle.gtfs_parts.specs.CalendarRows.{rows_with};
+ghost use Rattle.gtfs_trip_rules.specs.RowsById.{rows_of};
 ghost use Rattle.gtfs_parts.specs.ServiceIds.{service_ids};
 ghost use Rattle.gtfs_rows.specs.Reading.{content_of, service_row_in};
 ghost use Rattle.gtfs_rows.specs.Views.{service_of};
@@ -39,6 +41,19 @@ pub(crate) fn services(
     Ok(List::new(services))
 }
 
+// The rows of one of both files by service.
+fn rows_by_service<'a>(
+    alloc: Global,
+    tables: &'a Tables,
+    file: File,
+) -> Result<RowsById<'a>, OutOfMemory>
+    ensures { IfOk result (λ found. (id : List ℕ) → rows_of found id
+        ≡ rows_with tables.now file (codes "service_id") id) }
+{
+    let service_id = tables.column(file, "service_id");
+    RowsById::new(alloc, tables, file, service_id)
+}
+
 // Both calendar files with their rows by service.
 #[derive(Drop)]
 struct Calendars<'a> {
@@ -63,15 +78,11 @@ impl<'a> Calendars<'a> {
     fn new(alloc: Global, tables: &'a Tables) -> Result<Calendars<'a>, OutOfMemory>
         ensures { IfOk result (λ calendars. calendars ≡ tables.now) }
     {
-        let week_id = tables.column(File::Calendar, "service_id");
-        let date_id = tables.column(File::CalendarDates, "service_id");
-        let week_rows = RowsById::new(alloc, tables, File::Calendar, week_id)?;
-        let date_rows = RowsById::new(alloc, tables, File::CalendarDates, date_id)?;
-        let calendar = CalendarFile::new(tables);
-        let dates = DatesFile::new(tables);
+        let week_rows = rows_by_service(alloc, tables, File::Calendar)?;
+        let date_rows = rows_by_service(alloc, tables, File::CalendarDates)?;
         Ok(Calendars {
-            calendar,
-            dates,
+            calendar: CalendarFile::new(tables),
+            dates: DatesFile::new(tables),
             week_rows,
             date_rows,
         })

@@ -1,21 +1,22 @@
 //! The rows of stops.txt (GTFS Schedule Reference, `stops.txt`).
 
-ghost use Rattle.std.specs.Prelude.{◌≡◌, IfOk, codes, map, true};
+ghost use Rattle.std.specs.Prelude.{◌≡◌, ℕ, IfOk, OnOk, codes, map, true};
 ghost use Rattle.gtfs_columns.specs.Problems.{Passes};
 ghost use Rattle.gtfs_columns.specs.steps.Ids.{ids_in};
-ghost use Rattle.gtfs_parts.specs.Named.{ids_of, names_parent, stop_named};
+ghost use Rattle.gtfs_parts.specs.Named.{ids_of, names_parent, stop_named, stop_with_texts};
 ghost use Rattle.std.specs.List.{list_all};
 ghost use Rattle.gtfs_rows.specs.Reading.{content_of, stop_in};
 ghost use Rattle.gtfs_table.specs.Rows.{is_row, records_in};
+ghost use Rattle.gtfs_table.specs.Tables.{record_at};
 ghost use Rattle.gtfs_table.specs.declared.file.File.TheVariants as file;
 
 use crate::choices::{location_type, wheelchair_boarding};
-use crate::references::stop_number;
-use crate::texts::{id, optional_text};
+use crate::references::{as_stop, number};
+use crate::texts::{empty, id, optional_text};
 use gtfs_columns::{Finder, Ids, values};
 use gtfs_field::{Axis, List, OutOfMemory};
 use gtfs_rows::Stop;
-use gtfs_table::{File, Tables};
+use gtfs_table::{File, Record, Tables};
 use std::alloc::Global;
 use std::marker::Model;
 
@@ -104,20 +105,41 @@ impl<'a> StopFile<'a> {
         ensures same { stops.new.ids.now ≡ stops.old.ids.now }
     {
         let record = self.tables.record(File::Stops, row);
-        let parent_station = stop_number(stops, record.value(self.parent_station));
-        Ok(Stop {
-            stop_id: id(alloc, record.value(self.stop_id))?,
-            stop_code: optional_text(alloc, record.value(self.stop_code))?,
-            stop_name: optional_text(alloc, record.value(self.stop_name))?,
-            tts_stop_name: optional_text(alloc, record.value(self.tts_stop_name))?,
-            stop_desc: optional_text(alloc, record.value(self.stop_desc))?,
+        let mut stop = Stop {
+            stop_id: empty(alloc),
+            stop_code: None,
+            stop_name: None,
+            tts_stop_name: None,
+            stop_desc: None,
             stop_lat: values::coordinate(Axis::Latitude, record.value(self.stop_lat)),
             stop_lon: values::coordinate(Axis::Longitude, record.value(self.stop_lon)),
-            stop_url: optional_text(alloc, record.value(self.stop_url))?,
+            stop_url: None,
             location_type: location_type(record.value(self.location_type)),
-            parent_station,
+            parent_station: as_stop(number(stops, record.value(self.parent_station))),
             wheelchair_boarding: wheelchair_boarding(record.value(self.wheelchair_boarding)),
-            platform_code: optional_text(alloc, record.value(self.platform_code))?,
-        })
+            platform_code: None,
+        };
+        self.read_texts(alloc, &record, &mut stop)?;
+        Ok(stop)
+    }
+
+    // Reads the texts of a row into a stop, which has one owner whichever text finds no memory.
+    fn read_texts(
+        &self,
+        alloc: Global,
+        fields: &Record<'_>,
+        stop: &mut Stop,
+    ) -> Result<(), OutOfMemory>
+        ensures { OnOk result ((row : ℕ) → fields.now ≡ record_at (records_in self.now file.Stops) row
+            → stop.new ≡ stop_with_texts self.now row stop.old) }
+    {
+        stop.stop_id = id(alloc, fields, self.stop_id)?;
+        stop.stop_code = optional_text(alloc, fields, self.stop_code)?;
+        stop.stop_name = optional_text(alloc, fields, self.stop_name)?;
+        stop.tts_stop_name = optional_text(alloc, fields, self.tts_stop_name)?;
+        stop.stop_desc = optional_text(alloc, fields, self.stop_desc)?;
+        stop.stop_url = optional_text(alloc, fields, self.stop_url)?;
+        stop.platform_code = optional_text(alloc, fields, self.platform_code)?;
+        Ok(())
     }
 }

@@ -6,29 +6,51 @@ ghost use Rattle.gtfs_columns.specs.Columns as kind;
 ghost use Rattle.gtfs_columns.specs.Reads.{word_of};
 ghost use Rattle.gtfs_columns.specs.Values.{plain};
 ghost use Rattle.gtfs_table.specs.Blanks.{is_control};
+ghost use Rattle.gtfs_table.specs.Tables.{field_under};
 
 use gtfs_columns::{has_control, values};
 use gtfs_field::{OutOfMemory, Text};
+use gtfs_table::Record;
 use std::alloc::Global;
 
-// An id, or the empty text where there is none.
-pub(crate) fn id(alloc: Global, text: &str) -> Result<Text, OutOfMemory>
-    ensures { IfOk result (λ t. t ≡ unwrap_or (word_of kind.id text.now) []) }
-{
-    own(alloc, values::id(text).unwrap_or(""))
+// The empty text. It takes no memory.
+pub(crate) fn empty(alloc: Global) -> Text {
+    Text::new(String::new(alloc))
 }
 
-// A text, a space in the place of each control character; the empty text where there is none.
-pub(crate) fn text(alloc: Global, text: &str) -> Result<Text, OutOfMemory>
-    ensures { IfOk result (λ t. t ≡ unwrap_or (word_of kind.text text.now) []) }
+// An id of a row, or the empty text where there is none.
+pub(crate) fn id(
+    alloc: Global,
+    fields: &Record<'_>,
+    column: Option<usize>,
+) -> Result<Text, OutOfMemory>
+    ensures { IfOk result
+        (λ t. t ≡ unwrap_or (word_of kind.id (field_under fields.now column)) []) }
 {
-    plain(alloc, text)
+    own(alloc, values::id(fields.value(column)).unwrap_or(""))
 }
 
-// A text, a space in the place of each control character, or none.
-pub(crate) fn optional_text(alloc: Global, text: &str) -> Result<Option<Text>, OutOfMemory>
-    ensures { IfOk result (λ t. t ≡ word_of kind.text text.now) }
+// A text of a row, a space in place of each control character; the empty text where there is none.
+pub(crate) fn text(
+    alloc: Global,
+    fields: &Record<'_>,
+    column: Option<usize>,
+) -> Result<Text, OutOfMemory>
+    ensures { IfOk result
+        (λ t. t ≡ unwrap_or (word_of kind.text (field_under fields.now column)) []) }
 {
+    plain(alloc, fields.value(column))
+}
+
+// A text of a row, a space in place of each control character, or none.
+pub(crate) fn optional_text(
+    alloc: Global,
+    fields: &Record<'_>,
+    column: Option<usize>,
+) -> Result<Option<Text>, OutOfMemory>
+    ensures { IfOk result (λ t. t ≡ word_of kind.text (field_under fields.now column)) }
+{
+    let text = fields.value(column);
     if text.is_empty() {
         return Ok(None);
     }
@@ -42,7 +64,7 @@ pub(crate) fn own(alloc: Global, text: &str) -> Result<Text, OutOfMemory>
     Ok(Text::new(String::from_str(alloc, text)?))
 }
 
-// The text with a space in the place of each control character.
+// The text with a space in place of each control character.
 fn plain(alloc: Global, text: &str) -> Result<Text, OutOfMemory>
     ensures { IfOk result (λ t. t ≡ plain text.now) }
 {
@@ -54,7 +76,7 @@ fn plain(alloc: Global, text: &str) -> Result<Text, OutOfMemory>
     Ok(Text::new(shown))
 }
 
-// Appends a text with a space in the place of each control character.
+// Appends a text with a space in place of each control character.
 fn push_plain(shown: &mut String, text: &str)
     requires { string_len shown.old + length text.now ≤ string_capacity shown.old }
     ensures { string_bytes shown.new ≡ string_bytes shown.old ++ plain text.now }

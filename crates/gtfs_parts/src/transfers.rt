@@ -12,7 +12,7 @@ ghost use Rattle.gtfs_table.specs.declared.file.File.TheVariants as file;
 
 use crate::choices::transfer_type;
 use crate::numbers::optional_count;
-use crate::references::{route_number, stop_number, trip_number};
+use crate::references::{as_route, as_stop, as_trip, number};
 use gtfs_columns::{Finder, Ids};
 use gtfs_field::{List, OutOfMemory};
 use gtfs_rows::{RouteNo, StopNo, Transfer, TripNo};
@@ -182,12 +182,12 @@ impl<'a> TransferFile<'a> {
     {
         let record = self.tables.record(File::Transfers, row);
         Transfer {
-            from_stop_id: stop_number(stops, record.value(self.from_stop_id)),
-            to_stop_id: stop_number(stops, record.value(self.to_stop_id)),
-            from_route_id: route_number(routes, record.value(self.from_route_id)),
-            to_route_id: route_number(routes, record.value(self.to_route_id)),
-            from_trip_id: trip_number(trips, record.value(self.from_trip_id)),
-            to_trip_id: trip_number(trips, record.value(self.to_trip_id)),
+            from_stop_id: as_stop(number(stops, record.value(self.from_stop_id))),
+            to_stop_id: as_stop(number(stops, record.value(self.to_stop_id))),
+            from_route_id: as_route(number(routes, record.value(self.from_route_id))),
+            to_route_id: as_route(number(routes, record.value(self.to_route_id))),
+            from_trip_id: as_trip(number(trips, record.value(self.from_trip_id))),
+            to_trip_id: as_trip(number(trips, record.value(self.to_trip_id))),
             transfer_type: transfer_type(record.value(self.transfer_type)),
             min_transfer_time: optional_count(record.value(self.min_transfer_time)),
         }

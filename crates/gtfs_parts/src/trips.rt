@@ -1,23 +1,24 @@
 //! The rows of trips.txt (GTFS Schedule Reference, `trips.txt`), without their stop times and frequencies.
 
-ghost use Rattle.std.specs.Prelude.{◌≡◌, IfOk, codes, map, true};
+ghost use Rattle.std.specs.Prelude.{◌≡◌, ℕ, IfOk, OnOk, codes, map, true};
 ghost use Rattle.gtfs_columns.specs.Problems.{Passes};
 ghost use Rattle.gtfs_columns.specs.steps.Ids.{ids_in};
-ghost use Rattle.gtfs_parts.specs.Named.{ids_of, names_route_and_service, trip_named, without_rows};
+ghost use Rattle.gtfs_parts.specs.Named.{ids_of, names_route_and_service, trip_named, trip_with_texts, without_rows};
 ghost use Rattle.std.specs.List.{list_all};
 ghost use Rattle.gtfs_parts.specs.ServiceIds.{HasAll, service_ids, service_texts};
 ghost use Rattle.gtfs_rows.specs.Reading.{content_of, trip_in};
 ghost use Rattle.gtfs_table.specs.Rows.{is_row, records_in};
+ghost use Rattle.gtfs_table.specs.Tables.{record_at};
 ghost use Rattle.gtfs_table.specs.declared.file.File.TheVariants as file;
 
 use crate::choices::{bikes_allowed, direction, wheelchair_accessible};
 use crate::references::number;
 use crate::service_ids::ServiceIds;
-use crate::texts::{id, optional_text};
+use crate::texts::{empty, id, optional_text};
 use gtfs_columns::{Finder, Ids};
 use gtfs_field::{List, OutOfMemory};
 use gtfs_rows::{RouteNo, ServiceNo, Trip};
-use gtfs_table::{File, Tables};
+use gtfs_table::{File, Record, Tables};
 use std::alloc::Global;
 use std::marker::Model;
 
@@ -112,17 +113,35 @@ impl<'a> TripFile<'a> {
         ensures same { routes.new.ids.now ≡ routes.old.ids.now }
     {
         let record = self.tables.record(File::Trips, row);
-        let route = number(routes, record.value(self.route_id));
+        let route = number(routes, record.value(self.route_id)).unwrap_or(0);
         let service = services.find(record.value(self.service_id));
-        Ok(Trip {
+        let mut trip = Trip {
             route_id: RouteNo(route),
             service_id: ServiceNo(service.unwrap_or(0)),
-            trip_id: id(alloc, record.value(self.trip_id))?,
-            trip_headsign: optional_text(alloc, record.value(self.trip_headsign))?,
-            trip_short_name: optional_text(alloc, record.value(self.trip_short_name))?,
+            trip_id: empty(alloc),
+            trip_headsign: None,
+            trip_short_name: None,
             direction_id: direction(record.value(self.direction_id)),
             wheelchair_accessible: wheelchair_accessible(record.value(self.wheelchair_accessible)),
             bikes_allowed: bikes_allowed(record.value(self.bikes_allowed)),
-        })
+        };
+        self.read_texts(alloc, &record, &mut trip)?;
+        Ok(trip)
+    }
+
+    // Reads the texts of a row into a trip, which has one owner whichever text finds no memory.
+    fn read_texts(
+        &self,
+        alloc: Global,
+        fields: &Record<'_>,
+        trip: &mut Trip,
+    ) -> Result<(), OutOfMemory>
+        ensures { OnOk result ((row : ℕ) → fields.now ≡ record_at (records_in self.now file.Trips) row
+            → trip.new ≡ trip_with_texts self.now row trip.old) }
+    {
+        trip.trip_id = id(alloc, fields, self.trip_id)?;
+        trip.trip_headsign = optional_text(alloc, fields, self.trip_headsign)?;
+        trip.trip_short_name = optional_text(alloc, fields, self.trip_short_name)?;
+        Ok(())
     }
 }

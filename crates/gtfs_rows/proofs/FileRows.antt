@@ -55,11 +55,11 @@ full-row (c ∷ cs) (v ∷ vs) are fill =
       | inr later ↦ or_right (not (is_empty (cut (cell_text c.kind v)))) (is_full (record_text cs vs)) (full-row cs vs parts.1 later)
     ]
 
--- the number of a row
+-- the row number of an element
 pub record IsRowAt (n count : ℕ) : Type 0 where
-  pub place : ℕ
-  pub is : n ≡ place + 2
-  pub within : place < count
+  pub index : ℕ
+  pub is : n ≡ index + 2
+  pub within : index < count
 
 -- the column and the cell of a kept name
 pub record HasCell (cs : List Column) (vs : List Cell) (c : Column) (name : List ℕ) : Type 0 where
@@ -99,15 +99,15 @@ module _ (others : List (List ℕ)) (cells : File → List (List Cell)) (x : Fil
       ∙ full-row (columns_of x) (get_or (cells x) k []) (all_at (are_cells (columns_of x)) (cells x) k [] sound within) (kept_fills x) in
       ap (λ rs. is_row rs (k + 2)) (records_written others cells x) ∙ and_from (nat_lt 1 (k + 2) && nat_le (k + 2) (length all)) _ (and_from _ _ first last) full
 
-  pub row_place : (n : ℕ) → is_row (records_in (dataset_of_cells others cells) x) n ≡ true → IsRowAt n (length (cells x))
-  row_place n row =
+  pub row_index : (n : ℕ) → is_row (records_in (dataset_of_cells others cells) x) n ≡ true → IsRowAt n (length (cells x))
+  row_index n row =
       let all = records_of_cells x (cells x) in
       let here : is_row all n ≡ true = ap (λ rs. is_row rs n) (sym (records_written others cells x)) ∙ row in
       let range = (and_parts (nat_lt 1 n && nat_le n (length all)) _ here).0 in
       let bounds = and_parts (nat_lt 1 n) (nat_le n (length all)) range in
       let low = ltb-true 1 n bounds.0 in
       let high = leb-true n (length all) bounds.1 in
-      record { place = n - 2; is = omega (arith, low); within = omega (arith, low, high, length-records) }
+      record { index = n - 2; is = omega (arith, low); within = omega (arith, low, high, length-records) }
 
   -- all records after the header are rows
   pub rows_written : rows (dataset_of_cells others cells) x ≡ range_with_len 2 (length (cells x))
@@ -121,14 +121,14 @@ module _ (others : List (List ℕ)) (cells : File → List (List Cell)) (x : Fil
       → (n : ℕ) (name : List ℕ) → in_row test (dataset_of_cells others cells) x n name ≡ false
   no_field test never n name = elim (cases_Bool (is_row (records_in (dataset_of_cells others cells) x) n)) [
     | inr outside ↦ and_left _ (if_there (column_named x name) (λ c. test c (text_in (dataset_of_cells others cells) x n name))) outside
-    | inl row ↦ and_right (is_row (records_in (dataset_of_cells others cells) x) n) _ (at_column (column_named x name) refl (row_place n row))
+    | inl row ↦ and_right (is_row (records_in (dataset_of_cells others cells) x) n) _ (at_column (column_named x name) refl (row_index n row))
   ]
     where
       at_column : (o : Option Column) → column_named x name ≡ o → IsRowAt n (length (cells x))
           → if_there o (λ c. test c (text_in (dataset_of_cells others cells) x n name)) ≡ false
       at_column None is at = refl
       at_column (Some c) is at =
-          let k = at.place in
+          let k = at.index in
           let has = cell_found (columns_of x) (get_or (cells x) k []) c name (all_at (are_cells (columns_of x)) (cells x) k [] sound at.within) is in
           ap (λ m. test c (text_in (dataset_of_cells others cells) x m name)) at.is
           ∙ ap (test c) (text_written others cells x sound k [] name at.within (kept_name_filled x name c is) ∙ has.text)

@@ -53,7 +53,7 @@ module _ {X : Type 0} (id : X → List ℕ) where
       let other = apart_turned (id x) (id (get_or xs k d)) (below x xs up k d inside) in
       rw other (only_one xs k d inside (pairs-tail (λ a b. text_cmp (id a) (id b) ≡ Less) x xs up))
 
-  -- the row of an id is found at its place
+  -- the row of an id is found at its index
   pub found_at : (xs : List X) (k : ℕ) (d : X) → k < length xs → Rises xs → find (λ x. bytes_eq (id x) (id (get_or xs k d))) xs ≡ Some (get_or xs k d)
   found_at [] k d within up = absurd (omega arith)
   found_at (x ∷ xs) zero d within up = rw (text_itself (id x)) refl

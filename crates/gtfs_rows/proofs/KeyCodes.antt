@@ -23,7 +23,7 @@ use Rattle.gtfs_rows.specs.Content.{Content}
 use Rattle.gtfs_rows.specs.RowCells.{cells_in, number, id_cell, week_list, agency_cells, stop_cells, route_cells, trip_cells, stop_time_cells, week_cells, exception_cells, frequency_cells, stop_times_of, weeks_of, exceptions_of, frequencies_of}
 use Rattle.gtfs_rows.specs.Sound.{IsSound}
 use Rattle.gtfs_rows.specs.Written.{written_beside}
-use Rattle.gtfs_rows.proofs.FileRows.{row_place}
+use Rattle.gtfs_rows.proofs.FileRows.{row_index}
 use Rattle.gtfs_rows.proofs.Held.{apart_turned, held_pairs}
 use Rattle.gtfs_rows.proofs.Views.{rows_are, value_at, count_is}
 
@@ -42,11 +42,11 @@ no_repeat {X} others c x xs cells are sound key is differ n name =
     elim (cases_Bool row) [
       | inr outside ↦ and_left (at && row) twice (and_right at row outside)
       | inl here ↦
-          let place = row_place others (cells_in c) x sound n here in
-          let within : place.place < length xs = subst (λ m. place.place < m) (count_is others c x xs cells are sound) place.within in
-          and_right (at && row) twice (ap (λ m. list_any (λ j. nat_lt j m && same_key (written_beside others c) x m j) (rows (written_beside others c) x)) place.is
-          ∙ ap (list_any (λ j. nat_lt j (place.place + 2) && same_key (written_beside others c) x (place.place + 2) j)) (rows_are others c x xs cells are sound)
-          ∙ none_in_range (λ j. nat_lt j (place.place + 2) && same_key (written_beside others c) x (place.place + 2) j) 2 (length xs) (never xs refl place.place within))
+          let element = row_index others (cells_in c) x sound n here in
+          let within : element.index < length xs = subst (λ m. element.index < m) (count_is others c x xs cells are sound) element.within in
+          and_right (at && row) twice (ap (λ m. list_any (λ j. nat_lt j m && same_key (written_beside others c) x m j) (rows (written_beside others c) x)) element.is
+          ∙ ap (list_any (λ j. nat_lt j (element.index + 2) && same_key (written_beside others c) x (element.index + 2) j)) (rows_are others c x xs cells are sound)
+          ∙ none_in_range (λ j. nat_lt j (element.index + 2) && same_key (written_beside others c) x (element.index + 2) j) 2 (length xs) (never xs refl element.index within))
     ]
   where
     never : (ys : List X) → xs ≡ ys → (k : ℕ) → k < length xs → (j : ℕ) → j < length xs → (nat_lt (j + 2) (k + 2) && same_key (written_beside others c) x (k + 2) (j + 2)) ≡ false

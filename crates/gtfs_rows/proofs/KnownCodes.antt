@@ -21,7 +21,7 @@ use Rattle.gtfs_rows.specs.Content.{Content}
 use Rattle.gtfs_rows.specs.Named.{cell_named, text_named}
 use Rattle.gtfs_rows.specs.RowCells.{agency_cells, stop_cells, route_cells, trip_cells, stop_time_cells, week_cells, exception_cells, frequency_cells, transfer_cells, id_cell, stop_times_of, weeks_of, exceptions_of, frequencies_of}
 use Rattle.gtfs_rows.specs.Rows.{ServiceRow, Stop, Route, StopRow, Frequency, Trip, Transfer}
-use Rattle.gtfs_rows.specs.Sound.{IsSound, has_ends, has_id, has_place, has_right_parent, if_given, is_end, is_sound_in, is_sound_period, is_sound_route, is_sound_service, is_sound_stop, is_sound_stop_row, is_sound_transfer, is_sound_trip, is_stop_of, keeps_time, leaves}
+use Rattle.gtfs_rows.specs.Sound.{IsSound, has_ends, has_id, has_name_and_position, has_right_parent, if_given, is_end, is_sound_in, is_sound_period, is_sound_route, is_sound_service, is_sound_stop, is_sound_stop_row, is_sound_transfer, is_sound_trip, is_stop_of, keeps_time, leaves}
 use Rattle.gtfs_rows.specs.Written.{written_beside}
 use Rattle.gtfs_rows.proofs.PeriodCodes.{period}
 use Rattle.gtfs_rows.proofs.ReferenceCodes.{known_in}
@@ -106,7 +106,7 @@ module _ (others : List (List ℕ)) (c : Content) (sound : IsSound c) where
   parent_known : (k : ℕ) (e : Stop) → k < length c.stops → if_given (get_or c.stops k e).parent_station (is_known (written_beside others c) stop_ids) ≡ true
   parent_known k e h =
       let s = get_or c.stops k e in
-      of_parent s.location_type s.parent_station (and_parts (_ || has_place s) (has_right_parent c s.location_type s.parent_station) (all_at (is_sound_stop c) c.stops k e sound.stops h)).1
+      of_parent s.location_type s.parent_station (and_parts (_ || has_name_and_position s) (has_right_parent c s.location_type s.parent_station) (all_at (is_sound_stop c) c.stops k e sound.stops h)).1
     where
       of_parent : (type : ℕ) (o : Option (List ℕ)) → has_right_parent c type o ≡ true → if_given o (is_known (written_beside others c) stop_ids) ≡ true
       of_parent type None fine = refl
@@ -116,7 +116,7 @@ module _ (others : List (List ℕ)) (c : Content) (sound : IsSound c) where
   platform_known k e h =
       let r = (get_or (stop_times_of c) k e).1 in
       let s = stop_time others c sound k e h in
-      let rs = (get_or c.trips s.place s.none).stop_rows in
+      let rs = (get_or c.trips s.index s.none).stop_rows in
       let outer = and_parts (is_sound_stop_row c r && (is_some (leaves r) || not (is_end rs r))) (list_all (keeps_time r) rs) s.fine in
       let inner = and_parts (is_sound_stop_row c r) (is_some (leaves r) || not (is_end rs r)) outer.0 in
       stop_is_known others c sound (0 ∷ []) r.stop_id (and_parts (is_stop_of c (0 ∷ []) r.stop_id) _ inner.0).0
@@ -193,9 +193,9 @@ module _ (others : List (List ℕ)) (c : Content) (sound : IsSound c) where
             (or_from _ _ (reference_ok others c file.Trips c.trips trip_cells refl (sound.cells file.Trips) "service_id" refl ((file.Calendar, codes "service_id") ∷ (file.CalendarDates, codes "service_id") ∷ []) (λ t. Some t.service_id) (λ t. refl) (λ t. refl)
             (λ k e h. service_is_known (get_or c.trips k e).service_id (trip_ends k e h).1) x n name some)
             (or_from _ _ (reference_ok others c file.StopTimes (stop_times_of c) stop_time_cells refl (sound.cells file.StopTimes) "trip_id" refl trip_ids (λ p. Some p.0) (λ p. refl) (λ p. refl)
-            (λ k e h. let s = stop_time others c sound k e h in trip_known (get_or (stop_times_of c) k e).0 s.place s.none s.within s.named) x n name some)
+            (λ k e h. let s = stop_time others c sound k e h in trip_known (get_or (stop_times_of c) k e).0 s.index s.none s.within s.named) x n name some)
             (or_from _ _ (reference_ok others c file.Frequencies (frequencies_of c) frequency_cells refl (sound.cells file.Frequencies) "trip_id" refl trip_ids (λ p. Some p.0) (λ p. refl) (λ p. refl)
-            (λ k e h. let s = period others c sound k e h in trip_known (get_or (frequencies_of c) k e).0 s.place s.none s.within s.named) x n name some)
+            (λ k e h. let s = period others c sound k e h in trip_known (get_or (frequencies_of c) k e).0 s.index s.none s.within s.named) x n name some)
             (or_from _ _ (transfer_name "from_trip_id" refl trip_ids (λ t. t.from_trip_id) (λ t. refl) (λ t. refl) (λ k e h. (transfer_names k e h).from_trip) x n name some)
             (or_from _ _ (transfer_name "to_trip_id" refl trip_ids (λ t. t.to_trip_id) (λ t. refl) (λ t. refl) (λ k e h. (transfer_names k e h).to_trip) x n name some) refl)))))))))))))
       ]

@@ -23,7 +23,7 @@ use Rattle.gtfs_rows.specs.Cells.{is_of_kind, is_between as lies_between}
 use Rattle.gtfs_rows.specs.Content.{Content}
 use Rattle.gtfs_rows.specs.Reading.{number_at, stop_in, content_of}
 use Rattle.gtfs_rows.specs.RowCells.{number}
-use Rattle.gtfs_rows.specs.Sound.{is_stop_of, has_place, has_right_parent, is_sound_stop}
+use Rattle.gtfs_rows.specs.Sound.{is_stop_of, has_name_and_position, has_right_parent, is_sound_stop}
 use Rattle.gtfs_rows.proofs.ContentRows.{row_of, all_made}
 use Rattle.gtfs_rows.proofs.PassedAgencies.{filled_some}
 use Rattle.gtfs_rows.proofs.PassedCells.{digit_cut}
@@ -115,16 +115,16 @@ module _ (d : Dataset) (passes : Passes d) where
           of_stop = named_stop (0 ∷ []) file.Stops n "parent_station" p there same known;
         }
 
-    -- ---- the name and the place
+    -- ---- the name and the position
 
-    placed : nat_lt 2 (number_at d file.Stops n "location_type") ≡ false → is_of_type 0 2 d n ≡ true
-    placed low = ap (λ o. if_there o (is_between 0 2)) type_is ∙ and_from (nat_le 0 type) (nat_le type 2) (le-leb 0 type (omega arith)) (le-leb type 2 (let h = ltb-false 2 type low in omega (arith, h)))
+    of_low_type : nat_lt 2 (number_at d file.Stops n "location_type") ≡ false → is_of_type 0 2 d n ≡ true
+    of_low_type low = ap (λ o. if_there o (is_between 0 2)) type_is ∙ and_from (nat_le 0 type) (nat_le type 2) (le-leb 0 type (omega arith)) (le-leb type 2 (let h = ltb-false 2 type low in omega (arith, h)))
 
-    place_there : nat_lt 2 (number_at d file.Stops n "location_type") ≡ false → has_place (stop_in d n) ≡ true
-    place_there low =
-        let none_name = after (is_of_type 0 2 d n) (is_empty_in d file.Stops n "stop_name") (placed low) (after_one (is_row (records_in d file.Stops) n) (lacks_name_or_position "stop_name" d n) row (no_error d passes code.E12 file.Stops n (codes "stop_name") refl)) in
-        let none_lat = after (is_of_type 0 2 d n) (is_empty_in d file.Stops n "stop_lat") (placed low) (after_one (is_row (records_in d file.Stops) n) (lacks_name_or_position "stop_lat" d n) row (no_error d passes code.E12 file.Stops n (codes "stop_lat") refl)) in
-        let none_lon = after (is_of_type 0 2 d n) (is_empty_in d file.Stops n "stop_lon") (placed low) (after_one (is_row (records_in d file.Stops) n) (lacks_name_or_position "stop_lon" d n) row (no_error d passes code.E12 file.Stops n (codes "stop_lon") refl)) in
+    both_there : nat_lt 2 (number_at d file.Stops n "location_type") ≡ false → has_name_and_position (stop_in d n) ≡ true
+    both_there low =
+        let none_name = after (is_of_type 0 2 d n) (is_empty_in d file.Stops n "stop_name") (of_low_type low) (after_one (is_row (records_in d file.Stops) n) (lacks_name_or_position "stop_name" d n) row (no_error d passes code.E12 file.Stops n (codes "stop_name") refl)) in
+        let none_lat = after (is_of_type 0 2 d n) (is_empty_in d file.Stops n "stop_lat") (of_low_type low) (after_one (is_row (records_in d file.Stops) n) (lacks_name_or_position "stop_lat" d n) row (no_error d passes code.E12 file.Stops n (codes "stop_lat") refl)) in
+        let none_lon = after (is_of_type 0 2 d n) (is_empty_in d file.Stops n "stop_lon") (of_low_type low) (after_one (is_row (records_in d file.Stops) n) (lacks_name_or_position "stop_lon" d n) row (no_error d passes code.E12 file.Stops n (codes "stop_lon") refl)) in
         and_from _ _
         (and_from _ _
         (filled_some (is_some (word_in d file.Stops n "stop_name")) _ (word_if_filled d passes file.Stops n row "stop_name" text refl refl) none_name)
@@ -133,10 +133,10 @@ module _ (d : Dataset) (passes : Passes d) where
 
     stop_sound : is_sound_stop (content_of d) (stop_in d n) ≡ true
     stop_sound =
-        and_from (nat_lt 2 type || has_place (stop_in d n)) _
+        and_from (nat_lt 2 type || has_name_and_position (stop_in d n)) _
         (elim (cases_Bool (nat_lt 2 type)) [
-          | inl high ↦ or_left (nat_lt 2 type) (has_place (stop_in d n)) high
-          | inr low ↦ or_right (nat_lt 2 type) (has_place (stop_in d n)) (place_there low)
+          | inl high ↦ or_left (nat_lt 2 type) (has_name_and_position (stop_in d n)) high
+          | inr low ↦ or_right (nat_lt 2 type) (has_name_and_position (stop_in d n)) (both_there low)
         ])
         (right_parent (content_of d) (names_none_of (0 ∷ []) file.Stops "parent_station" d n) (names_none_of (1 ∷ []) file.Stops "parent_station" d n) type (word_in d file.Stops n "parent_station") few presence kind parent)
 

@@ -27,12 +27,12 @@ use Rattle.gtfs_rows.proofs.Views.{rows_are, word_at, amounts_at, no_told}
 
 -- the trip of a period
 pub record IsPeriod (c : Content) (q : List ℕ) (p : Frequency) : Type 0 where
-  pub place : ℕ
+  pub index : ℕ
   pub none : Trip
-  pub within : place < length c.trips
-  pub named : q ≡ (get_or c.trips place none).trip_id
-  pub fine : is_sound_period (get_or c.trips place none).frequencies p ≡ true
-  pub own : Contains (get_or c.trips place none).frequencies p
+  pub within : index < length c.trips
+  pub named : q ≡ (get_or c.trips index none).trip_id
+  pub fine : is_sound_period (get_or c.trips index none).frequencies p ≡ true
+  pub own : Contains (get_or c.trips index none).frequencies p
 
 module _ (others : List (List ℕ)) (c : Content) (sound : IsSound c) where
   abbrev ps : List (List ℕ × Frequency)
@@ -48,7 +48,7 @@ module _ (others : List (List ℕ)) (c : Content) (sound : IsSound c) where
       let last = and_parts (has_id (λ r. r.route_id) c.routes t.route_id && has_id (λ s. s.service_id) c.services t.service_id && list_all (is_sound_in c t.stop_rows) t.stop_rows) (list_all (is_sound_period t.frequencies) t.frequencies) trip in
       let own : Contains t.frequencies p.1 = subst (λ u. Contains u.frequencies p.1) (sym same) held.has_it in
       record {
-        place = held.there.0;
+        index = held.there.0;
         none = held.row;
         within = held.there.1;
         named = held.named ∙ ap (λ u. u.trip_id) (sym same);
@@ -71,7 +71,7 @@ module _ (others : List (List ℕ)) (c : Content) (sound : IsSound c) where
   no_empty_period k e h =
       let p = (get_or (frequencies_of c) k e).1 in
       let s = period k e h in
-      let parts = and_parts (nat_lt p.start_time p.end_time) (list_all (are_apart p) (get_or c.trips s.place s.none).frequencies) s.fine in
+      let parts = and_parts (nat_lt p.start_time p.end_time) (list_all (are_apart p) (get_or c.trips s.index s.none).frequencies) s.fine in
       (λ i. if_both (end_at k e h i) (start_at k e h i) int_le) ∙ lt-leb p.end_time p.start_time (ltb-true p.start_time p.end_time parts.0)
 
   pub no_period_empty : (y : File) (n : ℕ) (name : List ℕ) → rule.period_empty (written_beside others c) y n name ≡ false
@@ -86,11 +86,11 @@ module _ (others : List (List ℕ)) (c : Content) (sound : IsSound c) where
       let q = get_or (frequencies_of c) k e in
       let a = period j e first in
       let b = period k e second in
-      let list = (get_or c.trips a.place a.none).frequencies in
-      let rows : (get_or c.trips a.place a.none).frequencies ≡ (get_or c.trips b.place b.none).frequencies =
-      sym (held_at (λ x. x.trip_id) (λ x. x.frequencies) c.trips a.place a.none a.within sound.in_order.trips)
+      let list = (get_or c.trips a.index a.none).frequencies in
+      let rows : (get_or c.trips a.index a.none).frequencies ≡ (get_or c.trips b.index b.none).frequencies =
+      sym (held_at (λ x. x.trip_id) (λ x. x.frequencies) c.trips a.index a.none a.within sound.in_order.trips)
       ∙ ap (λ u. map (λ z. z.1) (filter (λ z. bytes_eq u z.0) (frequencies_of c))) (sym a.named ∙ same ∙ b.named)
-      ∙ held_at (λ x. x.trip_id) (λ x. x.frequencies) c.trips b.place b.none b.within sound.in_order.trips in
+      ∙ held_at (λ x. x.trip_id) (λ x. x.frequencies) c.trips b.index b.none b.within sound.in_order.trips in
       let own : Contains list q.1 = subst (λ ys. Contains ys q.1) (sym rows) b.own in
       let apart = contained (are_apart p.1) list q.1 (and_parts (nat_lt p.1.start_time p.1.end_time) (list_all (are_apart p.1) list) a.fine).1 own in
       let less : nat_cmp p.1.start_time q.1.start_time ≡ Less = held_pairs (λ t. t.trip_id) (λ t. t.frequencies) (λ r s. nat_cmp r.start_time s.start_time ≡ Less) c.trips sound.in_order.trips sound.in_order.frequencies j k e order second (ap (bytes_eq p.0) (sym same) ∙ text_itself p.0) in

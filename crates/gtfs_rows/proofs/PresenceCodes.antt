@@ -15,7 +15,7 @@ use Rattle.gtfs_columns.specs.Values.{Value, word, amount, if_there}
 use Rattle.gtfs_rows.specs.Content.{Content}
 use Rattle.gtfs_rows.specs.RowCells.{agency_cells, route_cells, stop_cells, transfer_cells, id_cell, number}
 use Rattle.gtfs_rows.specs.Rows.{Agency, Route, Stop, Transfer}
-use Rattle.gtfs_rows.specs.Sound.{IsSound, has_ends, has_id, has_place, has_right_parent, is_sound_agency, is_sound_route, is_sound_stop, is_sound_transfer, is_stop_of}
+use Rattle.gtfs_rows.specs.Sound.{IsSound, has_ends, has_id, has_name_and_position, has_right_parent, is_sound_agency, is_sound_route, is_sound_stop, is_sound_transfer, is_stop_of}
 use Rattle.gtfs_rows.specs.Written.{written_beside}
 use Rattle.gtfs_rows.proofs.ContentAgain.{only_agency}
 use Rattle.gtfs_rows.proofs.RowTexts.{all_at}
@@ -69,7 +69,7 @@ right_parent c type (Some p) h =
     or_from (within 1 1 type && true) (within 2 4 type && false) (and_left (within 1 1 type) true (not_one type other))
     (and_right (within 2 4 type) false refl)
 
--- a transfer between places names both
+-- a transfer between stops names both
 record HasStops (t : Transfer) : Type 0 where
   from : is_some t.from_stop_id ≡ true
   to : is_some t.to_stop_id ≡ true
@@ -159,44 +159,44 @@ module _ (others : List (List ℕ)) (c : Content) (sound : IsSound c) where
     type_at low high = ap (λ o. if_there o (λ choice. int_le (pos low) choice && int_le choice (pos high)))
         (choice_from (written_beside others c) file.Stops (k + 2) "location_type" (number (get_or c.stops k e).location_type) (value_at others c file.Stops c.stops stop_cells refl (sound.cells file.Stops) k e h (codes "location_type") refl))
 
-    stop_fine : ((nat_lt 2 (get_or c.stops k e).location_type || has_place (get_or c.stops k e)) ≡ true) × (has_right_parent c (get_or c.stops k e).location_type (get_or c.stops k e).parent_station ≡ true)
+    stop_fine : ((nat_lt 2 (get_or c.stops k e).location_type || has_name_and_position (get_or c.stops k e)) ≡ true) × (has_right_parent c (get_or c.stops k e).location_type (get_or c.stops k e).parent_station ≡ true)
     stop_fine = and_parts _ _ (all_at (is_sound_stop c) c.stops k e sound.stops h)
 
-    -- a column of a place
-    place_there : (column : Literal) (missing : Bool) → is_empty_in (written_beside others c) file.Stops (k + 2) column ≡ missing → (has_place (get_or c.stops k e) ≡ true → missing ≡ false)
+    -- a column of a name and a position
+    column_there : (column : Literal) (missing : Bool) → is_empty_in (written_beside others c) file.Stops (k + 2) column ≡ missing → (has_name_and_position (get_or c.stops k e) ≡ true → missing ≡ false)
         → lacks_name_or_position column (written_beside others c) (k + 2) ≡ false
-    place_there column missing is placed =
+    column_there column missing is filled =
         (λ i. type_at 0 2 i && is i)
-        ∙ elim (or_cases (nat_lt 2 (get_or c.stops k e).location_type) (has_place (get_or c.stops k e)) stop_fine.0) [
+        ∙ elim (or_cases (nat_lt 2 (get_or c.stops k e).location_type) (has_name_and_position (get_or c.stops k e)) stop_fine.0) [
           | inl inner ↦ and_left (within 0 2 (get_or c.stops k e).location_type) missing (above 0 2 (get_or c.stops k e).location_type (ltb-true 2 (get_or c.stops k e).location_type inner))
-          | inr place ↦ and_right (within 0 2 (get_or c.stops k e).location_type) missing (placed place)
+          | inr both ↦ and_right (within 0 2 (get_or c.stops k e).location_type) missing (filled both)
         ]
 
-    parts_of_place : has_place (get_or c.stops k e) ≡ true
+    columns_of_both : has_name_and_position (get_or c.stops k e) ≡ true
         → (is_some (get_or c.stops k e).stop_name ≡ true) × (is_some (get_or c.stops k e).stop_lat ≡ true) × (is_some (get_or c.stops k e).stop_lon ≡ true)
-    parts_of_place place =
+    columns_of_both both =
         let s = get_or c.stops k e in
-        let last = and_parts (is_some s.stop_name && is_some s.stop_lat) (is_some s.stop_lon) place in
+        let last = and_parts (is_some s.stop_name && is_some s.stop_lat) (is_some s.stop_lon) both in
         let first = and_parts (is_some s.stop_name) (is_some s.stop_lat) last.0 in
         (first.0, first.1, last.1)
 
   stop_has_name : (k : ℕ) (e : Stop) → k < length c.stops → lacks_name_or_position "stop_name" (written_beside others c) (k + 2) ≡ false
   stop_has_name k e h =
       let s = get_or c.stops k e in
-      place_there k e h "stop_name" (is_none (option_map word s.stop_name)) (empty_at others c file.Stops c.stops stop_cells refl (sound.cells file.Stops) k e h "stop_name" refl (option_map word s.stop_name) refl refl)
-      (λ place. not_none s.stop_name word (parts_of_place k e h place).0)
+      column_there k e h "stop_name" (is_none (option_map word s.stop_name)) (empty_at others c file.Stops c.stops stop_cells refl (sound.cells file.Stops) k e h "stop_name" refl (option_map word s.stop_name) refl refl)
+      (λ both. not_none s.stop_name word (columns_of_both k e h both).0)
 
   stop_has_latitude : (k : ℕ) (e : Stop) → k < length c.stops → lacks_name_or_position "stop_lat" (written_beside others c) (k + 2) ≡ false
   stop_has_latitude k e h =
       let s = get_or c.stops k e in
-      place_there k e h "stop_lat" (is_none (option_map amount s.stop_lat)) (empty_at others c file.Stops c.stops stop_cells refl (sound.cells file.Stops) k e h "stop_lat" refl (option_map amount s.stop_lat) refl refl)
-      (λ place. not_none s.stop_lat amount (parts_of_place k e h place).1)
+      column_there k e h "stop_lat" (is_none (option_map amount s.stop_lat)) (empty_at others c file.Stops c.stops stop_cells refl (sound.cells file.Stops) k e h "stop_lat" refl (option_map amount s.stop_lat) refl refl)
+      (λ both. not_none s.stop_lat amount (columns_of_both k e h both).1)
 
   stop_has_longitude : (k : ℕ) (e : Stop) → k < length c.stops → lacks_name_or_position "stop_lon" (written_beside others c) (k + 2) ≡ false
   stop_has_longitude k e h =
       let s = get_or c.stops k e in
-      place_there k e h "stop_lon" (is_none (option_map amount s.stop_lon)) (empty_at others c file.Stops c.stops stop_cells refl (sound.cells file.Stops) k e h "stop_lon" refl (option_map amount s.stop_lon) refl refl)
-      (λ place. not_none s.stop_lon amount (parts_of_place k e h place).2)
+      column_there k e h "stop_lon" (is_none (option_map amount s.stop_lon)) (empty_at others c file.Stops c.stops stop_cells refl (sound.cells file.Stops) k e h "stop_lon" refl (option_map amount s.stop_lon) refl refl)
+      (λ both. not_none s.stop_lon amount (columns_of_both k e h both).2)
 
   stop_has_parent : (k : ℕ) (e : Stop) → k < length c.stops → has_wrong_parent (written_beside others c) (k + 2) ≡ false
   stop_has_parent k e h =

@@ -21,7 +21,7 @@ use Rattle.gtfs_rows.specs.Named.{text_named}
 use Rattle.gtfs_rows.specs.RowCells.{cells_in, transfer_cells, stop_cells, stop_time_cells, stop_times_of, number}
 use Rattle.gtfs_rows.specs.Rows.{Stop, StopRow, Transfer}
 use Rattle.gtfs_rows.proofs.RowTexts.{all_at}
-use Rattle.gtfs_rows.specs.Sound.{IsSound, has_place, has_right_parent, is_sound_stop, if_given, has_id, is_stop_of, is_sound_transfer, is_sound_stop_row, is_end, leaves, keeps_time}
+use Rattle.gtfs_rows.specs.Sound.{IsSound, has_name_and_position, has_right_parent, is_sound_stop, if_given, has_id, is_stop_of, is_sound_transfer, is_sound_stop_row, is_end, leaves, keeps_time}
 use Rattle.gtfs_rows.specs.Written.{written_beside}
 use Rattle.gtfs_rows.proofs.RangeLists.{find_range, some_range}
 use Rattle.gtfs_rows.proofs.TripCodes.{stop_time}
@@ -74,7 +74,7 @@ module _ (others : List (List ℕ)) (c : Content) (sound : IsSound c) where
   no_other_stop k e within =
       let r = (get_or (stop_times_of c) k e).1 in
       let s = stop_time others c sound k e within in
-      let rs = (get_or c.trips s.place s.none).stop_rows in
+      let rs = (get_or c.trips s.index s.none).stop_rows in
       let outer = and_parts (is_sound_stop_row c r && (is_some (leaves r) || not (is_end rs r))) (list_all (keeps_time r) rs) s.fine in
       let inner = and_parts (is_sound_stop_row c r) (is_some (leaves r) || not (is_end rs r)) outer.0 in
       let row = and_parts (is_stop_of c (0 ∷ []) r.stop_id) _ inner.0 in
@@ -97,9 +97,9 @@ module _ (others : List (List ℕ)) (c : Content) (sound : IsSound c) where
 -- ---- E11
 
 module _ (others : List (List ℕ)) (c : Content) (sound : IsSound c) where
-  place_named : (o : Option (List ℕ)) (n : ℕ) (column : Literal) → word_in (written_beside others c) file.Transfers n column ≡ o → if_given o (is_stop_of c (0 ∷ 1 ∷ [])) ≡ true → names_none_of (0 ∷ 1 ∷ []) file.Transfers column (written_beside others c) n ≡ false
-  place_named None n column is fine = names_nothing others c sound (0 ∷ 1 ∷ []) file.Transfers n column is
-  place_named (Some t) n column is fine = names_wanted others c sound (0 ∷ 1 ∷ []) file.Transfers n column t is fine
+  end_named : (o : Option (List ℕ)) (n : ℕ) (column : Literal) → word_in (written_beside others c) file.Transfers n column ≡ o → if_given o (is_stop_of c (0 ∷ 1 ∷ [])) ≡ true → names_none_of (0 ∷ 1 ∷ []) file.Transfers column (written_beside others c) n ≡ false
+  end_named None n column is fine = names_nothing others c sound (0 ∷ 1 ∷ []) file.Transfers n column is
+  end_named (Some t) n column is fine = names_wanted others c sound (0 ∷ 1 ∷ []) file.Transfers n column t is fine
 
   ends : (k : ℕ) (e : Transfer) → k < length c.transfers
       → (if_given (get_or c.transfers k e).from_stop_id (is_stop_of c (0 ∷ 1 ∷ [])) ≡ true) × (if_given (get_or c.transfers k e).to_stop_id (is_stop_of c (0 ∷ 1 ∷ [])) ≡ true)
@@ -108,11 +108,11 @@ module _ (others : List (List ℕ)) (c : Content) (sound : IsSound c) where
       let b = and_parts _ _ a.0 in let d = and_parts _ _ b.0 in let f = and_parts _ _ d.0 in let g = and_parts _ _ f.0 in
       and_parts _ _ g.0
 
-  from_place : (k : ℕ) (e : Transfer) → k < length c.transfers → names_none_of (0 ∷ 1 ∷ []) file.Transfers "from_stop_id" (written_beside others c) (k + 2) ≡ false
-  from_place k e h = place_named (get_or c.transfers k e).from_stop_id (k + 2) "from_stop_id" (word_at others c file.Transfers c.transfers transfer_cells refl (sound.cells file.Transfers) k e h "from_stop_id" refl (get_or c.transfers k e).from_stop_id refl) (ends k e h).0
+  from_end : (k : ℕ) (e : Transfer) → k < length c.transfers → names_none_of (0 ∷ 1 ∷ []) file.Transfers "from_stop_id" (written_beside others c) (k + 2) ≡ false
+  from_end k e h = end_named (get_or c.transfers k e).from_stop_id (k + 2) "from_stop_id" (word_at others c file.Transfers c.transfers transfer_cells refl (sound.cells file.Transfers) k e h "from_stop_id" refl (get_or c.transfers k e).from_stop_id refl) (ends k e h).0
 
-  to_place : (k : ℕ) (e : Transfer) → k < length c.transfers → names_none_of (0 ∷ 1 ∷ []) file.Transfers "to_stop_id" (written_beside others c) (k + 2) ≡ false
-  to_place k e h = place_named (get_or c.transfers k e).to_stop_id (k + 2) "to_stop_id" (word_at others c file.Transfers c.transfers transfer_cells refl (sound.cells file.Transfers) k e h "to_stop_id" refl (get_or c.transfers k e).to_stop_id refl) (ends k e h).1
+  to_end : (k : ℕ) (e : Transfer) → k < length c.transfers → names_none_of (0 ∷ 1 ∷ []) file.Transfers "to_stop_id" (written_beside others c) (k + 2) ≡ false
+  to_end k e h = end_named (get_or c.transfers k e).to_stop_id (k + 2) "to_stop_id" (word_at others c file.Transfers c.transfers transfer_cells refl (sound.cells file.Transfers) k e h "to_stop_id" refl (get_or c.transfers k e).to_stop_id refl) (ends k e h).1
 
   -- the parent of a stop
   other_type : (n : ℕ) → (n == 4) ≡ false → is_one_of (4 ∷ []) (pos n) ≡ false
@@ -126,31 +126,31 @@ module _ (others : List (List ℕ)) (c : Content) (sound : IsSound c) where
       or_from _ _ (and_right (is_one_of (0 ∷ 2 ∷ 3 ∷ []) (pos type)) _ (names_nothing others c sound (1 ∷ []) file.Stops n "parent_station" is))
       (and_right (is_one_of (4 ∷ []) (pos type)) _ (names_nothing others c sound (0 ∷ []) file.Stops n "parent_station" is))
   parent_of type n (Some t) is fine =
-      let place = (and_parts (not (type == 1)) (is_stop_of c ((if type == 4 then 0 else 1) ∷ []) t) fine).1 in
+      let right = (and_parts (not (type == 1)) (is_stop_of c ((if type == 4 then 0 else 1) ∷ []) t) fine).1 in
       elim (cases_Bool (type == 4)) [
         | inl area ↦
-            let own : is_stop_of c (0 ∷ []) t ≡ true = rw area at place in
+            let own : is_stop_of c (0 ∷ []) t ≡ true = rw area at right in
             let four : type ≡ 4 = eqb-true type 4 area in
             or_from _ _ (and_left (is_one_of (0 ∷ 2 ∷ 3 ∷ []) (pos type)) _ (ap (λ m. is_one_of (0 ∷ 2 ∷ 3 ∷ []) (pos m)) four))
             (and_right (is_one_of (4 ∷ []) (pos type)) _ (names_wanted others c sound (0 ∷ []) file.Stops n "parent_station" t is own))
         | inr no_area ↦
-            let own : is_stop_of c (1 ∷ []) t ≡ true = rw no_area at place in
+            let own : is_stop_of c (1 ∷ []) t ≡ true = rw no_area at right in
             or_from _ _ (and_right (is_one_of (0 ∷ 2 ∷ 3 ∷ []) (pos type)) _ (names_wanted others c sound (1 ∷ []) file.Stops n "parent_station" t is own))
             (and_left (is_one_of (4 ∷ []) (pos type)) _ (other_type type no_area))
       ]
 
-  parent_place : (k : ℕ) (e : Stop) → k < length c.stops → has_parent_of_other_type (written_beside others c) (k + 2) ≡ false
-  parent_place k e h =
+  parent_type : (k : ℕ) (e : Stop) → k < length c.stops → has_parent_of_other_type (written_beside others c) (k + 2) ≡ false
+  parent_type k e h =
       let s = get_or c.stops k e in
       let type : choice_in (written_beside others c) file.Stops (k + 2) "location_type" ≡ Some (pos s.location_type) =
       choice_from (written_beside others c) file.Stops (k + 2) "location_type" (number s.location_type) (value_at others c file.Stops c.stops stop_cells refl (sound.cells file.Stops) k e h (codes "location_type") refl) in
-      let fine = (and_parts (nat_lt 2 s.location_type || has_place s) (has_right_parent c s.location_type s.parent_station) (all_at (is_sound_stop c) c.stops k e sound.stops h)).1 in
+      let fine = (and_parts (nat_lt 2 s.location_type || has_name_and_position s) (has_right_parent c s.location_type s.parent_station) (all_at (is_sound_stop c) c.stops k e sound.stops h)).1 in
       ap (λ o. if_there o (λ own. (is_one_of (0 ∷ 2 ∷ 3 ∷ []) own && names_none_of (1 ∷ []) file.Stops "parent_station" (written_beside others c) (k + 2)) || (is_one_of (4 ∷ []) own && names_none_of (0 ∷ []) file.Stops "parent_station" (written_beside others c) (k + 2)))) type
       ∙ parent_of s.location_type (k + 2) s.parent_station (word_at others c file.Stops c.stops stop_cells refl (sound.cells file.Stops) k e h "parent_station" refl s.parent_station refl) fine
 
   pub no_wrong_kind : (y : File) (n : ℕ) (name : List ℕ) → wrong_kind_of_stop (written_beside others c) y n name ≡ false
   no_wrong_kind y n name =
       or_from _ _ (no_told others c file.StopTimes (stop_times_of c) stop_time_cells refl (sound.cells file.StopTimes) "stop_id" (names_none_of (0 ∷ []) file.StopTimes "stop_id") (no_other_stop others c sound) y n name)
-      (or_from _ _ (no_told others c file.Stops c.stops stop_cells refl (sound.cells file.Stops) "parent_station" has_parent_of_other_type parent_place y n name)
-      (or_from _ _ (no_told others c file.Transfers c.transfers transfer_cells refl (sound.cells file.Transfers) "from_stop_id" (names_none_of (0 ∷ 1 ∷ []) file.Transfers "from_stop_id") from_place y n name)
-      (or_from _ _ (no_told others c file.Transfers c.transfers transfer_cells refl (sound.cells file.Transfers) "to_stop_id" (names_none_of (0 ∷ 1 ∷ []) file.Transfers "to_stop_id") to_place y n name) refl)))
+      (or_from _ _ (no_told others c file.Stops c.stops stop_cells refl (sound.cells file.Stops) "parent_station" has_parent_of_other_type parent_type y n name)
+      (or_from _ _ (no_told others c file.Transfers c.transfers transfer_cells refl (sound.cells file.Transfers) "from_stop_id" (names_none_of (0 ∷ 1 ∷ []) file.Transfers "from_stop_id") from_end y n name)
+      (or_from _ _ (no_told others c file.Transfers c.transfers transfer_cells refl (sound.cells file.Transfers) "to_stop_id" (names_none_of (0 ∷ 1 ∷ []) file.Transfers "to_stop_id") to_end y n name) refl)))

@@ -36,13 +36,13 @@ pub cell-filled : (c : Column) (v : Cell) → is_cell c v ≡ true → takes_non
 cell-filled c None h never = cc
 cell-filled c (Some v) h never = (writes_value c.kind v h).filled
 
--- ---- the place of a column
+-- ---- the position of a column
 
 abbrev is_name : List ℕ → List ℕ → Bool
 is_name name column = bytes_eq (cut column) name
 
-next_place : {X : Type 0} (p : X → Bool) (x : X) (xs : List X) → position p (x ∷ xs) ≡ (if p x then Some 0 else option_map suc (position p xs))
-next_place p x xs = elim (cases_Bool (p x)) [
+next_position : {X : Type 0} (p : X → Bool) (x : X) (xs : List X) → position p (x ∷ xs) ≡ (if p x then Some 0 else option_map suc (position p xs))
+next_position p x xs = elim (cases_Bool (p x)) [
   | inl here ↦ let some : nat_lt 0 (suc (length xs)) ≡ true = grind (arith, nat_tests) in rw (here, some) refl
   | inr later ↦
       let m = position_or_len p xs in
@@ -75,7 +75,7 @@ named-text name (c ∷ cs) (v ∷ vs) cuts are =
     let names = and_parts (bytes_eq (cut c.name) c.name) (are_cut cs) cuts in
     let parts = and_parts (is_cell c v) (are_cells cs vs) are in
     let test : is_name name c.name ≡ bytes_eq c.name name = ap (λ t. bytes_eq t name) (text_is (cut c.name) c.name names.0) in
-    ap (field_under (record_text (c ∷ cs) (v ∷ vs))) (next_place (is_name name) c.name (map (λ k. k.name) cs)) ∙ elim (cases_Bool (bytes_eq c.name name)) [
+    ap (field_under (record_text (c ∷ cs) (v ∷ vs))) (next_position (is_name name) c.name (map (λ k. k.name) cs)) ∙ elim (cases_Bool (bytes_eq c.name name)) [
       | inl here ↦ rw (test, here) (cell-cut c v parts.0)
       | inr later ↦ rw (test, later) (next_field (cell_text c.kind v) (record_text cs vs) (position (is_name name) (map (λ k. k.name) cs)) ∙ named-text name cs vs names.1 parts.1)
     ]
@@ -124,17 +124,17 @@ all_at p (x ∷ xs) (suc k) d all within = all_at p xs k d ((and_parts (p x) (li
 module _ (x : File) (rows' : List (List Cell)) (k : ℕ) (d : List Cell) (within : k < length rows') where
   pub record-written : record_at (records_of_cells x rows') (k + 2) ≡ record_text (columns_of x) (get_or rows' k d)
   record-written =
-      let place : k + 2 ≡ suc k + 1 = omega arith in
-      ap (record_at (records_of_cells x rows')) place
+      let next : k + 2 ≡ suc k + 1 = omega arith in
+      ap (record_at (records_of_cells x rows')) next
       ∙ next-record (records_of_cells x rows') (suc k)
       ∙ get_or-map (record_text (columns_of x)) rows' k d [] within
 
   module _ (name : List ℕ) (filled : is_empty name ≡ false) (are : are_cells (columns_of x) (get_or rows' k d) ≡ true) where
     text-written : value (records_of_cells x rows') (k + 2) name ≡ text_named (columns_of x) (get_or rows' k d) name
     text-written =
-        let place : column_of (records_of_cells x rows') name ≡ position (is_name name) (map (λ c. c.name) (columns_of x)) = rw filled refl in
+        let found : column_of (records_of_cells x rows') name ≡ position (is_name name) (map (λ c. c.name) (columns_of x)) = rw filled refl in
         ap (λ r. field_under r (column_of (records_of_cells x rows') name)) record-written
-        ∙ ap (field_under (record_text (columns_of x) (get_or rows' k d))) place
+        ∙ ap (field_under (record_text (columns_of x) (get_or rows' k d))) found
         ∙ named-text name (columns_of x) (get_or rows' k d) (kept_cut x) are
 
 module _ (others : List (List ℕ)) (cells : File → List (List Cell)) (x : File) (sound : list_all (are_cells (columns_of x)) (cells x) ≡ true) where

@@ -22,11 +22,11 @@ use Rattle.gtfs_rows.proofs.Views.{rows_are, no_told}
 
 module _ (others : List (List ℕ)) (c : Content) (sound : IsSound c) where
   -- the rows of one id are those of one trip
-  same_rows : (q t : List ℕ) (r s : StopRow) (a : IsStopTime c q r) (b : IsStopTime c t s) → q ≡ t → (get_or c.trips a.place a.none).stop_rows ≡ (get_or c.trips b.place b.none).stop_rows
+  same_rows : (q t : List ℕ) (r s : StopRow) (a : IsStopTime c q r) (b : IsStopTime c t s) → q ≡ t → (get_or c.trips a.index a.none).stop_rows ≡ (get_or c.trips b.index b.none).stop_rows
   same_rows q t r s a b same =
-      sym (held_at (λ x. x.trip_id) (λ x. x.stop_rows) c.trips a.place a.none a.within sound.in_order.trips)
+      sym (held_at (λ x. x.trip_id) (λ x. x.stop_rows) c.trips a.index a.none a.within sound.in_order.trips)
       ∙ ap (λ u. map (λ p. p.1) (filter (λ p. bytes_eq u p.0) (stop_times_of c))) (sym a.named ∙ same ∙ b.named)
-      ∙ held_at (λ x. x.trip_id) (λ x. x.stop_rows) c.trips b.place b.none b.within sound.in_order.trips
+      ∙ held_at (λ x. x.trip_id) (λ x. x.stop_rows) c.trips b.index b.none b.within sound.in_order.trips
 
   -- a trip leaves no earlier row after it comes to a later one
   in_time : (j k : ℕ) (d e : List ℕ × StopRow) → j < length (stop_times_of c) → k < length (stop_times_of c) → (get_or (stop_times_of c) j d).0 ≡ (get_or (stop_times_of c) k e).0
@@ -37,7 +37,7 @@ module _ (others : List (List ℕ)) (c : Content) (sound : IsSound c) where
       let q = get_or (stop_times_of c) k e in
       let a = stop_time others c sound j d first in
       let b = stop_time others c sound k e second in
-      let rs = (get_or c.trips a.place a.none).stop_rows in
+      let rs = (get_or c.trips a.index a.none).stop_rows in
       let keeps = (and_parts (is_sound_stop_row c p.1 && (is_some (leaves p.1) || not (is_end rs p.1))) (list_all (keeps_time p.1) rs) a.fine).1 in
       let own : Contains rs q.1 = subst (λ ys. Contains ys q.1) (sym (same_rows p.0 q.0 p.1 q.1 a b same)) b.own in
       elim (or_cases (not (nat_lt p.1.stop_sequence q.1.stop_sequence)) (not (if_both (comes q.1) (leaves p.1) nat_lt)) (contained (keeps_time p.1) rs q.1 keeps own)) [

@@ -93,12 +93,12 @@ less_apart a b less same = elim (cases_Bool (nat_lt a b)) [
 
 -- the trip of a stop row
 pub record IsStopTime (c : Content) (q : List ℕ) (r : StopRow) : Type 0 where
-  pub place : ℕ
+  pub index : ℕ
   pub none : Trip
-  pub within : place < length c.trips
-  pub named : q ≡ (get_or c.trips place none).trip_id
-  pub fine : is_sound_in c (get_or c.trips place none).stop_rows r ≡ true
-  pub own : Contains (get_or c.trips place none).stop_rows r
+  pub within : index < length c.trips
+  pub named : q ≡ (get_or c.trips index none).trip_id
+  pub fine : is_sound_in c (get_or c.trips index none).stop_rows r ≡ true
+  pub own : Contains (get_or c.trips index none).stop_rows r
 
 module _ (others : List (List ℕ)) (c : Content) (sound : IsSound c) where
   pub stop_time : (k : ℕ) (e : List ℕ × StopRow) → k < length (stop_times_of c) → IsStopTime c (get_or (stop_times_of c) k e).0 (get_or (stop_times_of c) k e).1
@@ -111,7 +111,7 @@ module _ (others : List (List ℕ)) (c : Content) (sound : IsSound c) where
       let first = and_parts (has_id (λ r. r.route_id) c.routes t.route_id && has_id (λ s. s.service_id) c.services t.service_id && list_all (is_sound_in c t.stop_rows) t.stop_rows) (list_all (is_sound_period t.frequencies) t.frequencies) trip in
       let rows = and_parts (has_id (λ r. r.route_id) c.routes t.route_id && has_id (λ s. s.service_id) c.services t.service_id) (list_all (is_sound_in c t.stop_rows) t.stop_rows) first.0 in
       record {
-        place = held.there.0;
+        index = held.there.0;
         none = held.row;
         within = held.there.1;
         named = held.named ∙ ap (λ u. u.trip_id) (sym same);
@@ -131,7 +131,7 @@ module _ (others : List (List ℕ)) (c : Content) (sound : IsSound c) where
   no_leaves_early k e within =
       let r = (get_or (stop_times_of c) k e).1 in
       let s = stop_time k e within in
-      let rs = (get_or c.trips s.place s.none).stop_rows in
+      let rs = (get_or c.trips s.index s.none).stop_rows in
       let outer = and_parts (is_sound_stop_row c r && (is_some (leaves r) || not (is_end rs r))) (list_all (keeps_time r) rs) s.fine in
       let inner = and_parts (is_sound_stop_row c r) (is_some (leaves r) || not (is_end rs r)) outer.0 in
       let row = and_parts (is_stop_of c (0 ∷ []) r.stop_id) (not (if_both r.departure_time r.arrival_time nat_lt)) inner.0 in
@@ -188,14 +188,14 @@ module _ (others : List (List ℕ)) (c : Content) (sound : IsSound c) where
   -- a test of the rows of a trip
   any_of_trip : (f : ℕ → Bool) (F : StopRow → Bool) (k : ℕ) (e : List ℕ × StopRow) (within : k < length (stop_times_of c))
       → ((j : ℕ) (d : List ℕ × StopRow) → j < length (stop_times_of c) → f (j + 2) ≡ F (get_or (stop_times_of c) j d).1)
-      → list_any f (rule.rows_of_trip (written_beside others c) (get_or (stop_times_of c) k e).0) ≡ list_any F (get_or c.trips (stop_time k e within).place (stop_time k e within).none).stop_rows
+      → list_any f (rule.rows_of_trip (written_beside others c) (get_or (stop_times_of c) k e).0) ≡ list_any F (get_or c.trips (stop_time k e within).index (stop_time k e within).none).stop_rows
   any_of_trip f F k e within same =
       let q = (get_or (stop_times_of c) k e).0 in
       let s = stop_time k e within in
       ap (λ ns. list_any f (filter (keeps q) ns)) (rows_are others c file.StopTimes (stop_times_of c) stop_time_cells refl (sound.cells file.StopTimes))
       ∙ any_filter_range (keeps q) (λ p. bytes_eq q p.0) f (λ p. F p.1) 2 (stop_times_of c) (record { at = kept_at q }) (record { at = same })
       ∙ sym (any_mapped F (λ p. p.1) (filter (λ p. bytes_eq q p.0) (stop_times_of c)))
-      ∙ ap (list_any F) (ap (λ t. map (λ p. p.1) (filter (λ p. bytes_eq t p.0) (stop_times_of c))) s.named ∙ held_at (λ t. t.trip_id) (λ t. t.stop_rows) c.trips s.place s.none s.within sound.in_order.trips)
+      ∙ ap (list_any F) (ap (λ t. map (λ p. p.1) (filter (λ p. bytes_eq t p.0) (stop_times_of c))) s.named ∙ held_at (λ t. t.trip_id) (λ t. t.stop_rows) c.trips s.index s.none s.within sound.in_order.trips)
 
   -- ---- E15
 
@@ -204,7 +204,7 @@ module _ (others : List (List ℕ)) (c : Content) (sound : IsSound c) where
       let p = get_or (stop_times_of c) k e in
       let r = p.1 in
       let s = stop_time k e within in
-      let rs = (get_or c.trips s.place s.none).stop_rows in
+      let rs = (get_or c.trips s.index s.none).stop_rows in
       let n = k + 2 in
       let arrival = is_empty_in (written_beside others c) file.StopTimes n "arrival_time" in
       let departure = is_empty_in (written_beside others c) file.StopTimes n "departure_time" in

@@ -20,7 +20,7 @@ use Rattle.gtfs_rows.specs.Named.{cell_named, text_named}
 use Rattle.gtfs_rows.specs.RowCells.{cells_in, route_cells, trip_cells}
 use Rattle.gtfs_rows.specs.Sound.{IsSound, if_given, has_id, is_stop_of}
 use Rattle.gtfs_rows.specs.Written.{written_beside}
-use Rattle.gtfs_rows.proofs.FileRows.{row_place}
+use Rattle.gtfs_rows.proofs.FileRows.{row_index}
 use Rattle.gtfs_rows.proofs.ReferenceCodes.{known_in, stop_known}
 use Rattle.gtfs_rows.proofs.Views.{value_at, text_at', count_is}
 
@@ -46,9 +46,9 @@ module _ {X : Type 0} (others : List (List ℕ)) (c : Content) (x0 : File) (xs :
   known_here : (n : ℕ) → (is_row (records_in (written_beside others c) x0) n && is_some (value_in (written_beside others c) x0 n (codes column))) ≡ true → is_known (written_beside others c) targets (text_in (written_beside others c) x0 n (codes column)) ≡ true
   known_here n there =
       let parts = and_parts (is_row (records_in (written_beside others c) x0) n) (is_some (value_in (written_beside others c) x0 n (codes column))) there in
-      let place = row_place others (cells_in c) x0 sound n parts.0 in
-      let within : place.place < length xs = subst (λ m. place.place < m) (count_is others c x0 xs cells are sound) place.within in
-      at_some xs refl place.place within place.is parts.1
+      let element = row_index others (cells_in c) x0 sound n parts.0 in
+      let within : element.index < length xs = subst (λ m. element.index < m) (count_is others c x0 xs cells are sound) element.within in
+      at_some xs refl element.index within element.is parts.1
     where
       at_some : (ys : List X) → xs ≡ ys → (k : ℕ) → k < length xs → n ≡ k + 2 → is_some (value_in (written_beside others c) x0 n (codes column)) ≡ true → is_known (written_beside others c) targets (text_in (written_beside others c) x0 n (codes column)) ≡ true
       at_some [] same k h is some = let e = ap length same in absurd (omega (arith, e))

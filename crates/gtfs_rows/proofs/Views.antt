@@ -18,7 +18,7 @@ use Rattle.gtfs_rows.specs.Named.{cell_named, text_named}
 use Rattle.gtfs_rows.specs.Reading.{text_at, number_in, number_at}
 use Rattle.gtfs_rows.specs.RowCells.{cells_in, number}
 use Rattle.gtfs_rows.specs.Written.{written_beside}
-use Rattle.gtfs_rows.proofs.FileRows.{rows_written, row_place, cell_found}
+use Rattle.gtfs_rows.proofs.FileRows.{rows_written, row_index, cell_found}
 use Rattle.gtfs_rows.proofs.RowTexts.{all_at, value_written, text_written}
 use Rattle.gtfs_rows.proofs.CellTexts.{writes_value}
 
@@ -120,12 +120,12 @@ module _ {X : Type 0} (others : List (List ℕ)) (c : Content) (x : File) (xs : 
       elim (cases_Bool (is_row (records_in (written_beside others c) x) n)) [
         | inr outside ↦ and_left (at && is_row (records_in (written_beside others c) x) n) (rule (written_beside others c) n) (and_right at (is_row (records_in (written_beside others c) x) n) outside)
         | inl row ↦
-            let place = row_place others (cells_in c) x sound n row in
-            let within : place.place < length xs = subst (λ m. place.place < m) count_is place.within in
-            and_right (at && is_row (records_in (written_beside others c) x) n) (rule (written_beside others c) n) (ap (rule (written_beside others c)) place.is ∙ at_some xs within (λ e. never place.place e within))
+            let element = row_index others (cells_in c) x sound n row in
+            let within : element.index < length xs = subst (λ m. element.index < m) count_is element.within in
+            and_right (at && is_row (records_in (written_beside others c) x) n) (rule (written_beside others c) n) (ap (rule (written_beside others c)) element.is ∙ at_some xs within (λ e. never element.index e within))
       ]
     where
-      -- there is an element where there is a place
+      -- there is an element where there is an index
       at_some : {A : Type 0} (ys : List X) {k : ℕ} → k < length ys → (X → A) → A
       at_some [] within f = absurd (omega arith)
       at_some (z ∷ ys) within f = f z

@@ -35,17 +35,17 @@ is_stop_of c types x = if_there (find (λ s. bytes_eq s.stop_id x) c.stops) (λ 
 abbrev pub is_sound_agency : Content → Agency → Bool
 is_sound_agency c a = (not (is_empty a.agency_id) || (length c.agencies == 1)) && list_all (λ b. bytes_eq a.agency_timezone b.agency_timezone) c.agencies
 
--- ---- stops: a stop, a station and an entrance have a name and a place; a station has no parent, an entrance, a node and a boarding area have one
+-- ---- stops: a stop, a station and an entrance have a name and a position; a station has no parent, an entrance, a node and a boarding area have one
 
-abbrev pub has_place : Stop → Bool
-has_place s = is_some s.stop_name && is_some s.stop_lat && is_some s.stop_lon
+abbrev pub has_name_and_position : Stop → Bool
+has_name_and_position s = is_some s.stop_name && is_some s.stop_lat && is_some s.stop_lon
 
 abbrev pub has_right_parent : Content → ℕ → Option (List ℕ) → Bool
 has_right_parent c type None = nat_lt type 2
 has_right_parent c type (Some p) = not (type == 1) && is_stop_of c ((if type == 4 then 0 else 1) ∷ []) p
 
 abbrev pub is_sound_stop : Content → Stop → Bool
-is_sound_stop c s = (nat_lt 2 s.location_type || has_place s) && has_right_parent c s.location_type s.parent_station
+is_sound_stop c s = (nat_lt 2 s.location_type || has_name_and_position s) && has_right_parent c s.location_type s.parent_station
 
 -- ---- routes and services
 
@@ -91,7 +91,7 @@ abbrev pub is_sound_trip : Content → Trip → Bool
 is_sound_trip c t = has_id (λ r. r.route_id) c.routes t.route_id && has_id (λ s. s.service_id) c.services t.service_id
     && list_all (is_sound_in c t.stop_rows) t.stop_rows && list_all (is_sound_period t.frequencies) t.frequencies
 
--- ---- transfers: one between places names both, one within a vehicle names both trips
+-- ---- transfers: one between stops names both, one within a vehicle names both trips
 
 abbrev pub has_ends : Transfer → Bool
 has_ends t = (t.transfer_type == 0) || (nat_le t.transfer_type 3 && is_some t.from_stop_id && is_some t.to_stop_id)

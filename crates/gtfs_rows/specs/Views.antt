@@ -123,7 +123,7 @@ trip_of p t stop_times frequencies = record {
   frequencies = map frequency_of frequencies;
 }
 
--- each trip with the stop times and the frequencies at its place
+-- each trip with the stop times and the frequencies at its index
 abbrev pub trips_of : Parts → List TripRow → List (List StopTime) → List (List FrequencyRow) → List Trip
 trips_of p [] rs fs = []
 trips_of p (t ∷ ts) [] fs = []

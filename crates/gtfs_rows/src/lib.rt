@@ -3,7 +3,7 @@
 //! - [`Agency`], [`Stop`], [`Route`], [`ServiceRow`], [`Trip`], [`StopRow`], [`Frequency`] and [`Transfer`] are the rows of
 //!   the nine files. Fields have the names of the columns; each choice is an enum with the numbers of the standard.
 //! - A row names other rows by their numbers: an [`AgencyNo`], [`StopNo`], [`RouteNo`], [`ServiceNo`] or [`TripNo`] is the
-//!   place of an id among all ids of its kind, by bytes, from 0. A row's own id is a text in the row.
+//!   rank of an id among all ids of its kind, by bytes, from 0. A row's own id is a text in the row.
 //! - [`StopRow`] and [`Frequency`] are small and `Copy`. A time that may be missing is an [`OptionalClock`] of four bytes,
 //!   and a headsign an [`OptionalHeadsign`], a number in the feed's list of headsigns.
 //! - [`Parts`] are all rows of a feed, each list in the order of its keys; [`stretch`] finds the rows of one trip.

@@ -1,23 +1,23 @@
-/// The number of an agency: the place of its id among the ids of all agencies of the feed, by bytes, from 0.
+/// The number of an agency: the rank of its id among the ids of all agencies of the feed, by bytes, from 0.
 #[derive(Clone, Copy, Debug, PartialEq, Eq, PartialOrd, Ord)]
 pub struct AgencyNo(pub usize);
 
-/// The number of a stop: the place of its id among the ids of all stops of the feed, by bytes, from 0.
+/// The number of a stop: the rank of its id among the ids of all stops of the feed, by bytes, from 0.
 #[derive(Clone, Copy, Debug, PartialEq, Eq, PartialOrd, Ord)]
 pub struct StopNo(pub usize);
 
-/// The number of a route: the place of its id among the ids of all routes of the feed, by bytes, from 0.
+/// The number of a route: the rank of its id among the ids of all routes of the feed, by bytes, from 0.
 #[derive(Clone, Copy, Debug, PartialEq, Eq, PartialOrd, Ord)]
 pub struct RouteNo(pub usize);
 
-/// The number of a service: the place of its id among the ids of all services of the feed, by bytes, from 0.
+/// The number of a service: the rank of its id among the ids of all services of the feed, by bytes, from 0.
 #[derive(Clone, Copy, Debug, PartialEq, Eq, PartialOrd, Ord)]
 pub struct ServiceNo(pub usize);
 
-/// The number of a trip: the place of its id among the ids of all trips of the feed, by bytes, from 0.
+/// The number of a trip: the rank of its id among the ids of all trips of the feed, by bytes, from 0.
 #[derive(Clone, Copy, Debug, PartialEq, Eq, PartialOrd, Ord)]
 pub struct TripNo(pub usize);
 
-/// The number of a headsign of a stop time: its place in the feed's list of headsigns, from 0.
+/// The number of a headsign of a stop time: its index in the feed's list of headsigns, from 0.
 #[derive(Clone, Copy, Debug, PartialEq, Eq, PartialOrd, Ord)]
 pub struct HeadsignNo(pub u32);

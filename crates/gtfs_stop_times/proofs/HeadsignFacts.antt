@@ -12,7 +12,7 @@ use Rattle.gtfs_columns.proofs.SiteFacts.{text_is}
 use Rattle.gtfs_rows.proofs.SameElements.{pairs-map}
 use Rattle.gtfs_stop_times.specs.Headsigns.{AddsOnly, AreDistinct, ArePlain, KeepsHeadsigns}
 
--- the text of a place that was found
+-- the text at an index that was found
 pub found-at : (t : List ℕ) (ts : List (List ℕ)) (k : ℕ) → position (bytes_eq t) ts ≡ Some k → slice_get ts k ≡ Some t
 found-at t ts k e =
     let at = position-Some (bytes_eq t) ts k [] e in
@@ -27,7 +27,7 @@ pub last-at : (ts : List (List ℕ)) (t : List ℕ) → slice_get (ts ++ t ∷ [
 last-at [] t = refl
 last-at (s ∷ ts) t = last-at ts t
 
--- the new place alone is new
+-- the new index alone is new
 pub last-added : (ts : List (List ℕ)) (t : List ℕ) → AddsOnly ts (ts ++ t ∷ []) (Some (length ts))
 last-added ts t k low within = let same : length ts ≡ k = omega (arith, length_push ts t) in ap Some same
 

@@ -111,7 +111,7 @@ module _ (ss : List StopTime) (starts : List ℕ) (m : ℕ) (up : Rising 0 start
       parts-more 0 (starts ++ replicate m (length ss)) ss s (rising-filled m starts (length ss) up)
       ∙ ap (λ ps. add_to_last ps s) (stretches-filled ∙ ap (λ k. by_trip k ss) last) ∙ sym (by_trip-push ss s)
 
--- ---- by places
+-- ---- by index
 
 pub length-by_trip : (n : ℕ) (ss : List StopTime) → length (by_trip n ss) ≡ n
 unfolding by_trip

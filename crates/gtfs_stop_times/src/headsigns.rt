@@ -20,7 +20,7 @@ use std::marker::Model;
 pub(crate) struct Headsigns {
     alloc: Global,
     texts: IndexSet<String, RandomState>,
-    // The place of the last one that was asked for: the stop times of a trip mostly have one headsign.
+    // The index of the last one that was asked for: the stop times of a trip mostly have one headsign.
     last: usize,
 }
 
@@ -56,8 +56,8 @@ impl Headsigns {
         if text.is_empty() {
             return Ok(OptionalHeadsign::new(None));
         }
-        let place = self.place(text)?;
-        headsign_at(place)
+        let index = self.index(text)?;
+        headsign_at(index)
     }
 
     // The texts in their order.
@@ -77,56 +77,56 @@ impl Headsigns {
         Ok(List::new(list))
     }
 
-    // The place of a headsign, which is added where it is new.
-    fn place(&mut self, text: &str) -> Result<usize, OutOfMemory>
-        ensures place { IfOk result (λ k. slice_get self.new k ≡ Some (plain text.now)) }
+    // The index of a headsign, which is added where it is new.
+    fn index(&mut self, text: &str) -> Result<usize, OutOfMemory>
+        ensures index { IfOk result (λ k. slice_get self.new k ≡ Some (plain text.now)) }
         ensures added { IfOk result (λ k. AddsOnly self.old self.new (Some k)) }
         ensures kept { KeepsHeadsigns self.old self.new }
     {
         if self.is_at(self.last, text) {
             return Ok(self.last);
         }
-        let place = if has_control(text) {
+        let index = if has_control(text) {
             let text = plain(self.alloc, text)?;
-            self.place_of_plain(text.as_str())?
+            self.index_of_plain(text.as_str())?
         } else {
-            self.place_of_plain(text)?
+            self.index_of_plain(text)?
         };
-        self.last = place;
-        Ok(place)
+        self.last = index;
+        Ok(index)
     }
 
-    // The place of a text without control characters, which is added where it is new.
-    fn place_of_plain(&mut self, text: &str) -> Result<usize, OutOfMemory>
+    // The index of a text without control characters, which is added where it is new.
+    fn index_of_plain(&mut self, text: &str) -> Result<usize, OutOfMemory>
         requires { plain text.now ≡ text.now }
-        ensures place { IfOk result (λ k. slice_get self.new k ≡ Some text.now) }
+        ensures index { IfOk result (λ k. slice_get self.new k ≡ Some text.now) }
         ensures added { IfOk result (λ k. AddsOnly self.old self.new (Some k)) }
         ensures kept { KeepsHeadsigns self.old self.new }
     {
-        if let Some(place) = self.texts.get_index_of(text) {
-            return Ok(place);
+        if let Some(index) = self.texts.get_index_of(text) {
+            return Ok(index);
         }
-        let place = self.texts.len();
+        let index = self.texts.len();
         self.texts.insert(String::from_str(self.alloc, text)?)?;
-        Ok(place)
+        Ok(index)
     }
 
-    // Whether the text at a place is this one.
-    fn is_at(&self, place: usize, text: &str) -> bool
-        ensures { result ≡ true → slice_get self.now place ≡ Some text.now }
+    // Whether the text at an index is this one.
+    fn is_at(&self, index: usize, text: &str) -> bool
+        ensures { result ≡ true → slice_get self.now index ≡ Some text.now }
     {
-        match self.texts.get_index(place) {
+        match self.texts.get_index(index) {
             Some(found) => found.as_str() == text,
             None => false,
         }
     }
 }
 
-// The number of a place. No number is left for more than 4,294,967,295 headsigns.
-fn headsign_at(place: usize) -> Result<OptionalHeadsign, OutOfMemory>
-    ensures { IfOk result (λ n. n ≡ Some place) }
+// The number of an index. No number is left for more than 4,294,967,295 headsigns.
+fn headsign_at(index: usize) -> Result<OptionalHeadsign, OutOfMemory>
+    ensures { IfOk result (λ n. n ≡ Some index) }
 {
-    match u32::try_from(place) {
+    match u32::try_from(index) {
         Ok(number) if number < u32::MAX => Ok(OptionalHeadsign::new(Some(HeadsignNo(number)))),
         _ => Err(OutOfMemory),
     }

@@ -1,7 +1,7 @@
 //! The stop times of a GTFS Schedule dataset that passed the validator, as the lists of a feed.
 //!
 //! [`StopTimes::new`] makes three of the lists of [`gtfs_rows::Parts`]: the rows of all trips, where those of each trip
-//! begin, and the headsigns that rows name by their places. What a row says was read when its dataset was checked, and is
+//! begin, and the headsigns that rows name by their indices. What a row says was read when its dataset was checked, and is
 //! not read again, but for the headsign.
 //!
 //! ```text

@@ -1,4 +1,4 @@
-//! Texts as the content of a dataset has them: a space in the place of each control character.
+//! Texts as the content of a dataset has them: a space in place of each control character.
 
 ghost use Rattle.std.specs.Prelude.{◌≡◌, ◌++◌, ◌≤◌, ◌+◌, if◌then◌else◌, length, string_bytes, string_len, IfOk};
 ghost use Rattle.std.specs.String.{string_capacity};
@@ -8,7 +8,7 @@ ghost use Rattle.gtfs_table.specs.Blanks.{is_control};
 use gtfs_field::OutOfMemory;
 use std::alloc::Global;
 
-// The text with a space in the place of each control character.
+// The text with a space in place of each control character.
 pub(crate) fn plain(alloc: Global, text: &str) -> Result<String, OutOfMemory>
     ensures { IfOk result (λ shown. string_bytes shown ≡ plain text.now) }
 {
@@ -17,7 +17,7 @@ pub(crate) fn plain(alloc: Global, text: &str) -> Result<String, OutOfMemory>
     Ok(shown)
 }
 
-// Appends a text with a space in the place of each control character.
+// Appends a text with a space in place of each control character.
 fn push_plain(shown: &mut String, text: &str)
     requires { string_len shown.old + length text.now ≤ string_capacity shown.old }
     ensures { string_bytes shown.new ≡ string_bytes shown.old ++ plain text.now }

@@ -51,8 +51,8 @@ module _ (trips : List (List ℕ)) where
       let before = named id n has in
       (omega (arith, before.0, length-append names (name ∷ [])), name_first names name n before.0 ∙ before.1)
 
-  abbrev place : List ℕ → Option ℕ
-  place id = position (λ k. bytes_eq k id) trips
+  abbrev rank : List ℕ → Option ℕ
+  rank id = position (λ k. bytes_eq k id) trips
 
   or_none : (o : Option ℕ) → option_or o None ≡ o
   or_none None = refl
@@ -61,23 +61,23 @@ module _ (trips : List (List ℕ)) where
   -- the trips of trips.txt have their numbers
   pub first_named : (numbers : BTreeMap (Bor (List ℕ)) ℕ) → ((id : List ℕ) → other_number numbers id ≡ None) → AreNamed trips numbers []
   first_named numbers none id n has =
-      let at = position-Some (λ k. bytes_eq k id) trips n [] (sym (ap (option_or (place id)) (none id) ∙ or_none (place id)) ∙ has) in
+      let at = position-Some (λ k. bytes_eq k id) trips n [] (sym (ap (option_or (rank id)) (none id) ∙ or_none (rank id)) ∙ has) in
       (omega (arith, at.0), ap (λ ts. get_or ts n []) (append-nil trips) ∙ text_is (get_or trips n []) id at.1)
 
   module _ (old new : BTreeMap (Bor (List ℕ)) ℕ) (names : List (Bor (List ℕ))) (name : Bor (List ℕ)) (next : ℕ) (is_next : next ≡ length trips + length names)
-      (no_place : place name.now ≡ None) (none : other_number old name.now ≡ None)
+      (no_rank : rank name.now ≡ None) (none : other_number old name.now ≡ None)
       (wrote : (id : List ℕ) → other_number new id ≡ update bytes_eq (other_number old) name.now (Some next) id) where
-    written : (id : List ℕ) (b : Bool) → bytes_eq name.now id ≡ b → number_in trips new id ≡ option_or (place id) (cond b (Some next) (other_number old id))
-    written id b is = ap (option_or (place id)) (wrote id ∙ ap (λ t. cond t (Some next) (other_number old id)) is)
+    written : (id : List ℕ) (b : Bool) → bytes_eq name.now id ≡ b → number_in trips new id ≡ option_or (rank id) (cond b (Some next) (other_number old id))
+    written id b is = ap (option_or (rank id)) (wrote id ∙ ap (λ t. cond t (Some next) (other_number old id)) is)
 
     new_number : (id : List ℕ) → bytes_eq name.now id ≡ true → number_in trips new id ≡ Some next
-    new_number id same = written id true same ∙ ap (λ o. option_or o (Some next)) (ap place (sym (text_is name.now id same)) ∙ no_place)
+    new_number id same = written id true same ∙ ap (λ o. option_or o (Some next)) (ap rank (sym (text_is name.now id same)) ∙ no_rank)
 
     pub number_stays : Keeps trips old new
     number_stays id n has = elim (cases_Bool (bytes_eq name.now id)) [
       | inl same ↦
           let is : name.now ≡ id = text_is name.now id same in
-          let nowhere : number_in trips old id ≡ None = ap (number_in trips old) (sym is) ∙ (λ i. option_or (no_place i) (none i)) in
+          let nowhere : number_in trips old id ≡ None = ap (number_in trips old) (sym is) ∙ (λ i. option_or (no_rank i) (none i)) in
           let clash : None ≡ Some n = sym nowhere ∙ has in cc
       | inr other ↦ written id false other ∙ has
     ]

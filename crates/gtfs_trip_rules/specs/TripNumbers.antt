@@ -13,7 +13,7 @@ use Rattle.gtfs_trip_rules.specs.TripStopTimes.{TripStopTime, trip_stop_time}
 abbrev pub other_number : BTreeMap (Bor (List ℕ)) ℕ → List ℕ → Option ℕ
 other_number numbers id = get_by (λ key. slice_cmp nat_cmp id key.now) numbers
 
--- the number of a trip: its place in trips.txt by bytes, and of other trips the number that they were given
+-- the number of a trip: its rank in trips.txt by bytes, and of other trips the number that they were given
 abbrev pub number_in : List (List ℕ) → BTreeMap (Bor (List ℕ)) ℕ → List ℕ → Option ℕ
 number_in trips numbers id = option_or (position (λ k. bytes_eq k id) trips) (other_number numbers id)
 

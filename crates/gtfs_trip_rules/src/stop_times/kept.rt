@@ -33,7 +33,7 @@ pub(crate) fn kept_times(arrival: &Reading<u32>, departure: &Reading<u32>) -> Ke
     }
 }
 
-// One time in the place of both.
+// One time in place of both.
 #[inline(always)]
 fn alone(times: Times, time: u32) -> KeptTimes
     ensures { result ≡ record { times = times; arrival = time; departure = time } }
@@ -45,12 +45,12 @@ fn alone(times: Times, time: u32) -> KeptTimes
     }
 }
 
-// Which times a row has that has a place in its trip or none.
+// Which times a row has that has a position in its trip or none.
 #[inline(always)]
-pub(crate) fn placed(kept: Times, has_place: bool) -> Times
-    ensures { result ≡ (if has_place then kept else times.Unplaced) }
+pub(crate) fn placed(kept: Times, has_position: bool) -> Times
+    ensures { result ≡ (if has_position then kept else times.Unplaced) }
 {
-    if has_place { kept } else { Times::Unplaced }
+    if has_position { kept } else { Times::Unplaced }
 }
 
 // How passengers board or get off: as scheduled where nothing is said.

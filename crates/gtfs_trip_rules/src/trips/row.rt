@@ -32,18 +32,18 @@ pub enum Timepoint {
 #[derive(Clone, Copy)]
 pub(crate) enum Times {
     Both,
-    // Each of these has the one time in the place of the other too.
+    // Each of these has the one time in place of the other too.
     Arrival,
     Departure,
     // Both are empty.
     Neither,
     // One of them is not as it has to be.
     Unclear,
-    // The row has no sequence, and so no place in its trip. Its times are not asked for.
+    // The row has no sequence, and so no position in its trip. Its times are not asked for.
     Unplaced,
 }
 
-/// A stop time: a row of stop_times.txt as it was read, with numbers in the place of ids.
+/// A stop time: a row of stop_times.txt as it was read, with numbers in place of ids.
 ///
 /// It has 40 bytes. The texts of the row are read of the tables by its number.
 #[derive(Clone, Copy)]
@@ -147,7 +147,7 @@ impl StopTime {
         }
     }
 
-    // Whether it has a sequence, and so a place in its trip.
+    // Whether it has a sequence, and so a position in its trip.
     pub(crate) fn is_placed(&self) -> bool
         ensures { result ≡ is_placed self.now.times }
     {

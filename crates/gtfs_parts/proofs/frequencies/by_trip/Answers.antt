@@ -18,7 +18,7 @@ use Rattle.gtfs_parts.proofs.ByIds.{as_many}
 use Rattle.gtfs_parts.proofs.Cuts.{first_push, no_parts, rising_none, rising_push}
 use Rattle.gtfs_parts.proofs.Fields.{listed_all, listed_next, numbered_row}
 use Rattle.gtfs_parts.proofs.IdTexts.{content_list, text_at_is}
-use Rattle.gtfs_parts.proofs.frequencies.frequencies.Goals as goal
+use Rattle.gtfs_parts.proofs.frequencies.by_trip.Goals as goal
 
 pub loop-number-init : goal.loop-number-init
 loop-number-init c =
@@ -41,7 +41,7 @@ loop-number-preserved c =
     let text = c.value.ensures ∙ value_is (records_in d file.Trips) c.row.result _ (codes "trip_id") c.column-trip_id.result c.record-record.ensures c.column-trip_id.ensures in
     let trip = text ∙ sym (text_at_is d c.requires.passes file.Trips c.row.result row "trip_id" (required "trip_id" id) refl refl) in
     let said : map frequency_of c.in_ok-periods.periods.items ≡ (trip_in d (get_or ns k 0)).frequencies =
-    subst (λ e. map frequency_of c.in_ok-periods.periods.items ≡ by_key nat_cmp (λ r. r.start_time) (map (frequency_in e) (rows_of e file.Frequencies c.value.result.now))) c.in_ok-file.ensures c.in_ok-periods.ensures
+    subst (λ e. map frequency_of c.in_ok-periods.periods.items ≡ by_key nat_cmp (λ r. r.start_time) (map (frequency_in e) (rows_of e file.Frequencies c.value.result.now))) c.requires.found c.in_ok-periods.ensures
     ∙ ap (λ t. by_key nat_cmp (λ r. r.start_time) (map (frequency_in d) (rows_of d file.Frequencies t))) trip
     ∙ ap (λ n. (trip_in d n).frequencies) c.row.ensures in
     let starts = c.loop-number.starts.items in
@@ -65,7 +65,7 @@ returns-clause-rows c =
     let d = c.args.tables.now in
     let ns = rows_by_number c.args.trips.now in
     let whole : length ns ≤ c.loop-number.number = omega (arith, c.loop-number-test.false, c.loop-number.invariant.end) in
-    (λ i. map (map frequency_of) (parts (c.new-3.ensures i) (c.new-2.ensures i)))
+    (λ i. map (map frequency_of) (parts (c.new-2.ensures i) (c.new.ensures i)))
     ∙ listed_all (map frequency_of) (λ n. (trip_in d n).frequencies) ns c.loop-number.number (parts c.loop-number.starts.items c.loop-number.frequencies.items) whole c.loop-number.invariant.listed
     ∙ ap (λ i. map (λ n. (trip_in d n).frequencies) (rows_by_number i)) c.requires.trips
     ∙ sym (ap (map (λ t. t.frequencies)) (content_list d c.requires.passes file.Trips "trip_id" (required "trip_id" id) refl refl (λ r. r.trip_id) (trip_in d) (λ n. refl))
@@ -79,8 +79,8 @@ returns-clause-cut c =
     let fs = c.loop-number.frequencies.items in
     let whole : length ns ≤ c.loop-number.number = omega (arith, c.loop-number-test.false, c.loop-number.invariant.end) in
     let listed = listed_all (map frequency_of) (λ n. (trip_in d n).frequencies) ns c.loop-number.number (parts starts fs) whole c.loop-number.invariant.listed in (
-      ap length c.new-3.ensures ∙ sym (length-parts starts fs) ∙ sym (length-map (parts starts fs) (map frequency_of)) ∙ ap length listed
+      ap length c.new-2.ensures ∙ sym (length-parts starts fs) ∙ sym (length-map (parts starts fs) (map frequency_of)) ∙ ap length listed
           ∙ length-map ns (λ n. (trip_in d n).frequencies) ∙ sym (as_many c.args.trips.now),
-      subst (λ (p : List ℕ × List FrequencyRow). Rising 0 p.0 (length p.1)) (λ i. (sym c.new-3.ensures i, sym c.new-2.ensures i)) c.loop-number.invariant.rising,
-      (λ i. get_or (c.new-3.ensures i) 0 (length (c.new-2.ensures i))) ∙ c.loop-number.invariant.first,
+      subst (λ (p : List ℕ × List FrequencyRow). Rising 0 p.0 (length p.1)) (λ i. (sym c.new-2.ensures i, sym c.new.ensures i)) c.loop-number.invariant.rising,
+      (λ i. get_or (c.new-2.ensures i) 0 (length (c.new.ensures i))) ∙ c.loop-number.invariant.first,
     )

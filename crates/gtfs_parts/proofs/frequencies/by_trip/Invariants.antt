@@ -4,7 +4,7 @@ use Rattle.gtfs_columns.specs.steps.Ids.{rows_by_number}
 use Rattle.gtfs_rows.specs.Reading.{trip_in}
 use Rattle.gtfs_rows.specs.Views.{frequency_of}
 use Rattle.gtfs_table.specs.Parts.{parts}
-use Rattle.gtfs_parts.proofs.frequencies.frequencies.Given as goal
+use Rattle.gtfs_parts.proofs.frequencies.by_trip.Given as goal
 
 -- the trips so far
 abbrev pub invariant-loop-number : goal.invariant-loop-number

@@ -4,11 +4,11 @@ use Rattle.std.proofs.lemmas.List.{length-map}
 use Rattle.gtfs_field.proofs.ListFacts.{position-map}
 use Rattle.gtfs_stop_times.specs.Headsigns.{AddsOnly, ArePlain, KeepsHeadsigns}
 use Rattle.gtfs_stop_times.proofs.HeadsignFacts.{found-at, kept-append, last-added, last-at, plain-more, texts-more}
-use Rattle.gtfs_stop_times.proofs.headsigns.Headsigns.place_of_plain.Goals as goal
+use Rattle.gtfs_stop_times.proofs.headsigns.Headsigns.index_of_plain.Goals as goal
 
-pub returns-in-Some-clause-place : goal.returns-in-Some-clause-place
-returns-in-Some-clause-place c =
-    rw (← c.self.view_is) (found-at c.args.text.now (map string_bytes c.self.inside.texts.keys) c.in-Some.place
+pub returns-in-Some-clause-index : goal.returns-in-Some-clause-index
+returns-in-Some-clause-index c =
+    rw (← c.self.view_is) (found-at c.args.text.now (map string_bytes c.self.inside.texts.keys) c.in-Some.index
     (position-map (bytes_eq c.args.text.now) string_bytes c.self.inside.texts.keys ∙ sym c.in-Some.ensures.index))
 
 pub invariant_of-self-2 : goal.invariant_of-self-2
@@ -17,13 +17,13 @@ invariant_of-self-2 c =
     let more = texts-more string_bytes c.args.text.now c.self.inside.texts.keys c.insert.new.self.keys c.in_ok-from_str.field-0 c.in_ok-from_str.ensures.ok c.in_default.ensures.found c.in_ok-insert.ensures.keys in
     subst ArePlain (sym more) (plain-more ts c.args.text.now c.self.invariant c.requires)
 
-pub returns-clause-place : goal.returns-clause-place
-returns-clause-place c =
+pub returns-clause-index : goal.returns-clause-index
+returns-clause-index c =
     let keys = c.self.inside.texts.keys in
     let ts = map string_bytes keys in
     let more = texts-more string_bytes c.args.text.now keys c.insert.new.self.keys c.in_ok-from_str.field-0 c.in_ok-from_str.ensures.ok c.in_default.ensures.found c.in_ok-insert.ensures.keys in
-    ap (λ us. slice_get us c.len-place.result) more
-    ∙ ap (slice_get (ts ++ c.args.text.now ∷ [])) (c.len-place.ensures.len ∙ sym (length-map keys string_bytes))
+    ap (λ us. slice_get us c.len-index.result) more
+    ∙ ap (slice_get (ts ++ c.args.text.now ∷ [])) (c.len-index.ensures.len ∙ sym (length-map keys string_bytes))
     ∙ last-at ts c.args.text.now
 
 pub returns-clause-kept : goal.returns-clause-kept
@@ -37,6 +37,6 @@ returns-clause-added c =
     let keys = c.self.inside.texts.keys in
     let ts = map string_bytes keys in
     let more = texts-more string_bytes c.args.text.now keys c.insert.new.self.keys c.in_ok-from_str.field-0 c.in_ok-from_str.ensures.ok c.in_default.ensures.found c.in_ok-insert.ensures.keys in
-    let at : length ts ≡ c.len-place.result = length-map keys string_bytes ∙ sym c.len-place.ensures.len in
-    subst (λ old. AddsOnly old (map string_bytes c.insert.new.self.keys) (Some c.len-place.result)) c.self.view_is
-    (subst (λ new. AddsOnly ts new (Some c.len-place.result)) (sym more) (subst (λ k. AddsOnly ts (ts ++ c.args.text.now ∷ []) (Some k)) at (last-added ts c.args.text.now)))
+    let at : length ts ≡ c.len-index.result = length-map keys string_bytes ∙ sym c.len-index.ensures.len in
+    subst (λ old. AddsOnly old (map string_bytes c.insert.new.self.keys) (Some c.len-index.result)) c.self.view_is
+    (subst (λ new. AddsOnly ts new (Some c.len-index.result)) (sym more) (subst (λ k. AddsOnly ts (ts ++ c.args.text.now ∷ []) (Some k)) at (last-added ts c.args.text.now)))
