@@ -8,7 +8,6 @@ pub mod Reported
 mod Parts
 mod Begun
 mod ControlSplit
-mod Asked
 mod Printed
 mod Opening
 mod Ended
@@ -21,6 +20,7 @@ mod ReadBack
 mod Unmerged
 mod MergeEnded
 mod Unchecked
+mod CommandEnds
 mod Outcomes
 mod Apart
 mod PathCuts
