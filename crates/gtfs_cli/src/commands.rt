@@ -25,6 +25,7 @@ mod moments;
 mod names;
 mod paths;
 mod refusal;
+mod send;
 mod timetable;
 mod timetable_values;
 mod values;
