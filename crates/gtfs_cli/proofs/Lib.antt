@@ -7,7 +7,6 @@ pub mod Reported
 mod Parts
 mod Begun
 mod ControlSplit
-mod Asked
 pub mod Printed
 mod Opening
 mod Ended
@@ -20,6 +19,7 @@ mod ReadBack
 mod Unmerged
 mod MergeEnded
 mod Unchecked
+mod CommandEnds
 mod Outcomes
 mod Apart
 mod PathCuts

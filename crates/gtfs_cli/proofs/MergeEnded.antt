@@ -1,19 +1,13 @@
 -- How a run of `gtfs merge` ends.
-use Rattle.std.proofs.Common.{◌≡◌, ◌∙◌, ap, refl, sym, subst, ℕ, ◌⊎◌, inl, inr, Bool, false, List, [], Option, Some, None, Result, Ok, Err, codes, arith}
-use Rattle.std.specs.Prelude.{slice_index, IfErr, IfOk, OnOk}
-use Rattle.std.specs.Borrow.{Bor}
+use Rattle.std.proofs.Common.{◌≡◌, ◌∙◌, sym, ℕ, ◌⊎◌, inl, inr, Bool, List, [], Option, Result, Ok, Err, arith}
+use Rattle.std.specs.Prelude.{IfErr, IfOk, OnOk}
 use Rattle.std.specs.Io.KnownBytes.{Keeps}
-use Rattle.clap.specs.Words.{Row, Text, subcommand_of}
+use Rattle.clap.specs.Words.{Text}
 use Rattle.gtfs_table.specs.Device.{Rises}
 use Rattle.gtfs_table.specs.Folder.{Store}
-use Rattle.gtfs_words.specs.Asked.{ForMerge}
-use Rattle.gtfs_words.specs.Words.{gtfs_app, merge_texts_of, AsksMergeOf, IsCommandOf, MergeTexts}
-use Rattle.gtfs_words.specs.declared.command.Command.TheVariants.{Check, Merge, Timetable}
-use Rattle.gtfs_words.specs.declared.command.MergeWords.{MergeWords}
-use Rattle.gtfs_words.specs.declared.command.TimetableWords.{TimetableWords}
-use Rattle.gtfs_words.proofs.OneAsked.{same_merge}
+use Rattle.gtfs_words.specs.Words.{merge_texts_of, MergeTexts}
 use Rattle.gtfs_cli.specs.MergeRun.{IsMerged, IsMergeRun, IsUnmerged}
-use Rattle.gtfs_cli.specs.Merges.{EndsMerge, IsMergeCause, OfEither, PrintsMerge}
+use Rattle.gtfs_cli.specs.Merges.{IsMergeCause, OfEither}
 use Rattle.gtfs_cli.specs.Messages.{message}
 use Rattle.gtfs_cli.specs.Refusals.{status_in, status_of}
 use Rattle.gtfs_cli.specs.Running.{AsksMerge, Failures, HoldsKeptFile, IsBadUsage, IsDeviceFault, KeepsFromMerging, LacksFeed}
@@ -21,43 +15,6 @@ use Rattle.gtfs_cli.specs.Sending.{Output, Sends}
 use Rattle.gtfs_cli.specs.declared.commands.refusal.Refusal.{Refusal}
 use Rattle.gtfs_cli.specs.declared.commands.refusal.Refusal.TheVariants.{Words, BadValue, NotThere, Unreadable, OverLimit, HasErrors, NoZone, UnknownStop, UnknownRoute, UntilBeforeFrom, ZonesDiffer, MergeTooLarge, Unwritable, OutputFailed, OutOfMemory}
 use Rattle.gtfs_cli.proofs.Ended.{at_zero, not_well}
-
--- ---- words that ask for another command ask for no merge
-
-merge_no_check : codes "merge" ≡ codes "check" → ⊥
-merge_no_check e = let first : 109 ≡ 99 = ap (λ (t : List ℕ). slice_index t 0) e in omega (arith, first)
-
-merge_no_timetable : codes "merge" ≡ codes "timetable" → ⊥
-merge_no_timetable e = let first : 109 ≡ 116 = ap (λ (t : List ℕ). slice_index t 0) e in omega (arith, first)
-
-pub no-merge-of-check : (found : Option (Text × List Row)) (dir : Bor Text) (asked : MergeTexts) → IsCommandOf found (Check dir) → ForMerge found asked → ⊥
-no-merge-of-check None dir asked is asks = is
-no-merge-of-check (Some found) dir asked is asks = merge_no_check (sym asks.0 ∙ is.0)
-
-pub no-merge-of-timetable : (found : Option (Text × List Row)) (words : TimetableWords) (asked : MergeTexts) → IsCommandOf found (Timetable words) → ForMerge found asked → ⊥
-no-merge-of-timetable None words asked is asks = is
-no-merge-of-timetable (Some found) words asked is asks = merge_no_timetable (sym asks.0 ∙ is.0)
-
--- ---- what is so of the merge is so of what the words ask for
-
-pub for-merge : (found : Option (Text × List Row)) (words : MergeWords) → IsCommandOf found (Merge words) → ForMerge found (merge_texts_of words)
-for-merge None words is = is
-for-merge (Some found) words is = is
-
-module _ (texts : List Text) (limit : ℕ) (held : Option Store) (words : MergeWords) (is : IsCommandOf (subcommand_of gtfs_app texts) (Merge words)) where
-  pub asked-merged : (now : Option Store) (old new : Option (List ℕ)) → PrintsMerge limit held (merge_texts_of words) now old new → (asked : MergeTexts) → AsksMergeOf texts asked
-      → IsMerged limit held asked now old new false
-  asked-merged now old new prints asked asks =
-      (subst (λ (t : MergeTexts). PrintsMerge limit held t now old new) (same_merge _ (merge_texts_of words) asked (for-merge _ words is) asks.asks) prints, refl)
-
-  pub asked-unmerged : (before after : Failures) (now : Option Store) (old new : Option (List ℕ)) (r : Refusal) → IsMergeCause limit held (merge_texts_of words) before after r
-      → EndsMerge limit held (merge_texts_of words) now old new r → (asked : MergeTexts) → AsksMergeOf texts asked → IsUnmerged limit held asked before after now old new r
-  asked-unmerged before after now old new r cause ends asked asks =
-      let is_same = same_merge _ (merge_texts_of words) asked (for-merge _ words is) asks.asks in
-      record {
-        cause = subst (λ (t : MergeTexts). IsMergeCause limit held t before after r) is_same cause;
-        ends = subst (λ (t : MergeTexts). EndsMerge limit held t now old new r) is_same ends;
-      }
 
 -- ---- the status and the error output
 

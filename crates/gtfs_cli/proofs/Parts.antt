@@ -16,12 +16,9 @@ none-sent a text = record { sent = []; left = text; whole = refl; out = Appends-
 pub some-sent : (a b : Option (List ℕ)) (text : List ℕ) (n : ℕ) → Appends a b (take n text) → SendsBeginning a b text
 some-sent a b text n out = record { sent = take n text; left = drop n text; whole = sym (take-append-drop n text); out = out }
 
--- the same of a text that was made in place of what a line held
-pub line-begun : (a b : Option (List ℕ)) (text bytes line cleared : List ℕ) (n : ℕ) → bytes ≡ line → line ≡ cleared ++ text → cleared ≡ [] → Appends a b (take n bytes)
-    → SendsBeginning a b text
-line-begun a b text bytes line cleared n are made empty out =
-    let same : bytes ≡ text = are ∙ made ∙ ap (λ (t : List ℕ). t ++ text) empty in
-    some-sent a b text n (subst (λ (t : List ℕ). Appends a b (take n t)) same out)
+-- the bytes of a line in which a text was made in place of what it held are that text
+pub line-made : (text bytes line cleared : List ℕ) → bytes ≡ line → line ≡ cleared ++ text → cleared ≡ [] → bytes ≡ text
+line-made text bytes line cleared are made empty = are ∙ made ∙ ap (λ (t : List ℕ). t ++ text) empty
 
 -- ---- parts
 

@@ -1,5 +1,5 @@
 -- How a run ends whose words `clap` does not take.
-use Rattle.std.proofs.Common.{◌≡◌, ◌∙◌, ℕ, sym, inl, Bool, List, Option, Result, Ok, Err, arith}
+use Rattle.std.proofs.Common.{◌≡◌, ◌∙◌, ℕ, refl, sym, inl, Bool, List, Option, Result, Ok, Err, arith}
 use Rattle.std.specs.Prelude.{IfOk, IfErr, IsErrAnd, OnOk}
 use Rattle.std.specs.Io.KnownBytes.{Keeps}
 use Rattle.clap.specs.Words.{Text}
@@ -8,7 +8,8 @@ use Rattle.gtfs_cli.specs.BoardRun.{IsListed, IsUnlisted}
 use Rattle.gtfs_cli.specs.TimetableRun.{IsTabled, IsUntabled}
 use Rattle.gtfs_cli.specs.CheckRun.{IsUnchecked}
 use Rattle.gtfs_cli.specs.Checking.{IsReportOf}
-use Rattle.gtfs_words.specs.Words.{AreRefused, BoardTexts, TimetableTexts}
+use Rattle.gtfs_words.specs.Words.{AreRefused, BoardTexts, MergeTexts, TimetableTexts}
+use Rattle.gtfs_cli.specs.MergeRun.{IsMerged, IsUnmerged}
 use Rattle.gtfs_cli.specs.Messages.{message}
 use Rattle.gtfs_cli.specs.Refusals.{status_in, IsCauseInWords}
 use Rattle.gtfs_cli.specs.Running.{Failures}
@@ -67,3 +68,10 @@ module _ (limit : ℕ) (held : Option Store) (before after : Failures) (old new 
 
   pub unread-untabled : (asked : TimetableTexts) → IfErr r (IsUntabled limit held asked before after old new)
   unread-untabled asked = told-up r OutOfMemory (IsUntabled limit held asked before after old new) is (record { cause = tt; ends = inl keeps })
+
+  pub unread-merged : (asked : MergeTexts) → IfOk r (IsMerged limit held asked held old new)
+  unread-merged asked = none_read (IsMerged limit held asked held old new)
+
+  pub unread-unmerged : (asked : MergeTexts) → IfErr r (IsUnmerged limit held asked before after held old new)
+  unread-unmerged asked =
+      told-up r OutOfMemory (IsUnmerged limit held asked before after held old new) is (record { cause = tt; ends = inl (refl, keeps) })

@@ -1,5 +1,5 @@
 -- What the error output is told of each refusal.
-use Rattle.std.specs.Prelude.{ℕ, List, [], ◌++◌, codes, string_bytes}
+use Rattle.std.specs.Prelude.{◌≡◌, ℕ, List, [], ◌++◌, codes, string_bytes, ⊤}
 use Rattle.gtfs_columns.specs.Values.{plain}
 use Rattle.gtfs_cli.specs.declared.commands.refusal.Refusal.{Refusal}
 use Rattle.gtfs_cli.specs.declared.commands.refusal.Refusal.TheVariants.{Words, BadValue, NotThere, Unreadable, OverLimit, HasErrors, NoZone, UnknownStop, UnknownRoute, UntilBeforeFrom, ZonesDiffer, MergeTooLarge, Unwritable, OutputFailed, OutOfMemory}
@@ -25,3 +25,8 @@ message (Unwritable path) = line_of path.now (codes " cannot be written")
 message UntilBeforeFrom = line_of (codes "until lies before from") []
 message OutputFailed = line_of (codes "output failed") []
 message OutOfMemory = line_of (codes "out of memory") []
+
+-- what is told of the refusal is the line of these two texts, but for words that are refused
+abbrev pub HasLine : Refusal → List ℕ → List ℕ → Type 0
+HasLine (Words text) first second = ⊤
+HasLine refusal first second = line_of first second ≡ message refusal

@@ -2,16 +2,16 @@
 ghost use Rattle.std.specs.Prelude.{◌≡◌, ◌≤◌, List, ℕ, false, map, IfOk, IfErr, IsErrAnd, OnOk};
 ghost use Rattle.std.specs.Io.KnownBytes.{Keeps};
 ghost use Rattle.clap.specs.Words.{Text, takes};
-ghost use Rattle.gtfs_cli.specs.Checking.{IsReportOf};
-ghost use Rattle.gtfs_cli.specs.BoardRun.{IsBoardRun, IsListed, IsUnlisted};
 ghost use Rattle.gtfs_words.specs.Words.{gtfs_app, no_memory, AreRefused, AsksBoardOf, AsksCheckOf, AsksTimetableOf, BoardTexts, IsFaultOf, TimetableTexts, AsksMergeOf, MergeTexts};
-ghost use Rattle.gtfs_cli.specs.MergeRun.{AsksNoMerge, IsMerged, IsMergeRun, IsUnmerged};
-ghost use Rattle.gtfs_cli.specs.TimetableRun.{IsTabled, IsTimetableRun, IsUntabled};
-ghost use Rattle.gtfs_cli.specs.CheckRun.{IsCheckRun, IsUnchecked};
-ghost use Rattle.gtfs_cli.specs.Running.{FailedNowhere, IsBadUsage, IsDeviceFault};
-ghost use Rattle.gtfs_cli.specs.Refusals.{status_in, IsCauseInWords, IsCauseOf, UnlessGrave};
+ghost use Rattle.gtfs_cli.specs.BoardRun.{IsBoardRun};
+ghost use Rattle.gtfs_cli.specs.CheckRun.{IsCheckRun};
+ghost use Rattle.gtfs_cli.specs.CommandEnd.{answer_of, EndsCommand};
+ghost use Rattle.gtfs_cli.specs.MergeRun.{AsksNoMerge, IsMergeRun};
 ghost use Rattle.gtfs_cli.specs.Messages.{message};
+ghost use Rattle.gtfs_cli.specs.Refusals.{status_in, IsCauseInWords, UnlessGrave};
+ghost use Rattle.gtfs_cli.specs.Running.{FailedNowhere, IsBadUsage, IsDeviceFault};
 ghost use Rattle.gtfs_cli.specs.Sending.{Sends};
+ghost use Rattle.gtfs_cli.specs.TimetableRun.{IsTimetableRun};
 ghost use Rattle.gtfs_cli.specs.WordsRun.{IsHelped, IsUntakenRun};
 ghost use Rattle.gtfs_cli.specs.declared.commands.refusal.Refusal.TheVariants.{OutOfMemory};
 
@@ -25,6 +25,7 @@ mod moments;
 mod names;
 mod paths;
 mod refusal;
+mod send;
 mod timetable;
 mod timetable_values;
 mod values;
@@ -155,74 +156,34 @@ fn command<'w, S: AsStr, F: Folders, O: Out>(
     folders: &mut F,
     out: &mut O,
 ) -> Result<bool, Refusal<'w>>
-    ensures refused { IfErr result (IsCauseOf (map S.text words.entry.now)
-        (F.limit folders.old) (F.held folders.old)
-        (record { folders = F.failure_count folders.old; output = O.failure_count out.old })
-        (record { folders = F.failure_count folders.new; output = O.failure_count out.new })) }
-    ensures checked { (dir : List ℕ) → AsksCheckOf (map S.text words.entry.now) dir
-        → IfOk result (IsReportOf (F.limit folders.old) (F.held folders.old) dir
-        (O.told out.old) (O.told out.new)) }
-    ensures unchecked { (dir : List ℕ) → AsksCheckOf (map S.text words.entry.now) dir
-        → IfErr result (IsUnchecked (F.limit folders.old) (F.held folders.old) dir
+    ensures { EndsCommand (map S.text words.entry.now) (F.limit folders.old) (F.held folders.old)
+        (F.held folders.new)
         (record { folders = F.failure_count folders.old; output = O.failure_count out.old })
         (record { folders = F.failure_count folders.new; output = O.failure_count out.new })
-        (O.told out.old) (O.told out.new)) }
-    ensures listed { (asked : BoardTexts) → AsksBoardOf (map S.text words.entry.now) asked
-        → IfOk result (IsListed (F.limit folders.old) (F.held folders.old) asked
-        (O.told out.old) (O.told out.new)) }
-    ensures unlisted { (asked : BoardTexts) → AsksBoardOf (map S.text words.entry.now) asked
-        → IfErr result (IsUnlisted (F.limit folders.old) (F.held folders.old) asked
-        (record { folders = F.failure_count folders.old; output = O.failure_count out.old })
-        (record { folders = F.failure_count folders.new; output = O.failure_count out.new })
-        (O.told out.old) (O.told out.new)) }
-    ensures tabled { (asked : TimetableTexts) → AsksTimetableOf (map S.text words.entry.now) asked
-        → IfOk result (IsTabled (F.limit folders.old) (F.held folders.old) asked
-        (O.told out.old) (O.told out.new)) }
-    ensures untabled { (asked : TimetableTexts) → AsksTimetableOf (map S.text words.entry.now) asked
-        → IfErr result (IsUntabled (F.limit folders.old) (F.held folders.old) asked
-        (record { folders = F.failure_count folders.old; output = O.failure_count out.old })
-        (record { folders = F.failure_count folders.new; output = O.failure_count out.new })
-        (O.told out.old) (O.told out.new)) }
-    ensures helped { takes gtfs_app (map S.text words.entry.now) ≡ false
-        → IfOk result (IsHelped (map S.text words.entry.now)) }
-    ensures unhelped { takes gtfs_app (map S.text words.entry.now) ≡ false
-        → IfErr result (IsCauseInWords (map S.text words.entry.now)
-        (O.failure_count out.old) (O.failure_count out.new)) }
-    ensures nothing { AreRefused (map S.text words.entry.now) → Keeps (O.told out.old)
-        (O.told out.new) }
-    ensures untouched { takes gtfs_app (map S.text words.entry.now) ≡ false
-        → F.failure_count folders.new ≡ F.failure_count folders.old }
-    ensures merged { (asked : MergeTexts) → AsksMergeOf (map S.text words.entry.now) asked
-        → IfOk result (IsMerged (F.limit folders.old) (F.held folders.old) asked
-        (F.held folders.new) (O.told out.old) (O.told out.new)) }
-    ensures unmerged { (asked : MergeTexts) → AsksMergeOf (map S.text words.entry.now) asked
-        → IfErr result (IsUnmerged (F.limit folders.old) (F.held folders.old) asked
-        (record { folders = F.failure_count folders.old; output = O.failure_count out.old })
-        (record { folders = F.failure_count folders.new; output = O.failure_count out.new })
-        (F.held folders.new) (O.told out.old) (O.told out.new)) }
-    ensures unchanged { AsksNoMerge (map S.text words.entry.now)
-        → F.held folders.new ≡ F.held folders.old }
-    ensures folders_grow { F.failure_count folders.old ≤ F.failure_count folders.new }
-    ensures output_grows { O.failure_count out.old ≤ O.failure_count out.new }
-    ensures no_failure { UnlessGrave result (FailedNowhere
-        (record { folders = F.failure_count folders.old; output = O.failure_count out.old })
-        (record { folders = F.failure_count folders.new; output = O.failure_count out.new })) }
+        (O.told out.old) (O.told out.new) result }
 {
     match read_words(alloc, words) {
         Ok(Command::Check(dir)) => check::print_report(alloc, dir, folders, out),
         Ok(Command::Board(given)) => {
-            board::print_board(alloc, random, &given, folders, out)?;
-            Ok(false)
+            answer(board::print_board(alloc, random, &given, folders, out))
         }
         Ok(Command::Timetable(given)) => {
-            timetable::print_timetable(alloc, random, &given, folders, out)?;
-            Ok(false)
+            answer(timetable::print_timetable(alloc, random, &given, folders, out))
         }
         Ok(Command::Merge(given)) => {
-            merge::print_merge(alloc, random, &given, folders, out)?;
-            Ok(false)
+            answer(merge::print_merge(alloc, random, &given, folders, out))
         }
         Err(fault) => answer_fault(fault, out),
+    }
+}
+
+// The answer of a command that is no check: no check found an error.
+fn answer<'w>(printed: Result<(), Refusal<'w>>) -> Result<bool, Refusal<'w>>
+    ensures { result ≡ answer_of printed.entry }
+{
+    match printed {
+        Ok(()) => Ok(false),
+        Err(refusal) => Err(refusal),
     }
 }
 

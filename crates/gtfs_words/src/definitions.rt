@@ -1,6 +1,6 @@
 //! The command line as `clap` is told of it. A command is a module here, and a line in `gtfs`.
 ghost use Rattle.std.specs.Prelude.{◌≡◌, IfOk, true};
-ghost use Rattle.clap.specs.Words.{app_of, with_subcommand};
+ghost use Rattle.clap.specs.Words.{App, app_of, with_subcommand};
 ghost use Rattle.gtfs_words.specs.CommandLine.{gtfs_app, gtfs_top};
 
 mod board;
@@ -27,10 +27,10 @@ const COMMANDS: &str = "gtfs check DIR\n       \
 pub(super) fn gtfs<'w>(alloc: Global) -> Result<Command<'w>, AllocError>
     ensures { IfOk result (λ c. app_of c ≡ gtfs_app) }
 {
-    let checks = with_command(top(alloc), check_command(alloc)?)?;
-    let boards = with_command(checks, board_command(alloc)?)?;
-    let timetables = with_command(boards, timetable_command(alloc)?)?;
-    with_command(timetables, merge_command(alloc)?)
+    let checks = with_command(top(alloc), check_command(alloc))?;
+    let boards = with_command(checks, board_command(alloc))?;
+    let timetables = with_command(boards, timetable_command(alloc))?;
+    with_command(timetables, merge_command(alloc))
 }
 
 fn top<'w>(alloc: Global) -> Command<'w>
@@ -45,11 +45,13 @@ fn top<'w>(alloc: Global) -> Command<'w>
         .disable_help_subcommand(true)
 }
 
-// The program with one more command.
-fn with_command<'w>(program: Command<'w>, command: Command<'w>) -> Result<Command<'w>, AllocError>
-    ensures { (app_of command.entry).top.is_plain ≡ true
-        → IfOk result (λ c. app_of c ≡ with_subcommand (app_of program.entry)
-        (app_of command.entry).top) }
+// The program with one more command, if there was memory for that.
+fn with_command<'w>(
+    program: Command<'w>,
+    command: Result<Command<'w>, AllocError>,
+) -> Result<Command<'w>, AllocError>
+    ensures { (added : App) → IfOk command.entry (λ c. app_of c ≡ added) → added.top.is_plain ≡ true
+        → IfOk result (λ c. app_of c ≡ with_subcommand (app_of program.entry) added.top) }
 {
-    program.subcommand(command)
+    program.subcommand(command?)
 }

@@ -1,5 +1,5 @@
 //! From the words to the command.
-ghost use Rattle.std.specs.Prelude.{◌≡◌, map, option_map, true, IfOk, IfErr, IfSome, IsSome};
+ghost use Rattle.std.specs.Prelude.{◌≡◌, map, Some, option_map, true, IfOk, IfErr, IfSome, IsSome};
 ghost use Rattle.clap.specs.Words.{first_of, found_of, rows_of, subcommand_of, subcommand_rows_of, takes};
 ghost use Rattle.gtfs_words.specs.Asked.{merge_texts_of, texts_of, timetable_texts_of, HasBoard, HasMerge, HasTimetable, IsBoardOf, IsCommandOf, IsMergeOf, IsTimetableOf, IsWhole};
 ghost use Rattle.gtfs_words.specs.CommandLine.{gtfs_app};
@@ -35,17 +35,22 @@ fn command_of<'w>(matches: &ArgMatches<'w>) -> Option<Command<'w>>
     ensures value { IfSome result (IsCommandOf (subcommand_rows_of matches.now)) }
     ensures given { IsWhole (subcommand_rows_of matches.now) → IsSome result }
 {
-    if let Some(given) = matches.subcommand_matches("check") {
-        return Some(Command::Check(given_text(given, "DIR")?));
+    let (name, given) = matches.subcommand()?;
+    command_named(name, given)
+}
+
+// The command of this name, if all that it needs was given.
+fn command_named<'w>(name: &str, given: &ArgMatches<'w>) -> Option<Command<'w>>
+    ensures value { IfSome result (IsCommandOf (Some (name.now, rows_of (found_of given.now)))) }
+    ensures given { IsWhole (Some (name.now, rows_of (found_of given.now))) → IsSome result }
+{
+    match name {
+        "check" => Some(Command::Check(given_text(given, "DIR")?)),
+        "board" => Some(Command::Board(board_words(given)?)),
+        "timetable" => Some(Command::Timetable(timetable_words(given)?)),
+        "merge" => Some(Command::Merge(merge_words(given)?)),
+        _ => None,
     }
-    if let Some(given) = matches.subcommand_matches("board") {
-        return Some(Command::Board(board_words(given)?));
-    }
-    if let Some(given) = matches.subcommand_matches("timetable") {
-        return Some(Command::Timetable(timetable_words(given)?));
-    }
-    let given = matches.subcommand_matches("merge")?;
-    Some(Command::Merge(merge_words(given)?))
 }
 
 fn board_words<'w>(given: &ArgMatches<'w>) -> Option<BoardWords<'w>>

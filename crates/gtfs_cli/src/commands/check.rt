@@ -11,9 +11,10 @@ ghost use Rattle.gtfs_cli.specs.Running.{FailedNowhere};
 
 use crate::commands::folder::read_tables;
 use crate::commands::refusal::Refusal;
+use crate::commands::send::send;
 use crate::report::{push_counts, push_problem};
 use gtfs_rules::{Problem, check};
-use gtfs_table::{Folders, Out, write_text};
+use gtfs_table::{Folders, Out};
 use std::alloc::Global;
 
 // Prints the report of the feed in a folder: a line for each of its problems, and one with their counts. Answers whether
@@ -87,7 +88,7 @@ fn print_problem<'w, O: Out>(
 {
     line.clear();
     push_problem(line, problem)?;
-    Ok(write_text(out, line.as_bytes())?)
+    send(line.as_bytes(), out)
 }
 
 // Sends the line of the counts out, in the same way.
@@ -108,7 +109,7 @@ fn print_counts<'w, O: Out>(
 {
     line.clear();
     push_counts(line, errors, warnings)?;
-    Ok(write_text(out, line.as_bytes())?)
+    send(line.as_bytes(), out)
 }
 
 // How many of the problems are errors.

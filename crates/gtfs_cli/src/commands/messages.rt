@@ -4,7 +4,7 @@ ghost use Rattle.std.specs.List.{position_from};
 ghost use Rattle.gtfs_table.specs.Blanks.{is_control};
 ghost use Rattle.gtfs_table.specs.Device.{Rises};
 ghost use Rattle.gtfs_columns.specs.Values.{plain};
-ghost use Rattle.gtfs_cli.specs.Messages.{line_of, message};
+ghost use Rattle.gtfs_cli.specs.Messages.{line_of, message, HasLine};
 ghost use Rattle.gtfs_cli.specs.Sending.{SendsBeginning};
 
 use crate::commands::refusal::Refusal;
@@ -21,20 +21,33 @@ impl Refusal<'_> {
     {
         match self {
             Refusal::Words(text) => write_text(err, text.as_bytes()),
-            Refusal::BadValue(option) => write_line(err, "bad value of ", option),
-            Refusal::NotThere(path) => write_line(err, path, " is not there"),
-            Refusal::Unreadable(path) => write_line(err, path, " cannot be read"),
-            Refusal::OverLimit(path) => write_line(err, path, " holds a file over the limit"),
-            Refusal::HasErrors(path) => write_line(err, path, " has errors"),
-            Refusal::NoZone(path) => write_line(err, path, " is no zone file"),
-            Refusal::UnknownStop => write_line(err, "unknown stop", ""),
-            Refusal::UnknownRoute => write_line(err, "unknown route", ""),
-            Refusal::UntilBeforeFrom => write_line(err, "until lies before from", ""),
-            Refusal::ZonesDiffer => write_line(err, "zones differ", ""),
-            Refusal::MergeTooLarge => write_line(err, "merged feed too large", ""),
-            Refusal::Unwritable(path) => write_line(err, path, " cannot be written"),
-            Refusal::OutputFailed => write_line(err, "output failed", ""),
-            Refusal::OutOfMemory => write_line(err, "out of memory", ""),
+            _ => {
+                let (first, second) = self.line_texts();
+                write_line(err, first, second)
+            }
+        }
+    }
+
+    // The two texts of the line, after `gtfs: `. For refused words `clap`'s text stands in place of a line.
+    fn line_texts(&self) -> (&str, &str)
+        ensures { HasLine self.now result.0.now result.1.now }
+    {
+        match self {
+            Refusal::Words(_) => ("", ""),
+            Refusal::BadValue(option) => ("bad value of ", option),
+            Refusal::NotThere(path) => (path, " is not there"),
+            Refusal::Unreadable(path) => (path, " cannot be read"),
+            Refusal::OverLimit(path) => (path, " holds a file over the limit"),
+            Refusal::HasErrors(path) => (path, " has errors"),
+            Refusal::NoZone(path) => (path, " is no zone file"),
+            Refusal::UnknownStop => ("unknown stop", ""),
+            Refusal::UnknownRoute => ("unknown route", ""),
+            Refusal::UntilBeforeFrom => ("until lies before from", ""),
+            Refusal::ZonesDiffer => ("zones differ", ""),
+            Refusal::MergeTooLarge => ("merged feed too large", ""),
+            Refusal::Unwritable(path) => (path, " cannot be written"),
+            Refusal::OutputFailed => ("output failed", ""),
+            Refusal::OutOfMemory => ("out of memory", ""),
         }
     }
 }

@@ -1,14 +1,15 @@
 ghost use Rattle.std.specs.Prelude.{◌≡◌, ◌≤◌, flat_map, IfErr, OnOk, OnErr};
 ghost use Rattle.std.specs.Io.KnownBytes.{Appends};
-ghost use Rattle.gtfs_merge.specs.Report.{kinds};
+ghost use Rattle.gtfs_merge.specs.Report.{kinds, renamed_line};
 ghost use Rattle.gtfs_cli.specs.Checking.{IsSendingCause};
 ghost use Rattle.gtfs_cli.specs.NamesReport.{both_lines, count_line, id_line, names_report, side_lines};
 ghost use Rattle.gtfs_cli.specs.Sending.{SendsBeginning};
 
 use crate::commands::refusal::Refusal;
+use crate::commands::send::send;
 use crate::report::{push_joined, push_renamed};
 use gtfs_merge::{Kind, Names, Side};
-use gtfs_table::{Out, write_text};
+use gtfs_table::Out;
 use std::alloc::Global;
 
 // Prints what the ids of two feeds became and how many are joined, each line sent out whole before the next is made.
@@ -96,7 +97,7 @@ fn print_side<'w, O: Out>(
     Ok(())
 }
 
-// The line of an id, if it changes. It is made in a text that was used before.
+// The line of an id, if it changes.
 fn print_id<'w, O: Out>(
     names: &Names,
     side: Side,
@@ -114,14 +115,36 @@ fn print_id<'w, O: Out>(
     ensures grows { O.failure_count out.old ≤ O.failure_count out.new }
     ensures no_failure { OnOk result (O.failure_count out.new ≡ O.failure_count out.old) }
 {
-    match names.of(side, kind, id) {
-        Some(name) if name != id => {
-            line.clear();
-            push_renamed(line, side, kind, id, name)?;
-            Ok(write_text(out, line.as_bytes())?)
-        }
-        _ => Ok(()),
+    let Some(name) = names.of(side, kind, id) else {
+        return Ok(());
+    };
+    if name == id {
+        return Ok(());
     }
+    print_change(side, kind, id, name, line, out)
+}
+
+// The line of an id that changes. It is made in a text that was used before.
+fn print_change<'w, O: Out>(
+    side: Side,
+    kind: Kind,
+    id: &str,
+    name: &str,
+    line: &mut String,
+    out: &mut O,
+) -> Result<(), Refusal<'w>>
+    ensures printed { OnOk result (Appends (O.told out.old) (O.told out.new)
+        (renamed_line side kind id.now name.now)) }
+    ensures cut_short { OnErr result (SendsBeginning (O.told out.old) (O.told out.new)
+        (renamed_line side kind id.now name.now)) }
+    ensures refused { IfErr result (IsSendingCause (O.failure_count out.old)
+        (O.failure_count out.new)) }
+    ensures grows { O.failure_count out.old ≤ O.failure_count out.new }
+    ensures no_failure { OnOk result (O.failure_count out.new ≡ O.failure_count out.old) }
+{
+    line.clear();
+    push_renamed(line, side, kind, id, name)?;
+    send(line.as_bytes(), out)
 }
 
 // The lines of how many ids are joined, one kind after another.
@@ -163,5 +186,5 @@ fn print_count<'w, O: Out>(
 {
     line.clear();
     push_joined(line, kind, names.joined(kind).len())?;
-    Ok(write_text(out, line.as_bytes())?)
+    send(line.as_bytes(), out)
 }

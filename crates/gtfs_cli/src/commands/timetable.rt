@@ -13,10 +13,11 @@ ghost use Rattle.gtfs_cli.specs.Timetables.{timetable_request_of, timetable_text
 
 use crate::commands::feed::read_feed;
 use crate::commands::refusal::Refusal;
+use crate::commands::send::send;
 use crate::commands::timetable_values::{TimetableValues, read_timetable_values};
 use gtfs_board::{Sheet, TableFault, push_sheet, timetable};
 use gtfs_feed::Feed;
-use gtfs_table::{Folders, Out, write_text};
+use gtfs_table::{Folders, Out};
 use gtfs_words::TimetableWords;
 use std::alloc::Global;
 use std::hash::RandomState;
@@ -134,5 +135,5 @@ fn send_sheet<'w, O: Out>(
 {
     text.clear();
     push_sheet(alloc, text, sheet)?;
-    Ok(write_text(out, text.as_bytes())?)
+    send(text.as_bytes(), out)
 }

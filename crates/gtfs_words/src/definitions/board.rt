@@ -3,9 +3,11 @@ ghost use Rattle.std.specs.Prelude.{◌≡◌, IfOk};
 ghost use Rattle.clap.specs.Words.{app_of};
 ghost use Rattle.gtfs_words.specs.CommandLine.{board_app, needed_board_app};
 
-use super::rules::{DIR, with_choice, with_option, with_word};
+use super::rules::{DIR, new_command, with_choice, with_option, with_word};
 use clap::Command;
 use std::alloc::{AllocError, Global};
+
+const ABOUT: &str = "Print the departures at a stop, in the order of their times";
 
 const BOARD: &str =
     "gtfs board DIR --zone FILE --stop ID --from T --until T [--limit N] [--after KEY]";
@@ -41,10 +43,7 @@ pub(super) fn board_command<'w>(alloc: Global) -> Result<Command<'w>, AllocError
 fn needed_board<'w>(alloc: Global) -> Result<Command<'w>, AllocError>
     ensures { IfOk result (λ c. app_of c ≡ needed_board_app) }
 {
-    let board = Command::new(alloc, "board")
-        .about("Print the departures at a stop, in the order of their times")
-        .override_usage(BOARD)
-        .after_help(TEXTS);
+    let board = new_command(alloc, "board", ABOUT, BOARD, TEXTS);
     let dir = with_word(board, alloc, "DIR", DIR)?;
     let zone = with_option(dir, alloc, "zone", "FILE", ZONE)?;
     let stop = with_option(zone, alloc, "stop", "ID", STOP)?;

@@ -3,9 +3,11 @@ ghost use Rattle.std.specs.Prelude.{◌≡◌, IfOk};
 ghost use Rattle.clap.specs.Words.{app_of};
 ghost use Rattle.gtfs_words.specs.CommandLine.{check_app};
 
-use super::rules::{DIR, with_word};
+use super::rules::{DIR, new_command, with_word};
 use clap::Command;
 use std::alloc::{AllocError, Global};
+
+const ABOUT: &str = "Print what is wrong with a feed";
 
 const CHECK: &str = "gtfs check DIR";
 
@@ -16,9 +18,6 @@ const LINES: &str =
 pub(super) fn check_command<'w>(alloc: Global) -> Result<Command<'w>, AllocError>
     ensures { IfOk result (λ c. app_of c ≡ check_app) }
 {
-    let check = Command::new(alloc, "check")
-        .about("Print what is wrong with a feed")
-        .override_usage(CHECK)
-        .after_help(LINES);
+    let check = new_command(alloc, "check", ABOUT, CHECK, LINES);
     with_word(check, alloc, "DIR", DIR)
 }

@@ -3,9 +3,11 @@ ghost use Rattle.std.specs.Prelude.{◌≡◌, IfOk};
 ghost use Rattle.clap.specs.Words.{app_of};
 ghost use Rattle.gtfs_words.specs.CommandLine.{merge_app};
 
-use super::rules::with_word;
+use super::rules::{new_command, with_word};
 use clap::Command;
 use std::alloc::{AllocError, Global};
+
+const ABOUT: &str = "Make one feed of two";
 
 const MERGE: &str = "gtfs merge A B OUT";
 
@@ -22,10 +24,7 @@ const LINES: &str =
 pub(super) fn merge_command<'w>(alloc: Global) -> Result<Command<'w>, AllocError>
     ensures { IfOk result (λ c. app_of c ≡ merge_app) }
 {
-    let merge = Command::new(alloc, "merge")
-        .about("Make one feed of two")
-        .override_usage(MERGE)
-        .after_help(LINES);
+    let merge = new_command(alloc, "merge", ABOUT, MERGE, LINES);
     let first = with_word(merge, alloc, "A", FIRST)?;
     let second = with_word(first, alloc, "B", SECOND)?;
     with_word(second, alloc, "OUT", OUT)

@@ -1,6 +1,6 @@
-//! The texts that a command is given, as `clap` is told of them: plain texts, each set once.
+//! A command and the texts that it is given, as `clap` is told of them: plain texts, each set once.
 ghost use Rattle.std.specs.Prelude.{◌≡◌, IfOk, false};
-ghost use Rattle.clap.specs.Words.{app_of, rule_of, with_rule};
+ghost use Rattle.clap.specs.Words.{app_of, new_app, rule_of, with_rule};
 ghost use Rattle.gtfs_words.specs.CommandLine.{choice_rule, option_rule, text_rule, word_rule};
 
 use clap::{Arg, ArgAction, Command};
@@ -8,6 +8,22 @@ use std::alloc::{AllocError, Global};
 
 // What help says of the folder of a feed.
 pub(super) const DIR: &str = "The folder of the feed";
+
+// A command that is given no texts yet; help says what it is about, and ends with notes.
+pub(super) fn new_command<'w>(
+    alloc: Global,
+    name: &'w str,
+    about: &'w str,
+    usage: &'w str,
+    notes: &'w str,
+) -> Command<'w>
+    ensures { app_of result ≡ new_app name.entry.now }
+{
+    Command::new(alloc, name)
+        .about(about)
+        .override_usage(usage)
+        .after_help(notes)
+}
 
 // The command with one more text that must be given, known by its position among the words.
 pub(super) fn with_word<'w>(

@@ -3,9 +3,12 @@ ghost use Rattle.std.specs.Prelude.{◌≡◌, IfOk};
 ghost use Rattle.clap.specs.Words.{app_of};
 ghost use Rattle.gtfs_words.specs.CommandLine.{timetable_app};
 
-use super::rules::{DIR, with_choice, with_option, with_word};
+use super::rules::{DIR, new_command, with_choice, with_option, with_word};
 use clap::Command;
 use std::alloc::{AllocError, Global};
+
+const ABOUT: &str =
+    "Print the runs of a route on a date, a sheet for each direction and list of stops";
 
 const TIMETABLE: &str = "gtfs timetable DIR --route ID --date D [--direction 0|1]";
 
@@ -22,10 +25,7 @@ const TEXTS: &str =
 pub(super) fn timetable_command<'w>(alloc: Global) -> Result<Command<'w>, AllocError>
     ensures { IfOk result (λ c. app_of c ≡ timetable_app) }
 {
-    let timetable = Command::new(alloc, "timetable")
-        .about("Print the runs of a route on a date, a sheet for each direction and list of stops")
-        .override_usage(TIMETABLE)
-        .after_help(TEXTS);
+    let timetable = new_command(alloc, "timetable", ABOUT, TIMETABLE, TEXTS);
     let dir = with_word(timetable, alloc, "DIR", DIR)?;
     let route = with_option(dir, alloc, "route", "ID", ROUTE)?;
     let date = with_option(route, alloc, "date", "D", DATE)?;

@@ -90,3 +90,12 @@ returns-clause-statuses g c =
 
 pub returns-clause-no_failure : goal.returns-clause-no_failure
 returns-clause-no_failure g c = unless-ended c.command-ended.result c.finish.result _ c.finish.ensures.status c.command-ended.ensures.no_failure
+
+pub returns-clause-unchanged : goal.returns-clause-unchanged
+returns-clause-unchanged g c = c.command-ended.ensures.unchanged
+
+pub returns-clause-folders_grow : goal.returns-clause-folders_grow
+returns-clause-folders_grow g c = c.command-ended.ensures.folders_grow
+
+pub returns-clause-output_grows : goal.returns-clause-output_grows
+returns-clause-output_grows g c = c.command-ended.ensures.output_grows

@@ -1,32 +1,15 @@
-use Rattle.std.proofs.Common.{◌≡◌, ◌∙◌, true, refl, ap, subst, IfOk}
+use Rattle.std.proofs.Common.{◌≡◌, ◌∙◌, refl, ap, subst, IfOk}
 use Rattle.clap.specs.Words.{App, app_of, with_subcommand}
-use Rattle.gtfs_words.specs.CommandLine.{board_app, check_app, gtfs_top, merge_app, timetable_app}
+use Rattle.gtfs_words.specs.CommandLine.{board_app, check_app, merge_app, timetable_app}
 use Rattle.gtfs_words.proofs.definitions.gtfs.Goals as goal
-
--- a command with one more is known where both are
-added : (old sub new a s : App) → old ≡ a → sub ≡ s → s.top.is_plain ≡ true → (sub.top.is_plain ≡ true → new ≡ with_subcommand old sub.top)
-    → new ≡ with_subcommand a s.top
-added old sub new a s is_old is_sub is_plain adds =
-    subst (λ (x : App). x.top.is_plain ≡ true → new ≡ with_subcommand old x.top) is_sub adds is_plain
-    ∙ ap (λ (x : App). with_subcommand x s.top) is_old
 
 pub returns : goal.returns
 returns c =
-    let top = app_of c.top.result in
-    let checks = app_of c.in_ok-checks.checks in
-    let boards = app_of c.in_ok-boards.boards in
-    let timetables = app_of c.in_ok-timetables.timetables in
-    let with_check = with_subcommand gtfs_top check_app.top in
-    let with_board = with_subcommand with_check board_app.top in
-    let with_timetable = with_subcommand with_board timetable_app.top in
-    let are_checks : checks ≡ with_check
-    = added top (app_of c.in_ok-check_command.field-0) checks gtfs_top check_app c.top.ensures c.in_ok-check_command.ensures refl c.in_ok-checks.ensures in
-    let are_boards : boards ≡ with_board
-    = added checks (app_of c.in_ok-board_command.field-0) boards with_check board_app are_checks c.in_ok-board_command.ensures refl c.in_ok-boards.ensures in
-    let are_timetables : timetables ≡ with_timetable
-    = added boards (app_of c.in_ok-timetable_command.field-0) timetables with_board timetable_app are_boards c.in_ok-timetable_command.ensures
-    refl c.in_ok-timetables.ensures in
-    let merges : IfOk c.with_command-4.result (λ made. app_of made ≡ with_subcommand timetables merge_app.top)
-    = subst (λ (x : App). x.top.is_plain ≡ true → IfOk c.with_command-4.result (λ made. app_of made ≡ with_subcommand timetables x.top))
-    c.in_ok-merge_command.ensures c.with_command-4.ensures refl in
-    subst (λ (x : App). IfOk c.with_command-4.result (λ made. app_of made ≡ with_subcommand x merge_app.top)) are_timetables merges
+    let are_checks = c.in_ok-checks.ensures check_app c.check_command.ensures refl
+    ∙ ap (λ (a : App). with_subcommand a check_app.top) c.top.ensures in
+    let are_boards = c.in_ok-boards.ensures board_app c.board_command.ensures refl
+    ∙ ap (λ (a : App). with_subcommand a board_app.top) are_checks in
+    let are_timetables = c.in_ok-timetables.ensures timetable_app c.timetable_command.ensures refl
+    ∙ ap (λ (a : App). with_subcommand a timetable_app.top) are_boards in
+    subst (λ (a : App). IfOk c.with_command-4.result (λ made. app_of made ≡ with_subcommand a merge_app.top)) are_timetables
+    (c.with_command-4.ensures merge_app c.merge_command.ensures refl)

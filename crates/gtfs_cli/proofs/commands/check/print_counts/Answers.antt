@@ -1,15 +1,21 @@
-use Rattle.std.proofs.Common.{string_bytes}
-use Rattle.gtfs_table.proofs.FolderFacts.{on_err-always}
+use Rattle.std.proofs.Common.{List, ℕ, string_bytes, subst}
+use Rattle.std.specs.Prelude.{OnErr, OnOk}
+use Rattle.std.specs.Io.KnownBytes.{Appends}
 use Rattle.gtfs_cli.specs.Checking.{counts_text}
 use Rattle.gtfs_cli.specs.Sending.{SendsBeginning}
-use Rattle.gtfs_cli.proofs.Parts.{line-begun}
+use Rattle.gtfs_cli.proofs.Parts.{line-made}
 use Rattle.gtfs_cli.proofs.commands.check.print_counts.Goals as goal
 
-pub returns-in_err-write_text-clause-cut_short : goal.returns-in_err-write_text-clause-cut_short
-returns-in_err-write_text-clause-cut_short g c =
-    let before = g.O.Out.told c.args.out.now in
-    let after = g.O.Out.told c.write_text.new.out in
+pub returns-clause-sent : goal.returns-clause-sent
+returns-clause-sent g c =
     let text = counts_text c.args.errors c.args.warnings in
-    on_err-always c.from_residual-in_err-write_text.result (SendsBeginning before after text)
-    (line-begun before after text c.as_bytes.result.now (string_bytes c.push_counts.new.text) (string_bytes c.clear.new.self) c.in_err-write_text.field-0.0.written
-    c.as_bytes.ensures.value c.in_ok-push_counts.ensures.appended c.clear.ensures.bytes c.in_err-write_text.ensures.prefix)
+    let same = line-made text c.as_bytes.result.now (string_bytes c.push_counts.new.text) (string_bytes c.clear.new.self) c.as_bytes.ensures.value
+    c.in_ok-push_counts.ensures.appended c.clear.ensures.bytes in
+    subst (λ (t : List ℕ). OnOk c.send.result (Appends (g.O.Out.told c.args.out.now) (g.O.Out.told c.send.new.out) t)) same c.send.ensures.sent
+
+pub returns-clause-cut_short : goal.returns-clause-cut_short
+returns-clause-cut_short g c =
+    let text = counts_text c.args.errors c.args.warnings in
+    let same = line-made text c.as_bytes.result.now (string_bytes c.push_counts.new.text) (string_bytes c.clear.new.self) c.as_bytes.ensures.value
+    c.in_ok-push_counts.ensures.appended c.clear.ensures.bytes in
+    subst (λ (t : List ℕ). OnErr c.send.result (SendsBeginning (g.O.Out.told c.args.out.now) (g.O.Out.told c.send.new.out) t)) same c.send.ensures.cut_short
