@@ -3,6 +3,7 @@ mod stand_in;
 
 use gtfs_table::{DiskFolders, FolderFault, Folders};
 use stand_in::{Drip, StandIn};
+use std::alloc::{AllocError, Global};
 use std::cell::Cell;
 use std::fs::Permissions;
 use std::io::ErrorKind;
@@ -23,43 +24,87 @@ fn make_folder(rt: &HostRuntime, test: &str) -> Result<String, Fail> {
     Ok(path)
 }
 
-fn assert_file<R: Abort>(rt: &R, file: Option<Vec<u8>>, expected: &[u8]) {
-    assert_eq!(rt; file.is_some(), true);
-    if let Some(bytes) = file {
-        assert_eq!(rt; bytes.as_slice(), expected);
+type Disk<'a> = DiskFolders<'a, HostRuntime>;
+
+// Whether a file has these bytes.
+fn has_file(
+    rt: &HostRuntime,
+    disk: &mut Disk<'_>,
+    dir: &str,
+    name: &str,
+    bytes: &[u8],
+) -> Result<bool, FolderFault> {
+    let file = disk.read(rt.alloc(), dir, name)?;
+    Ok(has_bytes(&file, bytes))
+}
+
+fn has_bytes(file: &Option<Vec<u8>>, bytes: &[u8]) -> bool {
+    match file {
+        Some(found) => found.as_slice() == bytes,
+        None => false,
     }
+}
+
+// How many names a folder has.
+fn listed(rt: &HostRuntime, disk: &mut Disk<'_>, dir: &str) -> Result<usize, FolderFault> {
+    Ok(disk.names(rt.alloc(), dir)?.len())
+}
+
+fn assert_names(
+    rt: &impl Abort,
+    system: &HostRuntime,
+    disk: &mut Disk<'_>,
+    dir: &str,
+    wanted: &[&str],
+) -> Result<(), Fail> {
+    let names = disk.names(system.alloc(), dir)?;
+    assert_eq!(rt; names.len(), wanted.len());
+    for (name, wanted) in names.iter().zip(wanted) {
+        assert_eq!(rt; name.as_str(), *wanted);
+    }
+    Ok(())
+}
+
+// The second agency.txt takes the place of the first.
+const WRITTEN: &[(&str, &[u8])] = &[
+    ("stops.txt", b"stop_id\nS1\n"),
+    ("agency.txt", b"long before"),
+    ("agency.txt", b"short"),
+];
+
+fn write_files(rt: &HostRuntime, disk: &mut Disk<'_>, dir: &str) -> Result<(), Fail> {
+    for (name, bytes) in WRITTEN {
+        disk.write(rt.alloc(), dir, name, bytes)?;
+    }
+    fs::create_dir(rt, format!(in rt.alloc(); "{dir}/more")?)?;
+    Ok(())
+}
+
+fn assert_written(
+    rt: &impl Abort,
+    system: &HostRuntime,
+    disk: &mut Disk<'_>,
+    dir: &str,
+) -> Result<(), Fail> {
+    assert_names(rt, system, disk, dir, &["agency.txt", "more", "stops.txt"])?;
+    assert!(rt; has_file(system, disk, dir, "stops.txt", b"stop_id\nS1\n")?);
+    assert!(rt; has_file(system, disk, dir, "agency.txt", b"short")?);
+    assert!(rt; disk.read(system.alloc(), dir, "routes.txt")?.is_none());
+    assert_eq!(rt; disk.failures(), 0);
+    Ok(())
+}
+
+fn write_below(rt: &impl Abort, system: &HostRuntime, base: &str) -> Result<(), Fail> {
+    let dir = format!(in system.alloc(); "{base}/a/b/c")?;
+    let mut disk = DiskFolders::new(system);
+    write_files(system, &mut disk, dir.as_str())?;
+    assert_written(rt, system, &mut disk, dir.as_str())
 }
 
 #[test]
 fn files_are_written_listed_and_read(rt: HostRuntime) -> Result<(), Fail> {
     let base = make_folder(&rt, "files")?;
-    let dir = format!(in rt.alloc(); "{base}/a/b/c")?;
-    let mut disk = DiskFolders::new(&rt);
-    disk.write(rt.alloc(), dir.as_str(), "stops.txt", b"stop_id\nS1\n")?;
-    disk.write(rt.alloc(), dir.as_str(), "agency.txt", b"long before")?;
-    disk.write(rt.alloc(), dir.as_str(), "agency.txt", b"short")?;
-    fs::create_dir(&rt, format!(in rt.alloc(); "{dir}/more")?)?;
-
-    let names = disk.names(rt.alloc(), dir.as_str())?;
-    assert_eq!(rt; names.len(), 3);
-    for (name, wanted) in names.iter().zip(["agency.txt", "more", "stops.txt"]) {
-        assert_eq!(rt; name.as_str(), wanted);
-    }
-    assert_file(
-        &rt,
-        disk.read(rt.alloc(), dir.as_str(), "stops.txt")?,
-        b"stop_id\nS1\n",
-    );
-    assert_file(
-        &rt,
-        disk.read(rt.alloc(), dir.as_str(), "agency.txt")?,
-        b"short",
-    );
-    assert_eq!(rt;
-        disk.read(rt.alloc(), dir.as_str(), "routes.txt")?.is_none(),
-        true
-    );
-    assert_eq!(rt; disk.failures(), 0);
+    write_below(&rt, &rt, base.as_str())?;
     fs::remove_dir_all(&rt, base.as_str())?;
     Ok(())
 }
@@ -77,111 +122,180 @@ const ODD_NAMES: &[&str] = &[
     "～",
 ];
 
+fn list_odd_names(rt: &impl Abort, system: &HostRuntime, dir: &str) -> Result<(), Fail> {
+    let mut disk = DiskFolders::new(system);
+    for name in ODD_NAMES.iter().rev() {
+        disk.write(system.alloc(), dir, name, name.as_bytes())?;
+    }
+    assert_names(rt, system, &mut disk, dir, ODD_NAMES)?;
+    for name in ODD_NAMES {
+        assert!(rt;
+            has_file(system, &mut disk, dir, name, name.as_bytes())?,
+            "{name}"
+        );
+    }
+    Ok(())
+}
+
 #[test]
 fn odd_names_are_listed(rt: HostRuntime) -> Result<(), Fail> {
     let base = make_folder(&rt, "names")?;
-    let mut disk = DiskFolders::new(&rt);
-    for name in ODD_NAMES.iter().rev() {
-        disk.write(rt.alloc(), base.as_str(), name, name.as_bytes())?;
-    }
-    let names = disk.names(rt.alloc(), base.as_str())?;
-    assert_eq!(rt; names.len(), ODD_NAMES.len());
-    for (name, wanted) in names.iter().zip(ODD_NAMES) {
-        assert_eq!(rt; name.as_str(), *wanted);
-        let file = disk.read(rt.alloc(), base.as_str(), wanted)?;
-        assert_file(&rt, file, wanted.as_bytes());
-    }
+    list_odd_names(&rt, &rt, base.as_str())?;
     fs::remove_dir_all(&rt, base.as_str())?;
     Ok(())
 }
 
-// Of bytes that show where a part was lost or came twice.
-#[test]
-fn a_file_of_megabytes_is_read_as_it_was_written(rt: HostRuntime) -> Result<(), Fail> {
-    let base = make_folder(&rt, "megabytes")?;
-    let mut disk = DiskFolders::new(&rt);
+// Bytes that show where a part was lost or came twice.
+fn telling_bytes(alloc: Global, len: u32) -> Result<Vec<u8>, AllocError> {
+    let mut bytes = Vec::new(alloc);
+    for number in 0..len {
+        bytes.push((number % 251) as u8)?;
+    }
+    Ok(bytes)
+}
+
+fn write_megabytes(rt: &impl Abort, system: &HostRuntime, dir: &str) -> Result<(), Fail> {
+    let mut disk = DiskFolders::new(system);
     for len in [65_536_u32, 65_537, 5_000_001] {
-        let mut bytes = Vec::new(rt.alloc());
-        for number in 0..len {
-            bytes.push((number % 251) as u8)?;
-        }
-        disk.write(rt.alloc(), base.as_str(), "stops.txt", &bytes)?;
-        assert_file(
-            &rt,
-            disk.read(rt.alloc(), base.as_str(), "stops.txt")?,
-            &bytes,
+        let bytes = telling_bytes(system.alloc(), len)?;
+        disk.write(system.alloc(), dir, "stops.txt", &bytes)?;
+        assert!(rt;
+            has_file(system, &mut disk, dir, "stops.txt", &bytes)?,
+            "{len} bytes"
         );
     }
     assert_eq!(rt; disk.failures(), 0);
+    Ok(())
+}
+
+#[test]
+fn a_file_of_megabytes_is_read_as_it_was_written(rt: HostRuntime) -> Result<(), Fail> {
+    let base = make_folder(&rt, "megabytes")?;
+    write_megabytes(&rt, &rt, base.as_str())?;
     fs::remove_dir_all(&rt, base.as_str())?;
     Ok(())
 }
 
-// No entry has the name, but the system says so by NotFound alone.
+// Why nothing of a system that refuses for this reason can be listed, read and written, and how many calls failed.
+fn refusals(rt: HostRuntime, kind: ErrorKind) -> ([Option<FolderFault>; 3], u64) {
+    let system = StandIn::refusing(rt, kind);
+    let mut disk = DiskFolders::new(&system);
+    let faults = [
+        disk.names(rt.alloc(), "f1").err(),
+        disk.read(rt.alloc(), "f1", "stops.txt").err(),
+        disk.write(rt.alloc(), "f1", "stops.txt", b"").err(),
+    ];
+    (faults, disk.failures())
+}
+
 #[test]
 fn what_is_refused_is_not_absent(rt: HostRuntime) {
+    let read = Some(FolderFault::Read);
     for kind in [ErrorKind::PermissionDenied, ErrorKind::TimedOut] {
-        let system = StandIn::refusing(rt, kind);
-        let mut disk = DiskFolders::new(&system);
-        let read = Some(FolderFault::Read);
-        assert_eq!(rt; disk.names(rt.alloc(), "f1").err(), read);
-        assert_eq!(rt; disk.read(rt.alloc(), "f1", "stops.txt").err(), read);
         assert_eq!(rt;
-            disk.write(rt.alloc(), "f1", "stops.txt", b""),
-            Err(FolderFault::Write)
+            refusals(rt, kind),
+            ([read, read, Some(FolderFault::Write)], 3)
         );
-        assert_eq!(rt; disk.failures(), 3);
     }
+}
+
+// No entry has the name: the system says so by NotFound alone.
+#[test]
+fn what_is_not_found_is_absent(rt: HostRuntime) {
     let system = StandIn::refusing(rt, ErrorKind::NotFound);
     let mut disk = DiskFolders::new(&system);
-    assert_eq!(rt;
-        disk.names(rt.alloc(), "f1").err(),
-        Some(FolderFault::NoFolder)
-    );
+    let fault = disk.names(rt.alloc(), "f1").err();
+    assert_eq!(rt; fault, Some(FolderFault::NoFolder));
     let file = disk.read(rt.alloc(), "f1", "stops.txt");
-    assert_eq!(rt; file.is_ok_and(|file| file.is_none()), true);
+    assert!(rt; file.is_ok_and(|file| file.is_none()));
     assert_eq!(rt; disk.failures(), 0);
 }
 
 // A folder that its permissions close cannot be read. A user with all rights reads it nevertheless.
+fn assert_closed(rt: &impl Abort, system: &HostRuntime, dir: &str) -> Result<(), Fail> {
+    let mut disk = DiskFolders::new(system);
+    let wanted = if fs::read_dir(system, dir).is_ok() {
+        (Ok(1), Ok(true))
+    } else {
+        (Err(FolderFault::Read), Err(FolderFault::Read))
+    };
+    let names = listed(system, &mut disk, dir);
+    let file = has_file(system, &mut disk, dir, "stops.txt", b"stop_id");
+    assert_eq!(rt; (names, file), wanted);
+    Ok(())
+}
+
 #[test]
 fn a_closed_folder_is_not_absent(rt: HostRuntime) -> Result<(), Fail> {
     let base = make_folder(&rt, "closed")?;
     let mut disk = DiskFolders::new(&rt);
     disk.write(rt.alloc(), base.as_str(), "stops.txt", b"stop_id")?;
     fs::set_permissions(&rt, base.as_str(), Permissions::from_mode(0))?;
-    let has_all_rights = fs::read_dir(&rt, base.as_str()).is_ok();
-    let names = disk.names(rt.alloc(), base.as_str());
-    let file = disk.read(rt.alloc(), base.as_str(), "stops.txt");
+    assert_closed(&rt, &rt, base.as_str())?;
     fs::set_permissions(&rt, base.as_str(), Permissions::from_mode(0o700))?;
-    if has_all_rights {
-        assert_eq!(rt; names.is_ok_and(|names| names.len() == 1), true);
-        assert_file(&rt, file?, b"stop_id");
-    } else {
-        assert_eq!(rt; names.err(), Some(FolderFault::Read));
-        assert_eq!(rt; file.err(), Some(FolderFault::Read));
-    }
     fs::remove_dir_all(&rt, base.as_str())?;
     Ok(())
+}
+
+fn assert_absent(rt: &impl Abort, system: &HostRuntime, dir: &str) {
+    let mut disk = DiskFolders::new(system);
+    assert_eq!(rt; listed(system, &mut disk, dir), Err(FolderFault::NoFolder));
+    let file = has_file(system, &mut disk, dir, "stops.txt", b"");
+    assert_eq!(rt; file, Err(FolderFault::NoFolder));
+    assert_eq!(rt; disk.failures(), 0);
 }
 
 #[test]
 fn what_no_entry_has_the_name_of_is_not_there(rt: HostRuntime) -> Result<(), Fail> {
     let base = make_folder(&rt, "absent")?;
-    let dir = format!(in rt.alloc(); "{base}/none")?;
-    let mut disk = DiskFolders::new(&rt);
-    for absent in ["", dir.as_str()] {
-        assert_eq!(rt;
-            disk.names(rt.alloc(), absent).err(),
-            Some(FolderFault::NoFolder)
-        );
-        assert_eq!(rt;
-            disk.read(rt.alloc(), absent, "stops.txt").err(),
-            Some(FolderFault::NoFolder)
-        );
-    }
-    assert_eq!(rt; disk.failures(), 0);
+    assert_absent(&rt, &rt, "");
+    assert_absent(&rt, &rt, format!(in rt.alloc(); "{base}/none")?.as_str());
     fs::remove_dir_all(&rt, base.as_str())?;
+    Ok(())
+}
+
+// A file, a folder, and a link that leads nowhere.
+fn make_types(rt: &HostRuntime, base: &str) -> Result<(), Fail> {
+    DiskFolders::new(rt).write(rt.alloc(), base, "file", b"")?;
+    fs::create_dir(rt, format!(in rt.alloc(); "{base}/folder")?)?;
+    let link = format!(in rt.alloc(); "{base}/link")?;
+    std::os::unix::fs::symlink(rt, "nowhere", link.as_str())?;
+    Ok(())
+}
+
+// Neither can be listed, nor has it files that can be read.
+fn assert_no_folders(
+    rt: &impl Abort,
+    system: &HostRuntime,
+    disk: &mut Disk<'_>,
+    base: &str,
+) -> Result<(), Fail> {
+    for name in ["file", "link"] {
+        let dir = format!(in system.alloc(); "{base}/{name}")?;
+        assert_eq!(rt;
+            listed(system, disk, dir.as_str()),
+            Err(FolderFault::Read),
+            "{name}"
+        );
+        let file = has_file(system, disk, dir.as_str(), "stops.txt", b"");
+        assert_eq!(rt; file, Err(FolderFault::Read), "{name}");
+    }
+    Ok(())
+}
+
+fn assert_no_files(rt: &impl Abort, system: &HostRuntime, disk: &mut Disk<'_>, base: &str) {
+    for name in ["folder", "link", ""] {
+        let file = has_file(system, disk, base, name, b"");
+        assert_eq!(rt; file, Err(FolderFault::Read), "{name}");
+    }
+}
+
+fn assert_types(rt: &impl Abort, system: &HostRuntime, base: &str) -> Result<(), Fail> {
+    make_types(system, base)?;
+    let mut disk = DiskFolders::new(system);
+    assert_no_folders(rt, system, &mut disk, base)?;
+    assert_no_files(rt, system, &mut disk, base);
+    assert_eq!(rt; disk.failures(), 7);
     Ok(())
 }
 
@@ -189,132 +303,136 @@ fn what_no_entry_has_the_name_of_is_not_there(rt: HostRuntime) -> Result<(), Fai
 #[test]
 fn what_is_of_another_type_cannot_be_read(rt: HostRuntime) -> Result<(), Fail> {
     let base = make_folder(&rt, "types")?;
-    let file = format!(in rt.alloc(); "{base}/file")?;
-    let link = format!(in rt.alloc(); "{base}/link")?;
-    let mut disk = DiskFolders::new(&rt);
-    disk.write(rt.alloc(), base.as_str(), "file", b"")?;
-    fs::create_dir(&rt, format!(in rt.alloc(); "{base}/folder")?)?;
-    std::os::unix::fs::symlink(&rt, "nowhere", link.as_str())?;
-    for dir in [file.as_str(), link.as_str()] {
-        assert_eq!(rt; disk.names(rt.alloc(), dir).err(), Some(FolderFault::Read));
-        assert_eq!(rt;
-            disk.read(rt.alloc(), dir, "stops.txt").err(),
-            Some(FolderFault::Read)
-        );
-    }
-    for name in ["folder", "link", ""] {
-        assert_eq!(rt;
-            disk.read(rt.alloc(), base.as_str(), name).err(),
-            Some(FolderFault::Read)
-        );
-    }
-    assert_eq!(rt; disk.failures(), 7);
+    assert_types(&rt, &rt, base.as_str())?;
     fs::remove_dir_all(&rt, base.as_str())?;
+    Ok(())
+}
+
+fn assert_unwritable(
+    rt: &impl Abort,
+    system: &HostRuntime,
+    disk: &mut Disk<'_>,
+    dir: &str,
+    name: &str,
+) {
+    let written = disk.write(system.alloc(), dir, name, b"lost");
+    assert_eq!(rt; written, Err(FolderFault::Write), "{name} of {dir}");
+}
+
+fn write_where_it_fails(rt: &impl Abort, system: &HostRuntime, base: &str) -> Result<(), Fail> {
+    let below = format!(in system.alloc(); "{base}/file/below")?;
+    let mut disk = DiskFolders::new(system);
+    disk.write(system.alloc(), base, "file", b"kept")?;
+    assert_unwritable(rt, system, &mut disk, "", "stops.txt");
+    assert_unwritable(rt, system, &mut disk, below.as_str(), "stops.txt");
+    assert_unwritable(rt, system, &mut disk, base, "folder");
+    assert_unwritable(rt, system, &mut disk, "/dev/null", "a");
+    assert_eq!(rt; disk.failures(), 4);
+    assert!(rt; has_file(system, &mut disk, base, "file", b"kept")?);
     Ok(())
 }
 
 #[test]
 fn what_cannot_be_written_counts_as_a_failure(rt: HostRuntime) -> Result<(), Fail> {
     let base = make_folder(&rt, "unwritable")?;
-    let below = format!(in rt.alloc(); "{base}/file/below")?;
-    let mut disk = DiskFolders::new(&rt);
-    disk.write(rt.alloc(), base.as_str(), "file", b"kept")?;
     fs::create_dir(&rt, format!(in rt.alloc(); "{base}/folder")?)?;
-    let cases = [
-        ("", "stops.txt"),
-        (below.as_str(), "stops.txt"),
-        (base.as_str(), "folder"),
-        ("/dev/null", "a"),
-    ];
-    for (dir, name) in cases {
-        assert_eq!(rt;
-            disk.write(rt.alloc(), dir, name, b"lost"),
-            Err(FolderFault::Write)
-        );
-    }
-    assert_eq!(rt; disk.failures(), 4);
-    assert_file(&rt, disk.read(rt.alloc(), base.as_str(), "file")?, b"kept");
+    write_where_it_fails(&rt, &rt, base.as_str())?;
     fs::remove_dir_all(&rt, base.as_str())?;
+    Ok(())
+}
+
+// How long a file is.
+fn read_len(
+    rt: &HostRuntime,
+    disk: &mut Disk<'_>,
+    dir: &str,
+    name: &str,
+) -> Result<Option<usize>, FolderFault> {
+    let file = disk.read(rt.alloc(), dir, name)?;
+    Ok(file.map(|bytes| bytes.len()))
+}
+
+fn make_sparse(rt: &HostRuntime, base: &str, len: u64) -> Result<(), Fail> {
+    let path = format!(in rt.alloc(); "{base}/sparse")?;
+    Ok(fs::create(rt, path.as_str())?.set_len(len)?)
+}
+
+fn assert_limit(rt: &impl Abort, system: &HostRuntime, base: &str) -> Result<(), Fail> {
+    let mut disk = DiskFolders::with_limits(system, 100_000, 1_000_000);
+    let too_large = Err(FolderFault::TooLarge);
+    for (len, wanted) in [(100_000, Ok(Some(100_000))), (100_001, too_large)] {
+        make_sparse(system, base, len)?;
+        assert_eq!(rt; read_len(system, &mut disk, base, "sparse"), wanted);
+    }
+    assert_eq!(rt; read_len(system, &mut disk, "/dev", "zero"), too_large);
+    assert_eq!(rt; disk.failures(), 0);
     Ok(())
 }
 
 #[test]
 fn a_file_is_read_up_to_the_limit(rt: HostRuntime) -> Result<(), Fail> {
     let base = make_folder(&rt, "limit")?;
-    let mut disk = DiskFolders::with_limits(&rt, 100_000, 1_000_000);
-    let path = format!(in rt.alloc(); "{base}/sparse")?;
-    let file = fs::create(&rt, path.as_str())?;
-    file.set_len(100_000)?;
-    let bytes = disk.read(rt.alloc(), base.as_str(), "sparse")?;
-    assert_eq!(rt; bytes.is_some_and(|bytes| bytes.len() == 100_000), true);
-    file.set_len(100_001)?;
-    assert_eq!(rt;
-        disk.read(rt.alloc(), base.as_str(), "sparse").err(),
-        Some(FolderFault::TooLarge)
-    );
-    assert_eq!(rt;
-        disk.read(rt.alloc(), "/dev", "zero").err(),
-        Some(FolderFault::TooLarge)
-    );
-    assert_eq!(rt; disk.failures(), 0);
+    assert_limit(&rt, &rt, base.as_str())?;
     fs::remove_dir_all(&rt, base.as_str())?;
+    Ok(())
+}
+
+fn assert_entries(rt: &impl Abort, system: &HostRuntime, dir: &str) -> Result<(), Fail> {
+    let mut disk = DiskFolders::with_limits(system, 100, 2);
+    for (name, wanted) in [("a", Ok(1)), ("b", Ok(2)), ("c", Err(FolderFault::Read))] {
+        disk.write(system.alloc(), dir, name, b"")?;
+        assert_eq!(rt; listed(system, &mut disk, dir), wanted);
+    }
+    assert_eq!(rt; disk.failures(), 1);
     Ok(())
 }
 
 #[test]
 fn a_folder_is_listed_up_to_its_entries(rt: HostRuntime) -> Result<(), Fail> {
     let base = make_folder(&rt, "entries")?;
-    let mut disk = DiskFolders::with_limits(&rt, 100, 2);
-    disk.write(rt.alloc(), base.as_str(), "a", b"")?;
-    disk.write(rt.alloc(), base.as_str(), "b", b"")?;
-    assert_eq!(rt; disk.names(rt.alloc(), base.as_str())?.len(), 2);
-    disk.write(rt.alloc(), base.as_str(), "c", b"")?;
-    assert_eq!(rt;
-        disk.names(rt.alloc(), base.as_str()).err(),
-        Some(FolderFault::Read)
-    );
-    assert_eq!(rt; disk.failures(), 1);
+    assert_entries(&rt, &rt, base.as_str())?;
     fs::remove_dir_all(&rt, base.as_str())?;
     Ok(())
 }
 
+// How many names a stand-in's folder has that repeats these so many times, and how many calls failed.
+fn listed_of(
+    rt: HostRuntime,
+    names: &'static [u8],
+    times: usize,
+) -> (Result<usize, FolderFault>, u64) {
+    let system = StandIn::with_names(rt, names, times);
+    let mut disk = DiskFolders::new(&system);
+    let listed = disk.names(rt.alloc(), "f1").map(|names| names.len());
+    (listed, disk.failures())
+}
+
 #[test]
 fn a_name_that_is_no_text_cannot_be_read(rt: HostRuntime) {
-    for (names, expected) in [
-        (b"a.txt\0".as_slice(), None),
-        (b"a\xff.txt\0".as_slice(), Some(FolderFault::Read)),
-    ] {
-        let system = StandIn::with_names(rt, names, 1);
-        let mut disk = DiskFolders::new(&system);
-        assert_eq!(rt; disk.names(rt.alloc(), "f1").err(), expected);
-        assert_eq!(rt; disk.failures(), u64::from(expected.is_some()));
-    }
+    assert_eq!(rt; listed_of(rt, b"a.txt\0", 1), (Ok(1), 0));
+    assert_eq!(rt;
+        listed_of(rt, b"a\xff.txt\0", 1),
+        (Err(FolderFault::Read), 1)
+    );
 }
 
 #[test]
 fn a_million_entries_are_listed_and_no_more(rt: HostRuntime) {
-    for (times, expected) in [(1_000_000, None), (1_000_001, Some(FolderFault::Read))] {
-        let system = StandIn::with_names(rt, b"a\0", times);
-        let mut disk = DiskFolders::new(&system);
-        let names = disk.names(rt.alloc(), "f1");
-        assert_eq!(rt; names.is_err(), expected.is_some());
-        if let Ok(names) = &names {
-            assert_eq!(rt; names.len(), 1_000_000);
-        }
-        assert_eq!(rt; names.err(), expected);
-    }
+    assert_eq!(rt; listed_of(rt, b"a\0", 1_000_000), (Ok(1_000_000), 0));
+    assert_eq!(rt;
+        listed_of(rt, b"a\0", 1_000_001),
+        (Err(FolderFault::Read), 1)
+    );
 }
 
-type Reading = Result<Option<Vec<u8>>, FolderFault>;
-
-// What comes of reading a stand-in's file within a limit, and after how many reads.
+// Whether a stand-in's file is read as the bytes that are left of it, within a limit, and after how many reads.
 fn read_drip(
     rt: HostRuntime,
     limit: u64,
     left: &'static [u8],
     fault: Option<ErrorKind>,
     told: &str,
-) -> (Reading, u64) {
+) -> (Result<bool, FolderFault>, u64) {
     let reads = Cell::new(0);
     let file = Drip {
         rt,
@@ -325,7 +443,18 @@ fn read_drip(
     };
     let system = StandIn::with_file(rt, file);
     let reading = DiskFolders::with_limits(&system, limit, 0).read(rt.alloc(), "f1", "stops.txt");
-    (reading, reads.get())
+    let is_whole = reading.map(|file| has_bytes(&file, left));
+    (is_whole, reads.get())
+}
+
+fn assert_told(rt: &impl Abort, system: HostRuntime, told: &str) -> Result<(), Fail> {
+    let file = fs::create(&system, told)?;
+    for (len, limit) in [(0, 5), (3, 5), (100, 5), (200_000_000, 1_073_741_824)] {
+        file.set_len(len)?;
+        let reading = read_drip(system, limit, b"stops", None, told);
+        assert_eq!(rt; reading, (Ok(true), 6), "{len} told");
+    }
+    Ok(())
 }
 
 // The file tells no length, none yet, that of its beginning, more than it has, and much more.
@@ -333,17 +462,9 @@ fn read_drip(
 fn a_file_is_read_to_its_end_whatever_length_it_tells(rt: HostRuntime) -> Result<(), Fail> {
     let base = make_folder(&rt, "told")?;
     let told = format!(in rt.alloc(); "{base}/length")?;
-    let (reading, _) = read_drip(rt, 5, b"stops", None, told.as_str());
-    assert_file(&rt, reading?, b"stops");
-    let file = fs::create(&rt, told.as_str())?;
-    for (len, limit) in [(0, 5), (3, 5), (100, 5), (200_000_000, 1_073_741_824)] {
-        file.set_len(len)?;
-        let (reading, reads) = read_drip(rt, limit, b"stops", None, told.as_str());
-        assert_file(&rt, reading?, b"stops");
-        assert_eq!(rt; reads, 6);
-    }
-    let (reading, _) = read_drip(rt, 0, b"", None, "");
-    assert_file(&rt, reading?, b"");
+    assert_eq!(rt; read_drip(rt, 5, b"stops", None, told.as_str()).0, Ok(true));
+    assert_told(&rt, rt, told.as_str())?;
+    assert_eq!(rt; read_drip(rt, 0, b"", None, "").0, Ok(true));
     fs::remove_dir_all(&rt, base.as_str())?;
     Ok(())
 }
@@ -351,23 +472,20 @@ fn a_file_is_read_to_its_end_whatever_length_it_tells(rt: HostRuntime) -> Result
 #[test]
 fn one_byte_more_than_the_limit_is_taken(rt: HostRuntime) {
     for left in [b"stops".as_slice(), b"stop_times".as_slice()] {
-        let (reading, reads) = read_drip(rt, 4, left, None, "");
-        assert_eq!(rt; reading.err(), Some(FolderFault::TooLarge));
-        assert_eq!(rt; reads, 5);
+        let reading = read_drip(rt, 4, left, None, "");
+        assert_eq!(rt; reading, (Err(FolderFault::TooLarge), 5));
     }
 }
 
 #[test]
 fn a_fault_ends_the_reading(rt: HostRuntime) {
-    let (reading, reads) = read_drip(rt, 9, b"stops", Some(ErrorKind::TimedOut), "");
-    assert_eq!(rt; reading.err(), Some(FolderFault::Read));
-    assert_eq!(rt; reads, 6);
+    let reading = read_drip(rt, 9, b"stops", Some(ErrorKind::TimedOut), "");
+    assert_eq!(rt; reading, (Err(FolderFault::Read), 6));
 }
 
 // A file whose reads are interrupted each time is given up after two reads more than the limit.
 #[test]
 fn a_file_that_never_ends_is_given_up(rt: HostRuntime) {
-    let (reading, reads) = read_drip(rt, 7, b"", Some(ErrorKind::Interrupted), "");
-    assert_eq!(rt; reading.err(), Some(FolderFault::Read));
-    assert_eq!(rt; reads, 9);
+    let reading = read_drip(rt, 7, b"", Some(ErrorKind::Interrupted), "");
+    assert_eq!(rt; reading, (Err(FolderFault::Read), 9));
 }

@@ -5,16 +5,17 @@ use gtfs_table::{Failed, FolderFault, OutFault};
 use std::test::Fail;
 
 // The program prints these lines after a path.
+const FOLDER_FAULTS: &[(FolderFault, u8, &str)] = &[
+    (FolderFault::Read, 1, "cannot be read"),
+    (FolderFault::TooLarge, 2, "holds a file over the limit"),
+    (FolderFault::OutOfMemory, 3, "out of memory"),
+    (FolderFault::NoFolder, 4, "is not there"),
+    (FolderFault::Write, 5, "cannot be written"),
+];
+
 #[test]
 fn faults_of_folders(rt: HostRuntime) -> Result<(), Fail> {
-    let lines = [
-        (FolderFault::Read, 1, "cannot be read"),
-        (FolderFault::TooLarge, 2, "holds a file over the limit"),
-        (FolderFault::OutOfMemory, 3, "out of memory"),
-        (FolderFault::NoFolder, 4, "is not there"),
-        (FolderFault::Write, 5, "cannot be written"),
-    ];
-    for (fault, number, line) in lines {
+    for &(fault, number, line) in FOLDER_FAULTS {
         assert_eq!(rt; fault as u8, number);
         assert_eq!(rt; format!(in rt.alloc(); "{fault}")?.as_str(), line);
     }

@@ -1,65 +1,101 @@
 //! Folders in memory: what was put or written is told, and each call fails in turn.
+ghost use Rattle.std.specs.Prelude.{◌<◌};
+
 use gtfs_table::{FolderFault, Folders, MemoryFolders};
+use std::alloc::Global;
 use std::process::Abort;
 use std::test::Fail;
 
-const NO_NAMES: [&str; 0] = [];
+// The folder's files, each by its name, a `=`, its bytes and a `;`.
+fn shown(alloc: Global, folders: &mut MemoryFolders, dir: &str) -> Result<Vec<u8>, Fail> {
+    let mut files = Vec::new(alloc);
+    for name in &folders.names(alloc, dir)? {
+        push_file(alloc, folders, dir, name.as_str(), &mut files)?;
+    }
+    Ok(files)
+}
 
-fn assert_names<R: Abort + AllocGlobal>(
-    rt: &R,
+fn push_file(
+    alloc: Global,
     folders: &mut MemoryFolders,
     dir: &str,
-    expected: &[&str],
+    name: &str,
+    files: &mut Vec<u8>,
 ) -> Result<(), Fail> {
-    let names = folders.names(rt.alloc(), dir)?;
-    assert_eq!(rt; names.len(), expected.len());
-    for (name, wanted) in names.iter().zip(expected) {
-        assert_eq!(rt; name.as_str(), *wanted);
+    files.extend_from_slice(name.as_bytes())?;
+    files.push(b'=')?;
+    if let Some(bytes) = folders.read(alloc, dir, name)? {
+        files.extend_from_slice(&bytes)?;
     }
+    files.push(b';')?;
     Ok(())
 }
 
-fn assert_file<R: Abort + AllocGlobal>(
-    rt: &R,
+fn assert_files(
+    rt: &impl Abort,
+    alloc: Global,
+    folders: &mut MemoryFolders,
+    dir: &str,
+    wanted: &[u8],
+) -> Result<(), Fail> {
+    assert_eq!(rt; shown(alloc, folders, dir)?.as_slice(), wanted, "in {dir}");
+    Ok(())
+}
+
+// Why a file of the folder f1 cannot be read, if it cannot.
+fn fault_of(alloc: Global, folders: &mut MemoryFolders, name: &str) -> Option<FolderFault> {
+    folders.read(alloc, "f1", name).err()
+}
+
+// Whether a file of the folder f1 has these bytes.
+fn has_file(
+    alloc: Global,
     folders: &mut MemoryFolders,
     name: &str,
-    expected: Option<&[u8]>,
-) -> Result<(), Fail> {
-    let file = folders.read(rt.alloc(), "f1", name)?;
-    assert_eq!(rt; file.is_some(), expected.is_some());
-    if let (Some(bytes), Some(wanted)) = (file, expected) {
-        assert_eq!(rt; bytes.as_slice(), wanted);
-    }
+    bytes: &[u8],
+) -> Result<bool, FolderFault> {
+    let file = folders.read(alloc, "f1", name)?;
+    Ok(file.is_some_and(|found| found.as_slice() == bytes))
+}
+
+#[test]
+fn an_absent_folder_is_none(rt: HostRuntime) {
+    let mut folders = MemoryFolders::new(rt.alloc(), 100, None);
+    let no_folder = Some(FolderFault::NoFolder);
+    assert_eq!(rt; folders.names(rt.alloc(), "f1").err(), no_folder);
+    assert_eq!(rt; fault_of(rt.alloc(), &mut folders, "stops.txt"), no_folder);
+    assert_eq!(rt; folders.failures(), 0);
+}
+
+#[test]
+fn an_empty_folder_has_no_file(rt: HostRuntime) -> Result<(), Fail> {
+    let mut folders = MemoryFolders::new(rt.alloc(), 100, None);
+    folders.put_folder("f1")?;
+    assert_files(&rt, rt.alloc(), &mut folders, "f1", b"")?;
+    let file = folders.read(rt.alloc(), "f1", "stops.txt")?;
+    assert!(rt; file.is_none());
+    assert_eq!(rt; folders.failures(), 0);
+    Ok(())
+}
+
+fn put_two_folders(folders: &mut MemoryFolders) -> Result<(), Fail> {
+    folders.put("f1", "stops.txt", b"stop_id\nS1\n")?;
+    folders.put("f1", "agency.txt", b"agency_name\n")?;
+    folders.put_folder("f1")?;
+    folders.put("other", "Z", b"")?;
     Ok(())
 }
 
 #[test]
 fn what_was_put_is_told(rt: HostRuntime) -> Result<(), Fail> {
     let mut folders = MemoryFolders::new(rt.alloc(), 100, None);
-    assert_eq!(rt;
-        folders.names(rt.alloc(), "f1").err(),
-        Some(FolderFault::NoFolder)
-    );
-    assert_eq!(rt;
-        folders.read(rt.alloc(), "f1", "stops.txt").err(),
-        Some(FolderFault::NoFolder)
-    );
-
-    folders.put_folder("f1")?;
-    assert_names(&rt, &mut folders, "f1", &NO_NAMES)?;
-    assert_file(&rt, &mut folders, "stops.txt", None)?;
-
-    folders.put("f1", "stops.txt", b"stop_id\nS1\n")?;
-    folders.put("f1", "agency.txt", b"agency_name\n")?;
-    folders.put_folder("f1")?;
-    folders.put("other", "Z", b"")?;
-    assert_names(&rt, &mut folders, "f1", &["agency.txt", "stops.txt"])?;
-    assert_names(&rt, &mut folders, "other", &["Z"])?;
-    assert_file(&rt, &mut folders, "stops.txt", Some(b"stop_id\nS1\n"))?;
-
+    put_two_folders(&mut folders)?;
+    let files = b"agency.txt=agency_name\n;stops.txt=stop_id\nS1\n;";
+    assert_files(&rt, rt.alloc(), &mut folders, "f1", files)?;
+    assert_files(&rt, rt.alloc(), &mut folders, "other", b"Z=;")?;
     folders.put("f1", "stops.txt", b"stop_id\n")?;
-    assert_file(&rt, &mut folders, "stops.txt", Some(b"stop_id\n"))?;
-    assert_file(&rt, &mut folders, "agency.txt", Some(b"agency_name\n"))?;
+    let files = b"agency.txt=agency_name\n;stops.txt=stop_id\n;";
+    assert_files(&rt, rt.alloc(), &mut folders, "f1", files)?;
     assert_eq!(rt; folders.failures(), 0);
     Ok(())
 }
@@ -67,12 +103,10 @@ fn what_was_put_is_told(rt: HostRuntime) -> Result<(), Fail> {
 #[test]
 fn what_was_written_is_read(rt: HostRuntime) -> Result<(), Fail> {
     let mut folders = MemoryFolders::new(rt.alloc(), 100, None);
-    folders.write(rt.alloc(), "f1", "b", b"1")?;
-    folders.write(rt.alloc(), "f1", "a", b"2")?;
-    folders.write(rt.alloc(), "f1", "b", b"345")?;
-    assert_names(&rt, &mut folders, "f1", &["a", "b"])?;
-    assert_file(&rt, &mut folders, "b", Some(b"345"))?;
-    assert_file(&rt, &mut folders, "a", Some(b"2"))
+    for (name, bytes) in [("b", b"1".as_slice()), ("a", b"2"), ("b", b"345")] {
+        folders.write(rt.alloc(), "f1", name, bytes)?;
+    }
+    assert_files(&rt, rt.alloc(), &mut folders, "f1", b"a=2;b=345;")
 }
 
 #[test]
@@ -80,39 +114,59 @@ fn reading_alone_judges_the_limit(rt: HostRuntime) -> Result<(), Fail> {
     let mut folders = MemoryFolders::new(rt.alloc(), 4, None);
     folders.write(rt.alloc(), "f1", "fits", b"1234")?;
     folders.write(rt.alloc(), "f1", "large", b"12345")?;
-    assert_file(&rt, &mut folders, "fits", Some(b"1234"))?;
-    assert_eq!(rt;
-        folders.read(rt.alloc(), "f1", "large").err(),
-        Some(FolderFault::TooLarge)
-    );
+    assert!(rt; has_file(rt.alloc(), &mut folders, "fits", b"1234")?);
+    let fault = fault_of(rt.alloc(), &mut folders, "large");
+    assert_eq!(rt; fault, Some(FolderFault::TooLarge));
     assert_eq!(rt; folders.failures(), 0);
     Ok(())
 }
 
-// Of the calls `names`, `read`, `write`, `read`, the one with the number fails.
+type Faults = [Option<FolderFault>; 4];
+
+// Why each of the calls `names`, `read`, `write` and, of an absent folder, `read` fails.
+fn faults_of(alloc: Global, folders: &mut MemoryFolders) -> Faults {
+    [
+        folders.names(alloc, "f1").err(),
+        fault_of(alloc, folders, "a"),
+        folders.write(alloc, "f1", "a", b"new").err(),
+        folders.read(alloc, "f2", "a").err(),
+    ]
+}
+
+// Of these calls, the one with the number fails.
+fn wanted_faults(number: u64) -> Faults {
+    let missing = if number == 4 {
+        FolderFault::Read
+    } else {
+        FolderFault::NoFolder
+    };
+    [
+        (number == 1).then_some(FolderFault::Read),
+        (number == 2).then_some(FolderFault::Read),
+        (number == 3).then_some(FolderFault::Write),
+        Some(missing),
+    ]
+}
+
+fn assert_fails(rt: &impl Abort, alloc: Global, number: u64) -> Result<(), Fail>
+    requires { number < 7 }
+{
+    let mut folders = MemoryFolders::new(alloc, 100, Some(number));
+    folders.put("f1", "a", b"old")?;
+    let faults = faults_of(alloc, &mut folders);
+    assert_eq!(rt; faults, wanted_faults(number), "call {number}");
+    assert_eq!(rt; folders.failures(), u64::from(0 < number && number < 5));
+    if number != 5 {
+        let kept: &[u8] = if number == 3 { b"old" } else { b"new" };
+        assert!(rt; has_file(alloc, &mut folders, "a", kept)?);
+    }
+    Ok(())
+}
+
 #[test]
 fn each_call_fails_in_turn(rt: HostRuntime) -> Result<(), Fail> {
     for number in 0..7 {
-        let mut folders = MemoryFolders::new(rt.alloc(), 100, Some(number));
-        folders.put("f1", "a", b"old")?;
-        let listed = folders.names(rt.alloc(), "f1").err();
-        assert_eq!(rt; listed, (number == 1).then_some(FolderFault::Read));
-        let read = folders.read(rt.alloc(), "f1", "a").err();
-        assert_eq!(rt; read, (number == 2).then_some(FolderFault::Read));
-        let written = folders.write(rt.alloc(), "f1", "a", b"new").err();
-        assert_eq!(rt; written, (number == 3).then_some(FolderFault::Write));
-        let missing = folders.read(rt.alloc(), "f2", "a").err();
-        let fault = if number == 4 {
-            FolderFault::Read
-        } else {
-            FolderFault::NoFolder
-        };
-        assert_eq!(rt; missing, Some(fault));
-        assert_eq!(rt; folders.failures(), u64::from(0 < number && number < 5));
-        if number != 5 {
-            let kept: &[u8] = if number == 3 { b"old" } else { b"new" };
-            assert_file(&rt, &mut folders, "a", Some(kept))?;
-        }
+        assert_fails(&rt, rt.alloc(), number)?;
     }
     Ok(())
 }

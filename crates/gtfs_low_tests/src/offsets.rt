@@ -2,6 +2,7 @@
 use gtfs_field::OutOfMemory;
 use gtfs_table::{File, FolderFault, Folders, MemoryFolders, Tables};
 use std::alloc::Global;
+use std::process::Abort;
 use std::test::Fail;
 
 const LIMIT: u64 = 1_000_000;
@@ -53,49 +54,74 @@ fn written(alloc: Global, text: &str) -> Result<Vec<u8>, Fail> {
     Ok(bytes)
 }
 
+// The text stays as it is where it is written again, and a record is pushed after it.
+fn assert_kept(rt: &impl Abort, alloc: Global, text: &mut String) -> Result<(), Fail> {
+    let bytes = written(alloc, text.as_str())?;
+    text.push_str("p,q,r\n")?;
+    assert!(rt; bytes.as_slice() == text.as_bytes());
+    Ok(())
+}
+
 #[test]
 fn many_fields_are_kept(rt: HostRuntime) -> Result<(), Fail> {
     let mut text = String::new(rt.alloc());
     for _ in 0..5 {
         push_numbers(rt.alloc(), &mut text)?;
     }
-    let bytes = written(rt.alloc(), text.as_str())?;
-    text.push_str("p,q,r\n")?;
-    assert!(rt; bytes.as_slice() == text.as_bytes());
-    Ok(())
+    assert_kept(&rt, rt.alloc(), &mut text)
+}
+
+// A record with a long field between two of 201 fields.
+fn push_long_between(alloc: Global, text: &mut String) -> Result<(), OutOfMemory> {
+    push_numbers(alloc, text)?;
+    push_long(text)?;
+    push_numbers(alloc, text)
 }
 
 #[test]
 fn fields_after_a_long_one_are_kept(rt: HostRuntime) -> Result<(), Fail> {
     let mut text = String::new(rt.alloc());
-    push_numbers(rt.alloc(), &mut text)?;
-    push_long(&mut text)?;
-    push_numbers(rt.alloc(), &mut text)?;
-    let bytes = written(rt.alloc(), text.as_str())?;
-    text.push_str("p,q,r\n")?;
-    assert!(rt; bytes.as_slice() == text.as_bytes());
-    Ok(())
+    push_long_between(rt.alloc(), &mut text)?;
+    assert_kept(&rt, rt.alloc(), &mut text)
+}
+
+fn long_tables(alloc: Global) -> Result<Tables, Fail> {
+    let mut text = String::new(alloc);
+    push_long_between(alloc, &mut text)?;
+    Ok(tables_of(alloc, text.as_str())?)
+}
+
+// A row, and how many fields its record has.
+const COUNTS: &[(usize, usize)] = &[(1, 201), (2, 3), (3, 201)];
+
+// A row, the index of a field, and the field.
+const FIELDS: &[(usize, usize, &str)] = &[
+    (1, 0, "0"),
+    (1, 64, "64"),
+    (1, 127, "127"),
+    (1, 200, "end"),
+    (2, 0, "a"),
+    (2, 2, "b"),
+    (3, 0, "0"),
+    (3, 64, "64"),
+    (3, 127, "127"),
+    (3, 200, "end"),
+];
+
+fn assert_fields(rt: &impl Abort, tables: &Tables) {
+    for &(row, index, field) in FIELDS {
+        let found = tables.record(File::Trips, row).field(index);
+        assert_eq!(rt; found, field, "field {index} of row {row}");
+    }
 }
 
 #[test]
 fn a_long_field_stands_between_its_neighbours(rt: HostRuntime) -> Result<(), Fail> {
-    let mut text = String::new(rt.alloc());
-    push_numbers(rt.alloc(), &mut text)?;
-    push_long(&mut text)?;
-    push_numbers(rt.alloc(), &mut text)?;
-    let tables = tables_of(rt.alloc(), text.as_str())?;
-    let long = tables.record(File::Trips, 2);
-    assert_eq!(rt; long.len(), 3);
-    assert_eq!(rt; long.field(0), "a");
-    assert_eq!(rt; long.field(1).len(), 70_000);
-    assert_eq!(rt; long.field(2), "b");
-    for row in [1, 3] {
-        let record = tables.record(File::Trips, row);
-        assert_eq!(rt; record.len(), 201);
-        assert_eq!(rt; record.field(0), "0");
-        assert_eq!(rt; record.field(64), "64");
-        assert_eq!(rt; record.field(127), "127");
-        assert_eq!(rt; record.field(200), "end");
+    let tables = long_tables(rt.alloc())?;
+    for &(row, count) in COUNTS {
+        assert_eq!(rt; tables.record(File::Trips, row).len(), count, "row {row}");
     }
+    assert_fields(&rt, &tables);
+    assert_eq!(rt; tables.record(File::Trips, 2).field(1).len(), 70_000);
     Ok(())
 }

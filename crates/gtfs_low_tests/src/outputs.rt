@@ -55,14 +55,21 @@ fn a_text_goes_out_whole_or_up_to_its_room(rt: HostRuntime) -> Result<(), Fail> 
     Ok(())
 }
 
+// What an output of ten bytes takes of each text.
+const TAKEN: &[(&[u8], Result<usize, Failed>)] = &[
+    (b"E07 stop", Ok(8)),
+    (b"", Ok(0)),
+    (b"_times.txt", Ok(2)),
+    (b"imes.txt", Err(Failed)),
+    (b"", Ok(0)),
+];
+
 #[test]
 fn an_output_in_memory_fails_where_its_room_ends(rt: HostRuntime) -> Result<(), Fail> {
     let mut out = MemoryOut::new(rt.alloc(), 10)?;
-    assert_eq!(rt; out.write(b"E07 stop"), Ok(8));
-    assert_eq!(rt; out.write(b""), Ok(0));
-    assert_eq!(rt; out.write(b"_times.txt"), Ok(2));
-    assert_eq!(rt; out.write(b"imes.txt"), Err(Failed));
-    assert_eq!(rt; out.write(b""), Ok(0));
+    for (text, taken) in TAKEN {
+        assert_eq!(rt; out.write(text), *taken);
+    }
     assert_eq!(rt; out.bytes(), b"E07 stop_t".as_slice());
     assert_eq!(rt; out.failures(), 1);
     Ok(())

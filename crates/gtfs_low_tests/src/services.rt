@@ -5,6 +5,7 @@ ghost use Rattle.jiff_core.specs.Calendar.{IsBetween};
 use gtfs_days::Exception::{Added, Removed};
 use gtfs_days::{FIRST_SERVICE_DAY, LAST_SERVICE_DAY, Service, Week};
 use gtfs_field::{Day, read_date};
+use std::process::Abort;
 use std::test::Fail;
 
 // A day of April 2024, of which the 1st is a Monday.
@@ -15,26 +16,48 @@ fn april(day: i32) -> Day
     Day::from_number(19_813 + day)
 }
 
-#[test]
-fn weekdays_with_an_added_and_a_removed_day(rt: HostRuntime) -> Result<(), Fail> {
-    let week = Week {
-        days: [true, true, true, true, true, false, false],
-        start: april(1),
-        end: april(5),
-    };
-    let exceptions = [(april(10), Added), (april(3), Removed)];
-    let service = Service::new(rt.alloc(), Some(week), &exceptions)?;
-    let active = [
-        true, true, false, true, true, false, false, false, false, true, false,
-    ];
-    for (before, active) in active.iter().enumerate() {
+// Whether the service runs on these days.
+fn assert_active(rt: &impl Abort, service: &Service, days: &[(Day, bool)]) {
+    for &(day, active) in days {
+        assert_eq!(rt; service.active(day), active, "on {day:?}");
+    }
+}
+
+// The first day from each of these on that the service runs.
+fn assert_next(rt: &impl Abort, service: &Service, days: &[(Day, Option<Day>)]) {
+    for &(day, next) in days {
+        assert_eq!(rt; service.next_active(day), next, "from {day:?}");
+    }
+}
+
+// The days of April 2024 up to the 11th.
+const ACTIVE: [bool; 11] = [
+    true, true, false, true, true, false, false, false, false, true, false,
+];
+
+fn assert_april(rt: &impl Abort, service: &Service) {
+    for (before, active) in ACTIVE.iter().enumerate() {
         let day = Day::from_number(19_814 + before as i32);
         assert_eq!(rt; service.active(day), *active, "{before} days after the 1st");
     }
-    assert_eq!(rt; service.next_active(april(1)), Some(april(1)));
-    assert_eq!(rt; service.next_active(april(3)), Some(april(4)));
-    assert_eq!(rt; service.next_active(april(6)), Some(april(10)));
-    assert_eq!(rt; service.next_active(april(11)), None);
+    let next = [
+        (april(1), Some(april(1))),
+        (april(3), Some(april(4))),
+        (april(6), Some(april(10))),
+        (april(11), None),
+    ];
+    assert_next(rt, service, &next);
+}
+
+const WORKDAYS: [bool; 7] = [true, true, true, true, true, false, false];
+
+#[test]
+fn weekdays_with_an_added_and_a_removed_day(rt: HostRuntime) -> Result<(), Fail> {
+    let (days, start, end) = (WORKDAYS, april(1), april(5));
+    let week = Week { days, start, end };
+    let exceptions = [(april(10), Added), (april(3), Removed)];
+    let service = Service::new(rt.alloc(), Some(week), &exceptions)?;
+    assert_april(&rt, &service);
     assert_eq!(rt; service.week(), Some(&week));
     let by_day = [(april(3), Removed), (april(10), Added)];
     assert_eq!(rt; service.exceptions(), by_day.as_slice());
@@ -43,13 +66,15 @@ fn weekdays_with_an_added_and_a_removed_day(rt: HostRuntime) -> Result<(), Fail>
 
 #[test]
 fn one_added_day_alone(rt: HostRuntime) -> Result<(), Fail> {
-    let service = Service::new(rt.alloc(), None, &[(april(6), Added)])?;
-    for (day, active) in [(april(5), false), (april(6), true), (april(7), false)] {
-        assert_eq!(rt; service.active(day), active, "on {day:?}");
-    }
-    assert_eq!(rt; service.next_active(april(1)), Some(april(6)));
-    assert_eq!(rt; service.next_active(april(6)), Some(april(6)));
-    assert_eq!(rt; service.next_active(april(7)), None);
+    let (before, day, after) = (april(5), april(6), april(7));
+    let service = Service::new(rt.alloc(), None, &[(day, Added)])?;
+    assert_active(
+        &rt,
+        &service,
+        &[(before, false), (day, true), (after, false)],
+    );
+    let next = [(april(1), Some(day)), (day, Some(day)), (after, None)];
+    assert_next(&rt, &service, &next);
     assert_eq!(rt; service.week(), None);
     Ok(())
 }
@@ -66,36 +91,41 @@ fn a_weekday_that_the_row_does_not_reach(rt: HostRuntime) -> Result<(), Fail> {
     Ok(())
 }
 
-// The limits of service days are these dates. A service that is never without a day runs on both, and
-// not on the day after the last; before the first there is no date.
+// The limits of service days, and the day after the last.
+const LIMITS: &[(&str, i32)] = &[
+    ("19000101", FIRST_SERVICE_DAY),
+    ("99981231", LAST_SERVICE_DAY),
+    ("99990101", LAST_SERVICE_DAY + 1),
+];
+
+#[test]
+fn service_days_are_dates(rt: HostRuntime) {
+    for (text, number) in LIMITS {
+        assert_eq!(rt; read_date(text).map(|day| day.number()), Ok(*number));
+    }
+}
+
+// A service that is never without a day runs on both limits, and not on the day after the last; before the first there
+// is no date.
 #[test]
 fn the_first_and_the_last_service_day(rt: HostRuntime) -> Result<(), Fail> {
-    assert_eq!(rt;
-        read_date("19000101"),
-        Ok(Day::from_number(FIRST_SERVICE_DAY))
-    );
-    assert_eq!(rt;
-        read_date("99981231"),
-        Ok(Day::from_number(LAST_SERVICE_DAY))
-    );
     let first = Day::from_number(FIRST_SERVICE_DAY);
     let last = Day::from_number(LAST_SERVICE_DAY);
     let after = Day::from_number(LAST_SERVICE_DAY + 1);
-    assert_eq!(rt; read_date("99990101"), Ok(after));
+    let (days, end) = ([true; 7], Day::from_number(2_932_896));
     let week = Week {
-        days: [true; 7],
+        days,
         start: first,
-        end: Day::from_number(2_932_896),
+        end,
     };
     let service = Service::new(rt.alloc(), Some(week), &[])?;
-    for (day, active) in [(first, true), (last, true), (after, false)] {
-        assert_eq!(rt; service.active(day), active, "on {day:?}");
-        assert_eq!(rt;
-            service.next_active(day),
-            active.then_some(day),
-            "from {day:?}"
-        );
-    }
+    assert_active(
+        &rt,
+        &service,
+        &[(first, true), (last, true), (after, false)],
+    );
+    let next = [(first, Some(first)), (last, Some(last)), (after, None)];
+    assert_next(&rt, &service, &next);
     Ok(())
 }
 
@@ -105,29 +135,29 @@ fn no_service_in_the_year_9999(rt: HostRuntime) -> Result<(), Fail> {
     let last = Day::from_number(2_932_531);
     let after = Day::from_number(2_932_532);
     let end = Day::from_number(2_932_896);
-    let week = Week {
-        days: [true; 7],
-        start: april(1),
-        end,
-    };
+    let (days, start) = ([true; 7], april(1));
+    let week = Week { days, start, end };
     let service = Service::new(rt.alloc(), Some(week), &[(end, Added)])?;
-    assert_eq!(rt; service.next_active(last), Some(last));
-    assert_eq!(rt; service.next_active(after), None);
-    for (day, active) in [(last, true), (after, false), (end, false)] {
-        assert_eq!(rt; service.active(day), active, "on {day:?}");
-    }
+    assert_next(&rt, &service, &[(last, Some(last)), (after, None)]);
+    assert_active(&rt, &service, &[(last, true), (after, false), (end, false)]);
     Ok(())
 }
 
 #[test]
-fn never_active(rt: HostRuntime) -> Result<(), Fail> {
-    let first = Day::from_number(-25_567);
+fn a_service_without_rows_is_never_active(rt: HostRuntime) -> Result<(), Fail> {
     let service = Service::new(rt.alloc(), None, &[])?;
-    assert_eq!(rt; service.next_active(first), None);
+    assert_eq!(rt; service.next_active(Day::from_number(-25_567)), None);
+    Ok(())
+}
+
+#[test]
+fn a_service_without_weekdays_is_never_active(rt: HostRuntime) -> Result<(), Fail> {
+    let first = Day::from_number(-25_567);
+    let (days, end) = ([false; 7], Day::from_number(2_932_531));
     let week = Week {
-        days: [false; 7],
+        days,
         start: first,
-        end: Day::from_number(2_932_531),
+        end,
     };
     let service = Service::new(rt.alloc(), Some(week), &[])?;
     assert_eq!(rt; service.next_active(first), None);
