@@ -12,7 +12,7 @@ use Rattle.gtfs_rows.proofs.Held.{text_antisymmetric}
 use Rattle.gtfs_rows.proofs.SameElements.{contains-first, contains-from_map, contains-later, contains-map, pairs-map}
 use Rattle.gtfs_merge.specs.Merged.{by_id}
 
--- a pair of places of a mapped list is one of the list
+-- two elements of a mapped list come from two of the list
 pairs-from_map : {A X : Type 0} (f : A → X) (R : X → X → Type 0) (xs : List A) → AllPairs R (map f xs) → AllPairs (λ x y. R (f x) (f y)) xs
 pairs-from_map f R xs up i j d before within =
     let first = get_or-map f xs i d (f d) (omega arith) in

@@ -24,16 +24,16 @@ pub before-any : {X : Type 0} (p : X → Bool) (xs : List X) → nat_lt (positio
 before-any p [] = refl
 before-any p (x ∷ xs) = elim (p x) as (λ b. nat_lt (cond (not b) (1 + position_or_len p xs) 0) (suc (length xs)) ≡ (b || list_any p xs)) [ true ↦ lt-zero (length xs) | false ↦ lt-more (position_or_len p xs) (length xs) ∙ before-any p xs ]
 
-place-any : (b : Bool) (n : ℕ) → is_some (cond b (Some n) None) ≡ b
-place-any true n = refl
-place-any false n = refl
+is_some-cond : (b : Bool) (n : ℕ) → is_some (cond b (Some n) None) ≡ b
+is_some-cond true n = refl
+is_some-cond false n = refl
 
 some-map : {X Y : Type 0} (f : X → Y) (o : Option X) → is_some (option_map f o) ≡ is_some o
 some-map f None = refl
 some-map f (Some x) = refl
 
 pub known : {X : Type 0} (f : X → ℕ) (o : Option X) (ids : List (List ℕ)) (x : List ℕ) → option_map f o ≡ position (bytes_eq x) ids → is_some o ≡ has_id ids x
-known f o ids x e = sym (some-map f o) ∙ ap is_some e ∙ place-any (nat_lt (position_or_len (bytes_eq x) ids) (length ids)) (position_or_len (bytes_eq x) ids) ∙ before-any (bytes_eq x) ids
+known f o ids x e = sym (some-map f o) ∙ ap is_some e ∙ is_some-cond (nat_lt (position_or_len (bytes_eq x) ids) (length ids)) (position_or_len (bytes_eq x) ids) ∙ before-any (bytes_eq x) ids
 
 -- ---- the search
 

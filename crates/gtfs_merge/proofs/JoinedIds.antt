@@ -36,13 +36,13 @@ joined-has near kind.Route a b x j = by-has (λ r. r.route_id) _ a.routes b.rout
 joined-has near kind.Service a b x j = by-has (λ s. s.service_id) _ a.services b.services x j
 joined-has near kind.Trip a b x j = by-has (λ t. t.trip_id) _ a.trips b.trips x j
 
-placed : (b : Bool) (n : ℕ) → is_some (cond b (Some n) None) ≡ b
-placed true n = refl
-placed false n = refl
+is_some-cond : (b : Bool) (n : ℕ) → is_some (cond b (Some n) None) ≡ b
+is_some-cond true n = refl
+is_some-cond false n = refl
 
 -- an id has a number where it is there
 pub has-number : (xs : List (List ℕ)) (x : List ℕ) → is_some (position (bytes_eq x) xs) ≡ has_id xs x
-has-number xs x = placed _ (position_or_len (bytes_eq x) xs) ∙ before-any (bytes_eq x) xs
+has-number xs x = is_some-cond _ (position_or_len (bytes_eq x) xs) ∙ before-any (bytes_eq x) xs
 
 pub number-tells : (j : Bool) (xs : List (List ℕ)) (x : List ℕ) → (j ≡ true → has_id xs x ≡ true) → is_some (number_if j xs x) ≡ j
 number-tells true xs x has = has-number xs x ∙ has refl
@@ -67,9 +67,9 @@ told-at p q sound_p k n within result is =
     is ∙ ap (λ xs. is_some (get_or xs n None)) (of-kind p q k) ∙ ap is_some (get_or-map (joined_number k p q) (known_ids k q) n [] None within)
     ∙ number-tells joined (known_ids k p) x (λ j. subst (λ xs. has_id xs x ≡ true) (ids-known k p sound_p) (joined-has never_near k (content_of_parts p) (content_of_parts q) x j).0)
 
--- the id at a place
-pub own-place : (xs : List (List ℕ)) (x : List ℕ) (n : ℕ) → position (bytes_eq x) xs ≡ Some n → (n < length xs) × (x ≡ get_or xs n [])
-own-place xs x n place = let there = position-Some (bytes_eq x) xs n [] place in (there.0, same_bytes x _ there.1)
+-- the id of a number
+pub own-index : (xs : List (List ℕ)) (x : List ℕ) (n : ℕ) → position (bytes_eq x) xs ≡ Some n → (n < length xs) × (x ≡ get_or xs n [])
+own-index xs x n numbered = let there = position-Some (bytes_eq x) xs n [] numbered in (there.0, same_bytes x _ there.1)
 
 module _ (p q : Parts) (sound_p : IsSoundParts p) (sound_q : IsSoundParts q) (k : Kind) (x : List ℕ) where
   abbrev a : Content
@@ -79,6 +79,6 @@ module _ (p q : Parts) (sound_p : IsSoundParts p) (sound_q : IsSoundParts q) (k 
   b = content_of_parts q
 
   pub told-not-there : position (bytes_eq x) (known_ids k q) ≡ None → false ≡ is_joined never_near k a b x
-  told-not-there place = sym (false_from_ne_true _ (λ j.
+  told-not-there numbered = sym (false_from_ne_true _ (λ j.
       let has : has_id (known_ids k q) x ≡ true = subst (λ xs. has_id xs x ≡ true) (ids-known k q sound_q) (joined-has never_near k a b x j).1 in
-      true≢false (sym has ∙ sym (has-number (known_ids k q) x) ∙ ap is_some place)))
+      true≢false (sym has ∙ sym (has-number (known_ids k q) x) ∙ ap is_some numbered)))

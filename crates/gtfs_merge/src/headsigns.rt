@@ -98,8 +98,8 @@ impl Found {
         ensures kept { KeepsHeadsigns self.old self.new }
     {
         let mut numbers = Vec::with_capacity(self.alloc, headsigns.len())?;
-        for place in 0..headsigns.len() {
-            numbers.push(self.number(headsigns[place].as_str())?)?;
+        for headsign in headsigns {
+            numbers.push(self.number(headsign.as_str())?)?;
         }
         Ok(numbers)
     }
@@ -111,8 +111,8 @@ impl Found {
         ensures kept { KeepsHeadsigns self.old self.new }
     {
         let text = String::from_str(self.alloc, headsign)?;
-        let (place, _) = self.texts.insert_full(text)?;
-        let number = headsign_at(place)?;
+        let (index, _) = self.texts.insert_full(text)?;
+        let number = headsign_at(index)?;
         Ok(number)
     }
 
@@ -130,11 +130,11 @@ impl Found {
     }
 }
 
-// The number of a place. No number is left for more than 4,294,967,295 headsigns.
-fn headsign_at(place: usize) -> Result<OptionalHeadsign, OutOfMemory>
-    ensures { IfOk result (λ n. n ≡ Some place) }
+// The number of a headsign by its index. No number is left for more than 4,294,967,295 headsigns.
+fn headsign_at(index: usize) -> Result<OptionalHeadsign, OutOfMemory>
+    ensures { IfOk result (λ n. n ≡ Some index) }
 {
-    match u32::try_from(place) {
+    match u32::try_from(index) {
         Ok(number) if number < u32::MAX => Ok(OptionalHeadsign::new(Some(HeadsignNo(number)))),
         _ => Err(OutOfMemory),
     }
