@@ -51,3 +51,4 @@ pub mod NewNumbers
 pub mod NumberTables
 pub mod MergedLists
 pub mod ServiceCopies
+pub mod NamesPromised
