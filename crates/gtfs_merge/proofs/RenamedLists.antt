@@ -1,8 +1,9 @@
 -- Ids of a kind, put into a table with what each became.
-use Rattle.std.proofs.Common.{◌≡◌, ◌<◌, ◌+◌, ℕ, zero, suc, Bool, false, List, [], ◌∷◌, ◌++◌, Some, None, Option, refl, sym, ap, ◌∙◌, length, map, take, get_or, bytes_eq, option_map, option_and_then, arith}
+use Rattle.std.proofs.Common.{◌≡◌, ◌<◌, ◌≤◌, ◌+◌, ℕ, zero, suc, Bool, false, List, [], ◌∷◌, ◌++◌, Some, None, Option, refl, sym, ap, ◌∙◌, length, map, take, get_or, bytes_eq, option_map, option_and_then, add-one, arith}
 use Rattle.std.specs.List.{AllPairs, list_any, position, position_or_len, slice_get}
 use Rattle.std.specs.declared.cmp.Ordering.TheVariants.{Less}
-use Rattle.std.proofs.lemmas.List.{length-map, map-append}
+use Rattle.std.proofs.Math.Seq.{take-suc}
+use Rattle.std.proofs.lemmas.List.{length-map, map-append, take_all}
 use Rattle.gtfs_table.specs.Folder.{text_cmp}
 use Rattle.gtfs_rows.proofs.Held.{apart_turned}
 use Rattle.gtfs_rows.proofs.SameElements.{pairs-head, pairs-map, pairs-tail}
@@ -41,6 +42,17 @@ known-fresh k p sound n rename table id within is own =
     (λ i. list_any (bytes_eq (own i)) (is i).ids) ∙ texts-fresh (known_ids k p) n (ascend k p sound) within
 
 -- ---- the loop
+
+pub renamed-more : (rename : Renaming) (ids : List (List ℕ)) (n : ℕ) (before after : NewIds) (id name : List ℕ) → n < length ids → before ≡ new_ids rename (take n ids) → after ≡ with_id before id name
+    → id ≡ get_or ids n [] → name ≡ rename (get_or ids n []) → after ≡ new_ids rename (take (n + 1) ids)
+renamed-more rename ids n before after id name within so_far pushed own renamed =
+    let one : take (n + 1) ids ≡ take n ids ++ get_or ids n [] ∷ [] = ap (λ m. take m ids) (add-one n) ∙ take-suc ids n [] within in
+    pushed ∙ (λ i. with_id (so_far i) (own i) (renamed i))
+    ∙ (λ i. record { ids = take n ids ++ get_or ids n [] ∷ []; names = sym (map-append rename (take n ids) (get_or ids n [] ∷ [])) i })
+    ∙ ap (new_ids rename) (sym one)
+
+pub renamed-all : (rename : Renaming) (ids : List (List ℕ)) (n : ℕ) → length ids ≤ n → new_ids rename (take n ids) ≡ new_ids rename ids
+renamed-all rename ids n past = ap (new_ids rename) (take_all n ids past)
 
 -- ---- positions in mapped lists
 

@@ -12,7 +12,6 @@ use std::hash::RandomState;
 use std::marker::Model;
 
 // The headsigns of both feeds, each once, and the new numbers of those of each side.
-#[derive(Drop)]
 pub(crate) struct Headsigns {
     texts: List<Text>,
     a: Vec<OptionalHeadsign>,
@@ -25,6 +24,17 @@ impl Model for Headsigns {
     ghost Value = { HeadsignTable };
 
     ghost view = { λ h. record { texts = h.texts; a = h.a.items; b = h.b.items } };
+}
+
+// Written out, so that a function that lets headsigns go has one call to prove.
+impl Drop for Headsigns {
+    fn drop(self) {
+        let Headsigns {
+            texts: _,
+            a: _,
+            b: _,
+        } = self;
+    }
 }
 
 impl Headsigns {
