@@ -1,5 +1,5 @@
 -- Lists that stand one after another in one list.
-use Rattle.std.proofs.Common.{◌≡◌, ◌+◌, ◌<◌, ◌∙◌, ◌++◌, ◌∷◌, [], ℕ, suc, List, length, map, take, get_or, sym, ap, subst, refl, arith, length-append, add-one, append-nil}
+use Rattle.std.proofs.Common.{◌≡◌, ◌+◌, ◌<◌, ◌∙◌, ◌++◌, ◌∷◌, [], ℕ, zero, suc, List, length, map, take, get_or, sym, ap, subst, refl, arith, length-append, add-one, append-nil}
 use Rattle.std.specs.List.{All, flat_map}
 use Rattle.std.proofs.Math.Seq.{take-suc}
 use Rattle.std.proofs.lemmas.List.Concat.{flat_map-append}
@@ -45,7 +45,13 @@ turn-in_turn {X = X} f v items n d starts starts_after rows rows_after within so
 pub starts-in_turn : {X : Type 0} (lists : List (List X)) (starts : List ℕ) (rows : List X) → StandInTurn lists starts rows → length starts ≡ length lists
 starts-in_turn lists starts rows stand = sym (length-parts starts rows) ∙ ap length stand.stretches
 
--- what holds of all of a mapped list holds of the one at a place
+-- what holds of all of a mapped list holds of the one at an index
 pub all-mapped : {A B : Type 0} (v : A → B) (P : B → Type 0) (items : List A) (n : ℕ) (a : A) → All P (map v items) → n < length items → a ≡ get_or items n a → P (v a)
 all-mapped v P items n a all within is =
     subst P (get_or-map v items n a (v a) within ∙ ap v (sym is)) (all n (v a) (omega (arith, length-map items v)))
+
+-- an element does not depend on what stands for none
+pub same-index : {X : Type 0} (xs : List X) (n : ℕ) (d e : X) → n < length xs → get_or xs n d ≡ get_or xs n e
+same-index [] n d e within = absurd (omega arith)
+same-index (x ∷ xs) zero d e within = refl
+same-index (x ∷ xs) (suc n) d e within = same-index xs n d e (omega arith)

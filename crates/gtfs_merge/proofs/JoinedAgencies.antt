@@ -81,12 +81,6 @@ module _ (a b : Content) (sound_a : IsSound a) (few : length (ids kind.Agency a)
   joined_kept : (x : List ℕ) → joined_agency a b x ≡ true → is_named x ≡ false
   joined_kept x j = ap (λ c. (length x == 0) && not c) j ∙ and-false (length x == 0)
 
-  not_named_joined : (x : List ℕ) → is_named x ≡ false → (length x == 0) ≡ true → joined_agency a b x ≡ true
-  not_named_joined x n z = elim (cases_Bool (joined_agency a b x)) as (λ w. joined_agency a b x ≡ true) [
-    | inl j ↦ j
-    | inr j ↦ absurd (true≢false ((λ i. sym z i && not (sym j i)) ∙ n))
-  ]
-
   -- the free id of A's empty one is no new id of B
   never-free : (s t : List ℕ) → has_id ids_a s ≡ true → has_id ids_b t ≡ true → is_named s ≡ true → free_id taken name ≡ agency_b a b t → ⊥
   never-free s t hs ht named e =

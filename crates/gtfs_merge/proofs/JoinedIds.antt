@@ -6,7 +6,7 @@ use Rattle.std.proofs.lemmas.Bool.{and_parts, false_from_ne_true}
 use Rattle.std.proofs.lemmas.List.{get_or-map, length-map}
 use Rattle.std.proofs.lemmas.List.Quantifiers.{position-Some}
 use Rattle.gtfs_field.proofs.ListFacts.{position_any as before-any}
-use Rattle.gtfs_field.proofs.OptionFacts.{is_some-cond as placed}
+use Rattle.gtfs_field.proofs.OptionFacts.{is_some-cond}
 use Rattle.gtfs_columns.proofs.SiteFacts.{text_is as same_bytes}
 use Rattle.gtfs_rows.specs.Content.{Content}
 use Rattle.gtfs_rows.specs.declared.parts.Parts.{Parts}
@@ -40,7 +40,7 @@ joined-has near kind.Trip a b x j = by-has (λ t. t.trip_id) _ a.trips b.trips x
 
 -- an id has a number where it is there
 pub has-number : (xs : List (List ℕ)) (x : List ℕ) → is_some (position (bytes_eq x) xs) ≡ has_id xs x
-has-number xs x = placed _ (position_or_len (bytes_eq x) xs) ∙ before-any (bytes_eq x) xs
+has-number xs x = is_some-cond _ (position_or_len (bytes_eq x) xs) ∙ before-any (bytes_eq x) xs
 
 pub number-tells : (j : Bool) (xs : List (List ℕ)) (x : List ℕ) → (j ≡ true → has_id xs x ≡ true) → is_some (number_if j xs x) ≡ j
 number-tells true xs x has = has-number xs x ∙ has refl
@@ -65,9 +65,9 @@ told-at p q sound_p k n within result is =
     is ∙ ap (λ xs. is_some (get_or xs n None)) (of-kind p q k) ∙ ap is_some (get_or-map (joined_number k p q) (known_ids k q) n [] None within)
     ∙ number-tells joined (known_ids k p) x (λ j. subst (λ xs. has_id xs x ≡ true) (ids-known k p sound_p) (joined-has never_near k (content_of_parts p) (content_of_parts q) x j).0)
 
--- the id at a place
-pub own-place : (xs : List (List ℕ)) (x : List ℕ) (n : ℕ) → position (bytes_eq x) xs ≡ Some n → (n < length xs) × (x ≡ get_or xs n [])
-own-place xs x n place = let there = position-Some (bytes_eq x) xs n [] place in (there.0, same_bytes x _ there.1)
+-- the id of a number
+pub own-index : (xs : List (List ℕ)) (x : List ℕ) (n : ℕ) → position (bytes_eq x) xs ≡ Some n → (n < length xs) × (x ≡ get_or xs n [])
+own-index xs x n numbered = let there = position-Some (bytes_eq x) xs n [] numbered in (there.0, same_bytes x _ there.1)
 
 module _ (p q : Parts) (sound_p : IsSoundParts p) (sound_q : IsSoundParts q) (k : Kind) (x : List ℕ) where
   abbrev a : Content
@@ -77,6 +77,6 @@ module _ (p q : Parts) (sound_p : IsSoundParts p) (sound_q : IsSoundParts q) (k 
   b = content_of_parts q
 
   pub told-not-there : position (bytes_eq x) (known_ids k q) ≡ None → false ≡ is_joined never_near k a b x
-  told-not-there place = sym (false_from_ne_true _ (λ j.
+  told-not-there numbered = sym (false_from_ne_true _ (λ j.
       let has : has_id (known_ids k q) x ≡ true = subst (λ xs. has_id xs x ≡ true) (ids-known k q sound_q) (joined-has never_near k a b x j).1 in
-      true≢false (sym has ∙ sym (has-number (known_ids k q) x) ∙ ap is_some place)))
+      true≢false (sym has ∙ sym (has-number (known_ids k q) x) ∙ ap is_some numbered)))

@@ -47,10 +47,10 @@ few-known k p q sound_p sound_q small_p small_q =
 module _ (p q : Parts) (sound_p : IsSoundParts p) (sound_q : IsSoundParts q) where
   pub agency-joined : (k n : ℕ) (y x : Agency) (same : Bool) → slice_get q.agencies k ≡ Some y → Some n ≡ position (bytes_eq y.agency_id) (agency_ids p) → slice_get p.agencies n ≡ Some x
       → same ≡ same_agency (agency_of x) (agency_of y) → joined_number kind.Agency p q (get_or (agency_ids q) k []) ≡ (if same then Some n else None)
-  agency-joined k n y x same at place found is =
+  agency-joined k n y x same at numbered found is =
       ap (joined_number kind.Agency p q) (id-at (λ a. a.agency_id) q.agencies k y at)
       ∙ number-same (λ a. a.agency_id) same_agency (content_of_parts p).agencies (content_of_parts q).agencies sound_p.content.in_order.agencies sound_q.content.in_order.agencies
-      k (agency_of y) (row-map agency_of q.agencies k y at) (agency_ids p) (ids-known kind.Agency p sound_p) n (agency_of x) (sym place) (row-map agency_of p.agencies n x found)
+      k (agency_of y) (row-map agency_of q.agencies k y at) (agency_ids p) (ids-known kind.Agency p sound_p) n (agency_of x) (sym numbered) (row-map agency_of p.agencies n x found)
       ∙ ap (λ b. if b then Some n else None) (sym is)
 
   held : {X Y : Type 0} (f : X → Y) (o : Option X) (v : Y) → option_map f o ≡ Some v → (x : X) × (o ≡ Some x) × (f x ≡ v)
@@ -60,12 +60,12 @@ module _ (p q : Parts) (sound_p : IsSoundParts p) (sound_q : IsSoundParts q) whe
   pub service-joined : (k n : ℕ) (t : List ℕ) (v u : ServiceDates) (same : Bool) → option_map (λ s. s.service) (slice_get q.services k) ≡ Some v → get_or (service_ids q) k [] ≡ t
       → Some n ≡ position (bytes_eq t) (service_ids p) → option_map (λ s. s.service) (slice_get p.services n) ≡ Some u
       → same ≡ same_service u v → joined_number kind.Service p q (get_or (service_ids q) k []) ≡ (if same then Some n else None)
-  service-joined k n t v u same at named place found is =
+  service-joined k n t v u same at named numbered found is =
       let y = held (λ s. s.service) (slice_get q.services k) v at in
       let x = held (λ s. s.service) (slice_get p.services n) u found in
       let named_y : y.0.service_id ≡ t = sym (id-at (λ s. s.service_id) q.services k y.0 y.1) ∙ named in
       ap (joined_number kind.Service p q) (named ∙ sym named_y)
       ∙ number-same (λ s. s.service_id) (λ row other. same_service row.service other.service) (content_of_parts p).services (content_of_parts q).services sound_p.content.in_order.services sound_q.content.in_order.services
       k (service_of y.0) (row-map service_of q.services k y.0 y.1) (service_ids p) (ids-known kind.Service p sound_p) n (service_of x.0)
-      (ap (λ w. position (bytes_eq w) (service_ids p)) named_y ∙ sym place) (row-map service_of p.services n x.0 x.1)
+      (ap (λ w. position (bytes_eq w) (service_ids p)) named_y ∙ sym numbered) (row-map service_of p.services n x.0 x.1)
       ∙ ap (λ b. if b then Some n else None) ((λ i. same_service (x.2 i) (y.2 i)) ∙ sym is)

@@ -27,16 +27,16 @@ use Rattle.gtfs_merge.proofs.JoinedKinds.{id-at, ids-known}
 use Rattle.gtfs_merge.proofs.JoinedRows.{number-same}
 use Rattle.gtfs_merge.proofs.JoinedStops.{by-number, renamed-number}
 
--- an id at a place is one of the list
+-- an id at an index is one of the list
 pub has-at : (xs : List (List ℕ)) (m : ℕ) → m < length xs → has_id xs (get_or xs m []) ≡ true
 has-at [] m within = absurd (omega arith)
 has-at (x ∷ xs) zero within = rw (text_itself x) refl
 has-at (x ∷ xs) (suc m) within = or_right (bytes_eq (get_or xs m []) x) _ (has-at xs m (omega arith))
 
--- what a list of joined rows has at a place
-pub joined-at-place : {T : Type 0} (number : T → ℕ) (k : Kind) (p q : Parts) (joined : List (Option T)) (j : ℕ) → map (option_map number) joined ≡ joined_numbers k p q → j < length (known_ids k q)
+-- what a list of joined rows has at an index
+pub joined-at-index : {T : Type 0} (number : T → ℕ) (k : Kind) (p q : Parts) (joined : List (Option T)) (j : ℕ) → map (option_map number) joined ≡ joined_numbers k p q → j < length (known_ids k q)
     → get_or (map (option_map number) joined) j None ≡ joined_number k p q (get_or (known_ids k q) j [])
-joined-at-place number k p q joined j is within = ap (λ xs. get_or xs j None) is ∙ get_or-map (joined_number k p q) (known_ids k q) j [] None within
+joined-at-index number k p q joined j is within = ap (λ xs. get_or xs j None) is ∙ get_or-map (joined_number k p q) (known_ids k q) j [] None within
 
 pub joined-length : {T : Type 0} (number : T → ℕ) (k : Kind) (p q : Parts) (joined : List (Option T)) → map (option_map number) joined ≡ joined_numbers k p q → length joined ≡ length (known_ids k q)
 joined-length number k p q joined is = sym (length-map joined (option_map number)) ∙ ap length is ∙ length-map (known_ids k q) (joined_number k p q)
@@ -76,13 +76,13 @@ module _ (p q : Parts) (sound_p : IsSoundParts p) (sound_q : IsSoundParts q) whe
       → agency ≡ option_eq nat_eq (Some x.agency_id.0) (get_or (map (option_map number) agencies) y.agency_id.0 None)
       → ((ra rb : Renaming) → same_agency_in p q ra rb x y ≡ agency → same ≡ same_route_in p q ra rb x y)
       → joined_number kind.Route p q (get_or (route_ids q) k []) ≡ (if same then Some n else None)
-  route-joined few number agencies known k n y x agency same at place found agency_is same_is =
+  route-joined few number agencies known k n y x agency same at numbered found agency_is same_is =
       let within_y = route_agency q sound_q k y at in
-      let at_place = joined-at-place number kind.Agency p q agencies y.agency_id.0 known (omega (arith, length-map q.agencies (λ r. r.agency_id))) in
+      let at_index = joined-at-index number kind.Agency p q agencies y.agency_id.0 known (omega (arith, length-map q.agencies (λ r. r.agency_id))) in
       let agency_same : same_agency_in p q (agency_a a b) (agency_b a b) x y ≡ agency =
-      agency-named few x.agency_id.0 y.agency_id.0 (route_agency p sound_p n x found) within_y ∙ ap (option_eq nat_eq (Some x.agency_id.0)) (sym at_place) ∙ sym agency_is in
+      agency-named few x.agency_id.0 y.agency_id.0 (route_agency p sound_p n x found) within_y ∙ ap (option_eq nat_eq (Some x.agency_id.0)) (sym at_index) ∙ sym agency_is in
       ap (joined_number kind.Route p q) (id-at (λ r. r.route_id) q.routes k y at)
       ∙ number-same (λ r. r.route_id) (λ row other. same_route (route_with kept_as_is (agency_a a b) row) (route_with kept_as_is (agency_b a b) other)) a.routes b.routes
       sound_p.content.in_order.routes sound_q.content.in_order.routes k (route_of q y) (row-map (route_of q) q.routes k y at) (route_ids p) (ids-known kind.Route p sound_p) n (route_of p x)
-      place (row-map (route_of p) p.routes n x found)
+      numbered (row-map (route_of p) p.routes n x found)
       ∙ ap (λ c. if c then Some n else None) (sym (same_is (agency_a a b) (agency_b a b) agency_same))

@@ -29,7 +29,7 @@ numbered_more number f xs d k items new x within so_far pushed here =
 module _ {X : Type 0} (id : X → List ℕ) where
   look-or : (rows : List X) (q : List ℕ) (x : X) (n : ℕ) → position_or_len (bytes_eq q) (map id rows) ≡ n → slice_get rows n ≡ Some x → look id rows q ≡ Some x
   look-or [] q x n e at = cc
-  look-or (r ∷ rs) q x n place found =
+  look-or (r ∷ rs) q x n numbered found =
       let turned = bytes_flip (id r) q in
       let rest = position_or_len (bytes_eq q) (map id rs) in
       elim (bytes_eq q (id r)) as (λ b. bytes_eq q (id r) ≡ b → cond (not b) (1 + position_or_len (bytes_eq q) (map id rs)) 0 ≡ n → look id (r ∷ rs) q ≡ Some x) [
@@ -38,19 +38,19 @@ module _ {X : Type 0} (id : X → List ℕ) where
             let one : 1 + rest ≡ suc rest = omega arith in
             let next : slice_get (r ∷ rs) (suc rest) ≡ Some x = subst (λ m. slice_get (r ∷ rs) m ≡ Some x) (sym e ∙ one) found in
             (λ i. cond ((turned ∙ t) i) (Some r) (look id rs q)) ∙ look-or rs q x rest refl next
-      ] refl place
+      ] refl numbered
 
-  placed : (b : Bool) (m n : ℕ) → cond b (Some m) None ≡ Some n → m ≡ n
-  placed true m n e = cc
-  placed false m n e = cc
+  same-number : (b : Bool) (m n : ℕ) → cond b (Some m) None ≡ Some n → m ≡ n
+  same-number true m n e = cc
+  same-number false m n e = cc
 
-  -- the row at the place of an id is the one that is found under it
-  pub look-place : (rows : List X) (q : List ℕ) (x : X) (n : ℕ) → position (bytes_eq q) (map id rows) ≡ Some n → slice_get rows n ≡ Some x → look id rows q ≡ Some x
-  look-place rows q x n e at = look-or rows q x n (placed _ _ n e) at
+  -- the row at the index of an id is the one that is found under it
+  pub look-index : (rows : List X) (q : List ℕ) (x : X) (n : ℕ) → position (bytes_eq q) (map id rows) ≡ Some n → slice_get rows n ≡ Some x → look id rows q ≡ Some x
+  look-index rows q x n e at = look-or rows q x n (same-number _ _ n e) at
 
   -- a row is found under its own id
   pub look-own : (rows : List X) (k : ℕ) (y : X) → Ascends (on id text_cmp) rows → slice_get rows k ≡ Some y → look id rows (id y) ≡ Some y
-  look-own rows k y up at = look-place rows (id y) y k (own_number id rows k y up at) at
+  look-own rows k y up at = look-index rows (id y) y k (own_number id rows k y up at) at
 
   module _ (same : X → X → Bool) (rows_a rows_b : List X) (up_a : Ascends (on id text_cmp) rows_a) (up_b : Ascends (on id text_cmp) rows_b) (k : ℕ) (y : X) (at : slice_get rows_b k ≡ Some y) where
     -- a row of B is joined where A's row of its id is the same
@@ -62,11 +62,7 @@ module _ {X : Type 0} (id : X → List ℕ) where
 
     pub number-same : (ids : List (List ℕ)) → map id rows_a ≡ ids → (n : ℕ) (x : X) → position (bytes_eq (id y)) ids ≡ Some n → slice_get rows_a n ≡ Some x
         → number_if (joined_by id same rows_a rows_b (id y)) ids (id y) ≡ (if same x y then Some n else None)
-    number-same ids named n x place found =
-        let there : look id rows_a (id y) ≡ Some x = look-place rows_a (id y) x n (ap (position (bytes_eq (id y))) named ∙ place) found in
+    number-same ids named n x numbered found =
+        let there : look id rows_a (id y) ≡ Some x = look-index rows_a (id y) x n (ap (position (bytes_eq (id y))) named ∙ numbered) found in
         let is : joined_by id same rows_a rows_b (id y) ≡ same x y = joined-at ∙ ap (λ o. holds_at o (λ x. same x y)) there in
-        λ i. if is i then place i else None
-
-pub number-missing : (joined : Bool) (ids : List (List ℕ)) (q : List ℕ) → position (bytes_eq q) ids ≡ None → number_if joined ids q ≡ None
-number-missing true ids q e = e
-number-missing false ids q e = refl
+        λ i. if is i then numbered i else None

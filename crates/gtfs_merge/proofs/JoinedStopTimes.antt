@@ -14,7 +14,7 @@ use Rattle.gtfs_merge.specs.Joined.{joined_numbers}
 use Rattle.gtfs_merge.specs.Law.{AreFew}
 use Rattle.gtfs_merge.specs.Renaming.{ids, never_near, stop_b, stop_within}
 use Rattle.gtfs_merge.specs.declared.kind.Kind.TheVariants as kind
-use Rattle.gtfs_merge.proofs.JoinedNames.{joined-at-place}
+use Rattle.gtfs_merge.proofs.JoinedNames.{joined-at-index}
 use Rattle.gtfs_merge.proofs.JoinedStops.{by-number, last-generation}
 use Rattle.gtfs_merge.proofs.MergedRows.{found_id}
 use Rattle.gtfs_merge.proofs.Premises.{of_type-found, sound-places}
@@ -55,5 +55,5 @@ module _ (p q : Parts) (sound_p : IsSoundParts p) (sound_q : IsSoundParts q) (fe
       let t = text_of_number (stop_ids q) j in
       by-number (λ s. s.stop_id) p.stops (in_order p sound_p).stops m within_p (stop_b never_near a b t)
       ∙ ap (option_eq nat_eq (Some m)) (ap (λ x. position (bytes_eq x) (stop_ids p)) (last_name t plain) ∙ last-generation p q sound_p sound_q few_stops t
-      ∙ sym (joined-at-place number kind.Stop p q stops j known (omega (arith, length-map q.stops (λ s. s.stop_id)))))
+      ∙ sym (joined-at-index number kind.Stop p q stops j known (omega (arith, length-map q.stops (λ s. s.stop_id)))))
       ∙ sym is

@@ -35,10 +35,10 @@ use Rattle.gtfs_merge.proofs.JoinedRows.{number-same}
 -- ---- numbers of texts
 
 -- a text that is not there has no number
-pub not-placed : (xs : List (List ℕ)) (q : List ℕ) → has_id xs q ≡ false → position (bytes_eq q) xs ≡ None
-not-placed xs q e = ap (λ b. cond b (Some (position_or_len (bytes_eq q) xs)) None) (before-any (bytes_eq q) xs ∙ e)
+pub no-index : (xs : List (List ℕ)) (q : List ℕ) → has_id xs q ≡ false → position (bytes_eq q) xs ≡ None
+no-index xs q e = ap (λ b. cond b (Some (position_or_len (bytes_eq q) xs)) None) (before-any (bytes_eq q) xs ∙ e)
 
--- a text has the number of its place
+-- a text has the number under which it stands first
 own_text : {X : Type 0} (id : X → List ℕ) (rows : List X) (m : ℕ) → Ascends (on id text_cmp) rows → m < length rows → position (bytes_eq (get_or (map id rows) m [])) (map id rows) ≡ Some m
 own_text id [] m up within = absurd (omega arith)
 own_text id (r ∷ rs) m up within =
@@ -78,7 +78,7 @@ renamed-number ids_a ids_b is_joined few x = by (is_joined x) refl
     by true e = ap (λ q. position (bytes_eq q) ids_a) (joined_stays ids_a ids_b is_joined few x e) ∙ ap (λ j. number_if j ids_a x) (sym e)
     by false e = elim (cases_Bool (has_id ids_a (renamed_b ids_a ids_b is_joined x))) as (λ w. position (bytes_eq (renamed_b ids_a ids_b is_joined x)) ids_a ≡ number_if (is_joined x) ids_a x) [
       | inl h ↦ absurd (true≢false (sym (renamed_into_a ids_a ids_b is_joined few x h).1 ∙ e))
-      | inr n ↦ not-placed ids_a (renamed_b ids_a ids_b is_joined x) n ∙ ap (λ j. number_if j ids_a x) (sym e)
+      | inr n ↦ no-index ids_a (renamed_b ids_a ids_b is_joined x) n ∙ ap (λ j. number_if j ids_a x) (sym e)
     ]
 
 -- ---- stops, of which none is near another
@@ -133,19 +133,19 @@ module _ (p q : Parts) (sound_p : IsSoundParts p) (sound_q : IsSoundParts q) whe
       → position (bytes_eq y.stop_id) (stop_ids p) ≡ Some n → slice_get p.stops n ≡ Some x
       → same_stop_in p q rename x y ≡ (alike && same_parent_in p q rename x y) → is_same_parent (option_map (λ m. m.0) x.parent_station) (option_map (λ m. m.0) y.parent_station) parent ≡ parents
       → number_if (joined_stop_under rename a b y.stop_id) (stop_ids p) y.stop_id ≡ (if alike && parents then Some n else None)
-  stop-number-same rename k n y x parent alike parents at became_so place found alike_is parents_is =
+  stop-number-same rename k n y x parent alike parents at became_so numbered found alike_is parents_is =
       number-same (λ s. s.stop_id) (λ row other. same_stop row (stop_with rename other)) a.stops b.stops sound_p.content.in_order.stops sound_q.content.in_order.stops
-      k (stop_of q y) (row-map (stop_of q) q.stops k y at) (stop_ids p) (ids-known kind.Stop p sound_p) n (stop_of p x) place (row-map (stop_of p) p.stops n x found)
+      k (stop_of q y) (row-map (stop_of q) q.stops k y at) (stop_ids p) (ids-known kind.Stop p sound_p) n (stop_of p x) numbered (row-map (stop_of p) p.stops n x found)
       ∙ ap (λ c. if c then Some n else None) (alike_is ∙ ap (λ c. alike && c) (same-parent rename n x y parent found became_so ∙ parents_is))
 
   pub stop-joined : (rename : Renaming) (k n : ℕ) (y row x : StopByNumber) (parent : Option ℕ) (alike parents : Bool) → slice_get q.stops k ≡ Some y → slice_get q.stops k ≡ Some row
       → parent ≡ parent_became p q rename row → position (bytes_eq y.stop_id) (stop_ids p) ≡ Some n → slice_get p.stops n ≡ Some x
       → same_stop_in p q rename x y ≡ (alike && same_parent_in p q rename x y) → is_same_parent (option_map (λ m. m.0) x.parent_station) (option_map (λ m. m.0) y.parent_station) parent ≡ parents
       → number_if (joined_stop_under rename a b row.stop_id) (stop_ids p) row.stop_id ≡ (if alike && parents then Some n else None)
-  stop-joined rename k n y row x parent alike parents at at_row became_so place found alike_is parents_is =
+  stop-joined rename k n y row x parent alike parents at at_row became_so numbered found alike_is parents_is =
       let e : y ≡ row = cc in
       subst (λ r. parent ≡ parent_became p q rename r → number_if (joined_stop_under rename a b r.stop_id) (stop_ids p) r.stop_id ≡ (if alike && parents then Some n else None)) e
-      (λ rel. stop-number-same rename k n y x parent alike parents at rel place found alike_is parents_is) became_so
+      (λ rel. stop-number-same rename k n y x parent alike parents at rel numbered found alike_is parents_is) became_so
 
   pub own-generation : (k g : ℕ) (y : StopByNumber) (o : Option ℕ) → slice_get q.stops k ≡ Some y → g ≡ 0 → o ≡ position (bytes_eq y.stop_id) (stop_ids p)
       → o ≡ became (stop_ids p) (stop_within never_near g a b) (get_or (stop_ids q) k [])

@@ -25,7 +25,7 @@ use Rattle.gtfs_merge.specs.Renaming.{Renaming, ids, kept_as_is, never_near, joi
 use Rattle.gtfs_merge.specs.Same.{same_trip}
 use Rattle.gtfs_merge.specs.declared.kind.Kind.TheVariants as kind
 use Rattle.gtfs_merge.proofs.JoinedKinds.{id-at, ids-known}
-use Rattle.gtfs_merge.proofs.JoinedNames.{joined-at-place, rule-meets}
+use Rattle.gtfs_merge.proofs.JoinedNames.{joined-at-index, rule-meets}
 use Rattle.gtfs_merge.proofs.JoinedRows.{number-same}
 use Rattle.gtfs_merge.proofs.Lookups.{In}
 use Rattle.gtfs_merge.proofs.Premises.{sound-row}
@@ -67,9 +67,6 @@ module _ (p q : Parts) (sound_p : IsSoundParts p) (sound_q : IsSoundParts q) whe
   abbrev c : Content
   c = content_of_parts q
 
-  abbrev IsSmall : Type 0
-  IsSmall = (length (ids kind.Route a) + length (ids kind.Route c) < 2 ^ 65) × (length (ids kind.Service a) + length (ids kind.Service c) < 2 ^ 65)
-
   -- a route of A and one of B have one new id exactly where they are joined
   pub route-meets : {T : Type 0} (number : T → ℕ) (routes : List (Option T)) → map (option_map number) routes ≡ joined_numbers kind.Route p q → length (ids kind.Route a) + length (ids kind.Route c) < 2 ^ 65
       → (x y : TripRow) → x.route_id.0 < length p.routes → y.route_id.0 < length q.routes → (same : Bool) → same ≡ option_eq nat_eq (Some x.route_id.0) (get_or (map (option_map number) routes) y.route_id.0 None)
@@ -77,7 +74,7 @@ module _ (p q : Parts) (sound_p : IsSoundParts p) (sound_q : IsSoundParts q) whe
   route-meets number routes known few x y within_p within_q same is =
       let t = text_of_number (route_ids q) y.route_id.0 in
       rule-meets (λ r. r.route_id) p.routes (in_order p sound_p).routes (ids kind.Route a) (ids kind.Route c) (ids-known kind.Route p sound_p) (joined_route a c) (omega arith) x.route_id.0 within_p t
-      ∙ ap (option_eq nat_eq (Some x.route_id.0)) (sym (joined-at-place number kind.Route p q routes y.route_id.0 known (omega (arith, length-map q.routes (λ r. r.route_id)))))
+      ∙ ap (option_eq nat_eq (Some x.route_id.0)) (sym (joined-at-index number kind.Route p q routes y.route_id.0 known (omega (arith, length-map q.routes (λ r. r.route_id)))))
       ∙ sym is
 
   pub service-meets : {T : Type 0} (number : T → ℕ) (services : List (Option T)) → map (option_map number) services ≡ joined_numbers kind.Service p q → length (ids kind.Service a) + length (ids kind.Service c) < 2 ^ 65
@@ -86,7 +83,7 @@ module _ (p q : Parts) (sound_p : IsSoundParts p) (sound_q : IsSoundParts q) whe
   service-meets number services known few x y within_p within_q same is =
       let t = text_of_number (service_ids q) y.service_id.0 in
       rule-meets (λ r. r.service_id) p.services (in_order p sound_p).services (ids kind.Service a) (ids kind.Service c) (ids-known kind.Service p sound_p) (joined_service a c) (omega arith) x.service_id.0 within_p t
-      ∙ ap (option_eq nat_eq (Some x.service_id.0)) (sym (joined-at-place number kind.Service p q services y.service_id.0 known (omega (arith, length-map q.services (λ r. r.service_id)))))
+      ∙ ap (option_eq nat_eq (Some x.service_id.0)) (sym (joined-at-index number kind.Service p q services y.service_id.0 known (omega (arith, length-map q.services (λ r. r.service_id)))))
       ∙ sym is
 
   -- a trip of the content is its row with its stop times and frequencies
@@ -102,18 +99,18 @@ module _ (p q : Parts) (sound_p : IsSoundParts p) (sound_q : IsSoundParts q) whe
   pub trip-joined : (n k : ℕ) (id : List ℕ) (s t : Trip) (same : Bool) → slice_get a.trips n ≡ Some s → slice_get c.trips k ≡ Some t → get_or (trip_ids q) k [] ≡ id → position (bytes_eq id) (trip_ids p) ≡ Some n
       → same ≡ same_trip s (trip_with kept_as_is (route_b a c) (service_b a c) (stop_b never_near a c) t)
       → joined_number kind.Trip p q (get_or (trip_ids q) k []) ≡ (if same then Some n else None)
-  trip-joined n k id s t same at_s at_t named place is =
+  trip-joined n k id s t same at_s at_t named numbered is =
       let own = content-id q sound_q k t at_t in
       ap (joined_number kind.Trip p q) own
       ∙ number-same (λ t. t.trip_id) (λ row other. same_trip row (trip_with kept_as_is (route_b a c) (service_b a c) (stop_b never_near a c) other)) a.trips c.trips
       sound_p.content.in_order.trips sound_q.content.in_order.trips k t at_t (trip_ids p) (ids-known kind.Trip p sound_p) n s
-      (ap (λ x. position (bytes_eq x) (trip_ids p)) (sym own ∙ named) ∙ place) at_s
+      (ap (λ x. position (bytes_eq x) (trip_ids p)) (sym own ∙ named) ∙ numbered) at_s
       ∙ ap (λ z. if z then Some n else None) (sym is)
 
 -- the number of a text that was found is that of a row
 pub number-below : {X : Type 0} (texts : List (List ℕ)) (x : List ℕ) (n : ℕ) → position (bytes_eq x) texts ≡ Some n → (rows : List X) (id : X → List ℕ) → texts ≡ map id rows → n < length rows
-number-below texts x n place rows id named =
-    let there = position-Some (bytes_eq x) texts n [] place in
+number-below texts x n numbered rows id named =
+    let there = position-Some (bytes_eq x) texts n [] numbered in
     let e : length texts ≡ length rows = ap length named ∙ length-map rows id in
     let below : n < length texts = there.0 in
     omega arith

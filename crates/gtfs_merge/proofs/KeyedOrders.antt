@@ -13,7 +13,7 @@ module _ {K X : Type 0} (order : K → K → Ordering) (key : X → K) where
   abbrev keyed : List X → List (K × X)
   keyed xs = map (λ x. (key x, x)) xs
 
-  -- the row in its place, in that of a row with its key
+  -- the row where its key belongs, or instead of a row with its key
   abbrev put_row : X → List X → List X
   put_row r [] = r ∷ []
   put_row r (v ∷ vs) = by_order (order (key r) (key v)) (r ∷ v ∷ vs) (r ∷ vs) (v ∷ put_row r vs)

@@ -40,7 +40,7 @@ pub mod MergedStopTimes
 pub mod TransferOrder
 pub mod MergedTransfers
 pub mod MergedFeed
-pub mod TripPlaces
+pub mod TripsOfSides
 pub mod FileLimit
 pub mod ByNewIds
 pub mod Distinct
@@ -51,4 +51,4 @@ pub mod NewNumbers
 pub mod NumberTables
 pub mod MergedLists
 pub mod ServiceCopies
-pub mod IdRowFacts
+pub mod NamesPromised

@@ -1,12 +1,11 @@
 -- Rows by their ids: look-ups in a list of rows, and in rows that stand by id.
-use Rattle.std.proofs.Common.{◌≡◌, ℕ, Bool, true, false, cond, T, List, [], ◌∷◌, Some, None, Option, Less, Equal, Greater, Ordering, refl, sym, ap, ◌∙◌, subst, inl, inr, ◌⊎◌, ◌≤◌, zero-add, eqb-true, arith, length, map, bytes_eq, find, option_map, count_by, is_some}
-use Rattle.std.specs.Prelude.{◌&&◌, ◌||◌, ◌==◌, ◌+◌}
+use Rattle.std.proofs.Common.{◌≡◌, ℕ, Bool, true, false, cond, T, List, [], ◌∷◌, Some, None, Option, Less, Equal, Greater, Ordering, refl, sym, ap, ◌∙◌, subst, inl, inr, ◌⊎◌, arith, length, map, bytes_eq, find, option_map, is_some}
+use Rattle.std.specs.Prelude.{◌&&◌, ◌||◌}
 use Rattle.std.specs.List.{list_any, list_all}
 use Rattle.std.specs.Ordering.{is_lt, is_eq, eq_by_cmp}
 use Rattle.std.specs.Cmp.Lexicographic.{nat_list_cmp_total, texts_ties, bytes_decides}
 use Rattle.std.specs.FinMap as table
 use Rattle.std.proofs.lemmas.Bool.{and_parts, or_cases, or_left, or_right, true≢false, false_from_ne_true}
-use Rattle.std.proofs.lemmas.List.Sums.{sum_by-cons}
 use Rattle.std.proofs.lemmas.Option.{same_Some as Some-same}
 use Rattle.std.proofs.Math.Bool.{or-false}
 use Rattle.gtfs_table.specs.Folder.{text_cmp}
@@ -112,14 +111,6 @@ less_not_equal Less a b = true≢false (sym b)
 less_not_equal Equal a b = true≢false (sym a)
 less_not_equal Greater a b = true≢false (sym a)
 
-one_left : (b : Bool) (n : ℕ) → b ≡ true → cond b 1 0 + n ≤ 1 → n ≡ 0
-one_left true n e h = omega arith
-one_left false n e h = absurd (true≢false (sym e))
-
-fewer : (b : Bool) (n : ℕ) → cond b 1 0 + n ≤ 1 → n ≤ 1
-fewer true n h = omega arith
-fewer false n h = omega arith
-
 module _ {X : Type 0} (id : X → List ℕ) where
   -- the first row with the id
   abbrev pub look : List X → List ℕ → Option X
@@ -179,16 +170,6 @@ module _ {X : Type 0} (id : X → List ℕ) where
       let m = table.from_entries {R = text_cmp} (map entry rows) in
       look-own q (table.entries m) (OwnKeys-from_entries rows) ∙ sym (table.get-entries m q) ∙ table.get-from_entries nat_list_cmp_total (map entry rows) q ∙ look-rows rows q
 
-  -- lists in which look-ups agree make the same rows by id
-  pub by_id-same : (xs ys : List X) → ((q : List ℕ) → look xs q ≡ look ys q) → by_id id xs ≡ by_id id ys
-  by_id-same xs ys h = ap table.values (table.same_map nat_list_cmp_total (table.slice_cmp-IsAntisymmetric table.nat_cmp-IsAntisymmetric)
-      (table.from_entries {R = text_cmp} (map entry xs)) (table.from_entries {R = text_cmp} (map entry ys))
-      (λ q. table.get-from_entries nat_list_cmp_total (map entry xs) q ∙ look-rows xs q ∙ h q ∙ sym (look-rows ys q) ∙ sym (table.get-from_entries nat_list_cmp_total (map entry ys) q)))
-
-  -- rows by id stay as they are when they are ordered again
-  pub by_id-again : (rows : List X) → by_id id (by_id id rows) ≡ by_id id rows
-  by_id-again rows = by_id-same (by_id id rows) rows (look-by_id rows)
-
   below-missed : (x : List ℕ) (es : List (List ℕ × X)) → OwnKeys es → T (table.Entries.below_all text_cmp x es) → (q : List ℕ) → bytes_eq x q ≡ true → (p : X → Bool) → look_any (map (λ e. e.1) es) q p ≡ false
   below-missed x [] own h q t p = refl
   below-missed x (e ∷ es) own h q t p =
@@ -210,48 +191,3 @@ module _ {X : Type 0} (id : X → List ℕ) where
 
   pub keyed-by_id : (rows : List X) → IsKeyed (by_id id rows)
   keyed-by_id rows = let m = table.from_entries {R = text_cmp} (map entry rows) in keyed-own (table.entries m) (OwnKeys-from_entries rows) (table.entries_sorted m)
-
-  -- ---- rows whose ids are distinct
-
-  count-cons : (x y : List ℕ) (ys : List (List ℕ)) → count_by (bytes_eq x) (y ∷ ys) ≡ cond (bytes_eq x y) 1 0 + count_by (bytes_eq x) ys
-  count-cons x y ys = sum_by-cons (λ z. cond (bytes_eq x z) 1 0) y ys
-
-  -- no row of the list has the id
-  unnamed : (x : List ℕ) (rows : List X) (p : X → Bool) → count_by (bytes_eq x) (map id rows) ≡ 0 → look_any rows x p ≡ false
-  unnamed x [] p = λ e. refl
-  unnamed x (r ∷ rs) p = λ e0.
-      elim (bytes_eq x (id r)) as (λ b. bytes_eq x (id r) ≡ b → cond b 1 0 + count_by (bytes_eq x) (map id rs) ≡ 0 → ((bytes_eq (id r) x && p r) || look_any rs x p) ≡ false) [
-        | true ↦ λ t e. absurd (omega arith)
-        | false ↦ λ t e. (λ i. ((bytes_flip (id r) x ∙ t) i && p r) || look_any rs x p) ∙ unnamed x rs p (omega arith)
-      ] refl (sym (count-cons x (id r) (map id rs)) ∙ e0)
-
-  -- each id stands at most once
-  abbrev AtMostOnce : List X → Type 0
-  AtMostOnce rows = (x : List ℕ) → count_by (bytes_eq x) (map id rows) ≤ 1
-
-  keyed-once : (rows : List X) → AtMostOnce rows → IsKeyed rows
-  keyed-once [] h q p = refl
-  keyed-once (r ∷ rs) h q p =
-      elim (bytes_eq (id r) q) as (λ b. bytes_eq (id r) q ≡ b → ((b && p r) || look_any rs q p) ≡ holds_at (cond b (Some r) (look rs q)) p) [
-        | true ↦ λ t. ap (λ b. p r || b) (unnamed q rs p (one_left (bytes_eq q (id r)) _ (bytes_flip q (id r) ∙ t) (subst (λ n. n ≤ 1) (count-cons q (id r) (map id rs)) (h q)))) ∙ or-false (p r)
-        | false ↦ λ t. keyed-once rs (λ x. fewer (bytes_eq x (id r)) _ (subst (λ n. n ≤ 1) (count-cons x (id r) (map id rs)) (h x))) q p
-      ] refl
-
-  some_count : (x : List ℕ) (xs : List (List ℕ)) → list_any (bytes_eq x) xs ≡ false → count_by (bytes_eq x) xs ≡ 0
-  some_count x [] = λ e. refl
-  some_count x (y ∷ ys) = λ e0. count-cons x y ys ∙
-      elim (bytes_eq x y) as (λ b. (b || list_any (bytes_eq x) ys) ≡ false → cond b 1 0 + count_by (bytes_eq x) ys ≡ 0) [
-        | true ↦ λ e. absurd (true≢false e)
-        | false ↦ λ e. zero-add _ ∙ some_count x ys e
-      ] e0
-
-  count-alike : (x y : List ℕ) (xs : List (List ℕ)) → bytes_eq x y ≡ true → count_by (bytes_eq x) xs ≡ count_by (bytes_eq y) xs
-  count-alike x y xs e = ap (λ z. count_by (bytes_eq z) xs) (same_bytes x y e)
-
-  pub keyed-distinct : (rows : List X) → list_all (λ x. count_by (bytes_eq x) (map id rows) == 1) (map id rows) ≡ true → IsKeyed rows
-  keyed-distinct rows h = keyed-once rows (λ x. elim (list_any (bytes_eq x) (map id rows)) as (λ b. list_any (bytes_eq x) (map id rows) ≡ b → count_by (bytes_eq x) (map id rows) ≤ 1) [
-    | true ↦ λ t. let r = list_any-In (bytes_eq x) (map id rows) t in
-        let e : count_by (bytes_eq r.0) (map id rows) ≡ 1 = eqb-true _ _ (list_all-In _ _ h r.0 r.1) in
-        let f = count-alike x r.0 (map id rows) r.2 in omega arith
-    | false ↦ λ t. let e = some_count x (map id rows) t in omega arith
-  ] refl)

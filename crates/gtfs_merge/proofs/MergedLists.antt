@@ -125,18 +125,18 @@ service-inside f sound n y at = subst (λ c. y.service_id.0 < c) (sym (length-ma
 
 -- ---- the row of an entry
 
-module _ (k : Kind) (p q : Parts) (rows : List MergedRow) (are : AreMergedRows k p q (map entry_value rows)) (place : ℕ) (within : place < length rows) (row : MergedRow) (own : row ≡ get_or rows place row) where
-  at-row : get_or (map entry_value rows) place (entry_value row) ≡ entry_value row
-  at-row = get_or-map entry_value rows place row (entry_value row) within ∙ ap entry_value (sym own)
+module _ (k : Kind) (p q : Parts) (rows : List MergedRow) (are : AreMergedRows k p q (map entry_value rows)) (index : ℕ) (within : index < length rows) (row : MergedRow) (own : row ≡ get_or rows index row) where
+  at-row : get_or (map entry_value rows) index (entry_value row) ≡ entry_value row
+  at-row = get_or-map entry_value rows index row (entry_value row) within ∙ ap entry_value (sym own)
 
   pub row-within : row.number < length (known_ids k (side_parts row.side p q))
-  row-within = subst (λ (e : Entry). e.number < length (known_ids k (side_parts e.side p q))) at-row (are.within place (entry_value row) (omega (arith, within, length-map rows entry_value)))
+  row-within = subst (λ (e : Entry). e.number < length (known_ids k (side_parts e.side p q))) at-row (are.within index (entry_value row) (omega (arith, within, length-map rows entry_value)))
 
   pub row-named : (entry_value row).id ≡ renaming (side_names row.side p q) k (text_of_number (known_ids k (side_parts row.side p q)) row.number)
   row-named =
-      let inside : place < length (map entry_value rows) = omega (arith, within, length-map rows entry_value) in
+      let inside : index < length (map entry_value rows) = omega (arith, within, length-map rows entry_value) in
       ap (λ (e : Entry). e.id) (subst (λ (e : Entry). e ≡ entry_of e.side k p q e.number) at-row
-      (own-entry k p q (map entry_value rows) are (get_or (map entry_value rows) place (entry_value row)) (Contains-get_or (map entry_value rows) place (entry_value row) inside)))
+      (own-entry k p q (map entry_value rows) are (get_or (map entry_value rows) index (entry_value row)) (Contains-get_or (map entry_value rows) index (entry_value row) inside)))
 
 module _ (p q : Parts) (s : Side) (n : ℕ) (name : List ℕ) where
   abbrev here : Entry

@@ -40,7 +40,7 @@ range-pairs count i j d before within =
     let second : get_or (range_with_len 0 count) j d ≡ 0 + j = get_or-range_with_len 0 count j d below in
     (omega arith, omega arith)
 
--- a row at a place of a list, and its id
+-- a row at an index of a list, and its id
 pub record IsAt {X : Type 0} (id : X → List ℕ) (rows : List X) (n : ℕ) (name : List ℕ) : Type 0 where
   pub row : X
   pub at : slice_get rows n ≡ Some row
@@ -55,8 +55,8 @@ row-at id (x ∷ rows) (suc n) within =
     let there = rest.among.1 in
     record { row = rest.row; at = rest.at; among = (suc rest.among.0, omega arith, rest.among.2); own = rest.own }
 
-pub at-place : {X : Type 0} (rows : List X) (x : X) → Contains rows x → (n : ℕ) × (n < length rows) × (slice_get rows n ≡ Some x)
-at-place rows x at = (at.0, at.1, slice_get-get_or rows at.0 x at.1 ∙ ap Some at.2)
+pub at-index : {X : Type 0} (rows : List X) (x : X) → Contains rows x → (n : ℕ) × (n < length rows) × (slice_get rows n ≡ Some x)
+at-index rows x at = (at.0, at.1, slice_get-get_or rows at.0 x at.1 ∙ ap Some at.2)
 
 -- ---- both lists
 
@@ -209,14 +209,14 @@ module _ {X : Type 0} (id : X → List ℕ) (f g : X → X) (rows_a rows_b : Lis
     entry-a : (r : X) → Contains rows_a r → HasEntry entry_id id row_of es (f r)
     entry-a r at =
         let count : length olds_a ≡ length rows_a = ap length (sym merge.named_a) ∙ length-map rows_a id in
-        let w = at-place rows_a r at in
+        let w = at-index rows_a r at in
         let within = w.1 in
         record { entry = entry side.A w.0; among = has-a w.0 (omega arith); is = value_a w.0 ∙ ap (option_map f) w.2 }
 
     entry-b : (s : X) → Contains rows_b s → HasEntry entry_id id row_of es (g s)
     entry-b s at =
         let count : length olds_b ≡ length rows_b = ap length (sym merge.named_b) ∙ length-map rows_b id in
-        let w = at-place rows_b s at in
+        let w = at-index rows_b s at in
         let within = w.1 in
         let u = row-at id rows_b w.0 within in
         let same : u.row ≡ s = some-row u.row s (sym u.at ∙ w.2) in

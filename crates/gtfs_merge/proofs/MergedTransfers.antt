@@ -26,7 +26,7 @@ use Rattle.gtfs_merge.specs.declared.kind.Side.TheVariants as side
 use Rattle.gtfs_merge.proofs.Kept.{In-append, In-by_key, In-map, list_all-from}
 use Rattle.gtfs_merge.proofs.KeyedOrders.{by_key-carried}
 use Rattle.gtfs_merge.proofs.Lookups.{In, list_all-In}
-use Rattle.gtfs_merge.proofs.TripPlaces.{In-get}
+use Rattle.gtfs_merge.proofs.TripsOfSides.{In-get}
 use Rattle.gtfs_merge.proofs.ReferenceNumbers.{numbers-length, option-named, option-within}
 use Rattle.gtfs_merge.proofs.TransferOrder.{ends_antisymmetric, ends_total, key-order}
 use Rattle.gtfs_merge.proofs.MergedLists.{side-sound}
@@ -134,8 +134,8 @@ module _ (p q : Parts) (sound_p : IsSoundParts p) (sound_q : IsSoundParts q) (k 
           to_trip = as_many (λ n. n.0) t.to_trip_id _ _ (trip_count ∙ sym new_trips) n.to_trip;
         }
 
-    pub within-place : (ts : List ByNumber) → ts ≡ own.transfers → (n : ℕ) (d : ByNumber) → n < length ts → IsWithin k s (get_or ts n d)
-    within-place ts are_own n d within = within-side (get_or ts n d) (subst (λ (us : List ByNumber). In (get_or ts n d) us) are_own (In-get ts n d within))
+    pub within-index : (ts : List ByNumber) → ts ≡ own.transfers → (n : ℕ) (d : ByNumber) → n < length ts → IsWithin k s (get_or ts n d)
+    within-index ts are_own n d within = within-side (get_or ts n d) (subst (λ (us : List ByNumber). In (get_or ts n d) us) are_own (In-get ts n d within))
 
     -- a transfer with new numbers is the transfer with new ids
     transfer-is : (t : ByNumber) → In t own.transfers → named (transfer_on k s t) ≡ transfer_with (side_names s p q) (transfer_of own t)

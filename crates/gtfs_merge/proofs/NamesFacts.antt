@@ -47,9 +47,9 @@ pub names-count : (k : Kind) (p q : Parts) (s : Side) → length (of_side (kind_
 names-count k p q side.A = length-map (known_ids k p) (renaming (side_names side.A p q) k)
 names-count k p q side.B = length-map (known_ids k q) (renaming (side_names side.B p q) k)
 
-pub joined-more : (p : List ℕ → Bool) (xs : List (List ℕ)) (n : ℕ) (before after : List (List ℕ)) (x : List ℕ) → n < length xs → before ≡ filter p (take n xs) → after ≡ before ++ filter p (x ∷ []) → x ≡ get_or xs n []
+pub joined-further : (p : List ℕ → Bool) (xs : List (List ℕ)) (n : ℕ) (before after : List (List ℕ)) (x : List ℕ) → n < length xs → before ≡ filter p (take n xs) → after ≡ before ++ filter p (x ∷ []) → x ≡ get_or xs n []
     → after ≡ filter p (take (n + 1) xs)
-joined-more p xs n before after x within so_far added own =
+joined-further p xs n before after x within so_far added own =
     added ∙ (λ i. so_far i ++ filter p (own i ∷ [])) ∙ sym (filter-append p (take n xs) (get_or xs n [] ∷ [])) ∙ ap (filter p) (sym (ap (λ m. take m xs) (add-one n) ∙ take-suc xs n [] within))
 
 -- ids that stay apart have names that tell them

@@ -2,7 +2,7 @@
 use Rattle.std.proofs.Common.{◌≡◌, ◌<◌, ◌+◌, ◌^◌, ℕ, Bool, true, false, cond, not, List, [], ◌∷◌, ◌++◌, Some, None, Option, refl, sym, ap, ◌∙◌, inl, inr, length, map, bytes_eq, codes, option_map, unwrap_or, eqb-true, true≢false, find, length-append, arith}
 use Rattle.std.specs.Prelude.{◌&&◌, ◌||◌, ◌==◌, if◌then◌else◌, IfOk, Result, Ok, Err}
 use Rattle.std.specs.List.{list_any, range_with_len}
-use Rattle.std.proofs.lemmas.Bool.{and_parts, not-true, or_cases, false_from_ne_true}
+use Rattle.std.proofs.lemmas.Bool.{and_parts, or_cases, false_from_ne_true}
 use Rattle.gtfs_table.specs.Rows.{is_empty}
 use Rattle.gtfs_columns.proofs.SiteFacts.{text_is as same_bytes}
 use Rattle.gtfs_rows.specs.Content.{Content}
@@ -15,7 +15,6 @@ use Rattle.gtfs_merge.specs.Numbered.{known_ids}
 use Rattle.gtfs_merge.specs.Renaming.{has_id, ids, is_joined, free_id, merged_id, renamed_b, renaming, names_a, names_b, never_near, agency_a, agency_b, joined_agency, joined_stop, stop_b, stop_within}
 use Rattle.gtfs_merge.specs.declared.kind.Kind.{Kind}
 use Rattle.gtfs_merge.specs.declared.kind.Kind.TheVariants as kind
-use Rattle.gtfs_merge.proofs.Apart.{no-text}
 use Rattle.gtfs_merge.proofs.JoinedKinds.{ids-known}
 use Rattle.gtfs_merge.proofs.JoinedStops.{stop-ruled}
 use Rattle.gtfs_merge.proofs.Fresh.{merged_id-number}
@@ -123,24 +122,10 @@ module _ (a b : Content) (sound_a : IsSound a) (sound_b : IsSound b) (few : leng
   pub stays-lacking : (k : Kind) (x : List ℕ) → has_id (ids k b) x ≡ true → (is_nameless k x && not (is_joined never_near k a b x)) ≡ false → has_id (ids k a) x ≡ false → renaming (names_b never_near a b) k x ≡ x
   stays-lacking k x h e lacks = rule-b k x h e ∙ ap (λ c. if not c || is_joined never_near k a b x then x else free_id (ids k a ++ ids k b) x) lacks
 
-  pub stays-joined : (k : Kind) (x : List ℕ) → has_id (ids k b) x ≡ true → (is_nameless k x && not (is_joined never_near k a b x)) ≡ false → has_id (ids k a) x ≡ true → is_joined never_near k a b x ≡ true → renaming (names_b never_near a b) k x ≡ x
-  stays-joined k x h e has joined = rule-b k x h e ∙ (λ i. if not (has i) || joined i then x else free_id (ids k a ++ ids k b) x)
-
   pub gets-free : (k : Kind) (x : List ℕ) → has_id (ids k b) x ≡ true → (is_nameless k x && not (is_joined never_near k a b x)) ≡ false → has_id (ids k a) x ≡ true → is_joined never_near k a b x ≡ false → renaming (names_b never_near a b) k x ≡ free_id (ids k a ++ ids k b) x
   gets-free k x h e has apart = rule-b k x h e ∙ (λ i. if not (has i) || apart i then x else free_id (ids k a ++ ids k b) x)
 
 -- ---- an agency of B without an id
-
-pub nameless-b : (a b : Content) (k : Kind) (x : List ℕ) → (is_nameless k x && not (is_joined never_near k a b x)) ≡ true
-    → (k ≡ kind.Agency) × (x ≡ []) × (joined_agency a b [] ≡ false)
-nameless-b a b kind.Agency x e =
-    let parts = and_parts (length x == 0) (not (joined_agency a b x)) e in
-    let empty = no-text x parts.0 in
-    (refl, empty, ap (joined_agency a b) (sym empty) ∙ not-true (joined_agency a b x) parts.1)
-nameless-b a b kind.Stop x e = absurd (true≢false (sym e))
-nameless-b a b kind.Route x e = absurd (true≢false (sym e))
-nameless-b a b kind.Service x e = absurd (true≢false (sym e))
-nameless-b a b kind.Trip x e = absurd (true≢false (sym e))
 
 -- an empty id stands alone
 lone : (rows : List Agency) → length rows ≡ 1 → (r : Agency) → In r rows → r.agency_id ≡ [] → map (λ r. r.agency_id) rows ≡ [] ∷ []

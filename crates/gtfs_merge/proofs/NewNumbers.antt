@@ -14,7 +14,7 @@ use Rattle.gtfs_merge.specs.MergedKinds.{AreMergedRows}
 use Rattle.gtfs_merge.specs.Numbered.{known_ids}
 use Rattle.gtfs_merge.specs.Order.{Entry, entry_of, is_apart, rows_of_a, rows_of_b}
 use Rattle.gtfs_merge.specs.Renaming.{has_id, ids, is_joined, never_near, renaming}
-use Rattle.gtfs_merge.specs.Renumbered.{AreNewNumbers, ArePlaced, AreRenumbered, IsPlaceOf, NewNumbers, number_or, numbers_of}
+use Rattle.gtfs_merge.specs.Renumbered.{AreNewNumbers, AreNumbered, AreRenumbered, IsIndexOf, NewNumbers, number_or, numbers_of}
 use Rattle.gtfs_merge.specs.Sides.{merged_ids, side_names, side_parts}
 use Rattle.gtfs_merge.specs.declared.kind.Kind.{Kind}
 use Rattle.gtfs_merge.specs.declared.kind.Side.{Side}
@@ -24,7 +24,7 @@ use Rattle.gtfs_merge.proofs.JoinedKinds.{ids-known}
 use Rattle.gtfs_merge.proofs.MergedOrder.{range-has}
 use Rattle.gtfs_merge.proofs.MergesOfKinds.{joined-name}
 
--- lists that agree at each place under both functions
+-- lists that agree at each index under both functions
 maps-alike : {X Y Z : Type 0} (f : X → Z) (g : Y → Z) (xs : List X) (ys : List Y) (x : X) (y : Y) → length xs ≡ length ys → ((k : ℕ) → k < length ys → f (get_or xs k x) ≡ g (get_or ys k y)) → map f xs ≡ map g ys
 maps-alike f g [] [] x y long each = refl
 maps-alike f g [] (v ∷ ys) x y long each = absurd (omega (arith, long))
@@ -67,26 +67,26 @@ module _ (k : Kind) (p q : Parts) (es : List Entry) (rows : AreMergedRows k p q 
       (contains-filter (is_apart k p q) (range_with_len 0 (length (known_ids k q))) n apart (range-has (length (known_ids k q)) n within))))
 
   -- a new number: the merged feed has there what the id became
-  pub record IsNew (s : Side) (n place : ℕ) : Type 0 where
-    pub within : place < length merged
-    pub is : text_of_number merged place ≡ named s n
+  pub record IsNew (s : Side) (n index : ℕ) : Type 0 where
+    pub within : index < length merged
+    pub is : text_of_number merged index ≡ named s n
 
-  placed : (s : Side) (n place : ℕ) → IsPlaceOf es (entry_of s k p q n) place → IsNew s n place
-  placed s n place at =
-      let e : Entry = get_or es place (entry_of s k p q n) in
+  new-by : (s : Side) (n index : ℕ) → IsIndexOf es (entry_of s k p q n) index → IsNew s n index
+  new-by s n index at =
+      let e : Entry = get_or es index (entry_of s k p q n) in
       let count : length merged ≡ length es = ap length (sym rows.ids) ∙ length-map es (λ e. e.id) in
       let inside = at.within in
-      let own = own-entry e (Contains-get_or es place (entry_of s k p q n) inside) in
+      let own = own-entry e (Contains-get_or es index (entry_of s k p q n) inside) in
       record {
         within = omega arith;
-        is = ap (λ xs. get_or xs place []) (sym rows.ids) ∙ get_or-map (λ (e : Entry). e.id) es place (entry_of s k p q n) [] inside ∙ ap (λ (o : Entry). o.id) own
+        is = ap (λ xs. get_or xs index []) (sym rows.ids) ∙ get_or-map (λ (e : Entry). e.id) es index (entry_of s k p q n) [] inside ∙ ap (λ (o : Entry). o.id) own
             ∙ (λ i. named (at.side (entry_of s k p q n) i) (at.number (entry_of s k p q n) i));
       }
 
-  module _ (n : NewNumbers) (are : ArePlaced es n es) where
+  module _ (n : NewNumbers) (are : AreNumbered es n es) where
     new-at : (s : Side) (m : ℕ) → Contains es (entry_of s k p q m) → IsNew s m (get_or (numbers_of n s) m 0)
-    new-at s m at = placed s m (get_or (numbers_of n s) m 0)
-        (subst (λ (e : Entry). IsPlaceOf es e (get_or (numbers_of n e.side) e.number 0)) at.2 (are at.0 (entry_of s k p q m) at.1))
+    new-at s m at = new-by s m (get_or (numbers_of n s) m 0)
+        (subst (λ (e : Entry). IsIndexOf es e (get_or (numbers_of n e.side) e.number 0)) at.2 (are at.0 (entry_of s k p q m) at.1))
 
   -- numbers of which each is new
   pub are-new : (s : Side) (numbers : List ℕ) → length numbers ≡ length (known s) → ((m : ℕ) → m < length (known s) → IsNew s m (get_or numbers m 0)) → AreNewNumbers merged (renaming (side_names s p q) k) (known s) numbers
@@ -105,7 +105,7 @@ module _ (k : Kind) (p q : Parts) (es : List Entry) (rows : AreMergedRows k p q 
     joined_of m = joined_number k p q (get_or (known_ids k q) m [])
 
     -- what is told of a row of B, joined or not
-    new-b : (old new : NewNumbers) → ArePlaced es old es → (m : ℕ) → m < length (known_ids k q) → (o : Option ℕ) → joined_of m ≡ o → get_or new.b m 0 ≡ number_or old.a o (get_or old.b m 0) → IsNew side.B m (get_or new.b m 0)
+    new-b : (old new : NewNumbers) → AreNumbered es old es → (m : ℕ) → m < length (known_ids k q) → (o : Option ℕ) → joined_of m ≡ o → get_or new.b m 0 ≡ number_or old.a o (get_or old.b m 0) → IsNew side.B m (get_or new.b m 0)
     new-b old new are m within None none is =
         let x = get_or (known_ids k q) m [] in
         let apart : is_joined never_near k (content_of_parts p) (content_of_parts q) x ≡ false =
@@ -123,7 +123,7 @@ module _ (k : Kind) (p q : Parts) (es : List Entry) (rows : AreMergedRows k p q 
           is = ap (text_of_number merged) is ∙ of_a.is ∙ ap (renaming (side_names side.A p q) k) (sym same) ∙ joined-name p q sound_p sound_q few k x j.0;
         }
 
-    pub renumbered : (old new : NewNumbers) → ArePlaced es old es → length old.a ≡ length (known_ids k p) → length old.b ≡ length (known_ids k q) → new.a ≡ old.a → length new.b ≡ length old.b
+    pub renumbered : (old new : NewNumbers) → AreNumbered es old es → length old.a ≡ length (known_ids k p) → length old.b ≡ length (known_ids k q) → new.a ≡ old.a → length new.b ≡ length old.b
         → ((m : ℕ) → m < length old.b → get_or new.b m 0 ≡ number_or old.a (get_or (of_kind (joined_rows p q) k) m None) (get_or old.b m 0)) → AreRenumbered k p q new
     renumbered old new are long_a long_b kept count each side.A =
         are-new side.A new.a (ap length kept ∙ long_a) (λ m within. subst (λ (xs : List ℕ). IsNew side.A m (get_or xs m 0)) (sym kept) (new-at old are side.A m (has-a m within)))

@@ -3,14 +3,14 @@ use Rattle.std.proofs.Common.{◌≡◌, ◌<◌, ◌≤◌, ◌+◌, ℕ, List,
 use Rattle.std.proofs.lemmas.Bool.{cases_eq}
 use Rattle.std.proofs.lemmas.List.{get_or-set_other, get_or-set_same, length-set}
 use Rattle.gtfs_merge.specs.Order.{Entry}
-use Rattle.gtfs_merge.specs.Renumbered.{IsPlaceOf, NewNumbers, number_or, numbers_of, with_number}
+use Rattle.gtfs_merge.specs.Renumbered.{IsIndexOf, NewNumbers, number_or, numbers_of, with_number}
 use Rattle.gtfs_merge.specs.declared.kind.Side.{Side}
 use Rattle.gtfs_merge.specs.declared.kind.Side.TheVariants as side
 
 -- the numbers of the first entries are set, and no list has become longer
 pub record AreSet (es : List Entry) (old new : NewNumbers) (count : ℕ) : Type 0 where
   pub long : (s : Side) → length (numbers_of new s) ≡ length (numbers_of old s)
-  pub places : (j : ℕ) (d : Entry) → j < count → j < length es → IsPlaceOf es (get_or es j d) (get_or (numbers_of new (get_or es j d).side) (get_or es j d).number 0)
+  pub numbers : (j : ℕ) (d : Entry) → j < count → j < length es → IsIndexOf es (get_or es j d) (get_or (numbers_of new (get_or es j d).side) (get_or es j d).number 0)
 
 -- the numbers of the first rows of B are those of the rows of A that they are joined with
 pub record AreJoined (joined : List (Option ℕ)) (old new : NewNumbers) (count end : ℕ) : Type 0 where
@@ -46,30 +46,30 @@ set-cases n side.B side.B i j x = elim (cases_eq j i) as (λ w. ((side.B ≡ sid
 ]
 
 pub none-set : (es : List Entry) (old : NewNumbers) → AreSet es old old 0
-none-set es old = record { long = λ s. refl; places = λ j d before within. absurd (omega arith) }
+none-set es old = record { long = λ s. refl; numbers = λ j d before within. absurd (omega arith) }
 
-module _ (es : List Entry) (old new after : NewNumbers) (s : Side) (number place : ℕ) (is : after ≡ with_number new s number place) (so_far : AreSet es old new place)
-    (within : place < length es) (inside : number < length (numbers_of new s)) (of_side : (d : Entry) → (get_or es place d).side ≡ s) (of_number : (d : Entry) → (get_or es place d).number ≡ number) where
-  same-place : (e : Entry) → s ≡ e.side → number ≡ e.number → IsPlaceOf es e place
-  same-place e first second = record { within = within; side = λ d. of_side d ∙ first; number = λ d. of_number d ∙ second }
+module _ (es : List Entry) (old new after : NewNumbers) (s : Side) (number index : ℕ) (is : after ≡ with_number new s number index) (so_far : AreSet es old new index)
+    (within : index < length es) (inside : number < length (numbers_of new s)) (of_side : (d : Entry) → (get_or es index d).side ≡ s) (of_number : (d : Entry) → (get_or es index d).number ≡ number) where
+  same-index : (e : Entry) → s ≡ e.side → number ≡ e.number → IsIndexOf es e index
+  same-index e first second = record { within = within; side = λ d. of_side d ∙ first; number = λ d. of_number d ∙ second }
 
-  own-place : (e : Entry) → e.side ≡ s → e.number ≡ number → IsPlaceOf es e (get_or (numbers_of after e.side) e.number 0)
-  own-place e first second =
-      subst (IsPlaceOf es e) (sym ((λ i. get_or (numbers_of (is i) (first i)) (second i) 0) ∙ set-same new s number place inside)) (same-place e (sym first) (sym second))
+  own-index : (e : Entry) → e.side ≡ s → e.number ≡ number → IsIndexOf es e (get_or (numbers_of after e.side) e.number 0)
+  own-index e first second =
+      subst (IsIndexOf es e) (sym ((λ i. get_or (numbers_of (is i) (first i)) (second i) 0) ∙ set-same new s number index inside)) (same-index e (sym first) (sym second))
 
-  earlier : (j : ℕ) (d : Entry) → j < place → IsPlaceOf es (get_or es j d) (get_or (numbers_of after (get_or es j d).side) (get_or es j d).number 0)
+  earlier : (j : ℕ) (d : Entry) → j < index → IsIndexOf es (get_or es j d) (get_or (numbers_of after (get_or es j d).side) (get_or es j d).number 0)
   earlier j d before =
       let e : Entry = get_or es j d in
-      elim (set-cases new s e.side number e.number place) as (λ w. IsPlaceOf es e (get_or (numbers_of after e.side) e.number 0)) [
-        | inl same ↦ own-place e (sym same.0) (sym same.1)
-        | inr other ↦ subst (IsPlaceOf es e) (sym (ap (λ n. get_or (numbers_of n e.side) e.number 0) is ∙ other)) (so_far.places j d before (omega arith))
+      elim (set-cases new s e.side number e.number index) as (λ w. IsIndexOf es e (get_or (numbers_of after e.side) e.number 0)) [
+        | inl same ↦ own-index e (sym same.0) (sym same.1)
+        | inr other ↦ subst (IsIndexOf es e) (sym (ap (λ n. get_or (numbers_of n e.side) e.number 0) is ∙ other)) (so_far.numbers j d before (omega arith))
       ]
 
-  pub set-more : AreSet es old after (place + 1)
+  pub set-more : AreSet es old after (index + 1)
   set-more = record {
-    long = λ t. ap (λ n. length (numbers_of n t)) is ∙ set-long new s t number place ∙ so_far.long t;
-    places = λ j d before below. elim (cases_eq j place) as (λ w. IsPlaceOf es (get_or es j d) (get_or (numbers_of after (get_or es j d).side) (get_or es j d).number 0)) [
-      | inl e ↦ own-place (get_or es j d) (ap (λ k. (get_or es k d).side) e ∙ of_side d) (ap (λ k. (get_or es k d).number) e ∙ of_number d)
+    long = λ t. ap (λ n. length (numbers_of n t)) is ∙ set-long new s t number index ∙ so_far.long t;
+    numbers = λ j d before below. elim (cases_eq j index) as (λ w. IsIndexOf es (get_or es j d) (get_or (numbers_of after (get_or es j d).side) (get_or es j d).number 0)) [
+      | inl e ↦ own-index (get_or es j d) (ap (λ k. (get_or es k d).side) e ∙ of_side d) (ap (λ k. (get_or es k d).number) e ∙ of_number d)
       | inr other ↦ earlier j d (omega (arith, before, other))
     ];
   }

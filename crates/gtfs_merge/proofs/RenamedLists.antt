@@ -56,7 +56,7 @@ renamed-more rename ids n before after id name within so_far pushed own renamed 
 pub renamed-all : (rename : Renaming) (ids : List (List ℕ)) (n : ℕ) → length ids ≤ n → new_ids rename (take n ids) ≡ new_ids rename ids
 renamed-all rename ids n past = ap (new_ids rename) (take_all n ids past)
 
--- ---- places in mapped lists
+-- ---- positions in mapped lists
 
 -- ---- one more id and its name
 

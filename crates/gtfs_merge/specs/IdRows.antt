@@ -8,7 +8,7 @@ use Rattle.gtfs_merge.specs.Sides.{merged_ids, merged_parts}
 use Rattle.gtfs_merge.specs.declared.id_rows.IdRows.{IdRows}
 use Rattle.gtfs_merge.specs.declared.kind.Kind.TheVariants as kind
 
--- with ids in place of numbers the rows are those of the merged content; trips without their stop times and frequencies
+-- with ids instead of numbers the rows are those of the merged content; trips without their stop times and frequencies
 pub record AreIdRows (p q : Parts) (r : IdRows) : Type 0 where
   pub agencies : map agency_of r.agencies ≡ (merged_parts p q).agencies
   pub stops : map (stop_named (merged_ids kind.Stop p q)) r.stops ≡ (merged_parts p q).stops

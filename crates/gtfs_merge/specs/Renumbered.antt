@@ -30,18 +30,18 @@ AreRenumbered k p q n = (s : Side) → AreNewNumbers (merged_ids k p q) (renamin
 -- ---- how they are found
 
 abbrev pub with_number : NewNumbers → Side → ℕ → ℕ → NewNumbers
-with_number n side.A number place = record n { a = slice_set n.a number place }
-with_number n side.B number place = record n { b = slice_set n.b number place }
+with_number n side.A number index = record n { a = slice_set n.a number index }
+with_number n side.B number index = record n { b = slice_set n.b number index }
 
--- the place of an entry of the same side and number
-pub record IsPlaceOf (all : List Entry) (e : Entry) (place : ℕ) : Type 0 where
-  pub within : place < length all
-  pub side : (d : Entry) → (slice_index_or all place d).side ≡ e.side
-  pub number : (d : Entry) → (slice_index_or all place d).number ≡ e.number
+-- the index of an entry of the same side and number
+pub record IsIndexOf (all : List Entry) (e : Entry) (index : ℕ) : Type 0 where
+  pub within : index < length all
+  pub side : (d : Entry) → (slice_index_or all index d).side ≡ e.side
+  pub number : (d : Entry) → (slice_index_or all index d).number ≡ e.number
 
--- the new number of each of these entries is such a place
-abbrev pub ArePlaced : List Entry → NewNumbers → List Entry → Type 0
-ArePlaced all n es = All (λ e. IsPlaceOf all e (slice_index_or (numbers_of n e.side) e.number 0)) es
+-- the new number of each of these entries is such an index
+abbrev pub AreNumbered : List Entry → NewNumbers → List Entry → Type 0
+AreNumbered all n es = All (λ e. IsIndexOf all e (slice_index_or (numbers_of n e.side) e.number 0)) es
 
 -- the new number of a row of B: that of the row of A that it is joined with, else its own
 abbrev pub number_or : List ℕ → Option ℕ → ℕ → ℕ

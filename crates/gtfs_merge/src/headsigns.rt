@@ -12,7 +12,6 @@ use std::hash::RandomState;
 use std::marker::Model;
 
 // The headsigns of both feeds, each once, and the new numbers of those of each side.
-#[derive(Drop)]
 pub(crate) struct Headsigns {
     texts: List<Text>,
     a: Vec<OptionalHeadsign>,
@@ -25,6 +24,17 @@ impl Model for Headsigns {
     ghost Value = { HeadsignTable };
 
     ghost view = { λ h. record { texts = h.texts; a = h.a.items; b = h.b.items } };
+}
+
+// Written out, so that a function that lets headsigns go has one call to prove.
+impl Drop for Headsigns {
+    fn drop(self) {
+        let Headsigns {
+            texts: _,
+            a: _,
+            b: _,
+        } = self;
+    }
 }
 
 impl Headsigns {
@@ -98,8 +108,8 @@ impl Found {
         ensures kept { KeepsHeadsigns self.old self.new }
     {
         let mut numbers = Vec::with_capacity(self.alloc, headsigns.len())?;
-        for place in 0..headsigns.len() {
-            numbers.push(self.number(headsigns[place].as_str())?)?;
+        for headsign in headsigns {
+            numbers.push(self.number(headsign.as_str())?)?;
         }
         Ok(numbers)
     }
@@ -111,8 +121,8 @@ impl Found {
         ensures kept { KeepsHeadsigns self.old self.new }
     {
         let text = String::from_str(self.alloc, headsign)?;
-        let (place, _) = self.texts.insert_full(text)?;
-        let number = headsign_at(place)?;
+        let (index, _) = self.texts.insert_full(text)?;
+        let number = headsign_at(index)?;
         Ok(number)
     }
 
@@ -130,11 +140,11 @@ impl Found {
     }
 }
 
-// The number of a place. No number is left for more than 4,294,967,295 headsigns.
-fn headsign_at(place: usize) -> Result<OptionalHeadsign, OutOfMemory>
-    ensures { IfOk result (λ n. n ≡ Some place) }
+// The number of a headsign by its index. No number is left for more than 4,294,967,295 headsigns.
+fn headsign_at(index: usize) -> Result<OptionalHeadsign, OutOfMemory>
+    ensures { IfOk result (λ n. n ≡ Some index) }
 {
-    match u32::try_from(place) {
+    match u32::try_from(index) {
         Ok(number) if number < u32::MAX => Ok(OptionalHeadsign::new(Some(HeadsignNo(number)))),
         _ => Err(OutOfMemory),
     }

@@ -81,11 +81,11 @@ impl Joined {
         ensures { result ≡ slice_index_or (of_kind self.now kind) number None }
     {
         match kind {
-            Kind::Agency => self.agencies[number].map(|agency| agency.0),
-            Kind::Stop => self.stops[number].map(|stop| stop.0),
-            Kind::Route => self.routes[number].map(|route| route.0),
-            Kind::Service => self.services[number].map(|service| service.0),
-            Kind::Trip => self.trips[number].map(|trip| trip.0),
+            Kind::Agency => Some(self.agencies[number]?.0),
+            Kind::Stop => Some(self.stops[number]?.0),
+            Kind::Route => Some(self.routes[number]?.0),
+            Kind::Service => Some(self.services[number]?.0),
+            Kind::Trip => Some(self.trips[number]?.0),
         }
     }
 

@@ -37,10 +37,10 @@ pub(crate) fn number_of(feed: &Feed, kind: Kind, id: &str) -> Option<usize>
     ensures { result ≡ position (bytes_eq id.now) (known_ids kind feed.now) }
 {
     match kind {
-        Kind::Agency => feed.agency(id).map(|agency| agency.0),
-        Kind::Stop => feed.stop(id).map(|stop| stop.0),
-        Kind::Route => feed.route(id).map(|route| route.0),
-        Kind::Service => feed.service(id).map(|service| service.0),
-        Kind::Trip => feed.trip(id).map(|trip| trip.0),
+        Kind::Agency => Some(feed.agency(id)?.0),
+        Kind::Stop => Some(feed.stop(id)?.0),
+        Kind::Route => Some(feed.route(id)?.0),
+        Kind::Service => Some(feed.service(id)?.0),
+        Kind::Trip => Some(feed.trip(id)?.0),
     }
 }

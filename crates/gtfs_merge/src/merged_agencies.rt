@@ -24,8 +24,7 @@ pub(crate) fn merged_agencies(
 {
     let rows = agencies.rows();
     let mut list = Vec::with_capacity(alloc, rows.len())?;
-    for place in 0..rows.len() {
-        let row = &rows[place];
+    for row in rows {
         let source = side_of(a, b, row.side).agency_by_number(AgencyNo(row.number));
         list.push(with_id(alloc, source, row.id.as_str())?)?;
     }

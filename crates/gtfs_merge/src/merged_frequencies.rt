@@ -31,8 +31,7 @@ pub(crate) fn merged_frequencies(
     let trips = kinds.trips.rows();
     let mut rows = Vec::new(alloc);
     let mut starts = Vec::with_capacity(alloc, trips.len())?;
-    for place in 0..trips.len() {
-        let trip = &trips[place];
+    for trip in trips {
         starts.push(rows.len())?;
         let of_trip = side_of(a, b, trip.side).trip_frequencies(TripNo(trip.number));
         rows.extend_from_slice(of_trip)?;

@@ -2,6 +2,7 @@ ghost use Rattle.std.specs.Prelude.{◌≡◌, IfOk, false};
 ghost use Rattle.gtfs_feed.specs.Content.{content_of};
 ghost use Rattle.gtfs_rows.specs.Views.{IsSoundParts, content_of_parts};
 ghost use Rattle.gtfs_merge.specs.Joined.{joined_rows};
+ghost use Rattle.gtfs_merge.specs.KindRows.{AreMergedKinds};
 ghost use Rattle.gtfs_merge.specs.Merged.{zones_differ};
 ghost use Rattle.gtfs_merge.specs.Names.{AreKindNames};
 ghost use Rattle.gtfs_merge.specs.Sides.{merged_parts};
@@ -36,14 +37,30 @@ pub(crate) fn merged_parts(
     ensures sound { IfOk result IsSoundParts }
     ensures content { IfOk result (λ parts. content_of_parts parts ≡ merged_parts a.now b.now) }
 {
+    let kinds = MergedKinds::of_feeds(alloc, a, b, joined, names)?;
+    parts_of_kinds(alloc, random, a, b, &kinds)
+}
+
+// All rows of the merged feed, where these are the merged rows of all kinds.
+fn parts_of_kinds(
+    alloc: Global,
+    random: RandomState,
+    a: &Feed,
+    b: &Feed,
+    kinds: &MergedKinds,
+) -> Result<Parts, OutOfMemory>
+    requires kinds { AreMergedKinds a.now b.now kinds.now }
+    requires zone { zones_differ (content_of a.now) (content_of b.now) ≡ false }
+    ensures sound { IfOk result IsSoundParts }
+    ensures content { IfOk result (λ parts. content_of_parts parts ≡ merged_parts a.now b.now) }
+{
     a.soundness();
     b.soundness();
     are_few(a, b);
-    let kinds = MergedKinds::of_feeds(alloc, a, b, joined, names)?;
     let headsigns = Headsigns::of_feeds(alloc, random, a, b)?;
-    let stop_times = merged_stop_times(alloc, a, b, &kinds, &headsigns)?;
-    let frequencies = merged_frequencies(alloc, a, b, &kinds)?;
-    let transfers = merged_transfers(alloc, a, b, &kinds)?;
-    let rows = IdRows::of_kinds(alloc, a, b, &kinds)?;
+    let stop_times = merged_stop_times(alloc, a, b, kinds, &headsigns)?;
+    let frequencies = merged_frequencies(alloc, a, b, kinds)?;
+    let transfers = merged_transfers(alloc, a, b, kinds)?;
+    let rows = IdRows::of_kinds(alloc, a, b, kinds)?;
     Ok(rows.with_lists(transfers, stop_times, frequencies, headsigns.into_texts()))
 }

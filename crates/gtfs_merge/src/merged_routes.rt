@@ -32,8 +32,7 @@ pub(crate) fn merged_routes(
     b.soundness();
     let rows = routes.rows();
     let mut list = Vec::with_capacity(alloc, rows.len())?;
-    for place in 0..rows.len() {
-        let row = &rows[place];
+    for row in rows {
         let source = side_of(a, b, row.side).route_by_number(RouteNo(row.number));
         let agency = renumbered(source.agency_id, agencies.numbers(row.side));
         list.push(with_id(alloc, source, row.id.as_str(), agency)?)?;

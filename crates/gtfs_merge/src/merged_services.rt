@@ -25,8 +25,7 @@ pub(crate) fn merged_services(
 {
     let rows = services.rows();
     let mut list = Vec::with_capacity(alloc, rows.len())?;
-    for place in 0..rows.len() {
-        let row = &rows[place];
+    for row in rows {
         let source = side_of(a, b, row.side).service_by_number(ServiceNo(row.number));
         list.push(with_id(alloc, source, row.id.as_str())?)?;
     }

@@ -40,9 +40,9 @@ pub(crate) fn merged_stop_times(
     let trips = kinds.trips.rows();
     let mut rows = Vec::with_capacity(alloc, stop_time_count(a, b, kinds))?;
     let mut starts = Vec::with_capacity(alloc, trips.len())?;
-    for place in 0..trips.len() {
+    for trip in trips {
         starts.push(rows.len())?;
-        push_trip(a, b, kinds, headsigns, &trips[place], &mut rows)?;
+        push_trip(a, b, kinds, headsigns, trip, &mut rows)?;
     }
     Ok(StopTimes { rows, starts })
 }
@@ -53,8 +53,7 @@ fn stop_time_count(a: &Feed, b: &Feed, kinds: &MergedKinds) -> usize
 {
     let trips = kinds.trips.rows();
     let mut count: usize = 0;
-    for place in 0..trips.len() {
-        let trip = &trips[place];
+    for trip in trips {
         let rows = side_of(a, b, trip.side).trip_rows(TripNo(trip.number));
         count = count.saturating_add(rows.len());
     }

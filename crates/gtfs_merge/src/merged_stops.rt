@@ -30,8 +30,7 @@ pub(crate) fn merged_stops(
     b.soundness();
     let rows = stops.rows();
     let mut list = Vec::with_capacity(alloc, rows.len())?;
-    for place in 0..rows.len() {
-        let row = &rows[place];
+    for row in rows {
         let source = side_of(a, b, row.side).stop_by_number(StopNo(row.number));
         let parent = renumbered(source.parent_station, stops.numbers(row.side));
         list.push(with_id(alloc, source, row.id.as_str(), parent)?)?;

@@ -49,8 +49,8 @@ fn add_new(
     a.soundness();
     b.soundness();
     let transfers = side_of(a, b, side).transfers();
-    for place in 0..transfers.len() {
-        let transfer = renumbered(&transfers[place], kinds, side);
+    for own in transfers {
+        let transfer = renumbered(own, kinds, side);
         let key = ends(&transfer);
         if !by_key.contains_key(&key) {
             by_key.insert(key, transfer)?;

@@ -35,8 +35,7 @@ pub(crate) fn merged_trips(
     b.soundness();
     let rows = trips.rows();
     let mut list = Vec::with_capacity(alloc, rows.len())?;
-    for place in 0..rows.len() {
-        let row = &rows[place];
+    for row in rows {
         let source = side_of(a, b, row.side).trip_by_number(TripNo(row.number));
         let route_numbers = routes.numbers(row.side);
         let route = renumbered_route(source.route_id, route_numbers);

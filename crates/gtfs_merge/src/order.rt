@@ -22,7 +22,7 @@ use std::alloc::Global;
 use std::cmp::Ordering;
 
 // A row of the merged feed under its new id, by its number on one side. A joined row is that of A.
-#[derive(Debug, Drop)]
+#[derive(Drop)]
 pub(crate) struct MergedRow {
     pub(crate) id: String,
     pub(crate) side: Side,

@@ -18,7 +18,6 @@ use std::hash::RandomState;
 use std::marker::Model;
 
 // The ids of one kind of a feed, by number, and what each became.
-#[derive(Drop)]
 pub(crate) struct Renamed {
     ids: IndexSet<String, RandomState>,
     names: Vec<String>,
@@ -34,6 +33,13 @@ impl Model for Renamed {
       ids = map string_bytes r.ids.keys;
       names = map string_bytes r.names.items;
     } };
+}
+
+// Written out, so that a function that lets names go has one call to prove.
+impl Drop for Renamed {
+    fn drop(self) {
+        let Renamed { ids: _, names: _ } = self;
+    }
 }
 
 impl Renamed {
@@ -56,7 +62,7 @@ impl Renamed {
         for number in 0..count_of(a, kind) {
             let id = id_of(a, kind, number);
             let name = new_id_of_a(alloc, a, b, joined, kind, id)?;
-            ids.push(String::from_str(alloc, id)?, name)?;
+            ids.push(alloc, id, name)?;
         }
         Ok(ids)
     }
@@ -81,7 +87,7 @@ impl Renamed {
             let id = id_of(b, kind, number);
             let is_joined = is_joined_row(a, b, joined, kind, number);
             let name = new_id_of_b(alloc, a, b, kind, id, is_joined)?;
-            ids.push(String::from_str(alloc, id)?, name)?;
+            ids.push(alloc, id, name)?;
         }
         Ok(ids)
     }
@@ -125,11 +131,12 @@ impl Renamed {
     }
 
     // Adds an id that is not there, which takes the next number, and what it became.
-    fn push(&mut self, id: String, name: String) -> Result<(), OutOfMemory>
-        requires { list_any (bytes_eq (string_bytes id)) self.old.ids ≡ false }
-        ensures { OnOk result (self.new ≡ with_id self.old (string_bytes id) (string_bytes name)) }
+    fn push(&mut self, alloc: Global, id: &str, name: String) -> Result<(), OutOfMemory>
+        requires { list_any (bytes_eq id.now) self.old.ids ≡ false }
+        ensures { OnOk result (self.new ≡ with_id self.old id.now (string_bytes name)) }
     {
-        self.ids.insert(id)?;
+        let key = String::from_str(alloc, id)?;
+        self.ids.insert(key)?;
         self.names.push(name)?;
         Ok(())
     }

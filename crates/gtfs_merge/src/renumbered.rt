@@ -3,7 +3,7 @@ ghost use Rattle.gtfs_merge.specs.Joined.{joined_rows, of_kind};
 ghost use Rattle.gtfs_merge.specs.MergedKinds.{AreMergedRows};
 ghost use Rattle.gtfs_merge.specs.Numbered.{known_ids};
 ghost use Rattle.gtfs_merge.specs.Order.{entry_value};
-ghost use Rattle.gtfs_merge.specs.Renumbered.{ArePlaced, AreRenumbered, number_or, numbers_of, with_number};
+ghost use Rattle.gtfs_merge.specs.Renumbered.{AreNumbered, AreRenumbered, number_or, numbers_of, with_number};
 ghost use Rattle.gtfs_merge.specs.declared.kind.Side.{Side as SideOf};
 
 use crate::few::are_few;
@@ -87,22 +87,22 @@ impl Numbers {
             (map entry_value rows.now) }
         ensures count { (side : SideOf) → length (numbers_of self.new side)
             ≡ length (numbers_of self.old side) }
-        ensures places { ArePlaced (map entry_value rows.now) self.new (map entry_value rows.now) }
+        ensures numbers { AreNumbered (map entry_value rows.now) self.new (map entry_value rows.now) }
     {
-        for place in 0..rows.len() {
-            let row = &rows[place];
-            self.set(row.side, row.number, place);
+        for index in 0..rows.len() {
+            let row = &rows[index];
+            self.set(row.side, row.number, index);
         }
     }
 
     // Sets the number of a row.
-    fn set(&mut self, side: Side, number: usize, place: usize)
+    fn set(&mut self, side: Side, number: usize, index: usize)
         requires { number < length (numbers_of self.old side) }
-        ensures { self.new ≡ with_number self.old side number place }
+        ensures { self.new ≡ with_number self.old side number index }
     {
         match side {
-            Side::A => self.a[number] = place,
-            Side::B => self.b[number] = place,
+            Side::A => self.a[number] = index,
+            Side::B => self.b[number] = index,
         }
     }
 
@@ -118,13 +118,13 @@ impl Numbers {
             (slice_index_or self.old.b n 0) }
     {
         for number in 0..self.b.len() {
-            let place = self.place_of(joined.of(kind, number), number);
-            self.b[number] = place;
+            let renumbered = self.new_number(joined.of(kind, number), number);
+            self.b[number] = renumbered;
         }
     }
 
     // The new number of a row of B that is joined with this row of A, if any.
-    fn place_of(&self, first: Option<usize>, number: usize) -> usize
+    fn new_number(&self, first: Option<usize>, number: usize) -> usize
         requires first { IfSome first (λ n. n < length self.now.a) }
         requires within { number < length self.now.b }
         ensures { result ≡ number_or self.now.a first (slice_index_or self.now.b number 0) }

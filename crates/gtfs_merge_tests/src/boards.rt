@@ -24,9 +24,9 @@ const ALWAYS: Span = Span {
 // No board of these tests has more departures.
 const MOST: u64 = 100_000;
 
-// The place of a departure on a board of the merged feed. The numbers of trips follow the bytes of their ids.
+// Where a departure stands on a board of the merged feed. The numbers of trips follow the bytes of their ids.
 #[derive(Clone, Copy, Debug, PartialEq, Eq, PartialOrd, Ord)]
-struct Place {
+struct Rank {
     instant: i64,
     trip: TripNo,
     run: u32,
@@ -95,7 +95,7 @@ impl Fixture {
         alloc: Global,
         side: Side,
         stop: &str,
-        listed: &mut Vec<(Place, String)>,
+        listed: &mut Vec<(Rank, String)>,
     ) -> Result<(), Fail> {
         let feed = self.side(side);
         for number in 0..count_of(feed, Kind::Stop) {
@@ -112,7 +112,7 @@ impl Fixture {
         alloc: Global,
         side: Side,
         stop: &str,
-        listed: &mut Vec<(Place, String)>,
+        listed: &mut Vec<(Rank, String)>,
     ) -> Result<(), Fail> {
         let mut board = Board::open(alloc, self.side(side), &self.zone, stop, ALWAYS, None)?;
         for _ in 0..MOST {
@@ -125,13 +125,13 @@ impl Fixture {
         Ok(())
     }
 
-    // The place of a departure on the merged board, and its line there.
+    // Where a departure stands on the merged board, and its line there.
     fn renamed<'a>(
         &'a self,
         alloc: Global,
         side: Side,
         departure: &Departure<'a>,
-    ) -> Result<(Place, String), Fail> {
+    ) -> Result<(Rank, String), Fail> {
         let instant = departure.key.instant;
         let names = &self.merged.names;
         let trip = names
@@ -156,21 +156,21 @@ impl Fixture {
         };
         let mut line = String::new(alloc);
         push_line(alloc, &mut line, &self.zone, &renamed)?;
-        let place = Place {
+        let rank = Rank {
             instant,
             trip: self.merged.feed.trip(trip).unwrap_or(TripNo(0)),
             run: departure.key.run,
             sequence: departure.key.sequence,
             day: departure.key.day,
         };
-        Ok((place, line))
+        Ok((rank, line))
     }
 
     // How many of these departures are of joined trips.
-    fn joined_count(&self, listed: &[(Place, String)]) -> usize {
+    fn joined_count(&self, listed: &[(Rank, String)]) -> usize {
         let mut count = 0usize;
-        for (place, _) in listed {
-            let trip = id_of(&self.merged.feed, Kind::Trip, place.trip.0);
+        for (rank, _) in listed {
+            let trip = id_of(&self.merged.feed, Kind::Trip, rank.trip.0);
             for id in self.merged.names.joined(Kind::Trip) {
                 if id.as_str() == trip {
                     count = count.saturating_add(1);
@@ -181,7 +181,7 @@ impl Fixture {
     }
 }
 
-fn joined_lines(alloc: Global, listed: &[(Place, String)]) -> Result<String, Fail> {
+fn joined_lines(alloc: Global, listed: &[(Rank, String)]) -> Result<String, Fail> {
     let mut text = String::new(alloc);
     for (_, line) in listed {
         text.push_str(line)?;

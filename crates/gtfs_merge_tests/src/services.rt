@@ -76,7 +76,7 @@ C1,1,1,1,1,1,1,0,20240401,20240401\n",
         )],
     },
     Case {
-        what: "a week in A, and a date in its place in B",
+        what: "a week in A, and a date instead in B",
         a: &[],
         b: &[
             (

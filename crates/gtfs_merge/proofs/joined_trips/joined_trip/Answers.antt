@@ -11,11 +11,11 @@ returns-then-is_joined_trip c =
     let q = c.args.b.now in
     let n = c.in_ok-other.other.0 in
     let k = c.args.trip.0 in
-    let place = ap (λ t. position (bytes_eq t) (trip_ids p)) (sym c.as_str.ensures) ∙ sym c.in_ok-other.ensures in
-    let s = content-at p c.soundness.ensures n (number-below (trip_ids p) _ n place p.trips (λ t. t.trip_id) refl) in
+    let numbered = ap (λ t. position (bytes_eq t) (trip_ids p)) (sym c.as_str.ensures) ∙ sym c.in_ok-other.ensures in
+    let s = content-at p c.soundness.ensures n (number-below (trip_ids p) _ n numbered p.trips (λ t. t.trip_id) refl) in
     let t = content-at q c.soundness-2.ensures k c.requires.trip in
     sym (trip-joined p q c.soundness.ensures c.soundness-2.ensures n k c.trip_by_number-row.result.now.trip_id s.0 t.0 _ s.1 t.1
-    (id-at (λ t. t.trip_id) q.trips k c.trip_by_number-row.result.now c.trip_by_number-row.ensures) place (c.is_joined_trip.ensures s.0 t.0 s.1 t.1)
+    (id-at (λ t. t.trip_id) q.trips k c.trip_by_number-row.result.now c.trip_by_number-row.ensures) numbered (c.is_joined_trip.ensures s.0 t.0 s.1 t.1)
     ∙ ap (λ b. if b then Some n else None) c.if-is_joined_trip.true)
 
 pub returns-else-is_joined_trip : goal.returns-else-is_joined_trip
@@ -24,9 +24,9 @@ returns-else-is_joined_trip c =
     let q = c.args.b.now in
     let n = c.in_ok-other.other.0 in
     let k = c.args.trip.0 in
-    let place = ap (λ t. position (bytes_eq t) (trip_ids p)) (sym c.as_str.ensures) ∙ sym c.in_ok-other.ensures in
-    let s = content-at p c.soundness.ensures n (number-below (trip_ids p) _ n place p.trips (λ t. t.trip_id) refl) in
+    let numbered = ap (λ t. position (bytes_eq t) (trip_ids p)) (sym c.as_str.ensures) ∙ sym c.in_ok-other.ensures in
+    let s = content-at p c.soundness.ensures n (number-below (trip_ids p) _ n numbered p.trips (λ t. t.trip_id) refl) in
     let t = content-at q c.soundness-2.ensures k c.requires.trip in
     sym (trip-joined p q c.soundness.ensures c.soundness-2.ensures n k c.trip_by_number-row.result.now.trip_id s.0 t.0 _ s.1 t.1
-    (id-at (λ t. t.trip_id) q.trips k c.trip_by_number-row.result.now c.trip_by_number-row.ensures) place (c.is_joined_trip.ensures s.0 t.0 s.1 t.1)
+    (id-at (λ t. t.trip_id) q.trips k c.trip_by_number-row.result.now c.trip_by_number-row.ensures) numbered (c.is_joined_trip.ensures s.0 t.0 s.1 t.1)
     ∙ ap (λ b. if b then Some n else None) c.if-is_joined_trip.false)

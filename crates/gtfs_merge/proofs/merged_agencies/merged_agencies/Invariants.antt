@@ -5,5 +5,5 @@ use Rattle.gtfs_merge.specs.Order.{entry_value}
 use Rattle.gtfs_merge.proofs.merged_agencies.merged_agencies.Given as goal
 
 -- the agencies so far
-abbrev pub invariant-loop-place : goal.invariant-loop-place
-invariant-loop-place l = map (λ r. Some (agency_of r)) l.list.items ≡ map (agency_from l.a l.b) (take l.place (map entry_value l.rows))
+abbrev pub invariant-loop-row : goal.invariant-loop-row
+invariant-loop-row l = map (λ r. Some (agency_of r)) l.list.items ≡ map (agency_from l.a l.b) (take l.row-index (map entry_value l.rows))

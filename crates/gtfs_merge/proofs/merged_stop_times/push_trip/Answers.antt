@@ -1,7 +1,7 @@
 use Rattle.std.proofs.Common.{◌∙◌, ◌++◌, ap, map}
 use Rattle.gtfs_merge.specs.Renumbered.{numbers_of}
 use Rattle.gtfs_merge.specs.TripRows.{renumbered_row}
-use Rattle.gtfs_merge.proofs.TripPlaces.{headsigns-there, rows-are, stops-there, trip-of_side}
+use Rattle.gtfs_merge.proofs.TripsOfSides.{headsigns-there, rows-are, stops-there, trip-of_side}
 use Rattle.gtfs_merge.proofs.merged_stop_times.push_trip.Goals as goal
 
 pub trip_rows-of_trip-requires : goal.trip_rows-of_trip-requires

@@ -8,8 +8,8 @@ use Rattle.gtfs_merge.specs.declared.kind.Kind.TheVariants as kind
 use Rattle.gtfs_merge.proofs.merged_stops.merged_stops.Given as goal
 
 -- the stops so far
-abbrev pub invariant-loop-place : goal.invariant-loop-place
-invariant-loop-place l = record {
-  listed : map (λ r. Some (stop_named (merged_ids kind.Stop l.a l.b) r)) l.list.items ≡ map (stop_from l.a l.b) (take l.place (map entry_value l.rows));
+abbrev pub invariant-loop-row : goal.invariant-loop-row
+invariant-loop-row l = record {
+  listed : map (λ r. Some (stop_named (merged_ids kind.Stop l.a l.b) r)) l.list.items ≡ map (stop_from l.a l.b) (take l.row-index (map entry_value l.rows));
   within : list_all (names_parent (merged_ids kind.Stop l.a l.b)) l.list.items ≡ true;
 }

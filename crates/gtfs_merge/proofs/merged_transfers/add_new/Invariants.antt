@@ -4,5 +4,5 @@ use Rattle.gtfs_merge.specs.Transfers.{AreEntriesOf, transfer_on}
 use Rattle.gtfs_merge.proofs.merged_transfers.add_new.Given as goal
 
 -- the transfers so far
-abbrev pub invariant-loop-place : goal.invariant-loop-place
-invariant-loop-place l = (xs : List TransferOf) → AreEntriesOf xs l.initial.by_key.entries → AreEntriesOf (xs ++ map (transfer_on l.kinds l.side) (take l.place l.transfers)) l.by_key.entries
+abbrev pub invariant-loop-own : goal.invariant-loop-own
+invariant-loop-own l = (xs : List TransferOf) → AreEntriesOf xs l.initial.by_key.entries → AreEntriesOf (xs ++ map (transfer_on l.kinds l.side) (take l.own-index l.transfers)) l.by_key.entries

@@ -2,15 +2,15 @@ use Rattle.std.proofs.Common.{◌∙◌, ap, sym}
 use Rattle.gtfs_rows.specs.Views.{content_of_parts}
 use Rattle.gtfs_merge.specs.Numbered.{known_ids}
 use Rattle.gtfs_merge.specs.Renaming.{is_joined, never_near}
-use Rattle.gtfs_merge.proofs.JoinedIds.{own-place, told-not-there}
+use Rattle.gtfs_merge.proofs.JoinedIds.{own-index, told-not-there}
 use Rattle.gtfs_merge.proofs.new_names.is_joined_id.Goals as goal
 
 pub is_joined_row-requires-clause-within : goal.is_joined_row-requires-clause-within
-is_joined_row-requires-clause-within c = (own-place (known_ids c.args.kind c.args.b.now) c.args.id.now c.in-Some.number (sym c.in-Some.ensures)).0
+is_joined_row-requires-clause-within c = (own-index (known_ids c.args.kind c.args.b.now) c.args.id.now c.in-Some.number (sym c.in-Some.ensures)).0
 
 pub returns-in-Some : goal.returns-in-Some
 returns-in-Some c =
-    let own = (own-place (known_ids c.args.kind c.args.b.now) c.args.id.now c.in-Some.number (sym c.in-Some.ensures)).1 in
+    let own = (own-index (known_ids c.args.kind c.args.b.now) c.args.id.now c.in-Some.number (sym c.in-Some.ensures)).1 in
     c.is_joined_row.ensures ∙ ap (is_joined never_near c.args.kind (content_of_parts c.args.a.now) (content_of_parts c.args.b.now)) (sym own)
 
 pub returns-in-None : goal.returns-in-None

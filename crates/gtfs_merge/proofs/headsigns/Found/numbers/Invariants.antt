@@ -4,8 +4,8 @@ use Rattle.gtfs_merge.specs.Headsigns.{AreNumbersOf}
 use Rattle.gtfs_merge.proofs.headsigns.Found.numbers.Given as goal
 
 -- the numbers so far
-abbrev pub invariant-loop-place : goal.invariant-loop-place
-invariant-loop-place l = record {
-  numbers : AreNumbersOf l.self (take l.place l.headsigns) l.numbers.items;
+abbrev pub invariant-loop-headsign : goal.invariant-loop-headsign
+invariant-loop-headsign l = record {
+  numbers : AreNumbersOf l.self (take l.headsign-index l.headsigns) l.numbers.items;
   kept : KeepsHeadsigns l.initial.self l.self;
 }

@@ -1,9 +1,9 @@
-use Rattle.std.proofs.Common.{◌<◌, ◌∙◌, ap, arith, length, sym}
+use Rattle.std.proofs.Common.{◌<◌, ◌≤◌, ◌∙◌, ap, arith, length, sym}
 use Rattle.gtfs_rows.specs.Views.{content_of_parts}
 use Rattle.gtfs_merge.specs.Numbered.{known_ids}
 use Rattle.gtfs_merge.specs.Renaming.{has_id, is_joined, names_b, never_near, renaming}
 use Rattle.gtfs_merge.proofs.JoinedNames.{has-at}
-use Rattle.gtfs_merge.proofs.RenamedLists.{known-fresh}
+use Rattle.gtfs_merge.proofs.RenamedLists.{known-fresh, renamed-all, renamed-more}
 use Rattle.gtfs_merge.proofs.renamed.Renamed.of_b.Goals as goal
 
 pub new_id_of_b-requires-clause-there : goal.new_id_of_b-requires-clause-there
@@ -19,4 +19,17 @@ pub push-requires : goal.push-requires
 push-requires c =
     let within : c.loop-number.number < length (known_ids c.args.kind c.args.b.now) = omega (arith, c.count_of-number-end.ensures) in
     known-fresh c.args.kind c.args.b.now c.soundness.ensures c.loop-number.number (renaming (names_b never_near (content_of_parts c.args.a.now) (content_of_parts c.args.b.now)) c.args.kind) _ _ within
-    c.loop-number.invariant (c.in_ok-from_str.ensures.ok ∙ c.id_of-id.ensures)
+    c.loop-number.invariant c.id_of-id.ensures
+
+pub loop-number-preserved : goal.loop-number-preserved
+loop-number-preserved c =
+    let ids = known_ids c.args.kind c.args.b.now in
+    let rename = renaming (names_b never_near (content_of_parts c.args.a.now) (content_of_parts c.args.b.now)) c.args.kind in
+    let within : c.loop-number.number < length ids = omega (arith, c.count_of-number-end.ensures) in
+    renamed-more rename ids c.loop-number.number _ _ c.id_of-id.result.now _ within c.loop-number.invariant c.in_ok-push.ensures c.id_of-id.ensures (c.in_ok-name.ensures ∙ ap rename c.id_of-id.ensures)
+
+pub returns : goal.returns
+returns c =
+    let ids = known_ids c.args.kind c.args.b.now in
+    let past : length ids ≤ c.loop-number.number = omega (arith, c.count_of-number-end.ensures) in
+    c.loop-number.invariant ∙ renamed-all (renaming (names_b never_near (content_of_parts c.args.a.now) (content_of_parts c.args.b.now)) c.args.kind) ids c.loop-number.number past

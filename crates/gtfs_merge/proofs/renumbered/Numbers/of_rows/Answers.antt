@@ -29,7 +29,7 @@ returns c =
     let p = c.args.a.now in
     let q = c.args.b.now in
     let k = c.args.kind in
-    renumbered k p q (map entry_value c.args.rows.now) c.requires.rows c.soundness.ensures c.soundness-2.ensures c.are_few.ensures c.set_rows.new.self c.set_joined.new.self c.set_rows.ensures.places
+    renumbered k p q (map entry_value c.args.rows.now) c.requires.rows c.soundness.ensures c.soundness-2.ensures c.are_few.ensures c.set_rows.new.self c.set_joined.new.self c.set_rows.ensures.numbers
     (c.set_rows.ensures.count side.A ∙ c.in_ok-numbers.ensures.a ∙ c.count_of.ensures) (c.set_rows.ensures.count side.B ∙ c.in_ok-numbers.ensures.b ∙ c.count_of-2.ensures)
     c.set_joined.ensures.a c.set_joined.ensures.count
     (λ m within. c.set_joined.ensures.numbers m within ∙ ap (λ j. number_or c.set_rows.new.self.a (get_or (of_kind j k) m None) (get_or c.set_rows.new.self.b m 0)) c.requires.joined)

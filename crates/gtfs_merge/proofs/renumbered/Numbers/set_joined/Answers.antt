@@ -11,8 +11,8 @@ loop-number-init c =
     let seen : length c.self.inside.b.items ≡ length c.args.self.now.b = ap (λ n. length n.b) c.self.view_is in
     none-joined (of_kind c.args.joined.now c.args.kind) c.args.self.now c.len-number-end.result (c.len-number-end.ensures ∙ stored ∙ seen)
 
-pub place_of-place-requires-clause-first : goal.place_of-place-requires-clause-first
-place_of-place-requires-clause-first c =
+pub new_number-renumbered-requires-clause-first : goal.new_number-renumbered-requires-clause-first
+new_number-renumbered-requires-clause-first c =
     let joined = of_kind c.args.joined.now c.args.kind in
     let n = c.loop-number.number in
     let inside : n < length joined = omega (arith, c.loop-number-test.true, c.loop-number.invariant.whole, c.requires.count) in
@@ -20,8 +20,8 @@ place_of-place-requires-clause-first c =
     subst (λ o. IfSome o (λ m. m < length c.loop-number.self.a)) (sym c.of.ensures)
     (subst (λ (xs : List ℕ). IfSome (get_or joined n None) (λ m. m < length xs)) (sym c.loop-number.invariant.kept) old)
 
-pub place_of-place-requires-clause-within : goal.place_of-place-requires-clause-within
-place_of-place-requires-clause-within c = omega (arith, c.loop-number-test.true, c.loop-number.invariant.whole, c.loop-number.invariant.long)
+pub new_number-renumbered-requires-clause-within : goal.new_number-renumbered-requires-clause-within
+new_number-renumbered-requires-clause-within c = omega (arith, c.loop-number-test.true, c.loop-number.invariant.whole, c.loop-number.invariant.long)
 
 pub index_mut-requires : goal.index_mut-requires
 index_mut-requires c = omega (arith, c.loop-number-test.true, c.loop-number.invariant.whole, c.loop-number.invariant.long, ap (λ n. length n.b) c.self-in-loop-number.view_is)
@@ -31,9 +31,9 @@ loop-number-preserved c =
     let joined = of_kind c.args.joined.now c.args.kind in
     let new = c.loop-number.self in
     let n = c.loop-number.number in
-    joined-more joined c.args.self.now new _ n c.len-number-end.result c.place_of-place.result c.loop-number.invariant c.loop-number-test.true
-    (ap (λ v. v.a) c.self-in-loop-number.view_is) (ap (λ v. set v.b n c.place_of-place.result) c.self-in-loop-number.view_is)
-    (c.place_of-place.ensures ∙ ap (λ o. number_or new.a o (get_or new.b n 0)) c.of.ensures)
+    joined-more joined c.args.self.now new _ n c.len-number-end.result c.new_number-renumbered.result c.loop-number.invariant c.loop-number-test.true
+    (ap (λ v. v.a) c.self-in-loop-number.view_is) (ap (λ v. set v.b n c.new_number-renumbered.result) c.self-in-loop-number.view_is)
+    (c.new_number-renumbered.ensures ∙ ap (λ o. number_or new.a o (get_or new.b n 0)) c.of.ensures)
 
 pub returns-clause-a : goal.returns-clause-a
 returns-clause-a c = c.loop-number.invariant.kept

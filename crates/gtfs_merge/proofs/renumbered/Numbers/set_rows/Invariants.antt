@@ -4,5 +4,5 @@ use Rattle.gtfs_merge.proofs.NumberTables.{AreSet}
 use Rattle.gtfs_merge.proofs.renumbered.Numbers.set_rows.Given as goal
 
 -- the rows so far have their numbers
-abbrev pub invariant-loop-place : goal.invariant-loop-place
-invariant-loop-place l = AreSet (map entry_value l.rows) l.fn.self l.self l.place
+abbrev pub invariant-loop-index : goal.invariant-loop-index
+invariant-loop-index l = AreSet (map entry_value l.rows) l.fn.self l.self l.index

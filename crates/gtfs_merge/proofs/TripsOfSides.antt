@@ -24,12 +24,6 @@ use Rattle.gtfs_merge.proofs.InTurn.{all-mapped}
 use Rattle.gtfs_merge.proofs.Lookups.{In}
 use Rattle.gtfs_merge.proofs.ReferenceNumbers.{headsigns-length, numbers-length}
 
--- an element by its place is one of the list
-pub In-place : {X : Type 0} (xs : List X) (n : ℕ) (x : X) → n < length xs → x ≡ get_or xs n x → In x xs
-In-place [] n x within is = absurd (omega arith)
-In-place (y ∷ ys) zero x within is = inl (sym is)
-In-place (y ∷ ys) (suc n) x within is = inr (In-place ys n x (omega arith) is)
-
 pub In-get : {X : Type 0} (xs : List X) (n : ℕ) (d : X) → n < length xs → In (get_or xs n d) xs
 In-get [] n d within = absurd (omega arith)
 In-get (y ∷ ys) zero d within = inl refl

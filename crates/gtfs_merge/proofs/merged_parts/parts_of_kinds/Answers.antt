@@ -6,7 +6,7 @@ use Rattle.gtfs_merge.specs.MergedLists.{parts_with}
 use Rattle.gtfs_merge.specs.Renaming.{ids}
 use Rattle.gtfs_merge.specs.declared.kind.Kind.{Kind}
 use Rattle.gtfs_merge.proofs.MergedFeed.{content-is, make-a-feed}
-use Rattle.gtfs_merge.proofs.merged_parts.merged_parts.Goals as goal
+use Rattle.gtfs_merge.proofs.merged_parts.parts_of_kinds.Goals as goal
 
 few-enough : (k : Kind) (a b : Content) → length (ids k a) + length (ids k b) < 2 ^ 65 → AreFew k a b
 few-enough k a b few = omega arith
@@ -17,7 +17,7 @@ returns-clause-content c =
     let q = c.args.b.now in
     ap content_of_parts (c.with_lists.ensures ∙ ap (parts_with c.in_ok-rows.rows c.in_ok-transfers.transfers c.in_ok-stop_times.stop_times c.in_ok-frequencies.frequencies) c.into_texts.ensures)
     ∙ content-is p q c.soundness.ensures c.soundness-2.ensures (λ k. few-enough k (content_of_parts p) (content_of_parts q) (c.are_few.ensures k)) c.requires.zone
-    c.in_ok-kinds.kinds c.in_ok-kinds.ensures c.in_ok-headsigns.headsigns c.in_ok-headsigns.ensures c.in_ok-rows.rows c.in_ok-rows.ensures c.in_ok-stop_times.stop_times c.in_ok-stop_times.ensures
+    c.args.kinds.now c.requires.kinds c.in_ok-headsigns.headsigns c.in_ok-headsigns.ensures c.in_ok-rows.rows c.in_ok-rows.ensures c.in_ok-stop_times.stop_times c.in_ok-stop_times.ensures
     c.in_ok-frequencies.frequencies c.in_ok-frequencies.ensures c.in_ok-transfers.transfers c.in_ok-transfers.ensures
 
 pub returns-clause-sound : goal.returns-clause-sound
@@ -26,5 +26,5 @@ returns-clause-sound c =
     let q = c.args.b.now in
     subst IsSoundParts (sym (c.with_lists.ensures ∙ ap (parts_with c.in_ok-rows.rows c.in_ok-transfers.transfers c.in_ok-stop_times.stop_times c.in_ok-frequencies.frequencies) c.into_texts.ensures))
     (make-a-feed p q c.soundness.ensures c.soundness-2.ensures (λ k. few-enough k (content_of_parts p) (content_of_parts q) (c.are_few.ensures k)) c.requires.zone
-    c.in_ok-kinds.kinds c.in_ok-kinds.ensures c.in_ok-headsigns.headsigns c.in_ok-headsigns.ensures c.in_ok-rows.rows c.in_ok-rows.ensures c.in_ok-stop_times.stop_times c.in_ok-stop_times.ensures
+    c.args.kinds.now c.requires.kinds c.in_ok-headsigns.headsigns c.in_ok-headsigns.ensures c.in_ok-rows.rows c.in_ok-rows.ensures c.in_ok-stop_times.stop_times c.in_ok-stop_times.ensures
     c.in_ok-frequencies.frequencies c.in_ok-frequencies.ensures c.in_ok-transfers.transfers c.in_ok-transfers.ensures)
