@@ -1,5 +1,5 @@
 -- Ids that are looked up by number, and the search for a free one.
-use Rattle.std.proofs.Common.{◌≡◌, ℕ, zero, suc, ◌+◌, ◌^◌, ◌<◌, Bool, true, false, cond, not, List, [], ◌∷◌, ◌++◌, refl, sym, ap, ◌∙◌, unwrap_or, arith, length, bytes_eq, Option, Some, None, option_map, is_some, find, nat_lt, lt-ltb, true≢false}
+use Rattle.std.proofs.Common.{◌≡◌, ℕ, zero, suc, ◌+◌, ◌^◌, ◌<◌, Bool, true, false, cond, not, List, [], ◌∷◌, ◌++◌, refl, sym, ap, ◌∙◌, unwrap_or, arith, length, bytes_eq, Option, Some, None, is_some, find, nat_lt, lt-ltb, true≢false}
 use Prim.Native.Nat.compare
 use lib.Dec.{is_le}
 use Rattle.std.specs.Prelude.{◌||◌}
@@ -9,7 +9,7 @@ use Rattle.gtfs_merge.specs.Renaming.{has_id, merged_id, free_id}
 use Rattle.gtfs_merge.proofs.Fresh.{some_free}
 use Rattle.gtfs_merge.proofs.Lookups.{find-Some}
 
--- ---- a look-up by number tells whether an id is there
+-- ---- an element that passes stands before the end
 
 lt-suc : (m n : ℕ) → nat_lt (suc m) (suc n) ≡ nat_lt m n
 lt-suc m n = ap is_le (compare.suc-suc (suc m) n)
@@ -23,17 +23,6 @@ lt-zero n = lt-ltb 0 (suc n) (omega arith)
 pub before-any : {X : Type 0} (p : X → Bool) (xs : List X) → nat_lt (position_or_len p xs) (length xs) ≡ list_any p xs
 before-any p [] = refl
 before-any p (x ∷ xs) = elim (p x) as (λ b. nat_lt (cond (not b) (1 + position_or_len p xs) 0) (suc (length xs)) ≡ (b || list_any p xs)) [ true ↦ lt-zero (length xs) | false ↦ lt-more (position_or_len p xs) (length xs) ∙ before-any p xs ]
-
-is_some-cond : (b : Bool) (n : ℕ) → is_some (cond b (Some n) None) ≡ b
-is_some-cond true n = refl
-is_some-cond false n = refl
-
-some-map : {X Y : Type 0} (f : X → Y) (o : Option X) → is_some (option_map f o) ≡ is_some o
-some-map f None = refl
-some-map f (Some x) = refl
-
-pub known : {X : Type 0} (f : X → ℕ) (o : Option X) (ids : List (List ℕ)) (x : List ℕ) → option_map f o ≡ position (bytes_eq x) ids → is_some o ≡ has_id ids x
-known f o ids x e = sym (some-map f o) ∙ ap is_some e ∙ is_some-cond (nat_lt (position_or_len (bytes_eq x) ids) (length ids)) (position_or_len (bytes_eq x) ids) ∙ before-any (bytes_eq x) ids
 
 -- ---- the search
 
