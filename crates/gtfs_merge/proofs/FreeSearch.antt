@@ -35,6 +35,10 @@ pub record IsSearched (taken : List (List ℕ)) (base : List ℕ) (number : ℕ)
   pub within : number + left ≡ length taken + 2
   pub same : find (is_free taken base) (range_with_len 1 (length taken + 1)) ≡ find (is_free taken base) (range_with_len number left)
 
+-- as many ids as numbers of 128 bits can count are few enough for the search
+pub few-counted : (taken : List (List ℕ)) → length taken + 2 < 2 ^ 128 → length taken + 2 < 10 ^ 64
+few-counted taken counted = omega (arith, counted)
+
 pub searched_first : (taken : List (List ℕ)) (base : List ℕ) → IsSearched taken base 1
 searched_first taken base = record { left = length taken + 1; within = omega arith; same = refl }
 
