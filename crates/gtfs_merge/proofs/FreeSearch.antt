@@ -1,29 +1,11 @@
 -- Ids that are looked up by number, and the search for a free one.
-use Rattle.std.proofs.Common.{◌≡◌, ℕ, zero, suc, ◌+◌, ◌^◌, ◌<◌, Bool, true, false, cond, not, List, ◌++◌, refl, sym, ap, ◌∙◌, unwrap_or, arith, length, bytes_eq, Option, Some, option_map, is_some, find, nat_lt, lt-ltb, true≢false}
-use Prim.Native.Nat.compare
-use lib.Dec.{is_le}
+use Rattle.std.proofs.Common.{◌≡◌, ℕ, zero, suc, ◌+◌, ◌^◌, ◌<◌, Bool, true, false, cond, not, List, [], ◌∷◌, ◌++◌, refl, sym, ap, ◌∙◌, unwrap_or, arith, length, bytes_eq, Option, Some, None, is_some, find, nat_lt, lt-ltb, true≢false}
 use Rattle.std.specs.Prelude.{◌||◌}
-use Rattle.std.specs.List.{range_with_len, position, position_or_len}
+use Rattle.std.specs.List.{range_with_len}
 use Rattle.std.proofs.lemmas.List.Folds.{list_any-append}
-use Rattle.gtfs_field.proofs.ListFacts.{position_any as before-any}
-use Rattle.gtfs_field.proofs.OptionFacts.{is_some-cond, is_some-map as some-map}
 use Rattle.gtfs_merge.specs.Renaming.{has_id, merged_id, free_id}
 use Rattle.gtfs_merge.proofs.Fresh.{some_free}
 use Rattle.gtfs_merge.proofs.Lookups.{find-Some}
-
--- ---- a look-up by number tells whether an id is there
-
-lt-suc : (m n : ℕ) → nat_lt (suc m) (suc n) ≡ nat_lt m n
-lt-suc m n = ap is_le (compare.suc-suc (suc m) n)
-
-lt-more : (m n : ℕ) → nat_lt (1 + m) (suc n) ≡ nat_lt m n
-lt-more m n = let e : 1 + m ≡ suc m = omega arith in ap (λ k. nat_lt k (suc n)) e ∙ lt-suc m n
-
-lt-zero : (n : ℕ) → nat_lt 0 (suc n) ≡ true
-lt-zero n = lt-ltb 0 (suc n) (omega arith)
-
-pub known : {X : Type 0} (f : X → ℕ) (o : Option X) (ids : List (List ℕ)) (x : List ℕ) → option_map f o ≡ position (bytes_eq x) ids → is_some o ≡ has_id ids x
-known f o ids x e = sym (some-map f o) ∙ ap is_some e ∙ is_some-cond (nat_lt (position_or_len (bytes_eq x) ids) (length ids)) (position_or_len (bytes_eq x) ids) ∙ before-any (bytes_eq x) ids
 
 -- ---- the search
 
@@ -35,6 +17,10 @@ pub record IsSearched (taken : List (List ℕ)) (base : List ℕ) (number : ℕ)
   pub left : ℕ
   pub within : number + left ≡ length taken + 2
   pub same : find (is_free taken base) (range_with_len 1 (length taken + 1)) ≡ find (is_free taken base) (range_with_len number left)
+
+-- as many ids as numbers of 128 bits can count are few enough for the search
+pub few-counted : (taken : List (List ℕ)) → length taken + 2 < 2 ^ 128 → length taken + 2 < 10 ^ 64
+few-counted taken counted = omega (arith, counted)
 
 pub searched_first : (taken : List (List ℕ)) (base : List ℕ) → IsSearched taken base 1
 searched_first taken base = record { left = length taken + 1; within = omega arith; same = refl }

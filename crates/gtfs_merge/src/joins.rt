@@ -94,12 +94,6 @@ impl Joined {
         requires { number < length (of_kind self.now kind) }
         ensures { result ≡ is_some (slice_index_or (of_kind self.now kind) number None) }
     {
-        match kind {
-            Kind::Agency => self.agencies[number].is_some(),
-            Kind::Stop => self.stops[number].is_some(),
-            Kind::Route => self.routes[number].is_some(),
-            Kind::Service => self.services[number].is_some(),
-            Kind::Trip => self.trips[number].is_some(),
-        }
+        self.of(kind, number).is_some()
     }
 }

@@ -122,6 +122,20 @@ impl Names {
         a.soundness();
         b.soundness();
         are_few(a, b);
+        Names::of_kinds(alloc, random, a, b, joined)
+    }
+
+    // The names of each kind.
+    fn of_kinds(
+        alloc: Global,
+        random: RandomState,
+        a: &Feed,
+        b: &Feed,
+        joined: &Joined,
+    ) -> Result<Names, OutOfMemory>
+        requires { joined.now ≡ joined_rows a.now b.now }
+        ensures { IfOk result (AreKindNames a.now b.now) }
+    {
         let agencies = KindNames::of_feeds(alloc, random, a, b, joined, Kind::Agency)?;
         let stops = KindNames::of_feeds(alloc, random, a, b, joined, Kind::Stop)?;
         let routes = KindNames::of_feeds(alloc, random, a, b, joined, Kind::Route)?;

@@ -3,6 +3,7 @@ ghost use Rattle.gtfs_merge.specs.Numbered.{known_ids};
 ghost use Rattle.gtfs_merge.specs.Renaming.{free_id, has_id, merged_id};
 
 use crate::kind::Kind;
+use crate::kinds::number_of;
 use gtfs_feed::Feed;
 use gtfs_field::OutOfMemory;
 use itoa::Buffer;
@@ -22,13 +23,7 @@ pub(crate) fn numbered_id(alloc: Global, base: &str, number: u128) -> Result<Str
 pub(crate) fn has_this_id(feed: &Feed, kind: Kind, id: &str) -> bool
     ensures { result ≡ has_id (known_ids kind feed.now) id.now }
 {
-    match kind {
-        Kind::Agency => feed.agency(id).is_some(),
-        Kind::Stop => feed.stop(id).is_some(),
-        Kind::Route => feed.route(id).is_some(),
-        Kind::Service => feed.service(id).is_some(),
-        Kind::Trip => feed.trip(id).is_some(),
-    }
+    number_of(feed, kind, id).is_some()
 }
 
 // The first new id that neither feed has.
