@@ -58,8 +58,21 @@ pub fn measure<R: Files + Alloc + AllocGlobal + Clone + Drop + Clock + Print + R
     zone: &str,
 ) -> Result<()> {
     let feed = read_feed(rt, dir)?;
-    let bytes = fs::read(rt, zone).context(format_args!("reading {zone}"))?;
-    let zone = Zone::read(rt.alloc(), &bytes).context("reading the zone")?;
+    let zone = read_zone(rt, zone)?;
+    time_turns(rt, dir, &feed, &zone)
+}
+
+fn read_zone<R: Files + AllocGlobal>(rt: &R, path: &str) -> Result<Zone> {
+    let bytes = fs::read(rt, path).context(format_args!("reading {path}"))?;
+    Zone::read(rt.alloc(), &bytes).context("reading the zone")
+}
+
+fn time_turns<R: Files + AllocGlobal + Clock + Print>(
+    rt: &R,
+    dir: &str,
+    feed: &Feed,
+    zone: &Zone,
+) -> Result<()> {
     let mut least = Measured {
         bare: Duration::MAX,
         departures: Duration::MAX,
@@ -69,7 +82,7 @@ pub fn measure<R: Files + Alloc + AllocGlobal + Clone + Drop + Clock + Print + R
     };
     for _ in 0..TURNS {
         least.bare = least.bare.min(time_loop(rt, dir)?);
-        time_board(rt, &feed, &zone, &mut least)?;
+        time_board(rt, feed, zone, &mut least)?;
     }
     print(rt, &least)
 }
@@ -97,15 +110,21 @@ fn time_board<R: AllocGlobal + Clock>(
     ensure!(stop.0 < feed.stop_count(), "the feed has no stop");
     let id = feed.stop_by_number(stop).stop_id.as_str();
     let start = Instant::now(rt)?;
-    let mut board = Board::open(rt.alloc(), feed, zone, id, ALWAYS, None)?;
-    let taken = take_all(&mut board)?;
+    let (taken, steps) = take_board(rt.alloc(), feed, zone, id)?;
     least.departures = least.departures.min(start.elapsed(rt)?);
-    least.steps = board.steps();
+    least.steps = steps;
     let start = Instant::now(rt)?;
     least.lines = write_all(rt.alloc(), feed, zone, id)?;
     least.page = least.page.min(start.elapsed(rt)?);
     ensure!(taken == least.lines, "the page has other departures");
     Ok(())
+}
+
+/// Takes all departures from a board, and answers how many they are and how many steps that took.
+fn take_board(alloc: Global, feed: &Feed, zone: &Zone, id: &str) -> Result<(u64, u64)> {
+    let mut board = Board::open(alloc, feed, zone, id, ALWAYS, None)?;
+    let taken = take_all(&mut board)?;
+    Ok((taken, board.steps()))
 }
 
 fn take_all(board: &mut Board<'_>) -> Result<u64> {

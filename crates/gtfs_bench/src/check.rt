@@ -1,8 +1,7 @@
-use crate::count::Count;
 use crate::memory::print_status;
 use crate::shelf::Shelf;
-use crate::speed::count_all;
-use anyhow::{Context, Result, ensure};
+use crate::speed::time_bare;
+use anyhow::{Context, Result};
 use gtfs_rules::check;
 use gtfs_table::{DiskFolders, Tables};
 use std::rt::{Clock, Files};
@@ -43,13 +42,14 @@ fn take_turn<R: Files + AllocGlobal + Clock>(
     least: &mut Measured,
 ) -> Result<()> {
     let mut shelf = Shelf::load(rt, dir).context(format_args!("reading {dir}"))?;
-    let start = Instant::now(rt)?;
-    let looped = count_all(rt.alloc(), &shelf)?;
-    least.bare = least.bare.min(start.elapsed(rt)?);
-    ensure!(looped != Count::NOTHING, "no feed in {dir}");
+    least.bare = least.bare.min(time_bare(rt, &shelf, dir)?);
     let tables = Tables::read(rt.alloc(), &mut shelf, dir)?;
+    time_check(rt, &tables, least)
+}
+
+fn time_check<R: AllocGlobal + Clock>(rt: &R, tables: &Tables, least: &mut Measured) -> Result<()> {
     let start = Instant::now(rt)?;
-    let report = check(rt.alloc(), &tables)?;
+    let report = check(rt.alloc(), tables)?;
     least.check = least.check.min(start.elapsed(rt)?);
     least.problems = report.problems().len();
     Ok(())
@@ -63,7 +63,11 @@ pub fn measure_memory<R: Files + Alloc + AllocGlobal + Clone + Drop + Print>(
     print_status(rt, "before")?;
     let mut disk = DiskFolders::new(rt);
     let tables = Tables::read(rt.alloc(), &mut disk, dir).context(format_args!("reading {dir}"))?;
-    let report = check(rt.alloc(), &tables)?;
+    print_kept(rt, &tables)
+}
+
+fn print_kept<R: Files + AllocGlobal + Print>(rt: &R, tables: &Tables) -> Result<()> {
+    let report = check(rt.alloc(), tables)?;
     print_status(rt, "kept")?;
     let problems = report.problems().len();
     println!(rt; "problems={problems}")?;

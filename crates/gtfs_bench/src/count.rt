@@ -2,7 +2,7 @@ use csv::ByteRecord;
 use gtfs_table::{File, Tables};
 
 /// How much was read: two ways to read a feed have to come to the same.
-#[derive(Clone, Copy, Debug, PartialEq, Eq)]
+#[derive(Clone, Copy, PartialEq)]
 pub struct Count {
     pub records: usize,
     pub fields: usize,

@@ -1,7 +1,6 @@
-use crate::count::Count;
 use crate::memory::print_status;
 use crate::shelf::Shelf;
-use crate::speed::count_all;
+use crate::speed::time_bare;
 use anyhow::{Context, Result, bail, ensure};
 use gtfs_feed::Feed;
 use gtfs_rows::{StopNo, TripNo};
@@ -56,12 +55,17 @@ fn take_turn<R: Files + AllocGlobal + Clock + RandomSource>(
     least: &mut Measured,
 ) -> Result<()> {
     let mut shelf = Shelf::load(rt, dir).context(format_args!("reading {dir}"))?;
-    let start = Instant::now(rt)?;
-    let looped = count_all(rt.alloc(), &shelf)?;
-    least.bare = least.bare.min(start.elapsed(rt)?);
-    ensure!(looped != Count::NOTHING, "no feed in {dir}");
+    least.bare = least.bare.min(time_bare(rt, &shelf, dir)?);
     let tables = Tables::read(rt.alloc(), &mut shelf, dir)?;
-    let feed = time_feed(rt, &tables, least)?;
+    time_parts(rt, &tables, least)
+}
+
+fn time_parts<R: AllocGlobal + Clock + RandomSource>(
+    rt: &R,
+    tables: &Tables,
+    least: &mut Measured,
+) -> Result<()> {
+    let feed = time_feed(rt, tables, least)?;
     time_lanes(rt, &feed, least)
 }
 
@@ -133,7 +137,11 @@ pub fn read_feed<R: Files + Alloc + AllocGlobal + Clone + Drop + RandomSource>(
 ) -> Result<Feed> {
     let mut disk = DiskFolders::new(rt);
     let tables = Tables::read(rt.alloc(), &mut disk, dir).context(format_args!("reading {dir}"))?;
-    let report = check(rt.alloc(), &tables)?;
+    feed_of(rt, &tables)
+}
+
+fn feed_of<R: AllocGlobal + RandomSource>(rt: &R, tables: &Tables) -> Result<Feed> {
+    let report = check(rt.alloc(), tables)?;
     let Ok(passed) = report.passed() else {
         bail!("the feed has errors");
     };

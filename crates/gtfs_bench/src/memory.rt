@@ -13,8 +13,12 @@ pub fn measure<R: Files + Alloc + AllocGlobal + Clone + Drop + Print>(
     print_status(rt, "before")?;
     let mut disk = DiskFolders::new(rt);
     let tables = Tables::read(rt.alloc(), &mut disk, dir).context(format_args!("reading {dir}"))?;
+    print_kept(rt, &tables, dir)
+}
+
+fn print_kept<R: Files + AllocGlobal + Print>(rt: &R, tables: &Tables, dir: &str) -> Result<()> {
     print_status(rt, "kept")?;
-    let count = Count::of_tables(&tables);
+    let count = Count::of_tables(tables);
     ensure!(count != Count::NOTHING, "no feed in {dir}");
     print_count(rt, &count)
 }

@@ -74,11 +74,24 @@ fn take_turn<R: Files + Alloc + AllocGlobal + Clone + Drop + Clock + RandomSourc
     let a = read_feed(rt, dir)?;
     let b = read_feed(rt, other)?;
     least.feeds = least.feeds.min(start.elapsed(rt)?);
+    time_merge(rt, &a, &b, least)
+}
+
+fn time_merge<R: AllocGlobal + Clock + RandomSource>(
+    rt: &R,
+    a: &Feed,
+    b: &Feed,
+    least: &mut Measured,
+) -> Result<()> {
     let start = Instant::now(rt)?;
-    let merged = merged(rt, &a, &b)?;
+    let merged = merged(rt, a, b)?;
     least.merge = least.merge.min(start.elapsed(rt)?);
+    time_texts(rt, &merged.feed, least)
+}
+
+fn time_texts<R: AllocGlobal + Clock>(rt: &R, feed: &Feed, least: &mut Measured) -> Result<()> {
     let start = Instant::now(rt)?;
-    least.bytes = length(rt.alloc(), &merged.feed)?;
+    least.bytes = length(rt.alloc(), feed)?;
     least.texts = least.texts.min(start.elapsed(rt)?);
     Ok(())
 }
@@ -107,7 +120,11 @@ pub fn measure_memory<R: Files + Alloc + AllocGlobal + Clone + Drop + Print + Ra
     let a = read_feed(rt, dir)?;
     let b = read_feed(rt, other)?;
     let merged = merged(rt, &a, &b)?;
-    let bytes = length(rt.alloc(), &merged.feed)?;
+    print_kept(rt, &merged.feed)
+}
+
+fn print_kept<R: Files + AllocGlobal + Print>(rt: &R, feed: &Feed) -> Result<()> {
+    let bytes = length(rt.alloc(), feed)?;
     print_status(rt, "kept")?;
     println!(rt; "bytes={bytes}")?;
     Ok(())

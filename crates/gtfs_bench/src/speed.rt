@@ -50,31 +50,52 @@ fn take_turn<R: Files + AllocGlobal + Clock>(
     least: &mut Times,
 ) -> Result<Count> {
     let mut shelf = Shelf::load(rt, dir).context(format_args!("reading {dir}"))?;
-    let start = Instant::now(rt)?;
-    let looped = count_all(rt.alloc(), &shelf)?;
-    least.bare = least.bare.min(start.elapsed(rt)?);
-    ensure!(looped != Count::NOTHING, "no feed in {dir}");
-    let start = Instant::now(rt)?;
-    let tables = Tables::read(rt.alloc(), &mut shelf, dir)?;
-    least.read = least.read.min(start.elapsed(rt)?);
-    ensure!(
-        Count::of_tables(&tables) == looped,
-        "the tables are not what csv reads"
-    );
+    let (looped, bare) = loop_over(rt, &shelf, dir)?;
+    least.bare = least.bare.min(bare);
+    let (count, read) = read_over(rt, &mut shelf, dir)?;
+    least.read = least.read.min(read);
+    ensure!(count == looped, "the tables are not what csv reads");
     Ok(looped)
+}
+
+/// What [`Tables::read`] reads of the feed in a folder, and the time that it takes.
+fn read_over<R: AllocGlobal + Clock>(
+    rt: &R,
+    shelf: &mut Shelf,
+    dir: &str,
+) -> Result<(Count, Duration)> {
+    let start = Instant::now(rt)?;
+    let tables = Tables::read(rt.alloc(), shelf, dir)?;
+    let taken = start.elapsed(rt)?;
+    Ok((Count::of_tables(&tables), taken))
 }
 
 /// The time of one bare loop over a feed whose files are in memory before.
 pub fn time_loop<R: Files + AllocGlobal + Clock>(rt: &R, dir: &str) -> Result<Duration> {
     let shelf = Shelf::load(rt, dir).context(format_args!("reading {dir}"))?;
-    let start = Instant::now(rt)?;
-    let looped = count_all(rt.alloc(), &shelf)?;
-    let taken = start.elapsed(rt)?;
-    ensure!(looped != Count::NOTHING, "no feed in {dir}");
+    time_bare(rt, &shelf, dir)
+}
+
+/// The time of one bare loop over the files of the feed in a folder.
+pub fn time_bare<R: AllocGlobal + Clock>(rt: &R, shelf: &Shelf, dir: &str) -> Result<Duration> {
+    let (_, taken) = loop_over(rt, shelf, dir)?;
     Ok(taken)
 }
 
-pub fn count_all(alloc: Global, shelf: &Shelf) -> Result<Count, OutOfMemory> {
+/// What a bare loop reads of them, and the time that it takes.
+fn loop_over<R: AllocGlobal + Clock>(
+    rt: &R,
+    shelf: &Shelf,
+    dir: &str,
+) -> Result<(Count, Duration)> {
+    let start = Instant::now(rt)?;
+    let looped = count_all(rt.alloc(), shelf)?;
+    let taken = start.elapsed(rt)?;
+    ensure!(looped != Count::NOTHING, "no feed in {dir}");
+    Ok((looped, taken))
+}
+
+fn count_all(alloc: Global, shelf: &Shelf) -> Result<Count, OutOfMemory> {
     let mut count = Count::NOTHING;
     for held in &shelf.files {
         if let Some(bytes) = &held.bytes {
