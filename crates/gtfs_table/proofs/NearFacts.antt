@@ -54,14 +54,14 @@ text-told starts bytes texts base low high i e r lt from to =
       told = rw (drop-drop low base bytes) part;
     }
 
-pub texts-told : (starts bytes : List ℕ) (texts : List (List ℕ)) (base : ℕ) (places : List ℕ) (start end : ℕ) → parts starts bytes ≡ texts → Rising 0 starts (length bytes)
-    → start ≤ end → end ≤ length texts → length places ≤ end - start + 1 → TellsOffsets base places starts start → TellsFields (drop base bytes) places (take (end - start) (drop start texts))
-texts-told starts bytes texts base places start end e r up within few h =
+pub texts-told : (starts bytes : List ℕ) (texts : List (List ℕ)) (base : ℕ) (distances : List ℕ) (start end : ℕ) → parts starts bytes ≡ texts → Rising 0 starts (length bytes)
+    → start ≤ end → end ≤ length texts → length distances ≤ end - start + 1 → TellsOffsets base distances starts start → TellsFields (drop base bytes) distances (take (end - start) (drop start texts))
+texts-told starts bytes texts base distances start end e r up within few h =
     let size = length-part texts start (end - start) (omega arith) in
-    let one : (n : ℕ) → n + 1 < length places → IsTold (drop base bytes) (get_or places n 0) (get_or places (n + 1) 0) (get_or texts (start + n) []) =
+    let one : (n : ℕ) → n + 1 < length distances → IsTold (drop base bytes) (get_or distances n 0) (get_or distances (n + 1) 0) (get_or texts (start + n) []) =
     λ n lt.
     let number : start + (n + 1) ≡ start + n + 1 = omega arith in
-    text-told starts bytes texts base (get_or places n 0) (get_or places (n + 1) 0) (start + n) e r (omega (arith, h.within (n + 1) lt)) (h.told n (omega arith)) (rw number at (h.told (n + 1) lt)) in
+    text-told starts bytes texts base (get_or distances n 0) (get_or distances (n + 1) 0) (start + n) e r (omega (arith, h.within (n + 1) lt)) (h.told n (omega arith)) (rw number at (h.told (n + 1) lt)) in
     record {
       few = omega (arith, size);
       rising = λ n lt. (one n lt).rising;

@@ -23,9 +23,9 @@ pub record TellsOffsets (base : ℕ) (distances : List ℕ) (offsets : List ℕ)
   pub told : (n : ℕ) → n < length distances → base + slice_index distances n ≡ slice_index offsets (start + n)
 
 -- where the first of these fields begin in some bytes, and where the last one of them ends
-pub record TellsFields (bytes places : List ℕ) (fields : List (List ℕ)) : Type 0 where
-  pub few : length places ≤ length fields + 1
-  pub rising : (n : ℕ) → n + 1 < length places → slice_index places n ≤ slice_index places (n + 1)
-  pub within : (n : ℕ) → n + 1 < length places → slice_index places (n + 1) ≤ length bytes
-  pub told : (n : ℕ) → n + 1 < length places
-      → take (slice_index places (n + 1) - slice_index places n) (drop (slice_index places n) bytes) ≡ slice_index_or fields n []
+pub record TellsFields (bytes distances : List ℕ) (fields : List (List ℕ)) : Type 0 where
+  pub few : length distances ≤ length fields + 1
+  pub rising : (n : ℕ) → n + 1 < length distances → slice_index distances n ≤ slice_index distances (n + 1)
+  pub within : (n : ℕ) → n + 1 < length distances → slice_index distances (n + 1) ≤ length bytes
+  pub told : (n : ℕ) → n + 1 < length distances
+      → take (slice_index distances (n + 1) - slice_index distances n) (drop (slice_index distances n) bytes) ≡ slice_index_or fields n []

@@ -33,11 +33,11 @@ pub record IsRecordStore (r : records.Inside) : Type 0 where
 abbrev pub record_in : one.Inside → List (List ℕ)
 record_in r = take (r.end - r.start) (drop r.start r.fields.now)
 
--- the numbers are those of fields of the store, and the places those of the first of these fields
+-- the numbers are those of fields of the store, and the distances those of the first of these fields
 pub record IsRecordWithin (r : one.Inside) : Type 0 where
   pub rising : r.start ≤ r.end
   pub within : r.end ≤ length r.fields.now
-  pub near : TellsFields r.bytes.now r.places.now (record_in r)
+  pub near : TellsFields r.bytes.now r.distances.now (record_in r)
 
 -- the records are counted, and the header is among those passed
 pub record AreRowsWithin (r : rows.Inside) : Type 0 where

@@ -18,7 +18,7 @@ pub struct Record<'a> {
     end: usize,
     // Where its first fields begin in these bytes, and the last one of those ends: the fields of one block.
     bytes: &'a [u8],
-    places: &'a [u16],
+    distances: &'a [u16],
 }
 
 impl<'a> Model for Record<'a> {
@@ -41,13 +41,13 @@ impl<'a> Record<'a> {
         requires end { end ≤ length fields.now }
         ensures { result ≡ take (end - start) (drop start fields.now) }
     {
-        let (bytes, places) = fields.near(start, end);
+        let (bytes, distances) = fields.near(start, end);
         Record {
             fields,
             start,
             end,
             bytes,
-            places,
+            distances,
         }
     }
 
@@ -119,10 +119,10 @@ impl<'a> Record<'a> {
     pub(crate) fn raw(&self, n: usize) -> &'a str
         ensures { result.now ≡ slice_index_or self.now n [] }
     {
-        if n < self.places.len().saturating_sub(1) {
+        if n < self.distances.len().saturating_sub(1) {
             self.fields.are_utf8();
-            let start = self.places[n] as usize;
-            let end = self.places[n + 1] as usize;
+            let start = self.distances[n] as usize;
+            let end = self.distances[n + 1] as usize;
             unsafe { str::from_utf8_unchecked(&self.bytes[start..end]) }
         } else if n < self.end - self.start {
             self.fields.get_far(self.start + n)

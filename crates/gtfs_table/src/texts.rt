@@ -83,11 +83,11 @@ impl Texts {
         ensures { TellsFields result.0.now result.1.now (take (end - start) (drop start self.now)) }
     {
         let bytes = self.bytes.as_slice();
-        let (base, places) = self.starts.near(start, end);
+        let (base, distances) = self.starts.near(start, end);
         if bytes.len() < base {
             return (&[], &[]);
         }
-        (&bytes[base..], places)
+        (&bytes[base..], distances)
     }
 
     // Each text is UTF-8: a fact for callers.
