@@ -2,22 +2,16 @@
 ghost use Rattle.std.specs.Prelude.{◌≡◌};
 ghost use Rattle.gtfs.specs.Faults.{line_of, status_of};
 
-use thiserror::Error;
-
 /// Why the program could not answer the words, or not send its answer on.
-#[derive(Clone, Copy, Debug, PartialEq, Eq, Error)]
+#[derive(Clone, Copy)]
 pub enum Fault {
     /// A word is not UTF-8.
-    #[error("bad words")]
     BadWords,
     /// The system gives no random bytes.
-    #[error("no random source")]
     NoRandomSource,
     /// The buffer of the standard output could not be flushed.
-    #[error("output failed")]
     OutputFailed,
     /// Memory was refused.
-    #[error("out of memory")]
     OutOfMemory,
 }
 
