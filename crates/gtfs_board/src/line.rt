@@ -36,7 +36,8 @@ pub fn push_line(
 ) -> Result<(), OutOfMemory>
     requires { IsInstant departure.now.key.instant }
     ensures appended { OnOk result
-        (AppendsLine zone.now (listed departure.now) (string_bytes text.old) (string_bytes text.new)) }
+        (AppendsLine zone.now (listed departure.now)
+        (string_bytes text.old) (string_bytes text.new)) }
     ensures unchanged { OnErr result (string_bytes text.new ≡ string_bytes text.old) }
 {
     // A zone's clock shows something at each of these instants.

@@ -87,7 +87,8 @@ impl Numbers {
             (map entry_value rows.now) }
         ensures count { (side : SideOf) → length (numbers_of self.new side)
             ≡ length (numbers_of self.old side) }
-        ensures numbers { AreNumbered (map entry_value rows.now) self.new (map entry_value rows.now) }
+        ensures numbers { AreNumbered (map entry_value rows.now) self.new
+            (map entry_value rows.now) }
     {
         for index in 0..rows.len() {
             let row = &rows[index];

@@ -133,7 +133,8 @@ impl<'a> RouteFile<'a> {
         fields: &Record<'_>,
         route: &mut Route,
     ) -> Result<(), OutOfMemory>
-        ensures { OnOk result ((row : ℕ) → fields.now ≡ record_at (records_in self.now file.Routes) row
+        ensures { OnOk result ((row : ℕ)
+            → fields.now ≡ record_at (records_in self.now file.Routes) row
             → route.new ≡ route_with_texts self.now row route.old) }
     {
         route.route_id = id(alloc, fields, self.route_id)?;

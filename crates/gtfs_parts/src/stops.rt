@@ -130,7 +130,8 @@ impl<'a> StopFile<'a> {
         fields: &Record<'_>,
         stop: &mut Stop,
     ) -> Result<(), OutOfMemory>
-        ensures { OnOk result ((row : ℕ) → fields.now ≡ record_at (records_in self.now file.Stops) row
+        ensures { OnOk result ((row : ℕ)
+            → fields.now ≡ record_at (records_in self.now file.Stops) row
             → stop.new ≡ stop_with_texts self.now row stop.old) }
     {
         stop.stop_id = id(alloc, fields, self.stop_id)?;

@@ -62,11 +62,13 @@ fn in_file_order(
     requires trips { trips.now ≡ ids_in tables.now file.Trips (codes "trip_id") }
     ensures rows { IfOk result (λ transfers.
         map (transfer_named (ids_of tables.now file.Stops "stop_id")
-        (ids_of tables.now file.Routes "route_id") (ids_of tables.now file.Trips "trip_id")) transfers.items
+        (ids_of tables.now file.Routes "route_id")
+        (ids_of tables.now file.Trips "trip_id")) transfers.items
         ≡ map (transfer_in tables.now) (rows tables.now file.Transfers)) }
     ensures numbers { IfOk result (λ transfers. list_all
         (names_ends (ids_of tables.now file.Stops "stop_id")
-        (ids_of tables.now file.Routes "route_id") (ids_of tables.now file.Trips "trip_id")) transfers.items
+        (ids_of tables.now file.Routes "route_id")
+        (ids_of tables.now file.Trips "trip_id")) transfers.items
         ≡ true) }
 {
     let file = TransferFile::new(tables);

@@ -136,7 +136,8 @@ impl<'a> TripFile<'a> {
         fields: &Record<'_>,
         trip: &mut Trip,
     ) -> Result<(), OutOfMemory>
-        ensures { OnOk result ((row : ℕ) → fields.now ≡ record_at (records_in self.now file.Trips) row
+        ensures { OnOk result ((row : ℕ)
+            → fields.now ≡ record_at (records_in self.now file.Trips) row
             → trip.new ≡ trip_with_texts self.now row trip.old) }
     {
         trip.trip_id = id(alloc, fields, self.trip_id)?;

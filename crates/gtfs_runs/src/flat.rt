@@ -102,7 +102,8 @@ fn push_row(
         → place.now ≡ members (content_of feed.now) (text_of_number (stop_ids feed.now) s)
         → tally (is_served service e) events.new.items
         ≡ tally (is_served service e) events.old.items
-        + cond ((e.trip.0 == trip.0) && (e.row == position) && is_event_of feed.now s service e) 1 0) }
+        + cond ((e.trip.0 == trip.0) && (e.row == position)
+        && is_event_of feed.now s service e) 1 0) }
 {
     feed.soundness();
     let row = feed.trip_by_number(trip);
@@ -138,7 +139,8 @@ fn push_runs(
         ≤ unwrap_or (left_at (slice_index_or rows.now position d)) 0 }
     ensures { OnOk result ((p : Parts) (t : Trip) (fs : List FrequencyRow) (d : StopTime)
         → t.service_id ≡ service → events.new.items ≡ events.old.items
-        ++ map (served_at p t rows.now fs trip.0 position (slice_index_or rows.now position d)) runs.now) }
+        ++ map (served_at p t rows.now fs trip.0 position
+        (slice_index_or rows.now position d)) runs.now) }
 {
     for run in runs {
         events.push((service, event_at(trip, rows, position, *run)))?;

@@ -98,7 +98,8 @@ fn add_listed<'a>(
 ) -> Result<(), OutOfMemory>
     requires { All (λ x. x.after ≤ 3_599_999) passings.now }
     ensures { OnOk result (map stopping_of listed.new.items ≡ map stopping_of listed.old.items
-        ++ map (stopping_at (stops_in rows.now) service.0 trip.0 (first_left rows.now)) passings.now) }
+        ++ map (stopping_at (stops_in rows.now) service.0 trip.0
+        (first_left rows.now)) passings.now) }
 {
     let start = trip_start(rows);
     for passing in passings {
