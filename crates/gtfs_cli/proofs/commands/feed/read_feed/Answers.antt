@@ -19,7 +19,9 @@ pub returns-clause-refused : goal.returns-clause-refused
 returns-clause-refused g c =
     let limit = g.F.Folders.limit c.args.folders.now in
     let held = g.F.Folders.held c.args.folders.now in
-    IfErr-weaker c.feed_of.result _ _
+    let x = g.F.Folders.failure_count c.args.folders.now in
+    let y = g.F.Folders.failure_count c.read_tables.new.folders in
+    IfErr-weaker c.feed_of.result _ (ReadingAside limit held c.args.dir.now x y)
     (λ r e before after first last. feed-cause limit held c.args.dir.now before after c.in_ok-tables.tables r c.in_ok-tables.ensures.whole e)
     c.feed_of.ensures.refused
 
