@@ -1,16 +1,17 @@
 use Rattle.std.proofs.Common.{List, ℕ, string_bytes, subst}
 use Rattle.std.specs.Prelude.{OnErr, OnOk}
 use Rattle.std.specs.Io.KnownBytes.{Appends}
+use Rattle.gtfs_table.proofs.FolderFacts.{on_err-always}
 use Rattle.gtfs_merge.specs.Report.{renamed_line}
 use Rattle.gtfs_cli.specs.Sending.{SendsBeginning}
-use Rattle.gtfs_cli.proofs.Parts.{line-made, none-sent, on-error}
+use Rattle.gtfs_cli.proofs.Parts.{line-made, none-sent}
 use Rattle.gtfs_cli.proofs.commands.names.print_change.Goals as goal
 
 pub returns-in_err-push_renamed-clause-cut_short : goal.returns-in_err-push_renamed-clause-cut_short
 returns-in_err-push_renamed-clause-cut_short g c =
     let before = g.O.Out.told c.args.out.now in
     let text = renamed_line c.args.side c.args.kind c.args.id.now c.args.name.now in
-    on-error c.from_residual.result (SendsBeginning before before text) (none-sent before text)
+    on_err-always c.from_residual.result (SendsBeginning before before text) (none-sent before text)
 
 pub returns-clause-printed : goal.returns-clause-printed
 returns-clause-printed g c =
