@@ -16,6 +16,7 @@ pub mod RowFacts
 pub mod RuleFacts
 pub mod SiteFacts
 pub mod SiteSteps
+mod SlotFacts
 pub mod StepFacts
 pub mod StopTypeFacts
 pub mod ValueFacts

@@ -10,5 +10,6 @@ pub mod Picks
 pub mod ProblemOrder
 pub mod ReferencePicks
 pub mod SitePicks
+pub mod Slots
 pub mod StopTypes
 pub mod UnknownIds

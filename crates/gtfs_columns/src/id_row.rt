@@ -3,7 +3,7 @@ ghost use Rattle.std.specs.Prelude.{◌≡◌, ◌≤◌, bytes_eq, length, take
 use std::cmp::Ordering;
 
 // How many bytes of an id stand in its row.
-const HEAD: usize = 16;
+pub(crate) const HEAD: usize = 16;
 
 // A row and its id. Only the ids are compared.
 //
@@ -12,7 +12,7 @@ const HEAD: usize = 16;
 #[derive(Clone, Copy)]
 pub(crate) struct IdRow<'a> {
     pub(crate) id: &'a str,
-    head: [u8; HEAD],
+    pub(crate) head: [u8; HEAD],
     pub(crate) row: usize,
     ghost copied: { length id.now ≤ 16 → take (length id.now) head ≡ id.now },
 }

@@ -1,10 +1,11 @@
 ghost use Rattle.std.specs.Prelude.{◌≡◌, ◌<◌, ◌^◌, length, option_map, slice_index_or, IfOk, IfSome, Some};
-ghost use Rattle.gtfs_columns.specs.steps.Ids.{are_clear, first_row_with, number_with, ids_in, ids_of, rows_are_clear, rows_by_number, ListsFirstRows};
+ghost use Rattle.std.specs.List.{All};
+ghost use Rattle.gtfs_columns.specs.steps.Ids.{are_clear, first_row_with, number_with, ids_in, ids_of, rows_are_clear, rows_by_number, Answers, IdColumn, IsIdIndex, ListsFirstRows};
 
 use crate::cell::holds_control;
 use crate::finder::FoundId;
 use crate::id_row::IdRow;
-use crate::slots::{Slot, fill_slot, free_slots, slots_of, tag_of};
+use crate::slots::{Slot, fill_slot, free_slots, places, tag_of};
 use gtfs_field::OutOfMemory;
 use gtfs_table::{File, Tables};
 use std::alloc::Global;
@@ -24,13 +25,13 @@ pub struct Ids<'a> {
 }
 
 impl<'a> Model for Ids<'a> {
-    ghost use Rattle.gtfs_columns.specs.steps.Ids.{IdColumn, IsClearIndex, ids_in};
+    ghost use Rattle.gtfs_columns.specs.steps.Ids.{IdColumn, IsFilledIndex, ids_in};
 
     ghost Value = { IdColumn };
 
     ghost view = { λ i. ids_in i.tables.now i.file i.column.now };
 
-    ghost invariant = { λ i. IsClearIndex (ids_in i.tables.now i.file i.column.now) i.rows.items i.are_clear };
+    ghost invariant = { λ i. IsFilledIndex (ids_in i.tables.now i.file i.column.now) i.rows.items i.slots.items i.are_clear };
 }
 
 impl<'a> Ids<'a> {
@@ -107,14 +108,30 @@ impl<'a> Ids<'a> {
             (λ found. Some found.number ≡ number_with self.now id.now) }
     {
         let tag = tag_of(id.as_bytes());
-        for slot in slots_of(&self.slots, tag) {
-            if slot.tag == tag
-                && let Some(found) = self.at(slot.number(), id)
-            {
+        let (first, end) = places(&self.slots, tag);
+        for place in first..end {
+            if let Some(found) = self.tried(place, tag, id) {
                 return Some(found);
             }
         }
         None
+    }
+
+    // This id, where it is that of the slot at this place.
+    #[inline(always)]
+    fn tried(&self, place: usize, tag: u32, id: &str) -> Option<FoundId>
+        ensures row { IfSome result (λ found. Some found.row ≡ first_row_with self.now id.now) }
+        ensures number { IfSome result
+            (λ found. Some found.number ≡ number_with self.now id.now) }
+    {
+        let slot = self.slots.get(place)?;
+        if !slot.is_tagged(tag) {
+            return None;
+        }
+        if !slot.holds_id() {
+            return self.at(slot.number(), id);
+        }
+        slot.found(id)
     }
 
     // This id, where it has this number.
@@ -139,10 +156,13 @@ impl<'a> Ids<'a> {
 }
 
 // The slots of the ids of these rows.
-fn slots_for(alloc: Global, rows: &[IdRow<'_>]) -> Result<Vec<Slot>, OutOfMemory> {
+fn slots_for(alloc: Global, rows: &[IdRow<'_>]) -> Result<Vec<Slot>, OutOfMemory>
+    ensures { IfOk result
+        (λ slots. (i : IdColumn) → IsIdIndex i rows.now → All (Answers i) slots.items) }
+{
     let mut slots = free_slots(alloc, rows.len())?;
-    for (number, row) in rows.iter().enumerate() {
-        fill_slot(&mut slots, tag_of(row.bytes()), number);
+    for number in 0..rows.len() {
+        fill_slot(&mut slots, &rows[number], number);
     }
     Ok(slots)
 }

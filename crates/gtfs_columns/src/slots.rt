@@ -1,3 +1,10 @@
+ghost use Rattle.std.specs.Prelude.{◌≡◌, ◌<◌, length, IfOk, IfSome};
+ghost use Rattle.std.specs.List.{All};
+ghost use Rattle.gtfs_columns.specs.steps.Ids.{Answers, AnswersRow, IdColumn};
+ghost use Rattle.gtfs_columns.specs.steps.Slots.{IsFoundIn, IsSlotOf};
+
+use crate::finder::FoundId;
+use crate::id_row::{HEAD, IdRow};
 use gtfs_field::OutOfMemory;
 use std::alloc::Global;
 
@@ -10,55 +17,125 @@ const TRIES: usize = 8;
 // No id has this number: there are slots for fewer.
 const NO_NUMBER: u32 = u32::MAX;
 
-// A guess which number an id has.
+// A guess which number an id has. A short id stands in its slot, and its first row beside it: then a look at the slot is
+// enough to find it, and its row, which is mostly in no near cache, is not read.
 #[derive(Clone, Copy)]
 pub(crate) struct Slot {
     // What is mixed of the id, which tells most others apart.
-    pub(crate) tag: u32,
+    tag: u32,
     number: u32,
+    row: u32,
+    // How long the id is that stands in the head, and 0 where none does.
+    length: u8,
+    head: [u8; HEAD],
 }
 
 impl Slot {
+    // The slot of a row whose id has this number, and None where the number is too large for a slot.
+    fn new(row: &IdRow<'_>, number: usize) -> Option<Slot>
+        ensures { IfSome result (λ slot. IsSlotOf row.now number slot) }
+    {
+        let guess = Slot {
+            tag: tag_of(row.bytes()),
+            number: u32::try_from(number).ok()?,
+            ..FREE
+        };
+        let length = row.id.len();
+        match u32::try_from(row.row) {
+            Ok(first_row) if length <= HEAD => Some(Slot {
+                row: first_row,
+                length: length as u8,
+                head: row.head,
+                ..guess
+            }),
+            _ => Some(guess),
+        }
+    }
+
     #[inline(always)]
-    pub(crate) fn number(&self) -> usize {
+    pub(crate) fn number(&self) -> usize
+        ensures { result ≡ self.now.number }
+    {
         self.number as usize
+    }
+
+    // Whether an id of this tag may be that of the slot.
+    #[inline(always)]
+    pub(crate) fn is_tagged(&self, tag: u32) -> bool {
+        self.tag == tag
+    }
+
+    // Whether the slot holds its id.
+    #[inline(always)]
+    pub(crate) fn holds_id(&self) -> bool {
+        self.length > 0
+    }
+
+    // This id, where it stands here.
+    #[inline(always)]
+    pub(crate) fn found(&self, id: &str) -> Option<FoundId>
+        ensures { IfSome result (λ found. IsFoundIn self.now id.now found) }
+    {
+        let length = usize::from(self.length);
+        if length == 0 || length > HEAD || &self.head[..length] != id.as_bytes() {
+            return None;
+        }
+        Some(FoundId {
+            number: self.number(),
+            row: self.row as usize,
+        })
     }
 }
 
 const FREE: Slot = Slot {
     tag: 0,
     number: NO_NUMBER,
+    row: 0,
+    length: 0,
+    head: [0; HEAD],
 };
 
 // Free slots for this many ids: more than twice as many, so that most ids stand in the first that is tried.
-pub(crate) fn free_slots(alloc: Global, ids: usize) -> Result<Vec<Slot>, OutOfMemory> {
+pub(crate) fn free_slots(alloc: Global, ids: usize) -> Result<Vec<Slot>, OutOfMemory>
+    ensures { IfOk result (λ slots. (i : IdColumn) → All (Answers i) slots.items) }
+{
     let mut slots = Vec::new(alloc);
-    let count = ids.saturating_mul(2).checked_next_power_of_two();
-    slots.resize(count.unwrap_or(0).saturating_add(TRIES), FREE)?;
+    slots.resize(ids.saturating_mul(2).saturating_add(TRIES), FREE)?;
     Ok(slots)
 }
 
-// The slots in which an id of this tag may stand.
+// Where the slots begin in which an id of this tag may stand, and where they end.
 #[inline(always)]
-pub(crate) fn slots_of(slots: &[Slot], tag: u32) -> &[Slot] {
+pub(crate) fn places(slots: &[Slot], tag: u32) -> (usize, usize) {
     let first = first_slot(slots.len(), tag);
-    slots.get(first..first.saturating_add(TRIES)).unwrap_or(&[])
+    (first, first.saturating_add(TRIES))
 }
 
-// Puts the number of an id into the first free slot for it. Where there is none, the number is not guessed.
-pub(crate) fn fill_slot(slots: &mut [Slot], tag: u32, number: usize) {
-    let Ok(number) = u32::try_from(number) else {
-        return;
-    };
-    let first = first_slot(slots.len(), tag);
-    for index in first..first.saturating_add(TRIES) {
-        if let Some(slot) = slots.get_mut(index)
+// Puts a row whose id has this number into the first free slot for it. Where there is none, the number is not guessed.
+pub(crate) fn fill_slot(slots: &mut Vec<Slot>, row: &IdRow<'_>, number: usize)
+    ensures { (i : IdColumn) → AnswersRow i row.now number
+        → All (Answers i) slots.old.items → All (Answers i) slots.new.items }
+{
+    if let Some(slot) = Slot::new(row, number)
+        && let Some(place) = free_place(slots, slot.tag)
+    {
+        slots[place] = slot;
+    }
+}
+
+// The first free slot for an id of this tag.
+fn free_place(slots: &[Slot], tag: u32) -> Option<usize>
+    ensures { IfSome result (λ place. place < length slots.now) }
+{
+    let (first, end) = places(slots, tag);
+    for place in first..end {
+        if let Some(slot) = slots.get(place)
             && slot.number == NO_NUMBER
         {
-            *slot = Slot { tag, number };
-            return;
+            return Some(place);
         }
     }
+    None
 }
 
 // The place among the first ones that the highest bits of a tag tell, which depend on each byte of an id. There are TRIES

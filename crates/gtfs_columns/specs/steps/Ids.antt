@@ -1,6 +1,6 @@
 -- The ids of one column of one file, and the first row of each.
-use Rattle.std.specs.Prelude.{◌≡◌, ℕ, Bool, not, List, Option}
-use Rattle.std.specs.List.{list_all}
+use Rattle.std.specs.Prelude.{◌≡◌, ◌<◌, ℕ, Bool, not, List, Option, Some}
+use Rattle.std.specs.List.{All, list_all}
 use Rattle.std.specs.FinMap as table
 use Rattle.std.specs.List.Sorted.{IsStrictlySortedBy}
 use Rattle.std.specs.Ordering.{on}
@@ -8,7 +8,9 @@ use Rattle.gtfs_table.specs.Folder.{text_cmp}
 use Rattle.gtfs_table.specs.Tables.{Dataset}
 use Rattle.gtfs_table.specs.declared.file.File.{File}
 use Rattle.gtfs_columns.specs.declared.id_row.IdRow.{IdRow}
+use Rattle.gtfs_columns.specs.declared.slots.Slot.{Slot}
 use Rattle.gtfs_columns.specs.steps.IdRows.{id_of, listed_row}
+use Rattle.gtfs_columns.specs.steps.Slots.{held_id, IsSlotOf}
 use Rattle.gtfs_columns.specs.IdNumbers.{first_rows, ids_by_bytes, number_in}
 use Rattle.gtfs_columns.specs.Rows.{row_with}
 use Rattle.gtfs_columns.specs.Values.{has_control}
@@ -55,7 +57,21 @@ are_clear i = list_all (λ id. not (has_control id)) (ids_of i)
 abbrev pub rows_are_clear : List IdRow → Bool
 rows_are_clear rows = list_all (λ r. not (has_control (id_of r))) rows
 
--- an index, and whether its ids have no control character
-pub record IsClearIndex (i : IdColumn) (rows : List IdRow) (is_clear : Bool) : Type 0 where
+-- an id that stands in a slot has its first row and its number there
+pub record Tells (i : IdColumn) (s : Slot) : Type 0 where
+  pub row : Some s.row ≡ first_row_with i (held_id s)
+  pub number : Some s.number ≡ number_with i (held_id s)
+
+-- what a slot says is true of the id that stands there, where one does
+abbrev pub Answers : IdColumn → Slot → Type 0
+Answers i s = 0 < s.length → Tells i s
+
+-- whatever slot a row has, what it says is true
+abbrev pub AnswersRow : IdColumn → IdRow → ℕ → Type 0
+AnswersRow i r n = (s : Slot) → IsSlotOf r n s → Answers i s
+
+-- an index with its slots, and whether its ids have no control character
+pub record IsFilledIndex (i : IdColumn) (rows : List IdRow) (slots : List Slot) (is_clear : Bool) : Type 0 where
   pub index : IsIdIndex i rows
   pub clear : is_clear ≡ rows_are_clear rows
+  pub answers : All (Answers i) slots
