@@ -84,7 +84,7 @@ module _ (i : IdColumn) (listed : List IdRow) (index : IsIdIndex i listed) where
       ∙ ap (map (λ e. e.1)) (table.entries-from_sorted text_cmp (map id_and_row listed) (rw (ascend listed index.ascending) tt))
       ∙ rows_listed listed
 
--- ---- the place of an id is its number
+-- ---- the rank of an id is its number
 
 position_at : {X : Type 0} (p : X → Bool) (xs : List X) (at : ℕ) (x : X) → at < length xs → x ≡ get_or xs at x → p x ≡ true
     → ((k : ℕ) → k < at → p (get_or xs k x) ≡ false) → position_or_len p xs ≡ at
@@ -115,8 +115,8 @@ module _ (i : IdColumn) (listed : List IdRow) (index : IsIdIndex i listed) (id :
   abbrev has_id : IdRow → Bool
   has_id r = bytes_eq (id_of r) id
 
-  place : position_or_len (λ k. bytes_eq k id) (ids_of i) ≡ position_or_len has_id listed
-  place = ap (position_or_len (λ k. bytes_eq k id)) (listed_ids i listed index) ∙ position_mapped id_of (λ k. bytes_eq k id) listed
+  rank : position_or_len (λ k. bytes_eq k id) (ids_of i) ≡ position_or_len has_id listed
+  rank = ap (position_or_len (λ k. bytes_eq k id)) (listed_ids i listed index) ∙ position_mapped id_of (λ k. bytes_eq k id) listed
 
   many : length (ids_of i) ≡ length listed
   many = ap length (listed_ids i listed index) ∙ length-map listed id_of
@@ -126,7 +126,7 @@ module _ (i : IdColumn) (listed : List IdRow) (index : IsIdIndex i listed) (id :
       let up = index.ascending in
       let below : nat_lt at (length listed) ≡ true = grind (arith, nat_tests, within) in
       let site : position_or_len has_id listed ≡ at = position_at has_id listed at r within is here (λ k l. earlier at r id listed up within is here k l) in
-      sym (ap (λ n. cond (nat_lt n (length (ids_of i))) (Some n) None) (place ∙ site)
+      sym (ap (λ n. cond (nat_lt n (length (ids_of i))) (Some n) None) (rank ∙ site)
       ∙ ap (λ m. cond (nat_lt at m) (Some at) None) many
       ∙ ap (λ b. cond b (Some at) None) below)
 
@@ -134,7 +134,7 @@ module _ (i : IdColumn) (listed : List IdRow) (index : IsIdIndex i listed) (id :
   no_number none =
       let past = position_past has_id listed (no_row (find_first has_id listed) none) in
       let beyond : nat_lt (position_or_len has_id listed) (length listed) ≡ false = grind (arith, nat_tests, past) in
-      sym (ap (λ n. cond (nat_lt n (length (ids_of i))) (Some n) None) place
+      sym (ap (λ n. cond (nat_lt n (length (ids_of i))) (Some n) None) rank
       ∙ ap (λ m. cond (nat_lt (position_or_len has_id listed) m) (Some (position_or_len has_id listed)) None) many
       ∙ ap (λ b. cond b (Some (position_or_len has_id listed)) None) beyond)
 

@@ -5,7 +5,7 @@ ghost use Rattle.gtfs_columns.specs.steps.Ids.{are_clear, first_row_with, number
 use crate::cell::holds_control;
 use crate::finder::FoundId;
 use crate::id_row::IdRow;
-use crate::slots::{Slot, fill_slot, free_slots, places, tag_of};
+use crate::slots::{Slot, bounds, fill_slot, free_slots, tag_of};
 use gtfs_field::OutOfMemory;
 use gtfs_table::{File, Tables};
 use std::alloc::Global;
@@ -108,23 +108,23 @@ impl<'a> Ids<'a> {
             (λ found. Some found.number ≡ number_with self.now id.now) }
     {
         let tag = tag_of(id.as_bytes());
-        let (first, end) = places(&self.slots, tag);
-        for place in first..end {
-            if let Some(found) = self.tried(place, tag, id) {
+        let (first, end) = bounds(&self.slots, tag);
+        for index in first..end {
+            if let Some(found) = self.tried(index, tag, id) {
                 return Some(found);
             }
         }
         None
     }
 
-    // This id, where it is that of the slot at this place.
+    // This id, where it is that of the slot at this index.
     #[inline(always)]
-    fn tried(&self, place: usize, tag: u32, id: &str) -> Option<FoundId>
+    fn tried(&self, index: usize, tag: u32, id: &str) -> Option<FoundId>
         ensures row { IfSome result (λ found. Some found.row ≡ first_row_with self.now id.now) }
         ensures number { IfSome result
             (λ found. Some found.number ≡ number_with self.now id.now) }
     {
-        let slot = self.slots.get(place)?;
+        let slot = self.slots.get(index)?;
         if !slot.is_tagged(tag) {
             return None;
         }

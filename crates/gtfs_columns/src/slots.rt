@@ -106,7 +106,7 @@ pub(crate) fn free_slots(alloc: Global, ids: usize) -> Result<Vec<Slot>, OutOfMe
 
 // Where the slots begin in which an id of this tag may stand, and where they end.
 #[inline(always)]
-pub(crate) fn places(slots: &[Slot], tag: u32) -> (usize, usize) {
+pub(crate) fn bounds(slots: &[Slot], tag: u32) -> (usize, usize) {
     let first = first_slot(slots.len(), tag);
     (first, first.saturating_add(TRIES))
 }
@@ -117,28 +117,28 @@ pub(crate) fn fill_slot(slots: &mut Vec<Slot>, row: &IdRow<'_>, number: usize)
         → All (Answers i) slots.old.items → All (Answers i) slots.new.items }
 {
     if let Some(slot) = Slot::new(row, number)
-        && let Some(place) = free_place(slots, slot.tag)
+        && let Some(index) = free_index(slots, slot.tag)
     {
-        slots[place] = slot;
+        slots[index] = slot;
     }
 }
 
 // The first free slot for an id of this tag.
-fn free_place(slots: &[Slot], tag: u32) -> Option<usize>
-    ensures { IfSome result (λ place. place < length slots.now) }
+fn free_index(slots: &[Slot], tag: u32) -> Option<usize>
+    ensures { IfSome result (λ index. index < length slots.now) }
 {
-    let (first, end) = places(slots, tag);
-    for place in first..end {
-        if let Some(slot) = slots.get(place)
+    let (first, end) = bounds(slots, tag);
+    for index in first..end {
+        if let Some(slot) = slots.get(index)
             && slot.number == NO_NUMBER
         {
-            return Some(place);
+            return Some(index);
         }
     }
     None
 }
 
-// The place among the first ones that the highest bits of a tag tell, which depend on each byte of an id. There are TRIES
+// The index among the first ones that the highest bits of a tag tell, which depend on each byte of an id. There are TRIES
 // slots more than first ones.
 #[inline(always)]
 fn first_slot(slots: usize, tag: u32) -> usize {
