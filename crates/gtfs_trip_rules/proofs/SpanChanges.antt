@@ -5,7 +5,6 @@ use Rattle.std.specs.BTreeMap.{is_at, IsUnchanged, Updates}
 use Rattle.std.specs.Map.{lookup}
 use Rattle.std.proofs.lemmas.Bool.{cases_Bool}
 use Rattle.std.proofs.lemmas.Bool.Decides.{nat_tests}
-use denote.Ref.{Bor}
 use Rattle.gtfs_columns.proofs.BoolFacts.{or_left, or_right, same_test}
 use Rattle.gtfs_trip_rules.proofs.SpanFacts.{covers_by, same_key, shares_all, shares_parts}
 use Rattle.gtfs_trip_rules.specs.SpanView.{AreApart, AreFilled, Key, Spans, covers, key_cmp, shares, span_end}
@@ -27,14 +26,14 @@ module _ (old new : Spans) (k : Key) (changes : (q : Key) → span_end new q ≡
 
 -- ---- one put in
 
-module _ (old : Spans) (trip : Bor (List ℕ)) (first past : ℕ) (filled : AreFilled old) (below : first < past) (none : covers old trip.now first past ≡ false) where
+module _ (old : Spans) (trip : ℕ) (first past : ℕ) (filled : AreFilled old) (below : first < past) (none : covers old trip first past ≡ false) where
   -- a span of the trip lies after the new one or before it
-  aside : (q : Key) (end : ℕ) → span_end old q ≡ Some end → trip.now ≡ q.0.now → (past ≤ q.1) ⊎ (end ≤ first)
+  aside : (q : Key) (end : ℕ) → span_end old q ≡ Some end → trip ≡ q.0 → (past ≤ q.1) ⊎ (end ≤ first)
   aside q end there same = elim (cases_Bool (nat_lt q.1 past)) [
     | inl before ↦ elim (cases_Bool (nat_lt first end)) [
       | inl after ↦
           let hit = covers_by old q end there first past (shares_all q.1 end first past (filled q end there) (grind (arith, nat_tests, before)) (grind (arith, nat_tests, after)) below) in
-          let hit' : covers old trip.now first past ≡ true = ap (λ t. covers old t first past) same ∙ hit in
+          let hit' : covers old trip first past ≡ true = ap (λ t. covers old t first past) same ∙ hit in
           cc (sym none ∙ hit')
       | inr not_after ↦ inr (grind (arith, nat_tests, not_after))
     ]
@@ -54,7 +53,7 @@ module _ (old : Spans) (trip : Bor (List ℕ)) (first past : ℕ) (filled : AreF
   module _ (new : Spans) (changes : (q : Key) → span_end new q ≡ cond (is_at (key_cmp (trip, first)) q) (Some past) (span_end old q)) where
     -- the new span, or one from before
     abbrev IsNew : Key → ℕ → Type 0
-    IsNew q end = (trip.now ≡ q.0.now) × (first ≡ q.1) × (past ≡ end)
+    IsNew q end = (trip ≡ q.0) × (first ≡ q.1) × (past ≡ end)
 
     one_of_both : (q : Key) (end : ℕ) → span_end new q ≡ Some end → IsNew q end ⊎ (span_end old q ≡ Some end)
     one_of_both q end there = elim (cases_Bool (is_at (key_cmp (trip, first)) q)) [

@@ -1,24 +1,21 @@
--- Spans by trip and start: what they cover, and what one more or one less changes.
+-- Spans by the number of a trip and their start: what they cover, and what one more or one less changes.
 use Rattle.std.proofs.Common.{arith, ◌≡◌, ℕ, ◌<◌, ◌≤◌, List, [], ◌∷◌, true, false, Bool, refl, sym, ap, ◌∙◌, Some, None, inl, inr}
-use Rattle.std.specs.Prelude.{◌&&◌, ◌||◌, bytes_eq, nat_lt}
+use Rattle.std.specs.Prelude.{◌&&◌, ◌||◌, nat_eq, nat_lt}
 use Rattle.std.specs.BTreeMap.{insert_entry, is_at, IsOrdered}
 use Rattle.std.specs.Cmp.{Equal-is, nat_cmp_total, IsTotalOrder, on_total, then_total}
-use Rattle.std.proofs.lemmas.Cmp.{nat_list_cmp_total}
-use Rattle.std.specs.Cmp.Lexicographic.{slice_cmp}
 use Rattle.std.specs.List.{All, list_any}
 use Rattle.std.specs.Map.{lookup, remove_entry}
 use Rattle.std.specs.Ordering.{nat_cmp}
 use Rattle.std.specs.declared.cmp.Ordering.{Ordering}
 use Rattle.std.specs.declared.cmp.Ordering.TheVariants.{Less, Equal, Greater}
-use Rattle.std.proofs.lemmas.Bool.{and_from as and_both, cases_Bool}
+use Rattle.std.proofs.lemmas.Bool.{and_from as and_both, cases_Bool, eq-eqb}
 use Rattle.std.proofs.lemmas.Bool.Decides.{nat_tests}
 use Rattle.std.proofs.lemmas.List.Elements.{All-head, All-tail}
-use Rattle.std.proofs.lemmas.Map.Lookups.{exact_bytes, exact_unsigned}
+use Rattle.std.proofs.lemmas.Map.Lookups.{exact_unsigned}
 use Rattle.std.proofs.lemmas.Map.Views.{All-found}
 use Rattle.gtfs_field.proofs.OrderingFacts.{tied as then_equal}
 use Rattle.gtfs_field.proofs.ListFacts.{any_silent as no_entry}
 use Rattle.gtfs_columns.proofs.BoolFacts.{and_parts, no_test}
-use Rattle.gtfs_columns.proofs.SiteFacts.{text_itself}
 use Rattle.gtfs_trip_rules.specs.SpanView.{Key, Spans, covers, key_cmp, shares, span_end}
 
 -- ---- the seconds of two periods
@@ -89,44 +86,44 @@ any_entry p P (x ∷ xs) e all = elim (cases_Bool (p x)) [
 -- ---- keys
 
 pub key_total : IsTotalOrder key_cmp
-key_total = then_total (on_total (λ (k : Key). k.0.now) nat_list_cmp_total) (on_total (λ (k : Key). k.1) nat_cmp_total)
+key_total = then_total (on_total (λ (k : Key). k.0) nat_cmp_total) (on_total (λ (k : Key). k.1) nat_cmp_total)
 
-pub same_key : (j k : Key) → is_at (key_cmp j) k ≡ true → (j.0.now ≡ k.0.now) × (j.1 ≡ k.1)
+pub same_key : (j k : Key) → is_at (key_cmp j) k ≡ true → (j.0 ≡ k.0) × (j.1 ≡ k.1)
 same_key j k e =
-    let parts = then_equal (slice_cmp nat_cmp j.0.now k.0.now) (nat_cmp j.1 k.1) ((Equal-is (key_cmp j k)).0 e) in
-    (exact_bytes j.0.now k.0.now parts.0, exact_unsigned j.1 k.1 parts.1)
+    let parts = then_equal (nat_cmp j.0 k.0) (nat_cmp j.1 k.1) ((Equal-is (key_cmp j k)).0 e) in
+    (exact_unsigned j.0 k.0 parts.0, exact_unsigned j.1 k.1 parts.1)
 
 -- ---- what spans cover
 
-abbrev pub covers_one : List ℕ → ℕ → ℕ → (Key × ℕ) → Bool
-covers_one trip start end s = bytes_eq trip s.0.0.now && shares s.0.1 s.1 start end
+abbrev pub covers_one : ℕ → ℕ → ℕ → (Key × ℕ) → Bool
+covers_one trip start end s = nat_eq trip s.0.0 && shares s.0.1 s.1 start end
 
-one_alike : (trip : List ℕ) (start end last : ℕ) (j k : Key) → is_at (key_cmp j) k ≡ true → covers_one trip start end (k, last) ≡ covers_one trip start end (j, last)
+one_alike : (trip : ℕ) (start end last : ℕ) (j k : Key) → is_at (key_cmp j) k ≡ true → covers_one trip start end (k, last) ≡ covers_one trip start end (j, last)
 one_alike trip start end last j k e = let same = same_key j k e in
-    ap (λ t. bytes_eq trip t && shares k.1 last start end) (sym same.0) ∙ ap (λ s. bytes_eq trip j.0.now && shares s last start end) (sym same.1)
+    ap (λ t. nat_eq trip t && shares k.1 last start end) (sym same.0) ∙ ap (λ s. nat_eq trip j.0 && shares s last start end) (sym same.1)
 
 pub taken_out : (old new : Spans) (k : Key) (last : ℕ) → span_end old k ≡ Some last → new.entries ≡ remove_entry (is_at (key_cmp k)) old.entries
-    → (trip : List ℕ) (start end : ℕ) → covers old trip start end ≡ ((bytes_eq trip k.0.now && shares k.1 last start end) || covers new trip start end)
+    → (trip : ℕ) (start end : ℕ) → covers old trip start end ≡ ((nat_eq trip k.0 && shares k.1 last start end) || covers new trip start end)
 taken_out old new k last there removed trip start end = rw removed
     (any_without (is_at (key_cmp k)) (covers_one trip start end) (covers_one trip start end (k, last)) last old.entries (one_alike trip start end last k) there)
 
 pub put_in : (old new : Spans) (k : Key) (last : ℕ) → span_end old k ≡ None → new.entries ≡ insert_entry key_cmp old.entries k last
-    → (trip : List ℕ) (start end : ℕ) → covers new trip start end ≡ ((bytes_eq trip k.0.now && shares k.1 last start end) || covers old trip start end)
+    → (trip : ℕ) (start end : ℕ) → covers new trip start end ≡ ((nat_eq trip k.0 && shares k.1 last start end) || covers old trip start end)
 put_in old new k last none inserted trip start end = rw inserted (any_with key_cmp (covers_one trip start end) k last old.entries none)
 
 -- a span that shares a second
-pub covers_by : (spans : Spans) (k : Key) (last : ℕ) → span_end spans k ≡ Some last → (start end : ℕ) → shares k.1 last start end ≡ true → covers spans k.0.now start end ≡ true
-covers_by spans k last there start end e = any_without (is_at (key_cmp k)) (covers_one k.0.now start end) true last spans.entries
-    (λ j at. one_alike k.0.now start end last k j at ∙ and_both (bytes_eq k.0.now k.0.now) (shares k.1 last start end) (text_itself k.0.now) e) there
+pub covers_by : (spans : Spans) (k : Key) (last : ℕ) → span_end spans k ≡ Some last → (start end : ℕ) → shares k.1 last start end ≡ true → covers spans k.0 start end ≡ true
+covers_by spans k last there start end e = any_without (is_at (key_cmp k)) (covers_one k.0 start end) true last spans.entries
+    (λ j at. one_alike k.0 start end last k j at ∙ and_both (nat_eq k.0 k.0) (shares k.1 last start end) (eq-eqb k.0 k.0 refl) e) there
 
-pub covered_by : (spans : Spans) → IsOrdered key_cmp spans → (trip : List ℕ) (start end : ℕ) → covers spans trip start end ≡ true
+pub covered_by : (spans : Spans) → IsOrdered key_cmp spans → (trip : ℕ) (start end : ℕ) → covers spans trip start end ≡ true
     → (s : Key × ℕ) × (covers_one trip start end s ≡ true) × (span_end spans s.0 ≡ Some s.1)
 covered_by spans ordered trip start end e =
     any_entry (covers_one trip start end) (λ s. span_end spans s.0 ≡ Some s.1) spans.entries e (All-found key_total spans ordered)
 
 -- a period with no second shares none
-pub none_shared : (spans : Spans) (trip : List ℕ) (start end : ℕ) → end ≤ start → covers spans trip start end ≡ false
+pub none_shared : (spans : Spans) (trip : ℕ) (start end : ℕ) → end ≤ start → covers spans trip start end ≡ false
 none_shared spans trip start end none = no_entry (covers_one trip start end) spans.entries (λ s.
     no_test (covers_one trip start end s) (λ hit.
-    let times = shares_parts s.0.1 s.1 start end ((and_parts (bytes_eq trip s.0.0.now) (shares s.0.1 s.1 start end) hit).1) in
+    let times = shares_parts s.0.1 s.1 start end ((and_parts (nat_eq trip s.0.0) (shares s.0.1 s.1 start end) hit).1) in
     absurd (omega (arith, times.3, none))))

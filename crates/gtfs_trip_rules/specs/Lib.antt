@@ -1,3 +1,4 @@
+pub mod CoveredTrips
 pub mod Kept
 pub mod KeptChoices
 pub mod KeptOrder

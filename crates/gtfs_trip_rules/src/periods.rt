@@ -1,12 +1,13 @@
 mod columns;
 mod covered;
+mod trip_numbers;
 
 ghost use Rattle.std.specs.Prelude.{◌≡◌, [], ◌∷◌, ℕ, ◌||◌, Bool, List, IfOk, OnOk};
 ghost use Rattle.gtfs_columns.specs.declared.code.Code.TheVariants as code;
 ghost use Rattle.gtfs_columns.specs.steps.Found.{Reports};
+ghost use Rattle.gtfs_trip_rules.specs.CoveredTrips.{AreOfTrips, covers_trip};
 ghost use Rattle.gtfs_trip_rules.specs.PeriodView.{meets_one, period_at};
 ghost use Rattle.gtfs_columns.specs.steps.Picks.{of_codes};
-ghost use Rattle.gtfs_trip_rules.specs.SpanView.{covers};
 ghost use Rattle.gtfs_columns.specs.Values.{if_there};
 
 use columns::FrequencyColumns;
@@ -15,6 +16,7 @@ use gtfs_columns::{Code, FileName, Found, Problem};
 use gtfs_field::OutOfMemory;
 use gtfs_table::{File, Record, Tables};
 use std::alloc::Global;
+use trip_numbers::TripNumbers;
 
 // Reports each period that shares a second with an earlier one of its trip (E19).
 pub fn report_overlaps<'a>(
@@ -25,6 +27,7 @@ pub fn report_overlaps<'a>(
     ensures { OnOk result (Reports tables.now (of_codes (code.E19 ∷ [])) found.old found.new) }
 {
     let columns = FrequencyColumns::new(tables);
+    let mut trips = TripNumbers::new(alloc);
     let mut covered = Covered::new(alloc);
     for (row, record) in tables.rows(File::Frequencies) {
         let problem = Problem {
@@ -33,7 +36,8 @@ pub fn report_overlaps<'a>(
             code: Code::E19,
             column: "start_time",
         };
-        found.report(problem, meets_earlier(&columns, &record, &mut covered)?)?;
+        let meets = meets_earlier(&columns, &record, &mut trips, &mut covered)?;
+        found.report(problem, meets)?;
     }
     Ok(())
 }
@@ -42,27 +46,21 @@ pub fn report_overlaps<'a>(
 fn meets_earlier<'a>(
     columns: &FrequencyColumns,
     record: &Record<'a>,
-    covered: &mut Covered<'a>,
+    trips: &mut TripNumbers<'a>,
+    covered: &mut Covered,
 ) -> Result<bool, OutOfMemory>
+    requires { AreOfTrips trips.old.numbers covered.old.spans }
     ensures answer { IfOk result (λ meets. meets
         ≡ if_there (period_at columns.now «record».now)
-        (λ p. covers covered.old.spans p.0 p.1 p.2)) }
+        (λ p. covers_trip trips.old.numbers covered.old.spans p.0 p.1 p.2)) }
     ensures grown { OnOk result ((trip : List ℕ) (start end : ℕ)
-        → covers covered.new.spans trip start end
-        ≡ (covers covered.old.spans trip start end
+        → covers_trip trips.new.numbers covered.new.spans trip start end
+        ≡ (covers_trip trips.old.numbers covered.old.spans trip start end
         || meets_one (period_at columns.now «record».now) trip start end)) }
+    ensures of_trips { OnOk result (AreOfTrips trips.new.numbers covered.new.spans) }
 {
-    match columns.period(record, covered.last) {
-        Some((trip, start, end)) => {
-            covered.last = trip;
-            let meets = covered.meets(trip, start, end);
-            if meets {
-                covered.add(trip, start, end)?;
-            } else {
-                covered.put(trip, start, end)?;
-            }
-            Ok(meets)
-        }
+    match columns.period(record) {
+        Some((trip, start, end)) => Ok(covered.meet(trips.number(trip)?, start, end)?),
         None => Ok(false),
     }
 }

@@ -27,26 +27,13 @@ impl FrequencyColumns {
         }
     }
 
-    // The trip, the start and the end of a row's period, where all are readable. The trip is taken
-    // from the last row where it is the same, so that all periods of a trip name one text, which
-    // stays in the caches.
-    pub(crate) fn period<'a>(
-        &self,
-        record: &Record<'a>,
-        last: &'a str,
-    ) -> Option<(&'a str, u32, u32)>
+    // The trip, the start and the end of a row's period, where all are readable.
+    pub(crate) fn period<'a>(&self, record: &Record<'a>) -> Option<(&'a str, u32, u32)>
         ensures { option_map (λ p. (p.0.now, p.1, p.2)) result ≡ period_at self.now «record».now }
     {
-        let trip = same_or(last, values::id(record.value(self.trip))?);
+        let trip = values::id(record.value(self.trip))?;
         let start = values::seconds(record.value(self.start))?;
         let end = values::seconds(record.value(self.end))?;
         Some((trip, start, end))
     }
-}
-
-// The text, as the last one where both are the same.
-fn same_or<'a>(last: &'a str, text: &'a str) -> &'a str
-    ensures { result.now ≡ text.now }
-{
-    if last == text { last } else { text }
 }

@@ -1,42 +1,54 @@
-ghost use Rattle.std.specs.Prelude.{◌≡◌, ℕ, ◌&&◌, ◌||◌, Bool, false, List, bytes_eq, MatchOption, OnOk};
+ghost use Rattle.std.specs.Prelude.{◌≡◌, ℕ, ◌&&◌, ◌||◌, Bool, false, nat_eq, IfOk, MatchOption, OnOk};
 ghost use Rattle.gtfs_trip_rules.specs.SpanView.{AreApart, AreFilled, IsMet, covers, shares};
 
 use gtfs_field::OutOfMemory;
 use std::alloc::Global;
 use std::collections::BTreeMap;
 
-// The seconds of the trips that periods cover, as spans of which no two share a second.
+// The seconds that periods cover, by the numbers of their trips, as spans of which no two share one.
 #[derive(Drop)]
-pub(crate) struct Covered<'a> {
-    // The end of each span, by its trip and its start.
-    pub(crate) spans: BTreeMap<(&'a str, u32), u32>,
-    // The trip of the last period.
-    pub(crate) last: &'a str,
+pub(crate) struct Covered {
+    // The end of each span, by the number of its trip and its start.
+    pub(crate) spans: BTreeMap<(usize, u32), u32>,
     ghost filled: { AreFilled spans },
     ghost apart: { AreApart spans },
 }
 
-impl<'a> Covered<'a> {
-    pub(crate) fn new(alloc: Global) -> Covered<'a>
-        ensures { (trip : List ℕ) (start end : ℕ) → covers result.spans trip start end ≡ false }
+impl Covered {
+    pub(crate) fn new(alloc: Global) -> Covered
+        ensures { (trip : ℕ) (start end : ℕ) → covers result.spans trip start end ≡ false }
     {
         Covered {
             spans: BTreeMap::new(alloc),
-            last: "",
         }
     }
 
+    // Whether some second of a period is covered. From then on all of them are.
+    pub(crate) fn meet(&mut self, trip: usize, start: u32, end: u32) -> Result<bool, OutOfMemory>
+        ensures answer { IfOk result (λ meets. meets ≡ covers self.old.spans trip start end) }
+        ensures grown { OnOk result ((t : ℕ) (s e : ℕ) → covers self.new.spans t s e
+            ≡ (covers self.old.spans t s e || (nat_eq t trip && shares start end s e))) }
+    {
+        let meets = self.meets(trip, start, end);
+        if meets {
+            self.add(trip, start, end)?;
+        } else {
+            self.put(trip, start, end)?;
+        }
+        Ok(meets)
+    }
+
     // Whether some second of a period is covered.
-    pub(crate) fn meets(&self, trip: &'a str, start: u32, end: u32) -> bool
-        ensures { result ≡ covers self.now.spans trip.now start end }
+    fn meets(&self, trip: usize, start: u32, end: u32) -> bool
+        ensures { result ≡ covers self.now.spans trip start end }
     {
         self.span_met(trip, start, end).is_some()
     }
 
     // A span of the trip that shares a second with a period.
-    fn span_met(&self, trip: &'a str, start: u32, end: u32) -> Option<(u32, u32)>
-        ensures { MatchOption result (covers self.now.spans trip.now start end ≡ false)
-            (IsMet self.now.spans trip.entry start end) }
+    fn span_met(&self, trip: usize, start: u32, end: u32) -> Option<(u32, u32)>
+        ensures { MatchOption result (covers self.now.spans trip start end ≡ false)
+            (IsMet self.now.spans trip start end) }
     {
         if start >= end {
             return None;
@@ -48,9 +60,9 @@ impl<'a> Covered<'a> {
     }
 
     // Covers the seconds of a period. Each span is taken out once at most.
-    pub(crate) fn add(&mut self, trip: &'a str, start: u32, end: u32) -> Result<(), OutOfMemory>
-        ensures { OnOk result ((t : List ℕ) (s e : ℕ) → covers self.new.spans t s e
-            ≡ (covers self.old.spans t s e || (bytes_eq t trip.now && shares start end s e))) }
+    fn add(&mut self, trip: usize, start: u32, end: u32) -> Result<(), OutOfMemory>
+        ensures { OnOk result ((t : ℕ) (s e : ℕ) → covers self.new.spans t s e
+            ≡ (covers self.old.spans t s e || (nat_eq t trip && shares start end s e))) }
     {
         if start >= end {
             return Ok(());
@@ -66,10 +78,10 @@ impl<'a> Covered<'a> {
     }
 
     // Covers the seconds of a period of which none is covered.
-    pub(crate) fn put(&mut self, trip: &'a str, start: u32, end: u32) -> Result<(), OutOfMemory>
-        requires { covers self.old.spans trip.now start end ≡ false }
-        ensures { OnOk result ((t : List ℕ) (s e : ℕ) → covers self.new.spans t s e
-            ≡ (covers self.old.spans t s e || (bytes_eq t trip.now && shares start end s e))) }
+    fn put(&mut self, trip: usize, start: u32, end: u32) -> Result<(), OutOfMemory>
+        requires { covers self.old.spans trip start end ≡ false }
+        ensures { OnOk result ((t : ℕ) (s e : ℕ) → covers self.new.spans t s e
+            ≡ (covers self.old.spans t s e || (nat_eq t trip && shares start end s e))) }
     {
         if start >= end {
             return Ok(());

@@ -9,6 +9,7 @@ use Rattle.gtfs_columns.specs.Values.{if_there}
 use Rattle.gtfs_columns.specs.steps.Picks.{at_column}
 use Rattle.gtfs_columns.proofs.RowFacts.{reported_all, reported_more, reported_none}
 use Rattle.gtfs_columns.proofs.RuleFacts.{silent_column}
+use Rattle.gtfs_trip_rules.specs.CoveredTrips.{covers_trip}
 use Rattle.gtfs_trip_rules.specs.PeriodView.{meets_one, met_among, period_at, period_in}
 use Rattle.gtfs_trip_rules.specs.SpanView.{covers}
 use Rattle.gtfs_trip_rules.proofs.PeriodFacts.{known_more, rule_asked, there_alike}
@@ -18,8 +19,12 @@ use Rattle.gtfs_trip_rules.proofs.periods.report_overlaps.Goals as goal
 pub loop-row-init : goal.loop-row-init
 loop-row-init c = record {
   reported = reported_none c.args.tables.now (at_column code.E19 file.Frequencies column) c.args.found.now;
-  known = c.new-covered.ensures;
+  known = λ trip start end. ap (λ o. if_there o (λ n. covers c.new-covered.result.spans n start end)) (c.new-trips.ensures trip);
+  of_trips = λ n start end past. c.new-covered.ensures n start end;
 }
+
+pub meets_earlier-requires : goal.meets_earlier-requires
+meets_earlier-requires c = c.loop-row.invariant.of_trips
 
 pub loop-row-preserved : goal.loop-row-preserved
 loop-row-preserved c =
@@ -30,19 +35,20 @@ loop-row-preserved c =
     let r = c.in-Some.record in
     let t = turn d file.Frequencies _ taken _ (c.into_iter-row-iterator.ensures.into_iter_gives ∙ c.rows-row-items.ensures) c.loop-row.yielded_by n r _ c.in-Some.ensures.steps in
     let own : period_at columns r ≡ period_in d n = ap (period_at columns) t.record_is ∙ c.new-columns.ensures n in
-    let asked : c.in_ok-meets_earlier.field-0 ≡ overlaps_earlier d n =
-    c.in_ok-meets_earlier.ensures.answer
-    ∙ there_alike (period_at columns r) (λ p. covers c.loop-row.covered.spans p.0 p.1 p.2) (λ p. met_among d (numbers taken) p.0 p.1 p.2) (λ p. c.loop-row.invariant.known p.0 p.1 p.2)
+    let asked : c.in_ok-meets.meets ≡ overlaps_earlier d n =
+    c.in_ok-meets.ensures.answer
+    ∙ there_alike (period_at columns r) (λ p. covers_trip c.loop-row.trips.numbers c.loop-row.covered.spans p.0 p.1 p.2) (λ p. met_among d (numbers taken) p.0 p.1 p.2) (λ p. c.loop-row.invariant.known p.0 p.1 p.2)
     ∙ ap (λ o. if_there o (λ p. met_among d (numbers taken) p.0 p.1 p.2)) own
     ∙ rule_asked d taken n r _ t in
     record {
       reported = reported_more d (at_column code.E19 file.Frequencies column) taken n r _ _ _ c.loop-row.invariant.reported
-          (row_asked d n c.in_ok-meets_earlier.field-0 _ _ t.is_row asked c.in_ok-report.ensures);
+          (row_asked d n c.in_ok-meets.meets _ _ t.is_row asked c.in_ok-report.ensures);
       known = λ trip start end.
-          c.in_ok-meets_earlier.ensures.grown trip start end
+          c.in_ok-meets.ensures.grown trip start end
           ∙ ap (λ b. b || meets_one (period_at columns r) trip start end) (c.loop-row.invariant.known trip start end)
           ∙ ap (λ o. met_among d (numbers taken) trip start end || meets_one o trip start end) own
           ∙ known_more d taken n r trip start end;
+      of_trips = c.in_ok-meets.ensures.of_trips;
     }
 
 pub returns : goal.returns

@@ -1,6 +1,6 @@
 use Rattle.std.proofs.lemmas.Result.{on_ok_weaker}
-use Rattle.std.proofs.Common.{arith, ◌<◌, ap, ◌∙◌, bytes_eq, sym}
-use Rattle.std.specs.Prelude.{◌&&◌, ◌||◌, min}
+use Rattle.std.proofs.Common.{arith, ◌<◌, ap, ◌∙◌, sym}
+use Rattle.std.specs.Prelude.{◌&&◌, ◌||◌, min, nat_eq}
 use Rattle.gtfs_trip_rules.proofs.SpanFacts.{taken_out}
 use Rattle.gtfs_trip_rules.proofs.SpanChanges.{joined, merged, out_apart, out_filled}
 use Rattle.gtfs_trip_rules.proofs.periods.covered.Covered.add.Goals as goal
@@ -24,11 +24,11 @@ loop-met_start-preserved c = let old = c.loop-met_start.self in
     record {
       filled = omega (arith, own, c.min-first.ensures, c.max-past.ensures, c.loop-met_start.invariant.filled);
       same = λ t s e.
-          ap (λ h. covers c.remove.new.self t s e || (bytes_eq t c.args.trip.now && h))
+          ap (λ h. covers c.remove.new.self t s e || (nat_eq t c.args.trip && h))
           (ap (λ m. shares m c.max-past.result s e) c.min-first.ensures ∙ ap (λ m. shares (min a c.in-Some.met_start) m s e) c.max-past.ensures
           ∙ merged a b c.in-Some.met_start c.in-Some.met_end s e c.loop-met_start.invariant.filled own met.before met.after)
-          ∙ joined (covers c.remove.new.self t s e) (bytes_eq t c.args.trip.now) (shares a b s e) (shares c.in-Some.met_start c.in-Some.met_end s e)
-          ∙ ap (λ h. h || (bytes_eq t c.args.trip.now && shares a b s e))
+          ∙ joined (covers c.remove.new.self t s e) (nat_eq t c.args.trip) (shares a b s e) (shares c.in-Some.met_start c.in-Some.met_end s e)
+          ∙ ap (λ h. h || (nat_eq t c.args.trip && shares a b s e))
           (sym (taken_out old.spans c.remove.new.self k c.in-Some.met_end met.there c.remove.ensures.entries t s e))
           ∙ c.loop-met_start.invariant.same t s e;
     }

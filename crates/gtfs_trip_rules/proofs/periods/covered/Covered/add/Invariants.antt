@@ -1,4 +1,5 @@
-use Rattle.std.proofs.Common.{◌≡◌, ℕ, ◌&&◌, ◌||◌, List, bytes_eq, ◌<◌, length}
+use Rattle.std.proofs.Common.{◌≡◌, ℕ, ◌&&◌, ◌||◌, ◌<◌, length}
+use Rattle.std.specs.Prelude.{nat_eq}
 use Rattle.gtfs_trip_rules.specs.SpanView.{covers, shares}
 use Rattle.gtfs_trip_rules.proofs.periods.covered.Covered.add.Given as goal
 
@@ -6,8 +7,8 @@ use Rattle.gtfs_trip_rules.proofs.periods.covered.Covered.add.Given as goal
 abbrev pub invariant-loop-met_start : goal.invariant-loop-met_start
 invariant-loop-met_start l = record {
   filled : l.first < l.past;
-  same : (t : List ℕ) (s e : ℕ) → (covers l.self.spans t s e || (bytes_eq t l.trip && shares l.first l.past s e))
-      ≡ (covers l.fn.self.spans t s e || (bytes_eq t l.fn.trip && shares l.fn.start l.fn.end s e));
+  same : (t : ℕ) (s e : ℕ) → (covers l.self.spans t s e || (nat_eq t l.trip && shares l.first l.past s e))
+      ≡ (covers l.fn.self.spans t s e || (nat_eq t l.fn.trip && shares l.fn.start l.fn.end s e));
 }
 
 abbrev pub decreases-loop-met_start : goal.decreases-loop-met_start

@@ -1,5 +1,5 @@
-use Rattle.std.proofs.Common.{arith, ◌<◌, ◌∙◌, bytes_eq}
-use Rattle.std.specs.Prelude.{◌&&◌}
+use Rattle.std.proofs.Common.{arith, ◌<◌, ◌∙◌}
+use Rattle.std.specs.Prelude.{◌&&◌, nat_eq}
 use Rattle.gtfs_trip_rules.proofs.SpanFacts.{put_in}
 use Rattle.gtfs_trip_rules.proofs.SpanChanges.{absent, or_turned, settled}
 use Rattle.gtfs_trip_rules.specs.SpanView.{covers, shares}
@@ -19,4 +19,4 @@ returns c =
     let own : c.args.start < c.args.end = omega arith in
     let none = absent old.spans c.args.trip c.args.start c.args.end old.filled own c.requires in
     λ t s e. put_in old.spans c.insert.new.self (c.args.trip, c.args.start) c.args.end none c.in_ok-insert.ensures.entries t s e
-    ∙ or_turned (bytes_eq t c.args.trip.now && shares c.args.start c.args.end s e) (covers old.spans t s e)
+    ∙ or_turned (nat_eq t c.args.trip && shares c.args.start c.args.end s e) (covers old.spans t s e)

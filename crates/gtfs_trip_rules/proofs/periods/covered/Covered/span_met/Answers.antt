@@ -6,7 +6,7 @@ pub range-requires : goal.range-requires
 range-requires c = starts_before c.args.trip c.args.end
 
 pub returns-then-start-end : goal.returns-then-start-end
-returns-then-start-end c = none_shared c.args.self.now.spans c.args.trip.now c.args.start c.args.end c.if-start-end.true
+returns-then-start-end c = none_shared c.args.self.now.spans c.args.trip c.args.start c.args.end c.if-start-end.true
 
 pub returns-in-Some : goal.returns-in-Some
 returns-in-Some c = let spans = c.args.self.now in
