@@ -1,5 +1,5 @@
 -- What the spans of a trip by its number say of the trip, where no two trips have one number.
-use Rattle.std.proofs.Common.{arith, ◌≡◌, ◌<◌, ◌≤◌, ◌+◌, ℕ, suc, length, cond, List, true, false, Bool, refl, sym, ap, ◌∙◌, Option, Some, None, inl, inr}
+use Rattle.std.proofs.Common.{arith, ◌≡◌, ◌+◌, ℕ, suc, length, cond, List, true, false, refl, sym, ap, ◌∙◌, Option, Some, None, inl, inr}
 use Rattle.std.specs.Prelude.{◌&&◌, ◌||◌, if◌then◌else◌, bytes_eq, is_some, nat_eq, Result, Ok, Err, IfOk, OnOk, OnErr}
 use Rattle.std.specs.BTreeMap.{btree_map_len, is_at, IsUnchanged, Updates}
 use Rattle.std.specs.Cmp.Lexicographic.{slice_cmp}

@@ -1,5 +1,5 @@
 -- Spans that share no second stay so where one is taken out, and where one is put in that shares none with them.
-use Rattle.std.proofs.Common.{arith, ◌≡◌, ◌⊎◌, ℕ, ◌<◌, ◌≤◌, List, true, false, Bool, cond, refl, sym, ap, ◌∙◌, Option, Some, None, inl, inr}
+use Rattle.std.proofs.Common.{arith, ◌≡◌, ◌⊎◌, ℕ, ◌<◌, ◌≤◌, true, false, Bool, cond, refl, sym, ap, ◌∙◌, Option, Some, None, inl, inr}
 use Rattle.std.specs.Prelude.{◌&&◌, ◌||◌, nat_lt, min, max, Result, Ok, Err, OnOk, OnErr}
 use Rattle.std.specs.BTreeMap.{is_at, IsUnchanged, Updates}
 use Rattle.std.specs.Map.{lookup}

@@ -1,13 +1,13 @@
 -- How many rows of stop_times.txt name a trip, counted by the numbers of trips.
 use Rattle.std.proofs.Common.{◌≡◌, ◌≢◌, ◌+◌, ◌<◌, ◌≤◌, ◌∙◌, ◌++◌, ◌∷◌, [], ℕ, Bool, true, false, List, cond, filter, length, length-append, map, get_or, set, refl, sym, ap, arith, inl, inr, Bor, Option, Some, None, option_map}
-use Rattle.std.specs.Prelude.{◌&&◌, ◌==◌, bytes_eq, codes, nat_lt, not}
+use Rattle.std.specs.Prelude.{◌&&◌, ◌==◌, bytes_eq, codes, min, nat_lt}
 use Rattle.std.specs.BTreeMap.{BTreeMap}
 use Rattle.std.specs.List.{All}
 use Rattle.std.specs.Option.{unwrap_or}
 use Rattle.std.proofs.lemmas.Bool.{cases_Bool, eqb-true as same_number}
+use Rattle.std.proofs.lemmas.Bool.Decides.{nat_tests}
 use Rattle.std.proofs.lemmas.List.{get_or_default, get_or-set_other, get_or-set_same}
 use Rattle.std.proofs.lemmas.List.Elements.{All-push, All-tail, filter-append}
-use Rattle.std.proofs.lemmas.List.Filters.{length-filter_both}
 use Rattle.gtfs_field.proofs.NumberFacts.{number_itself}
 use Rattle.gtfs_table.specs.Tables.{Dataset}
 use Rattle.gtfs_table.specs.declared.file.File.TheVariants as file
@@ -41,20 +41,22 @@ one_more n rows row =
     if_one false = refl
 
 module _ (counts : List ℕ) (rows : List StopTime) (counted : AreCounts counts rows) where
-  counts_more : (row : StopTime) → row.trip < length counts → (count : ℕ) → count ≡ get_or counts row.trip count → AreCounts (set counts row.trip (count + 1)) (rows ++ row ∷ [])
-  counts_more row inside count was n = elim (cases_Bool (n == row.trip)) [
+  counts_more : (row : StopTime) → row.trip < length counts → (count more : ℕ) → count ≡ get_or counts row.trip count → more ≡ min (count + 1) 2 → AreCounts (set counts row.trip more) (rows ++ row ∷ [])
+  counts_more row inside count more was is_more n = elim (cases_Bool (n == row.trip)) [
     | inl here ↦
         let same : n ≡ row.trip = same_number n row.trip here in
-        ap (λ m. get_or (set counts row.trip (count + 1)) m 0) same ∙ get_or-set_same counts row.trip (count + 1) 0 inside
-        ∙ ap (λ m. m + 1) (was ∙ get_or_default counts row.trip count 0 inside ∙ ap (λ m. get_or counts m 0) (sym same) ∙ counted n)
-        ∙ ap (λ b. length (filter (λ r. n == r.trip) rows) + cond b 1 0) (sym here)
-        ∙ sym (one_more n rows row)
+        let before : count ≡ min (length (filter (λ r. n == r.trip) rows)) 2 =
+        was ∙ get_or_default counts row.trip count 0 inside ∙ ap (λ m. get_or counts m 0) (sym same) ∙ counted n in
+        let longer : length (filter (λ r. n == r.trip) (rows ++ row ∷ [])) ≡ length (filter (λ r. n == r.trip) rows) + 1 =
+        one_more n rows row ∙ ap (λ b. length (filter (λ r. n == r.trip) rows) + cond b 1 0) here in
+        let after : more ≡ min (length (filter (λ r. n == r.trip) (rows ++ row ∷ []))) 2 = omega (arith, is_more, before, longer) in
+        ap (λ m. get_or (set counts row.trip more) m 0) same ∙ get_or-set_same counts row.trip more 0 inside ∙ after
     | inr other ↦
-        get_or-set_other counts row.trip n (count + 1) 0 (apart other)
+        get_or-set_other counts row.trip n more 0 (apart other)
         ∙ counted n
-        ∙ sym (add_none _)
+        ∙ ap (λ m. min m 2) (sym (add_none _)
         ∙ ap (λ b. length (filter (λ r. n == r.trip) rows) + cond b 1 0) (sym other)
-        ∙ sym (one_more n rows row)
+        ∙ sym (one_more n rows row))
   ]
     where
       apart : (n == row.trip) ≡ false → n ≢ row.trip
@@ -63,10 +65,9 @@ module _ (counts : List ℕ) (rows : List StopTime) (counted : AreCounts counts 
       add_none : (m : ℕ) → m + 0 ≡ m
       add_none m = omega arith
 
-  -- no count is greater than the number of the rows
-  pub count_fits : (count n : ℕ) → n < length counts → count ≡ get_or counts n count → count ≤ length rows
-  count_fits count n inside is =
-      omega (arith, is, get_or_default counts n count 0 inside, counted n, length-filter_both (λ r. n == r.trip) (λ r. not (n == r.trip)) (λ r. refl) rows)
+  -- no count is greater than two
+  pub count_fits : (count n : ℕ) → n < length counts → count ≡ get_or counts n count → count ≤ 2
+  count_fits count n inside is = omega (arith, is, get_or_default counts n count 0 inside, counted n)
 
 module _ (trips : List (List ℕ)) where
   -- after a trip was given its number
@@ -79,12 +80,12 @@ module _ (trips : List (List ℕ)) where
   }
 
   -- one row more
-  pub one_kept : (numbers : BTreeMap (Bor (List ℕ)) ℕ) (names : List (Bor (List ℕ))) (counts : List ℕ) (are_sequenced : Bool) (rows : List StopTime) (row : StopTime) (id : List ℕ) (count : ℕ) (are : Bool)
-      → are ≡ (are_sequenced && is_placed row.times) → AreKept trips numbers names counts are_sequenced rows → number_in trips numbers id ≡ Some row.trip → row.trip < length counts → count ≡ get_or counts row.trip count
-      → AreKept trips numbers names (set counts row.trip (count + 1)) are (rows ++ row ∷ [])
-  one_kept numbers names counts are_sequenced rows row id count are both kept here inside was = record {
+  pub one_kept : (numbers : BTreeMap (Bor (List ℕ)) ℕ) (names : List (Bor (List ℕ))) (counts : List ℕ) (are_sequenced : Bool) (rows : List StopTime) (row : StopTime) (id : List ℕ) (count more : ℕ) (are : Bool)
+      → are ≡ (are_sequenced && is_placed row.times) → AreKept trips numbers names counts are_sequenced rows → number_in trips numbers id ≡ Some row.trip → row.trip < length counts → count ≡ get_or counts row.trip count → more ≡ min (count + 1) 2
+      → AreKept trips numbers names (set counts row.trip more) are (rows ++ row ∷ [])
+  one_kept numbers names counts are_sequenced rows row id count more are both kept here inside was is_more = record {
     numbered = one_numbered trips numbers names rows row id kept.numbered.named kept.numbered.numbered here;
-    counted = counts_more counts rows kept.counted row inside count was;
+    counted = counts_more counts rows kept.counted row inside count more was is_more;
     located = λ all. let parts = and_parts are_sequenced (is_placed row.times) (sym both ∙ all) in All-push (λ (r : StopTime). is_placed r.times ≡ true) rows row (kept.located parts.0) parts.1;
   }
 
@@ -124,14 +125,19 @@ module _ (trips : List (List ℕ)) (numbers : BTreeMap (Bor (List ℕ)) ℕ) (na
         (λ e. ap (λ t. bytes_eq t (name r.trip)) (sym (are.named trip n is).1 ∙ ap name (same_number n r.trip e)) ∙ text_itself (name r.trip))
         (λ e. let one : n ≡ r.trip = ap (λ o. unwrap_or o 0) (sym is ∙ ap (number_in trips numbers) (text_is trip (name r.trip) e) ∙ has) in ap (λ m. n == m) (sym one) ∙ number_itself n)
 
-    pub trip_counted : (counts : List ℕ) → AreCounts counts rows → count_of trips numbers counts trip ≡ times_noted (map (note_of name) rows) trip
-    trip_counted counts counted = of_number (number_in trips numbers trip) refl ∙ named (number_in trips numbers trip) rows (λ k d below. by_number (number_in trips numbers trip) refl (get_or rows k d) (are.numbered k d below))
+    pub trip_counted : (counts : List ℕ) → AreCounts counts rows → count_of trips numbers counts trip ≡ min (times_noted (map (note_of name) rows) trip) 2
+    trip_counted counts counted = of_number (number_in trips numbers trip) refl
+        ∙ ap (λ m. min m 2) (named (number_in trips numbers trip) rows (λ k d below. by_number (number_in trips numbers trip) refl (get_or rows k d) (are.numbered k d below)))
       where
-        of_number : (o : Option ℕ) → number_in trips numbers trip ≡ o → unwrap_or (option_map (λ n. get_or counts n 0) o) 0 ≡ length (filter (is_of o) rows)
-        of_number None is = sym (none_of rows)
+        of_number : (o : Option ℕ) → number_in trips numbers trip ≡ o → unwrap_or (option_map (λ n. get_or counts n 0) o) 0 ≡ min (length (filter (is_of o) rows)) 2
+        of_number None is = sym (ap (λ m. min m 2) (none_of rows))
         of_number (Some n) is = counted n
 
 -- ---- trips that few rows name
+
+-- of counts up to two, those below two are the same
+pub few_of_two : (n : ℕ) → nat_lt (min n 2) 2 ≡ nat_lt n 2
+few_of_two n = same_test (nat_lt (min n 2) 2) (nat_lt n 2) (λ e. grind (arith, nat_tests, e)) (λ e. grind (arith, nat_tests, e))
 
 pub few_rows : (d : Dataset) (few : List ℕ → Bool) (text : ℕ → List ℕ) → ((n : ℕ) → text n ≡ text_in d file.Trips n (codes "trip_id"))
     → ((trip : List ℕ) → few trip ≡ nat_lt (times_noted (trip_notes_in d) trip) 2)

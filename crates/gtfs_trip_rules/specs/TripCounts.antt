@@ -1,5 +1,5 @@
 -- What is kept of the rows of stop_times.txt: how many name a trip, by the numbers of trips, and whether each has a sequence.
-use Rattle.std.specs.Prelude.{◌≡◌, ◌==◌, ℕ, Bool, true, List, filter, get_or, length, nat_lt, option_map}
+use Rattle.std.specs.Prelude.{◌≡◌, ◌==◌, ℕ, Bool, true, List, filter, get_or, length, min, nat_lt, option_map}
 use Rattle.std.specs.Borrow.{Bor}
 use Rattle.std.specs.BTreeMap.{BTreeMap}
 use Rattle.std.specs.List.{All}
@@ -8,11 +8,11 @@ use Rattle.gtfs_trip_rules.specs.declared.trips.row.StopTime.{StopTime}
 use Rattle.gtfs_trip_rules.specs.KeptTimes.{is_placed}
 use Rattle.gtfs_trip_rules.specs.TripNumbers.{number_in, AreNumbered}
 
--- of each number how many rows have it
+-- of each number how many rows have it, up to two
 abbrev pub AreCounts : List ℕ → List StopTime → Type 0
-AreCounts counts rows = (n : ℕ) → get_or counts n 0 ≡ length (filter (λ r. n == r.trip) rows)
+AreCounts counts rows = (n : ℕ) → get_or counts n 0 ≡ min (length (filter (λ r. n == r.trip) rows)) 2
 
--- how many rows name a trip; a trip without a number has none
+-- how many rows name a trip, up to two; a trip without a number has none
 abbrev pub count_of : List (List ℕ) → BTreeMap (Bor (List ℕ)) ℕ → List ℕ → List ℕ → ℕ
 count_of trips numbers counts trip = unwrap_or (option_map (λ n. get_or counts n 0) (number_in trips numbers trip)) 0
 

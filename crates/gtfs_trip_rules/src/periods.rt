@@ -60,7 +60,7 @@ fn meets_earlier<'a>(
     ensures of_trips { OnOk result (AreOfTrips trips.new.numbers covered.new.spans) }
 {
     match columns.period(record) {
-        Some((trip, start, end)) => Ok(covered.meet(trips.number(trip)?, start, end)?),
+        Some((trip, start, end)) => covered.meet(trips.number(trip)?, start, end),
         None => Ok(false),
     }
 }

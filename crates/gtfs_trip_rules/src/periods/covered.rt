@@ -5,7 +5,7 @@ use gtfs_field::OutOfMemory;
 use std::alloc::Global;
 use std::collections::BTreeMap;
 
-// The seconds that periods cover, by the numbers of their trips, as spans of which no two share one.
+// The seconds of numbered trips that periods cover, as spans of which no two share a second.
 #[derive(Drop)]
 pub(crate) struct Covered {
     // The end of each span, by the number of its trip and its start.

@@ -1,4 +1,4 @@
-ghost use Rattle.std.specs.Prelude.{◌≡◌, ◌∷◌, ◌++◌, [], true, List, ℕ, IfOk, OnOk};
+ghost use Rattle.std.specs.Prelude.{◌≡◌, ◌∷◌, ◌++◌, [], true, List, ℕ, min, IfOk, OnOk};
 ghost use Rattle.std.specs.List.{All};
 ghost use Rattle.gtfs_columns.specs.steps.Ids.{ids_of, number_with};
 ghost use Rattle.gtfs_table.specs.Tables.{Dataset};
@@ -38,8 +38,9 @@ pub struct TripNotes<'a> {
     // names such a trip gives it its number.
     names: Vec<&'a str>,
     numbers: BTreeMap<&'a str, usize>,
-    // How many rows have each number.
-    counts: Vec<usize>,
+    // How many rows have each number. No more than two are counted, so that the counts stay in the
+    // near cache.
+    counts: Vec<u8>,
 }
 
 impl<'a> Model for TripNotes<'a> {
@@ -99,15 +100,16 @@ impl<'a> TripNotes<'a> {
         make_room(&mut self.counts, self.trips.len(), trip)?;
         let row = note.kept.of_trip(trip);
         self.rows.push(row)?;
-        self.counts[trip] += 1;
+        let count = &mut self.counts[trip];
+        *count = (*count + 1).min(2);
         self.are_sequenced = self.are_sequenced && row.is_placed();
         Ok(())
     }
 
-    // How many rows name each trip.
+    // How many rows name each trip, up to two.
     pub(crate) fn counts<'n>(&'n self) -> RowCounts<'a, 'n>
         ensures counts { (trip : List ℕ) → count_of (ids_of self.now.trips) result.numbers.now
-            result.counts.now trip ≡ times_noted self.now.notes trip }
+            result.counts.now trip ≡ min (times_noted self.now.notes trip) 2 }
         ensures trips { result.trips.ids.now ≡ self.now.trips }
     {
         RowCounts {

@@ -7,14 +7,14 @@ use gtfs_columns::Finder;
 use gtfs_field::OutOfMemory;
 use std::collections::BTreeMap;
 
-// How many rows of stop_times.txt name each trip.
+// How many rows of stop_times.txt name each trip, up to two.
 #[derive(Drop)]
 pub(crate) struct RowCounts<'a, 'n> {
     pub(crate) trips: Finder<'a>,
     // The numbers of the trips that trips.txt lacks.
     pub(crate) numbers: &'n BTreeMap<&'a str, usize>,
     // By the numbers of the trips.
-    pub(crate) counts: &'n [usize],
+    pub(crate) counts: &'n [u8],
 }
 
 impl RowCounts<'_, '_> {
@@ -48,11 +48,7 @@ impl RowCounts<'_, '_> {
 }
 
 // Makes room for the count of a trip of this number, and for those of this many trips.
-pub(crate) fn make_room(
-    counts: &mut Vec<usize>,
-    trips: usize,
-    trip: usize,
-) -> Result<(), OutOfMemory>
+pub(crate) fn make_room(counts: &mut Vec<u8>, trips: usize, trip: usize) -> Result<(), OutOfMemory>
     requires { trip < 2 ^ 64 - 1 }
     ensures same { (n : ℕ) → get_or counts.new.items n 0 ≡ get_or counts.old.items n 0 }
     ensures room { OnOk result (trip < length counts.new.items) }

@@ -13,13 +13,13 @@ use Rattle.gtfs_columns.proofs.RuleFacts.{row_reported, silent_column}
 use Rattle.gtfs_columns.proofs.StepFacts.{reports_rule}
 use Rattle.gtfs_trip_rules.specs.RowsById.{text_under}
 use Rattle.gtfs_trip_rules.specs.TripNotes.{times_noted}
-use Rattle.gtfs_trip_rules.proofs.TripCountFacts.{few_rows}
+use Rattle.gtfs_trip_rules.proofs.TripCountFacts.{few_of_two, few_rows}
 use Rattle.gtfs_trip_rules.proofs.trips.counts.report_counts.Goals as goal
 
 pub loop-row-init : goal.loop-row-init
 loop-row-init c = record {
   reported = reported_none c.args.tables.now (at_column code.W06 file.Trips (codes "trip_id")) c.args.found.now;
-  few = λ trip. ap (λ m. nat_lt m 2) (ap (λ i. count_of (ids_of i) c.counts-counts.result.numbers.now c.counts-counts.result.counts.now trip) c.counts-counts.ensures.trips ∙ c.counts-counts.ensures.counts trip);
+  few = λ trip. ap (λ m. nat_lt m 2) (ap (λ i. count_of (ids_of i) c.counts-counts.result.numbers.now c.counts-counts.result.counts.now trip) c.counts-counts.ensures.trips ∙ c.counts-counts.ensures.counts trip) ∙ few_of_two (times_noted c.args.notes.now.notes trip);
 }
 
 pub loop-row-preserved : goal.loop-row-preserved

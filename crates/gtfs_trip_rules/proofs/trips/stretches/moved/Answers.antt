@@ -1,4 +1,4 @@
-use Rattle.std.proofs.Common.{◌≡◌, ◌∙◌, ap, subst, sym, IfOk, IsPermutation, Ok, Err, Result}
+use Rattle.std.proofs.Common.{◌∙◌, ap, subst, sym, IfOk, IsPermutation, Ok, Err, Result}
 use Rattle.std.specs.List.{flat_map}
 use Rattle.gtfs_trip_rules.proofs.JoinedLists.{IsPermutation-flat_map}
 use Rattle.gtfs_trip_rules.proofs.trips.stretches.moved.Goals as goal

@@ -1,4 +1,5 @@
 use Rattle.std.proofs.Common.{◌∙◌, ap, sym}
+use Rattle.std.specs.Prelude.{min}
 use Rattle.gtfs_columns.specs.steps.Ids.{ids_of}
 use Rattle.gtfs_trip_rules.specs.TripCounts.{count_of}
 use Rattle.gtfs_trip_rules.specs.TripNotes.{times_noted}
@@ -10,4 +11,4 @@ returns-clause-counts c = λ trip.
     let trips = ids_of c.self.inside.trips.now in
     ap (λ v. count_of (ids_of v.trips) c.self.inside.numbers c.deref.result.now trip) (sym c.self.view_is)
     ∙ trip_counted trips c.self.inside.numbers c.self.inside.names.items trip c.self.inside.rows.items c.self.invariant.numbered c.deref.result.now (rw c.deref.ensures.value c.self.invariant.counted)
-    ∙ ap (λ v. times_noted v.notes trip) c.self.view_is
+    ∙ ap (λ v. min (times_noted v.notes trip) 2) c.self.view_is

@@ -1,4 +1,4 @@
-use Rattle.std.proofs.Common.{◌≡◌, ◌≤◌, ◌∙◌, ◌++◌, ◌∷◌, [], ap, arith, length, map, refl, sym}
+use Rattle.std.proofs.Common.{◌≡◌, ◌≤◌, ◌∙◌, ◌++◌, ◌∷◌, [], ap, arith, map, refl, sym}
 use Rattle.std.specs.Prelude.{◌&&◌}
 use Rattle.std.proofs.lemmas.List.{map-append}
 use Rattle.gtfs_columns.specs.steps.Ids.{ids_of, number_with}
@@ -39,18 +39,18 @@ make_room-requires c =
     let reported = c.trip_number.ensures in
     omega (arith, (reported.named _ _ c.in_ok-trip.ensures.number).0, c.len.ensures.value, c.len.ensures.bound, c.trip_number.new.names.ok.0, c.trip_number.new.names.small)
 
-pub index_mut-requires : goal.index_mut-requires
-index_mut-requires c = omega (arith, c.in_ok-make_room.ensures.room, c.make_room.new.counts.ok.0)
+pub index_mut-count-requires : goal.index_mut-count-requires
+index_mut-count-requires c = omega (arith, c.in_ok-make_room.ensures.room, c.make_room.new.counts.ok.0)
 
-pub overflow_add-index_mut : goal.overflow_add-index_mut
-overflow_add-index_mut c =
+pub overflow_add-count : goal.overflow_add-count
+overflow_add-count c =
     let n = c.self.inside in
     let trips = ids_of n.trips.now in
     let reported = c.trip_number.ensures in
     let kept = still_kept trips n.numbers c.trip_number.new.numbers n.names.items c.trip_number.new.names.items n.counts.items c.make_room.new.counts.items n.are_sequenced n.rows.items c.self.invariant reported.keeps reported.named c.make_room.ensures.same in
-    let small : c.index_mut.result.now ≤ length n.rows.items =
-    count_fits c.make_room.new.counts.items n.rows.items kept.counted c.index_mut.result.now c.in_ok-trip.trip c.in_ok-make_room.ensures.room c.index_mut.ensures.value in
-    omega (arith, small, n.rows.ok.0, n.rows.small)
+    let small : c.index_mut-count.result.now ≤ 2 =
+    count_fits c.make_room.new.counts.items n.rows.items kept.counted c.index_mut-count.result.now c.in_ok-trip.trip c.in_ok-make_room.ensures.room c.index_mut-count.ensures.value in
+    omega (arith, small)
 
 pub invariant_of-self-2 : goal.invariant_of-self-2
 invariant_of-self-2 c =
@@ -65,8 +65,8 @@ invariant_of-self-2 c =
     ] in
     let of_trip : c.of_trip-row.result.trip ≡ c.in_ok-trip.trip = ap (λ r. r.trip) c.of_trip-row.ensures in
     rw (c.in_ok-push.ensures.items, ← of_trip)
-    (one_kept trips c.trip_number.new.numbers c.trip_number.new.names.items c.make_room.new.counts.items n.are_sequenced n.rows.items c.of_trip-row.result c.args.note.trip_id.now c.index_mut.result.now c.if-self.self both kept
-    (rw of_trip c.in_ok-trip.ensures.number) (rw of_trip inside) (rw of_trip c.index_mut.ensures.value))
+    (one_kept trips c.trip_number.new.numbers c.trip_number.new.names.items c.make_room.new.counts.items n.are_sequenced n.rows.items c.of_trip-row.result c.args.note.trip_id.now c.index_mut-count.result.now c.min.result c.if-self.self both kept
+    (rw of_trip c.in_ok-trip.ensures.number) (rw of_trip inside) (rw of_trip c.index_mut-count.ensures.value) c.min.ensures)
 
 pub returns-clause-notes : goal.returns-clause-notes
 returns-clause-notes c =
