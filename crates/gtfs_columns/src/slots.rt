@@ -12,7 +12,7 @@ use std::alloc::Global;
 const SPREAD: u64 = 0x9E37_79B9_7F4A_7C15;
 
 // How many slots an id may stand in, one after another.
-const TRIES: usize = 8;
+const TRIES: usize = 16;
 
 // No id has this number: there are slots for fewer.
 const NO_NUMBER: u32 = u32::MAX;
