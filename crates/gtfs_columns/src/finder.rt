@@ -14,14 +14,18 @@ pub struct FoundId {
 
 /// Finds ids of a column that are asked for one after the other.
 ///
-/// Rows that stand together often name one row, and rows in turn. So before a search is made, a few numbers are tried:
-/// that of the last answer, the next, and once an id was not the next those that stand in the slots for it. What they hold
-/// is compared with the id, so that no choice of ids can make an answer wrong, or cost more than the search.
+/// Rows that stand together often name one row, and rows in turn. So before a search is made, a few numbers are tried: that
+/// of the last answer as long as it is repeated, the next, and once an id was not the next those that stand in the slots
+/// for it. What they hold is compared with the id, so that no choice of ids can make an answer wrong, or cost more than the
+/// search.
 #[derive(Drop)]
 pub struct Finder<'a> {
     /// The ids that are searched.
     pub ids: &'a Ids<'a>,
     last: usize,
+    // Whether the last answer was that of the one before it. Where it was not, no id is compared with it: its text is far
+    // away where ids come in random order.
+    is_repeated: bool,
     // Whether each id that was asked for was that of the last answer or the next.
     is_in_order: bool,
 }
@@ -34,6 +38,7 @@ impl<'a> Finder<'a> {
         Finder {
             ids,
             last: 0,
+            is_repeated: true,
             is_in_order: true,
         }
     }
@@ -58,13 +63,15 @@ impl<'a> Finder<'a> {
             ≡ number_with self.old.ids.now id.now }
         ensures same { self.new.ids.now ≡ self.old.ids.now }
     {
-        if let Some(found) = self.ids.at(self.last, id) {
+        if self.is_repeated
+            && let Some(found) = self.ids.at(self.last, id)
+        {
             return Some(found);
         }
         self.find_elsewhere(id)
     }
 
-    // The same, where it is not that of the last answer.
+    // The same, where it is not known to be that of the last answer.
     #[inline(never)]
     fn find_elsewhere(&mut self, id: &str) -> Option<FoundId>
         ensures row { option_map (λ found. found.row) result
@@ -77,6 +84,7 @@ impl<'a> Finder<'a> {
             Some(found) => found,
             None => self.ids.find(id)?,
         };
+        self.is_repeated = found.number == self.last;
         self.last = found.number;
         Some(found)
     }
