@@ -1,11 +1,26 @@
 //! A departure that is refused for want of memory, and asked for again.
 
-use crate::cases::PERIODS;
 use crate::opening::{Fixture, assert_none};
-use gtfs_board::Board;
+use gtfs_board::{Board, Span};
 use gtfs_field::OutOfMemory;
+use gtfs_fixtures::{Clocks, FileText};
 use std::alloc::{AllocError, Global};
 use std::test::Fail;
+
+// The trip of the small dataset runs on eight days. A departure that has one opens a later day, which takes memory.
+const EIGHT_DAYS: &[FileText] = &[(
+    "calendar.txt",
+    "service_id,monday,tuesday,wednesday,thursday,friday,saturday,sunday,start_date,end_date\n\
+C1,1,1,1,1,1,1,1,20240401,20240408\n",
+)];
+
+const SPAN: Span = Span {
+    from: 1_711_929_600,
+    until: 1_712_620_800,
+};
+
+// When the trip departs on the first day: 2024-04-01T08:00:00Z.
+const FIRST: i64 = 1_711_958_400;
 
 // How many pieces of one size are taken at most.
 const PIECES: usize = 20_000;
@@ -42,31 +57,31 @@ struct Counts {
     refused: u32,
 }
 
-// The run of the next departure, asked for with no memory left, and again with memory where it is refused.
-fn next_run(
+// When the next departure is, asked for with no memory left, and again with memory where it is refused.
+fn next_instant(
     alloc: Global,
     board: &mut Board<'_>,
     counts: &mut Counts,
-) -> Result<Option<u32>, Fail> {
+) -> Result<Option<i64>, Fail> {
     let taken = take_memory(alloc)?;
     if Vec::<u64>::with_capacity(alloc, 24).is_err() {
         counts.without_memory = counts.without_memory.saturating_add(1);
     }
-    let told: Result<_, _> = run_of(board);
+    let told: Result<_, _> = instant_of(board);
     drop(taken);
     match told {
-        Ok(run) => Ok(run),
+        Ok(instant) => Ok(instant),
         Err(_) => {
             counts.refused = counts.refused.saturating_add(1);
-            Ok(run_of(board)?)
+            Ok(instant_of(board)?)
         }
     }
 }
 
-// The run of the next departure.
-fn run_of(board: &mut Board<'_>) -> Result<Option<u32>, OutOfMemory> {
+// When the next departure is.
+fn instant_of(board: &mut Board<'_>) -> Result<Option<i64>, OutOfMemory> {
     match board.next() {
-        Ok(Some(departure)) => Ok(Some(departure.key.run)),
+        Ok(Some(departure)) => Ok(Some(departure.key.instant)),
         Ok(None) => Ok(None),
         Err(fault) => Err(fault),
     }
@@ -74,16 +89,15 @@ fn run_of(board: &mut Board<'_>) -> Result<Option<u32>, OutOfMemory> {
 
 #[test]
 fn a_refused_departure_can_be_asked_for_again(rt: HostRuntime) -> Result<(), Fail> {
-    let fixture = Fixture::of_case(&rt, rt.alloc(), &PERIODS)?;
-    let mut board = fixture
-        .opening("S1", PERIODS.span)
-        .board(&rt, rt.alloc(), "")?;
+    let fixture = Fixture::of_files(&rt, rt.alloc(), EIGHT_DAYS, Clocks::Utc)?;
+    let mut board = fixture.opening("S1", SPAN).board(&rt, rt.alloc(), "")?;
     let mut counts = Counts {
         without_memory: 0,
         refused: 0,
     };
-    for run in [21_600, 23_400, 25_200, 27_000] {
-        assert_eq!(rt; next_run(rt.alloc(), &mut board, &mut counts)?, Some(run));
+    for day in 0..8 {
+        let instant = next_instant(rt.alloc(), &mut board, &mut counts)?;
+        assert_eq!(rt; instant, Some(FIRST + 86_400 * day));
     }
     // An allocator that looks for errors keeps memory for small pieces, however much is taken.
     assert!(rt;
