@@ -19,8 +19,17 @@ const SPAN: Span = Span {
     until: 1_712_620_800,
 };
 
-// When the trip departs on the first day: 2024-04-01T08:00:00Z.
-const FIRST: i64 = 1_711_958_400;
+// When the trip departs on each of them: at 08:00:00 in UTC.
+const DEPARTURES: [i64; 8] = [
+    1_711_958_400,
+    1_712_044_800,
+    1_712_131_200,
+    1_712_217_600,
+    1_712_304_000,
+    1_712_390_400,
+    1_712_476_800,
+    1_712_563_200,
+];
 
 // How many pieces of one size are taken at most.
 const PIECES: usize = 20_000;
@@ -95,9 +104,9 @@ fn a_refused_departure_can_be_asked_for_again(rt: HostRuntime) -> Result<(), Fai
         without_memory: 0,
         refused: 0,
     };
-    for day in 0..8 {
+    for departure in DEPARTURES {
         let instant = next_instant(rt.alloc(), &mut board, &mut counts)?;
-        assert_eq!(rt; instant, Some(FIRST + 86_400 * day));
+        assert_eq!(rt; instant, Some(departure));
     }
     // An allocator that looks for errors keeps memory for small pieces, however much is taken.
     assert!(rt;
