@@ -19,18 +19,6 @@ const SPAN: Span = Span {
     until: 1_712_620_800,
 };
 
-// When the trip departs on each of them: at 08:00:00 in UTC.
-const DEPARTURES: [i64; 8] = [
-    1_711_958_400,
-    1_712_044_800,
-    1_712_131_200,
-    1_712_217_600,
-    1_712_304_000,
-    1_712_390_400,
-    1_712_476_800,
-    1_712_563_200,
-];
-
 // How many pieces of one size are taken at most.
 const PIECES: usize = 20_000;
 
@@ -104,7 +92,17 @@ fn a_refused_departure_can_be_asked_for_again(rt: HostRuntime) -> Result<(), Fai
         without_memory: 0,
         refused: 0,
     };
-    for departure in DEPARTURES {
+    // At 08:00:00 in UTC on each day.
+    for departure in [
+        1_711_958_400,
+        1_712_044_800,
+        1_712_131_200,
+        1_712_217_600,
+        1_712_304_000,
+        1_712_390_400,
+        1_712_476_800,
+        1_712_563_200,
+    ] {
         let instant = next_instant(rt.alloc(), &mut board, &mut counts)?;
         assert_eq!(rt; instant, Some(departure));
     }
