@@ -2,6 +2,7 @@ pub mod AddFacts
 pub mod BoolFacts
 pub mod CellFacts
 pub mod EachFacts
+mod EqualFacts
 pub mod FieldFacts
 pub mod FieldRowFacts
 pub mod FoundFacts

@@ -1,5 +1,6 @@
 ghost use Rattle.std.specs.Prelude.{◌≡◌, ◌≤◌, bytes_eq, length, take, IsTrue};
 
+use crate::equal::are_equal;
 use std::cmp::Ordering;
 
 // How many bytes of an id stand in its row.
@@ -46,15 +47,8 @@ impl<'a> IdRow<'a> {
     pub(crate) fn has(&self, id: &str) -> bool
         ensures { IsTrue result → IsTrue (bytes_eq (id_of self.now) id.now) }
     {
-        let bytes = self.bytes();
-        ends_alike(bytes, id.as_bytes()) && bytes == id.as_bytes()
+        are_equal(self.bytes(), id.as_bytes())
     }
-}
-
-// Whether two texts have one length and one last byte, which tells most ids apart without a look at the others.
-#[inline(always)]
-fn ends_alike(a: &[u8], b: &[u8]) -> bool {
-    a.len() == b.len() && a.last() == b.last()
 }
 
 // A short text, and zeros after it.

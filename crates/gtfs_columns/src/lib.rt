@@ -31,6 +31,7 @@
 mod cell;
 mod code;
 mod columns;
+mod equal;
 mod feed_ids;
 mod file_name;
 mod finder;
@@ -50,6 +51,7 @@ pub use columns::{
     frequencies_columns, routes_columns, stop_times_columns, stops_columns, transfers_columns,
     trips_columns,
 };
+pub use equal::are_equal;
 pub use feed_ids::FeedIds;
 pub use file_name::FileName;
 pub use finder::{Finder, FoundId};

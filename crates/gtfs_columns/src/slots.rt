@@ -3,6 +3,7 @@ ghost use Rattle.std.specs.List.{All};
 ghost use Rattle.gtfs_columns.specs.steps.Ids.{Answers, AnswersRow, IdColumn};
 ghost use Rattle.gtfs_columns.specs.steps.Slots.{IsFoundIn, IsSlotOf};
 
+use crate::equal::are_equal;
 use crate::finder::FoundId;
 use crate::id_row::{HEAD, IdRow};
 use gtfs_field::OutOfMemory;
@@ -77,7 +78,7 @@ impl Slot {
         ensures { IfSome result (λ found. IsFoundIn self.now id.now found) }
     {
         let length = usize::from(self.length);
-        if length == 0 || length > HEAD || &self.head[..length] != id.as_bytes() {
+        if length == 0 || length > HEAD || !are_equal(&self.head[..length], id.as_bytes()) {
             return None;
         }
         Some(FoundId {

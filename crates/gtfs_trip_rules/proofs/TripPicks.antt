@@ -16,6 +16,7 @@ use Rattle.gtfs_columns.specs.Problems.{FileName, kept, other, Problem, holds, i
 use Rattle.gtfs_columns.specs.Rows.{Rule, file_rank, is_file, reported_at}
 use Rattle.gtfs_table.specs.Rows.{is_row, records_in}
 use Rattle.gtfs_columns.specs.TripRules.{goes_back, is_end_untimed}
+use Rattle.gtfs_trip_rules.specs.StopTimePicks.{breaks_order}
 use Rattle.gtfs_columns.proofs.BoolFacts.{and_parts, or_left, or_right, same_test}
 use Rattle.gtfs_columns.proofs.SiteFacts.{code_is, file_is}
 use Rattle.gtfs_columns.proofs.ReportingFacts.{reports_alike, reports_then}
@@ -55,7 +56,7 @@ module _ (d : Dataset) (p : Problem) where
   at_back = at_column code.E17 file.StopTimes (codes "arrival_time") p
 
   abbrev picked : Bool
-  picked = in_file code.E09 file.StopTimes p || of_codes (code.E15 ∷ code.E17 ∷ []) p
+  picked = breaks_order p
 
   of_code : (c : Code) → is_code p.code c ≡ true → is_problem d p ≡ true → holds c d p.file p.row p.column ≡ true
   of_code c is e = ap (λ c. holds c d p.file p.row p.column) (sym (code_is p.code c is)) ∙ e
@@ -105,7 +106,7 @@ pub order_reported : (d : Dataset) (old first second new : List Problem)
     → Reports d (at_column code.E09 file.StopTimes (codes "stop_sequence")) old first
     → Reports d (at_column code.E15 file.StopTimes (codes "arrival_time")) first second
     → Reports d (at_column code.E17 file.StopTimes (codes "arrival_time")) second new
-    → Reports d (λ p. in_file code.E09 file.StopTimes p || of_codes (code.E15 ∷ code.E17 ∷ []) p) old new
+    → Reports d breaks_order old new
 order_reported d old first second new keys ends back =
     reports_alike d (λ p. (at_key d p || at_ends d p) || at_back d p) (picked d) old new (same_picks d)
     (reports_then d (λ p. at_key d p || at_ends d p) (at_back d) old second new (reports_then d (at_key d) (at_ends d) old first second keys ends) back)

@@ -21,7 +21,7 @@ use Rattle.gtfs_columns.specs.steps.Found.{Adds, Reports, is_same}
 use Rattle.gtfs_columns.specs.steps.Picks.{at_column}
 use Rattle.gtfs_columns.specs.Problems.{Problem, holds_in, is_listed, is_problem}
 use Rattle.gtfs_table.specs.Rows.{is_row, records_in, rows, is_empty}
-use Rattle.gtfs_trip_rules.specs.KeptTimes.{departs}
+use Rattle.gtfs_trip_rules.specs.KeptTimes.{departs, is_untimed}
 use Rattle.gtfs_trip_rules.specs.TripOrder.{ends, is_left_later, is_untimed_end, last_left, left_before, repeats, row_cmp, same_sequence, same_trip, InOrder}
 use Rattle.gtfs_trip_rules.specs.TripStopTimes.{TripStopTime, has_trip_stop_time, trip_stop_time, trip_stop_time_in, trip_stop_times_in}
 use Rattle.gtfs_columns.specs.Values.{if_there}
@@ -33,7 +33,7 @@ use Rattle.gtfs_columns.proofs.RuleFacts.{row_reported}
 use Rattle.gtfs_trip_rules.proofs.SplitLists.{IsAscending, IsSplit, ascends_from_sorted, onto, onto_index, split_of}
 use Rattle.gtfs_columns.proofs.ReportingFacts.{reports_alike, reports_none, reports_then}
 use Rattle.gtfs_trip_rules.proofs.TripPositions.{earlier_row, earlier_twin, is_left_late, is_timed_in, last_left_late, later_row}
-use Rattle.gtfs_trip_rules.proofs.TripRestated.{any_filter, back_restated, end_restated, ends_untimed, goes_back_among, key_restated, repeats_among}
+use Rattle.gtfs_trip_rules.proofs.TripRestated.{any_filter, at_end, back_restated, end_restated, ends_untimed, goes_back_among, key_restated, repeats_among}
 use Rattle.gtfs_trip_rules.proofs.TripStopTimeOrder.{is_earlier_twin, is_lower, stands_first}
 
 -- ---- the rows of a dataset
@@ -251,6 +251,20 @@ module _ (d : Dataset) (name : ℕ → List ℕ) (lent : List StopTime) (o : InO
   pub reported_backward : Reports d (seen c column (rows_from name lent (i + 1))) old mid → Reports d (seen c column (rows_from name lent i)) old new
   reported_backward reported = subst (λ (xs : List TripStopTime). Reports d (seen c column xs) old new) (sym (rows_from_here name lent i z below)) (reported_here (rows_from name lent (i + 1)) reported)
 
+nothing_added : (l s : Bool) → l ≡ (l || (s && false))
+nothing_added true s = refl
+nothing_added false true = refl
+nothing_added false false = refl
+
+-- at the next row, which does not break the rule
+pub silent_forward : (d : Dataset) (name : ℕ → List ℕ) (lent : List StopTime) (o : InOrder d (map (trip_stop_time name) lent)) (c : Code) (column : List ℕ) (rule : List TripStopTime → TripStopTime → Bool) → ReportsRule d c column rule
+    → (i : ℕ) (z : StopTime) → i < length lent → (ps : List Problem) → false ≡ rule (trip_stop_times_in d) (trip_stop_time name (get_or lent i z))
+    → Reports d (seen c column (rows_before name lent i)) ps ps → Reports d (seen c column (rows_before name lent (i + 1))) ps ps
+silent_forward d name lent o c column rule r i z below ps asked reported =
+    subst (λ (xs : List TripStopTime). Reports d (seen c column xs) ps ps) (sym (rows_before_more name lent i z below))
+    (seen_more d c column rule r (trip_stop_time name (get_or lent i z)) (rows_before name lent i) false ps ps ps (is_row_here d name lent o i z below) asked reported
+    (λ p. nothing_added (is_listed ps p) (is_same (problem_at c file.StopTimes column (get_or lent i z).row) p)))
+
 -- ---- the three rules
 
 pub repeats_reported : (d : Dataset) → ReportsRule d code.E09 (codes "stop_sequence") repeats_among
@@ -261,3 +275,19 @@ ends_reported d = record { is = λ n. ap (λ b. is_row (records_in d file.StopTi
 
 pub back_reported : (d : Dataset) → ReportsRule d code.E17 (codes "arrival_time") goes_back_among
 back_reported d = record { is = λ n. ap (λ b. is_row (records_in d file.StopTimes) n && b) (back_restated d n) }
+
+-- at the next row, which has a time, and so is no end without times
+pub timed_forward : (d : Dataset) (name : ℕ → List ℕ) (lent : List StopTime) (o : InOrder d (map (trip_stop_time name) lent)) (i : ℕ) (z : StopTime) → i < length lent → (ps : List Problem)
+    → is_untimed (get_or lent i z).times ≡ false → Reports d (seen code.E15 (codes "arrival_time") (rows_before name lent i)) ps ps → Reports d (seen code.E15 (codes "arrival_time") (rows_before name lent (i + 1))) ps ps
+timed_forward d name lent o i z below ps timed =
+    silent_forward d name lent o code.E15 (codes "arrival_time") ends_untimed (ends_reported d) i z below ps
+    (sym (ap (λ b. b && at_end (trip_stop_times_in d) (trip_stop_time name (get_or lent i z))) timed))
+
+-- none of the rules picks a problem of these rows
+pub record AreFaultless (d : Dataset) (xs : List TripStopTime) (ps : List Problem) : Type 0 where
+  pub keys : Reports d (seen code.E09 (codes "stop_sequence") xs) ps ps
+  pub ends : Reports d (seen code.E15 (codes "arrival_time") xs) ps ps
+  pub back : Reports d (seen code.E17 (codes "arrival_time") xs) ps ps
+
+pub faultless_none : (d : Dataset) (ps : List Problem) → AreFaultless d [] ps
+faultless_none d ps = record { keys = seen_none d code.E09 (codes "stop_sequence") ps; ends = seen_none d code.E15 (codes "arrival_time") ps; back = seen_none d code.E17 (codes "arrival_time") ps }

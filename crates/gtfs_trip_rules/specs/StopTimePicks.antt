@@ -4,7 +4,7 @@ use Rattle.gtfs_table.specs.declared.file.File.{File}
 use Rattle.gtfs_table.specs.declared.file.File.TheVariants as file
 use Rattle.gtfs_columns.specs.declared.code.Code.TheVariants as code
 use Rattle.gtfs_columns.specs.steps.FieldCodes.{field_codes, in_file_of}
-use Rattle.gtfs_columns.specs.steps.Picks.{in_file}
+use Rattle.gtfs_columns.specs.steps.Picks.{in_file, of_codes}
 use Rattle.gtfs_columns.specs.steps.SitePicks.{at_sites}
 use Rattle.gtfs_columns.specs.Problems.{Problem}
 
@@ -40,3 +40,7 @@ in_rows p = in_file_of field_codes file.StopTimes p || in_names p || in_times p
 abbrev pub in_stop_times : Problem → Bool
 in_stop_times p = in_file_of field_codes file.StopTimes p || (in_file code.E10 file.StopTimes p || in_file code.E11 file.StopTimes p)
     || (in_file code.E16 file.StopTimes p || in_file code.W08 file.StopTimes p)
+
+-- what the order of a trip's rows breaks
+abbrev pub breaks_order : Problem → Bool
+breaks_order p = in_file code.E09 file.StopTimes p || of_codes (code.E15 ∷ code.E17 ∷ []) p

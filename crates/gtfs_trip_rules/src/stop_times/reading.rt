@@ -8,7 +8,7 @@ ghost use Rattle.gtfs_table.specs.Rows.{is_empty};
 ghost use Rattle.gtfs_field.specs.Kinds.{count_of};
 
 use crate::trips::row::Boarding;
-use gtfs_columns::Code;
+use gtfs_columns::{Code, are_equal};
 use gtfs_field::{FieldFault, read_count, read_time};
 
 // What reading a field found.
@@ -87,7 +87,7 @@ pub(crate) fn read_beside(text: &str, other: &str, read: Reading<u32>) -> Readin
     requires { IsReading time (λ n. amount (pos n)) other.now read }
     ensures { IsReading time (λ n. amount (pos n)) text.now result }
 {
-    if text == other {
+    if are_equal(text.as_bytes(), other.as_bytes()) {
         read
     } else {
         read_seconds(text)

@@ -1,11 +1,13 @@
-ghost use Rattle.std.specs.Prelude.{◌≡◌, ◌∷◌, ◌||◌, [], List, ℕ, map, reverse, codes, pos, option_map, IfOk, IsPermutation, OnOk};
+ghost use Rattle.std.specs.Prelude.{◌≡◌, ◌∷◌, true, List, ℕ, map, reverse, codes, pos, option_map, IfOk, IsPermutation, OnOk};
 ghost use Rattle.gtfs_table.specs.Tables.{Dataset};
 ghost use Rattle.gtfs_table.specs.declared.file.File.TheVariants as file;
 ghost use Rattle.gtfs_columns.specs.declared.code.Code.TheVariants as code;
 ghost use Rattle.gtfs_columns.specs.declared.file_name.FileName.TheVariants as file_name;
 ghost use Rattle.gtfs_columns.specs.steps.Found.{Reports};
-ghost use Rattle.gtfs_columns.specs.steps.Picks.{at_column, in_file, of_codes};
+ghost use Rattle.gtfs_columns.specs.steps.Picks.{at_column};
+ghost use Rattle.gtfs_columns.specs.Problems.{Problem as ProblemOf};
 ghost use Rattle.gtfs_trip_rules.specs.Kept.{AllKeep};
+ghost use Rattle.gtfs_trip_rules.specs.StopTimePicks.{breaks_order};
 ghost use Rattle.gtfs_trip_rules.specs.KeptOrder.{AreKeptOf};
 ghost use Rattle.gtfs_trip_rules.specs.TripNotes.{trip_notes_in};
 ghost use Rattle.gtfs_trip_rules.specs.TripNumbers.{AllNumbered, AreRowsNumbered, IsNumbered};
@@ -29,16 +31,44 @@ pub fn report_order<'a>(
 ) -> Result<Vec<StopTime>, OutOfMemory>
     requires notes { notes.notes ≡ trip_notes_in tables.now }
     requires kept { AllKeep tables.now notes.rows }
-    ensures reported { OnOk result (Reports tables.now
-        (λ p. in_file code.E09 file.StopTimes p || of_codes (code.E15 ∷ code.E17 ∷ []) p)
-        found.old found.new) }
+    ensures reported { OnOk result (Reports tables.now breaks_order found.old found.new) }
     ensures kept { IfOk result (λ rows. AreKeptOf tables.now rows.items) }
 {
     let rows = in_order(notes.into_rows());
-    report_repeats(&rows, found)?;
-    report_untimed_ends(&rows, found)?;
-    report_times_back(&rows, found)?;
+    report_rows(&rows, found)?;
     Ok(rows)
+}
+
+// Reports what the order of these rows breaks. In most feeds a single pass finds nothing.
+fn report_rows<'a>(rows: &[StopTime], found: &mut Found<'a>) -> Result<(), OutOfMemory>
+    ensures { OnOk result ((d : Dataset) → AreInOrder d rows.now
+        → Reports d breaks_order found.old found.new) }
+{
+    if are_faultless(rows) {
+        return Ok(());
+    }
+    report_repeats(rows, found)?;
+    report_untimed_ends(rows, found)?;
+    report_times_back(rows, found)?;
+    Ok(())
+}
+
+// Whether the order of rows, each of which has a time, breaks nothing. Of rows without times this does not tell.
+fn are_faultless(rows: &[StopTime]) -> bool
+    ensures { result ≡ true → (d : Dataset) (found : List ProblemOf) → AreInOrder d rows.now
+        → Reports d breaks_order found found }
+{
+    let mut last_left = None;
+    for at in 0..rows.len() {
+        let row = &rows[at];
+        let before = &rows[..at];
+        let left = left_before(before, row, last_left);
+        if row.is_untimed() || repeats(before, row) || is_left_later(left, row.arrives()) {
+            return false;
+        }
+        last_left = row.departs().or(left);
+    }
+    true
 }
 
 // The rows by trip, sequence and row. Where they stand in this order already, as they mostly do,

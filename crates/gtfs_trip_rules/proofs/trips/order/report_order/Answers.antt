@@ -4,7 +4,6 @@ use Rattle.gtfs_trip_rules.specs.Kept.{Keeps}
 use Rattle.gtfs_trip_rules.specs.KeptTimes.{is_placed}
 use Rattle.gtfs_trip_rules.specs.TripOrder.{AreInOrder}
 use Rattle.gtfs_trip_rules.specs.declared.trips.row.StopTime.{StopTime}
-use Rattle.gtfs_trip_rules.proofs.TripPicks.{order_reported}
 use Rattle.gtfs_trip_rules.proofs.TripStopTimeFacts.{sequenced_rows}
 use Rattle.gtfs_trip_rules.proofs.trips.order.report_order.Goals as goal
 
@@ -14,10 +13,7 @@ returns-clause-reported c =
     let numbered = rw (c.requires.notes, sequenced_rows d) at c.into_rows.ensures.numbered in
     let o : AreInOrder d c.in_order-rows.result.items = c.in_order-rows.ensures.order d numbered in
     let lent = λ (xs : List StopTime) (same : xs ≡ c.in_order-rows.result.items). subst (AreInOrder d) (sym same) o in
-    order_reported d c.args.found.now _ _ c.report_times_back.new.found
-    (c.in_ok-report_repeats.ensures d (lent _ c.deref.ensures.value))
-    (c.in_ok-report_untimed_ends.ensures d (lent _ c.deref-2.ensures.value))
-    (c.in_ok-report_times_back.ensures d (lent _ c.deref-3.ensures.value))
+    c.in_ok-report_rows.ensures d (lent _ c.deref.ensures.value)
 
 pub returns-clause-kept : goal.returns-clause-kept
 returns-clause-kept c =

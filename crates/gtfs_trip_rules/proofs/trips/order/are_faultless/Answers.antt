@@ -1,0 +1,51 @@
+use Rattle.std.proofs.Common.{◌∙◌, ap, option_map, refl, sym}
+use Rattle.std.specs.Option.{option_or}
+use Rattle.std.specs.Prelude.{codes, pos}
+use Rattle.std.proofs.lemmas.List.Elements.{All-take}
+use Rattle.gtfs_columns.specs.declared.code.Code.TheVariants as code
+use Rattle.gtfs_trip_rules.specs.TripNumbers.{IsNumbered}
+use Rattle.gtfs_trip_rules.specs.TripOrder.{is_left_later}
+use Rattle.gtfs_trip_rules.specs.TripStopTimes.{trip_stop_times_in}
+use Rattle.gtfs_trip_rules.proofs.TripPicks.{order_reported}
+use Rattle.gtfs_trip_rules.proofs.TripReports.{back_here, back_reported, before_end, ends_reported, faultless_none, left_more, repeats_here, repeats_reported, rows_before, seen_all, silent_forward, timed_forward}
+use Rattle.gtfs_trip_rules.proofs.TripRestated.{ends_untimed, goes_back_among, repeats_among}
+use Rattle.gtfs_trip_rules.proofs.trips.order.are_faultless.Goals as goal
+
+pub loop-at-init : goal.loop-at-init
+loop-at-init c = record { faultless = λ d ps o. faultless_none d ps; left = λ number name each. refl }
+
+pub loop-at-preserved : goal.loop-at-preserved
+loop-at-preserved c =
+    let rows = c.args.rows.now in
+    let at = c.loop-at.at in
+    let below = c.loop-at-test.true in
+    record {
+      faultless = λ d ps o.
+          let before = c.loop-at.invariant.faultless d ps o in
+          let earlier = All-take (IsNumbered o.number o.name) at rows o.numbered in
+          let left = c.left_before-left.ensures o.number o.name earlier (o.numbered at _ below) (c.loop-at.invariant.left o.number o.name o.numbered) in
+          record {
+            keys =
+                silent_forward d o.name rows o.order code.E09 (codes "stop_sequence") repeats_among (repeats_reported d) at _ below ps
+                (sym c.if-repeats.false ∙ c.repeats.ensures o.number o.name earlier (o.numbered at _ below) ∙ repeats_here d o.name rows o.order at _ below) before.keys;
+            ends = timed_forward d o.name rows o.order at _ below ps (sym c.is_untimed.ensures ∙ c.if-is_untimed.false) before.ends;
+            back =
+                silent_forward d o.name rows o.order code.E17 (codes "arrival_time") goes_back_among (back_reported d) at _ below ps
+                (sym c.if-is_left_later.false ∙ c.is_left_later.ensures ∙ ap (λ a. is_left_later (option_map pos c.left_before-left.result) (option_map pos a)) c.arrives.ensures
+                ∙ back_here d o.name rows o.order at _ below _ left) before.back;
+          };
+      left = λ number name each.
+          left_more name rows at _ below c.left_before-left.result c.or-last_left.result
+          (c.left_before-left.ensures number name (All-take (IsNumbered number name) at rows each) (each at _ below) (c.loop-at.invariant.left number name each))
+          (c.or-last_left.ensures ∙ ap (λ o. option_or o c.left_before-left.result) c.departs.ensures);
+    }
+
+pub returns : goal.returns
+returns c = λ same d ps o.
+    let rows = rows_before o.name c.args.rows.now c.loop-at.at in
+    let all = before_end d o.name c.args.rows.now o.order c.loop-at.at c.loop-at-test.false in
+    let so_far = c.loop-at.invariant.faultless d ps o in
+    order_reported d ps ps ps ps
+    (seen_all d code.E09 (codes "stop_sequence") repeats_among (repeats_reported d) rows ps ps all so_far.keys)
+    (seen_all d code.E15 (codes "arrival_time") ends_untimed (ends_reported d) rows ps ps all so_far.ends)
+    (seen_all d code.E17 (codes "arrival_time") goes_back_among (back_reported d) rows ps ps all so_far.back)
