@@ -8,6 +8,7 @@
 //! - `files` are files that are missing, empty, not UTF-8, or cut after any of their bytes.
 //! - `columns` has the public calls of `gtfs_columns` on their happy paths, and `rows` reads values of tables that pass.
 //! - `stop_times` has the stop times that a feed which passes hands on.
+//! - `texts` compares texts of all short lengths.
 //! - `crowded` is a feed in which most rules are broken, and `many` one with hundreds of thousands of problems.
 //!
 //! The worked examples of the definitions stand in `proofs/`, as lemmas that compute: the whole reports of small feeds.
@@ -34,3 +35,5 @@ mod rows;
 mod slow;
 #[cfg(test)]
 mod stop_times;
+#[cfg(test)]
+mod texts;

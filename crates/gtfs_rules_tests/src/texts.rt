@@ -1,0 +1,37 @@
+//! Texts of each length up to twenty bytes, beside themselves, beside those that differ at one byte, and beside shorter
+//! ones.
+
+use gtfs_columns::are_equal;
+
+const TEXT: [u8; 20] = *b"ABCDEFGHIJKLMNOPQRST";
+
+#[test]
+fn a_text_equals_itself_alone(rt: HostRuntime) {
+    for length in 0..TEXT.len() {
+        let text = &TEXT[..length];
+        let longer = &TEXT[..length + 1];
+        assert!(rt; are_equal(text, text), "{length}");
+        assert!(rt; !are_equal(text, longer), "{length}");
+        assert!(rt; !are_equal(longer, text), "{length}");
+    }
+}
+
+#[test]
+fn texts_that_differ_at_one_byte_are_not_equal(rt: HostRuntime) {
+    for length in 1..TEXT.len() + 1 {
+        let told = (0..length).filter(|at| is_told(*at, length)).count();
+        assert_eq!(rt; told, length);
+    }
+}
+
+// Whether a text of this length is told from the one that differs at this byte.
+fn is_told(at: usize, length: usize) -> bool {
+    let mut changed = TEXT;
+    if let Some(byte) = changed.get_mut(at) {
+        *byte = b'-';
+    }
+    match (TEXT.get(..length), changed.get(..length)) {
+        (Some(text), Some(other)) => !are_equal(text, other),
+        _ => false,
+    }
+}
