@@ -1,5 +1,6 @@
 -- Answers that are there exactly where a test passes, and results that go by tests.
 use Rattle.std.proofs.Common.{◌≡◌, Bool, true, false, Some, None, Result, Ok, Err, if◌then◌else◌, refl, ap, List, ℕ}
+use Rattle.std.specs.Result.{result_ok}
 use Rattle.gtfs_field.specs.Kinds.{shaped, within}
 use Rattle.gtfs_field.specs.declared.fault.FieldFault.{FieldFault}
 use Rattle.gtfs_field.specs.declared.fault.FieldFault.TheVariants.{Form, Range}
@@ -29,6 +30,11 @@ some-test b x y passes same = rw (passes, same) refl
 
 pub none-test : {V : Type 0} (b : Bool) (y : V) → b ≡ false → None ≡ (if b then Some y else None)
 none-test b y fails = rw fails refl
+
+-- the value of a text that has one
+pub ok-from : {V : Type 0} (r : Result V FieldFault) (v : V) → Some v ≡ result_ok r → Ok v ≡ r
+ok-from (Ok w) v h = cc
+ok-from (Err e) v h = cc
 
 -- equal texts have equal values
 pub same-value : {V : Type 0} (read : List ℕ → Result V FieldFault) {t u : List ℕ} {v w : V} → read t ≡ Ok v → read u ≡ Ok w → t ≡ u → v ≡ w

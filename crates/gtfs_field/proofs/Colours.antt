@@ -11,7 +11,7 @@ use Rattle.gtfs_field.specs.Kinds.{is_six_hexadecimal, colour_of}
 use Rattle.gtfs_field.specs.Canonical.{colour_text}
 use Rattle.gtfs_field.specs.Digits.{wide_hex, hex_digit}
 use Rattle.gtfs_field.proofs.Choices.{shaped-true, same-value}
-use Rattle.std.proofs.Math.Nat.{pow-suc, div-add-mod'}
+use Rattle.std.proofs.Math.Nat.{pow-suc, div-add-mod', div-div-eq-div-mul}
 use Rattle.std.proofs.lemmas.Int.Digits.{digits_push, digits_value_push}
 
 all_hexadecimal : (t : List ℕ) → list_all (λ b. nat_lt (digit_value b) 16) t ≡ true → AllDigits 16 t
@@ -73,3 +73,13 @@ colour_of-text v most =
 
 pub colour_text-unique : (u v : ℕ) → u ≤ 0xFF_FFFF → v ≤ 0xFF_FFFF → colour_text u ≡ colour_text v → u ≡ v
 colour_text-unique u v most-u most-v same = same-value colour_of (colour_of-text u most-u) (colour_of-text v most-v) same
+
+-- the digits of a colour by their places
+pub places : (v : ℕ)
+    → hex_digit (v / 1048576 % 16) ∷ hex_digit (v / 65536 % 16) ∷ hex_digit (v / 4096 % 16) ∷ hex_digit (v / 256 % 16) ∷ hex_digit (v / 16 % 16) ∷ hex_digit (v % 16) ∷ [] ≡ colour_text v
+places v =
+    let two : v / 16 / 16 ≡ v / 256 = div-div-eq-div-mul v 16 16 in
+    let three : v / 16 / 16 / 16 ≡ v / 4096 = ap (λ (x : ℕ). x / 16) two ∙ div-div-eq-div-mul v 256 16 in
+    let four : v / 16 / 16 / 16 / 16 ≡ v / 65536 = ap (λ (x : ℕ). x / 16) three ∙ div-div-eq-div-mul v 4096 16 in
+    let five : v / 16 / 16 / 16 / 16 / 16 ≡ v / 1048576 = ap (λ (x : ℕ). x / 16) four ∙ div-div-eq-div-mul v 65536 16 in
+    rw (five, four, three, two) refl

@@ -1,5 +1,6 @@
-ghost use Rattle.std.specs.Prelude.{◌≡◌, ◌<◌, ◌^◌, IfOk};
-ghost use Rattle.gtfs_field.specs.Kinds.{instant_of, plain_number_of};
+ghost use Rattle.std.specs.Prelude.{◌≡◌, ◌==◌, ◌&&◌, ◌<◌, ◌^◌, IfOk, length, nat_le, neg_ℤ, not, pos, slice_index};
+ghost use Rattle.gtfs_field.specs.Digits.{number};
+ghost use Rattle.gtfs_field.specs.Kinds.{instant_of, is_plain_number, plain_number_of, shaped, within};
 
 use crate::digits::number_of;
 use crate::fault::FieldFault;
@@ -14,16 +15,28 @@ pub fn read_instant(text: &str) -> Result<i64, FieldFault>
     ensures { result ≡ instant_of text.now }
 {
     match text.as_bytes() {
-        [b'-', b'0', ..] => Err(FieldFault::Form),
-        [b'-', digits @ ..] => {
-            let seconds = plain_number(digits)?;
-            Ok(-(seconds as i64))
-        }
-        digits => {
-            let seconds = plain_number(digits)?;
-            Ok(seconds as i64)
-        }
+        [b'-', digits @ ..] => negative(digits),
+        digits => positive(digits),
     }
+}
+
+/// The instant before 1970 of these digits after a `-`.
+fn negative(digits: &[u8]) -> Result<i64, FieldFault>
+    ensures { result ≡ shaped (is_plain_number digits.now && not (slice_index digits.now 0 == 48))
+        (within (nat_le (length digits.now) 12) (neg_ℤ (pos (number digits.now)))) }
+{
+    match digits {
+        [b'0', ..] => Err(FieldFault::Form),
+        _ => Ok(-(plain_number(digits)? as i64)),
+    }
+}
+
+/// The instant from 1970 on of these digits.
+fn positive(digits: &[u8]) -> Result<i64, FieldFault>
+    ensures { result ≡ shaped (is_plain_number digits.now)
+        (within (nat_le (length digits.now) 12) (pos (number digits.now))) }
+{
+    Ok(plain_number(digits)? as i64)
 }
 
 /// The number of at most 12 digits that a text with no leading zero writes.
