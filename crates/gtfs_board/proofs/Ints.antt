@@ -1,6 +1,6 @@
-use Rattle.std.proofs.Common.{◌≡◌, ◌<◌, false, ◌⊎◌, inl, inr, arith}
-use Rattle.std.specs.Prelude.{ℤ, pos, ◌+ℤ◌, ◌*ℤ◌, int_lt, ◌<ℤ◌, ◌≤ℤ◌, ◌-ℤ◌, unsigned_abs}
-use Rattle.std.proofs.lemmas.Int.{ints}
+use Rattle.std.proofs.Common.{◌≡◌, ◌<◌, false, ◌⊎◌, inl, inr, arith, w32, to_z, of_z}
+use Rattle.std.specs.Prelude.{ℤ, pos, negsuc, ◌+ℤ◌, ◌*ℤ◌, int_lt, ◌<ℤ◌, ◌≤ℤ◌, ◌-ℤ◌, unsigned_abs}
+use Rattle.std.proofs.lemmas.Int.{ints, to_z-of_z}
 use Rattle.gtfs_field.proofs.NumberFacts.{abs-above, cases_int}
 
 pub le-int_lt : (a b : ℤ) → b ≤ℤ a → int_lt a b ≡ false
@@ -26,3 +26,20 @@ up_more a b d h up = omega (arith, ints, h, up)
 
 pub le_chain : (a b d : ℤ) → a ≤ℤ b → b ≤ℤ d → a ≤ℤ d
 le_chain a b d h up = omega (arith, ints, h, up)
+
+pub le_self : (a : ℤ) → a ≤ℤ a
+le_self a = omega (arith, ints)
+
+-- ---- days
+
+-- the day after one of the days
+pub day_after : (first start day last : ℤ) → negsuc 2_999_999 ≤ℤ first → last ≤ℤ pos 3_000_000 → first ≤ℤ start → start ≤ℤ day → day ≤ℤ last
+    → to_z w32 (of_z w32 (day +ℤ pos 1)) ≡ day +ℤ pos 1
+day_after first start day last low high from since within = to_z-of_z w32 (day +ℤ pos 1) (omega (arith, ints, low, high, from, since, within))
+
+pub after_within : (day last : ℤ) → day ≤ℤ last → (day +ℤ pos 1) ≤ℤ (last +ℤ pos 1)
+after_within day last within = omega (arith, ints, within)
+
+pub days_left : (last day next : ℤ) → (day +ℤ pos 1) ≤ℤ next → next ≤ℤ (last +ℤ pos 1)
+    → unsigned_abs (last +ℤ pos 1 -ℤ next) < unsigned_abs (last +ℤ pos 1 -ℤ day)
+days_left last day next up to = closer (last +ℤ pos 1) day next (omega (arith, ints, up)) to

@@ -1,7 +1,11 @@
 -- Texts that grow by a piece at a time.
 use Rattle.std.proofs.Common.{◌≡◌, ◌∙◌, ap, sym, ℕ, if◌then◌else◌, int_lt, pos, List, [], ◌++◌, codes, unsigned_abs, append_assoc}
+use Rattle.std.specs.Prelude.{decimal}
+use Rattle.std.specs.Fmt.{signed_decimal}
 use Rattle.gtfs_field.specs.Digits.{wide}
 use Rattle.gtfs_days.specs.declared.civil.Civil.{Civil}
+use Rattle.gtfs_field.specs.Canonical.{date_text}
+use Rattle.gtfs_board.specs.Key.{Key}
 use Rattle.gtfs_board.specs.KeyTexts.{key_text}
 use Rattle.gtfs_board.specs.Lines.{Listed, clock_text, line_text, mark_text, offset_text}
 
@@ -45,3 +49,14 @@ line-joined old key clock stop route headsign mark new letter c d letter-is k l 
     let to_headsign = grown old route headsign _ (codes "\t") d.headsign to_route h in
     let to_mark = grown old headsign mark _ (codes "\t") (mark_text d.mark) to_headsign (m ∙ ap (λ t. headsign ++ (codes "\t" ++ t)) letter-is) in
     joined old mark new _ (codes "\n") to_mark e
+
+-- the parts of a key
+pub key-joined : (old instant trip run sequence new first second third : List ℕ) (k : Key) → first ≡ signed_decimal k.instant → second ≡ decimal k.run → third ≡ decimal k.sequence
+    → instant ≡ old ++ (codes "@" ++ first) → trip ≡ instant ++ (codes "/" ++ k.trip) → run ≡ trip ++ (codes "/" ++ second)
+    → sequence ≡ run ++ (codes "/" ++ third) → new ≡ sequence ++ (codes "/" ++ date_text k.day) → new ≡ old ++ key_text k
+key-joined old instant trip run sequence new first second third k first-is second-is third-is i t r s d =
+    let to_instant = i ∙ ap (λ x. old ++ (codes "@" ++ x)) first-is in
+    let to_trip = grown old instant trip (codes "@" ++ signed_decimal k.instant) (codes "/") k.trip to_instant t in
+    let to_run = grown old trip run _ (codes "/") (decimal k.run) to_trip (r ∙ ap (λ x. trip ++ (codes "/" ++ x)) second-is) in
+    let to_sequence = grown old run sequence _ (codes "/") (decimal k.sequence) to_run (s ∙ ap (λ x. run ++ (codes "/" ++ x)) third-is) in
+    grown old sequence new _ (codes "/") (date_text k.day) to_sequence d

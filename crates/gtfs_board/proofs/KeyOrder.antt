@@ -10,7 +10,21 @@ use Rattle.std.specs.declared.cmp.Ordering.TheVariants.{Less, Equal, Greater}
 use Rattle.gtfs_field.proofs.OrderingFacts.{less, tied_first, tied_second}
 use Rattle.gtfs_board.specs.Key.{Key, key_cmp}
 
--- ---- two orders, one after the other
+-- ---- five comparisons, one after the other
+
+regrouped : (a b c d e : Ordering) → ordering_then (ordering_then (ordering_then (ordering_then a b) c) d) e ≡ ordering_then a (ordering_then b (ordering_then c (ordering_then d e)))
+regrouped Less b c d e = refl
+regrouped Greater b c d e = refl
+regrouped Equal Less c d e = refl
+regrouped Equal Greater c d e = refl
+regrouped Equal Equal Less d e = refl
+regrouped Equal Equal Greater d e = refl
+regrouped Equal Equal Equal d e = refl
+
+pub chained : (a b c d e first second third last : Ordering) → first ≡ ordering_then a b → second ≡ ordering_then first c → third ≡ ordering_then second d → last ≡ ordering_then third e
+    → last ≡ ordering_then a (ordering_then b (ordering_then c (ordering_then d e)))
+chained a b c d e first second third last one two three four =
+    four ∙ ap (λ r. ordering_then r e) (three ∙ ap (λ r. ordering_then r d) (two ∙ ap (λ r. ordering_then r c) one)) ∙ regrouped a b c d e
 
 -- ---- the laws
 

@@ -104,6 +104,9 @@ page-faults (Ok x) z y limit rest mid left a b c n fault given h same less end =
 page-faults (Err e) z y limit rest mid left a b c n fault given h same less end =
     subst (EndsPage z limit rest left a c) (sym given) (page-fault z y limit rest mid left a b c n fault h same less end)
 
+pub rises-since : (start before after : ℕ) → before ≡ start → before ≤ after → start ≤ after
+rises-since start before after same rises = omega arith
+
 -- the count of failures, which was what it was until then
 pub counted-faults : {A : Type 0} (r : Result A PageFault) (start before after : ℕ) (fault : PageFault)
     → IsErrAnd r (λ e. e ≡ fault) → before ≡ start → IsCounted before after fault → IfErr r (IsCounted start after)
@@ -115,6 +118,9 @@ counted-faults (Err e) start before after fault given same counted =
 
 pub steps-more : (n m : ℕ) (s t u : StepCount) → AreStepsWithin n s t → AreStepsWithin m t u → AreStepsWithin (n + m) s u
 steps-more n m s t u so_far more = omega (arith, so_far, more)
+
+pub steps-done : (n : ℕ) (s t u : StepCount) → AreStepsWithin n s t → AreStepsWithin 0 t u → AreStepsWithin n s u
+steps-done n s t u so_far last = omega (arith, so_far, last)
 
 -- the steps until then, and those of the line with which it ended
 fault-steps : (z y : Zone) (rest mid left : List Listed) (a b c : Option (List ℕ)) (n : ℕ) (s t u : StepCount) (fault : PageFault) → AreWritten z rest mid a b n → AreStepsWithin n s t

@@ -1,5 +1,5 @@
 -- Lists in order, and members of lists.
-use Rattle.std.proofs.Common.{◌≡◌, ◌<◌, ◌≤◌, ◌+◌, ◌++◌, ◌&&◌, ℕ, suc, Bool, true, false, cond, not, List, [], ◌∷◌, length, map, take, add-one, get_or, refl, sym, ap, subst, ◌∙◌, inl, inr, arith, find, Some}
+use Rattle.std.proofs.Common.{append-nil, ◌≡◌, ◌<◌, ◌≤◌, ◌+◌, ◌++◌, ◌&&◌, ℕ, suc, Bool, true, false, cond, not, List, [], ◌∷◌, length, map, take, add-one, get_or, refl, sym, ap, subst, ◌∙◌, inl, inr, arith, find, Some}
 use Rattle.std.specs.Cmp.{IsTotalOrder, tied_itself}
 use Rattle.std.specs.declared.cmp.Ordering.{Ordering}
 use Rattle.std.specs.declared.cmp.Ordering.TheVariants.{Less, Equal, Greater}
@@ -7,7 +7,9 @@ use Rattle.std.specs.Ordering.{is_lt, ordering_reverse}
 use Rattle.std.specs.List.{All, AllPairs, filter, flat_map, range_with_len}
 use Rattle.std.specs.List.Sorted.{IsSorted}
 use Rattle.std.proofs.Math.Seq.{take-suc}
-use Rattle.std.proofs.lemmas.List.{map-append, take_all}
+use Rattle.std.proofs.lemmas.Grind.{flat_map-append}
+use Rattle.std.proofs.lemmas.List.{map-append}
+use Rattle.std.proofs.lemmas.List.Elements.{filter-append}
 use Rattle.std.proofs.lemmas.List.FromFn.{map-range_with_len_more}
 use Rattle.std.proofs.lemmas.Option.{get_or_from_slice_get, slice_get-get_or}
 use Rattle.std.proofs.lemmas.Bool.{cases_Bool, true≢false}
@@ -170,13 +172,23 @@ ranged-more g f n old new y so_far pushed is =
 pub item-at : {X : Type 0} (xs : List X) (n : ℕ) (d : X) → n < length xs → get_or xs n d ≡ get_or xs n (get_or xs n d)
 item-at xs n d within = sym (get_or_from_slice_get xs n (get_or xs n d) (get_or xs n d) (slice_get-get_or xs n d within))
 
-pub mapped-all : {X Z : Type 0} (f : X → Z) (xs : List X) (n : ℕ) (zs : List Z) → length xs ≤ n → zs ≡ map f (take n xs) → zs ≡ map f xs
-mapped-all f xs n zs past so_far = so_far ∙ ap (map f) (take_all n xs past)
+-- of a list of those that pass
+module _ {X Z : Type 0} (q : X → Bool) (f : X → List Z) (xs : List X) (n : ℕ) (x : X) where
+  taken : n < length xs → x ≡ get_or xs n x → take (n + 1) xs ≡ take n xs ++ x ∷ []
+  taken within item = rw (add-one, take-suc xs n x within) (ap (λ y. take n xs ++ y ∷ []) (sym item))
 
-pub pushed-more : {X Y : Type 0} (f : X → Y) (xs : List X) (n : ℕ) (x : X) (old new : List Y) (y : Y) → n < length xs → x ≡ get_or xs n x
-    → old ≡ map f (take n xs) → new ≡ old ++ y ∷ [] → y ≡ f x → new ≡ map f (take (n + 1) xs)
-pushed-more f xs n x old new y within item so_far pushed is =
-    rw (add-one, take-suc xs n x within, map-append f (take n xs) (get_or xs n x ∷ []))
-    (pushed ∙ (λ i. so_far i ++ (is ∙ ap f item) i ∷ []))
+  pub taken-in : (old new : List Z) → n < length xs → x ≡ get_or xs n x → q x ≡ true → old ≡ flat_map f (filter q (take n xs)) → new ≡ old ++ f x
+      → new ≡ flat_map f (filter q (take (n + 1) xs))
+  taken-in old new within item passes so_far more =
+      let one : filter q (x ∷ []) ≡ x ∷ [] = rw passes refl in
+      more ∙ (λ i. so_far i ++ sym (append-nil (f x)) i) ∙ sym (flat_map-append f (filter q (take n xs)) (x ∷ []))
+      ∙ ap (λ l. flat_map f (filter q (take n xs) ++ l)) (sym one) ∙ ap (flat_map f) (sym (filter-append q (take n xs) (x ∷ [])))
+      ∙ ap (λ l. flat_map f (filter q l)) (sym (taken within item))
+
+  pub left-out : (old : List Z) → n < length xs → x ≡ get_or xs n x → q x ≡ false → old ≡ flat_map f (filter q (take n xs)) → old ≡ flat_map f (filter q (take (n + 1) xs))
+  left-out old within item fails so_far =
+      let none : filter q (x ∷ []) ≡ [] = rw fails refl in
+      so_far ∙ ap (flat_map f) (sym (append-nil (filter q (take n xs))) ∙ ap (λ l. filter q (take n xs) ++ l) (sym none) ∙ sym (filter-append q (take n xs) (x ∷ []))
+      ∙ ap (filter q) (sym (taken within item)))
 
 -- ---- counts

@@ -1,11 +1,13 @@
 -- Lines that grow by a field at a time.
-use Rattle.std.proofs.Common.{codes, ◌≡◌, ◌<◌, ◌≤◌, ◌+◌, ◌++◌, ◌∙◌, ℕ, zero, suc, List, [], ◌∷◌, length, map, take, get_or, add-one, append_assoc, append-nil, Option, refl, sym, ap, arith}
-use Rattle.std.specs.Prelude.{min, zip}
+use Rattle.std.proofs.Common.{codes, ◌≡◌, ◌<◌, ◌≤◌, ◌+◌, ◌++◌, ◌∙◌, ℕ, zero, suc, List, [], ◌∷◌, length, map, take, get_or, add-one, append_assoc, append-nil, cond, Option, Result, Ok, Err, refl, sym, ap, arith}
+use Rattle.std.specs.Prelude.{OnOk, is_ok, min, zip}
 use Rattle.std.specs.List.{flat_map}
 use Rattle.std.proofs.Math.Seq.{take-suc}
 use Rattle.std.proofs.lemmas.List.{take_all}
 use Rattle.std.proofs.lemmas.List.Folds.{flat_map-map as each-mapped}
-use Rattle.gtfs_board.specs.Timetable.{Run, Sheet, sheet_text, stop_text, tabbed, title_text, trips_text}
+use Rattle.gtfs_field.specs.Canonical.{date_text}
+use Rattle.gtfs_board.specs.Timetable.{Run, Sheet, direction_shown, sheet_text, stop_text, tabbed, title_text, trips_text}
+use Rattle.gtfs_board.proofs.Joined.{joined}
 
 each-append : {X : Type 0} (f : X → List ℕ) (xs : List X) (x : X) → flat_map f (xs ++ x ∷ []) ≡ flat_map f xs ++ f x
 each-append f [] x = append-nil (f x)
@@ -30,6 +32,35 @@ line-ends f g xs ys old start mid new end all so_far last =
     let shown : flat_map (λ x. f (g x)) ys ≡ flat_map f (map g xs) = ap (flat_map (λ x. f (g x))) all ∙ sym (each-mapped f g xs) in
     last ∙ ap (λ t. t ++ end) so_far ∙ append_assoc old (start ++ flat_map (λ x. f (g x)) ys) end
     ∙ ap (λ t. old ++ t) (append_assoc start (flat_map (λ x. f (g x)) ys) end) ∙ ap (λ t. old ++ (start ++ (t ++ end))) shown
+
+-- ---- pieces
+
+-- the last piece, where there is memory for it
+pub pushed : {A E : Type 0} (r : Result A E) (P : Type 0) (mid new piece : List ℕ) → new ≡ cond (is_ok r) (mid ++ piece) mid → (new ≡ mid ++ piece → P) → OnOk r P
+pushed (Ok x) P mid new piece is whole = whole is
+pushed (Err e) P mid new piece is whole = tt
+
+pub after : {A E : Type 0} (r : Result A E) (old start mid new piece : List ℕ) → mid ≡ old ++ start → OnOk r (new ≡ mid ++ piece) → OnOk r (new ≡ old ++ (start ++ piece))
+after (Ok x) old start mid new piece so_far more = joined old mid new start piece so_far more
+after (Err e) old start mid new piece so_far more = tt
+
+-- ---- the first line
+
+pub title-joined : (s : Sheet) (old a b c d e f new : List ℕ)
+    → a ≡ old ++ codes "== " → b ≡ a ++ s.route → c ≡ b ++ codes " " → d ≡ c ++ direction_shown s.direction → e ≡ d ++ codes " " → f ≡ e ++ date_text s.day
+    → new ≡ f ++ codes "\n" → new ≡ old ++ title_text s
+title-joined s old a b c d e f new marked routed spaced directed parted dated ended =
+    let route : List ℕ = codes "== " ++ s.route in
+    let space : List ℕ = route ++ codes " " in
+    let direction : List ℕ = space ++ direction_shown s.direction in
+    let part : List ℕ = direction ++ codes " " in
+    let date : List ℕ = part ++ date_text s.day in
+    joined old f new date (codes "\n")
+    (joined old e f part (date_text s.day)
+    (joined old d e direction (codes " ")
+    (joined old c d space (direction_shown s.direction)
+    (joined old b c route (codes " ")
+    (joined old a b (codes "== ") s.route marked routed) spaced) directed) parted) dated) ended
 
 -- ---- two lists side by side
 

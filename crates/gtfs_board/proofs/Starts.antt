@@ -1,5 +1,5 @@
 -- The first day that can hold an event at or above a low mark.
-use Rattle.std.proofs.Common.{◌≡◌, inl, inr, arith, w64, SFits}
+use Rattle.std.proofs.Common.{◌≡◌, inl, inr, arith, w32, w64, SFits}
 use Rattle.std.specs.Prelude.{ℤ, pos, negsuc, ◌+ℤ◌, ◌-ℤ◌, ◌*ℤ◌, ◌≤ℤ◌, ◌<ℤ◌}
 use Rattle.std.specs.Int.{int_max, int_min, int_div_euclid}
 use Rattle.std.proofs.lemmas.Int.{ints, clamps}
@@ -34,3 +34,13 @@ start_day low first last q day to above below is = record {
     | inr since ↦ inr (omega (arith, ints, clamps, since, before, is, below))
   ];
 }
+
+-- the days that can be asked for are small
+pub top_fits : (first last : ℤ) → negsuc 2_999_999 ≤ℤ first → first ≤ℤ last → last ≤ℤ pos 3_000_000 → SFits w64 (last +ℤ pos 1)
+top_fits first last low to high = omega (arith, ints, low, to, high)
+
+pub day_within : (first last q day : ℤ) → first ≤ℤ last → day ≡ int_max first (int_min q (last +ℤ pos 1)) → (first ≤ℤ day) × (day ≤ℤ (last +ℤ pos 1))
+day_within first last q day to is = (omega (arith, ints, clamps, is, to), omega (arith, ints, clamps, is, to))
+
+pub day_fits : (first last day : ℤ) → negsuc 2_999_999 ≤ℤ first → last ≤ℤ pos 3_000_000 → first ≤ℤ day → day ≤ℤ (last +ℤ pos 1) → SFits w32 day
+day_fits first last day low high from to = omega (arith, ints, low, high, from, to)

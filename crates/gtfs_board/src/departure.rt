@@ -4,7 +4,7 @@ ghost use Rattle.gtfs_board.specs.Lines.{mark_text};
 use crate::key::Key;
 
 /// How the line of a departure is marked.
-#[derive(Clone, Copy, Debug, PartialEq, Eq)]
+#[derive(Clone, Copy, PartialEq, Eq)]
 pub enum Mark {
     /// `s`: the run keeps a timetable.
     Scheduled,
@@ -26,7 +26,7 @@ impl Mark {
 }
 
 /// A departure as a board lists it. The feed lends its texts.
-#[derive(Clone, Copy, Debug, PartialEq, Eq)]
+#[derive(Clone, Copy)]
 pub struct Departure<'a> {
     /// Its position on the board.
     pub key: Key<'a>,

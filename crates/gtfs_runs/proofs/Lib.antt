@@ -11,6 +11,7 @@ mod Grouping
 pub mod Orders
 mod PlaceFacts
 mod PatternExamples
+pub mod Pushes
 pub mod Runs
 pub mod RowEvents
 mod RowsSoFar

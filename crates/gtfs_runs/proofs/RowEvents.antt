@@ -11,6 +11,7 @@ use Rattle.gtfs_field.proofs.NumberFacts.{number_itself as itself}
 use Rattle.gtfs_field.proofs.ListFacts.{some_of}
 use Rattle.gtfs_columns.specs.Values.{if_there}
 use Rattle.gtfs_rows.specs.declared.frequency.Frequency.{Frequency}
+use Rattle.gtfs_rows.specs.declared.numbers.ServiceNo.{ServiceNo}
 use Rattle.gtfs_rows.specs.declared.parts.Parts.{Parts}
 use Rattle.gtfs_rows.specs.declared.stop_row.StopRow.{StopRow}
 use Rattle.gtfs_rows.specs.declared.trip.Trip.{Trip}
@@ -29,6 +30,104 @@ use Rattle.gtfs_runs.proofs.ContentEvents.{event_is, is_at, no_event}
 use Rattle.gtfs_runs.proofs.Counting.{same-is, same-self, tally-map}
 use Rattle.gtfs_runs.proofs.Tallies.{tally-and, tally-same}
 
+-- ---- over plain tests
+
+module _ (passes : ℕ → ℕ) (service : ServiceNo) (t seq n k : ℕ) (e : Event) where
+  -- the event of a run that has these values
+  abbrev made : ℕ → Served
+  made r = (service, record { at = passes r; trip = record { 0 = t }; run = r; seq = seq; row = n })
+
+  -- what an event says beside its run
+  abbrev says_of : Event → Bool
+  says_of x = (service.0 == k) && (x.trip.0 == t) && (x.row == n) && (seq == x.seq) && (passes x.run == x.at)
+
+  served_is : (r : ℕ) → is_served k e (made r) ≡ ((e.run == r) && says_of e)
+  served_is r = both_ways (is_served k e (made r)) ((e.run == r) && says_of e) to from
+    where
+      to : is_served k e (made r) ≡ true → ((e.run == r) && says_of e) ≡ true
+      to holds =
+          let a = and_parts (service.0 == k) (is_same e (made r).1) holds in
+          subst (λ x. ((x.run == r) && says_of x) ≡ true) (sym (same-is e (made r).1 a.1))
+          (both_true (itself r) (both_true (both_true (both_true (both_true a.0 (itself t)) (itself n)) (itself seq)) (itself (passes r))))
+
+      from : ((e.run == r) && says_of e) ≡ true → is_served k e (made r) ≡ true
+      from holds =
+          let own = service.0 == k in
+          let trip = e.trip.0 == t in
+          let numbered = e.row == n in
+          let a = and_parts (e.run == r) (says_of e) holds in
+          let b = and_parts (own && trip && numbered && (seq == e.seq)) (passes e.run == e.at) a.1 in
+          let c = and_parts (own && trip && numbered) (seq == e.seq) b.0 in
+          let d = and_parts (own && trip) numbered c.0 in
+          let f = and_parts own trip d.0 in
+          let run : e.run ≡ r = eqb-true e.run r a.0 in
+          let at : e.at ≡ passes r = sym (eqb-true (passes e.run) e.at b.1) ∙ ap passes run in
+          let trips : e.trip.0 ≡ t = eqb-true e.trip.0 t f.1 in
+          let seqs : e.seq ≡ seq = sym (eqb-true seq e.seq c.1) in
+          let rows : e.row ≡ n = eqb-true e.row n d.1 in
+          let is : e ≡ (made r).1 = λ i. record { at = at i; trip = record { 0 = trips i }; run = run i; seq = seqs i; row = rows i } in
+          both_true f.0 (subst (λ x. is_same e x ≡ true) is (same-self e))
+
+  -- how often an event is told where one is told for each run
+  told : (starts : List ℕ) (runs leaves event : Bool) → event ≡ (runs && leaves && says_of e) → leaves ≡ true → tally (λ y. e.run == y) starts ≡ cond runs 1 0
+      → tally (is_served k e) (map made starts) ≡ cond event 1 0
+  told starts runs leaves event is boards known =
+      tally-map (is_served k e) made starts ∙ tally-same (λ r. is_served k e (made r)) (λ r. (e.run == r) && says_of e) starts served_is
+      ∙ tally-and (λ r. e.run == r) (says_of e) starts ∙ ap (λ m. cond (says_of e) m 0) known ∙ both runs (says_of e)
+      ∙ ap (λ b. cond (runs && b && says_of e) 1 0) (sym boards) ∙ ap (λ b. cond b 1 0) (sym is)
+    where
+      both : (a b : Bool) → ◌≡◌ {A = ℕ} (cond b (cond a 1 0) 0) (cond (a && true && b) 1 0)
+      both true true = refl
+      both true false = refl
+      both false true = refl
+      both false false = refl
+
+-- an event of the trip at the stop time is that of one of its runs, if riders can leave the place
+leaves_if : (trip numbered inside event service runs seq departs flag pass : Bool)
+    → (inside ≡ true → trip ≡ true → numbered ≡ true → event ≡ (service && runs && (seq && departs && flag && pass))) → (service ≡ true → inside ≡ true)
+    → (trip && numbered && (inside && event)) ≡ (runs && (departs && flag) && (service && trip && numbered && seq && pass))
+leaves_if trip numbered inside event service runs seq departs flag pass own within =
+    both_ways (trip && numbered && (inside && event)) (runs && (departs && flag) && (service && trip && numbered && seq && pass)) to from
+  where
+    to : (trip && numbered && (inside && event)) ≡ true → (runs && (departs && flag) && (service && trip && numbered && seq && pass)) ≡ true
+    to holds =
+        let a = and_parts (trip && numbered) (inside && event) holds in
+        let b = and_parts trip numbered a.0 in
+        let c = and_parts inside event a.1 in
+        let d = and_parts (service && runs) (seq && departs && flag && pass) (sym (own c.0 b.0 b.1) ∙ c.1) in
+        let f = and_parts service runs d.0 in
+        let g = and_parts (seq && departs && flag) pass d.1 in
+        let h = and_parts (seq && departs) flag g.0 in
+        let j = and_parts seq departs h.0 in
+        both_true (both_true f.1 (both_true j.1 h.1)) (both_true (both_true (both_true (both_true f.0 b.0) b.1) j.0) g.1)
+
+    from : (runs && (departs && flag) && (service && trip && numbered && seq && pass)) ≡ true → (trip && numbered && (inside && event)) ≡ true
+    from holds =
+        let a = and_parts (runs && (departs && flag)) (service && trip && numbered && seq && pass) holds in
+        let r = and_parts runs (departs && flag) a.0 in
+        let l = and_parts departs flag r.1 in
+        let b = and_parts (service && trip && numbered && seq) pass a.1 in
+        let c = and_parts (service && trip && numbered) seq b.0 in
+        let d = and_parts (service && trip) numbered c.0 in
+        let f = and_parts service trip d.0 in
+        let is = own (within f.0) f.1 d.1 ∙ both_true (both_true f.0 r.0) (both_true (both_true (both_true c.1 l.0) l.1) b.1) in
+        both_true (both_true f.1 d.1) (both_true (within f.0) is)
+
+-- what an event says of its stop time holds of one of the trip's
+own_row : (trip inside event own here : Bool) → (inside ≡ true → trip ≡ true → event ≡ (own && here)) → (trip && (inside && event)) ≡ true → here ≡ true
+own_row trip inside event own here is holds =
+    let a = and_parts trip (inside && event) holds in
+    let b = and_parts inside event a.1 in
+    (and_parts own here (sym (is b.0 a.0) ∙ b.1)).1
+
+-- none is told where riders cannot leave the place
+untold : (runs leaves says event : Bool) → event ≡ (runs && leaves && says) → leaves ≡ false → event ≡ false
+untold runs leaves says event is stays = is ∙ ap (λ b. runs && b && says) stays ∙ never runs says
+  where
+    never : (a b : Bool) → (a && false && b) ≡ false
+    never true b = refl
+    never false b = refl
+
 -- ---- a stop time of a trip
 
 -- riders can leave the place at the stop time
@@ -39,22 +138,20 @@ module _ (p : Parts) (sound : IsSoundParts p) (s t : ℕ) (row : Trip) (rs : Lis
     (at_trip : slice_get p.trips t ≡ Some row) (at_rows : slice_get (stop_rows_by_trip p) t ≡ Some rs) (at_periods : slice_get (frequencies_by_trip p) t ≡ Some fs)
     (known : All (λ r. r.stop_id.0 < length p.stops) rs) where
   -- the event belongs to the trip's service, one of its runs and one of its stop times
-  own_event : (k : ℕ) (e : Event) → k < length p.services → e.trip.0 ≡ t
+  own_event : (k : ℕ) (e : Event) → nat_lt k (length p.services) ≡ true → (e.trip.0 == t) ≡ true
       → is_event (content_of_parts p) (text_of_number (stop_ids p) s) (text_of_number (service_ids p) k) e
       ≡ ((row.service_id.0 == k) && is_run (trip_of p row rs fs) e.run && if_there (slice_get rs e.row) (is_at p s row rs fs e))
-  own_event k e within same =
-      event_is p sound s k row rs fs e within (subst (λ n. slice_get p.trips n ≡ Some row) (sym same) at_trip)
+  own_event k e inside trip =
+      let same : e.trip.0 ≡ t = eqb-true e.trip.0 t trip in
+      event_is p sound s k row rs fs e (ltb-true k (length p.services) inside) (subst (λ n. slice_get p.trips n ≡ Some row) (sym same) at_trip)
       (subst (λ n. slice_get (stop_rows_by_trip p) n ≡ Some rs) (sym same) at_rows) (subst (λ n. slice_get (frequencies_by_trip p) n ≡ Some fs) (sym same) at_periods) known
 
   -- its row is one of the trip's
   pub row_known : (k : ℕ) (e : Event) → ((e.trip.0 == t) && is_event_of p s k e) ≡ true → e.row < length rs
   row_known k e holds =
-      let a = and_parts (e.trip.0 == t) (is_event_of p s k e) holds in
-      let event = is_event (content_of_parts p) (text_of_number (stop_ids p) s) (text_of_number (service_ids p) k) e in
-      let b = and_parts (nat_lt k (length p.services)) event a.1 in
-      let is = sym (own_event k e (ltb-true k (length p.services) b.0) (eqb-true e.trip.0 t a.0)) ∙ b.1 in
-      let c = and_parts ((row.service_id.0 == k) && is_run (trip_of p row rs fs) e.run) (if_there (slice_get rs e.row) (is_at p s row rs fs e)) is in
-      there (slice_get rs e.row) refl c.1
+      there (slice_get rs e.row) refl
+      (own_row (e.trip.0 == t) (nat_lt k (length p.services)) (is_event (content_of_parts p) (text_of_number (stop_ids p) s) (text_of_number (service_ids p) k) e)
+      ((row.service_id.0 == k) && is_run (trip_of p row rs fs) e.run) (if_there (slice_get rs e.row) (is_at p s row rs fs e)) (own_event k e) holds)
     where
       there : (o : Option StopRow) → slice_get rs e.row ≡ o → if_there o (is_at p s row rs fs e) ≡ true → e.row < length rs
       there None at none = cc
@@ -65,107 +162,25 @@ module _ (p : Parts) (sound : IsSoundParts p) (s t : ℕ) (row : Trip) (rs : Lis
     abbrev says : ℕ → Event → Bool
     says k e = (row.service_id.0 == k) && (e.trip.0 == t) && (e.row == n) && (x.stop_sequence == e.seq) && (passes_at (trip_of p row rs fs) e.run (stop_row_of p x) == e.at)
 
-    abbrev here : ℕ → Served
-    here = served_at p row rs fs t n x
-
-    abbrev leaves : Bool
-    leaves = leaves_here p s row rs fs x
-
-    one_event : (k : ℕ) (e : Event) (r : ℕ) → is_served k e (here r) ≡ ((e.run == r) && says k e)
-    one_event k e r = both_ways (is_served k e (here r)) ((e.run == r) && says k e) to from
-      where
-        to : is_served k e (here r) ≡ true → ((e.run == r) && says k e) ≡ true
-        to holds =
-            let a = and_parts (row.service_id.0 == k) (is_same e (here r).1) holds in
-            subst (λ y. ((y.run == r) && says k y) ≡ true) (sym (same-is e (here r).1 a.1))
-            (both_true (itself r) (both_true (both_true (both_true (both_true a.0 (itself t)) (itself n)) (itself x.stop_sequence)) (itself (passes_at (trip_of p row rs fs) r (stop_row_of p x)))))
-
-        from : ((e.run == r) && says k e) ≡ true → is_served k e (here r) ≡ true
-        from holds =
-            let service = row.service_id.0 == k in
-            let trip = e.trip.0 == t in
-            let numbered = e.row == n in
-            let seq = x.stop_sequence == e.seq in
-            let pass = passes_at (trip_of p row rs fs) e.run (stop_row_of p x) == e.at in
-            let a = and_parts (e.run == r) (says k e) holds in
-            let b = and_parts (service && trip && numbered && seq) pass a.1 in
-            let c = and_parts (service && trip && numbered) seq b.0 in
-            let d = and_parts (service && trip) numbered c.0 in
-            let f = and_parts service trip d.0 in
-            let run : e.run ≡ r = eqb-true e.run r a.0 in
-            let at : e.at ≡ passes_at (trip_of p row rs fs) r (stop_row_of p x) = sym (eqb-true _ e.at b.1) ∙ ap (λ q. passes_at (trip_of p row rs fs) q (stop_row_of p x)) run in
-            let trips : e.trip.0 ≡ t = eqb-true e.trip.0 t f.1 in
-            let seqs : e.seq ≡ x.stop_sequence = sym (eqb-true x.stop_sequence e.seq c.1) in
-            let rows : e.row ≡ n = eqb-true e.row n d.1 in
-            let is : e ≡ (here r).1 = λ i. record { at = at i; trip = record { 0 = trips i }; run = run i; seq = seqs i; row = rows i } in
-            both_true f.0 (subst (λ y. is_same e y ≡ true) is (same-self e))
-
-    -- an event of the trip here is that of one of its runs, if riders can leave the place
-    event_if : (k : ℕ) (e : Event) → ((e.trip.0 == t) && (e.row == n) && is_event_of p s k e) ≡ (is_run (trip_of p row rs fs) e.run && leaves && says k e)
-    event_if k e = both_ways ((e.trip.0 == t) && (e.row == n) && is_event_of p s k e) (is_run (trip_of p row rs fs) e.run && leaves && says k e) to from
-      where
-        to : ((e.trip.0 == t) && (e.row == n) && is_event_of p s k e) ≡ true → (is_run (trip_of p row rs fs) e.run && leaves && says k e) ≡ true
-        to holds =
-            let service = row.service_id.0 == k in
-            let seq = x.stop_sequence == e.seq in
-            let pass = passes_at (trip_of p row rs fs) e.run (stop_row_of p x) == e.at in
-            let departs = is_departure_row (trip_of p row rs fs) (stop_row_of p x) in
-            let flag = get_or (members (content_of_parts p) (text_of_number (stop_ids p) s)) x.stop_id.0 false in
-            let a = and_parts ((e.trip.0 == t) && (e.row == n)) (is_event_of p s k e) holds in
-            let b = and_parts (e.trip.0 == t) (e.row == n) a.0 in
-            let c = and_parts (nat_lt k (length p.services)) (is_event (content_of_parts p) (text_of_number (stop_ids p) s) (text_of_number (service_ids p) k) e) a.1 in
-            let is = sym (own_event k e (ltb-true k (length p.services) c.0) (eqb-true e.trip.0 t b.0)) ∙ c.1 in
-            let d = and_parts (service && is_run (trip_of p row rs fs) e.run) (if_there (slice_get rs e.row) (is_at p s row rs fs e)) is in
-            let f = and_parts service (is_run (trip_of p row rs fs) e.run) d.0 in
-            let at : is_at p s row rs fs e x ≡ true = subst (λ o. if_there o (is_at p s row rs fs e) ≡ true) (ap (slice_get rs) (eqb-true e.row n b.1) ∙ at_row) d.1 in
-            let g = and_parts (seq && departs && flag) pass at in
-            let h = and_parts (seq && departs) flag g.0 in
-            let j = and_parts seq departs h.0 in
-            both_true (both_true f.1 (both_true j.1 h.1)) (both_true (both_true (both_true (both_true f.0 b.0) b.1) j.0) g.1)
-
-        from : (is_run (trip_of p row rs fs) e.run && leaves && says k e) ≡ true → ((e.trip.0 == t) && (e.row == n) && is_event_of p s k e) ≡ true
-        from holds =
-            let service = row.service_id.0 == k in
-            let trip = e.trip.0 == t in
-            let numbered = e.row == n in
-            let seq = x.stop_sequence == e.seq in
-            let pass = passes_at (trip_of p row rs fs) e.run (stop_row_of p x) == e.at in
-            let departs = is_departure_row (trip_of p row rs fs) (stop_row_of p x) in
-            let flag = get_or (members (content_of_parts p) (text_of_number (stop_ids p) s)) x.stop_id.0 false in
-            let a = and_parts (is_run (trip_of p row rs fs) e.run && leaves) (says k e) holds in
-            let r = and_parts (is_run (trip_of p row rs fs) e.run) leaves a.0 in
-            let l = and_parts departs flag r.1 in
-            let b = and_parts (service && trip && numbered && seq) pass a.1 in
-            let c = and_parts (service && trip && numbered) seq b.0 in
-            let d = and_parts (service && trip) numbered c.0 in
-            let f = and_parts service trip d.0 in
-            let within : k < length p.services = subst (λ m. m < length p.services) (eqb-true row.service_id.0 k f.0) (trip_service p sound t row at_trip) in
-            let at : if_there (slice_get rs e.row) (is_at p s row rs fs e) ≡ true =
-            subst (λ o. if_there o (is_at p s row rs fs e) ≡ true) (sym (ap (slice_get rs) (eqb-true e.row n d.1) ∙ at_row)) (both_true (both_true (both_true c.1 l.0) l.1) b.1) in
-            let is = own_event k e within (eqb-true e.trip.0 t f.1) ∙ both_true (both_true f.0 r.0) at in
-            both_true (both_true f.1 d.1) (both_true (lt-ltb k (length p.services) within) is)
+    event_if : (k : ℕ) (e : Event) → ((e.trip.0 == t) && (e.row == n) && is_event_of p s k e) ≡ (is_run (trip_of p row rs fs) e.run && leaves_here p s row rs fs x && says k e)
+    event_if k e =
+        let service = row.service_id.0 == k in
+        let runs = is_run (trip_of p row rs fs) e.run in
+        leaves_if (e.trip.0 == t) (e.row == n) (nat_lt k (length p.services)) (is_event (content_of_parts p) (text_of_number (stop_ids p) s) (text_of_number (service_ids p) k) e)
+        service runs (x.stop_sequence == e.seq) (is_departure_row (trip_of p row rs fs) (stop_row_of p x))
+        (get_or (members (content_of_parts p) (text_of_number (stop_ids p) s)) x.stop_id.0 false) (passes_at (trip_of p row rs fs) e.run (stop_row_of p x) == e.at)
+        (λ inside trip numbered. own_event k e inside trip ∙ ap (λ o. service && runs && if_there o (is_at p s row rs fs e)) (ap (slice_get rs) (eqb-true e.row n numbered) ∙ at_row))
+        (λ own. lt-ltb k (length p.services) (subst (λ m. m < length p.services) (eqb-true row.service_id.0 k own) (trip_service p sound t row at_trip)))
 
     -- the steps of the code
     pub row_pushed : (k : ℕ) (e : Event) (starts : List ℕ) → leaves_here p s row rs fs x ≡ true → ((r : ℕ) → tally (λ y. r == y) starts ≡ cond (is_run (trip_of p row rs fs) r) 1 0)
         → tally (is_served k e) (map (served_at p row rs fs t n x) starts) ≡ cond ((e.trip.0 == t) && (e.row == n) && is_event_of p s k e) 1 0
     row_pushed k e starts boards runs =
-        tally-map (is_served k e) here starts ∙ tally-same (λ r. is_served k e (here r)) (λ r. (e.run == r) && says k e) starts (one_event k e)
-        ∙ tally-and (λ r. e.run == r) (says k e) starts ∙ ap (λ m. cond (says k e) m 0) (runs e.run)
-        ∙ both (is_run (trip_of p row rs fs) e.run) (says k e) ∙ ap (λ b. cond (is_run (trip_of p row rs fs) e.run && b && says k e) 1 0) (sym boards)
-        ∙ ap (λ b. cond b 1 0) (sym (event_if k e))
-      where
-        both : (a b : Bool) → ◌≡◌ {A = ℕ} (cond b (cond a 1 0) 0) (cond (a && true && b) 1 0)
-        both true true = refl
-        both true false = refl
-        both false true = refl
-        both false false = refl
+        told (λ r. passes_at (trip_of p row rs fs) r (stop_row_of p x)) row.service_id t x.stop_sequence n k e starts
+        (is_run (trip_of p row rs fs) e.run) (leaves_here p s row rs fs x) ((e.trip.0 == t) && (e.row == n) && is_event_of p s k e) (event_if k e) boards (runs e.run)
 
     pub row_left : (k : ℕ) (e : Event) → leaves_here p s row rs fs x ≡ false → ((e.trip.0 == t) && (e.row == n) && is_event_of p s k e) ≡ false
-    row_left k e stays = event_if k e ∙ ap (λ b. is_run (trip_of p row rs fs) e.run && b && says k e) stays ∙ never (is_run (trip_of p row rs fs) e.run) (says k e)
-      where
-        never : (a b : Bool) → (a && false && b) ≡ false
-        never true b = refl
-        never false b = refl
+    row_left k e stays = untold (is_run (trip_of p row rs fs) e.run) (leaves_here p s row rs fs x) (says k e) ((e.trip.0 == t) && (e.row == n) && is_event_of p s k e) (event_if k e) stays
 
 -- the row of an event of a trip is one of the trip's
 pub row_of_trip : (p : Parts) (sound : IsSoundParts p) (s t k : ℕ) (rs : List StopRow) (e : Event) → slice_get (stop_rows_by_trip p) t ≡ Some rs

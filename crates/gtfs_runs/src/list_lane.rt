@@ -12,7 +12,7 @@ use gtfs_feed::Feed;
 use gtfs_rows::ServiceNo;
 
 /// The events of trips without frequencies that have one list of stops and one service, at one position in that list.
-#[derive(Debug, Drop)]
+#[derive(Drop)]
 pub struct ListLane {
     service: ServiceNo,
     events: Vec<Event>,

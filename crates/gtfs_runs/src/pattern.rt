@@ -10,7 +10,7 @@ use gtfs_rows::{Direction, RouteNo, StopNo, StopRow, TripNo};
 use std::alloc::Global;
 
 /// The trips of a route that go in one direction along one list of stops.
-#[derive(Debug, Drop)]
+#[derive(Drop)]
 pub struct Pattern {
     /// `direction_id` of the trips, 0 or 1, where they have one.
     pub direction: Option<u8>,

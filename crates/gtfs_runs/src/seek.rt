@@ -8,7 +8,7 @@ use gtfs_rows::TripNo;
 ///
 /// It may lie before the origin of a service day and past every event, and it need not be that of an event. The number
 /// of the first trip with a greater id, run 0 and sequence -1 stand for an id that no trip has.
-#[derive(Clone, Copy, Debug, PartialEq, Eq)]
+#[derive(Clone, Copy, Debug)]
 pub struct Seek {
     /// Seconds from the origin of the service day.
     pub at: i64,

@@ -18,7 +18,7 @@ use gtfs_rows::{Frequency, ServiceNo};
 /// The events of one row of `frequencies.txt` at one stop time of its trip: one for each run of the period.
 ///
 /// However many runs there are, it has a few dozen bytes, and a run is found by arithmetic.
-#[derive(Clone, Copy, Debug)]
+#[derive(Clone, Copy)]
 pub struct StepLane {
     service: ServiceNo,
     // The event of the first run.

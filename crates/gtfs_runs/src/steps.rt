@@ -5,7 +5,7 @@ use std::marker::Model;
 /// How often lanes were asked for a departure: a number that stays at the greatest of 64 bits.
 ///
 /// Only the lanes of a stop come with one, and nothing copies one, so nobody else can change what is told.
-#[derive(Debug, Drop)]
+#[derive(Drop)]
 pub struct Steps {
     count: u64,
 }

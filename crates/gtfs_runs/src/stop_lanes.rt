@@ -32,7 +32,7 @@ use std::marker::Model;
 /// Each run of a trip that passes a stop time there at which riders can leave is an event of one lane of the trip's
 /// service. Trips without frequencies that have one list of stops and one service share a lane for each position in that
 /// list; a row of `frequencies.txt` has one for each such stop time of its trip.
-#[derive(Debug, Drop)]
+#[derive(Drop)]
 pub struct StopLanes {
     lists: Vec<ListLane>,
     periods: Vec<StepLane>,

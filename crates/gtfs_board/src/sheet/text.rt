@@ -24,8 +24,7 @@ pub fn push_sheet(alloc: Global, text: &mut String, sheet: &Sheet<'_>) -> Result
     push_title(alloc, &mut whole, sheet)?;
     push_trips(&mut whole, sheet.runs.as_slice())?;
     push_stops(alloc, &mut whole, sheet)?;
-    text.push_str(whole.as_str())?;
-    Ok(())
+    text.push_str(whole.as_str())
 }
 
 // Appends the first line: the route, the direction and the date.
@@ -39,8 +38,7 @@ fn push_title(alloc: Global, text: &mut String, sheet: &Sheet<'_>) -> Result<(),
     push_direction(text, sheet.direction)?;
     text.push_str(" ")?;
     push_date(alloc, text, sheet.day)?;
-    text.push_str("\n")?;
-    Ok(())
+    text.push_str("\n")
 }
 
 // Appends a direction, or `-`.
@@ -63,8 +61,7 @@ fn push_trips(text: &mut String, runs: &[(u32, &str)]) -> Result<(), OutOfMemory
     for run in runs {
         push_field(text, run.1)?;
     }
-    text.push_str("\n")?;
-    Ok(())
+    text.push_str("\n")
 }
 
 // Appends a field and the tab before it.
@@ -72,8 +69,7 @@ fn push_field(text: &mut String, field: &str) -> Result<(), OutOfMemory>
     ensures { OnOk result (string_bytes text.new ≡ string_bytes text.old ++ after_tab field.now) }
 {
     text.push_str("\t")?;
-    text.push_str(field)?;
-    Ok(())
+    text.push_str(field)
 }
 
 // Appends the lines of the stops.
@@ -103,8 +99,7 @@ fn push_stop(
     for time in times {
         push_clock(alloc, text, *time)?;
     }
-    text.push_str("\n")?;
-    Ok(())
+    text.push_str("\n")
 }
 
 // Appends a tab and a time, or `-`.

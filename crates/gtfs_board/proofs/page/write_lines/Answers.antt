@@ -1,6 +1,18 @@
-use Rattle.std.proofs.Common.{◌∙◌, arith}
-use Rattle.gtfs_board.proofs.Pages.{counted-faults, faults-steps, page-faults, steps-more, written-more}
+use Rattle.std.proofs.Common.{◌∙◌, refl, arith}
+use Rattle.std.proofs.Math.Nat.{le_refl}
+use Rattle.gtfs_runs.proofs.Pushes.{none-done, none-made}
+use Rattle.gtfs_board.proofs.Pages.{all-left, counted-faults, faults-steps, page-ends, page-faults, page-full, rises-since, steps-done, steps-more, written-more}
 use Rattle.gtfs_board.proofs.page.write_lines.Goals as goal
+
+pub loop-lines-init : goal.loop-lines-init
+loop-lines-init g c = record {
+  written = all-left _ _ _;
+  within = omega arith;
+  zone = refl;
+  keeps = λ start kept. kept;
+  steps = omega arith;
+  no_failure = refl;
+}
 
 pub loop-lines-preserved : goal.loop-lines-preserved
 loop-lines-preserved g c =
@@ -16,16 +28,47 @@ loop-lines-preserved g c =
       no_failure = c.in_ok-write_next.ensures.no_failure ∙ h.no_failure;
     }
 
-pub returns-in_err-write_next-clause-fault : goal.returns-in_err-write_next-clause-fault
-returns-in_err-write_next-clause-fault g c =
+pub returns-in_err-write_next : goal.returns-in_err-write_next
+returns-in_err-write_next g c =
     let h = c.loop-lines.invariant in
-    page-faults c.from_residual.result _ _ _ _ _ _ _ _ _ _ _ c.from_residual.ensures.1 h.written h.zone c.loop-lines-test.true c.in_err-write_next.ensures.fault
+    let failed = c.from_residual.ensures.1 in
+    record {
+      page = none-made c.from_residual.result _ _ failed;
+      fault = page-faults c.from_residual.result _ _ _ _ _ _ _ _ _ _ _ failed h.written h.zone c.loop-lines-test.true c.in_err-write_next.ensures.fault;
+      counted = counted-faults c.from_residual.result _ _ _ _ failed h.no_failure c.in_err-write_next.ensures.counted;
+      grows = rises-since _ _ _ h.no_failure c.write_next.ensures.grows;
+      no_failure = none-done c.from_residual.result _ _ failed;
+      keeps = λ start kept. c.write_next.ensures.keeps start (h.keeps start kept);
+      steps = none-made c.from_residual.result _ _ failed;
+      fault_steps = faults-steps c.from_residual.result _ _ _ _ _ _ _ _ _ _ _ _ _ failed h.written h.steps c.in_err-write_next.ensures.fault c.in_err-write_next.ensures.fault_steps;
+    }
 
-pub returns-in_err-write_next-clause-counted : goal.returns-in_err-write_next-clause-counted
-returns-in_err-write_next-clause-counted g c =
-    counted-faults c.from_residual.result _ _ _ _ c.from_residual.ensures.1 c.loop-lines.invariant.no_failure c.in_err-write_next.ensures.counted
-
-pub returns-in_err-write_next-clause-fault_steps : goal.returns-in_err-write_next-clause-fault_steps
-returns-in_err-write_next-clause-fault_steps g c =
+pub returns-then-not-branch : goal.returns-then-not-branch
+returns-then-not-branch g c =
     let h = c.loop-lines.invariant in
-    faults-steps c.from_residual.result _ _ _ _ _ _ _ _ _ _ _ _ _ c.from_residual.ensures.1 h.written h.steps c.in_err-write_next.ensures.fault c.in_err-write_next.ensures.fault_steps
+    let sent = rw (h.zone, c.if-not-branch.true) at c.in_ok-write_next.ensures.sent in
+    let steps = rw c.if-not-branch.true at c.in_ok-write_next.ensures.steps in
+    record {
+      page = page-ends _ _ _ _ _ _ _ _ _ h.written sent c.loop-lines-test.true;
+      fault = tt;
+      counted = tt;
+      grows = rises-since _ _ _ h.no_failure c.write_next.ensures.grows;
+      no_failure = c.in_ok-write_next.ensures.no_failure ∙ h.no_failure;
+      keeps = λ start kept. c.write_next.ensures.keeps start (h.keeps start kept);
+      steps = steps-done _ _ _ _ h.steps steps;
+      fault_steps = tt;
+    }
+
+pub returns : goal.returns
+returns g c =
+    let h = c.loop-lines.invariant in
+    record {
+      page = page-full _ _ _ _ _ _ _ h.written h.within c.loop-lines-test.false;
+      fault = tt;
+      counted = tt;
+      grows = rises-since _ _ _ h.no_failure (le_refl _);
+      no_failure = h.no_failure;
+      keeps = h.keeps;
+      steps = h.steps;
+      fault_steps = tt;
+    }

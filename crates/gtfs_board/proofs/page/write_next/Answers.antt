@@ -1,43 +1,81 @@
 use Rattle.std.proofs.Common.{◌∙◌, refl}
+use Rattle.std.proofs.Math.Nat.{le_refl}
 use Rattle.gtfs_board.specs.Lent.{listed}
-use Rattle.gtfs_board.proofs.Pages.{line-refused, line-unmade, line-sent, line-cut, on-ok, refused-steps}
+use Rattle.gtfs_board.proofs.Pages.{line-none, line-refused, line-unmade, line-sent, line-cut, on-ok, refused-steps}
 use Rattle.gtfs_board.proofs.page.write_next.Goals as goal
 
-pub returns-in-Err-clause-fault : goal.returns-in-Err-clause-fault
-returns-in-Err-clause-fault g c = (refl, line-refused _ _ _ _ c.in-Err.ensures.refused)
+pub returns-in-Ok-None : goal.returns-in-Ok-None
+returns-in-Ok-None g c =
+    let next = rw c.in-Ok-None.field-0-is at c.in-Ok-None.ensures in
+    record {
+      sent = line-none _ _ _ _ next.first.0 next.first.1;
+      fault = tt;
+      counted = tt;
+      grows = le_refl _;
+      no_failure = refl;
+      zone = c.next.ensures.zone;
+      keeps = c.next.ensures.keeps;
+      steps = next.steps;
+      fault_steps = tt;
+    }
 
-pub returns-in-Err-clause-fault_steps : goal.returns-in-Err-clause-fault_steps
-returns-in-Err-clause-fault_steps g c = refused-steps _ _ _ _ c.in-Err.ensures.refused
+pub returns-in-Err : goal.returns-in-Err
+returns-in-Err g c = record {
+  sent = tt;
+  fault = (refl, line-refused _ _ _ _ c.in-Err.ensures.refused);
+  counted = refl;
+  grows = le_refl _;
+  no_failure = tt;
+  zone = c.next.ensures.zone;
+  keeps = c.next.ensures.keeps;
+  steps = tt;
+  fault_steps = refused-steps _ _ _ _ c.in-Err.ensures.refused;
+}
 
-pub returns-then-is_err-clause-fault_steps : goal.returns-then-is_err-clause-fault_steps
-returns-then-is_err-clause-fault_steps g c =
+pub returns-then-is_err : goal.returns-then-is_err
+returns-then-is_err g c =
     let next = rw c.in-Ok-Some.field-0-is at c.in-Ok-Some.ensures in
-    λ gone. next.steps
+    record {
+      sent = tt;
+      fault = (refl, line-unmade _ _ _ (listed c.in-Ok-Some.departure) _ next.first);
+      counted = refl;
+      grows = le_refl _;
+      no_failure = tt;
+      zone = c.next.ensures.zone;
+      keeps = c.next.ensures.keeps;
+      steps = tt;
+      fault_steps = λ gone. next.steps;
+    }
 
-pub returns-then-is_err-clause-fault : goal.returns-then-is_err-clause-fault
-returns-then-is_err-clause-fault g c =
-    let next = rw c.in-Ok-Some.field-0-is at c.in-Ok-Some.ensures in
-    (refl, line-unmade _ _ _ (listed c.in-Ok-Some.departure) _ next.first)
-
-pub returns-in-Ok-clause-sent : goal.returns-in-Ok-clause-sent
-returns-in-Ok-clause-sent g c =
+pub returns-in-Ok : goal.returns-in-Ok
+returns-in-Ok g c =
     let next = rw c.in-Ok-Some.field-0-is at c.in-Ok-Some.ensures in
     let line = on-ok c.push_line.result _ c.if-is_err.ensures.value c.push_line.ensures.appended in
-    line-sent _ _ _ _ _ _ _ _ _ _ next.first (c.zone.ensures ∙ c.next.ensures.zone) c.clear.ensures.bytes line c.as_bytes.ensures.value c.in-Ok.ensures.whole
+    record {
+      sent = line-sent _ _ _ _ _ _ _ _ _ _ next.first (c.zone.ensures ∙ c.next.ensures.zone) c.clear.ensures.bytes line c.as_bytes.ensures.value c.in-Ok.ensures.whole;
+      fault = tt;
+      counted = tt;
+      grows = c.write_text.ensures.grows;
+      no_failure = c.in-Ok.ensures.no_failure;
+      zone = c.next.ensures.zone;
+      keeps = c.next.ensures.keeps;
+      steps = next.steps;
+      fault_steps = tt;
+    }
 
-pub returns-in-Ok-clause-steps : goal.returns-in-Ok-clause-steps
-returns-in-Ok-clause-steps g c =
-    let next = rw c.in-Ok-Some.field-0-is at c.in-Ok-Some.ensures in
-    next.steps
-
-pub returns-in-Err-write_text-clause-fault_steps : goal.returns-in-Err-write_text-clause-fault_steps
-returns-in-Err-write_text-clause-fault_steps g c =
-    let next = rw c.in-Ok-Some.field-0-is at c.in-Ok-Some.ensures in
-    next.steps
-
-pub returns-in-Err-write_text-clause-fault : goal.returns-in-Err-write_text-clause-fault
-returns-in-Err-write_text-clause-fault g c =
+pub returns-in-Err-write_text : goal.returns-in-Err-write_text
+returns-in-Err-write_text g c =
     let next = rw c.in-Ok-Some.field-0-is at c.in-Ok-Some.ensures in
     let line = on-ok c.push_line.result _ c.if-is_err.ensures.value c.push_line.ensures.appended in
     let cut = c.in-Err-write_text.ensures in
-    (refl, line-cut _ _ _ _ _ _ _ _ _ _ _ next.first (c.zone.ensures ∙ c.next.ensures.zone) c.clear.ensures.bytes line c.as_bytes.ensures.value cut.prefix cut.within)
+    record {
+      sent = tt;
+      fault = (refl, line-cut _ _ _ _ _ _ _ _ _ _ _ next.first (c.zone.ensures ∙ c.next.ensures.zone) c.clear.ensures.bytes line c.as_bytes.ensures.value cut.prefix cut.within);
+      counted = cut.counted;
+      grows = c.write_text.ensures.grows;
+      no_failure = tt;
+      zone = c.next.ensures.zone;
+      keeps = c.next.ensures.keeps;
+      steps = tt;
+      fault_steps = next.steps;
+    }

@@ -1,9 +1,10 @@
 use Rattle.std.proofs.Common.{rules, ◌≡◌, ◌++◌, w32, w64, SFits, to_z, of_z, arith, refl, ◌∙◌, ap, heap_items}
 use Rattle.std.specs.Prelude.{pos, ◌+ℤ◌, ◌≤ℤ◌}
 use Rattle.std.specs.Option.{option_to_list}
+use Rattle.std.proofs.Math.Nat.{le_refl}
 use Rattle.std.proofs.lemmas.Int.{to_z-of_z, ints}
 use Rattle.gtfs_board.specs.merge.Candidates.{least_from}
-use Rattle.gtfs_board.proofs.Ints.{closer, up_more, le_chain}
+use Rattle.gtfs_board.proofs.Ints.{after_within, day_after, days_left, le_chain, up_more}
 use Rattle.gtfs_board.proofs.Merges.{aside_later}
 use Rattle.gtfs_board.proofs.Gathers.{gathered_first, gathered_more, steps_few_more}
 use Rattle.gtfs_board.proofs.merge.gathering.gather.Goals as goal
@@ -30,7 +31,7 @@ loop-fresh-init g c =
       last = let last_fits : SFits w32 c.last-last.result = search rules in to_z-of_z w32 c.last-last.result last_fits ∙ last;
       up = omega (arith, ints);
       to = rw day_is c.requires.to;
-      steps = λ low from. rw (least_is, r.1) (omega arith);
+      steps = λ low from. rw (least_is, r.1) (le_refl _);
     }
 
 pub open_day-requires : goal.open_day-requires
@@ -38,26 +39,30 @@ open_day-requires g c = aside_later c.args.floor.now c.args.day (to_z w32 c.loop
 
 pub next_day-day-requires : goal.next_day-day-requires
 next_day-day-requires g c =
+    let source = c.args.source.now in
     let due = c.loop-fresh-test.ensures.due (search rules) in
     let i = c.loop-fresh.invariant in
     let last = c.last-last.ensures in
-    omega (arith, ints, due, i.last, i.up, last.low, last.high, c.requires.from)
+    let day = to_z w32 c.loop-fresh.day-bits in
+    let since = rw (to_z-of_z w32 c.args.day c.ranges.day) at i.up in
+    let in_time = rw i.last at due.0 in
+    rw (day_after (g.S.Source.first source) c.args.day day (g.S.Source.last source) last.low last.high c.requires.from since in_time) (after_within day (g.S.Source.last source) in_time)
 
 pub loop-fresh-smaller : goal.loop-fresh-smaller
 loop-fresh-smaller g c =
+    let source = c.args.source.now in
     let due = c.loop-fresh-test.ensures.due (search rules) in
     let next = c.next_day-day.ensures in
     let i = c.loop-fresh.invariant in
     let last = c.last-last.ensures in
     let day = to_z w32 c.loop-fresh.day-bits in
     let next_day = c.next_day-day.result in
-    let top = to_z w32 (of_z w32 c.last-last.result) +ℤ pos 1 in
     let next_fits : SFits w32 next_day = search rules in
-    let next_is = to_z-of_z w32 next_day next_fits in
-    let plus : to_z w32 (of_z w32 (day +ℤ pos 1)) ≡ day +ℤ pos 1 = omega (arith, ints, due, i.last, i.up, last.low, last.high, c.requires.from) in
+    let since = rw (to_z-of_z w32 c.args.day c.ranges.day) at i.up in
+    let in_time = rw i.last at due.0 in
+    let plus = day_after (g.S.Source.first source) c.args.day day (g.S.Source.last source) last.low last.high c.requires.from since in_time in
     let up : (day +ℤ pos 1) ≤ℤ next_day = rw plus at next.up in
-    let goes = closer top day next_day (omega (arith, ints, up)) (omega (arith, ints, next.within, i.last)) in
-    rw next_is goes
+    rw (to_z-of_z w32 next_day next_fits, i.last) (days_left (g.S.Source.last source) day next_day up next.within)
 
 pub loop-fresh-preserved : goal.loop-fresh-preserved
 loop-fresh-preserved g c =
@@ -75,14 +80,14 @@ loop-fresh-preserved g c =
     let falls_fits : SFits w64 falls = search rules in
     let next_is = to_z-of_z w32 next_day next_fits in
     let falls_is = to_z-of_z w64 falls falls_fits in
-    let plus : to_z w32 (of_z w32 (day +ℤ pos 1)) ≡ day +ℤ pos 1 = omega (arith, ints, due, i.last, i.up, last.low, last.high, c.requires.from) in
+    let day_is = to_z-of_z w32 c.args.day c.ranges.day in
+    let since = rw day_is at i.up in
+    let in_time = rw i.last at due.0 in
+    let plus = day_after (g.S.Source.first source) c.args.day day (g.S.Source.last source) last.low last.high c.requires.from since in_time in
     let up : (day +ℤ pos 1) ≤ℤ next_day = rw plus at next.up in
     let skips = rw plus at next.skips in
     let more = gathered_more (c.laws.ensures.lanes) c.args.floor.now (g.S.Source.end source) (heap_items c.args.queue.now ++ option_to_list c.args.head)
     c.loop-fresh.fresh.items c.open_day.new.fresh.items day next_day mark falls i.gathered due.1 step.heads step.least up skips in
-    let day_is = to_z-of_z w32 c.args.day c.ranges.day in
-    let since = rw day_is at i.up in
-    let in_time = rw i.last at due.0 in
     let there = c.laws.ensures.listed day (le_chain _ c.args.day day c.requires.from since) in_time in
     let begins = least_from (g.S.Source.end source) (heap_items c.args.queue.now ++ option_to_list c.args.head) in
     let few = rw day_is at i.steps in

@@ -1,5 +1,7 @@
-use Rattle.std.proofs.Common.{rules, w64, SFits, refl, arith, append-nil, ◌∙◌}
+use Rattle.std.proofs.Common.{rules, ◌≡◌, ◌≤◌, ◌+◌, ◌++◌, w32, w64, SFits, refl, ap, subst, arith, append-nil, ◌∙◌}
 use Rattle.std.proofs.lemmas.Int.{to_z-of_z}
+use Rattle.gtfs_runs.proofs.Pushes.{none-done, none-made}
+use Rattle.gtfs_board.specs.merge.Candidates.{heads_on, least_from}
 use Rattle.gtfs_board.proofs.Days.{heads_on-none, least_from-none, opened_more, least_more}
 use Rattle.gtfs_board.proofs.merge.gathering.open_day.Goals as goal
 
@@ -19,4 +21,29 @@ loop-lane-preserved g c =
       heads = opened_more _ _ _ _ _ _ _ _ kept.heads i.heads first;
       least = let fits : SFits w64 c.in_ok-least.least = search rules in to_z-of_z w64 c.in_ok-least.least fits ∙ least_more _ _ _ _ _ _ _ _ kept.least i.least first;
       steps = omega (arith, c.in_ok-head.ensures.steps);
+    }
+
+pub returns-in_err-head : goal.returns-in_err-head
+returns-in_err-head g c =
+    let r = c.from_residual.result in
+    let refused = c.from_residual.ensures.1 in
+    record { heads = none-done r _ _ refused; least = none-made r _ _ refused; steps = none-done r _ _ refused }
+
+pub returns-in_err-least : goal.returns-in_err-least
+returns-in_err-least g c =
+    let r = c.from_residual-in_err-least.result in
+    let refused = c.from_residual-in_err-least.ensures.1 in
+    record { heads = none-done r _ _ refused; least = none-made r _ _ refused; steps = none-done r _ _ refused }
+
+pub returns : goal.returns
+returns g c =
+    let i = c.loop-lane.invariant in
+    let heads = heads_on (g.S.Source.events c.args.source.now) c.args.floor.now c.args.day in
+    let all : c.loop-lane.lane ≡ g.S.Source.count c.args.source.now = omega (arith, c.count-lane-end.ensures, c.loop-lane-test.false, c.loop-lane.auto.lane-end) in
+    let day_is = to_z-of_z w32 c.args.day c.ranges.day in
+    let least_is = to_z-of_z w64 c.args.least c.ranges.least in
+    record {
+      heads = (rw day_is at i.heads) ∙ ap (λ n. c.args.fresh.now.items ++ heads n) all;
+      least = (rw (day_is, least_is) at i.least) ∙ ap (λ n. least_from c.args.least (heads n)) all;
+      steps = subst (λ n. c.loop-lane.steps ≤ c.args.steps.now + n) all i.steps;
     }

@@ -1,7 +1,7 @@
-use Rattle.std.proofs.Common.{string_bytes}
+use Rattle.std.proofs.Common.{codes, string_bytes}
 use Rattle.std.proofs.lemmas.List.{take_all}
 use Rattle.gtfs_board.specs.Timetable.{after_tab, time_shown}
-use Rattle.gtfs_board.proofs.SheetTexts.{nothing-yet, field-more, line-ends}
+use Rattle.gtfs_board.proofs.SheetTexts.{nothing-yet, field-more, line-ends, pushed}
 use Rattle.gtfs_board.proofs.sheet.text.push_stop.Goals as goal
 
 pub loop-time-init : goal.loop-time-init
@@ -14,5 +14,6 @@ loop-time-preserved c =
 
 pub returns : goal.returns
 returns c =
+    pushed c.push_str-2.result _ (string_bytes c.loop-time.text) _ (codes "\n") c.push_str-2.ensures.bytes (λ last.
     line-ends after_tab time_shown c.args.times.now _ (string_bytes c.args.text.now) c.args.stop.now _ _ _
-    (take_all c.loop-time.time-index c.args.times.now c.loop-time-test.false) c.loop-time.invariant c.in_ok-push_str-2.ensures.bytes
+    (take_all c.loop-time.time-index c.args.times.now c.loop-time-test.false) c.loop-time.invariant last)

@@ -11,6 +11,7 @@ use Rattle.gtfs_runs.specs.declared.stop_lanes.passing.Passing.{Passing}
 use Rattle.gtfs_runs.specs.steps.Finds.{times_told}
 use Rattle.gtfs_runs.specs.steps.Passings.{passing_event}
 use Rattle.gtfs_runs.proofs.LaneTallies.{period_more}
+use Rattle.gtfs_runs.proofs.Pushes.{none-done}
 use Rattle.gtfs_runs.proofs.stop_lanes.found.add_period.Goals as goal
 
 pub loop-passing-preserved : goal.loop-passing-preserved
@@ -49,3 +50,9 @@ loop-passing-preserved c =
           } in
           subst (λ l. All (IsPeriodLane k) l) (sym pushed) (All-push (IsPeriodLane k) (map period_value mid) (period_value lane) (c.loop-passing.invariant.kind k t index at row were) own);
     }
+
+pub returns-in_err-push : goal.returns-in_err-push
+returns-in_err-push c =
+    let r = c.from_residual.result in
+    let refused = c.from_residual.ensures.1 in
+    record { told = none-done r _ _ refused; counted = none-done r _ _ refused; within = none-done r _ _ refused; kind = none-done r _ _ refused }

@@ -9,6 +9,7 @@ use Rattle.gtfs_rows.specs.declared.frequency.Frequency.{Frequency}
 use Rattle.gtfs_runs.specs.StopLanes.{period_value}
 use Rattle.gtfs_runs.specs.steps.Finds.{times_passed, times_told}
 use Rattle.gtfs_runs.proofs.LaneTallies.{lanes_counted, periods_more}
+use Rattle.gtfs_runs.proofs.Pushes.{none-done}
 use Rattle.gtfs_runs.proofs.stop_lanes.found.add_periods.Goals as goal
 
 pub loop-frequency-preserved : goal.loop-frequency-preserved
@@ -31,3 +32,9 @@ loop-frequency-preserved c =
           slice_get-map frequency_of fs n ∙ ap (option_map frequency_of) (slice_get-get_or fs n f within ∙ ap Some (sym c.frequency-item.is)) in
           c.in_ok-add_period.ensures.kind k t n at (ap (λ l. slice_get l n) rows ∙ item) (c.loop-frequency.invariant.kind k t at rows were);
     }
+
+pub returns-in_err-add_period : goal.returns-in_err-add_period
+returns-in_err-add_period c =
+    let r = c.from_residual.result in
+    let refused = c.from_residual.ensures.1 in
+    record { told = none-done r _ _ refused; counted = none-done r _ _ refused; within = none-done r _ _ refused; kind = none-done r _ _ refused }

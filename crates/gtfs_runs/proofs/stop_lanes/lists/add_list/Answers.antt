@@ -1,4 +1,4 @@
-use Rattle.std.proofs.Common.{◌∙◌, [], ◌∷◌, length, map, drop, sym, ap, subst}
+use Rattle.std.proofs.Common.{◌<◌, ◌∙◌, [], ◌∷◌, length, map, drop, sym, ap, subst}
 use Rattle.std.specs.List.{All}
 use Rattle.std.proofs.lemmas.List.{length-append, map-append}
 use Rattle.std.proofs.lemmas.List.Elements.{All-push}
@@ -34,6 +34,15 @@ returns-clause-alike c = λ p own was.
     (All-push (IsListLane (content_of_parts p)) (map list_value old) (list_value lane) was
     (lane_of_course c.args.listed.now len.result c.index-listed-0.result len.ensures.some len.ensures.within c.requires.sorted len.ensures.same c.index-listed-0.is p (list_value lane)
     c.in_ok-list.ensures.events own))
+
+pub returns-clause-within : goal.returns-clause-within
+returns-clause-within c = λ m serve were.
+    let lane = c.in_ok-list.list in
+    let old = c.args.lists.now.items in
+    let pushed = ap (map list_value) c.in_ok-push.ensures.items ∙ map-append list_value old (lane ∷ []) in
+    subst (λ l. All (λ x. x.service < m) l) (sym pushed)
+    (All-push (λ x. x.service < m) (map list_value old) (list_value lane) were
+    (subst (λ n. n < m) (sym (ap (λ x. x.0) c.in_ok-list.ensures.service)) (serve 0 c.index-listed-0.result c.requires.some)))
 
 pub returns-clause-counted : goal.returns-clause-counted
 returns-clause-counted c =

@@ -1,20 +1,21 @@
-use Rattle.std.proofs.Common.{◌≡◌, ◌<◌, ◌≤◌, ◌∙◌, ◌&&◌, ℕ, Bool, true, false, List, [], get_or, sym, ap, subst}
+use Rattle.std.proofs.Common.{◌≡◌, ◌<◌, ◌≤◌, ◌∙◌, ◌&&◌, ℕ, Bool, true, false, List, [], length, map, filter, get_or, sym, ap, subst, arith}
 use Rattle.std.specs.Prelude.{is_some, unwrap_or}
-use Rattle.std.specs.List.{All}
+use Rattle.std.specs.List.{All, enumerate_from}
 use Rattle.std.proofs.lemmas.Bool.{and_parts}
-use Rattle.std.proofs.lemmas.List.{get_or_default}
+use Rattle.std.proofs.lemmas.List.{get_or_default, take_all}
 use Rattle.std.proofs.lemmas.List.Elements.{All-push}
+use Rattle.std.proofs.lemmas.Option.{get_or_from_slice_get}
 use Rattle.gtfs_field.proofs.ListFacts.{some_of}
 use Rattle.gtfs_rows.specs.declared.stop_row.StopRow.{StopRow}
 use Rattle.gtfs_rows.specs.declared.frequency.Frequency.{Frequency}
 use Rattle.gtfs_rows.specs.declared.parts.Parts.{Parts}
 use Rattle.gtfs_rows.specs.declared.trip.Trip.{Trip}
 use Rattle.gtfs_rows.specs.Views.{content_of_parts, stop_ids, stop_row_of, text_of_number, trip_of}
-use Rattle.gtfs_feed.specs.Trips.{left_at}
+use Rattle.gtfs_feed.specs.Trips.{left_at, stop_rows_by_trip}
 use Rattle.gtfs_feed.proofs.TripFacts.{stop_times}
 use Rattle.gtfs_runs.specs.Trips.{allows_boarding, is_departure_row, is_not_last, is_timed}
 use Rattle.gtfs_runs.specs.Places.{members}
-use Rattle.gtfs_runs.specs.steps.Passings.{first_left, leaves, passing_at}
+use Rattle.gtfs_runs.specs.steps.Passings.{first_left, leaves, passing_at, passings_of}
 use Rattle.gtfs_runs.proofs.TripTimes.{left_within, picked_fails, picked_passes, starts_before}
 use Rattle.gtfs_runs.proofs.stop_lanes.passing.passings.Goals.{then-leaves_place+in_ok-push, else-leaves_place}
 use Rattle.gtfs_runs.proofs.stop_lanes.passing.passings.Goals as goal
@@ -89,3 +90,17 @@ loop-position-preserved c =
             after = subst (λ xs. All (λ x. x.after ≤ 3_599_999) xs) (sym kept) c.loop-position.invariant.after;
           }
     ]
+
+pub returns : goal.returns
+returns c = record {
+  passings = λ s t rows fs place at.
+      let p = c.args.feed.now in
+      let own = c.trip_rows-rows.result.now in
+      let trips = stop_rows_by_trip p in
+      let same : own ≡ rows = sym (get_or_from_slice_get trips c.args.trip.0 own [] c.trip_rows-rows.ensures) ∙ get_or_from_slice_get trips c.args.trip.0 rows [] at in
+      let past : length own ≤ c.loop-position.position = omega (arith, c.loop-position-test.false) in
+      c.loop-position.invariant.passings s t fs place
+      ∙ ap (λ l. map (passing_at (first_left own)) (filter (leaves p s t own fs) (enumerate_from 0 l))) (take_all c.loop-position.position own past)
+      ∙ ap (λ r. passings_of p s t r fs) same;
+  after = c.loop-position.invariant.after;
+}
