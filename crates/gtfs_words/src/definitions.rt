@@ -13,8 +13,12 @@ use board::board_command;
 use check::check_command;
 use clap::Command;
 use merge::merge_command;
+use rules::described;
 use std::alloc::{AllocError, Global};
 use timetable::timetable_command;
+
+const ABOUT: &str =
+    "Checks of GTFS Schedule feeds, departure boards and timetables from them, and one feed of two";
 
 // How all are called, a line each. Help has `Usage: ` before the first, and the others stand below it.
 const COMMANDS: &str = "gtfs check DIR\n       \
@@ -36,11 +40,7 @@ pub(super) fn gtfs<'w>(alloc: Global) -> Result<Command<'w>, AllocError>
 fn top<'w>(alloc: Global) -> Command<'w>
     ensures { app_of result ≡ gtfs_top }
 {
-    Command::new(alloc, "gtfs")
-        .about(
-            "Checks of GTFS Schedule feeds, departure boards and timetables from them, and one feed of two",
-        )
-        .override_usage(COMMANDS)
+    described(alloc, "gtfs", ABOUT, COMMANDS)
         .subcommand_required(true)
         .disable_help_subcommand(true)
 }

@@ -35,7 +35,7 @@ const TEXTS: &str = "T is an instant or a service date:\n  \
 pub(super) fn board_command<'w>(alloc: Global) -> Result<Command<'w>, AllocError>
     ensures { IfOk result (λ c. app_of c ≡ board_app) }
 {
-    let limit = with_choice(needed_board(alloc)?, alloc, "limit", "N", LIMIT)?;
+    let limit = with_choice(needed_board(alloc), alloc, "limit", "N", LIMIT);
     with_choice(limit, alloc, "after", "KEY", AFTER)
 }
 
@@ -44,9 +44,9 @@ fn needed_board<'w>(alloc: Global) -> Result<Command<'w>, AllocError>
     ensures { IfOk result (λ c. app_of c ≡ needed_board_app) }
 {
     let board = new_command(alloc, "board", ABOUT, BOARD, TEXTS);
-    let dir = with_word(board, alloc, "DIR", DIR)?;
-    let zone = with_option(dir, alloc, "zone", "FILE", ZONE)?;
-    let stop = with_option(zone, alloc, "stop", "ID", STOP)?;
-    let from = with_option(stop, alloc, "from", "T", FROM)?;
+    let dir = with_word(Ok(board), alloc, "DIR", DIR);
+    let zone = with_option(dir, alloc, "zone", "FILE", ZONE);
+    let stop = with_option(zone, alloc, "stop", "ID", STOP);
+    let from = with_option(stop, alloc, "from", "T", FROM);
     with_option(from, alloc, "until", "T", UNTIL)
 }

@@ -19,5 +19,5 @@ pub(super) fn check_command<'w>(alloc: Global) -> Result<Command<'w>, AllocError
     ensures { IfOk result (λ c. app_of c ≡ check_app) }
 {
     let check = new_command(alloc, "check", ABOUT, CHECK, LINES);
-    with_word(check, alloc, "DIR", DIR)
+    with_word(Ok(check), alloc, "DIR", DIR)
 }

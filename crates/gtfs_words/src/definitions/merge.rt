@@ -25,7 +25,7 @@ pub(super) fn merge_command<'w>(alloc: Global) -> Result<Command<'w>, AllocError
     ensures { IfOk result (λ c. app_of c ≡ merge_app) }
 {
     let merge = new_command(alloc, "merge", ABOUT, MERGE, LINES);
-    let first = with_word(merge, alloc, "A", FIRST)?;
-    let second = with_word(first, alloc, "B", SECOND)?;
+    let first = with_word(Ok(merge), alloc, "A", FIRST);
+    let second = with_word(first, alloc, "B", SECOND);
     with_word(second, alloc, "OUT", OUT)
 }

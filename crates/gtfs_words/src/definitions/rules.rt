@@ -1,6 +1,6 @@
 //! A command and the texts that it is given, as `clap` is told of them: plain texts, each set once.
 ghost use Rattle.std.specs.Prelude.{◌≡◌, IfOk, false};
-ghost use Rattle.clap.specs.Words.{app_of, new_app, rule_of, with_rule};
+ghost use Rattle.clap.specs.Words.{App, app_of, new_app, rule_of, with_rule};
 ghost use Rattle.gtfs_words.specs.CommandLine.{choice_rule, option_rule, text_rule, word_rule};
 
 use clap::{Arg, ArgAction, Command};
@@ -9,7 +9,7 @@ use std::alloc::{AllocError, Global};
 // What help says of the folder of a feed.
 pub(super) const DIR: &str = "The folder of the feed";
 
-// A command that is given no texts yet; help says what it is about, and ends with notes.
+// A command that is given no texts yet; help ends with notes.
 pub(super) fn new_command<'w>(
     alloc: Global,
     name: &'w str,
@@ -19,51 +19,60 @@ pub(super) fn new_command<'w>(
 ) -> Command<'w>
     ensures { app_of result ≡ new_app name.entry.now }
 {
-    Command::new(alloc, name)
-        .about(about)
-        .override_usage(usage)
-        .after_help(notes)
+    described(alloc, name, about, usage).after_help(notes)
 }
 
-// The command with one more text that must be given, known by its position among the words.
+// A program or a command; help says what it is about, and how it is called.
+pub(super) fn described<'w>(
+    alloc: Global,
+    name: &'w str,
+    about: &'w str,
+    usage: &'w str,
+) -> Command<'w>
+    ensures { app_of result ≡ new_app name.entry.now }
+{
+    Command::new(alloc, name).about(about).override_usage(usage)
+}
+
+// The command, if it was made, with one more text that must be given, known by its position among the words.
 pub(super) fn with_word<'w>(
-    command: Command<'w>,
+    command: Result<Command<'w>, AllocError>,
     alloc: Global,
     id: &'w str,
     help: &'w str,
 ) -> Result<Command<'w>, AllocError>
-    ensures { IfOk result (λ c. app_of c ≡ with_rule (app_of command.entry)
-        (word_rule id.entry.now)) }
+    ensures { (app : App) → IfOk command.entry (λ c. app_of c ≡ app)
+        → IfOk result (λ c. app_of c ≡ with_rule app (word_rule id.entry.now)) }
 {
-    command.arg(needed_word(alloc, id, help))
+    command?.arg(needed_word(alloc, id, help))
 }
 
-// The command with one more text that must be given after `--id`; help names the text `value`.
+// The command, if it was made, with one more text that must be given after `--id`; help names the text `value`.
 pub(super) fn with_option<'w>(
-    command: Command<'w>,
+    command: Result<Command<'w>, AllocError>,
     alloc: Global,
     id: &'w str,
     value: &'w str,
     help: &'w str,
 ) -> Result<Command<'w>, AllocError>
-    ensures { IfOk result (λ c. app_of c ≡ with_rule (app_of command.entry)
-        (option_rule id.entry.now)) }
+    ensures { (app : App) → IfOk command.entry (λ c. app_of c ≡ app)
+        → IfOk result (λ c. app_of c ≡ with_rule app (option_rule id.entry.now)) }
 {
-    command.arg(needed_option(alloc, id, value, help))
+    command?.arg(needed_option(alloc, id, value, help))
 }
 
-// The command with one more text that may be given after `--id`; help names the text `value`.
+// The command, if it was made, with one more text that may be given after `--id`; help names the text `value`.
 pub(super) fn with_choice<'w>(
-    command: Command<'w>,
+    command: Result<Command<'w>, AllocError>,
     alloc: Global,
     id: &'w str,
     value: &'w str,
     help: &'w str,
 ) -> Result<Command<'w>, AllocError>
-    ensures { IfOk result (λ c. app_of c ≡ with_rule (app_of command.entry)
-        (choice_rule id.entry.now)) }
+    ensures { (app : App) → IfOk command.entry (λ c. app_of c ≡ app)
+        → IfOk result (λ c. app_of c ≡ with_rule app (choice_rule id.entry.now)) }
 {
-    command.arg(free_option(alloc, id, value, help))
+    command?.arg(free_option(alloc, id, value, help))
 }
 
 fn needed_word<'w>(alloc: Global, id: &'w str, help: &'w str) -> Arg<'w>
@@ -77,7 +86,7 @@ fn needed_option<'w>(alloc: Global, id: &'w str, value: &'w str, help: &'w str) 
     ensures rule { rule_of result ≡ option_rule id.entry.now }
     ensures local { result.global ≡ false }
 {
-    needed_word(alloc, id, help).long(id).value_name(value)
+    free_option(alloc, id, value, help).required(true)
 }
 
 fn free_option<'w>(alloc: Global, id: &'w str, value: &'w str, help: &'w str) -> Arg<'w>

@@ -26,8 +26,8 @@ pub(super) fn timetable_command<'w>(alloc: Global) -> Result<Command<'w>, AllocE
     ensures { IfOk result (λ c. app_of c ≡ timetable_app) }
 {
     let timetable = new_command(alloc, "timetable", ABOUT, TIMETABLE, TEXTS);
-    let dir = with_word(timetable, alloc, "DIR", DIR)?;
-    let route = with_option(dir, alloc, "route", "ID", ROUTE)?;
-    let date = with_option(route, alloc, "date", "D", DATE)?;
+    let dir = with_word(Ok(timetable), alloc, "DIR", DIR);
+    let route = with_option(dir, alloc, "route", "ID", ROUTE);
+    let date = with_option(route, alloc, "date", "D", DATE);
     with_choice(date, alloc, "direction", "0|1", DIRECTION)
 }
