@@ -75,14 +75,24 @@ fn zone_file(
     footer: &str,
 ) -> Result<Vec<u8>, AllocError> {
     let mut file = Vec::new(alloc);
-    push_header(&mut file, ONE_TYPE)?;
+    push_zone(&mut file, counts, data, footer)?;
+    Ok(file)
+}
+
+fn push_zone(
+    file: &mut Vec<u8>,
+    counts: [u8; 6],
+    data: &[u8],
+    footer: &str,
+) -> Result<(), AllocError> {
+    push_header(file, ONE_TYPE)?;
     file.extend_from_slice(b"\0\0\0\0\0\0UTC\0")?;
-    push_header(&mut file, counts)?;
+    push_header(file, counts)?;
     file.extend_from_slice(data)?;
     file.push(b'\n')?;
     file.extend_from_slice(footer.as_bytes())?;
     file.push(b'\n')?;
-    Ok(file)
+    Ok(())
 }
 
 // A header: how many UT indicators, standard indicators, leap seconds, transitions, types and bytes of designations

@@ -42,9 +42,13 @@ C1,1,1,1,1,1,1,1,20240401,20240401\n",
 /// Folders that hold the small dataset in the folder f1, with these files in place of those with their names.
 pub fn folders_of(alloc: Global, changes: &[FileText]) -> Result<MemoryFolders, OutOfMemory> {
     let mut folders = MemoryFolders::new(alloc, 10_000, None);
-    put_all(&mut folders, &FEED)?;
-    put_all(&mut folders, changes)?;
+    put_small(&mut folders, changes)?;
     Ok(folders)
+}
+
+fn put_small(folders: &mut MemoryFolders, changes: &[FileText]) -> Result<(), OutOfMemory> {
+    put_all(folders, &FEED)?;
+    put_all(folders, changes)
 }
 
 // Puts files into the folder f1.
@@ -63,11 +67,24 @@ pub fn read_feed(
     dir: &str,
 ) -> Result<Feed, Fail> {
     let tables = Tables::read(alloc, folders, dir)?;
-    let report = check(alloc, &tables)?;
+    feed_of(alloc, random, &tables)
+}
+
+fn feed_of(alloc: Global, random: RandomState, tables: &Tables) -> Result<Feed, Fail> {
+    let report = check(alloc, tables)?;
     match report.passed() {
         Ok(passed) => Ok(Feed::new(alloc, random, &passed)?),
         Err(_) => Err(Fail::new("the dataset has errors")),
     }
+}
+
+// The feed of the folder f1, which has to pass.
+pub(crate) fn read_first<R: RandomSource>(
+    rt: &R,
+    alloc: Global,
+    mut folders: MemoryFolders,
+) -> Result<Feed, Fail> {
+    read_feed(alloc, RandomState::new(rt)?, &mut folders, "f1")
 }
 
 /// The feed of the small dataset with these changes.
@@ -76,6 +93,5 @@ pub fn feed_with<R: RandomSource>(
     alloc: Global,
     changes: &[FileText],
 ) -> Result<Feed, Fail> {
-    let mut folders = folders_of(alloc, changes)?;
-    read_feed(alloc, RandomState::new(rt)?, &mut folders, "f1")
+    read_first(rt, alloc, folders_of(alloc, changes)?)
 }

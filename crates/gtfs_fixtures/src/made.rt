@@ -1,11 +1,10 @@
 //! Datasets by the throw of dice: trips at the same seconds, past midnight, with gaps, periods, directions and exceptions.
 
-use crate::dataset::{FEED, FileText, put_all, read_feed};
+use crate::dataset::{FEED, FileText, put_all, read_first};
 use gtfs_feed::Feed;
 use gtfs_field::OutOfMemory;
 use gtfs_table::MemoryFolders;
-use std::alloc::Global;
-use std::hash::RandomState;
+use std::alloc::{AllocError, Global};
 use std::random::RandomSource;
 use std::test::Fail;
 
@@ -59,29 +58,60 @@ pub fn made_feed_with<R: RandomSource>(
     number: u64,
     changes: &[FileText],
 ) -> Result<Feed, Fail> {
-    let mut folders = made_folders(alloc, number)?;
-    put_all(&mut folders, changes)?;
-    read_feed(alloc, RandomState::new(rt)?, &mut folders, "f1")
+    read_first(rt, alloc, made_folders(alloc, number, changes)?)
 }
 
-// Folders with a dataset in the folder f1, another for each number.
-fn made_folders(alloc: Global, number: u64) -> Result<MemoryFolders, OutOfMemory> {
-    let mut dice = Dice { state: number };
+// Folders with a dataset in the folder f1, another for each number, and these changes to it.
+fn made_folders(
+    alloc: Global,
+    number: u64,
+    changes: &[FileText],
+) -> Result<MemoryFolders, OutOfMemory> {
     let mut folders = MemoryFolders::new(alloc, 100_000, None);
-    put_all(&mut folders, &FEED)?;
-    folders.put("f1", "stops.txt", STOP_TEXT.as_bytes())?;
-    folders.put("f1", "routes.txt", ROUTES.as_bytes())?;
-    let text = calendar(alloc, &mut dice)?;
-    folders.put("f1", "calendar.txt", text.as_bytes())?;
-    let text = calendar_dates(alloc, &mut dice)?;
-    folders.put("f1", "calendar_dates.txt", text.as_bytes())?;
-    let text = trips(alloc, &mut dice)?;
-    folders.put("f1", "trips.txt", text.as_bytes())?;
-    let text = stop_times(alloc, &mut dice)?;
-    folders.put("f1", "stop_times.txt", text.as_bytes())?;
-    let text = frequencies(alloc, &mut dice)?;
-    folders.put("f1", "frequencies.txt", text.as_bytes())?;
+    put_dataset(alloc, &mut folders, number, changes)?;
     Ok(folders)
+}
+
+fn put_dataset(
+    alloc: Global,
+    folders: &mut MemoryFolders,
+    number: u64,
+    changes: &[FileText],
+) -> Result<(), OutOfMemory> {
+    put_all(folders, &FEED)?;
+    put_all(folders, &[("stops.txt", STOP_TEXT), ("routes.txt", ROUTES)])?;
+    put_made(alloc, folders, &mut Dice { state: number })?;
+    put_all(folders, changes)
+}
+
+// Puts the files that are made by throws of dice.
+fn put_made(
+    alloc: Global,
+    folders: &mut MemoryFolders,
+    dice: &mut Dice,
+) -> Result<(), OutOfMemory> {
+    put(folders, "calendar.txt", calendar(alloc, dice))?;
+    put(folders, "calendar_dates.txt", calendar_dates(alloc, dice))?;
+    put(folders, "trips.txt", trips(alloc, dice))?;
+    put(folders, "stop_times.txt", stop_times(alloc, dice))?;
+    put(folders, "frequencies.txt", frequencies(alloc, dice))
+}
+
+// Puts a file, if its text was made.
+fn put(
+    folders: &mut MemoryFolders,
+    name: &str,
+    text: Result<String, OutOfMemory>,
+) -> Result<(), OutOfMemory> {
+    let text = text?;
+    folders.put("f1", name, text.as_bytes())
+}
+
+// Adds a text, if it was made.
+fn push(text: &mut String, made: Result<String, AllocError>) -> Result<(), OutOfMemory> {
+    let made = made?;
+    text.push_str(&made)?;
+    Ok(())
 }
 
 // The date so many days after 2011-12-24, at most 38.
@@ -96,16 +126,24 @@ fn date(day: u64) -> u64 {
 fn calendar(alloc: Global, dice: &mut Dice) -> Result<String, OutOfMemory> {
     let mut text = String::from_str(alloc, CALENDAR)?;
     for service in 1..SERVICES {
-        text.push_str(&format!(in alloc; "C{service}")?)?;
-        for _ in 0..7 {
-            text.push_str(if dice.is_one_of(3) { ",0" } else { ",1" })?;
-        }
-        let first = dice.roll(6);
-        let last = dice.roll(8).saturating_add(8);
-        let dates = format!(in alloc; ",{},{}\n", date(first), date(last))?;
-        text.push_str(&dates)?;
+        push_week(alloc, dice, service, &mut text)?;
     }
     Ok(text)
+}
+
+fn push_week(
+    alloc: Global,
+    dice: &mut Dice,
+    service: u64,
+    text: &mut String,
+) -> Result<(), OutOfMemory> {
+    push(text, format!(in alloc; "C{service}"))?;
+    for _ in 0..7 {
+        text.push_str(if dice.is_one_of(3) { ",0" } else { ",1" })?;
+    }
+    let first = date(dice.roll(6));
+    let last = date(dice.roll(8).saturating_add(8));
+    push(text, format!(in alloc; ",{first},{last}\n"))
 }
 
 // Each service has an exception, so that each is there.
@@ -114,29 +152,49 @@ fn calendar_dates(alloc: Global, dice: &mut Dice) -> Result<String, OutOfMemory>
     for service in 1..=SERVICES {
         for day in 0..DATES {
             if day == service || dice.is_one_of(6) {
-                let exception = if dice.is_one_of(2) { "1" } else { "2" };
-                let line = format!(in alloc; "C{service},{},{exception}\n", date(day))?;
-                text.push_str(&line)?;
+                push_exception(alloc, dice, (service, day), &mut text)?;
             }
         }
     }
     Ok(text)
 }
 
+fn push_exception(
+    alloc: Global,
+    dice: &mut Dice,
+    (service, day): (u64, u64),
+    text: &mut String,
+) -> Result<(), OutOfMemory> {
+    let exception = if dice.is_one_of(2) { "1" } else { "2" };
+    push(
+        text,
+        format!(in alloc; "C{service},{},{exception}\n", date(day)),
+    )
+}
+
 fn trips(alloc: Global, dice: &mut Dice) -> Result<String, OutOfMemory> {
-    let mut text = String::from_str(
-        alloc,
-        "trip_id,route_id,service_id,trip_headsign,direction_id\n",
-    )?;
+    let header = "trip_id,route_id,service_id,trip_headsign,direction_id\n";
+    let mut text = String::from_str(alloc, header)?;
     for trip in 0..TRIPS {
-        let route = if dice.is_one_of(2) { "R1" } else { "R2" };
-        let service = dice.roll(SERVICES).saturating_add(1);
-        let headsign = if dice.is_one_of(2) { "" } else { "Town" };
-        let direction = direction_of(trip);
-        let line = format!(in alloc; "T{trip},{route},C{service},{headsign},{direction}\n")?;
-        text.push_str(&line)?;
+        push_trip(alloc, dice, trip, &mut text)?;
     }
     Ok(text)
+}
+
+fn push_trip(
+    alloc: Global,
+    dice: &mut Dice,
+    trip: u64,
+    text: &mut String,
+) -> Result<(), OutOfMemory> {
+    let route = if dice.is_one_of(2) { "R1" } else { "R2" };
+    let service = dice.roll(SERVICES).saturating_add(1);
+    let headsign = if dice.is_one_of(2) { "" } else { "Town" };
+    let direction = direction_of(trip);
+    push(
+        text,
+        format!(in alloc; "T{trip},{route},C{service},{headsign},{direction}\n"),
+    )
 }
 
 // None, 0 and 1 in turn, two trips each.
@@ -169,21 +227,41 @@ fn push_stops(
     let mut sequence = dice.roll(3);
     let mut seconds = dice.roll(40).saturating_mul(2_400);
     for position in 0..=last {
-        let stop = stop_of(dice);
-        let (hours, minutes) = (seconds / 3_600, seconds / 60 % 60);
-        let times = if position > 0 && position < last && dice.is_one_of(3) {
-            String::from_str(alloc, ",")?
-        } else {
-            format!(in alloc; "{hours}:{minutes:02}:00,{hours}:{minutes:02}:00")?
-        };
-        let headsign = if dice.is_one_of(3) { "Hill" } else { "" };
-        let pickup = if dice.is_one_of(4) { "1" } else { "" };
-        let line = format!(in alloc; "T{trip},{sequence},{stop},{times},{headsign},{pickup}\n")?;
-        text.push_str(&line)?;
+        let is_between = position > 0 && position < last;
+        push_stop(alloc, dice, (trip, sequence), (seconds, is_between), text)?;
         sequence = sequence.saturating_add(dice.roll(3)).saturating_add(1);
         seconds = seconds.saturating_add(dice.roll(3).saturating_mul(1_200));
     }
     Ok(())
+}
+
+// A stop time, which may have no time where it stands between others.
+fn push_stop(
+    alloc: Global,
+    dice: &mut Dice,
+    (trip, sequence): (u64, u64),
+    (seconds, is_between): (u64, bool),
+    text: &mut String,
+) -> Result<(), OutOfMemory> {
+    let stop = stop_of(dice);
+    push(text, format!(in alloc; "T{trip},{sequence},{stop},"))?;
+    if is_between && dice.is_one_of(3) {
+        text.push_str(",")?;
+    } else {
+        push_times(alloc, seconds, text)?;
+    }
+    let headsign = if dice.is_one_of(3) { "Hill" } else { "" };
+    let pickup = if dice.is_one_of(4) { "1" } else { "" };
+    push(text, format!(in alloc; ",{headsign},{pickup}\n"))
+}
+
+// An arrival and a departure at a second.
+fn push_times(alloc: Global, seconds: u64, text: &mut String) -> Result<(), OutOfMemory> {
+    let (hours, minutes) = (seconds / 3_600, seconds / 60 % 60);
+    push(
+        text,
+        format!(in alloc; "{hours}:{minutes:02}:00,{hours}:{minutes:02}:00"),
+    )
 }
 
 // A stop at which trips may stop.
@@ -201,15 +279,26 @@ fn frequencies(alloc: Global, dice: &mut Dice) -> Result<String, OutOfMemory> {
     let header = "trip_id,start_time,end_time,headway_secs,exact_times\n";
     let mut text = String::from_str(alloc, header)?;
     for third in 0..4u64 {
-        let trip = third.saturating_mul(3);
-        let mut start = dice.roll(28);
-        for exact in 0..=dice.roll(2) {
-            let end = start.saturating_add(dice.roll(4)).saturating_add(1);
-            let headway = dice.roll(4).saturating_mul(600).saturating_add(600);
-            let line = format!(in alloc; "T{trip},{start}:00:00,{end}:00:00,{headway},{exact}\n")?;
-            text.push_str(&line)?;
-            start = end;
-        }
+        push_periods(alloc, dice, third.saturating_mul(3), &mut text)?;
     }
     Ok(text)
+}
+
+fn push_periods(
+    alloc: Global,
+    dice: &mut Dice,
+    trip: u64,
+    text: &mut String,
+) -> Result<(), OutOfMemory> {
+    let mut start = dice.roll(28);
+    for exact in 0..=dice.roll(2) {
+        let end = start.saturating_add(dice.roll(4)).saturating_add(1);
+        let headway = dice.roll(4).saturating_mul(600).saturating_add(600);
+        push(
+            text,
+            format!(in alloc; "T{trip},{start}:00:00,{end}:00:00,{headway},{exact}\n"),
+        )?;
+        start = end;
+    }
+    Ok(())
 }
