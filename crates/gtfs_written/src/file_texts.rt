@@ -12,7 +12,7 @@ use crate::bounds::is_surely_within;
 use crate::fields::Fields;
 use crate::files::write_file;
 use crate::room_rows::RoomRows;
-use crate::text_rows::TextRows;
+use crate::text_room::with_room;
 use gtfs_field::OutOfMemory;
 use gtfs_rows::Parts;
 use gtfs_table::File;
@@ -33,7 +33,8 @@ pub fn file_text(alloc: Global, parts: &Parts, file: File) -> Result<String, Out
         ≡ table_of (written (content_of_parts parts.now)) file) }
     ensures form { IsWrittenForm (content_of_parts parts.now) }
 {
-    let mut rows = Fields::new(alloc, TextRows::new(alloc));
+    let empty = with_room(alloc, parts, file)?;
+    let mut rows = Fields::new(alloc, empty);
     let outcome = write_file(parts, file, &mut rows);
     let text = rows.into_rows().into_text();
     match outcome {

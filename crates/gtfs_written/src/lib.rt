@@ -36,6 +36,7 @@ mod sink;
 mod stop_times;
 mod stops;
 mod table_rows;
+mod text_room;
 mod text_rows;
 mod transfers;
 mod trips;

@@ -35,6 +35,13 @@ impl RoomRows {
         self.room.is_none()
     }
 
+    // How much of the room is left, if it is not passed.
+    pub(crate) fn left(&self) -> Option<u64>
+        ensures { result ≡ self.now }
+    {
+        self.room
+    }
+
     fn take_field(&mut self, field: &str)
         ensures { self.new ≡ room_after self.old (length (field_text default_writer field.now)) }
     {

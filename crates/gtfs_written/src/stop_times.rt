@@ -42,7 +42,8 @@ pub(crate) fn write_stop_times<S: Sink>(
     Ok(())
 }
 
-fn write_trip_rows<S: Sink>(
+// The rows of a trip.
+pub(crate) fn write_trip_rows<S: Sink>(
     parts: &Parts,
     trip_id: &str,
     has_plain_stops: bool,

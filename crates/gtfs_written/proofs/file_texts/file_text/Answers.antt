@@ -17,7 +17,7 @@ returns-in-Ok-clause-text c =
     let content = content_of_parts c.args.parts.now in
     let records = records_of_cells c.args.file (cells_in content c.args.file) in
     let is : string_bytes c.into_text-text.result ≡ written_text content c.args.file =
-    c.into_text-text.ensures ∙ c.into_rows.ensures ∙ c.in-Ok.ensures ∙ ap (λ s. with_rows into_text s records) (c.new-rows.ensures ∙ c.new.ensures)
+    c.into_text-text.ensures ∙ c.into_rows.ensures ∙ c.in-Ok.ensures ∙ ap (λ s. with_rows into_text s records) (c.new-rows.ensures ∙ c.in_ok-empty.ensures)
     ∙ taken-text content c.args.file c.requires.content in
     table-text content c.args.file ∙ ap Some (sym is)
 
@@ -26,7 +26,7 @@ returns-in-Ok-clause-reads_back c =
     let content = content_of_parts c.args.parts.now in
     let records = records_of_cells c.args.file (cells_in content c.args.file) in
     let is : string_bytes c.into_text-text.result ≡ written_text content c.args.file =
-    c.into_text-text.ensures ∙ c.into_rows.ensures ∙ c.in-Ok.ensures ∙ ap (λ s. with_rows into_text s records) (c.new-rows.ensures ∙ c.new.ensures)
+    c.into_text-text.ensures ∙ c.into_rows.ensures ∙ c.in-Ok.ensures ∙ ap (λ s. with_rows into_text s records) (c.new-rows.ensures ∙ c.in_ok-empty.ensures)
     ∙ taken-text content c.args.file c.requires.content in
     ap (λ t. table_of_bytes (Some t)) is
     ∙ reads-back content c.args.file c.requires.content (subst IsUtf8 is (IsUtf8-string_bytes c.into_text-text.result))
@@ -36,3 +36,6 @@ returns-in-Ok-clause-form c = written_form (content_of_parts c.args.parts.now) c
 
 pub returns-in-Err-clause-form : goal.returns-in-Err-clause-form
 returns-in-Err-clause-form c = written_form (content_of_parts c.args.parts.now) c.requires.content
+
+pub returns-in_err-empty-clause-form : goal.returns-in_err-empty-clause-form
+returns-in_err-empty-clause-form c = written_form (content_of_parts c.args.parts.now) c.requires.content
