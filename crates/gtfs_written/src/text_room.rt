@@ -22,7 +22,8 @@ pub(crate) fn with_room(alloc: Global, parts: &Parts, file: File) -> Result<Text
     requires { IsSoundParts parts.now }
     ensures { IfOk result (λ rows. rows ≡ []) }
 {
-    TextRows::with_room(alloc, likely_length(alloc, parts, file)?)
+    let bytes = likely_length(alloc, parts, file)?;
+    Ok(TextRows::with_room(alloc, bytes))
 }
 
 // How many bytes to make room for. Only stop_times.txt is asked, which in most feeds is longer than all others together.

@@ -1,4 +1,4 @@
-ghost use Rattle.std.specs.Prelude.{◌≡◌, ◌++◌, [], IfOk, OnOk, encode_utf8, string_bytes};
+ghost use Rattle.std.specs.Prelude.{◌≡◌, ◌++◌, [], OnOk, encode_utf8, string_bytes};
 ghost use Rattle.std.specs.Str.{IsUtf8};
 ghost use Rattle.csv.specs.Writing.{default_writer, escaped, field_text, quoted};
 ghost use Rattle.gtfs_written.specs.Taking.{into_text};
@@ -24,12 +24,16 @@ impl Model for TextRows {
 }
 
 impl TextRows {
-    // None yet, and room for a text of this many bytes.
-    pub(crate) fn with_room(alloc: Global, bytes: usize) -> Result<TextRows, OutOfMemory>
-        ensures { IfOk result (λ rows. rows ≡ []) }
+    // None yet, and room for a text of this many bytes. Where that is refused, the text grows as it is made.
+    pub(crate) fn with_room(alloc: Global, bytes: usize) -> TextRows
+        ensures { result ≡ [] }
     {
-        let text = String::with_capacity(alloc, bytes)?;
-        Ok(TextRows { text })
+        match String::with_capacity(alloc, bytes) {
+            Ok(text) => TextRows { text },
+            Err(_) => TextRows {
+                text: String::new(alloc),
+            },
+        }
     }
 
     pub(crate) fn into_text(self) -> String
