@@ -1,5 +1,5 @@
 use crate::feed::{busiest, read_feed};
-use crate::speed::time_loop;
+use crate::speed::{TURNS, time_loop};
 use anyhow::{Context, Result, anyhow, ensure};
 use gtfs_board::{Board, Span, write_page};
 use gtfs_days::Zone;
@@ -10,9 +10,6 @@ use std::fs;
 use std::random::RandomSource;
 use std::rt::{Clock, Files};
 use std::time::{Duration, Instant};
-
-/// How often each is timed, in turn with the others. The least time counts.
-const TURNS: usize = 3;
 
 /// All instants that a board may have.
 const ALWAYS: Span = Span {

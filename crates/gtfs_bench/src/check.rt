@@ -1,14 +1,10 @@
-use crate::memory::print_status;
-use crate::shelf::Shelf;
-use crate::speed::time_bare;
-use anyhow::{Context, Result};
+use crate::memory::{print_status, read_tables};
+use crate::speed::{TURNS, read_timed};
+use anyhow::Result;
 use gtfs_rules::check;
-use gtfs_table::{DiskFolders, Tables};
+use gtfs_table::Tables;
 use std::rt::{Clock, Files};
 use std::time::{Duration, Instant};
-
-/// How often each is timed, in turn with the other. The least time counts.
-const TURNS: usize = 3;
 
 /// The least times, and how many problems were found.
 #[derive(Clone, Copy)]
@@ -41,9 +37,7 @@ fn take_turn<R: Files + AllocGlobal + Clock>(
     dir: &str,
     least: &mut Measured,
 ) -> Result<()> {
-    let mut shelf = Shelf::load(rt, dir).context(format_args!("reading {dir}"))?;
-    least.bare = least.bare.min(time_bare(rt, &shelf, dir)?);
-    let tables = Tables::read(rt.alloc(), &mut shelf, dir)?;
+    let tables = read_timed(rt, dir, &mut least.bare)?;
     time_check(rt, &tables, least)
 }
 
@@ -61,8 +55,7 @@ pub fn measure_memory<R: Files + Alloc + AllocGlobal + Clone + Drop + Print>(
     dir: &str,
 ) -> Result<()> {
     print_status(rt, "before")?;
-    let mut disk = DiskFolders::new(rt);
-    let tables = Tables::read(rt.alloc(), &mut disk, dir).context(format_args!("reading {dir}"))?;
+    let tables = read_tables(rt, dir)?;
     print_kept(rt, &tables)
 }
 

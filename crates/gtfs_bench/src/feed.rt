@@ -1,20 +1,16 @@
-use crate::memory::print_status;
-use crate::shelf::Shelf;
-use crate::speed::time_bare;
-use anyhow::{Context, Result, bail, ensure};
+use crate::memory::{print_status, read_tables};
+use crate::speed::{TURNS, read_timed};
+use anyhow::{Result, bail, ensure};
 use gtfs_feed::Feed;
 use gtfs_rows::{StopNo, TripNo};
-use gtfs_rules::check;
+use gtfs_rules::{Passed, check};
 use gtfs_runs::StopLanes;
-use gtfs_table::{DiskFolders, Tables};
+use gtfs_table::Tables;
 use std::alloc::Global;
 use std::hash::RandomState;
 use std::random::RandomSource;
 use std::rt::{Clock, Files};
 use std::time::{Duration, Instant};
-
-/// How often each is timed, in turn with the others. The least time counts.
-const TURNS: usize = 3;
 
 /// The least times, and what was found.
 #[derive(Clone, Copy)]
@@ -54,9 +50,7 @@ fn take_turn<R: Files + AllocGlobal + Clock + RandomSource>(
     dir: &str,
     least: &mut Measured,
 ) -> Result<()> {
-    let mut shelf = Shelf::load(rt, dir).context(format_args!("reading {dir}"))?;
-    least.bare = least.bare.min(time_bare(rt, &shelf, dir)?);
-    let tables = Tables::read(rt.alloc(), &mut shelf, dir)?;
+    let tables = read_timed(rt, dir, &mut least.bare)?;
     time_parts(rt, &tables, least)
 }
 
@@ -65,24 +59,31 @@ fn time_parts<R: AllocGlobal + Clock + RandomSource>(
     tables: &Tables,
     least: &mut Measured,
 ) -> Result<()> {
-    let feed = time_feed(rt, tables, least)?;
+    let feed = feed_of(rt, tables, &mut least.feed)?;
     time_lanes(rt, &feed, least)
 }
 
-/// The feed of tables that have no error.
-fn time_feed<R: AllocGlobal + Clock + RandomSource>(
+/// The feed of tables that have no error, and the time that it takes to make it where that is less.
+fn feed_of<R: AllocGlobal + Clock + RandomSource>(
     rt: &R,
     tables: &Tables,
-    least: &mut Measured,
+    least: &mut Duration,
 ) -> Result<Feed> {
-    let report = check(rt.alloc(), tables)?;
-    let Ok(passed) = report.passed() else {
-        bail!("the feed has errors");
-    };
+    match check(rt.alloc(), tables)?.passed() {
+        Ok(passed) => feed_of_passed(rt, &passed, least),
+        Err(_) => bail!("the feed has errors"),
+    }
+}
+
+fn feed_of_passed<R: AllocGlobal + Clock + RandomSource>(
+    rt: &R,
+    passed: &Passed<'_>,
+    least: &mut Duration,
+) -> Result<Feed> {
     let random = RandomState::new(rt)?;
     let start = Instant::now(rt)?;
-    let feed = Feed::new(rt.alloc(), random, &passed)?;
-    least.feed = least.feed.min(start.elapsed(rt)?);
+    let feed = Feed::new(rt.alloc(), random, passed)?;
+    *least = (*least).min(start.elapsed(rt)?);
     Ok(feed)
 }
 
@@ -119,7 +120,7 @@ pub fn busiest(alloc: Global, feed: &Feed) -> Result<StopNo> {
 }
 
 /// Prints the memory of this process before the tables of a feed are read from the disk, and while the feed alone is kept.
-pub fn measure_memory<R: Files + Alloc + AllocGlobal + Clone + Drop + Print + RandomSource>(
+pub fn measure_memory<R: Files + Alloc + AllocGlobal + Clone + Drop + Clock + Print + RandomSource>(
     rt: &R,
     dir: &str,
 ) -> Result<()> {
@@ -131,20 +132,11 @@ pub fn measure_memory<R: Files + Alloc + AllocGlobal + Clone + Drop + Print + Ra
     Ok(())
 }
 
-pub fn read_feed<R: Files + Alloc + AllocGlobal + Clone + Drop + RandomSource>(
+pub fn read_feed<R: Files + Alloc + AllocGlobal + Clone + Drop + Clock + RandomSource>(
     rt: &R,
     dir: &str,
 ) -> Result<Feed> {
-    let mut disk = DiskFolders::new(rt);
-    let tables = Tables::read(rt.alloc(), &mut disk, dir).context(format_args!("reading {dir}"))?;
-    feed_of(rt, &tables)
-}
-
-fn feed_of<R: AllocGlobal + RandomSource>(rt: &R, tables: &Tables) -> Result<Feed> {
-    let report = check(rt.alloc(), tables)?;
-    let Ok(passed) = report.passed() else {
-        bail!("the feed has errors");
-    };
-    let random = RandomState::new(rt)?;
-    Ok(Feed::new(rt.alloc(), random, &passed)?)
+    let tables = read_tables(rt, dir)?;
+    let mut untold = Duration::MAX;
+    feed_of(rt, &tables, &mut untold)
 }

@@ -11,9 +11,17 @@ pub fn measure<R: Files + Alloc + AllocGlobal + Clone + Drop + Print>(
     dir: &str,
 ) -> Result<()> {
     print_status(rt, "before")?;
-    let mut disk = DiskFolders::new(rt);
-    let tables = Tables::read(rt.alloc(), &mut disk, dir).context(format_args!("reading {dir}"))?;
+    let tables = read_tables(rt, dir)?;
     print_kept(rt, &tables, dir)
+}
+
+/// The tables of a feed on the disk.
+pub fn read_tables<R: Files + Alloc + AllocGlobal + Clone + Drop>(
+    rt: &R,
+    dir: &str,
+) -> Result<Tables> {
+    let mut disk = DiskFolders::new(rt);
+    Tables::read(rt.alloc(), &mut disk, dir).context(format_args!("reading {dir}"))
 }
 
 fn print_kept<R: Files + AllocGlobal + Print>(rt: &R, tables: &Tables, dir: &str) -> Result<()> {

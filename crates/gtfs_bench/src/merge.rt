@@ -1,6 +1,6 @@
 use crate::feed::read_feed;
 use crate::memory::print_status;
-use crate::speed::time_loop;
+use crate::speed::{TURNS, time_loop};
 use anyhow::Result;
 use gtfs_feed::Feed;
 use gtfs_merge::{Merged, Options, merge};
@@ -10,9 +10,6 @@ use std::hash::RandomState;
 use std::random::RandomSource;
 use std::rt::{Clock, Files};
 use std::time::{Duration, Instant};
-
-/// How often each is timed, in turn with the others. The least time counts.
-const TURNS: usize = 3;
 
 /// What files of a folder are held to.
 const OPTIONS: Options = Options {
@@ -111,7 +108,7 @@ fn length(alloc: Global, feed: &Feed) -> Result<usize> {
 
 /// Prints the memory of this process before two feeds are read from the disk, and after they were merged and the text
 /// of each file was made.
-pub fn measure_memory<R: Files + Alloc + AllocGlobal + Clone + Drop + Print + RandomSource>(
+pub fn measure_memory<R: Files + Alloc + AllocGlobal + Clone + Drop + Clock + Print + RandomSource>(
     rt: &R,
     dir: &str,
     other: &str,

@@ -1,3 +1,4 @@
+use anyhow::{Context, Result};
 use gtfs_table::{File, FolderFault, Folders};
 use std::alloc::Global;
 use std::io::ErrorKind;
@@ -17,14 +18,21 @@ pub struct Held {
 }
 
 impl Shelf {
-    pub fn load<R: Files + AllocGlobal>(rt: &R, dir: &str) -> io::Result<Shelf> {
-        let mut files = Vec::new(rt.alloc());
+    pub fn load<R: Files + AllocGlobal>(rt: &R, dir: &str) -> Result<Shelf> {
+        let mut shelf = Shelf {
+            files: Vec::new(rt.alloc()),
+        };
+        shelf.fill(rt, dir).context(format_args!("reading {dir}"))?;
+        Ok(shelf)
+    }
+
+    fn fill<R: Files + AllocGlobal>(&mut self, rt: &R, dir: &str) -> io::Result<()> {
         for file in &File::ALL {
             let name = file.name();
             let bytes = read_file(rt, dir, name)?;
-            files.push(Held { name, bytes })?;
+            self.files.push(Held { name, bytes })?;
         }
-        Ok(Shelf { files })
+        Ok(())
     }
 }
 

@@ -1,6 +1,6 @@
 use crate::count::Count;
 use crate::shelf::Shelf;
-use anyhow::{Context, Result, ensure};
+use anyhow::{Result, ensure};
 use csv::{ByteRecord, ReaderBuilder};
 use gtfs_field::OutOfMemory;
 use gtfs_table::Tables;
@@ -8,8 +8,8 @@ use std::alloc::Global;
 use std::rt::{Clock, Files};
 use std::time::{Duration, Instant};
 
-/// How often each way is timed, in turn with the other. The least time counts.
-const TURNS: usize = 3;
+/// How often each part is timed, in turn with the others. The least time counts.
+pub const TURNS: usize = 3;
 
 /// The least time of each way to read a feed.
 #[derive(Clone, Copy)]
@@ -49,10 +49,19 @@ fn take_turn<R: Files + AllocGlobal + Clock>(
     dir: &str,
     least: &mut Times,
 ) -> Result<Count> {
-    let mut shelf = Shelf::load(rt, dir).context(format_args!("reading {dir}"))?;
-    let (looped, bare) = loop_over(rt, &shelf, dir)?;
+    let mut shelf = Shelf::load(rt, dir)?;
+    time_ways(rt, &mut shelf, dir, least)
+}
+
+fn time_ways<R: AllocGlobal + Clock>(
+    rt: &R,
+    shelf: &mut Shelf,
+    dir: &str,
+    least: &mut Times,
+) -> Result<Count> {
+    let (looped, bare) = loop_over(rt, shelf, dir)?;
     least.bare = least.bare.min(bare);
-    let (count, read) = read_over(rt, &mut shelf, dir)?;
+    let (count, read) = read_over(rt, shelf, dir)?;
     least.read = least.read.min(read);
     ensure!(count == looped, "the tables are not what csv reads");
     Ok(looped)
@@ -70,14 +79,25 @@ fn read_over<R: AllocGlobal + Clock>(
     Ok((Count::of_tables(&tables), taken))
 }
 
+/// The tables of a feed whose files are in memory before, and the time of a bare loop over these where that is less.
+pub fn read_timed<R: Files + AllocGlobal + Clock>(
+    rt: &R,
+    dir: &str,
+    bare: &mut Duration,
+) -> Result<Tables> {
+    let mut shelf = Shelf::load(rt, dir)?;
+    *bare = (*bare).min(time_bare(rt, &shelf, dir)?);
+    Ok(Tables::read(rt.alloc(), &mut shelf, dir)?)
+}
+
 /// The time of one bare loop over a feed whose files are in memory before.
 pub fn time_loop<R: Files + AllocGlobal + Clock>(rt: &R, dir: &str) -> Result<Duration> {
-    let shelf = Shelf::load(rt, dir).context(format_args!("reading {dir}"))?;
+    let shelf = Shelf::load(rt, dir)?;
     time_bare(rt, &shelf, dir)
 }
 
 /// The time of one bare loop over the files of the feed in a folder.
-pub fn time_bare<R: AllocGlobal + Clock>(rt: &R, shelf: &Shelf, dir: &str) -> Result<Duration> {
+fn time_bare<R: AllocGlobal + Clock>(rt: &R, shelf: &Shelf, dir: &str) -> Result<Duration> {
     let (_, taken) = loop_over(rt, shelf, dir)?;
     Ok(taken)
 }
