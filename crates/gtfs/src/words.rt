@@ -1,8 +1,8 @@
 //! The words of the command line.
 ghost use Rattle.std.specs.Prelude.{IfErr};
-ghost use Rattle.gtfs.specs.Faults.{IsWordsFault};
+ghost use Rattle.gtfs_cli.specs.Faults.{IsWordsFault};
 
-use crate::fault::Fault;
+use gtfs_cli::Fault;
 use std::env;
 use std::io::ErrorKind;
 use std::rt::Env;

@@ -29,3 +29,4 @@ mod OnePage
 mod OneBoard
 mod OneMerge
 mod RunOutcomes
+mod Told

@@ -25,6 +25,9 @@
 //!
 //! Where a command cannot be done, one line on the error output says why.
 //!
+//! [`close`] then flushes the output. What a program has to say that cannot call `run`, or whose output is not flushed, is a
+//! [`Fault`], which [`tell`] sends to the error output.
+//!
 //! ```text
 //! let mut folders = DiskFolders::new();
 //! let words = ["gtfs", "board", "feed", "--zone", "Berlin", "--stop", "S1", "--from", "20240401", "--until", "20240402"];
@@ -33,8 +36,12 @@
 #![tactic(auto)]
 
 mod commands;
+mod ending;
+mod fault;
 mod law;
 mod report;
 
 pub use commands::run;
+pub use ending::{close, tell};
+pub use fault::Fault;
 pub use law::{outcomes_are_one, runs_end_with_outcomes};

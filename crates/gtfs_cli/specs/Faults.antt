@@ -1,7 +1,7 @@
 -- What the program itself has to say: of each fault the line for the error output, and the status.
 use Rattle.std.specs.Prelude.{ℕ, List, codes, ⊤}
-use Rattle.gtfs.specs.declared.fault.Fault.{Fault}
-use Rattle.gtfs.specs.declared.fault.Fault.TheVariants.{BadWords, NoRandomSource, OutputFailed, OutOfMemory}
+use Rattle.gtfs_cli.specs.declared.fault.Fault.{Fault}
+use Rattle.gtfs_cli.specs.declared.fault.Fault.TheVariants.{BadWords, NoRandomSource, OutputFailed, OutOfMemory}
 
 abbrev pub line_of : Fault → List ℕ
 line_of BadWords = codes "gtfs: bad words\n"

@@ -1,6 +1,6 @@
 //! What the program itself has to say.
 ghost use Rattle.std.specs.Prelude.{◌≡◌};
-ghost use Rattle.gtfs.specs.Faults.{line_of, status_of};
+ghost use Rattle.gtfs_cli.specs.Faults.{line_of, status_of};
 
 /// Why the program could not answer the words, or not send its answer on.
 #[derive(Clone, Copy)]

@@ -1,8 +1,8 @@
 use Rattle.std.proofs.Common.{◌≡◌, ◌∙◌, List, ℕ, subst}
 use Rattle.gtfs_cli.specs.Sending.{Output, Sends}
-use Rattle.gtfs.specs.Faults.{line_of}
-use Rattle.gtfs.proofs.Told.{sent-so}
-use Rattle.gtfs.proofs.tell.Goals as goal
+use Rattle.gtfs_cli.specs.Faults.{line_of}
+use Rattle.gtfs_cli.proofs.Told.{sent-so}
+use Rattle.gtfs_cli.proofs.ending.tell.Goals as goal
 
 pub returns-clause-told : goal.returns-clause-told
 returns-clause-told g c =
