@@ -116,5 +116,6 @@ says d passes s row placed keeps = record {
   stop_sequence = said _ _ (sequence_there d passes s.row row) keeps.rest.sequence;
   pickup_type = said _ _ (choice_there d passes s.row row (text_at d s.row "pickup_type") (pickup_stands d passes s.row row)) keeps.rest.pickup_type;
   drop_off_type = said _ _ (choice_there d passes s.row row (text_at d s.row "drop_off_type") (drop_off_stands d passes s.row row)) keeps.rest.drop_off_type;
+  has_headsign = keeps.rest.headsign;
   timepoint = keeps.rest.timepoint (read_stands (up_to 1) nothing (text_at d s.row "timepoint") (timepoint_stands d passes s.row row));
 }

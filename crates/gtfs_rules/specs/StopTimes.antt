@@ -1,6 +1,6 @@
 -- The stop times of a dataset that passes, as they are handed on.
 -- GTFS Schedule Reference, the fields of stop_times.txt. Trips and stops are known by the numbers of their ids.
-use Rattle.std.specs.Prelude.{◌≡◌, true, List, map, codes, option_map, Some, pos, IsPermutation}
+use Rattle.std.specs.Prelude.{◌≡◌, true, List, map, codes, not, option_map, Some, pos, IsPermutation}
 use Rattle.std.specs.List.{All}
 use Rattle.std.specs.List.Sorted.{IsStrictlySortedBy}
 use Rattle.std.specs.Ordering.{nat_cmp, on, then_cmp}
@@ -9,7 +9,7 @@ use Rattle.gtfs_table.specs.Tables.{Dataset}
 use Rattle.gtfs_table.specs.Rows.{is_row, records_in, rows}
 use Rattle.gtfs_table.specs.declared.file.File.TheVariants as file
 use Rattle.gtfs_columns.specs.IdNumbers.{id_numbered}
-use Rattle.gtfs_columns.specs.Rows.{amount_in, choice_in, word_in}
+use Rattle.gtfs_columns.specs.Rows.{amount_in, choice_in, is_empty_in, word_in}
 use Rattle.gtfs_trip_rules.specs.declared.trips.row.StopTime.{StopTime}
 use Rattle.gtfs_trip_rules.specs.KeptChoices.{boarding_number, timepoint_number}
 use Rattle.gtfs_trip_rules.specs.KeptTimes.{arrival_time, departure_time}
@@ -25,6 +25,7 @@ pub record SaysStopTime (d : Dataset) (s : StopTime) : Type 0 where
   pub pickup_type : Some (pos (boarding_number s.pickup_type)) ≡ choice_in d file.StopTimes s.row "pickup_type"
   pub drop_off_type : Some (pos (boarding_number s.drop_off_type)) ≡ choice_in d file.StopTimes s.row "drop_off_type"
   pub timepoint : option_map pos (timepoint_number s.timepoint) ≡ amount_in d file.StopTimes s.row "timepoint"
+  pub has_headsign : s.has_headsign ≡ not (is_empty_in d file.StopTimes s.row "stop_headsign")
 
 -- by trip, and in a trip by sequence
 abbrev pub stop_time_cmp : StopTime → StopTime → Ordering

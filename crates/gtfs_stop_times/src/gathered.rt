@@ -1,12 +1,12 @@
 //! The lists of stop times while they are made.
 
-ghost use Rattle.std.specs.Prelude.{◌≡◌, List as Sequence, length, IfOk, OnOk};
+ghost use Rattle.std.specs.Prelude.{◌≡◌, List as Sequence, length, not, IfOk, OnOk};
 ghost use Rattle.gtfs_columns.specs.Problems.{Passes};
 ghost use Rattle.gtfs_rows.specs.Reading.{content_of};
 ghost use Rattle.gtfs_rules.specs.StopTimes.{AreStopTimes};
 ghost use Rattle.gtfs_stop_times.specs.Gathering.{AreGathered, IsEmptyFor};
 ghost use Rattle.gtfs_stop_times.specs.Lists.{AreStopTimesOf};
-ghost use Rattle.gtfs_table.specs.Rows.{records_in};
+ghost use Rattle.gtfs_table.specs.Rows.{is_empty, records_in};
 ghost use Rattle.gtfs_table.specs.Tables.{Dataset, field_under, record_at};
 ghost use Rattle.gtfs_table.specs.declared.file.File.TheVariants as file;
 ghost use Rattle.gtfs_trip_rules.specs.declared.trips.row.StopTime.{StopTime as StopTimeValue};
@@ -63,8 +63,8 @@ impl Gathered {
     {
         let column = tables.column(File::StopTimes, "stop_headsign");
         for stop_time in stop_times {
-            let headsign = self.headsigns.number(text(tables, stop_time.row, column))?;
-            self.starts.resize(stop_time.trip + 1, self.rows.len())?;
+            let headsign = self.headsigns.number(text(tables, stop_time, column))?;
+            self.starts.resize(stop_time.trip as usize + 1, self.rows.len())?;
             self.rows.push(stop_row(stop_time, headsign))?;
         }
         Ok(())
@@ -90,13 +90,17 @@ impl Gathered {
     }
 }
 
-// The text under a column of stop_times.txt. Where there is no such column, no row is looked up.
-fn text(tables: &Tables, row: usize, column: Option<usize>) -> &str
+// The headsign of a stop time, which stands under this column. Where it has none, its row is not looked up.
+fn text<'t>(tables: &'t Tables, stop_time: &StopTime, column: Option<usize>) -> &'t str
+    requires { stop_time.now.has_headsign ≡ not (is_empty (field_under (record_at
+        (records_in tables.now file.StopTimes) stop_time.now.row) column)) }
     ensures { result.now ≡ field_under (record_at
-        (records_in tables.now file.StopTimes) row) column }
+        (records_in tables.now file.StopTimes) stop_time.now.row) column }
 {
     match column {
-        Some(column) => tables.field(File::StopTimes, row, column),
-        None => "",
+        Some(column) if stop_time.has_headsign => {
+            tables.field(File::StopTimes, stop_time.row as usize, column)
+        }
+        _ => "",
     }
 }

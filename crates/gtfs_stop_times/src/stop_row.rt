@@ -14,7 +14,7 @@ pub(crate) fn stop_row(stop_time: &StopTime, stop_headsign: OptionalHeadsign) ->
     ensures { SaysRow stop_time.now stop_headsign result }
 {
     StopRow {
-        stop_id: StopNo(stop_time.stop),
+        stop_id: StopNo(stop_time.stop as usize),
         arrival_time: clock(stop_time.arrival_time()),
         departure_time: clock(stop_time.departure_time()),
         stop_sequence: stop_time.stop_sequence,

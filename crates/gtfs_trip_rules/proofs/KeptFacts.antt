@@ -250,6 +250,7 @@ module _ (d : Dataset) (n : ℕ) (s : ReadStopTime) (is : IsStopTime d n s) wher
             ∙ sym (counted_text (value_in s.departure_time)) ∙ ap (option_and_then as_amount) is.departure_time.value;
         pickup_type = chosen (text_at d n "pickup_type") s.pickup_type is.pickup_type;
         drop_off_type = chosen (text_at d n "drop_off_type") s.drop_off_type is.drop_off_type;
+        headsign = is.has_headsign;
         timepoint = exactness (text_at d n "timepoint") s.is_exact is.is_exact;
       }
 

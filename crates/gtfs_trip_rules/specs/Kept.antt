@@ -1,8 +1,9 @@
 -- What a stop time as it is kept says of its row, where the row's values are readable and what they name is there.
-use Rattle.std.specs.Prelude.{◌≡◌, ℕ, true, Option, Some, option_and_then, option_map, ℤ, pos, [], ◌∷◌, List, codes}
+use Rattle.std.specs.Prelude.{◌≡◌, ℕ, true, Option, Some, option_and_then, option_map, ℤ, pos, [], ◌∷◌, List, codes, not}
 use Rattle.std.specs.List.{All}
 use Rattle.gtfs_table.specs.Tables.{Dataset}
 use Rattle.gtfs_table.specs.declared.file.File.TheVariants as file
+use Rattle.gtfs_table.specs.Rows.{is_empty}
 use Rattle.gtfs_columns.specs.Columns.{count, id, time, up_to}
 use Rattle.gtfs_columns.specs.IdNumbers.{number_in}
 use Rattle.gtfs_columns.specs.ReadRules.{IsReadAs}
@@ -35,6 +36,7 @@ pub record KeepsRow (d : Dataset) (n : ℕ) (r : StopTime) : Type 0 where
   pub departure : is_placed r.times ≡ true → AreTimesRead d n → option_map pos (departure_time r) ≡ amount_of time (text_at d n "departure_time")
   pub pickup_type : (x : ℤ) → choice_of ((0, 3) ∷ []) (codes "0") (text_at d n "pickup_type") ≡ Some x → pos (boarding_number r.pickup_type) ≡ x
   pub drop_off_type : (x : ℤ) → choice_of ((0, 3) ∷ []) (codes "0") (text_at d n "drop_off_type") ≡ Some x → pos (boarding_number r.drop_off_type) ≡ x
+  pub headsign : r.has_headsign ≡ not (is_empty (text_at d n "stop_headsign"))
   pub timepoint : IsReadAs (up_to 1) (text_at d n "timepoint") → option_map pos (timepoint_number r.timepoint) ≡ amount_of (up_to 1) (text_at d n "timepoint")
 
 -- and with its trip

@@ -39,6 +39,7 @@ kept_row s stop = record {
   pickup_type = boarding_in s.pickup_type;
   drop_off_type = boarding_in s.drop_off_type;
   timepoint = timepoint_in s.is_exact;
+  has_headsign = s.has_headsign;
 }
 
 -- what a row says of the trip that it names, whose number is this one
@@ -58,4 +59,5 @@ with_trip r trip = record {
   pickup_type = r.pickup_type;
   drop_off_type = r.drop_off_type;
   timepoint = r.timepoint;
+  has_headsign = r.has_headsign;
 }

@@ -1,5 +1,5 @@
 -- The rows of stop_times.txt, each field of which was read once.
-use Rattle.std.specs.Prelude.{◌≡◌, ℕ, ◌||◌, Bool, true, false, List, [], ◌∷◌, codes, option_and_then, option_map, Option, is_some, pos}
+use Rattle.std.specs.Prelude.{◌≡◌, ℕ, ◌||◌, Bool, true, false, List, [], ◌∷◌, codes, not, option_and_then, option_map, Option, is_some, pos}
 use Rattle.std.specs.List.{list_any}
 use Prim.Native.String.{String as Literal}
 use Rattle.gtfs_table.specs.Tables.{Dataset, column_of}
@@ -61,6 +61,7 @@ pub record IsStopTime (d : Dataset) (n : ℕ) (s : ReadStopTime) : Type 0 where
   pub stop_id : IsReading id (λ t. word t.now) (text_at d n "stop_id") s.stop_id
   pub stop_sequence : IsReading count (λ x. amount (pos x)) (text_at d n "stop_sequence") s.stop_sequence
   pub stop_headsign : s.stop_headsign ≡ fault_of text (text_at d n "stop_headsign")
+  pub has_headsign : s.has_headsign ≡ not (is_empty (text_at d n "stop_headsign"))
   pub pickup_type : IsReading (up_to 3) (λ b. amount (pos (boarding_number b))) (text_at d n "pickup_type") s.pickup_type
   pub drop_off_type : IsReading (up_to 3) (λ b. amount (pos (boarding_number b))) (text_at d n "drop_off_type") s.drop_off_type
   pub is_exact : IsReading (up_to 1) (λ e. amount (pos (exact_number e))) (text_at d n "timepoint") s.is_exact

@@ -97,7 +97,7 @@ fn take_note<'i>(
         → AreNumbersOf d stop_time.now ids.now
         → AllKeep d notes.old.rows → AllKeep d notes.new.rows) }
 {
-    match stop_time.trip_note(ids.trip.number, ids.stop.number) {
+    match stop_time.trip_note(ids.trip.number, ids.stop.number)? {
         Some(note) => notes.note(note),
         None => Ok(()),
     }

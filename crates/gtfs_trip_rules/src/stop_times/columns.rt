@@ -1,4 +1,4 @@
-ghost use Rattle.std.specs.Prelude.{◌≡◌, option_map};
+ghost use Rattle.std.specs.Prelude.{◌≡◌, option_map, IfOk};
 ghost use Rattle.gtfs_table.specs.Tables.{record_at};
 ghost use Rattle.gtfs_table.specs.declared.file.File.TheVariants as file;
 ghost use Rattle.gtfs_columns.specs.steps.ColumnView.{kind_of};
@@ -14,8 +14,9 @@ use crate::stop_times::reading::{
     Reading, read_beside, read_boarding, read_is_exact, read_number, read_seconds,
 };
 use crate::trips::notes::TripNote;
-use crate::trips::row::{Boarding, StopTime};
+use crate::trips::row::{Boarding, StopTime, small_number};
 use gtfs_columns::{Code, Kind, fault_code};
+use gtfs_field::OutOfMemory;
 use gtfs_table::{File, Record, Tables};
 
 // The indices of the kept columns of stop_times.txt, and how many fields its header has.
@@ -47,6 +48,7 @@ pub(crate) struct ReadStopTime<'a> {
     pub(crate) stop_sequence: Reading<u32>,
     // What is wrong with this field.
     pub(crate) stop_headsign: Option<Code>,
+    pub(crate) has_headsign: bool,
     pub(crate) pickup_type: Reading<Boarding>,
     pub(crate) drop_off_type: Reading<Boarding>,
     // Whether its times are exact.
@@ -56,27 +58,34 @@ pub(crate) struct ReadStopTime<'a> {
 impl<'a> ReadStopTime<'a> {
     // What the row says of its trip, where it names one; these are the numbers that the trip and the
     // stop of the row have.
-    pub(crate) fn trip_note(&self, trip: Option<usize>, stop: Option<usize>) -> Option<TripNote<'a>>
-        ensures { result ≡ option_map (note_of_trip trip (kept_row self.now stop))
-            (value_in self.now.trip_id) }
+    pub(crate) fn trip_note(
+        &self,
+        trip: Option<usize>,
+        stop: Option<usize>,
+    ) -> Result<Option<TripNote<'a>>, OutOfMemory>
+        ensures { IfOk result (λ note. note ≡ option_map (note_of_trip trip (kept_row self.now stop))
+            (value_in self.now.trip_id)) }
     {
-        Some(TripNote {
-            trip_id: self.trip_id.value()?,
-            number: trip,
-            kept: self.kept(stop),
-        })
+        match self.trip_id.value() {
+            Some(trip_id) => Ok(Some(TripNote {
+                trip_id,
+                number: trip,
+                kept: self.kept(stop)?,
+            })),
+            None => Ok(None),
+        }
     }
 
     // The row as it is kept, before it has the number of its trip.
-    fn kept(&self, stop: Option<usize>) -> StopTime
-        ensures { result ≡ kept_row self.now stop }
+    fn kept(&self, stop: Option<usize>) -> Result<StopTime, OutOfMemory>
+        ensures { IfOk result (λ kept. kept ≡ kept_row self.now stop) }
     {
         let times = kept_times(&self.arrival_time, &self.departure_time);
         let sequence = self.stop_sequence.value();
-        StopTime {
+        Ok(StopTime {
             trip: 0,
-            stop: stop.unwrap_or(0),
-            row: self.row,
+            stop: small_number(stop.unwrap_or(0))?,
+            row: small_number(self.row)?,
             arrival: times.arrival,
             departure: times.departure,
             stop_sequence: sequence.unwrap_or(0),
@@ -84,7 +93,8 @@ impl<'a> ReadStopTime<'a> {
             pickup_type: boarding_in(self.pickup_type),
             drop_off_type: boarding_in(self.drop_off_type),
             timepoint: timepoint_in(self.is_exact),
-        }
+            has_headsign: self.has_headsign,
+        })
     }
 }
 
@@ -130,6 +140,7 @@ impl<'a> StopTimeColumns<'a> {
         let arrival = record.value(self.arrival_time);
         let departure = record.value(self.departure_time);
         let arrival_time = read_seconds(arrival);
+        let headsign = record.value(self.stop_headsign);
         ReadStopTime {
             row,
             fields: record.len(),
@@ -138,7 +149,8 @@ impl<'a> StopTimeColumns<'a> {
             departure_time: read_beside(departure, arrival, arrival_time),
             stop_id,
             stop_sequence: read_number(record.value(self.stop_sequence)),
-            stop_headsign: fault_in_text(Kind::Text, record.value(self.stop_headsign)),
+            stop_headsign: fault_in_text(Kind::Text, headsign),
+            has_headsign: !headsign.is_empty(),
             pickup_type: read_boarding(record.value(self.pickup_type)),
             drop_off_type: read_boarding(record.value(self.drop_off_type)),
             is_exact: read_is_exact(record.value(self.timepoint)),

@@ -9,7 +9,7 @@ ghost use Rattle.gtfs_trip_rules.specs.TripNotes.{rows_of_notes, times_noted, tr
 ghost use Rattle.gtfs_trip_rules.specs.TripNumbers.{AreRowsNumbered};
 
 use crate::trips::numbers::trip_number;
-use crate::trips::row::StopTime;
+use crate::trips::row::{StopTime, small_number};
 use crate::trips::row_counts::{RowCounts, make_room};
 use gtfs_columns::{Finder, Ids};
 use gtfs_field::OutOfMemory;
@@ -98,7 +98,7 @@ impl<'a> TripNotes<'a> {
             note.number,
         )?;
         make_room(&mut self.counts, self.trips.len(), trip)?;
-        let row = note.kept.of_trip(trip);
+        let row = note.kept.of_trip(small_number(trip)?);
         self.rows.push(row)?;
         let count = &mut self.counts[trip];
         *count = (*count + 1).min(2);

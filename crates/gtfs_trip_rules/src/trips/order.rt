@@ -149,7 +149,7 @@ fn problem<'a>(row: &StopTime, code: Code, column: &'static str) -> Problem<'a>
 {
     Problem {
         file: FileName::Kept(File::StopTimes),
-        row: row.row,
+        row: row.row as usize,
         code,
         column,
     }

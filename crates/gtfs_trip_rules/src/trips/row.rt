@@ -1,6 +1,8 @@
-ghost use Rattle.std.specs.Prelude.{◌≡◌};
+ghost use Rattle.std.specs.Prelude.{◌≡◌, IfOk};
 ghost use Rattle.gtfs_trip_rules.specs.KeptRow.{with_trip};
 ghost use Rattle.gtfs_trip_rules.specs.KeptTimes.{arrival_time, arrives, departs, departure_time, is_placed, is_timed, is_untimed};
+
+use gtfs_field::OutOfMemory;
 
 /// How passengers board at a stop or get off (GTFS Schedule Reference, `pickup_type` and
 /// `drop_off_type` of stop_times.txt).
@@ -45,15 +47,15 @@ pub(crate) enum Times {
 
 /// A stop time: a row of stop_times.txt as it was read, with numbers in place of ids.
 ///
-/// It has 40 bytes. The texts of the row are read of the tables by its number.
+/// It has 32 bytes. The texts of the row are read of the tables by its number.
 #[derive(Clone, Copy)]
 pub struct StopTime {
     /// The number of its trip: how many ids of trips.txt come before that trip's id by their bytes.
-    pub trip: usize,
+    pub trip: u32,
     /// The number of its stop: how many ids of stops.txt come before that stop's id by their bytes.
-    pub stop: usize,
+    pub stop: u32,
     /// The number of its row.
-    pub row: usize,
+    pub row: u32,
     pub(crate) arrival: u32,
     pub(crate) departure: u32,
     /// Where it stands in its trip: a number from 0 to 2,147,483,647.
@@ -65,12 +67,25 @@ pub struct StopTime {
     pub drop_off_type: Boarding,
     /// Whether its times are exact.
     pub timepoint: Timepoint,
+    /// Whether its row has a headsign, a field that is not blank.
+    pub has_headsign: bool,
+}
+
+// A number as a stop time keeps it. No number is left for more than 4,294,967,295 rows, stops or trips.
+#[inline(always)]
+pub(crate) fn small_number(number: usize) -> Result<u32, OutOfMemory>
+    ensures { IfOk result (λ small. small ≡ number) }
+{
+    match u32::try_from(number) {
+        Ok(small) => Ok(small),
+        Err(_) => Err(OutOfMemory),
+    }
 }
 
 impl StopTime {
     // The row, whose trip has this number.
     #[inline(always)]
-    pub(crate) fn of_trip(self, trip: usize) -> StopTime
+    pub(crate) fn of_trip(self, trip: u32) -> StopTime
         ensures { result ≡ with_trip self trip }
     {
         StopTime { trip, ..self }

@@ -14,13 +14,13 @@ returns-in-Some-clause-notes c =
     let s = c.args.stop_time.now in
     on_ok_weaker c.note.result (λ added. λ d n is.
     added ∙ ap (λ o. c.args.notes.now.notes ++ cons_option o [])
-    (ap (option_map trip_note) (sym c.in-Some.is ∙ c.trip_note.ensures) ∙ note_said d n s is c.args.ids.now.stop.number c.args.ids.now.trip.number)) c.note.ensures.notes
+    (ap (option_map trip_note) (sym c.in-Some.is ∙ c.in_ok-note.ensures) ∙ note_said d n s is c.args.ids.now.stop.number c.args.ids.now.trip.number)) c.note.ensures.notes
 
 pub returns-in-Some-clause-kept : goal.returns-in-Some-clause-kept
 returns-in-Some-clause-kept c =
     let s = c.args.stop_time.now in
     let names = c.args.ids.now in
-    let made : Some c.in-Some.note ≡ option_map (note_of_trip names.trip.number (kept_row s names.stop.number)) (value_in s.trip_id) = sym c.in-Some.is ∙ c.trip_note.ensures in
+    let made : Some c.in-Some.note ≡ option_map (note_of_trip names.trip.number (kept_row s names.stop.number)) (value_in s.trip_id) = sym c.in-Some.is ∙ c.in_ok-note.ensures in
     let from = note_from c.in-Some.note names.trip.number (kept_row s names.stop.number) (value_in s.trip_id) made in
     on_ok_weaker c.note.result (λ noted. λ d n is are each.
     subst (AllKeep d) (sym noted.rows) (All-push (Keeps d) c.args.notes.now.rows (with_trip c.in-Some.note.kept noted.trip) each

@@ -2,6 +2,7 @@ use Rattle.std.proofs.Common.{◌≡◌, ◌≤◌, ◌∙◌, ◌++◌, ◌∷�
 use Rattle.std.specs.Prelude.{◌&&◌}
 use Rattle.std.proofs.lemmas.List.{map-append}
 use Rattle.gtfs_columns.specs.steps.Ids.{ids_of, number_with}
+use Rattle.gtfs_trip_rules.specs.KeptRow.{with_trip}
 use Rattle.gtfs_trip_rules.specs.KeptTimes.{is_placed}
 use Rattle.gtfs_trip_rules.specs.TripNotes.{note_of, said}
 use Rattle.gtfs_trip_rules.specs.TripNumbers.{name_at, other_number}
@@ -20,6 +21,13 @@ invariant_of-self c =
 
 pub invariant_of-self-in_err-make_room : goal.invariant_of-self-in_err-make_room
 invariant_of-self-in_err-make_room c =
+    let n = c.self.inside in
+    let trips = ids_of n.trips.now in
+    let reported = c.trip_number.ensures in
+    still_kept trips n.numbers c.trip_number.new.numbers n.names.items c.trip_number.new.names.items n.counts.items c.make_room.new.counts.items n.are_sequenced n.rows.items c.self.invariant reported.keeps reported.named c.make_room.ensures.same
+
+pub invariant_of-self-in_err-small_number : goal.invariant_of-self-in_err-small_number
+invariant_of-self-in_err-small_number c =
     let n = c.self.inside in
     let trips = ids_of n.trips.now in
     let reported = c.trip_number.ensures in
@@ -63,7 +71,7 @@ invariant_of-self-2 c =
       | then-self w ↦ w.self-is ∙ w.is_placed-self-inside.ensures ∙ ap (λ b. b && is_placed c.of_trip-row.result.times) (sym w.if-self.true)
       | else-self w ↦ w.self-is ∙ w.if-self.false ∙ ap (λ b. b && is_placed c.of_trip-row.result.times) (sym w.if-self.false)
     ] in
-    let of_trip : c.of_trip-row.result.trip ≡ c.in_ok-trip.trip = ap (λ r. r.trip) c.of_trip-row.ensures in
+    let of_trip : c.of_trip-row.result.trip ≡ c.in_ok-trip.trip = ap (λ r. r.trip) c.of_trip-row.ensures ∙ c.in_ok-small_number.ensures in
     rw (c.in_ok-push.ensures.items, ← of_trip)
     (one_kept trips c.trip_number.new.numbers c.trip_number.new.names.items c.make_room.new.counts.items n.are_sequenced n.rows.items c.of_trip-row.result c.args.note.trip_id.now c.index_mut-count.result.now c.min.result c.if-self.self both kept
     (rw of_trip c.in_ok-trip.ensures.number) (rw of_trip inside) (rw of_trip c.index_mut-count.ensures.value) c.min.ensures)
@@ -79,7 +87,7 @@ returns-clause-notes c =
     let named : name c.in_ok-trip.trip ≡ c.args.note.trip_id.now = (reported.named _ _ c.in_ok-trip.ensures.number).1 in
     ap (map (note_of name)) c.in_ok-push.ensures.items
     ∙ map-append (note_of name) rows (c.of_trip-row.result ∷ [])
-    ∙ (λ i. before i ++ (ap (note_of name) c.of_trip-row.ensures ∙ ap (λ t. record { trip_id = t; row = said (λ n. t) c.args.note.kept }) named) i ∷ [])
+    ∙ (λ i. before i ++ (ap (note_of name) (c.of_trip-row.ensures ∙ ap (with_trip c.args.note.kept) c.in_ok-small_number.ensures) ∙ ap (λ t. record { trip_id = t; row = said (λ n. t) c.args.note.kept }) named) i ∷ [])
 
 pub returns-clause-rows : goal.returns-clause-rows
 returns-clause-rows c =
@@ -87,7 +95,7 @@ returns-clause-rows c =
     let told : c.args.note.number ≡ number_with c.self.inside.trips.now id = c.requires ∙ ap (λ v. number_with v.trips id) (sym c.self.view_is) in
     record {
       trip = c.in_ok-trip.trip;
-      rows = c.in_ok-push.ensures.items ∙ (λ i. ap (λ v. v.rows) c.self.view_is i ++ c.of_trip-row.ensures i ∷ []);
+      rows = c.in_ok-push.ensures.items ∙ (λ i. ap (λ v. v.rows) c.self.view_is i ++ (c.of_trip-row.ensures ∙ ap (with_trip c.args.note.kept) c.in_ok-small_number.ensures) i ∷ []);
       known = λ n is. ap (λ o. unwrap_or o n)
           (sym c.in_ok-trip.ensures.number ∙ ap (λ o. option_or o (other_number c.trip_number.new.numbers id)) (sym told ∙ is));
     }
