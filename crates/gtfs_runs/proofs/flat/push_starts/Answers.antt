@@ -2,6 +2,7 @@ use Rattle.std.proofs.Common.{◌≡◌, ◌<◌, ◌++◌, List, [], ◌∷◌,
 use Rattle.std.proofs.lemmas.List.Elements.{All-push}
 use Rattle.gtfs_runs.proofs.Tallies.{second_left, second_pushed}
 use Rattle.gtfs_runs.proofs.flat.push_starts.Goals.{then-second-start-eq0+in_ok-push, else-second-start-eq0}
+use Rattle.gtfs_runs.proofs.Pushes.{none-done}
 use Rattle.gtfs_runs.proofs.flat.push_starts.Goals as goal
 
 pub loop-second-preserved : goal.loop-second-preserved
@@ -29,3 +30,9 @@ loop-second-preserved c =
             omega (arith, c.loop-second-test.true),
           )
     ]
+
+pub returns-in_err-push : goal.returns-in_err-push
+returns-in_err-push c =
+    let r = c.from_residual.result in
+    let refused = c.from_residual.ensures.1 in
+    record { runs = none-done r _ _ refused; early = none-done r _ _ refused }

@@ -3,6 +3,7 @@ use Rattle.std.specs.Prelude.{pos, ◌+ℤ◌, ◌≤ℤ◌}
 use Rattle.std.specs.Option.{option_to_list}
 use Rattle.std.proofs.Math.Nat.{le_refl}
 use Rattle.std.proofs.lemmas.Int.{to_z-of_z, ints}
+use Rattle.gtfs_runs.proofs.Pushes.{none-made}
 use Rattle.gtfs_board.specs.merge.Candidates.{least_from}
 use Rattle.gtfs_board.proofs.Ints.{after_within, day_after, days_left, le_chain, up_more}
 use Rattle.gtfs_board.proofs.Merges.{aside_later}
@@ -107,3 +108,9 @@ pub returns-clause-steps : goal.returns-clause-steps
 returns-clause-steps g c =
     let day_is = to_z-of_z w32 c.args.day c.ranges.day in
     rw day_is at c.loop-fresh.invariant.steps
+
+pub returns-in_err-least : goal.returns-in_err-least
+returns-in_err-least g c =
+    let r = c.from_residual.result in
+    let refused = c.from_residual.ensures.1 in
+    record { gathered = none-made r _ _ refused; stopped = none-made r _ _ refused; range = none-made r _ _ refused; steps = none-made r _ _ refused }

@@ -14,6 +14,7 @@ use Rattle.gtfs_runs.proofs.Chunks.{all_mapped}
 use Rattle.gtfs_runs.proofs.LatestEvents.{latest_is}
 use Rattle.gtfs_runs.proofs.OneList.{have_one_list}
 use Rattle.gtfs_runs.proofs.WholeLanes.{are_by_kind, are_lanes, strictly}
+use Rattle.gtfs_runs.proofs.Pushes.{none-made}
 use Rattle.gtfs_runs.proofs.stop_lanes.StopLanes.build.Goals as goal
 
 pub numbered-requires : goal.numbered-requires
@@ -74,3 +75,27 @@ returns-clause-greatest c =
     let lanes = map list_value c.in_ok-lists.lists.items ++ map period_value c.in_ok-found.found.periods.items in
     c.latest-greatest.ensures ∙ (λ i. latest_of (flat_map (λ lane. lane.events) (map list_value (c.deref-2.ensures.value i) ++ map period_value (c.deref-3.ensures.value i))))
     ∙ latest_is p c.soundness.ensures c.args.stop.0 lanes (returns-clause-lanes c)
+
+pub returns-in_err-place : goal.returns-in_err-place
+returns-in_err-place c =
+    let r = c.from_residual.result in
+    let refused = c.from_residual.ensures.1 in
+    record { lanes = none-made r _ _ refused; kinds = none-made r _ _ refused; greatest = none-made r _ _ refused; steps = none-made r _ _ refused }
+
+pub returns-in_err-found : goal.returns-in_err-found
+returns-in_err-found c =
+    let r = c.from_residual-in_err-found.result in
+    let refused = c.from_residual-in_err-found.ensures.1 in
+    record { lanes = none-made r _ _ refused; kinds = none-made r _ _ refused; greatest = none-made r _ _ refused; steps = none-made r _ _ refused }
+
+pub returns-in_err-listed : goal.returns-in_err-listed
+returns-in_err-listed c =
+    let r = c.from_residual-in_err-listed.result in
+    let refused = c.from_residual-in_err-listed.ensures.1 in
+    record { lanes = none-made r _ _ refused; kinds = none-made r _ _ refused; greatest = none-made r _ _ refused; steps = none-made r _ _ refused }
+
+pub returns-in_err-lists : goal.returns-in_err-lists
+returns-in_err-lists c =
+    let r = c.from_residual-in_err-lists.result in
+    let refused = c.from_residual-in_err-lists.ensures.1 in
+    record { lanes = none-made r _ _ refused; kinds = none-made r _ _ refused; greatest = none-made r _ _ refused; steps = none-made r _ _ refused }

@@ -8,6 +8,7 @@ use Rattle.gtfs_runs.specs.StopLanes.{list_value}
 use Rattle.gtfs_runs.specs.steps.Courses.{how_many, is_same_course, stopping_of}
 use Rattle.gtfs_runs.proofs.Chunks.{fewer, lane_of_course, lane_up, told_list}
 use Rattle.gtfs_runs.proofs.CourseOrder.{count_more}
+use Rattle.gtfs_runs.proofs.Pushes.{none-made}
 use Rattle.gtfs_runs.proofs.stop_lanes.lists.add_list.Goals as goal
 
 pub list_lane-requires : goal.list_lane-requires
@@ -51,3 +52,15 @@ returns-clause-counted c =
     count_more (length c.args.lists.now.items) (length c.push.new.self.items) (how_many is_same_course (map (λ x. x.course) (map stopping_of (drop len.result c.args.listed.now))))
     (how_many is_same_course (map (λ x. x.course) (map stopping_of c.args.listed.now))) more
     (fewer c.args.listed.now len.result c.index-listed-0.result len.ensures.some len.ensures.within c.requires.sorted len.ensures.same c.index-listed-0.is len.ensures.ends)
+
+pub returns-in_err-list : goal.returns-in_err-list
+returns-in_err-list c =
+    let r = c.from_residual.result in
+    let refused = c.from_residual.ensures.1 in
+    record { some = none-made r _ _ refused; upto = none-made r _ _ refused; told = none-made r _ _ refused; counted = none-made r _ _ refused; within = none-made r _ _ refused; alike = none-made r _ _ refused }
+
+pub returns-in_err-push : goal.returns-in_err-push
+returns-in_err-push c =
+    let r = c.from_residual-in_err-push.result in
+    let refused = c.from_residual-in_err-push.ensures.1 in
+    record { some = none-made r _ _ refused; upto = none-made r _ _ refused; told = none-made r _ _ refused; counted = none-made r _ _ refused; within = none-made r _ _ refused; alike = none-made r _ _ refused }

@@ -8,6 +8,7 @@ use Rattle.gtfs_runs.specs.steps.Courses.{IsListed, how_many, is_same_course, st
 use Rattle.gtfs_runs.specs.steps.Numbers.{AreNumbered}
 use Rattle.gtfs_runs.proofs.Chunks.{drop_up, left_more, upto_more}
 use Rattle.gtfs_runs.proofs.Numbers.{numbers_left}
+use Rattle.gtfs_runs.proofs.Pushes.{none-made}
 use Rattle.gtfs_runs.proofs.stop_lanes.lists.lists.Goals as goal
 
 pub add_list-requires-clause-sorted : goal.add_list-requires-clause-sorted
@@ -40,3 +41,9 @@ loop-at-preserved c =
       within = λ m serve. told.within m (subst (All (λ x. x.service.0 < m)) (sym here) (All-drop (λ x. x.service.0 < m) at xs serve)) (so_far.within m serve);
       alike = λ p own. told.alike p (subst (All (λ x. IsListed p (stopping_of x))) (sym here) (All-drop (λ x. IsListed p (stopping_of x)) at xs own)) (so_far.alike p own);
     }
+
+pub returns-in_err-at : goal.returns-in_err-at
+returns-in_err-at c =
+    let r = c.from_residual.result in
+    let refused = c.from_residual.ensures.1 in
+    record { told = none-made r _ _ refused; counted = none-made r _ _ refused; within = none-made r _ _ refused; alike = none-made r _ _ refused }

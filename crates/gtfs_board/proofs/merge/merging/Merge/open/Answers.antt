@@ -2,6 +2,7 @@ use Rattle.std.proofs.Common.{rules, ◌≡◌, ◌+◌, ◌++◌, [], w32, w64,
 use Rattle.std.specs.Prelude.{◌-ℤ◌}
 use Rattle.std.specs.Option.{option_to_list}
 use Rattle.std.proofs.lemmas.Int.{to_z-of_z}
+use Rattle.gtfs_runs.proofs.Pushes.{none-made}
 use Rattle.gtfs_board.specs.merge.Lanes.{IsStartDay}
 use Rattle.gtfs_board.specs.merge.Candidates.{candidate_lt, least_from}
 use Rattle.gtfs_board.proofs.Ints.{le_chain}
@@ -143,3 +144,15 @@ returns-clause-steps g c =
     let mark = least_from (g.S.Source.end s) (heap_items c.new-others.result ++ option_to_list None) in
     let began_next = still_from low (g.S.Source.last s) begin next_day began.unopened up1 in
     rw (to_z-of_z w64 floor.instant instant_fits) (steps_opened_from (g.S.Source.count s) low (g.S.Source.last s) least _ next_day mark day (g.S.Source.days s) _ c.gather.new.steps began_next few (q.1 ∙ sym r.1))
+
+pub returns-in_err-gathered : goal.returns-in_err-gathered
+returns-in_err-gathered g c =
+    let r = c.from_residual.result in
+    let refused = c.from_residual.ensures.1 in
+    record { rest = none-made r _ _ refused; queued = none-made r _ _ refused; settings = none-made r _ _ refused; steps = none-made r _ _ refused }
+
+pub returns-in_err-first : goal.returns-in_err-first
+returns-in_err-first g c =
+    let r = c.from_residual-in_err-first.result in
+    let refused = c.from_residual-in_err-first.ensures.1 in
+    record { rest = none-made r _ _ refused; queued = none-made r _ _ refused; settings = none-made r _ _ refused; steps = none-made r _ _ refused }
