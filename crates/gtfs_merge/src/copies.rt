@@ -1,4 +1,4 @@
-ghost use Rattle.std.specs.Prelude.{◌≡◌, IfOk};
+ghost use Rattle.std.specs.Prelude.{◌≡◌, IfOk, OnOk};
 
 use gtfs_field::{OutOfMemory, Text};
 use std::alloc::Global;
@@ -15,6 +15,18 @@ pub(crate) fn copied(alloc: Global, text: &Text) -> Result<Text, OutOfMemory>
     ensures { IfOk result (λ t. t ≡ text.now) }
 {
     own(alloc, text.as_str())
+}
+
+// Makes a text that may be missing the same as another.
+pub(crate) fn copy_if_any(
+    alloc: Global,
+    text: &Option<Text>,
+    other: &mut Option<Text>,
+) -> Result<(), OutOfMemory>
+    ensures { OnOk result (other.new ≡ text.now) }
+{
+    *other = copied_if_any(alloc, text)?;
+    Ok(())
 }
 
 // The same text once more, if there is one.

@@ -6,6 +6,7 @@ use crate::joined_routes::joined_routes;
 use crate::joined_stops::joined_stops;
 use crate::joined_trips::joined_trips;
 use crate::kind::Kind;
+use crate::numbers::{agency_number, route_number, service_number, stop_number, trip_number};
 use gtfs_feed::Feed;
 use gtfs_field::OutOfMemory;
 use gtfs_rows::{AgencyNo, RouteNo, ServiceNo, StopNo, TripNo};
@@ -81,11 +82,11 @@ impl Joined {
         ensures { result ≡ slice_index_or (of_kind self.now kind) number None }
     {
         match kind {
-            Kind::Agency => Some(self.agencies[number]?.0),
-            Kind::Stop => Some(self.stops[number]?.0),
-            Kind::Route => Some(self.routes[number]?.0),
-            Kind::Service => Some(self.services[number]?.0),
-            Kind::Trip => Some(self.trips[number]?.0),
+            Kind::Agency => agency_number(self.agencies[number]),
+            Kind::Stop => stop_number(self.stops[number]),
+            Kind::Route => route_number(self.routes[number]),
+            Kind::Service => service_number(self.services[number]),
+            Kind::Trip => trip_number(self.trips[number]),
         }
     }
 

@@ -2,6 +2,7 @@ ghost use Rattle.std.specs.Prelude.{◌≡◌, ◌<◌, [], bytes_eq, length, po
 ghost use Rattle.gtfs_merge.specs.Numbered.{known_ids};
 
 use crate::kind::Kind;
+use crate::numbers::{agency_number, route_number, service_number, stop_number, trip_number};
 use gtfs_feed::Feed;
 use gtfs_rows::{AgencyNo, RouteNo, ServiceNo, StopNo, TripNo};
 
@@ -37,10 +38,10 @@ pub(crate) fn number_of(feed: &Feed, kind: Kind, id: &str) -> Option<usize>
     ensures { result ≡ position (bytes_eq id.now) (known_ids kind feed.now) }
 {
     match kind {
-        Kind::Agency => Some(feed.agency(id)?.0),
-        Kind::Stop => Some(feed.stop(id)?.0),
-        Kind::Route => Some(feed.route(id)?.0),
-        Kind::Service => Some(feed.service(id)?.0),
-        Kind::Trip => Some(feed.trip(id)?.0),
+        Kind::Agency => agency_number(feed.agency(id)),
+        Kind::Stop => stop_number(feed.stop(id)),
+        Kind::Route => route_number(feed.route(id)),
+        Kind::Service => service_number(feed.service(id)),
+        Kind::Trip => trip_number(feed.trip(id)),
     }
 }

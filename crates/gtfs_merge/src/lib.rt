@@ -39,6 +39,7 @@ mod merging;
 mod names;
 mod new_ids;
 mod new_names;
+mod numbers;
 mod order;
 mod renamed;
 mod renumbered;

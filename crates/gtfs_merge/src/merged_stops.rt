@@ -1,11 +1,11 @@
-ghost use Rattle.std.specs.Prelude.{◌≡◌, ◌<◌, IfOk, IfSome, length, map, option_map, slice_index_or, true};
+ghost use Rattle.std.specs.Prelude.{◌≡◌, ◌<◌, IfOk, IfSome, OnOk, length, map, option_map, slice_index_or, true};
 ghost use Rattle.std.specs.List.{list_all};
 ghost use Rattle.gtfs_parts.specs.Named.{names_parent, stop_named};
 ghost use Rattle.gtfs_merge.specs.KindRows.{AreKindRows};
 ghost use Rattle.gtfs_merge.specs.Sides.{merged_ids, merged_parts};
 ghost use Rattle.gtfs_merge.specs.declared.kind.Kind.TheVariants as kind;
 
-use crate::copies::{copied_if_any, own};
+use crate::copies::{copy_if_any, own};
 use crate::kind_rows::KindRows;
 use crate::sides::side_of;
 use gtfs_feed::Feed;
@@ -60,18 +60,40 @@ fn with_id(
     ensures { IfOk result (λ other. other
         ≡ record stop.now { stop_id = id.now; parent_station = parent }) }
 {
-    Ok(Stop {
+    let mut other = Stop {
         stop_id: own(alloc, id)?,
-        stop_code: copied_if_any(alloc, &stop.stop_code)?,
-        stop_name: copied_if_any(alloc, &stop.stop_name)?,
-        tts_stop_name: copied_if_any(alloc, &stop.tts_stop_name)?,
-        stop_desc: copied_if_any(alloc, &stop.stop_desc)?,
+        stop_code: None,
+        stop_name: None,
+        tts_stop_name: None,
+        stop_desc: None,
         stop_lat: stop.stop_lat,
         stop_lon: stop.stop_lon,
-        stop_url: copied_if_any(alloc, &stop.stop_url)?,
+        stop_url: None,
         location_type: stop.location_type,
         parent_station: parent,
         wheelchair_boarding: stop.wheelchair_boarding,
-        platform_code: copied_if_any(alloc, &stop.platform_code)?,
-    })
+        platform_code: None,
+    };
+    copy_texts(alloc, stop, &mut other)?;
+    Ok(other)
+}
+
+// Gives a stop all texts of another but its id. It owns nothing that a refusal would let go.
+fn copy_texts(alloc: Global, stop: &Stop, other: &mut Stop) -> Result<(), OutOfMemory>
+    ensures { OnOk result (other.new ≡ record other.old {
+      stop_code = stop.now.stop_code;
+      stop_name = stop.now.stop_name;
+      tts_stop_name = stop.now.tts_stop_name;
+      stop_desc = stop.now.stop_desc;
+      stop_url = stop.now.stop_url;
+      platform_code = stop.now.platform_code;
+    }) }
+{
+    copy_if_any(alloc, &stop.stop_code, &mut other.stop_code)?;
+    copy_if_any(alloc, &stop.stop_name, &mut other.stop_name)?;
+    copy_if_any(alloc, &stop.tts_stop_name, &mut other.tts_stop_name)?;
+    copy_if_any(alloc, &stop.stop_desc, &mut other.stop_desc)?;
+    copy_if_any(alloc, &stop.stop_url, &mut other.stop_url)?;
+    copy_if_any(alloc, &stop.platform_code, &mut other.platform_code)?;
+    Ok(())
 }

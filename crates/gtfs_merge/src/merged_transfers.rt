@@ -9,6 +9,7 @@ ghost use Rattle.gtfs_merge.specs.Transfers.{AreEntriesOf, IsWithin, ends_cmp, m
 
 use crate::kind::Side;
 use crate::merged_kinds::MergedKinds;
+use crate::numbers::{route_number, stop_number, trip_number};
 use crate::sides::side_of;
 use gtfs_feed::Feed;
 use gtfs_field::{List as Listed, OutOfMemory};
@@ -64,34 +65,13 @@ fn ends(transfer: &Transfer) -> [Option<usize>; 6]
     ensures { result ≡ transfer_numbers transfer.now }
 {
     [
-        stop_part(transfer.from_stop_id),
-        stop_part(transfer.to_stop_id),
-        route_part(transfer.from_route_id),
-        route_part(transfer.to_route_id),
-        trip_part(transfer.from_trip_id),
-        trip_part(transfer.to_trip_id),
+        stop_number(transfer.from_stop_id),
+        stop_number(transfer.to_stop_id),
+        route_number(transfer.from_route_id),
+        route_number(transfer.to_route_id),
+        trip_number(transfer.from_trip_id),
+        trip_number(transfer.to_trip_id),
     ]
-}
-
-fn stop_part(stop: Option<StopNo>) -> Option<usize>
-    ensures { result ≡ option_map (λ n. n.0) stop }
-{
-    let stop = stop?;
-    Some(stop.0)
-}
-
-fn route_part(route: Option<RouteNo>) -> Option<usize>
-    ensures { result ≡ option_map (λ n. n.0) route }
-{
-    let route = route?;
-    Some(route.0)
-}
-
-fn trip_part(trip: Option<TripNo>) -> Option<usize>
-    ensures { result ≡ option_map (λ n. n.0) trip }
-{
-    let trip = trip?;
-    Some(trip.0)
 }
 
 // The transfer of a side with the new numbers of what it names.

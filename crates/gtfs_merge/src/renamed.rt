@@ -124,10 +124,9 @@ impl Renamed {
     fn with_room(alloc: Global, random: RandomState, count: usize) -> Result<Renamed, OutOfMemory>
         ensures { IfOk result (λ ids. ids ≡ record { ids = []; names = [] }) }
     {
-        Ok(Renamed {
-            ids: IndexSet::with_capacity_and_hasher(alloc, count, random)?,
-            names: Vec::with_capacity(alloc, count)?,
-        })
+        let names = Vec::with_capacity(alloc, count)?;
+        let ids = IndexSet::with_capacity_and_hasher(alloc, count, random)?;
+        Ok(Renamed { ids, names })
     }
 
     // Adds an id that is not there, which takes the next number, and what it became.
@@ -135,9 +134,9 @@ impl Renamed {
         requires { list_any (bytes_eq id.now) self.old.ids ≡ false }
         ensures { OnOk result (self.new ≡ with_id self.old id.now (string_bytes name)) }
     {
+        self.names.push(name)?;
         let key = String::from_str(alloc, id)?;
         self.ids.insert(key)?;
-        self.names.push(name)?;
         Ok(())
     }
 }
