@@ -1,5 +1,6 @@
 //! Words that ask for a command.
 
+use crate::asserts::assert_equal;
 use gtfs_words::{Command, read_words, words_ask_for_one};
 use std::test::Fail;
 
@@ -9,7 +10,7 @@ fn check_has_its_folder(rt: HostRuntime) -> Result<(), Fail> {
     let Ok(Command::Check(dir)) = read_words(rt.alloc(), &["gtfs", "check", "f1"]) else {
         return Err("no check".into());
     };
-    assert_eq!(&rt; dir, "f1");
+    assert_equal(&rt, dir, "f1");
     Ok(())
 }
 
@@ -33,13 +34,13 @@ fn board_has_all_its_texts(rt: HostRuntime) -> Result<(), Fail> {
     let Ok(Command::Board(board)) = read_words(rt.alloc(), &words) else {
         return Err("no board".into());
     };
-    assert_eq!(&rt; board.dir, "f1");
-    assert_eq!(&rt; board.zone, "z1");
-    assert_eq!(&rt; board.stop, "-x");
-    assert_eq!(&rt; board.from, "20240401");
-    assert_eq!(&rt; board.until, "@5");
-    assert_eq!(&rt; board.limit, Some(""));
-    assert_eq!(&rt; board.after, Some("@0/T/0/1/20240401"));
+    assert_equal(&rt, board.dir, "f1");
+    assert_equal(&rt, board.zone, "z1");
+    assert_equal(&rt, board.stop, "-x");
+    assert_equal(&rt, board.from, "20240401");
+    assert_equal(&rt, board.until, "@5");
+    assert_equal(&rt, board.limit, Some(""));
+    assert_equal(&rt, board.after, Some("@0/T/0/1/20240401"));
     Ok(())
 }
 
@@ -57,10 +58,10 @@ fn timetable_may_lack_the_direction(rt: HostRuntime) -> Result<(), Fail> {
     let Ok(Command::Timetable(timetable)) = read_words(rt.alloc(), &words) else {
         return Err("no timetable".into());
     };
-    assert_eq!(&rt; timetable.dir, "f1");
-    assert_eq!(&rt; timetable.route, "R1");
-    assert_eq!(&rt; timetable.date, "20240401");
-    assert_eq!(&rt; timetable.direction, None);
+    assert_equal(&rt, timetable.dir, "f1");
+    assert_equal(&rt, timetable.route, "R1");
+    assert_equal(&rt, timetable.date, "20240401");
+    assert_equal(&rt, timetable.direction, None);
     Ok(())
 }
 
@@ -80,7 +81,7 @@ fn timetable_has_its_direction(rt: HostRuntime) -> Result<(), Fail> {
     let Ok(Command::Timetable(timetable)) = read_words(rt.alloc(), &words) else {
         return Err("no timetable".into());
     };
-    assert_eq!(&rt; timetable.direction, Some("00"));
+    assert_equal(&rt, timetable.direction, Some("00"));
     Ok(())
 }
 
@@ -92,8 +93,8 @@ fn merge_has_its_three_folders(rt: HostRuntime) -> Result<(), Fail> {
     ) else {
         return Err("no merge".into());
     };
-    assert_eq!(&rt; merge.a, "north");
-    assert_eq!(&rt; merge.b, "south");
-    assert_eq!(&rt; merge.out, "both");
+    assert_equal(&rt, merge.a, "north");
+    assert_equal(&rt, merge.b, "south");
+    assert_equal(&rt, merge.out, "both");
     Ok(())
 }

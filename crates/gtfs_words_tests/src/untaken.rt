@@ -1,5 +1,6 @@
 //! Words that ask for help, and words that are refused.
 
+use crate::asserts::{assert_equal, assert_equal_at};
 use gtfs_words::{WordsFault, read_words};
 use std::alloc::Global;
 use std::process::Abort;
@@ -10,7 +11,7 @@ fn assert_helped(rt: &impl Abort, alloc: Global, words: &[&str], line: &str) -> 
     let Err(WordsFault::Help(text)) = read_words(alloc, words) else {
         return Err("no help".into());
     };
-    assert!(rt; text.as_str().contains(line), "{line}");
+    assert_equal_at(rt, line, text.as_str().contains(line), true);
     Ok(())
 }
 
@@ -19,7 +20,7 @@ fn assert_refused(rt: &impl Abort, alloc: Global, words: &[&str]) -> Result<(), 
     let Err(WordsFault::Refused(text)) = read_words(alloc, words) else {
         return Err("not refused".into());
     };
-    assert!(rt; !text.as_str().is_empty());
+    assert_equal(rt, text.as_str().is_empty(), false);
     Ok(())
 }
 
