@@ -13,31 +13,32 @@ const FILES: [FileLines; 3] = [
     (
         "stop_times.txt",
         &[
-            "stop_id,trip_id,stop_sequence,arrival_time,departure_time,pickup_type,drop_off_type,timepoint",
-            "S1,T2,1,08:00:00,08:00:00,,,",
-            "S3,T10,07,25:10:00,25:11:30,2,3,0",
-            ",,,,,,,",
-            "S2,T10, 2 ,8:00:00,08:00:00,1,0,1",
-            "S2,T2,2,,,,,",
-            "S3,T2,3,08:20:00,08:20:00,,,",
+            "stop_id,trip_id,stop_sequence,arrival_time,departure_time,pickup_type,drop_off_type,timepoint,\
+             stop_headsign",
+            "S1,T2,1,08:00:00,08:00:00,,,,",
+            "S3,T10,07,25:10:00,25:11:30,2,3,0,Lake",
+            ",,,,,,,,",
+            "S2,T10, 2 ,8:00:00,08:00:00,1,0,1, ",
+            "S2,T2,2,,,,,,",
+            "S3,T2,3,08:20:00,08:20:00,,,,Hill",
         ],
     ),
 ];
 
-// The trip, the stop, the row, the times, the sequence and the choices of each.
+// The trip, the stop, the row, the times, the sequence and the choices of each, and whether it has a headsign.
 const WANTED: &str = "\
-0 1 5 Some(28800) Some(28800) 2 Unavailable Regular Exact
-0 2 3 Some(90600) Some(90690) 7 Phone Driver Approximate
-1 0 2 Some(28800) Some(28800) 1 Regular Regular Unsaid
-1 1 6 None None 2 Regular Regular Unsaid
-1 2 7 Some(30000) Some(30000) 3 Regular Regular Unsaid
+0 1 5 Some(28800) Some(28800) 2 Unavailable Regular Exact false
+0 2 3 Some(90600) Some(90690) 7 Phone Driver Approximate true
+1 0 2 Some(28800) Some(28800) 1 Regular Regular Unsaid false
+1 1 6 None None 2 Regular Regular Unsaid false
+1 2 7 Some(30000) Some(30000) 3 Regular Regular Unsaid true
 ";
 
 fn lines_of(alloc: Global, stop_times: &[StopTime]) -> Result<String, Fail> {
     let mut lines = String::new(alloc);
     for stop_time in stop_times {
         let line = format!(in alloc;
-            "{} {} {} {:?} {:?} {} {:?} {:?} {:?}\n",
+            "{} {} {} {:?} {:?} {} {:?} {:?} {:?} {}\n",
             stop_time.trip,
             stop_time.stop,
             stop_time.row,
@@ -46,7 +47,8 @@ fn lines_of(alloc: Global, stop_times: &[StopTime]) -> Result<String, Fail> {
             stop_time.stop_sequence,
             stop_time.pickup_type,
             stop_time.drop_off_type,
-            stop_time.timepoint
+            stop_time.timepoint,
+            stop_time.has_headsign
         )?;
         lines.push_str(&line)?;
     }
