@@ -1,3 +1,4 @@
 pub mod Content
 pub mod Numbering
+pub mod RowIds
 pub mod Trips

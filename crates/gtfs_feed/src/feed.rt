@@ -2,7 +2,7 @@ ghost use Rattle.std.specs.Prelude.{◌≡◌, ◌<◌, [], IfOk, Some, length, 
 ghost use Rattle.gtfs_rows.specs.Views.{IsSoundParts, agency_ids, stop_ids, route_ids, service_ids, trip_ids};
 ghost use Rattle.gtfs_feed.specs.Trips.{stop_rows_by_trip, frequencies_by_trip};
 
-use crate::ids::Ids;
+use crate::row_ids::RowIds;
 use gtfs_days::Service;
 use gtfs_field::OutOfMemory;
 use gtfs_rows::{
@@ -17,41 +17,25 @@ use std::marker::Model;
 /// every reference names a row, and no rule of the validator is broken.
 pub struct Feed {
     parts: Parts,
-    agencies: Ids,
-    stops: Ids,
-    routes: Ids,
-    services: Ids,
-    trips: Ids,
+    ids: RowIds,
 }
 
 impl Model for Feed {
     ghost use Rattle.gtfs_rows.specs.declared.parts.Parts.{Parts as PartsValue};
     ghost use Rattle.gtfs_feed.specs.Numbering.{IsNumbered};
+    ghost use Rattle.gtfs_feed.specs.RowIds.{numbering_in};
 
     ghost Value = { PartsValue };
 
     ghost view = { λ f. f.parts };
 
-    ghost invariant = { λ f. IsNumbered f.parts (record {
-      agencies = f.agencies;
-      stops = f.stops;
-      routes = f.routes;
-      services = f.services;
-      trips = f.trips;
-    }) };
+    ghost invariant = { λ f. IsNumbered f.parts (numbering_in f.ids) };
 }
 
 // Written out, so that a function that lets a feed go has one call to prove.
 impl Drop for Feed {
     fn drop(self) {
-        let Feed {
-            parts: _,
-            agencies: _,
-            stops: _,
-            routes: _,
-            services: _,
-            trips: _,
-        } = self;
+        let Feed { parts: _, ids: _ } = self;
     }
 }
 
@@ -63,19 +47,8 @@ impl Feed {
         requires { IsSoundParts parts }
         ensures { IfOk result (λ feed. feed ≡ parts) }
     {
-        let agencies = Ids::of_rows(alloc, random, parts.agencies.as_slice())?;
-        let stops = Ids::of_rows(alloc, random, parts.stops.as_slice())?;
-        let routes = Ids::of_rows(alloc, random, parts.routes.as_slice())?;
-        let services = Ids::of_rows(alloc, random, parts.services.as_slice())?;
-        let trips = Ids::of_rows(alloc, random, parts.trips.as_slice())?;
-        Ok(Feed {
-            parts,
-            agencies,
-            stops,
-            routes,
-            services,
-            trips,
-        })
+        let ids = RowIds::of_parts(alloc, random, &parts)?;
+        Ok(Feed { parts, ids })
     }
 
     /// All rows, as [`Feed::assemble`] took them.
@@ -90,7 +63,7 @@ impl Feed {
     pub fn agency(&self, id: &str) -> Option<AgencyNo>
         ensures { option_map (λ n. n.0) result ≡ position (bytes_eq id.now) (agency_ids self.now) }
     {
-        match self.agencies.number(id) {
+        match self.ids.agencies.number(id) {
             Some(number) => Some(AgencyNo(number)),
             None => None,
         }
@@ -107,7 +80,7 @@ impl Feed {
     pub fn stop(&self, id: &str) -> Option<StopNo>
         ensures { option_map (λ n. n.0) result ≡ position (bytes_eq id.now) (stop_ids self.now) }
     {
-        match self.stops.number(id) {
+        match self.ids.stops.number(id) {
             Some(number) => Some(StopNo(number)),
             None => None,
         }
@@ -124,7 +97,7 @@ impl Feed {
     pub fn route(&self, id: &str) -> Option<RouteNo>
         ensures { option_map (λ n. n.0) result ≡ position (bytes_eq id.now) (route_ids self.now) }
     {
-        match self.routes.number(id) {
+        match self.ids.routes.number(id) {
             Some(number) => Some(RouteNo(number)),
             None => None,
         }
@@ -141,7 +114,7 @@ impl Feed {
     pub fn service(&self, id: &str) -> Option<ServiceNo>
         ensures { option_map (λ n. n.0) result ≡ position (bytes_eq id.now) (service_ids self.now) }
     {
-        match self.services.number(id) {
+        match self.ids.services.number(id) {
             Some(number) => Some(ServiceNo(number)),
             None => None,
         }
@@ -158,7 +131,7 @@ impl Feed {
     pub fn trip(&self, id: &str) -> Option<TripNo>
         ensures { option_map (λ n. n.0) result ≡ position (bytes_eq id.now) (trip_ids self.now) }
     {
-        match self.trips.number(id) {
+        match self.ids.trips.number(id) {
             Some(number) => Some(TripNo(number)),
             None => None,
         }

@@ -12,9 +12,15 @@ use std::hash::RandomState;
 use std::marker::Model;
 
 // The ids of one kind by number: an id's index is its number.
-#[derive(Drop)]
 pub(crate) struct Ids {
     ids: IndexSet<String, RandomState>,
+}
+
+// Written out, so that a function that lets ids go has one call to prove.
+impl Drop for Ids {
+    fn drop(self) {
+        let Ids { ids: _ } = self;
+    }
 }
 
 impl Model for Ids {
@@ -36,10 +42,19 @@ impl Ids {
         ensures { IfOk result (λ ids. ids ≡ map R.name rows.now) }
     {
         let mut ids = Ids::with_room(alloc, random, rows.len())?;
+        ids.push_rows(alloc, rows).and(Ok(ids))
+    }
+
+    // Adds the ids of rows, where none is there yet.
+    fn push_rows<R: Named>(&mut self, alloc: Global, rows: &[R]) -> Result<(), OutOfMemory>
+        requires none { self.old ≡ [] }
+        requires order { Ascends (on R.name text_cmp) rows.now }
+        ensures { OnOk result (self.new ≡ map R.name rows.now) }
+    {
         for row in rows {
-            ids.push(String::from_str(alloc, row.id())?)?;
+            self.push(String::from_str(alloc, row.id())?)?;
         }
-        Ok(ids)
+        Ok(())
     }
 
     // No ids yet, and room for this many.

@@ -10,6 +10,7 @@ mod feed;
 mod ids;
 mod named;
 mod reading;
+mod row_ids;
 mod written;
 
 pub use feed::Feed;

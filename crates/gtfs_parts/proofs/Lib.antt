@@ -2,6 +2,7 @@ mod ByIds
 pub mod CalendarFacts
 pub mod Cuts
 mod Fields
+pub mod Filled
 mod FrequencyFacts
 mod IdTexts
 mod ReferenceFacts

@@ -1,11 +1,14 @@
 pub mod AgencyColumns
+pub mod ByTrip
 pub mod CalendarColumns
 pub mod CalendarRows
 pub mod Cuts
 pub mod DateColumns
 pub mod FeedRows
 pub mod FrequencyColumns
+pub mod Lists
 pub mod Named
+pub mod NamedIds
 pub mod Numbers
 pub mod RouteColumns
 pub mod ServiceIds

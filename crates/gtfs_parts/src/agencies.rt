@@ -1,13 +1,13 @@
 //! The rows of agency.txt (GTFS Schedule Reference, `agency.txt`).
 
-ghost use Rattle.std.specs.Prelude.{◌≡◌, IfOk, OnOk, codes, map};
+ghost use Rattle.std.specs.Prelude.{◌≡◌, [], IfOk, OnOk, codes, map};
 ghost use Rattle.gtfs_columns.specs.Problems.{Passes};
-ghost use Rattle.gtfs_columns.specs.steps.Ids.{ids_in};
+ghost use Rattle.gtfs_columns.specs.steps.Ids.{ids_in, rows_by_number};
 ghost use Rattle.gtfs_rows.specs.Reading.{agency_in, content_of};
 ghost use Rattle.gtfs_rows.specs.Views.{agency_of};
 ghost use Rattle.gtfs_table.specs.declared.file.File.TheVariants as file;
 
-use crate::texts::{empty, id, optional_text, text};
+use crate::texts::{empty, read_id, read_optional_text, read_text};
 use gtfs_columns::Ids;
 use gtfs_field::{List, OutOfMemory};
 use gtfs_rows::Agency;
@@ -25,12 +25,10 @@ pub(crate) fn agencies(
     requires ids { ids.now ≡ ids_in tables.now file.Agency (codes "agency_id") }
     ensures { IfOk result (λ rows. map agency_of rows ≡ (content_of tables.now).agencies) }
 {
-    let file = AgencyFile::new(tables);
     let mut agencies = Vec::with_capacity(alloc, ids.len())?;
-    for number in 0..ids.len() {
-        agencies.push(file.agency(alloc, ids.row(number))?)?;
-    }
-    Ok(List::new(agencies))
+    let file = AgencyFile::new(tables);
+    file.push_agencies(alloc, ids, &mut agencies)
+        .and(Ok(List::new(agencies)))
 }
 
 // agency.txt with its columns found.
@@ -75,13 +73,29 @@ impl<'a> AgencyFile<'a> {
         }
     }
 
+    // Fills a list, which has one owner whichever row finds no memory.
+    fn push_agencies(
+        &self,
+        alloc: Global,
+        ids: &Ids<'_>,
+        agencies: &mut Vec<Agency>,
+    ) -> Result<(), OutOfMemory>
+        requires { agencies.old.items ≡ [] }
+        ensures { OnOk result (map agency_of agencies.new.items
+            ≡ map (agency_in self.now) (rows_by_number ids.now)) }
+    {
+        for number in 0..ids.len() {
+            agencies.push(self.agency(alloc, ids.row(number))?)?;
+        }
+        Ok(())
+    }
+
     // The agency of a row.
     fn agency(&self, alloc: Global, row: usize) -> Result<Agency, OutOfMemory>
         ensures { IfOk result (λ a. agency_of a ≡ agency_in self.now row) }
     {
         let mut agency = empty_agency(alloc);
-        self.read_texts(alloc, row, &mut agency)?;
-        Ok(agency)
+        self.read_texts(alloc, row, &mut agency).and(Ok(agency))
     }
 
     // Reads the texts of a row into an agency, which has one owner whichever text finds no memory.
@@ -89,15 +103,24 @@ impl<'a> AgencyFile<'a> {
         ensures { OnOk result (agency_of agency.new ≡ agency_in self.now row) }
     {
         let record = self.tables.record(File::Agency, row);
-        agency.agency_id = id(alloc, &record, self.agency_id)?;
-        agency.agency_name = text(alloc, &record, self.agency_name)?;
-        agency.agency_url = text(alloc, &record, self.agency_url)?;
-        agency.agency_timezone = id(alloc, &record, self.agency_timezone)?;
-        agency.agency_lang = optional_text(alloc, &record, self.agency_lang)?;
-        agency.agency_phone = optional_text(alloc, &record, self.agency_phone)?;
-        agency.agency_fare_url = optional_text(alloc, &record, self.agency_fare_url)?;
-        agency.agency_email = optional_text(alloc, &record, self.agency_email)?;
-        Ok(())
+        read_id(alloc, &record, self.agency_id, &mut agency.agency_id)?;
+        read_text(alloc, &record, self.agency_name, &mut agency.agency_name)?;
+        read_text(alloc, &record, self.agency_url, &mut agency.agency_url)?;
+        read_id(
+            alloc,
+            &record,
+            self.agency_timezone,
+            &mut agency.agency_timezone,
+        )?;
+        read_optional_text(alloc, &record, self.agency_lang, &mut agency.agency_lang)?;
+        read_optional_text(alloc, &record, self.agency_phone, &mut agency.agency_phone)?;
+        read_optional_text(
+            alloc,
+            &record,
+            self.agency_fare_url,
+            &mut agency.agency_fare_url,
+        )?;
+        read_optional_text(alloc, &record, self.agency_email, &mut agency.agency_email)
     }
 }
 

@@ -1,7 +1,8 @@
-ghost use Rattle.std.specs.Prelude.{◌≡◌, map, IfOk};
+ghost use Rattle.std.specs.Prelude.{◌≡◌, map, IfOk, OnOk};
 ghost use Rattle.gtfs_columns.specs.Problems.{Passes};
-ghost use Rattle.gtfs_columns.specs.steps.FeedIds.{AreIdsOf};
 ghost use Rattle.gtfs_parts.specs.FeedRows.{AreRowsOf, rows_in};
+ghost use Rattle.gtfs_parts.specs.Lists.{HasNetwork, HasTrips};
+ghost use Rattle.gtfs_parts.specs.NamedIds.{AreNamedIds};
 ghost use Rattle.gtfs_parts.specs.ServiceIds.{HasAll, service_ids, service_texts};
 ghost use Rattle.gtfs_rows.specs.Reading.{content_of};
 ghost use Rattle.gtfs_rows.specs.Views.{content_of_parts, stop_row_of};
@@ -10,13 +11,13 @@ ghost use Rattle.gtfs_table.specs.Tables.{Dataset};
 
 use crate::agencies::agencies;
 use crate::frequencies::{TripFrequencies, frequencies};
+use crate::named_ids::NamedIds;
 use crate::routes::routes;
 use crate::service_ids::ServiceIds;
 use crate::services::services;
 use crate::stops::stops;
 use crate::transfers::transfers;
 use crate::trips::trips;
-use gtfs_columns::FeedIds;
 use gtfs_field::{List, OutOfMemory, Text};
 use gtfs_rows::{Agency, Frequency, Parts, Route, ServiceRow, Stop, StopRow, Transfer, Trip};
 use gtfs_rules::Passed;
@@ -66,51 +67,121 @@ impl FeedRows {
         ensures rows { IfOk result (AreRowsOf passed.now) }
         ensures passes { Passes passed.now }
     {
-        let tables = passed.tables();
-        let ids = FeedIds::new(alloc, tables)?;
-        FeedRows::with_ids(alloc, tables, &ids)
+        let mut rows = FeedRows::empty(alloc);
+        rows.read(alloc, passed.tables()).and(Ok(rows))
     }
 
-    // The rows of tables whose ids have their numbers.
-    fn with_ids(alloc: Global, tables: &Tables, ids: &FeedIds<'_>) -> Result<FeedRows, OutOfMemory>
+    // Rows of which no list is read yet.
+    fn empty(alloc: Global) -> FeedRows {
+        FeedRows {
+            agencies: List::new(Vec::new(alloc)),
+            stops: List::new(Vec::new(alloc)),
+            routes: List::new(Vec::new(alloc)),
+            services: List::new(Vec::new(alloc)),
+            trips: List::new(Vec::new(alloc)),
+            transfers: List::new(Vec::new(alloc)),
+            frequencies: List::new(Vec::new(alloc)),
+            frequency_starts: List::new(Vec::new(alloc)),
+        }
+    }
+
+    // Reads the lists of tables, which have one owner whichever of them finds no memory.
+    fn read(&mut self, alloc: Global, tables: &Tables) -> Result<(), OutOfMemory>
+        requires { Passes tables.now }
+        ensures { OnOk result (AreRowsOf tables.now self.new) }
+    {
+        let ids = NamedIds::new(alloc, tables)?;
+        self.read_by_ids(alloc, tables, &ids)
+    }
+
+    // The same, with the ids by their numbers.
+    fn read_by_ids(
+        &mut self,
+        alloc: Global,
+        tables: &Tables,
+        ids: &NamedIds<'_>,
+    ) -> Result<(), OutOfMemory>
         requires passes { Passes tables.now }
-        requires ids { AreIdsOf tables.now ids.now }
-        ensures { IfOk result (AreRowsOf tables.now) }
+        requires ids { AreNamedIds tables.now ids.now }
+        ensures { OnOk result (AreRowsOf tables.now self.new) }
     {
         let services = ServiceIds::new(alloc, tables)?;
-        FeedRows::read(alloc, tables, ids, &services)
+        self.read_lists(alloc, tables, ids, &services)
     }
 
     // The same, with the services by their numbers.
-    fn read(
+    fn read_lists(
+        &mut self,
         alloc: Global,
         tables: &Tables,
-        ids: &FeedIds<'_>,
-        service_numbers: &ServiceIds<'_>,
-    ) -> Result<FeedRows, OutOfMemory>
+        ids: &NamedIds<'_>,
+        services: &ServiceIds<'_>,
+    ) -> Result<(), OutOfMemory>
         requires passes { Passes tables.now }
-        requires ids { AreIdsOf tables.now ids.now }
+        requires ids { AreNamedIds tables.now ids.now }
+        requires services { services.now ≡ service_ids tables.now }
+        requires named { HasAll (service_texts tables.now) services.now }
+        ensures { OnOk result (AreRowsOf tables.now self.new) }
+    {
+        self.read_network(alloc, tables, ids)?;
+        self.read_trips(alloc, tables, ids, services)?;
+        self.read_links(alloc, tables, ids)
+    }
+
+    // Reads the agencies, the stops and the routes.
+    fn read_network(
+        &mut self,
+        alloc: Global,
+        tables: &Tables,
+        ids: &NamedIds<'_>,
+    ) -> Result<(), OutOfMemory>
+        requires passes { Passes tables.now }
+        requires ids { AreNamedIds tables.now ids.now }
+        ensures { OnOk result (HasNetwork tables.now self.new) }
+    {
+        self.agencies = agencies(alloc, tables, &ids.agencies)?;
+        self.stops = stops(alloc, tables, &ids.stops)?;
+        self.routes = routes(alloc, tables, &ids.agencies, &ids.routes)?;
+        Ok(())
+    }
+
+    // Reads the services and the trips.
+    fn read_trips(
+        &mut self,
+        alloc: Global,
+        tables: &Tables,
+        ids: &NamedIds<'_>,
+        service_numbers: &ServiceIds<'_>,
+    ) -> Result<(), OutOfMemory>
+        requires passes { Passes tables.now }
+        requires ids { AreNamedIds tables.now ids.now }
         requires services { service_numbers.now ≡ service_ids tables.now }
         requires named { HasAll (service_texts tables.now) service_numbers.now }
-        ensures { IfOk result (AreRowsOf tables.now) }
+        requires network { HasNetwork tables.now self.old }
+        ensures { OnOk result (HasTrips tables.now self.new) }
     {
+        self.services = services(alloc, tables, service_numbers)?;
+        self.trips = trips(alloc, tables, &ids.routes, service_numbers, &ids.trips)?;
+        Ok(())
+    }
+
+    // Reads the transfers and the frequencies, the last of the lists.
+    fn read_links(
+        &mut self,
+        alloc: Global,
+        tables: &Tables,
+        ids: &NamedIds<'_>,
+    ) -> Result<(), OutOfMemory>
+        requires passes { Passes tables.now }
+        requires ids { AreNamedIds tables.now ids.now }
+        requires trips { HasTrips tables.now self.old }
+        ensures { OnOk result (AreRowsOf tables.now self.new) }
+    {
+        self.transfers = transfers(alloc, tables, &ids.stops, &ids.routes, &ids.trips)?;
         let TripFrequencies { rows, starts } = frequencies(alloc, tables, &ids.trips)?;
-        let agencies = agencies(alloc, tables, &ids.agencies)?;
-        let stops = stops(alloc, tables, &ids.stops)?;
-        let routes = routes(alloc, tables, &ids.agencies, &ids.routes)?;
-        let services = services(alloc, tables, service_numbers)?;
-        let trips = trips(alloc, tables, &ids.routes, service_numbers, &ids.trips)?;
-        let transfers = transfers(alloc, tables, &ids.stops, &ids.routes, &ids.trips)?;
-        Ok(FeedRows {
-            agencies,
-            stops,
-            routes,
-            services,
-            trips,
-            transfers,
-            frequencies: rows,
-            frequency_starts: starts,
-        })
+        self.frequencies = rows;
+        self.frequency_starts = starts;
+        Ok(())
     }
 
     /// All rows of the feed, with its stop times: those of all trips in one list, where those of each trip begin, and

@@ -1,9 +1,10 @@
 //! The rows of frequencies.txt by trip (GTFS Schedule Reference, `frequencies.txt`).
 
 ghost use Rattle.std.specs.Ordering.{nat_cmp};
-ghost use Rattle.std.specs.Prelude.{◌≡◌, IfOk, codes, length, map};
+ghost use Rattle.std.specs.Prelude.{◌≡◌, [], IfOk, OnOk, codes, length, map};
 ghost use Rattle.gtfs_columns.specs.Problems.{Passes};
 ghost use Rattle.gtfs_columns.specs.steps.Ids.{ids_in, ids_of};
+ghost use Rattle.gtfs_parts.specs.ByTrip.{AreByTrip};
 ghost use Rattle.gtfs_parts.specs.Cuts.{IsCutInto};
 ghost use Rattle.gtfs_rows.specs.Order.{by_key};
 ghost use Rattle.gtfs_rows.specs.Reading.{content_of, frequency_in, rows_of};
@@ -40,38 +41,30 @@ pub(crate) fn frequencies(
         ≡ map (λ t. t.frequencies) (content_of tables.now).trips) }
     ensures cut { IfOk result (λ f. IsCutInto (length (ids_of trips.now)) f.starts f.rows) }
 {
-    let file = FrequencyFile::new(alloc, tables)?;
-    by_trip(alloc, tables, &file, trips)
+    let mut starts = Vec::with_capacity(alloc, trips.len())?;
+    let mut rows = Vec::new(alloc);
+    push_frequencies(alloc, tables, trips, &mut starts, &mut rows).and(Ok(TripFrequencies {
+        rows: List::new(rows),
+        starts: List::new(starts),
+    }))
 }
 
-// The same of a file whose rows were found.
-fn by_trip(
+// Fills both lists, which have one owner whichever trip finds no memory.
+fn push_frequencies(
     alloc: Global,
     tables: &Tables,
-    found: &FrequencyFile<'_>,
     trips: &Ids<'_>,
-) -> Result<TripFrequencies, OutOfMemory>
+    starts: &mut Vec<usize>,
+    rows: &mut Vec<Frequency>,
+) -> Result<(), OutOfMemory>
     requires passes { Passes tables.now }
-    requires found { found.now ≡ tables.now }
     requires trips { trips.now ≡ ids_in tables.now file.Trips (codes "trip_id") }
-    ensures rows { IfOk result (λ f. map (map frequency_of) (parts f.starts f.rows)
-        ≡ map (λ t. t.frequencies) (content_of tables.now).trips) }
-    ensures cut { IfOk result (λ f. IsCutInto (length (ids_of trips.now)) f.starts f.rows) }
+    requires no_starts { starts.old.items ≡ [] }
+    requires no_rows { rows.old.items ≡ [] }
+    ensures { OnOk result (AreByTrip tables.now trips.now starts.new.items rows.new.items) }
 {
-    let trip_id = tables.column(File::Trips, "trip_id");
-    let mut frequencies = Vec::new(alloc);
-    let mut starts = Vec::with_capacity(alloc, trips.len())?;
-    for number in 0..trips.len() {
-        let record = tables.record(File::Trips, trips.row(number));
-        let periods = found.of_trip(alloc, record.value(trip_id))?;
-        let start = frequencies.len();
-        starts.push(start)?;
-        frequencies.extend_from_slice(&periods)?;
-    }
-    Ok(TripFrequencies {
-        rows: List::new(frequencies),
-        starts: List::new(starts),
-    })
+    let file = FrequencyFile::new(alloc, tables)?;
+    file.push_by_trip(alloc, trips, starts, rows)
 }
 
 // frequencies.txt with its columns found, and its rows by trip.
@@ -115,6 +108,29 @@ impl<'a> FrequencyFile<'a> {
         })
     }
 
+    fn push_by_trip(
+        &self,
+        alloc: Global,
+        trips: &Ids<'_>,
+        starts: &mut Vec<usize>,
+        rows: &mut Vec<Frequency>,
+    ) -> Result<(), OutOfMemory>
+        requires passes { Passes self.now }
+        requires trips { trips.now ≡ ids_in self.now file.Trips (codes "trip_id") }
+        requires no_starts { starts.old.items ≡ [] }
+        requires no_rows { rows.old.items ≡ [] }
+        ensures { OnOk result (AreByTrip self.now trips.now starts.new.items rows.new.items) }
+    {
+        let trip_id = self.tables.column(File::Trips, "trip_id");
+        for number in 0..trips.len() {
+            let record = self.tables.record(File::Trips, trips.row(number));
+            let periods = self.of_trip(alloc, record.value(trip_id))?;
+            starts.push(rows.len())?;
+            rows.extend_from_slice(&periods)?;
+        }
+        Ok(())
+    }
+
     // The frequencies of a trip by start.
     fn of_trip(&self, alloc: Global, trip_id: &str) -> Result<Vec<Frequency>, OutOfMemory>
         requires { Passes self.now }
@@ -122,21 +138,26 @@ impl<'a> FrequencyFile<'a> {
             ≡ by_key nat_cmp (λ r. r.start_time)
             (map (frequency_in self.now) (rows_of self.now file.Frequencies trip_id.now))) }
     {
-        let mut periods = self.periods(alloc, self.rows.of(trip_id))?;
+        let mut periods = Vec::new(alloc);
+        self.push_periods(self.rows.of(trip_id), &mut periods)?;
         periods.sort_unstable_by_key(|period| period.start_time.seconds());
         Ok(periods)
     }
 
     // The frequencies of rows, each of which stands beside its trip.
-    fn periods(&self, alloc: Global, rows: &[(&str, usize)]) -> Result<Vec<Frequency>, OutOfMemory>
-        ensures { IfOk result (λ periods. map frequency_of periods.items
+    fn push_periods(
+        &self,
+        rows: &[(&str, usize)],
+        periods: &mut Vec<Frequency>,
+    ) -> Result<(), OutOfMemory>
+        requires { periods.old.items ≡ [] }
+        ensures { OnOk result (map frequency_of periods.new.items
             ≡ map (frequency_in self.now) (map (λ r. r.1) rows.now)) }
     {
-        let mut periods = Vec::new(alloc);
         for row in rows {
             periods.push(self.frequency(row.1))?;
         }
-        Ok(periods)
+        Ok(())
     }
 
     // The frequency of a row.

@@ -1,8 +1,8 @@
 //! The rows of routes.txt (GTFS Schedule Reference, `routes.txt`).
 
-ghost use Rattle.std.specs.Prelude.{◌≡◌, ℕ, IfOk, OnOk, codes, map, true};
+ghost use Rattle.std.specs.Prelude.{◌≡◌, ℕ, [], IfOk, OnOk, codes, map, true};
 ghost use Rattle.gtfs_columns.specs.Problems.{Passes};
-ghost use Rattle.gtfs_columns.specs.steps.Ids.{ids_in};
+ghost use Rattle.gtfs_columns.specs.steps.Ids.{ids_in, rows_by_number};
 ghost use Rattle.gtfs_parts.specs.Named.{ids_of, names_agency, route_named, route_with_texts};
 ghost use Rattle.std.specs.List.{list_all};
 ghost use Rattle.gtfs_rows.specs.Reading.{content_of, route_in};
@@ -13,7 +13,7 @@ ghost use Rattle.gtfs_table.specs.declared.file.File.TheVariants as file;
 use crate::choices::route_type;
 use crate::numbers::{colour, optional_count};
 use crate::references::number;
-use crate::texts::{empty, id, optional_text};
+use crate::texts::{empty, read_id, read_optional_text};
 use gtfs_columns::{Finder, Ids};
 use gtfs_field::{List, OutOfMemory};
 use gtfs_rows::{AgencyNo, Route};
@@ -37,13 +37,11 @@ pub(crate) fn routes(
     ensures numbers { IfOk result (λ rows.
         list_all (names_agency (ids_of tables.now file.Agency "agency_id")) rows ≡ true) }
 {
-    let file = RouteFile::new(tables);
-    let mut agencies = Finder::new(agencies);
     let mut routes = Vec::with_capacity(alloc, ids.len())?;
-    for number in 0..ids.len() {
-        routes.push(file.route(alloc, ids.row(number), &mut agencies)?)?;
-    }
-    Ok(List::new(routes))
+    let file = RouteFile::new(tables);
+    let mut finder = Finder::new(agencies);
+    file.push_routes(alloc, ids, &mut finder, &mut routes)
+        .and(Ok(List::new(routes)))
 }
 
 // routes.txt with its columns found.
@@ -92,6 +90,31 @@ impl<'a> RouteFile<'a> {
         }
     }
 
+    // Fills a list, which has one owner whichever row finds no memory.
+    fn push_routes(
+        &self,
+        alloc: Global,
+        ids: &Ids<'_>,
+        agencies: &mut Finder<'_>,
+        routes: &mut Vec<Route>,
+    ) -> Result<(), OutOfMemory>
+        requires passes { Passes self.now }
+        requires ids { ids.now ≡ ids_in self.now file.Routes (codes "route_id") }
+        requires agencies { agencies.old.ids.now ≡ ids_in self.now file.Agency (codes "agency_id") }
+        requires none { routes.old.items ≡ [] }
+        ensures rows { OnOk result
+            (map (route_named (ids_of self.now file.Agency "agency_id")) routes.new.items
+            ≡ map (route_in self.now) (rows_by_number ids.now)) }
+        ensures numbers { OnOk result
+            (list_all (names_agency (ids_of self.now file.Agency "agency_id")) routes.new.items
+            ≡ true) }
+    {
+        for number in 0..ids.len() {
+            routes.push(self.route(alloc, ids.row(number), agencies)?)?;
+        }
+        Ok(())
+    }
+
     // The route of a row. Where it names no agency its agency is the first one, which is then the only one.
     fn route(
         &self,
@@ -122,8 +145,7 @@ impl<'a> RouteFile<'a> {
             route_text_color: colour("000000", record.value(self.route_text_color)),
             route_sort_order: optional_count(record.value(self.route_sort_order)),
         };
-        self.read_texts(alloc, &record, &mut route)?;
-        Ok(route)
+        self.read_texts(alloc, &record, &mut route).and(Ok(route))
     }
 
     // Reads the texts of a row into a route, which has one owner whichever text finds no memory.
@@ -137,11 +159,20 @@ impl<'a> RouteFile<'a> {
             → fields.now ≡ record_at (records_in self.now file.Routes) row
             → route.new ≡ route_with_texts self.now row route.old) }
     {
-        route.route_id = id(alloc, fields, self.route_id)?;
-        route.route_short_name = optional_text(alloc, fields, self.route_short_name)?;
-        route.route_long_name = optional_text(alloc, fields, self.route_long_name)?;
-        route.route_desc = optional_text(alloc, fields, self.route_desc)?;
-        route.route_url = optional_text(alloc, fields, self.route_url)?;
-        Ok(())
+        read_id(alloc, fields, self.route_id, &mut route.route_id)?;
+        read_optional_text(
+            alloc,
+            fields,
+            self.route_short_name,
+            &mut route.route_short_name,
+        )?;
+        read_optional_text(
+            alloc,
+            fields,
+            self.route_long_name,
+            &mut route.route_long_name,
+        )?;
+        read_optional_text(alloc, fields, self.route_desc, &mut route.route_desc)?;
+        read_optional_text(alloc, fields, self.route_url, &mut route.route_url)
     }
 }

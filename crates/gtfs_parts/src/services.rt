@@ -1,6 +1,6 @@
 //! The services, with their rows of calendar.txt and calendar_dates.txt (GTFS Schedule Reference, both files).
 
-ghost use Rattle.std.specs.Prelude.{◌≡◌, ℕ, List, IfOk, codes, map, option_map};
+ghost use Rattle.std.specs.Prelude.{◌≡◌, ℕ, List, [], IfOk, OnOk, codes, map, option_map};
 ghost use Rattle.gtfs_columns.specs.Calendars.{first_service_row, week_in};
 ghost use Rattle.gtfs_columns.specs.Problems.{Passes};
 ghost use Rattle.gtfs_days.specs.Service.{IsOrdered};
@@ -33,12 +33,24 @@ pub(crate) fn services(
     requires ids { ids.now ≡ service_ids tables.now }
     ensures { IfOk result (λ rows. map service_of rows ≡ (content_of tables.now).services) }
 {
-    let calendars = Calendars::new(alloc, tables)?;
     let mut services = Vec::with_capacity(alloc, ids.len())?;
-    for number in 0..ids.len() {
-        services.push(calendars.service(alloc, ids.id(number))?)?;
-    }
-    Ok(List::new(services))
+    push_services(alloc, tables, ids, &mut services).and(Ok(List::new(services)))
+}
+
+// Fills a list, which has one owner whichever service finds no memory.
+fn push_services(
+    alloc: Global,
+    tables: &Tables,
+    ids: &ServiceIds<'_>,
+    services: &mut Vec<ServiceRow>,
+) -> Result<(), OutOfMemory>
+    requires passes { Passes tables.now }
+    requires none { services.old.items ≡ [] }
+    ensures { OnOk result (map service_of services.new.items
+        ≡ map (service_row_in tables.now) ids.now) }
+{
+    let calendars = Calendars::new(alloc, tables)?;
+    calendars.push_services(alloc, ids, services)
 }
 
 // The rows of one of both files by service.
@@ -55,12 +67,23 @@ fn rows_by_service<'a>(
 }
 
 // Both calendar files with their rows by service.
-#[derive(Drop)]
 struct Calendars<'a> {
     calendar: CalendarFile<'a>,
     dates: DatesFile<'a>,
     week_rows: RowsById<'a>,
     date_rows: RowsById<'a>,
+}
+
+// Written out, so that a function that lets calendars go has one call to prove.
+impl Drop for Calendars<'_> {
+    fn drop(self) {
+        let Calendars {
+            calendar: _,
+            dates: _,
+            week_rows: _,
+            date_rows: _,
+        } = self;
+    }
 }
 
 impl<'a> Model for Calendars<'a> {
@@ -86,6 +109,23 @@ impl<'a> Calendars<'a> {
             week_rows,
             date_rows,
         })
+    }
+
+    fn push_services(
+        &self,
+        alloc: Global,
+        ids: &ServiceIds<'_>,
+        services: &mut Vec<ServiceRow>,
+    ) -> Result<(), OutOfMemory>
+        requires passes { Passes self.now }
+        requires none { services.old.items ≡ [] }
+        ensures { OnOk result (map service_of services.new.items
+            ≡ map (service_row_in self.now) ids.now) }
+    {
+        for number in 0..ids.len() {
+            services.push(self.service(alloc, ids.id(number))?)?;
+        }
+        Ok(())
     }
 
     // The service of an id: its calendar row, if any, and its exceptions.

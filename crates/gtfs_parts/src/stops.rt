@@ -1,8 +1,8 @@
 //! The rows of stops.txt (GTFS Schedule Reference, `stops.txt`).
 
-ghost use Rattle.std.specs.Prelude.{◌≡◌, ℕ, IfOk, OnOk, codes, map, true};
+ghost use Rattle.std.specs.Prelude.{◌≡◌, ℕ, [], IfOk, OnOk, codes, map, true};
 ghost use Rattle.gtfs_columns.specs.Problems.{Passes};
-ghost use Rattle.gtfs_columns.specs.steps.Ids.{ids_in};
+ghost use Rattle.gtfs_columns.specs.steps.Ids.{ids_in, rows_by_number};
 ghost use Rattle.gtfs_parts.specs.Named.{ids_of, names_parent, stop_named, stop_with_texts};
 ghost use Rattle.std.specs.List.{list_all};
 ghost use Rattle.gtfs_rows.specs.Reading.{content_of, stop_in};
@@ -12,7 +12,7 @@ ghost use Rattle.gtfs_table.specs.declared.file.File.TheVariants as file;
 
 use crate::choices::{location_type, wheelchair_boarding};
 use crate::references::{as_stop, number};
-use crate::texts::{empty, id, optional_text};
+use crate::texts::{empty, read_id, read_optional_text};
 use gtfs_columns::{Finder, Ids, values};
 use gtfs_field::{Axis, List, OutOfMemory};
 use gtfs_rows::Stop;
@@ -34,13 +34,11 @@ pub(crate) fn stops(
     ensures numbers { IfOk result (λ rows.
         list_all (names_parent (ids_of tables.now file.Stops "stop_id")) rows ≡ true) }
 {
+    let mut stops = Vec::with_capacity(alloc, ids.len())?;
     let file = StopFile::new(tables);
     let mut finder = Finder::new(ids);
-    let mut stops = Vec::with_capacity(alloc, ids.len())?;
-    for number in 0..ids.len() {
-        stops.push(file.stop(alloc, ids.row(number), &mut finder)?)?;
-    }
-    Ok(List::new(stops))
+    file.push_stops(alloc, ids, &mut finder, &mut stops)
+        .and(Ok(List::new(stops)))
 }
 
 // stops.txt with its columns found.
@@ -93,6 +91,31 @@ impl<'a> StopFile<'a> {
         }
     }
 
+    // Fills a list, which has one owner whichever row finds no memory.
+    fn push_stops(
+        &self,
+        alloc: Global,
+        ids: &Ids<'_>,
+        finder: &mut Finder<'_>,
+        stops: &mut Vec<Stop>,
+    ) -> Result<(), OutOfMemory>
+        requires passes { Passes self.now }
+        requires ids { ids.now ≡ ids_in self.now file.Stops (codes "stop_id") }
+        requires finder { finder.old.ids.now ≡ ids_in self.now file.Stops (codes "stop_id") }
+        requires none { stops.old.items ≡ [] }
+        ensures rows { OnOk result
+            (map (stop_named (ids_of self.now file.Stops "stop_id")) stops.new.items
+            ≡ map (stop_in self.now) (rows_by_number ids.now)) }
+        ensures numbers { OnOk result
+            (list_all (names_parent (ids_of self.now file.Stops "stop_id")) stops.new.items
+            ≡ true) }
+    {
+        for number in 0..ids.len() {
+            stops.push(self.stop(alloc, ids.row(number), finder)?)?;
+        }
+        Ok(())
+    }
+
     // The stop of a row. Its parent is looked up among all stops.
     fn stop(&self, alloc: Global, row: usize, stops: &mut Finder<'_>) -> Result<Stop, OutOfMemory>
         requires passes { Passes self.now }
@@ -119,8 +142,7 @@ impl<'a> StopFile<'a> {
             wheelchair_boarding: wheelchair_boarding(record.value(self.wheelchair_boarding)),
             platform_code: None,
         };
-        self.read_texts(alloc, &record, &mut stop)?;
-        Ok(stop)
+        self.read_texts(alloc, &record, &mut stop).and(Ok(stop))
     }
 
     // Reads the texts of a row into a stop, which has one owner whichever text finds no memory.
@@ -134,13 +156,12 @@ impl<'a> StopFile<'a> {
             → fields.now ≡ record_at (records_in self.now file.Stops) row
             → stop.new ≡ stop_with_texts self.now row stop.old) }
     {
-        stop.stop_id = id(alloc, fields, self.stop_id)?;
-        stop.stop_code = optional_text(alloc, fields, self.stop_code)?;
-        stop.stop_name = optional_text(alloc, fields, self.stop_name)?;
-        stop.tts_stop_name = optional_text(alloc, fields, self.tts_stop_name)?;
-        stop.stop_desc = optional_text(alloc, fields, self.stop_desc)?;
-        stop.stop_url = optional_text(alloc, fields, self.stop_url)?;
-        stop.platform_code = optional_text(alloc, fields, self.platform_code)?;
-        Ok(())
+        read_id(alloc, fields, self.stop_id, &mut stop.stop_id)?;
+        read_optional_text(alloc, fields, self.stop_code, &mut stop.stop_code)?;
+        read_optional_text(alloc, fields, self.stop_name, &mut stop.stop_name)?;
+        read_optional_text(alloc, fields, self.tts_stop_name, &mut stop.tts_stop_name)?;
+        read_optional_text(alloc, fields, self.stop_desc, &mut stop.stop_desc)?;
+        read_optional_text(alloc, fields, self.stop_url, &mut stop.stop_url)?;
+        read_optional_text(alloc, fields, self.platform_code, &mut stop.platform_code)
     }
 }

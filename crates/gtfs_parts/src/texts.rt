@@ -1,6 +1,6 @@
 //! Ids and texts of a row as its fields keep them.
 
-ghost use Rattle.std.specs.Prelude.{◌≡◌, ◌++◌, ◌≤◌, ◌+◌, [], if◌then◌else◌, length, string_bytes, string_len, unwrap_or, IfOk};
+ghost use Rattle.std.specs.Prelude.{◌≡◌, ◌++◌, ◌≤◌, ◌+◌, [], if◌then◌else◌, length, string_bytes, string_len, unwrap_or, IfOk, OnOk};
 ghost use Rattle.std.specs.String.{string_capacity};
 ghost use Rattle.gtfs_columns.specs.Columns as kind;
 ghost use Rattle.gtfs_columns.specs.Reads.{word_of};
@@ -18,39 +18,51 @@ pub(crate) fn empty(alloc: Global) -> Text {
     Text::new(String::new(alloc))
 }
 
-// An id of a row, or the empty text where there is none.
-pub(crate) fn id(
+// Reads an id of a row, or the empty text where there is none.
+pub(crate) fn read_id(
     alloc: Global,
     fields: &Record<'_>,
     column: Option<usize>,
-) -> Result<Text, OutOfMemory>
-    ensures { IfOk result
-        (λ t. t ≡ unwrap_or (word_of kind.id (field_under fields.now column)) []) }
+    into: &mut Text,
+) -> Result<(), OutOfMemory>
+    ensures { OnOk result
+        (into.new ≡ unwrap_or (word_of kind.id (field_under fields.now column)) []) }
 {
-    own(alloc, values::id(fields.value(column)).unwrap_or(""))
+    *into = own(alloc, values::id(fields.value(column)).unwrap_or(""))?;
+    Ok(())
 }
 
-// A text of a row, a space in place of each control character; the empty text where there is none.
-pub(crate) fn text(
+// Reads a text of a row, a space in place of each control character; the empty text where there is none.
+pub(crate) fn read_text(
     alloc: Global,
     fields: &Record<'_>,
     column: Option<usize>,
-) -> Result<Text, OutOfMemory>
-    ensures { IfOk result
-        (λ t. t ≡ unwrap_or (word_of kind.text (field_under fields.now column)) []) }
+    into: &mut Text,
+) -> Result<(), OutOfMemory>
+    ensures { OnOk result
+        (into.new ≡ unwrap_or (word_of kind.text (field_under fields.now column)) []) }
 {
-    plain(alloc, fields.value(column))
+    *into = plain(alloc, fields.value(column))?;
+    Ok(())
 }
 
-// A text of a row, a space in place of each control character, or none.
-pub(crate) fn optional_text(
+// Reads a text of a row, a space in place of each control character, or none.
+pub(crate) fn read_optional_text(
     alloc: Global,
     fields: &Record<'_>,
     column: Option<usize>,
-) -> Result<Option<Text>, OutOfMemory>
-    ensures { IfOk result (λ t. t ≡ word_of kind.text (field_under fields.now column)) }
+    into: &mut Option<Text>,
+) -> Result<(), OutOfMemory>
+    ensures { OnOk result (into.new ≡ word_of kind.text (field_under fields.now column)) }
 {
-    let text = fields.value(column);
+    *into = optional_plain(alloc, fields.value(column))?;
+    Ok(())
+}
+
+// The text with a space in place of each control character, and none where it is empty.
+fn optional_plain(alloc: Global, text: &str) -> Result<Option<Text>, OutOfMemory>
+    ensures { IfOk result (λ t. t ≡ word_of kind.text text.now) }
+{
     if text.is_empty() {
         return Ok(None);
     }

@@ -1,7 +1,7 @@
 //! The rows of transfers.txt (GTFS Schedule Reference, `transfers.txt`).
 
 ghost use Rattle.std.specs.List.{list_all};
-ghost use Rattle.std.specs.Prelude.{◌≡◌, IfOk, codes, map, option_map, true};
+ghost use Rattle.std.specs.Prelude.{◌≡◌, [], IfOk, OnOk, codes, map, option_map, true};
 ghost use Rattle.gtfs_columns.specs.Problems.{Passes};
 ghost use Rattle.gtfs_columns.specs.steps.Ids.{ids_in};
 ghost use Rattle.gtfs_parts.specs.TransferEnds.{names_ends, transfer_named, transfer_numbers};
@@ -40,7 +40,8 @@ pub(crate) fn transfers(
         (ids_of tables.now file.Routes "route_id") (ids_of tables.now file.Trips "trip_id")) rows
         ≡ true) }
 {
-    let mut transfers = in_file_order(alloc, tables, stops, routes, trips)?;
+    let mut transfers = Vec::new(alloc);
+    push_in_file_order(tables, stops, routes, trips, &mut transfers)?;
     let by_key = |transfer: &Transfer| -> [Option<usize>; 6]
         ensures { result ≡ transfer_numbers transfer.now }
     { key(transfer) };
@@ -48,38 +49,37 @@ pub(crate) fn transfers(
     Ok(List::new(transfers))
 }
 
-// The transfers in the order of their rows.
-fn in_file_order(
-    alloc: Global,
+// Fills a list with the transfers in the order of their rows.
+fn push_in_file_order(
     tables: &Tables,
     stops: &Ids<'_>,
     routes: &Ids<'_>,
     trips: &Ids<'_>,
-) -> Result<Vec<Transfer>, OutOfMemory>
+    transfers: &mut Vec<Transfer>,
+) -> Result<(), OutOfMemory>
     requires passes { Passes tables.now }
     requires stops { stops.now ≡ ids_in tables.now file.Stops (codes "stop_id") }
     requires routes { routes.now ≡ ids_in tables.now file.Routes (codes "route_id") }
     requires trips { trips.now ≡ ids_in tables.now file.Trips (codes "trip_id") }
-    ensures rows { IfOk result (λ transfers.
-        map (transfer_named (ids_of tables.now file.Stops "stop_id")
+    requires none { transfers.old.items ≡ [] }
+    ensures rows { OnOk result (map (transfer_named (ids_of tables.now file.Stops "stop_id")
         (ids_of tables.now file.Routes "route_id")
-        (ids_of tables.now file.Trips "trip_id")) transfers.items
+        (ids_of tables.now file.Trips "trip_id")) transfers.new.items
         ≡ map (transfer_in tables.now) (rows tables.now file.Transfers)) }
-    ensures numbers { IfOk result (λ transfers. list_all
+    ensures numbers { OnOk result (list_all
         (names_ends (ids_of tables.now file.Stops "stop_id")
         (ids_of tables.now file.Routes "route_id")
-        (ids_of tables.now file.Trips "trip_id")) transfers.items
+        (ids_of tables.now file.Trips "trip_id")) transfers.new.items
         ≡ true) }
 {
     let file = TransferFile::new(tables);
     let mut stops = Finder::new(stops);
     let mut routes = Finder::new(routes);
     let mut trips = Finder::new(trips);
-    let mut transfers = Vec::new(alloc);
     for (row, _) in tables.rows(File::Transfers) {
         transfers.push(file.transfer(row, &mut stops, &mut routes, &mut trips))?;
     }
-    Ok(transfers)
+    Ok(())
 }
 
 // The numbers of what a transfer names. They are in the order of the ids, and a part that is not there is the least.

@@ -1,8 +1,8 @@
 //! The rows of trips.txt (GTFS Schedule Reference, `trips.txt`), without their stop times and frequencies.
 
-ghost use Rattle.std.specs.Prelude.{◌≡◌, ℕ, IfOk, OnOk, codes, map, true};
+ghost use Rattle.std.specs.Prelude.{◌≡◌, ℕ, [], IfOk, OnOk, codes, map, true};
 ghost use Rattle.gtfs_columns.specs.Problems.{Passes};
-ghost use Rattle.gtfs_columns.specs.steps.Ids.{ids_in};
+ghost use Rattle.gtfs_columns.specs.steps.Ids.{ids_in, rows_by_number};
 ghost use Rattle.gtfs_parts.specs.Named.{ids_of, names_route_and_service, trip_named, trip_with_texts, without_rows};
 ghost use Rattle.std.specs.List.{list_all};
 ghost use Rattle.gtfs_parts.specs.ServiceIds.{HasAll, service_ids, service_texts};
@@ -14,7 +14,7 @@ ghost use Rattle.gtfs_table.specs.declared.file.File.TheVariants as file;
 use crate::choices::{bikes_allowed, direction, wheelchair_accessible};
 use crate::references::number;
 use crate::service_ids::ServiceIds;
-use crate::texts::{empty, id, optional_text};
+use crate::texts::{empty, read_id, read_optional_text};
 use gtfs_columns::{Finder, Ids};
 use gtfs_field::{List, OutOfMemory};
 use gtfs_rows::{RouteNo, ServiceNo, Trip};
@@ -41,13 +41,11 @@ pub(crate) fn trips(
     ensures numbers { IfOk result (λ rows. list_all (names_route_and_service
         (ids_of tables.now file.Routes "route_id") (service_ids tables.now)) rows ≡ true) }
 {
-    let file = TripFile::new(tables);
-    let mut routes = Finder::new(routes);
     let mut trips = Vec::with_capacity(alloc, ids.len())?;
-    for number in 0..ids.len() {
-        trips.push(file.trip(alloc, ids.row(number), &mut routes, services)?)?;
-    }
-    Ok(List::new(trips))
+    let file = TripFile::new(tables);
+    let mut finder = Finder::new(routes);
+    file.push_trips(alloc, ids, &mut finder, services, &mut trips)
+        .and(Ok(List::new(trips)))
 }
 
 // trips.txt with its columns found.
@@ -92,6 +90,35 @@ impl<'a> TripFile<'a> {
         }
     }
 
+    // Fills a list, which has one owner whichever row finds no memory.
+    fn push_trips(
+        &self,
+        alloc: Global,
+        ids: &Ids<'_>,
+        routes: &mut Finder<'_>,
+        services: &ServiceIds<'_>,
+        trips: &mut Vec<Trip>,
+    ) -> Result<(), OutOfMemory>
+        requires passes { Passes self.now }
+        requires ids { ids.now ≡ ids_in self.now file.Trips (codes "trip_id") }
+        requires routes { routes.old.ids.now ≡ ids_in self.now file.Routes (codes "route_id") }
+        requires services { services.now ≡ service_ids self.now }
+        requires named { HasAll (service_texts self.now) services.now }
+        requires none { trips.old.items ≡ [] }
+        ensures rows { OnOk result
+            (map (trip_named (ids_of self.now file.Routes "route_id") (service_ids self.now))
+            trips.new.items
+            ≡ map (λ n. without_rows (trip_in self.now n)) (rows_by_number ids.now)) }
+        ensures numbers { OnOk result
+            (list_all (names_route_and_service (ids_of self.now file.Routes "route_id")
+            (service_ids self.now)) trips.new.items ≡ true) }
+    {
+        for number in 0..ids.len() {
+            trips.push(self.trip(alloc, ids.row(number), routes, services)?)?;
+        }
+        Ok(())
+    }
+
     // The trip of a row. Its route is looked up among all routes, and its service among all services.
     fn trip(
         &self,
@@ -125,8 +152,7 @@ impl<'a> TripFile<'a> {
             wheelchair_accessible: wheelchair_accessible(record.value(self.wheelchair_accessible)),
             bikes_allowed: bikes_allowed(record.value(self.bikes_allowed)),
         };
-        self.read_texts(alloc, &record, &mut trip)?;
-        Ok(trip)
+        self.read_texts(alloc, &record, &mut trip).and(Ok(trip))
     }
 
     // Reads the texts of a row into a trip, which has one owner whichever text finds no memory.
@@ -140,9 +166,13 @@ impl<'a> TripFile<'a> {
             → fields.now ≡ record_at (records_in self.now file.Trips) row
             → trip.new ≡ trip_with_texts self.now row trip.old) }
     {
-        trip.trip_id = id(alloc, fields, self.trip_id)?;
-        trip.trip_headsign = optional_text(alloc, fields, self.trip_headsign)?;
-        trip.trip_short_name = optional_text(alloc, fields, self.trip_short_name)?;
-        Ok(())
+        read_id(alloc, fields, self.trip_id, &mut trip.trip_id)?;
+        read_optional_text(alloc, fields, self.trip_headsign, &mut trip.trip_headsign)?;
+        read_optional_text(
+            alloc,
+            fields,
+            self.trip_short_name,
+            &mut trip.trip_short_name,
+        )
     }
 }

@@ -8,12 +8,15 @@ use Rattle.gtfs_parts.specs.TransferEnds.{names_ends, transfer_named, transfer_n
 use Rattle.gtfs_parts.proofs.TransferFacts.{all_moved, transfers_sorted}
 use Rattle.gtfs_parts.proofs.transfers.transfers.Goals as goal
 
+pub push_in_file_order-requires-clause-none : goal.push_in_file_order-requires-clause-none
+push_in_file_order-requires-clause-none c = c.new-transfers.ensures.items
+
 pub returns-clause-rows : goal.returns-clause-rows
 returns-clause-rows c =
     let d = c.args.tables.now in
     ap (map (transfer_named (ids_of d file.Stops "stop_id") (ids_of d file.Routes "route_id") (ids_of d file.Trips "trip_id"))) c.new.ensures
     ∙ transfers_sorted d c.requires.passes (ids_in d file.Stops (codes "stop_id")) (ids_in d file.Routes (codes "route_id")) (ids_in d file.Trips (codes "trip_id"))
-    c.in_ok-transfers.transfers.items c.sort_unstable_by_key.new.self.items c.in_ok-transfers.ensures.rows c.in_ok-transfers.ensures.numbers
+    c.push_in_file_order.new.transfers.items c.sort_unstable_by_key.new.self.items c.in_ok-push_in_file_order.ensures.rows c.in_ok-push_in_file_order.ensures.numbers
     c.sort_unstable_by_key.ensures.permutation
     (c.sort_unstable_by_key.ensures.sorted transfer_numbers (answers_always _ _ _ (λ f a r g called. search rules)))
 
@@ -21,4 +24,4 @@ pub returns-clause-numbers : goal.returns-clause-numbers
 returns-clause-numbers c =
     let d = c.args.tables.now in
     ap (list_all (names_ends (ids_of d file.Stops "stop_id") (ids_of d file.Routes "route_id") (ids_of d file.Trips "trip_id"))) c.new.ensures
-    ∙ all_moved (names_ends (ids_of d file.Stops "stop_id") (ids_of d file.Routes "route_id") (ids_of d file.Trips "trip_id")) c.in_ok-transfers.transfers.items c.sort_unstable_by_key.new.self.items c.in_ok-transfers.ensures.numbers c.sort_unstable_by_key.ensures.permutation
+    ∙ all_moved (names_ends (ids_of d file.Stops "stop_id") (ids_of d file.Routes "route_id") (ids_of d file.Trips "trip_id")) c.push_in_file_order.new.transfers.items c.sort_unstable_by_key.new.self.items c.in_ok-push_in_file_order.ensures.numbers c.sort_unstable_by_key.ensures.permutation

@@ -7,7 +7,18 @@ use Rattle.gtfs_rows.specs.Reading.{transfer_in}
 use Rattle.gtfs_parts.specs.Named.{ids_of}
 use Rattle.gtfs_parts.specs.TransferEnds.{names_ends, transfer_named}
 use Rattle.gtfs_parts.proofs.Fields.{all_next}
-use Rattle.gtfs_parts.proofs.transfers.in_file_order.Goals as goal
+use Rattle.gtfs_parts.proofs.transfers.push_in_file_order.Goals as goal
+
+pub loop-row-init : goal.loop-row-init
+loop-row-init c =
+    let d = c.args.tables.now in
+    record {
+      listed = ap (map (transfer_named (ids_of d file.Stops "stop_id") (ids_of d file.Routes "route_id") (ids_of d file.Trips "trip_id"))) c.requires.none;
+      within = ap (list_all (names_ends (ids_of d file.Stops "stop_id") (ids_of d file.Routes "route_id") (ids_of d file.Trips "trip_id"))) c.requires.none;
+      stops = c.new-stops.ensures ∙ c.requires.stops;
+      routes = c.new-routes.ensures ∙ c.requires.routes;
+      trips = c.new-trips.ensures ∙ c.requires.trips;
+    }
 
 pub transfer-requires-clause-row : goal.transfer-requires-clause-row
 transfer-requires-clause-row c =

@@ -6,7 +6,7 @@ use Rattle.gtfs_columns.specs.steps.Ids.{ids_in}
 use Rattle.gtfs_rows.specs.Reading.{transfer_in}
 use Rattle.gtfs_parts.specs.Named.{ids_of}
 use Rattle.gtfs_parts.specs.TransferEnds.{names_ends, transfer_named}
-use Rattle.gtfs_parts.proofs.transfers.in_file_order.Given as goal
+use Rattle.gtfs_parts.proofs.transfers.push_in_file_order.Given as goal
 
 -- the rows so far
 abbrev pub invariant-loop-row : goal.invariant-loop-row

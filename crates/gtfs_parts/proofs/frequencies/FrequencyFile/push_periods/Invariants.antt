@@ -1,7 +1,7 @@
 use Rattle.std.proofs.Common.{◌≡◌, map, take}
 use Rattle.gtfs_rows.specs.Reading.{frequency_in}
 use Rattle.gtfs_rows.specs.Views.{frequency_of}
-use Rattle.gtfs_parts.proofs.frequencies.FrequencyFile.periods.Given as goal
+use Rattle.gtfs_parts.proofs.frequencies.FrequencyFile.push_periods.Given as goal
 
 -- the rows so far
 abbrev pub invariant-loop-row : goal.invariant-loop-row

@@ -1,53 +1,52 @@
 use Rattle.std.proofs.Common.{◌≡◌, ◌∙◌, ◌<◌, ◌≤◌, ◌++◌, ◌∷◌, [], ℕ, List, true, ap, arith, codes, get_or, length, map, refl, subst, sym}
 use Rattle.std.specs.Ordering.{nat_cmp}
 use Rattle.std.proofs.lemmas.List.{length-append, length-map}
-use Rattle.std.proofs.lemmas.Simd.{map-map}
 use Rattle.csv.specs.Records.{Rising}
 use Rattle.gtfs_table.specs.Parts.{parts}
 use Rattle.gtfs_table.specs.Rows.{is_row, records_in}
 use Rattle.gtfs_table.specs.declared.file.File.TheVariants as file
 use Rattle.gtfs_table.proofs.PartFacts.{length-parts, parts-push}
-use Rattle.gtfs_table.proofs.RowFacts.{value_is}
 use Rattle.gtfs_columns.specs.Columns.{id, required}
-use Rattle.gtfs_columns.specs.steps.Ids.{ids_in, rows_by_number}
+use Rattle.gtfs_columns.specs.steps.Ids.{rows_by_number}
 use Rattle.gtfs_rows.specs.declared.frequency.Frequency.{Frequency as FrequencyRow}
 use Rattle.gtfs_rows.specs.Order.{by_key}
 use Rattle.gtfs_rows.specs.Reading.{frequency_in, rows_of, trip_in}
 use Rattle.gtfs_rows.specs.Views.{frequency_of}
 use Rattle.gtfs_parts.proofs.ByIds.{as_many}
 use Rattle.gtfs_parts.proofs.Cuts.{first_push, no_parts, rising_none, rising_push}
-use Rattle.gtfs_parts.proofs.Fields.{listed_all, listed_next, numbered_row}
-use Rattle.gtfs_parts.proofs.IdTexts.{content_list, text_at_is}
-use Rattle.gtfs_parts.proofs.frequencies.by_trip.Goals as goal
+use Rattle.gtfs_parts.proofs.Fields.{field_is, listed_all, listed_next, numbered_row}
+use Rattle.gtfs_parts.proofs.IdTexts.{text_at_is}
+use Rattle.gtfs_parts.proofs.frequencies.FrequencyFile.push_by_trip.Goals as goal
 
 pub loop-number-init : goal.loop-number-init
 loop-number-init c =
-    let no_starts = c.in_ok-starts.ensures.items in
-    let no_rows = c.new-frequencies.ensures.items in
+    let no_starts = c.requires.no_starts in
+    let no_rows = c.requires.no_rows in
+    let fs = c.args.rows.now.items in
     record {
-      listed = ap (λ ss. map (map frequency_of) (parts ss c.new-frequencies.result.items)) no_starts ∙ ap (map (map frequency_of)) (no_parts c.new-frequencies.result.items);
+      listed = ap (λ ss. map (map frequency_of) (parts ss fs)) no_starts ∙ ap (map (map frequency_of)) (no_parts fs);
       rising = subst (λ (p : List ℕ × List FrequencyRow). Rising 0 p.0 (length p.1)) (λ i. (sym no_starts i, sym no_rows i)) rising_none;
-      first = ap (λ ss. get_or ss 0 (length c.new-frequencies.result.items)) no_starts ∙ ap length no_rows;
+      first = ap (λ ss. get_or ss 0 (length fs)) no_starts ∙ ap length no_rows;
       end = c.len-number-end.ensures.value ∙ as_many c.args.trips.now;
     }
 
 pub loop-number-preserved : goal.loop-number-preserved
 loop-number-preserved c =
-    let d = c.args.tables.now in
+    let d = c.args.self.now in
     let ns = rows_by_number c.args.trips.now in
     let k = c.loop-number.number in
     let below : k < length ns = omega (arith, c.loop-number-test.true, c.loop-number.invariant.end) in
     let row : is_row (records_in d file.Trips) c.row.result ≡ true = numbered_row d file.Trips (codes "trip_id") c.args.trips.now c.requires.trips k c.row.result below c.row.ensures in
-    let text = c.value.ensures ∙ value_is (records_in d file.Trips) c.row.result _ (codes "trip_id") c.column-trip_id.result c.record-record.ensures c.column-trip_id.ensures in
+    let text = field_is _ d c.self.view_is file.Trips c.row.result _ c.column-trip_id.result "trip_id" _ c.record-record.ensures c.column-trip_id.ensures c.value.ensures in
     let trip = text ∙ sym (text_at_is d c.requires.passes file.Trips c.row.result row "trip_id" (required "trip_id" id) refl refl) in
     let said : map frequency_of c.in_ok-periods.periods.items ≡ (trip_in d (get_or ns k 0)).frequencies =
-    subst (λ e. map frequency_of c.in_ok-periods.periods.items ≡ by_key nat_cmp (λ r. r.start_time) (map (frequency_in e) (rows_of e file.Frequencies c.value.result.now))) c.requires.found c.in_ok-periods.ensures
+    c.in_ok-periods.ensures
     ∙ ap (λ t. by_key nat_cmp (λ r. r.start_time) (map (frequency_in d) (rows_of d file.Frequencies t))) trip
     ∙ ap (λ n. (trip_in d n).frequencies) c.row.ensures in
     let starts = c.loop-number.starts.items in
-    let fs = c.loop-number.frequencies.items in
+    let fs = c.loop-number.rows.items in
     let ys = c.in_ok-periods.periods.items in
-    let start_is : c.len-start.result ≡ length fs = omega (arith, c.len-start.ensures, c.loop-number.frequencies.ok.0) in
+    let start_is : c.len.result ≡ length fs = omega (arith, c.len.ensures, c.loop-number.rows.ok.0) in
     let starts_are = c.in_ok-push.ensures.items ∙ ap (λ n. starts ++ n ∷ []) start_is in
     let rows_are = c.in_ok-extend_from_slice.ensures.items ∙ ap (λ zs. fs ++ zs) c.deref.ensures.value in
     record {
@@ -60,27 +59,20 @@ loop-number-preserved c =
       end = c.loop-number.invariant.end;
     }
 
-pub returns-clause-rows : goal.returns-clause-rows
-returns-clause-rows c =
-    let d = c.args.tables.now in
-    let ns = rows_by_number c.args.trips.now in
-    let whole : length ns ≤ c.loop-number.number = omega (arith, c.loop-number-test.false, c.loop-number.invariant.end) in
-    (λ i. map (map frequency_of) (parts (c.new-2.ensures i) (c.new.ensures i)))
-    ∙ listed_all (map frequency_of) (λ n. (trip_in d n).frequencies) ns c.loop-number.number (parts c.loop-number.starts.items c.loop-number.frequencies.items) whole c.loop-number.invariant.listed
-    ∙ ap (λ i. map (λ n. (trip_in d n).frequencies) (rows_by_number i)) c.requires.trips
-    ∙ sym (ap (map (λ t. t.frequencies)) (content_list d c.requires.passes file.Trips "trip_id" (required "trip_id" id) refl refl (λ r. r.trip_id) (trip_in d) (λ n. refl))
-    ∙ map-map (λ t. t.frequencies) (trip_in d) (rows_by_number (ids_in d file.Trips (codes "trip_id"))))
-
-pub returns-clause-cut : goal.returns-clause-cut
-returns-clause-cut c =
-    let d = c.args.tables.now in
+pub returns : goal.returns
+returns c =
+    let d = c.args.self.now in
     let ns = rows_by_number c.args.trips.now in
     let starts = c.loop-number.starts.items in
-    let fs = c.loop-number.frequencies.items in
+    let fs = c.loop-number.rows.items in
     let whole : length ns ≤ c.loop-number.number = omega (arith, c.loop-number-test.false, c.loop-number.invariant.end) in
-    let listed = listed_all (map frequency_of) (λ n. (trip_in d n).frequencies) ns c.loop-number.number (parts starts fs) whole c.loop-number.invariant.listed in (
-      ap length c.new-2.ensures ∙ sym (length-parts starts fs) ∙ sym (length-map (parts starts fs) (map frequency_of)) ∙ ap length listed
-          ∙ length-map ns (λ n. (trip_in d n).frequencies) ∙ sym (as_many c.args.trips.now),
-      subst (λ (p : List ℕ × List FrequencyRow). Rising 0 p.0 (length p.1)) (λ i. (sym c.new-2.ensures i, sym c.new.ensures i)) c.loop-number.invariant.rising,
-      (λ i. get_or (c.new-2.ensures i) 0 (length (c.new.ensures i))) ∙ c.loop-number.invariant.first,
-    )
+    let listed = listed_all (map frequency_of) (λ n. (trip_in d n).frequencies) ns c.loop-number.number (parts starts fs) whole c.loop-number.invariant.listed in
+    record {
+      rows = listed;
+      cut = (
+        sym (length-parts starts fs) ∙ sym (length-map (parts starts fs) (map frequency_of)) ∙ ap length listed
+            ∙ length-map ns (λ n. (trip_in d n).frequencies) ∙ sym (as_many c.args.trips.now),
+        c.loop-number.invariant.rising,
+        c.loop-number.invariant.first,
+      );
+    }

@@ -1,6 +1,0 @@
-use Rattle.std.proofs.Common.{◌≡◌, map, take}
-use Rattle.gtfs_feed.proofs.ids.Ids.of_rows.Given as goal
-
--- the ids of the rows so far
-abbrev pub invariant-loop-row : goal.invariant-loop-row
-invariant-loop-row g l = l.ids ≡ map g.R.Named.name (take l.row-index l.rows)

@@ -1,0 +1,9 @@
+use Rattle.gtfs_parts.proofs.named_ids.NamedIds.new.Goals as goal
+
+pub returns : goal.returns
+returns c = record {
+  agencies = c.in_ok-agencies.ensures;
+  stops = c.in_ok-stops.ensures;
+  routes = c.in_ok-routes.ensures;
+  trips = c.in_ok-trips.ensures;
+}

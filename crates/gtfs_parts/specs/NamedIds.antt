@@ -1,0 +1,12 @@
+-- The ids that rows of other files name, each column that of its file.
+use Rattle.std.specs.Prelude.{◌≡◌, codes}
+use Rattle.gtfs_table.specs.Tables.{Dataset}
+use Rattle.gtfs_table.specs.declared.file.File.TheVariants as file
+use Rattle.gtfs_columns.specs.steps.Ids.{ids_in}
+use Rattle.gtfs_parts.specs.declared.named_ids.NamedIds.{NamedIds}
+
+pub record AreNamedIds (d : Dataset) (ids : NamedIds) : Type 0 where
+  pub agencies : ids.agencies ≡ ids_in d file.Agency (codes "agency_id")
+  pub stops : ids.stops ≡ ids_in d file.Stops (codes "stop_id")
+  pub routes : ids.routes ≡ ids_in d file.Routes (codes "route_id")
+  pub trips : ids.trips ≡ ids_in d file.Trips (codes "trip_id")
