@@ -1,4 +1,5 @@
 -- A stop time to give where a list has none.
+use Rattle.std.proofs.Common.{false}
 use Rattle.gtfs_trip_rules.specs.declared.trips.row.Boarding.TheVariants.{Regular}
 use Rattle.gtfs_trip_rules.specs.declared.trips.row.StopTime.{StopTime}
 use Rattle.gtfs_trip_rules.specs.declared.trips.row.Timepoint.TheVariants.{Unsaid}
@@ -16,4 +17,5 @@ blank = record {
   pickup_type = Regular;
   drop_off_type = Regular;
   timepoint = Unsaid;
+  has_headsign = false;
 }

@@ -64,7 +64,8 @@ impl Gathered {
         let column = tables.column(File::StopTimes, "stop_headsign");
         for stop_time in stop_times {
             let headsign = self.headsigns.number(text(tables, stop_time, column))?;
-            self.starts.resize(stop_time.trip as usize + 1, self.rows.len())?;
+            self.starts
+                .resize(stop_time.trip as usize + 1, self.rows.len())?;
             self.rows.push(stop_row(stop_time, headsign))?;
         }
         Ok(())

@@ -1,7 +1,7 @@
-use Rattle.std.proofs.Common.{◌∙◌, ◌+◌, ◌-◌, ◌++◌, arith, codes, get_or, refl, subst, take}
-use Rattle.std.specs.Prelude.{replicate}
+use Rattle.std.proofs.Common.{◌∙◌, ◌+◌, ◌-◌, ◌++◌, ap, arith, codes, get_or, refl, subst, sym, take}
+use Rattle.std.specs.Prelude.{not, replicate}
 use Rattle.std.proofs.lemmas.List.{take_all}
-use Rattle.gtfs_table.specs.Rows.{records_in}
+use Rattle.gtfs_table.specs.Rows.{is_empty, records_in}
 use Rattle.gtfs_table.specs.Tables.{record_at}
 use Rattle.gtfs_table.specs.declared.file.File.TheVariants as file
 use Rattle.gtfs_table.proofs.RowFacts.{value_is}
@@ -14,6 +14,13 @@ use Rattle.gtfs_stop_times.proofs.Gathers.{gathered-next, gathered-none}
 use Rattle.gtfs_stop_times.proofs.RowSays.{in_time}
 use Rattle.gtfs_stop_times.proofs.TripRows.{trip_below}
 use Rattle.gtfs_stop_times.proofs.gathered.Gathered.push_all.Goals as goal
+
+pub text-requires : goal.text-requires
+text-requires c =
+    let d = c.args.tables.now in
+    let s = get_or c.args.stop_times.now c.loop-stop_time.stop_time-index blank in
+    (c.requires.stop_times.say c.loop-stop_time.stop_time-index blank c.loop-stop_time-test.true).has_headsign
+    ∙ ap (λ t. not (is_empty t)) (sym (value_is (records_in d file.StopTimes) s.row (record_at (records_in d file.StopTimes) s.row) (codes "stop_headsign") c.column-column.result refl c.column-column.ensures))
 
 pub overflow_add-stop_time : goal.overflow_add-stop_time
 overflow_add-stop_time c =
