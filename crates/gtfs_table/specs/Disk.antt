@@ -1,6 +1,6 @@
 -- Folders on a disk, which tell nothing of what they hold: what their answers rest on.
-use Rattle.std.specs.Prelude.{ℕ, length, List, Option, None, ◌<◌, ◌≤◌, ⊤}
-use Rattle.std.specs.Io.KnownBytes.{Consumes}
+use Rattle.std.specs.Prelude.{ℕ, length, List, Option, None, ◌≡◌, ◌<◌, ◌≤◌, ⊤, IfSome}
+use Rattle.std.specs.Io.KnownBytes.{Appends, Consumes}
 use Rattle.gtfs_table.specs.Device.{counted, Calls}
 use Rattle.gtfs_table.specs.Folder.{Store}
 use Rattle.gtfs_table.specs.declared.folders.FolderFault.{FolderFault}
@@ -54,6 +54,17 @@ pub record ReadsOver {F : Type 0} (remaining : F → Option (List ℕ)) (limit :
   pub before : F
   pub after : F
   pub more : GivesMoreThan limit (remaining before) (remaining after)
+
+-- these bytes are all that some file had left, where it tells that
+pub record IsAllOf {F : Type 0} (remaining : F → Option (List ℕ)) (bytes : List ℕ) : Type 0 where
+  pub file : F
+  pub all : IfSome (remaining file) (λ left. bytes ≡ left)
+
+-- some file took all these bytes; contents is what a file holds, where it tells that
+pub record TakesAll {F : Type 0} (contents : F → Option (List ℕ)) (bytes : List ℕ) : Type 0 where
+  pub before : F
+  pub after : F
+  pub taken : Appends (contents before) (contents after) bytes
 
 -- why a file is not read
 abbrev pub RefusesFile : FolderFault → Type 0

@@ -1,7 +1,7 @@
 ghost use Rattle.std.specs.Prelude.{◌≡◌, ◌≤◌, map, option_map, string_bytes, vec_len, IfOk, IfErr, IfSome, IsErrOf, IsNone, IsOk, OnOk, MatchResult};
 ghost use Rattle.gtfs_table.specs.Device.{FailsAtLast, MakesCalls};
 ghost use Rattle.gtfs_table.specs.Folder.{IsByBytes, Lists, Finds, Writes, RefusesNames, RefusesRead, RefusesWrite};
-ghost use Rattle.gtfs_table.specs.Disk.{told, calls, after_fault, ReadsOver, RefusesFile, RefusesOpen, RefusesStore};
+ghost use Rattle.gtfs_table.specs.Disk.{told, calls, after_fault, IsAllOf, TakesAll, ReadsOver, RefusesFile, RefusesOpen, RefusesStore};
 
 use crate::folders::{FolderFault, Folders};
 use crate::read_within::read_within;
@@ -132,6 +132,8 @@ impl<'a, R: Files + Alloc + Clone + Drop> Folders for DiskFolders<'a, R> {
         ensures called { MakesCalls 1 (calls self.old) (calls self.new) }
         ensures ends { IsErrOf result FolderFault.Read → FailsAtLast (calls self.new) }
 
+        ensures whole { IfOk result
+            (λ file. IfSome file (λ bytes. IsAllOf R.File.remaining bytes.items)) }
         ensures large { IsErrOf result FolderFault.TooLarge
             → ReadsOver R.File.remaining self.old.limit }
         ensures counted { MatchResult result
@@ -164,6 +166,7 @@ impl<'a, R: Files + Alloc + Clone + Drop> Folders for DiskFolders<'a, R> {
         ensures called { MakesCalls 1 (calls self.old) (calls self.new) }
         ensures ends { IsErrOf result FolderFault.Write → FailsAtLast (calls self.new) }
 
+        ensures whole { OnOk result (TakesAll R.File.contents bytes.now) }
         ensures counted { MatchResult result
             (λ _. self.new ≡ self.old)
             (λ fault. self.new ≡ after_fault fault self.old) }
@@ -250,6 +253,8 @@ fn read_file<R: Files>(
     name: &str,
     limit: u64,
 ) -> Result<Option<Vec<u8>>, FolderFault>
+    ensures whole { IfOk result
+        (λ file. IfSome file (λ bytes. IsAllOf R.File.remaining bytes.items)) }
     ensures within { IfOk result (λ file. IfSome file (λ bytes. vec_len bytes ≤ limit)) }
     ensures large { IsErrOf result FolderFault.TooLarge → ReadsOver R.File.remaining limit }
     ensures refused { IfErr result RefusesFile }
@@ -326,7 +331,8 @@ fn write_file<R: Files>(
     name: &str,
     bytes: &[u8],
 ) -> Result<(), FolderFault>
-    ensures { IfErr result RefusesStore }
+    ensures whole { OnOk result (TakesAll R.File.contents bytes.now) }
+    ensures refused { IfErr result RefusesStore }
 {
     if dir.is_empty() {
         return Err(FolderFault::Write);
