@@ -32,7 +32,7 @@ use Rattle.gtfs_runs.specs.Lanes.{latest}
 use Rattle.gtfs_runs.specs.StopLanes.{AreLanesOf, StopLanesValue, lanes_of}
 use Rattle.gtfs_table.specs.Folder.{text_cmp}
 use Rattle.gtfs_board.specs.Board as board
-use Rattle.gtfs_board.specs.Board.{BoardValue, FirstIsLeast, first_instant, keys_of, may_be_opened, start_of, step_count, steps_for_days}
+use Rattle.gtfs_board.specs.Board.{FirstIsLeast, first_instant, keys_of, may_be_opened, start_of, step_count, steps_for_days}
 use Rattle.gtfs_board.specs.CandidateKeys.{key_among}
 use Rattle.gtfs_board.specs.Departures.{IsBoard, departs_at, is_above, is_member}
 use Rattle.gtfs_board.specs.Floors.{IsNumbered, is_from}

@@ -1,5 +1,5 @@
 -- What the code shows of a candidate's rows.
-use Rattle.std.proofs.Common.{◌≡◌, ◌<◌, ℕ, ◌&&◌, List, [], map, length, Some, sym, ap, subst, ◌∙◌, unwrap_or}
+use Rattle.std.proofs.Common.{◌≡◌, ◌<◌, ℕ, ◌&&◌, List, [], length, Some, sym, ap, subst, ◌∙◌, unwrap_or}
 use Rattle.std.specs.Prelude.{◌==◌, All, IfSome, option_map, option_and_then, slice_get}
 use Rattle.std.specs.List.{list_any}
 use Rattle.std.specs.Option.{option_or}

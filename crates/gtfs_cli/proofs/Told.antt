@@ -1,5 +1,5 @@
 -- What the error output is told.
-use Rattle.std.proofs.Common.{◌≡◌, subst, sym, ℕ, inl, inr, List, Result, Ok, Err, take, drop, take-append-drop}
+use Rattle.std.proofs.Common.{sym, ℕ, inl, inr, List, Result, Ok, Err, take, drop, take-append-drop}
 use Rattle.std.specs.Prelude.{IfErr, OnErr, OnOk}
 use Rattle.std.specs.Io.KnownBytes.{Appends}
 use Rattle.gtfs_table.specs.Device.{Rises}

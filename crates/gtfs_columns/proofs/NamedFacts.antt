@@ -1,5 +1,5 @@
 -- A header names a column just where it has an index for it; the names of the kept columns of a file.
-use Rattle.std.proofs.Common.{◌≡◌, ℕ, List, [], ◌∷◌, length, true, false, Bool, refl, sym, ap, ◌∙◌, cond, map, Some, inl, inr}
+use Rattle.std.proofs.Common.{◌≡◌, ℕ, List, [], ◌∷◌, length, true, false, Bool, refl, sym, ap, ◌∙◌, map, Some, inl, inr}
 use Rattle.std.specs.Prelude.{◌&&◌, not, nat_lt, bytes_eq, find}
 use Rattle.std.specs.List.{list_any, list_all, position_or_len}
 use Rattle.std.specs.Option.{is_some}

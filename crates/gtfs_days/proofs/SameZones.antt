@@ -12,7 +12,7 @@ use Rattle.jiff_tz.specs.PosixRule.{match_some, rule_nanos, utc_window, in_windo
 use Rattle.jiff_tz.specs.PosixText.{tz_view, dst_view}
 use Rattle.jiff_tz.specs.Year.{year_of_nanos}
 use Rattle.jiff_tz.specs.Tzif as Table
-use Rattle.jiff_tz.specs.Tzif.{tzif_view, count_at, civil_count_at, transition_at, type_after, rule_after, offsets_in, is_inside, ambiguous_after, no_transition}
+use Rattle.jiff_tz.specs.Tzif.{tzif_view, count_at, civil_count_at, transition_at, type_after, rule_after, offsets_in, is_inside, no_transition}
 use Rattle.jiff_tz.specs.TzifReader.{TzifText}
 use Rattle.jiff_tz.specs.TzifText.{TransitionText, TypeText, transition_text, type_view, civil_start, civil_end}
 use Rattle.jiff_tz.specs.declared.ambiguous.AmbiguousOffset.{AmbiguousOffset}

@@ -8,7 +8,7 @@ use Rattle.gtfs_columns.specs.Problems.{Passes}
 use Rattle.gtfs_rows.specs.declared.parts.Parts.{Parts}
 use Rattle.gtfs_rows.specs.Reading.{content_of}
 use Rattle.gtfs_rows.specs.Sound.{IsSound}
-use Rattle.gtfs_rows.specs.Views.{IsSoundParts, content_of_parts, stop_ids, stop_row_of}
+use Rattle.gtfs_rows.specs.Views.{IsSoundParts, content_of_parts, stop_row_of}
 use Rattle.gtfs_rows.proofs.PassingIsSound.{passing_is_sound}
 use Rattle.gtfs_parts.specs.FeedRows.{AreRowsOf, rows_in}
 use Rattle.gtfs_parts.specs.Named.{stop_named, trip_named, without_rows}

@@ -1,5 +1,5 @@
 -- Ids that are joined are ids of both feeds.
-use Rattle.std.proofs.Common.{◌≡◌, ◌<◌, ℕ, Bool, true, false, cond, List, [], Some, None, refl, sym, ap, ◌∙◌, subst, length, map, get_or, bytes_eq, is_some, true≢false}
+use Rattle.std.proofs.Common.{◌≡◌, ◌<◌, ℕ, Bool, true, false, List, [], Some, None, refl, sym, ap, ◌∙◌, subst, length, map, get_or, bytes_eq, is_some, true≢false}
 use Rattle.std.specs.Prelude.{◌&&◌}
 use Rattle.std.specs.List.{list_any, position, position_or_len}
 use Rattle.std.proofs.lemmas.Bool.{and_parts, false_from_ne_true}

@@ -17,7 +17,7 @@ use Rattle.gtfs_columns.specs.KeyRules.{all_there, key_in, same_key}
 use Rattle.gtfs_columns.specs.Problems.{Passes, kept}
 use Rattle.gtfs_columns.specs.References.{reported_column}
 use Rattle.gtfs_columns.specs.Rows.{value_in, word_in}
-use Rattle.gtfs_columns.specs.Values.{amount, as_amount, if_both, is_word, value_eq, word}
+use Rattle.gtfs_columns.specs.Values.{as_amount, if_both, is_word, value_eq}
 use Rattle.gtfs_columns.proofs.EachFacts.{any_follows}
 use Rattle.gtfs_columns.proofs.SiteFacts.{text_itself}
 use Rattle.gtfs_columns.proofs.ValueFacts.{amount_value, is_word_some, word_value}

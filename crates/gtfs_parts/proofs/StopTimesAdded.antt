@@ -1,5 +1,5 @@
 -- The rows of a dataset with its stop times are its content.
-use Rattle.std.proofs.Common.{◌≡◌, ◌∷◌, [], List, map, refl, ap}
+use Rattle.std.proofs.Common.{◌≡◌, ◌∷◌, [], List, map, refl}
 use Rattle.gtfs_field.proofs.ListFacts.{first_is, rest_is}
 use Rattle.gtfs_table.specs.Parts.{parts}
 use Rattle.gtfs_table.specs.Tables.{Dataset}

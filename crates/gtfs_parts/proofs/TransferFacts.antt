@@ -37,7 +37,6 @@ use Rattle.gtfs_rows.specs.Reading.{transfer_in}
 use Rattle.gtfs_rows.specs.Rows.{Transfer}
 use Rattle.gtfs_rows.specs.Views.{is_within, text_of_number}
 use Rattle.gtfs_rows.proofs.ContentAgain.{transfer_antisymmetric, transfer_total}
-use Rattle.gtfs_rows.proofs.Held.{text_antisymmetric}
 use Rattle.gtfs_rows.proofs.RowTexts.{all_at}
 use Rattle.gtfs_rows.proofs.SameElements.{pairs-map}
 use Rattle.gtfs_parts.specs.TransferEnds.{names_ends, transfer_named, transfer_numbers}

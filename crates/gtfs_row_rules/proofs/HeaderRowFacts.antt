@@ -1,5 +1,5 @@
 -- A header reports of a row just the problems that the row has in its length and in its fields.
-use Rattle.std.proofs.Common.{◌≡◌, ℕ, List, [], ◌∷◌, true, false, Bool, refl, sym, ap, ◌∙◌, map, Option, Some, None}
+use Rattle.std.proofs.Common.{◌≡◌, ℕ, List, [], ◌∷◌, true, Bool, refl, sym, ap, ◌∙◌, map, Option, Some, None}
 use Rattle.std.specs.Prelude.{◌&&◌, ◌||◌, bytes_eq, filter_map, option_map}
 use Rattle.std.specs.List.{cons_option, list_any}
 use Rattle.std.specs.Option.{is_some}

@@ -1,5 +1,5 @@
 -- Every reference of a written content names a row: E10.
-use Rattle.std.proofs.Common.{◌≡◌, ◌+◌, ◌<◌, ℕ, List, [], ◌∷◌, ◌++◌, length, get_or, map, true, false, Bool, Option, Some, None, refl, sym, ap, subst, ◌∙◌, inl, inr}
+use Rattle.std.proofs.Common.{◌≡◌, ◌<◌, ℕ, List, [], ◌∷◌, length, get_or, map, true, false, Bool, Option, Some, None, refl, sym, ap, ◌∙◌, inl, inr}
 use Rattle.std.specs.Prelude.{◌==◌, ◌&&◌, ◌||◌, not, bytes_eq, codes, if◌then◌else◌, option_map, is_some}
 use Prim.Native.String.{String as Literal}
 use Rattle.std.specs.List.{Contains, list_all}
@@ -15,12 +15,12 @@ use Rattle.gtfs_columns.specs.KeyRules.{is_known, unknown_reference}
 use Rattle.gtfs_columns.specs.References.{stop_ids, route_ids, trip_ids}
 use Rattle.gtfs_columns.specs.Rows.{is_file, text_in, value_in, row_with}
 use Rattle.gtfs_columns.specs.Values.{word}
-use Rattle.gtfs_columns.proofs.SiteFacts.{text_is, text_itself}
-use Rattle.gtfs_rows.specs.Cells.{Cell, cell_text}
+use Rattle.gtfs_columns.proofs.SiteFacts.{text_itself}
+use Rattle.gtfs_rows.specs.Cells.{cell_text}
 use Rattle.gtfs_rows.specs.Content.{Content}
 use Rattle.gtfs_rows.specs.Named.{cell_named, text_named}
 use Rattle.gtfs_rows.specs.RowCells.{agency_cells, stop_cells, route_cells, trip_cells, stop_time_cells, week_cells, exception_cells, frequency_cells, transfer_cells, id_cell, stop_times_of, weeks_of, exceptions_of, frequencies_of}
-use Rattle.gtfs_rows.specs.Rows.{ServiceRow, Stop, Route, StopRow, Frequency, Trip, Transfer}
+use Rattle.gtfs_rows.specs.Rows.{Stop, Route, StopRow, Trip, Transfer}
 use Rattle.gtfs_rows.specs.Sound.{IsSound, has_ends, has_id, has_name_and_position, has_right_parent, if_given, is_end, is_sound_in, is_sound_period, is_sound_route, is_sound_service, is_sound_stop, is_sound_stop_row, is_sound_transfer, is_sound_trip, is_stop_of, keeps_time, leaves}
 use Rattle.gtfs_rows.specs.Written.{written_beside}
 use Rattle.gtfs_rows.proofs.PeriodCodes.{period}

@@ -1,8 +1,7 @@
 -- A written content lacks no value that others ask for, and has none that they forbid: E12.
-use Rattle.std.proofs.Common.{◌≡◌, ◌+◌, ◌<◌, ◌≤◌, ℕ, List, length, get_or, true, false, Bool, Option, Some, None, refl, ap, ◌∙◌, arith, inl, inr}
+use Rattle.std.proofs.Common.{◌≡◌, ◌+◌, ◌<◌, ℕ, List, length, get_or, true, false, Bool, Option, Some, None, refl, ap, ◌∙◌, arith, inl, inr}
 use Rattle.std.specs.Prelude.{◌==◌, ◌&&◌, ◌||◌, not, codes, nat_lt, nat_le, option_map, is_none, is_some, pos, int_le}
 use Prim.Native.String.{String as Literal}
-use Rattle.std.specs.List.{list_all}
 use Rattle.std.proofs.lemmas.Bool.{and_parts, and_left, and_right, or_cases, or_from, cases_Bool, not-true, leb-true, ltb-true, lt-leb, eqb-true, eq-eqb, both_ways}
 use Rattle.std.proofs.lemmas.List.FromFn.{length-range_with_len}
 use Rattle.gtfs_field.proofs.TestFacts.{and_fails as unless}
@@ -10,12 +9,12 @@ use Rattle.gtfs_table.specs.declared.file.File.{File}
 use Rattle.gtfs_table.specs.declared.file.File.TheVariants as file
 use Rattle.gtfs_table.specs.Rows.{is_empty}
 use Rattle.gtfs_columns.specs.PresenceRules.{has_many_agencies, has_wrong_parent, is_choice, lacks_agency, lacks_end, lacks_name, lacks_name_or_position, value_missing_or_forbidden}
-use Rattle.gtfs_columns.specs.Rows.{choice_in, is_empty_in, is_readable_in}
+use Rattle.gtfs_columns.specs.Rows.{is_empty_in, is_readable_in}
 use Rattle.gtfs_columns.specs.Values.{Value, word, amount, if_there}
 use Rattle.gtfs_rows.specs.Content.{Content}
 use Rattle.gtfs_rows.specs.RowCells.{agency_cells, route_cells, stop_cells, transfer_cells, id_cell, number}
 use Rattle.gtfs_rows.specs.Rows.{Agency, Route, Stop, Transfer}
-use Rattle.gtfs_rows.specs.Sound.{IsSound, has_ends, has_id, has_name_and_position, has_right_parent, is_sound_agency, is_sound_route, is_sound_stop, is_sound_transfer, is_stop_of}
+use Rattle.gtfs_rows.specs.Sound.{IsSound, has_ends, has_id, has_name_and_position, has_right_parent, is_sound_agency, is_sound_route, is_sound_stop, is_sound_transfer}
 use Rattle.gtfs_rows.specs.Written.{written_beside}
 use Rattle.gtfs_rows.proofs.ContentAgain.{only_agency}
 use Rattle.gtfs_rows.proofs.RowTexts.{all_at}

@@ -1,6 +1,6 @@
 -- A written content has no transfer twice: E09 of transfers.txt, whose key has parts that may be empty.
 use Rattle.std.proofs.Common.{◌≡◌, ◌+◌, ◌<◌, ℕ, List, [], ◌∷◌, length, get_or, map, true, false, Bool, Option, Some, None, refl, sym, ap, ◌∙◌, arith}
-use Rattle.std.specs.Prelude.{◌&&◌, not, bytes_eq, codes, if◌then◌else◌, option_map, unwrap_or, is_none, is_some}
+use Rattle.std.specs.Prelude.{not, bytes_eq, codes, if◌then◌else◌, option_map, unwrap_or, is_none, is_some}
 use Prim.Native.String.{String as Literal}
 use Rattle.std.specs.Cmp.{tied_itself}
 use Rattle.std.specs.Cmp.Lexicographic.{pointwise}

@@ -1,5 +1,5 @@
 -- Rows by key, made of the numbers of rows: what is made of the numbers in order.
-use Rattle.std.proofs.Common.{◌≡◌, ◌∷◌, [], List, map, true, T, refl, sym, ap, ◌∙◌, subst, arith}
+use Rattle.std.proofs.Common.{◌≡◌, ◌∷◌, [], List, map, T, refl, sym, ap, ◌∙◌, subst, arith}
 use Rattle.std.specs.Cmp.{IsTotalOrder}
 use Rattle.std.specs.FinMap as table
 use Rattle.std.specs.FinMap.Entries.{below_all, by_order, put}

@@ -1,5 +1,5 @@
 -- The greatest time that a field can say, 999:59:59.
-use Rattle.std.proofs.Common.{◌≡◌, ◌≤◌, ℕ, Bool, List, Option, Some, None, Ok, Err, arith, inl, inr}
+use Rattle.std.proofs.Common.{◌≡◌, ◌≤◌, ℕ, List, Option, Some, None, Ok, Err, arith, inl, inr}
 use Rattle.std.specs.Prelude.{IfSome, Result, option_and_then, option_map, pos}
 use Rattle.std.specs.List.{before_first, after_first}
 use Rattle.std.specs.Result.{result_ok}

@@ -1,4 +1,4 @@
-use Rattle.std.proofs.Common.{rules, ◌≡◌, ◌++◌, w32, w64, SFits, to_z, of_z, arith, refl, ◌∙◌, ap, heap_items}
+use Rattle.std.proofs.Common.{rules, ◌++◌, w32, w64, SFits, to_z, arith, refl, ◌∙◌, ap, heap_items}
 use Rattle.std.specs.Prelude.{pos, ◌+ℤ◌, ◌≤ℤ◌}
 use Rattle.std.specs.Option.{option_to_list}
 use Rattle.std.proofs.Math.Nat.{le_refl}

@@ -5,7 +5,6 @@ use Rattle.std.proofs.lemmas.List.Elements.{All-take}
 use Rattle.gtfs_columns.specs.declared.code.Code.TheVariants as code
 use Rattle.gtfs_trip_rules.specs.TripNumbers.{IsNumbered}
 use Rattle.gtfs_trip_rules.specs.TripOrder.{is_left_later}
-use Rattle.gtfs_trip_rules.specs.TripStopTimes.{trip_stop_times_in}
 use Rattle.gtfs_trip_rules.proofs.TripPicks.{order_reported}
 use Rattle.gtfs_trip_rules.proofs.TripReports.{back_here, back_reported, before_end, ends_reported, faultless_none, left_more, repeats_here, repeats_reported, rows_before, seen_all, silent_forward, timed_forward}
 use Rattle.gtfs_trip_rules.proofs.TripRestated.{ends_untimed, goes_back_among, repeats_among}
