@@ -1,5 +1,6 @@
 -- The values of the options of `gtfs timetable`.
-use Rattle.std.specs.Prelude.{◌≡◌, ℕ, ℤ, Bool, bytes_eq, codes, if◌then◌else◌, IsSome, List, [], Option, Some, None, Ok}
+use Rattle.std.specs.Prelude.{◌≡◌, ℕ, ℤ, Bool, bytes_eq, codes, if◌then◌else◌, is_some, IsSome, List, [], ◌∷◌, Option, Some, None, Ok}
+use Rattle.std.specs.Result.{result_ok}
 use Rattle.clap.specs.Words.{Text}
 use Rattle.gtfs_field.specs.Kinds.{date_of}
 use Rattle.gtfs_words.specs.Words.{TimetableTexts}

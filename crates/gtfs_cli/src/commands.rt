@@ -1,6 +1,6 @@
 //! The commands of the program, and how each ends.
-ghost use Rattle.std.specs.Prelude.{◌≡◌, ◌≤◌, List, ℕ, false, map, IfOk, IfErr, IsErrAnd, OnOk};
-ghost use Rattle.std.specs.Io.KnownBytes.{Keeps};
+ghost use Rattle.std.specs.Prelude.{◌≡◌, ◌≤◌, List, ℕ, false, map, IfOk, IfErr, IfSome, IsErrAnd, OnOk};
+ghost use Rattle.std.specs.Io.KnownBytes.{Appends, Keeps};
 ghost use Rattle.clap.specs.Words.{Text, takes};
 ghost use Rattle.gtfs_words.specs.Words.{gtfs_app, no_memory, AreRefused, AsksBoardOf, AsksCheckOf, AsksTimetableOf, BoardTexts, IsFaultOf, TimetableTexts, AsksMergeOf, MergeTexts};
 ghost use Rattle.gtfs_cli.specs.BoardRun.{IsBoardRun};
@@ -13,6 +13,7 @@ ghost use Rattle.gtfs_cli.specs.Running.{FailedNowhere, IsBadUsage, IsDeviceFaul
 ghost use Rattle.gtfs_cli.specs.Sending.{Sends};
 ghost use Rattle.gtfs_cli.specs.TimetableRun.{IsTimetableRun};
 ghost use Rattle.gtfs_cli.specs.WordsRun.{IsHelped, IsUntakenRun};
+ghost use Rattle.gtfs_cli.specs.UntakenWords.{help_in, IsRefusedBy};
 ghost use Rattle.gtfs_cli.specs.declared.commands.refusal.Refusal.TheVariants.{OutOfMemory};
 
 mod board;
@@ -195,6 +196,9 @@ fn answer_fault<'w, O: Out>(fault: WordsFault, out: &mut O) -> Result<bool, Refu
         (IsCauseInWords texts (O.failure_count out.old) (O.failure_count out.new)) }
     ensures nothing { (texts : List Text) → IsFaultOf texts fault → AreRefused texts
         → Keeps (O.told out.old) (O.told out.new) }
+    ensures whole { OnOk result (IfSome (help_in fault)
+        (λ text. Appends (O.told out.old) (O.told out.new) text)) }
+    ensures said { IsRefusedBy fault result }
     ensures memory { fault ≡ no_memory → IsErrAnd result (λ refusal. refusal ≡ OutOfMemory) }
     ensures unsent { fault ≡ no_memory → Keeps (O.told out.old) (O.told out.new) }
     ensures grows { O.failure_count out.old ≤ O.failure_count out.new }
