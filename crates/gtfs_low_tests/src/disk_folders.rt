@@ -377,6 +377,31 @@ fn a_file_is_read_up_to_the_limit(rt: HostRuntime) -> Result<(), Fail> {
     Ok(())
 }
 
+fn write_over_limit(rt: &impl Abort, system: &HostRuntime, dir: &str) -> Result<(), Fail> {
+    let mut disk = DiskFolders::with_limits(system, 4, 10);
+    let written = disk.write(system.alloc(), dir, "stops.txt", b"12345");
+    assert_eq!(rt; written, Ok(()));
+    let file = has_file(system, &mut disk, dir, "stops.txt", b"12345");
+    assert_eq!(rt; file, Err(FolderFault::TooLarge));
+    assert_eq!(rt; disk.failures(), 0);
+    Ok(())
+}
+
+fn assert_stands(rt: &impl Abort, system: &HostRuntime, dir: &str) -> Result<(), Fail> {
+    let mut disk = DiskFolders::with_limits(system, 5, 10);
+    assert!(rt; has_file(system, &mut disk, dir, "stops.txt", b"12345")?);
+    Ok(())
+}
+
+#[test]
+fn writing_judges_no_limit(rt: HostRuntime) -> Result<(), Fail> {
+    let base = make_folder(&rt, "over")?;
+    write_over_limit(&rt, &rt, base.as_str())?;
+    assert_stands(&rt, &rt, base.as_str())?;
+    fs::remove_dir_all(&rt, base.as_str())?;
+    Ok(())
+}
+
 fn assert_entries(rt: &impl Abort, system: &HostRuntime, dir: &str) -> Result<(), Fail> {
     let mut disk = DiskFolders::with_limits(system, 100, 2);
     for (name, wanted) in [("a", Ok(1)), ("b", Ok(2)), ("c", Err(FolderFault::Read))] {

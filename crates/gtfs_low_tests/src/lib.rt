@@ -8,6 +8,7 @@
 //!   and with long ones.
 //! - `memory_folders` and `disk_folders` are the two devices that hold folders, and `outputs` those that
 //!   take text.
+//! - `sizes` are outputs, files, folders and records that are larger than those.
 //! - `faults` are the lines and numbers of faults.
 //!
 //! The worked examples of the definitions stand in `proofs/`, as lemmas that compute. Among them are
@@ -26,6 +27,8 @@ mod offsets;
 mod outputs;
 #[cfg(test)]
 mod services;
+#[cfg(test)]
+mod sizes;
 #[cfg(test)]
 mod tables;
 #[cfg(test)]

@@ -8,7 +8,7 @@ use std::test::Fail;
 const LIMIT: u64 = 1_000_000;
 
 // More bytes than two bytes can count.
-const LONG: u32 = 70_000;
+const LONG: usize = 70_000;
 
 fn tables_of(alloc: Global, trips: &str) -> Result<Tables, FolderFault> {
     let mut folders = MemoryFolders::new(alloc, LIMIT, None);
@@ -123,5 +123,36 @@ fn a_long_field_stands_between_its_neighbours(rt: HostRuntime) -> Result<(), Fai
     }
     assert_fields(&rt, &tables);
     assert_eq!(rt; tables.record(File::Trips, 2).field(1).len(), 70_000);
+    Ok(())
+}
+
+// The only record of a table: two long fields.
+fn push_two_long(alloc: Global, tables: &mut Tables) -> Result<(), OutOfMemory> {
+    tables.push_record(File::Trips, "x".repeat(alloc, LONG)?.as_str())?;
+    if tables.records(File::Trips) > 0 {
+        tables.push_field(File::Trips, "y".repeat(alloc, LONG)?.as_str())?;
+    }
+    Ok(())
+}
+
+// The text of that record.
+fn two_long(alloc: Global) -> Result<String, OutOfMemory> {
+    let mut text = "x".repeat(alloc, LONG)?;
+    text.push_str(",")?;
+    text.push_str("y".repeat(alloc, LONG)?.as_str())?;
+    text.push_str("\n")?;
+    Ok(text)
+}
+
+#[test]
+fn long_fields_are_pushed_and_written(rt: HostRuntime) -> Result<(), Fail> {
+    let mut tables = Tables::empty(rt.alloc());
+    push_two_long(rt.alloc(), &mut tables)?;
+    for n in 0..2 {
+        assert_eq!(rt; tables.field(File::Trips, 1, n).len(), 70_000, "field {n}");
+    }
+    let bytes = tables.write(rt.alloc(), File::Trips)?.ok_or("no text")?;
+    assert_eq!(rt; bytes.len(), 140_002);
+    assert!(rt; bytes.as_slice() == two_long(rt.alloc())?.as_bytes());
     Ok(())
 }

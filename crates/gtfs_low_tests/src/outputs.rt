@@ -1,20 +1,35 @@
 //! Outputs: a text goes out whole, or up to where its output fails.
 use gtfs_table::{Failed, MemoryOut, Out, OutFault, WriteOut, write_text};
+use std::alloc::Global;
 use std::io;
 use std::io::{BufWriter, Error, ErrorKind, Write};
+use std::process::Abort;
 use std::test::Fail;
 
-// Takes one byte a call, after two interruptions, until its room ends; then it takes none.
+// Takes one byte a call, after some interruptions, until its room ends; then it takes none.
 #[derive(Drop)]
 struct Trickle {
     text: Vec<u8>,
     room: usize,
+    pauses: u32,
     interruptions: u32,
+}
+
+impl Trickle {
+    // A writer that interrupts so many times before each byte.
+    fn new(alloc: Global, room: usize, pauses: u32) -> Trickle {
+        Trickle {
+            text: Vec::new(alloc),
+            room,
+            pauses,
+            interruptions: 0,
+        }
+    }
 }
 
 impl Write for Trickle {
     fn write(&mut self, buf: &[u8]) -> io::Result<usize> {
-        if self.interruptions < 2 {
+        if self.interruptions < self.pauses {
             self.interruptions += 1;
             return Err(Error::from(ErrorKind::Interrupted));
         }
@@ -34,11 +49,7 @@ impl Write for Trickle {
 }
 
 fn trickling(rt: HostRuntime, room: usize) -> WriteOut<Trickle> {
-    WriteOut::new(Trickle {
-        text: Vec::new(rt.alloc()),
-        room,
-        interruptions: 0,
-    })
+    WriteOut::new(Trickle::new(rt.alloc(), room, 2))
 }
 
 #[test]
@@ -87,6 +98,69 @@ fn a_writer_may_take_one_byte_a_call(rt: HostRuntime) {
 }
 
 #[test]
+fn a_writer_may_be_interrupted_often(rt: HostRuntime) {
+    let mut writer = Trickle::new(rt.alloc(), 9, 1_000);
+    let mut out = WriteOut::new(&mut writer);
+    assert_eq!(rt; write_text(&mut out, b"departure"), Ok(()));
+    assert_eq!(rt; out.failures(), 0);
+    assert_eq!(rt; writer.text.as_slice(), b"departure".as_slice());
+}
+
+// Takes nothing at its first call, for this fault or for none, and at each later one all that it is handed.
+#[derive(Drop)]
+struct FailsOnce {
+    text: Vec<u8>,
+    fault: Option<ErrorKind>,
+    called: bool,
+}
+
+impl Write for FailsOnce {
+    fn write(&mut self, buf: &[u8]) -> io::Result<usize> {
+        if self.called {
+            self.text.extend_from_slice(buf)?;
+            return Ok(buf.len());
+        }
+        self.called = true;
+        match self.fault {
+            Some(kind) => Err(Error::from(kind)),
+            None => Ok(0),
+        }
+    }
+
+    fn flush(&mut self) -> io::Result<()> {
+        Ok(())
+    }
+}
+
+// A failed write is not tried again: what the next one hands over is all that the writer takes.
+fn assert_fails_once(rt: &impl Abort, alloc: Global, fault: Option<ErrorKind>) {
+    let mut writer = FailsOnce {
+        text: Vec::new(alloc),
+        fault,
+        called: false,
+    };
+    let mut out = WriteOut::new(&mut writer);
+    for taken in [Err(Failed), Ok(9)] {
+        assert_eq!(rt; out.write(b"departure"), taken, "after {fault:?}");
+        assert_eq!(rt; out.failures(), 1, "after {fault:?}");
+    }
+    let text = b"departure".as_slice();
+    assert_eq!(rt; writer.text.as_slice(), text, "after {fault:?}");
+}
+
+#[test]
+fn a_writer_may_fail_once(rt: HostRuntime) {
+    for fault in [
+        Some(ErrorKind::TimedOut),
+        Some(ErrorKind::WouldBlock),
+        Some(ErrorKind::BrokenPipe),
+        None,
+    ] {
+        assert_fails_once(&rt, rt.alloc(), fault);
+    }
+}
+
+#[test]
 fn a_writer_that_takes_no_more_fails(rt: HostRuntime) {
     let mut out = trickling(rt, 4);
     assert_eq!(rt;
@@ -117,15 +191,25 @@ fn a_buffer_is_flushed_into_its_writer(rt: HostRuntime) -> Result<(), Fail> {
 // The buffer takes the text, and its writer then takes four bytes of it.
 #[test]
 fn a_buffer_fails_where_its_writer_takes_no_more(rt: HostRuntime) -> Result<(), Fail> {
-    let writer = Trickle {
-        text: Vec::new(rt.alloc()),
-        room: 4,
-        interruptions: 0,
-    };
+    let writer = Trickle::new(rt.alloc(), 4, 2);
     let mut out = WriteOut::new(BufWriter::new(rt.alloc(), writer)?);
     assert_eq!(rt; write_text(&mut out, b"departure"), Ok(()));
     assert_eq!(rt; out.failures(), 0);
     assert_eq!(rt; out.flush_buffer(), Err(Failed));
     assert_eq!(rt; out.failures(), 1);
+    Ok(())
+}
+
+// Whether something is left in the buffer or not, its writer is flushed, and fails.
+#[test]
+fn a_buffer_fails_where_its_writer_cannot_be_flushed(rt: HostRuntime) -> Result<(), Fail> {
+    let writer = Trickle::new(rt.alloc(), 9, 2);
+    let mut out = WriteOut::new(BufWriter::new(rt.alloc(), writer)?);
+    assert_eq!(rt; out.flush_buffer(), Err(Failed));
+    assert_eq!(rt; out.failures(), 1);
+    assert_eq!(rt; write_text(&mut out, b"departure"), Ok(()));
+    assert_eq!(rt; out.failures(), 1);
+    assert_eq!(rt; out.flush_buffer(), Err(Failed));
+    assert_eq!(rt; out.failures(), 2);
     Ok(())
 }

@@ -1,0 +1,114 @@
+//! Large outputs, files, folders and records: memory alone bounds their sizes.
+use gtfs_table::{File, Folders, MemoryFolders, MemoryOut, Out, Tables, write_text};
+use std::alloc::{AllocError, Global};
+use std::process::Abort;
+use std::test::Fail;
+
+#[test]
+fn an_output_may_have_room_for_a_hundred_megabytes(rt: HostRuntime) -> Result<(), Fail> {
+    let mut out = MemoryOut::new(rt.alloc(), 100_000_001)?;
+    assert_eq!(rt; write_text(&mut out, b"departure"), Ok(()));
+    assert_eq!(rt; out.bytes(), b"departure".as_slice());
+    assert_eq!(rt; out.failures(), 0);
+    Ok(())
+}
+
+// Ten bytes over and over, seventy thousand bytes in all.
+fn file_part(alloc: Global) -> Result<Vec<u8>, AllocError> {
+    let mut part = Vec::new(alloc);
+    for _ in 0..7_000 {
+        part.extend_from_slice(b"0123456789")?;
+    }
+    Ok(part)
+}
+
+// The same, seventy million bytes in all.
+fn large_file(alloc: Global) -> Result<Vec<u8>, AllocError> {
+    let part = file_part(alloc)?;
+    let mut bytes = Vec::with_capacity(alloc, 70_000_000)?;
+    for _ in 0..1_000 {
+        bytes.extend_from_slice(&part)?;
+    }
+    Ok(bytes)
+}
+
+// Its ends and its length alone: all its bytes take long to compare where the tests run unproved.
+fn assert_large(rt: &impl Abort, alloc: Global, folders: &mut MemoryFolders) -> Result<(), Fail> {
+    let file = folders.read(alloc, "f1", "stops.txt")?.ok_or("no file")?;
+    assert_eq!(rt; file.len(), 70_000_000);
+    assert_eq!(rt; file.first(), Some(&b'0'));
+    assert_eq!(rt; file.last(), Some(&b'9'));
+    Ok(())
+}
+
+#[test]
+fn a_file_of_seventy_megabytes_is_put(rt: HostRuntime) -> Result<(), Fail> {
+    let mut folders = MemoryFolders::new(rt.alloc(), 100_000_000, None);
+    folders.put("f1", "stops.txt", &large_file(rt.alloc())?)?;
+    assert_large(&rt, rt.alloc(), &mut folders)
+}
+
+#[test]
+fn a_file_of_seventy_megabytes_is_written(rt: HostRuntime) -> Result<(), Fail> {
+    let mut folders = MemoryFolders::new(rt.alloc(), 100_000_000, None);
+    folders.write(rt.alloc(), "f1", "stops.txt", &large_file(rt.alloc())?)?;
+    assert_large(&rt, rt.alloc(), &mut folders)
+}
+
+// Files with numbers for names, the last one first.
+fn put_numbers(alloc: Global, folders: &mut MemoryFolders) -> Result<(), Fail> {
+    for number in (100_000_u32..170_000).rev() {
+        folders.put("f1", format!(in alloc; "{number}")?.as_str(), b"")?;
+    }
+    Ok(())
+}
+
+#[test]
+fn a_folder_may_have_seventy_thousand_files(rt: HostRuntime) -> Result<(), Fail> {
+    let mut folders = MemoryFolders::new(rt.alloc(), 100, None);
+    put_numbers(rt.alloc(), &mut folders)?;
+    let names = folders.names(rt.alloc(), "f1")?;
+    assert_eq!(rt; names.len(), 70_000);
+    for (name, number) in names.iter().zip(100_000_u32..170_000) {
+        let wanted = format!(in rt.alloc(); "{number}")?;
+        assert_eq!(rt; name.as_str(), wanted.as_str());
+    }
+    Ok(())
+}
+
+// This field so many times, each with a comma after it, and then the last one of the record.
+fn push_fields(
+    text: &mut Vec<u8>,
+    field: &[u8],
+    times: u32,
+    last: &[u8],
+) -> Result<(), AllocError> {
+    for _ in 0..times {
+        text.extend_from_slice(field)?;
+        text.extend_from_slice(b",")?;
+    }
+    text.extend_from_slice(last)?;
+    text.extend_from_slice(b"\n")
+}
+
+// A header and a row of seventy thousand fields each.
+fn wide_table(alloc: Global) -> Result<Vec<u8>, AllocError> {
+    let mut text = Vec::new(alloc);
+    push_fields(&mut text, b"c", 69_999, b"end")?;
+    push_fields(&mut text, b"1", 69_999, b"last")?;
+    Ok(text)
+}
+
+#[test]
+fn a_record_may_have_seventy_thousand_fields(rt: HostRuntime) -> Result<(), Fail> {
+    let mut folders = MemoryFolders::new(rt.alloc(), 1_000_000, None);
+    folders.put("f1", "trips.txt", &wide_table(rt.alloc())?)?;
+    let tables = Tables::read(rt.alloc(), &mut folders, "f1")?;
+    for row in [1, 2] {
+        assert_eq!(rt; tables.fields(File::Trips, row), 70_000, "row {row}");
+    }
+    assert_eq!(rt; tables.column(File::Trips, "end"), Some(69_999));
+    assert_eq!(rt; tables.field(File::Trips, 2, 69_998), "1");
+    assert_eq!(rt; tables.value(File::Trips, 2, "end"), "last");
+    Ok(())
+}
