@@ -1,7 +1,7 @@
 //! The texts of keys, their order, and boards opened above keys that no departure has.
 
 use crate::cases::{FIRST_OF_APRIL, SMALL};
-use crate::opening::Fixture;
+use crate::opening::{Fixture, Opening};
 use gtfs_board::{Key, push_key, read_key};
 use gtfs_field::{Day, FieldFault};
 use std::alloc::Global;
@@ -47,6 +47,26 @@ fn texts_of_keys_read_back(rt: HostRuntime) -> Result<(), Fail> {
         let written = rewritten(&rt, rt.alloc(), "> ", text)?;
         assert_eq!(rt; written.as_str().strip_prefix("> "), Some(text));
     }
+    Ok(())
+}
+
+// The widest instant, run and sequence, beyond those that a text can give back.
+#[test]
+fn a_key_that_does_not_read_back_is_written_as_it_is(rt: HostRuntime) -> Result<(), Fail> {
+    let key = Key {
+        instant: i64::MIN,
+        trip: "",
+        run: u32::MAX,
+        sequence: u32::MAX,
+        // 1970-01-01
+        day: Day::from_number(0),
+    };
+    let mut text = String::new(rt.alloc());
+    push_key(rt.alloc(), &mut text, &key)?;
+    assert_eq!(rt;
+        text.as_str(),
+        "@-9223372036854775808//4294967295/4294967295/19700101"
+    );
     Ok(())
 }
 
@@ -170,6 +190,52 @@ fn a_board_is_opened_above_any_key(rt: HostRuntime) -> Result<(), Fail> {
     for key in ABOVE {
         let lines = opening.listed(&rt, rt.alloc(), key)?;
         assert!(rt; lines.is_empty(), "{key}");
+    }
+    Ok(())
+}
+
+// Keys around it that no text has: the instant, trip, run and sequence of those below, and of those above.
+const WIDE_BELOW: [(i64, &str, u32, u32); 4] = [
+    (i64::MIN, "T1", 28_800, 1),
+    (i64::MIN, "zz", u32::MAX, u32::MAX),
+    (1_711_958_400, "T0", u32::MAX, u32::MAX),
+    (1_711_958_400, "T1", 28_799, u32::MAX),
+];
+
+const WIDE_ABOVE: [(i64, &str, u32, u32); 4] = [
+    (1_711_958_400, "T1", 28_800, u32::MAX),
+    (1_711_958_400, "T1", u32::MAX, 0),
+    (i64::MAX, "T1", 28_800, 1),
+    (i64::MAX, "", 0, 0),
+];
+
+#[test]
+fn a_board_is_opened_above_keys_that_no_text_has(rt: HostRuntime) -> Result<(), Fail> {
+    let fixture = Fixture::of_case(&rt, rt.alloc(), &SMALL)?;
+    let opening = fixture.opening("S1", FIRST_OF_APRIL);
+    assert_listed_above(&rt, rt.alloc(), &opening, &WIDE_BELOW, SMALL.lines)?;
+    assert_listed_above(&rt, rt.alloc(), &opening, &WIDE_ABOVE, "")
+}
+
+// The lines above each of the keys are these.
+fn assert_listed_above(
+    rt: &impl Abort,
+    alloc: Global,
+    opening: &Opening<'_>,
+    keys: &[(i64, &str, u32, u32)],
+    wanted: &str,
+) -> Result<(), Fail> {
+    for (instant, trip, run, sequence) in keys {
+        let key = Key {
+            instant: *instant,
+            trip,
+            run: *run,
+            sequence: *sequence,
+            // 2024-04-01
+            day: Day::from_number(19_814),
+        };
+        let lines = opening.listed_above(rt, alloc, &key)?;
+        assert_eq!(rt; lines.as_str(), wanted, "{instant} {trip} {run} {sequence}");
     }
     Ok(())
 }

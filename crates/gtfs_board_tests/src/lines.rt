@@ -91,6 +91,32 @@ fn a_line_is_appended(rt: HostRuntime) -> Result<(), Fail> {
     Ok(())
 }
 
+// The widest run and sequence, beyond those of any feed.
+#[test]
+fn a_line_has_any_run_and_sequence(rt: HostRuntime) -> Result<(), Fail> {
+    let departure = Departure {
+        key: Key {
+            instant: EIGHT,
+            trip: "T1",
+            run: u32::MAX,
+            sequence: u32::MAX,
+            day: Day::from_number(19_814),
+        },
+        stop: "S1",
+        route: "10",
+        headsign: "",
+        mark: Mark::Scheduled,
+    };
+    let zone = Clocks::Utc.zone(rt.alloc())?;
+    let mut text = String::new(rt.alloc());
+    push_line(rt.alloc(), &mut text, &zone, &departure)?;
+    assert_eq!(rt;
+        text.as_str(),
+        "@1711958400/T1/4294967295/4294967295/20240401\t2024-04-01 08:00:00+00:00\tS1\t10\t\ts\n"
+    );
+    Ok(())
+}
+
 // The first and the last instant that a clock shows, and years of three digits and fewer.
 #[test]
 fn years_have_four_digits(rt: HostRuntime) -> Result<(), Fail> {
@@ -145,5 +171,26 @@ fn a_sheet_has_a_line_for_each_stop(rt: HostRuntime) -> Result<(), Fail> {
     push_sheet(alloc, &mut text, &sheet)?;
     let wanted = "== R1 - 20240401\ntrip\tT1\nS1\t08:00:00\nS2\t08:10:00\n";
     assert_eq!(rt; text.as_str(), wanted);
+    Ok(())
+}
+
+// Trips have direction 0, 1 or none, and a sheet made by hand any other.
+#[test]
+fn a_sheet_has_any_direction(rt: HostRuntime) -> Result<(), Fail> {
+    let alloc = rt.alloc();
+    let sheet = Sheet {
+        route: "R1",
+        direction: Some(255),
+        day: Day::from_number(19_814),
+        stops: vec![in alloc; "S1"]?,
+        runs: vec![in alloc; (28_800, "T1")]?,
+        times: vec![in alloc; vec![in alloc; Some(Clock::from_seconds(28_800))]?]?,
+    };
+    let mut text = String::new(alloc);
+    push_sheet(alloc, &mut text, &sheet)?;
+    assert_eq!(rt;
+        text.as_str(),
+        "== R1 255 20240401\ntrip\tT1\nS1\t08:00:00\n"
+    );
     Ok(())
 }

@@ -133,6 +133,17 @@ impl<'a> Opening<'a> {
         self.lines(rt, alloc, &mut board)
     }
 
+    /// The lines of the board above a key, which need not have a text that reads back.
+    pub(crate) fn listed_above(
+        &self,
+        rt: &impl Abort,
+        alloc: Global,
+        key: &Key<'_>,
+    ) -> Result<String, Fail> {
+        let mut board = self.board_above(alloc, Some(key))?;
+        self.lines(rt, alloc, &mut board)
+    }
+
     /// A page of at most so many lines above the key of a text, and how many it tells.
     pub(crate) fn page(
         &self,

@@ -1,9 +1,9 @@
 //! Timetables: worked ones, and those of made feeds beside plain ones.
 
 use crate::plain_sheets::{Asked, plain_sheets};
-use gtfs_board::{TableFault, push_sheet, timetable};
+use gtfs_board::{Sheet, TableFault, push_sheet, timetable};
 use gtfs_feed::Feed;
-use gtfs_field::read_date;
+use gtfs_field::{Clock, read_date};
 use gtfs_fixtures::{FileText, feed_with, made_feed};
 use std::alloc::Global;
 use std::process::Abort;
@@ -259,6 +259,64 @@ fn sheets_of_made_feeds_are_the_plain_ones(rt: HostRuntime) -> Result<(), Fail> 
         let count = assert_plain(&rt, rt.alloc(), &feed)?;
         assert!(rt; count > 5, "{count} texts");
     }
+    Ok(())
+}
+
+// A run each second of the day, the first at its origin.
+const EACH_SECOND: &[FileText] = &[(
+    "frequencies.txt",
+    "trip_id,start_time,end_time,headway_secs,exact_times\nT1,00:00:00,24:00:00,1,1\n",
+)];
+
+const SECONDS: u32 = 86_400;
+
+// The runs of the trip start a second apart, one at each second of the day.
+fn assert_starts(rt: &impl Abort, runs: &[(u32, &str)]) {
+    let mut second = 0u32;
+    for (start, trip) in runs {
+        assert_eq!(rt; *start, second);
+        assert_eq!(rt; *trip, "T1", "{second}");
+        second = second.saturating_add(1);
+    }
+    assert_eq!(rt; second, SECONDS);
+}
+
+// They pass a stop time so many seconds after their start.
+fn assert_times(rt: &impl Abort, times: &[Option<Clock>], after: u32) {
+    let mut second = after;
+    for time in times {
+        assert_eq!(rt; time.map(|time| time.seconds()), Some(second));
+        second = second.saturating_add(1);
+    }
+    assert_eq!(rt; second, SECONDS.saturating_add(after));
+}
+
+// How many bytes the text of a sheet has.
+fn text_len(alloc: Global, sheet: &Sheet<'_>) -> Result<usize, Fail> {
+    let mut text = String::new(alloc);
+    push_sheet(alloc, &mut text, sheet)?;
+    Ok(text.len())
+}
+
+// The length is that of the title, of a line with three bytes for each run, and of two lines with nine.
+#[test]
+fn a_sheet_has_a_run_each_second_of_a_day(rt: HostRuntime) -> Result<(), Fail> {
+    let feed = feed_with(&rt, rt.alloc(), EACH_SECOND)?;
+    let sheets = timetable(rt.alloc(), &feed, "R1", None, read_date("20240401")?)?;
+    let [sheet] = sheets.as_slice() else {
+        panic!(rt; "{} sheets", sheets.len());
+    };
+    let ([first, second], [first_times, second_times]) = (
+        sheet.stops.as_slice(),
+        sheet.times.as_slice(),
+    ) else {
+        panic!(rt; "{} stops", sheet.stops.len());
+    };
+    assert_eq!(rt; (*first, *second), ("S1", "S2"));
+    assert_starts(&rt, sheet.runs.as_slice());
+    assert_times(&rt, first_times.as_slice(), 0);
+    assert_times(&rt, second_times.as_slice(), 600);
+    assert_eq!(rt; text_len(rt.alloc(), sheet)?, 1_814_428);
     Ok(())
 }
 

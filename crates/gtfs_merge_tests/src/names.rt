@@ -1,14 +1,16 @@
 //! The names that ids have in a merged feed, and the ids that are joined.
 
 use crate::cases::merged_of;
+use crate::refusals::BERLIN;
 use crate::report::{KINDS, report};
 use crate::worked::RAIL;
 use gtfs_feed::Feed;
-use gtfs_fixtures::{feed_with, made_feed};
+use gtfs_fixtures::{FileText, feed_with, made_feed};
 use gtfs_merge::{Kind, Names, Side};
 use gtfs_table::File;
 use std::alloc::Global;
 use std::hash::RandomState;
+use std::process::Abort;
 use std::random::RandomSource;
 use std::test::Fail;
 
@@ -30,16 +32,48 @@ const WANTED: [(Side, Kind, &str, &str); 14] = [
     (Side::B, Kind::Service, "c1", "no id"),
 ];
 
-#[test]
-fn an_id_has_a_name_on_each_side(rt: HostRuntime) -> Result<(), Fail> {
-    let a = feed_with(&rt, rt.alloc(), &[])?;
-    let b = feed_with(&rt, rt.alloc(), &[RAIL])?;
-    let names = Names::of_feeds(rt.alloc(), RandomState::new(&rt)?, &a, &b)?;
+// The joined ids there: the route and the trip hang on the agency.
+const JOINED: &str = "agency\nstop S1 S2 S3\nroute\nservice C1\ntrip\n";
+
+// The names are those that are wanted.
+fn assert_wanted(rt: &impl Abort, names: &Names) {
     for (side, kind, id, wanted) in WANTED {
         let name = names.of(side, kind, id).unwrap_or("no id");
         assert_eq!(rt; name, wanted, "{id}");
     }
+}
+
+// So are the joined ids.
+fn assert_joined(rt: &impl Abort, alloc: Global, names: &Names) -> Result<(), Fail> {
+    let told = joined_ids(alloc, names)?;
+    assert_eq!(rt; told.as_str(), JOINED);
     Ok(())
+}
+
+// Both hold of two changes to the small dataset.
+fn assert_names<R: Abort + RandomSource>(
+    rt: &R,
+    alloc: Global,
+    a: &[FileText],
+    b: &[FileText],
+) -> Result<(), Fail> {
+    let a = feed_with(rt, alloc, a)?;
+    let b = feed_with(rt, alloc, b)?;
+    let names = Names::of_feeds(alloc, RandomState::new(rt)?, &a, &b)?;
+    assert_wanted(rt, &names);
+    assert_joined(rt, alloc, &names)
+}
+
+#[test]
+fn an_id_has_a_name_on_each_side(rt: HostRuntime) -> Result<(), Fail> {
+    assert_names(&rt, rt.alloc(), &[], &[RAIL])
+}
+
+// Feeds of two zones are not merged, but have names: their agencies differ as by any other column.
+#[test]
+fn an_id_has_a_name_where_zones_differ(rt: HostRuntime) -> Result<(), Fail> {
+    assert_names(&rt, rt.alloc(), &[], &[BERLIN])?;
+    assert_names(&rt, rt.alloc(), &[BERLIN], &[])
 }
 
 // The joined ids of each kind on a line.
@@ -65,7 +99,7 @@ fn joined_ids_stand_by_their_bytes(rt: HostRuntime) -> Result<(), Fail> {
             &a,
             "agency \nstop S1 S2 S3\nroute R1\nservice C1\ntrip T1\n",
         ),
-        (&b, "agency\nstop S1 S2 S3\nroute\nservice C1\ntrip\n"),
+        (&b, JOINED),
     ] {
         let merged = merged_of(&rt, rt.alloc(), &a, other)?;
         let told = joined_ids(rt.alloc(), &merged.names)?;

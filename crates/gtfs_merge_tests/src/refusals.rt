@@ -55,7 +55,8 @@ fn a_file_is_as_long_as_the_limit_and_no_longer(rt: HostRuntime) -> Result<(), F
     Ok(())
 }
 
-const BERLIN: FileText = (
+/// The agency of the small dataset in another zone.
+pub(crate) const BERLIN: FileText = (
     "agency.txt",
     "agency_name,agency_url,agency_timezone\nMetro,http://m.example,Europe/Berlin\n",
 );
