@@ -1,7 +1,7 @@
 -- How a page ends early.
 use Rattle.std.specs.Prelude.{◌≡◌, ◌+◌, ℕ, Bool, cond, List, length, Option}
 use Rattle.gtfs_days.specs.declared.zone.Zone.{Zone}
-use Rattle.gtfs_table.specs.Device.{Rises}
+use Rattle.gtfs_devices.specs.Device.{Rises}
 use Rattle.gtfs_board.specs.Board.{AreStepsWithin, StepCount}
 use Rattle.gtfs_board.specs.Lines.{Listed}
 use Rattle.gtfs_board.specs.Page.{IsPage, IsCutShort, IsStopped}

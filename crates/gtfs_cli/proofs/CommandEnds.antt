@@ -5,7 +5,7 @@ use Rattle.std.specs.Prelude.{IfErr, IfOk, IsErrAnd, OnOk}
 use Rattle.std.specs.Io.KnownBytes.{Keeps}
 use Rattle.std.proofs.lemmas.Result.{IfErr-weaker}
 use Rattle.clap.specs.Words.{Row, Text, subcommand_of, takes}
-use Rattle.gtfs_table.specs.Folder.{Store}
+use Rattle.gtfs_devices.specs.Folder.{Store}
 use Rattle.gtfs_words.specs.Asked.{ForBoard, ForCheck, ForMerge, ForTimetable}
 use Rattle.gtfs_words.specs.Words.{gtfs_app, merge_texts_of, texts_of, timetable_texts_of, AreRefused, BoardTexts, IsCommandOf, MergeTexts, TimetableTexts}
 use Rattle.gtfs_words.proofs.OneAsked.{same_board, same_check, same_merge, same_timetable}

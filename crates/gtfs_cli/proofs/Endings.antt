@@ -1,11 +1,11 @@
 -- Refusals, when they come, and the status that each gives.
 use Rattle.std.proofs.Common.{◌≡◌, refl, ℕ, ◌<◌, ◌≤◌, length, inl, inr, Bool, true, false, List, Option, Some, None, Result, Ok, Err, sym, subst, ◌∙◌, arith}
 use Rattle.std.specs.Prelude.{IfErr, IsErrAnd, IsSome}
-use Rattle.gtfs_table.specs.Device.{Rises}
-use Rattle.gtfs_table.specs.Folder.{Store, RefusesRead}
+use Rattle.gtfs_devices.specs.Device.{Rises}
+use Rattle.gtfs_devices.specs.Folder.{Store, RefusesRead}
 use Rattle.gtfs_table.specs.Reading.{RefusesDataset}
-use Rattle.gtfs_table.specs.declared.folders.FolderFault.{FolderFault}
-use Rattle.gtfs_table.specs.declared.folders.FolderFault.TheVariants as faults
+use Rattle.gtfs_devices.specs.declared.folders.FolderFault.{FolderFault}
+use Rattle.gtfs_devices.specs.declared.folders.FolderFault.TheVariants as faults
 use Rattle.clap.specs.Words.{Text}
 use Rattle.gtfs_cli.specs.Running.{AsksCheck, AsksFor, AsksTimetable, Failures, IsBadUsage, IsDeviceFault, IsFileOf, HasValues, KeepsFromReading}
 use Rattle.gtfs_words.specs.Words.{texts_of, BoardTexts, TimetableTexts}

@@ -1,6 +1,6 @@
 -- How a command ends by what a folder holds.
 use Rattle.std.proofs.Common.{◌⊎◌, ℕ, List, Some, codes}
-use Rattle.gtfs_table.specs.Folder.{Store}
+use Rattle.gtfs_devices.specs.Folder.{Store}
 use Rattle.gtfs_cli.specs.Messages.{line_of}
 use Rattle.gtfs_cli.specs.Outcomes.{Outcome}
 use Rattle.gtfs_cli.specs.Running.{HoldsErrors, HoldsKeptFile, HoldsPassing, LacksFeed}

@@ -3,8 +3,8 @@ use Rattle.std.proofs.Common.{◌≡◌, ◌∙◌, sym, ℕ, ◌⊎◌, inl, in
 use Rattle.std.specs.Prelude.{IfErr, IfOk, OnOk}
 use Rattle.std.specs.Io.KnownBytes.{Keeps}
 use Rattle.clap.specs.Words.{Text}
-use Rattle.gtfs_table.specs.Device.{Rises}
-use Rattle.gtfs_table.specs.Folder.{Store}
+use Rattle.gtfs_devices.specs.Device.{Rises}
+use Rattle.gtfs_devices.specs.Folder.{Store}
 use Rattle.gtfs_words.specs.Words.{merge_texts_of, MergeTexts}
 use Rattle.gtfs_cli.specs.MergeRun.{IsMerged, IsMergeRun, IsUnmerged}
 use Rattle.gtfs_cli.specs.Merges.{IsMergeCause, OfEither}

@@ -1,7 +1,7 @@
 -- A merge has one outcome.
 use Rattle.std.proofs.Common.{◌≡◌, ◌≢◌, ◌∙◌, ap, sym, subst, refl, ℕ, inl, inr, ◌⊎◌, true, false, List, [], length, Some, codes, arith}
 use Rattle.std.proofs.lemmas.Option.{same_Some}
-use Rattle.gtfs_table.specs.Folder.{Store}
+use Rattle.gtfs_devices.specs.Folder.{Store}
 use Rattle.gtfs_table.specs.Reading.{kept_files}
 use Rattle.gtfs_rows.specs.Content.{Content}
 use Rattle.gtfs_rows.specs.Reading.{content_of}

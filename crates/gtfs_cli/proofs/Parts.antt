@@ -3,7 +3,7 @@ use Rattle.std.proofs.Common.{◌≡◌, ◌∙◌, ap, sym, subst, refl, ℕ, L
 use Rattle.std.specs.Prelude.{IfErr, OnOk, OnErr}
 use Rattle.std.specs.Io.KnownBytes.{Appends}
 use Rattle.std.proofs.KnownBytes.{Appends-nil, Appends-trans}
-use Rattle.gtfs_table.specs.declared.output.OutFault.{OutFault}
+use Rattle.gtfs_devices.specs.declared.output.OutFault.{OutFault}
 use Rattle.gtfs_cli.specs.Sending.{SendsBeginning}
 
 -- ---- beginnings

@@ -2,7 +2,7 @@
 use Rattle.std.proofs.Common.{◌≡◌, ℕ, ◌≤◌, refl, subst, inl, inr, true, false, List, Option, Some, None, codes, arith}
 use Rattle.std.specs.Io.KnownBytes.{Keeps}
 use Rattle.gtfs_days.specs.declared.zone.Zone.{Zone}
-use Rattle.gtfs_table.specs.Folder.{Store}
+use Rattle.gtfs_devices.specs.Folder.{Store}
 use Rattle.gtfs_table.specs.Tables.{Dataset}
 use Rattle.gtfs_rows.specs.Content.{Content}
 use Rattle.gtfs_feed.specs.Content.{content_of as content_of_feed}

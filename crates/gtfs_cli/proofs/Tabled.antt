@@ -6,7 +6,7 @@ use Rattle.std.proofs.lemmas.List.{map-append, map_more, take_all}
 use Rattle.std.proofs.lemmas.List.Concat.{flat_map-append}
 use Rattle.std.proofs.KnownBytes.{Appends-trans}
 use Rattle.std.proofs.lemmas.Bool.{true_from_ne_false}
-use Rattle.gtfs_table.specs.Folder.{Store}
+use Rattle.gtfs_devices.specs.Folder.{Store}
 use Rattle.gtfs_rows.specs.Content.{Content}
 use Rattle.gtfs_feed.specs.Content.{content_of as content_of_feed}
 use Rattle.gtfs_feed.specs.declared.feed.Feed.{Feed}

@@ -2,8 +2,8 @@
 use Rattle.std.proofs.Common.{sym, ℕ, inl, inr, List, Result, Ok, Err, take, drop, take-append-drop}
 use Rattle.std.specs.Prelude.{IfErr, OnErr, OnOk}
 use Rattle.std.specs.Io.KnownBytes.{Appends}
-use Rattle.gtfs_table.specs.Device.{Rises}
-use Rattle.gtfs_table.specs.declared.output.OutFault.{OutFault}
+use Rattle.gtfs_devices.specs.Device.{Rises}
+use Rattle.gtfs_devices.specs.declared.output.OutFault.{OutFault}
 use Rattle.gtfs_cli.specs.Sending.{Output, Sends}
 
 -- a text went out whole, or its first bytes did

@@ -2,7 +2,7 @@
 use Rattle.std.proofs.Common.{◌≡◌, ℕ, ◌≤◌, inl, inr, Bool, true, false, List, Option, Result, Ok, Err, arith}
 use Rattle.std.specs.Prelude.{IfErr, IfOk, OnErr, OnOk}
 use Rattle.std.specs.Io.KnownBytes.{Keeps}
-use Rattle.gtfs_table.specs.Folder.{Store}
+use Rattle.gtfs_devices.specs.Folder.{Store}
 use Rattle.gtfs_cli.specs.CheckRun.{BeginsReport, EndsCheck, IsCheckRun, IsUnchecked}
 use Rattle.gtfs_cli.specs.Refusals.{status_in, status_of, IsCheckCause}
 use Rattle.gtfs_cli.specs.Checking.{IsReportOf, IsSendingCause}

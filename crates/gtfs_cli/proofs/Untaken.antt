@@ -3,7 +3,7 @@ use Rattle.std.proofs.Common.{◌≡◌, ◌∙◌, ℕ, refl, sym, inl, Bool, L
 use Rattle.std.specs.Prelude.{IfOk, IfErr, IsErrAnd, OnOk}
 use Rattle.std.specs.Io.KnownBytes.{Keeps}
 use Rattle.clap.specs.Words.{Text}
-use Rattle.gtfs_table.specs.Folder.{Store}
+use Rattle.gtfs_devices.specs.Folder.{Store}
 use Rattle.gtfs_cli.specs.BoardRun.{IsListed, IsUnlisted}
 use Rattle.gtfs_cli.specs.TimetableRun.{IsTabled, IsUntabled}
 use Rattle.gtfs_cli.specs.CheckRun.{IsUnchecked}

@@ -7,7 +7,7 @@ use Rattle.gtfs_days.specs.declared.zone.Zone.{Zone}
 use Rattle.gtfs_days.proofs.Footers.{no_bad_rule}
 use Rattle.gtfs_days.proofs.SameZones.{zones_one}
 use Rattle.jiff_tz.specs.Tzif as Table
-use Rattle.gtfs_table.specs.Folder.{file_in, Files, Finds, HasFileOver, LacksFolder, Store}
+use Rattle.gtfs_devices.specs.Folder.{file_in, Files, Finds, HasFileOver, LacksFolder, Store}
 use Rattle.gtfs_cli.specs.Messages.{line_of}
 use Rattle.gtfs_cli.specs.Outcomes.{Outcome}
 use Rattle.gtfs_cli.specs.Running.{FitsZone, HasBytes, HoldsBytes, HoldsFile, HoldsNoZone, HoldsZone, LacksFile, NamesNoFile}

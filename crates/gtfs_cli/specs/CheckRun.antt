@@ -1,7 +1,7 @@
 -- How `gtfs check DIR` ends: what went out, what the error output is told, and the status.
 use Rattle.std.specs.Prelude.{◌≡◌, ◌≢◌, ◌≤◌, ◌⊎◌, ℕ, true, false, List, Option}
 use Rattle.std.specs.Io.KnownBytes.{Keeps}
-use Rattle.gtfs_table.specs.Folder.{Store}
+use Rattle.gtfs_devices.specs.Folder.{Store}
 use Rattle.gtfs_table.specs.Tables.{Dataset}
 use Rattle.gtfs_columns.specs.Problems.{Problem, IsReport}
 use Rattle.gtfs_rules.specs.Report.{report_text}

@@ -1,6 +1,6 @@
 -- What the parts of a merge give: the merged feed and its names, and the texts of its files.
 use Rattle.std.specs.Prelude.{◌≡◌, ℕ, All, Option, Some}
-use Rattle.gtfs_table.specs.Folder.{Store}
+use Rattle.gtfs_devices.specs.Folder.{Store}
 use Rattle.gtfs_table.specs.Reading.{kept_files}
 use Rattle.gtfs_table.specs.Tables.{table_of, table_of_bytes}
 use Rattle.gtfs_table.specs.declared.file.File.{File}

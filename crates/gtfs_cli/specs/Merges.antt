@@ -1,9 +1,9 @@
 -- What `gtfs merge` makes of two folders: the merged feed, the files of its written form, and its report.
 use Rattle.std.specs.Prelude.{◌≡◌, ◌<◌, ◌⊎◌, ⊤, ℕ, true, false, length, List, [], ◌∷◌, ◌++◌, Option, Some, None, unwrap_or}
 use Rattle.std.specs.Io.KnownBytes.{Appends, Keeps}
-use Rattle.gtfs_table.specs.Device.{Rises}
+use Rattle.gtfs_devices.specs.Device.{Rises}
 use Rattle.gtfs_table.specs.Files.{file_name}
-use Rattle.gtfs_table.specs.Folder.{put, Disturbs, Store}
+use Rattle.gtfs_devices.specs.Folder.{put, Disturbs, Store}
 use Rattle.gtfs_table.specs.Reading.{kept_files, HoldsDataset}
 use Rattle.gtfs_table.specs.Tables.{table_of, Dataset}
 use Rattle.gtfs_table.specs.Written.{text_of_table}

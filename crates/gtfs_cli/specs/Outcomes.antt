@@ -1,6 +1,6 @@
 -- How a command ends where its devices work and memory suffices.
 use Rattle.std.specs.Prelude.{◌≡◌, ◌≢◌, ◌⊎◌, ℕ, cond, List, [], Option, Some}
-use Rattle.gtfs_table.specs.Folder.{Store}
+use Rattle.gtfs_devices.specs.Folder.{Store}
 use Rattle.gtfs_table.specs.Tables.{Dataset}
 use Rattle.gtfs_columns.specs.Problems.{Problem, passes, IsReport}
 use Rattle.gtfs_rules.specs.Report.{report_text}

@@ -2,10 +2,10 @@
 use Rattle.std.specs.Prelude.{◌≡◌, ◌⊎◌, ◌<◌, ◌≤◌, ◌^◌, ℕ, Bool, true, cond, List, Option, Some, Result, Ok, Err, unsigned_abs, ⊤}
 use Rattle.clap.specs.Words.{Text}
 use Rattle.gtfs_days.specs.Service.{is_service_day}
-use Rattle.gtfs_table.specs.Device.{Rises}
-use Rattle.gtfs_table.specs.Folder.{Store}
-use Rattle.gtfs_table.specs.declared.folders.FolderFault.{FolderFault}
-use Rattle.gtfs_table.specs.declared.folders.FolderFault.TheVariants as faults
+use Rattle.gtfs_devices.specs.Device.{Rises}
+use Rattle.gtfs_devices.specs.Folder.{Store}
+use Rattle.gtfs_devices.specs.declared.folders.FolderFault.{FolderFault}
+use Rattle.gtfs_devices.specs.declared.folders.FolderFault.TheVariants as faults
 use Rattle.gtfs_words.specs.Words.{AreForHelp, AreRefused, BoardTexts}
 use Rattle.gtfs_cli.specs.Running.{first_bad, AsksCheck, AsksFor, AsksMerge, AsksTimetable, EndsBeforeItBegins, Failures, HasValues, HoldsErrors, HoldsFile, HoldsKeptFile, HoldsNoZone, HoldsPassing, LacksFeed, LacksFile, LacksStop, NamesNoFile}
 use Rattle.gtfs_cli.specs.Merges.{IsMergeCause}

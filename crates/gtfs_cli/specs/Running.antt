@@ -10,9 +10,9 @@ use Rattle.gtfs_field.specs.declared.fault.FieldFault.{FieldFault}
 use Rattle.gtfs_days.specs.Service.{is_service_day}
 use Rattle.gtfs_days.specs.Zone.{zone_origin, IsTooLong, IsUnreadable, IsZoneOf}
 use Rattle.gtfs_days.specs.declared.zone.Zone.{Zone}
-use Rattle.gtfs_table.specs.Device.{Rises}
+use Rattle.gtfs_devices.specs.Device.{Rises}
 use Rattle.gtfs_table.specs.Files.{file_name}
-use Rattle.gtfs_table.specs.Folder.{Store, Finds, HasFileOver, LacksFolder}
+use Rattle.gtfs_devices.specs.Folder.{Store, Finds, HasFileOver, LacksFolder}
 use Rattle.gtfs_table.specs.Reading.{kept_files, AllHoldWithin, HoldsDataset}
 use Rattle.gtfs_table.specs.Tables.{Dataset}
 use Rattle.gtfs_table.specs.declared.file.File.{File}

@@ -1,7 +1,7 @@
 -- Texts that go out to an output, which may fail.
 use Rattle.std.specs.Prelude.{◌≡◌, ◌⊎◌, ◌++◌, ℕ, List, Option}
 use Rattle.std.specs.Io.KnownBytes.{Appends}
-use Rattle.gtfs_table.specs.Device.{Rises}
+use Rattle.gtfs_devices.specs.Device.{Rises}
 
 -- a beginning of a text went out
 pub record SendsBeginning (before after : Option (List ℕ)) (text : List ℕ) : Type 0 where

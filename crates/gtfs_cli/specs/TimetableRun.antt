@@ -1,7 +1,7 @@
 -- How `gtfs timetable` ends: what went out, what the error output is told, and the status.
 use Rattle.std.specs.Prelude.{◌≡◌, ◌≤◌, ℕ, Bool, false, List, Option}
 use Rattle.std.specs.Io.KnownBytes.{Keeps}
-use Rattle.gtfs_table.specs.Folder.{Store}
+use Rattle.gtfs_devices.specs.Folder.{Store}
 use Rattle.gtfs_words.specs.Words.{TimetableTexts}
 use Rattle.gtfs_cli.specs.Messages.{message}
 use Rattle.gtfs_cli.specs.Refusals.{status_of}

@@ -2,7 +2,7 @@
 ghost use Rattle.std.specs.Prelude.{◌≡◌, ◌≤◌, [], IfOk, IfErr, OnOk, OnErr};
 ghost use Rattle.std.specs.Io.Buffered.{writer_buffer, writer_contents};
 ghost use Rattle.std.specs.Io.KnownBytes.{Keeps};
-ghost use Rattle.gtfs_table.specs.Device.{counted};
+ghost use Rattle.gtfs_devices.specs.Device.{counted};
 ghost use Rattle.gtfs_cli.specs.Faults.{line_of, status_of};
 ghost use Rattle.gtfs_cli.specs.Sending.{Sends};
 ghost use Rattle.gtfs_cli.specs.declared.fault.Fault.TheVariants.{OutputFailed};

@@ -1,9 +1,9 @@
 -- Counts of calls and of failures that are full.
 use Rattle.std.proofs.Common.{◌≡◌, ◌-◌, ◌^◌, codes, refl, false, Some, Err}
 use Rattle.std.specs.FinMap as finite
-use Rattle.gtfs_table.specs.Device.{counted, counted_times, calls_after, FailsAtLast}
-use Rattle.gtfs_table.specs.Held.{Held, is_failing, after_call, names_answer}
-use Rattle.gtfs_table.specs.declared.folders.FolderFault.TheVariants.{Read}
+use Rattle.gtfs_devices.specs.Device.{counted, counted_times, calls_after, FailsAtLast}
+use Rattle.gtfs_devices.specs.Held.{Held, is_failing, after_call, names_answer}
+use Rattle.gtfs_devices.specs.declared.folders.FolderFault.TheVariants.{Read}
 
 -- a count of failures rises to 2^64 - 1 and stays there
 filled : counted (2 ^ 64 - 2) ≡ 2 ^ 64 - 1

@@ -2,13 +2,13 @@
 use Rattle.std.proofs.Common.{◌≡◌, ◌<◌, ◌+◌, ◌∷◌, ◌++◌, [], ℕ, zero, suc, List, Option, length, take, drop, get_or, refl, sym, ap, subst, arith}
 use Rattle.std.specs.Prelude.{Result, Ok, Err, IfErr, IsErrAnd}
 use Rattle.std.proofs.lemmas.List.{length-take}
-use Rattle.gtfs_table.specs.Device.{Calls, MakesCalls}
+use Rattle.gtfs_devices.specs.Device.{Calls, MakesCalls}
 use Rattle.gtfs_table.specs.Ending.{EndsAtFile}
 use Rattle.gtfs_table.specs.Files.{file_name}
-use Rattle.gtfs_table.specs.Folder.{Store, RefusesRead}
+use Rattle.gtfs_devices.specs.Folder.{Store, RefusesRead}
 use Rattle.gtfs_table.specs.Reading.{AllHoldWithin, kept_files}
 use Rattle.gtfs_table.specs.declared.file.File.{File}
-use Rattle.gtfs_table.specs.declared.folders.FolderFault.{FolderFault}
+use Rattle.gtfs_devices.specs.declared.folders.FolderFault.{FolderFault}
 use Rattle.gtfs_table.proofs.FolderFacts.{calls-more}
 
 -- a list around one of its members

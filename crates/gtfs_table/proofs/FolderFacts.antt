@@ -4,14 +4,14 @@ use Rattle.std.specs.Prelude.{option_map, filter, not, OnErr, Ok, Err, Result}
 use Rattle.std.specs.FinMap as finmap
 use Rattle.std.proofs.lemmas.List.{take_more}
 use Rattle.std.proofs.lemmas.List.Elements.{All-push}
-use Rattle.gtfs_table.specs.Device.{counted, counted_times, calls_after, Calls, MakesCalls, MakesSomeCalls, Rises}
+use Rattle.gtfs_devices.specs.Device.{counted, counted_times, calls_after, Calls, MakesCalls, MakesSomeCalls, Rises}
 use Rattle.gtfs_table.specs.Files.{file_name}
-use Rattle.gtfs_table.specs.Folder.{file_in, Files, Store, Finds, Lists, RefusesNames, RefusesRead}
+use Rattle.gtfs_devices.specs.Folder.{file_in, Files, Store, Finds, Lists, RefusesNames, RefusesRead}
 use Rattle.gtfs_table.specs.Reading.{AllHoldWithin, HoldsTable, HoldsDataset, HoldsWithin, RefusesDataset, SetsTables, dataset_of, is_kept, kept_files, table_in, tables_set}
 use Rattle.gtfs_table.specs.Tables.{Dataset, Table, absent, empty_dataset, table_of_bytes, with_table}
 use Rattle.gtfs_table.specs.declared.file.File.{File}
-use Rattle.gtfs_table.specs.declared.folders.FolderFault.{FolderFault}
-use Rattle.gtfs_table.specs.declared.folders.FolderFault.TheVariants.{Read, TooLarge, OutOfMemory, NoFolder, Write}
+use Rattle.gtfs_devices.specs.declared.folders.FolderFault.{FolderFault}
+use Rattle.gtfs_devices.specs.declared.folders.FolderFault.TheVariants.{Read, TooLarge, OutOfMemory, NoFolder, Write}
 
 -- the file that was found, as a table
 found-in : (o : Option Files) (x : File) (bytes : Option (List ℕ)) → option_map (λ files. finmap.get files (file_name x)) o ≡ Some bytes

@@ -1,11 +1,11 @@
 -- Where a reading of a folder ended that was refused.
 use Rattle.std.specs.Prelude.{ℕ, length, List, ◌∷◌, ◌++◌, Option, ◌≡◌, ◌+◌, ◌⊎◌}
-use Rattle.gtfs_table.specs.Device.{Calls, MakesCalls}
+use Rattle.gtfs_devices.specs.Device.{Calls, MakesCalls}
 use Rattle.gtfs_table.specs.Files.{file_name}
-use Rattle.gtfs_table.specs.Folder.{Store, RefusesNames, RefusesRead}
+use Rattle.gtfs_devices.specs.Folder.{Store, RefusesNames, RefusesRead}
 use Rattle.gtfs_table.specs.Reading.{kept_files, AllHoldWithin}
 use Rattle.gtfs_table.specs.declared.file.File.{File}
-use Rattle.gtfs_table.specs.declared.folders.FolderFault.{FolderFault}
+use Rattle.gtfs_devices.specs.declared.folders.FolderFault.{FolderFault}
 
 -- The counts are those of failures, before the reading and after it; then come the calls before and after.
 

@@ -1,12 +1,7 @@
 pub mod Blanks
 pub mod Blocks
-pub mod ByText
-pub mod Device
-pub mod Disk
 pub mod Ending
 pub mod Files
-pub mod Folder
-pub mod Held
 pub mod Parts
 pub mod Reading
 pub mod Rows

@@ -3,14 +3,14 @@
 use Rattle.std.specs.Prelude.{ℕ, not, bytes_eq, filter, length, Bool, false, List, [], ◌∷◌, Option, Some, None, option_map, ◌≡◌, ◌≤◌, ⊤}
 use Rattle.std.specs.List.{All, list_any}
 use Rattle.std.specs.FinMap as map
-use Rattle.gtfs_table.specs.Device.{Rises}
+use Rattle.gtfs_devices.specs.Device.{Rises}
 use Rattle.gtfs_table.specs.Files.{file_name}
-use Rattle.gtfs_table.specs.Folder.{file_in, Files, Store, HasFileOver, IsByBytes, LacksFolder}
+use Rattle.gtfs_devices.specs.Folder.{file_in, Files, Store, HasFileOver, IsByBytes, LacksFolder}
 use Rattle.gtfs_table.specs.Tables.{Dataset, Table, table_of_bytes, with_table}
 use Rattle.gtfs_table.specs.declared.file.File.{File}
 use Rattle.gtfs_table.specs.declared.file.File.TheVariants as file
-use Rattle.gtfs_table.specs.declared.folders.FolderFault.{FolderFault}
-use Rattle.gtfs_table.specs.declared.folders.FolderFault.TheVariants.{Read, TooLarge, OutOfMemory, NoFolder, Write}
+use Rattle.gtfs_devices.specs.declared.folders.FolderFault.{FolderFault}
+use Rattle.gtfs_devices.specs.declared.folders.FolderFault.TheVariants.{Read, TooLarge, OutOfMemory, NoFolder, Write}
 
 abbrev pub kept_files : List File
 kept_files = file.Agency ∷ file.Stops ∷ file.Routes ∷ file.Trips ∷ file.StopTimes ∷ file.Calendar ∷ file.CalendarDates ∷ file.Frequencies ∷ file.Transfers ∷ []

@@ -1,20 +1,20 @@
 ghost use Rattle.std.specs.Prelude.{All, ◌≡◌, ◌≢◌, ◌<◌, ◌≤◌, [], false, is_some, length, map, option_map, string_bytes, IfOk, IfErr, IfSome, IsErrOf, OnOk, OnErr};
-ghost use Rattle.gtfs_table.specs.Device.{FailsAtLast, MakesCalls, MakesSomeCalls};
+ghost use Rattle.gtfs_devices.specs.Device.{FailsAtLast, MakesCalls, MakesSomeCalls};
 ghost use Rattle.gtfs_table.specs.Ending.{EndsAtFile, EndsReading};
 ghost use Rattle.gtfs_table.specs.Files.{file_name};
-ghost use Rattle.gtfs_table.specs.Folder.{IsByBytes, RefusesRead};
+ghost use Rattle.gtfs_devices.specs.Folder.{IsByBytes, RefusesRead};
 ghost use Rattle.gtfs_table.specs.Reading.{is_kept, kept_files, AllHoldWithin, AreOthers, other_names as names_kept_out, HoldsDataset, HoldsTable, HoldsWithin, RefusesDataset, SetsTables};
 ghost use Rattle.gtfs_table.specs.Rows.{is_row as row_of, numbered, records_in, rows as row_numbers};
 ghost use Rattle.gtfs_table.specs.Tables.{column_of, empty_dataset, field_cut, record_at, table_of, table_state, value, with_field, with_record, with_table};
 ghost use Rattle.gtfs_table.specs.Written.{text_of_table, ReadsBack};
 
 use crate::file::File;
-use crate::folders::{FolderFault, Folders};
 use crate::reader;
 use crate::record::Record;
 use crate::rows::Rows;
 use crate::state::State;
 use crate::table::FileTable;
+use gtfs_devices::{FolderFault, Folders};
 use gtfs_field::{OutOfMemory, Text};
 use std::alloc::Global;
 use std::marker::Model;

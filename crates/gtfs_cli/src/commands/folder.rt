@@ -1,5 +1,5 @@
 ghost use Rattle.std.specs.Prelude.{◌≡◌, ◌<◌, ◌≤◌, ℕ, length, Option, IfOk, IfErr};
-ghost use Rattle.gtfs_table.specs.Folder.{Store};
+ghost use Rattle.gtfs_devices.specs.Folder.{Store};
 ghost use Rattle.gtfs_table.specs.Reading.{HoldsDataset, RefusesDataset};
 ghost use Rattle.gtfs_words.specs.Words.{BoardTexts};
 ghost use Rattle.gtfs_cli.specs.Running.{Failures, HasValues, HoldsPassing, HoldsTables};

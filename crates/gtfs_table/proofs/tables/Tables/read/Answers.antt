@@ -1,12 +1,12 @@
 use Rattle.std.proofs.Common.{map, sym, subst, string_bytes, inl, inr}
-use Rattle.gtfs_table.specs.Device.{MakesSomeCalls}
+use Rattle.gtfs_devices.specs.Device.{MakesSomeCalls}
 use Rattle.gtfs_table.specs.Ending.{EndsReading}
 use Rattle.gtfs_table.specs.Reading.{AreOthers}
-use Rattle.gtfs_table.specs.declared.folders.FolderFault.{FolderFault}
-use Rattle.gtfs_table.specs.declared.folders.FolderFault.TheVariants.{OutOfMemory}
+use Rattle.gtfs_devices.specs.declared.folders.FolderFault.{FolderFault}
+use Rattle.gtfs_devices.specs.declared.folders.FolderFault.TheVariants.{OutOfMemory}
 use Rattle.gtfs_table.proofs.EndingFacts.{ends-from, of-fault}
 use Rattle.gtfs_table.proofs.FolderFacts.{calls-then, on_err-always}
-use Rattle.gtfs_table.proofs.NameLemmas.{others-of}
+use Rattle.gtfs_table.proofs.OtherNames.{others-of}
 use Rattle.gtfs_table.proofs.tables.Tables.read.Goals as goal
 
 pub of_names-tables-requires : goal.of_names-tables-requires

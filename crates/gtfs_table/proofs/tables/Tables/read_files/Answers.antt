@@ -1,6 +1,6 @@
 use Rattle.std.proofs.Common.{◌≡◌, ◌∙◌, ◌+◌, ℕ, Option, get_or, take, subst, refl, arith}
-use Rattle.gtfs_table.specs.Device.{MakesSomeCalls}
-use Rattle.gtfs_table.specs.Folder.{Store}
+use Rattle.gtfs_devices.specs.Device.{MakesSomeCalls}
+use Rattle.gtfs_devices.specs.Folder.{Store}
 use Rattle.gtfs_table.specs.Reading.{AllHoldWithin, HoldsTable, HoldsWithin, kept_files}
 use Rattle.gtfs_table.specs.declared.file.File.TheVariants as file
 use Rattle.gtfs_table.specs.Ending.{EndsAtFile}

@@ -1,0 +1,5 @@
+pub mod ByTextLemmas
+pub mod FolderLemmas
+mod HeldLemmas
+mod NameLemmas
+mod SentLemmas
