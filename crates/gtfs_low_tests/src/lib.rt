@@ -1,4 +1,4 @@
-//! The tests of `gtfs_field`, `gtfs_days` and `gtfs_table`, in a crate of their own: a crate with tests is
+//! The tests of `gtfs_field`, `gtfs_days`, `gtfs_devices` and `gtfs_table`, in a crate of their own: a crate with tests is
 //! proved twice, with them and without. They call public functions alone.
 //!
 //! - `values` are texts of each kind of field with the values that they have, and the values' texts.
