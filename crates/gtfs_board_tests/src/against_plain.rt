@@ -1,5 +1,6 @@
 //! Boards of made datasets, beside the plain list.
 
+use crate::assertions::assert_holds;
 use crate::opening::{Fixture, Opening};
 use crate::plain::PlainKey;
 use gtfs_board::{Key, Span};
@@ -70,7 +71,7 @@ fn assert_above(
 // The boards above the key of each departure, and above keys beside it.
 fn assert_above_keys(rt: &impl Abort, alloc: Global, opening: &Opening<'_>) -> Result<(), Fail> {
     let keys = opening.plain_keys(rt, alloc)?;
-    assert!(rt; keys.len() > 5, "{} keys", keys.len());
+    assert_holds(rt, keys.len() > 5, format_args!("{} keys", keys.len()));
     for plain in &keys {
         let (trip, before) = (opening.trip(plain), plain.sequence.saturating_sub(1));
         assert_above(rt, alloc, opening, (plain, trip, plain.sequence))?;

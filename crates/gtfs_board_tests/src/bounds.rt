@@ -1,6 +1,7 @@
 //! What bounds a board, by the lanes of its stop and the span.
 ghost use Rattle.std.specs.Prelude.{◌<◌, length};
 
+use crate::assertions::assert_holds;
 use gtfs_board::{Key, Span};
 use gtfs_feed::Feed;
 use gtfs_field::OutOfMemory;
@@ -59,15 +60,17 @@ impl Bounds {
 
     /// So many may wait, and at least one where a departure is left.
     pub(crate) fn assert_held(&self, rt: &impl Abort, held: u64) {
-        assert!(rt; held > 0, "none waits");
-        assert!(rt; held <= self.most_held(), "{held} wait");
+        assert_holds(rt, held > 0, "none waits");
+        assert_holds(rt, held <= self.most_held(), format_args!("{held} wait"));
     }
 
     /// So many steps may have been made before the departure at an instant, after so many were taken, and each of these cost
     /// one.
     pub(crate) fn assert_steps(&self, rt: &impl Abort, steps: u64, taken: u64, next: i64) {
-        assert!(rt; taken <= steps, "{steps} steps for {taken} departures");
-        assert!(rt; steps <= self.most_steps(taken, next), "{steps} steps");
+        let what = format_args!("{steps} steps for {taken} departures");
+        assert_holds(rt, taken <= steps, what);
+        let most = self.most_steps(taken, next);
+        assert_holds(rt, steps <= most, format_args!("{steps} steps"));
     }
 
     // How many service days can hold an event from the start until an instant: those whose midnight in UTC lies at most

@@ -1,5 +1,6 @@
 //! Boards over all service days, and long ones.
 
+use crate::assertions::{assert_holds, assert_is, assert_page, assert_text};
 use crate::opening::Fixture;
 use gtfs_board::{Board, Span, push_key};
 use gtfs_fixtures::{Clocks, FileText};
@@ -51,11 +52,10 @@ const THIRD_LINE: &str = "@-2208988798/T1/2/1/19000101\t1900-01-01 00:00:02+00:0
 fn a_board_of_all_days_begins_at_once(rt: HostRuntime) -> Result<(), Fail> {
     let fixture = Fixture::of_files(&rt, rt.alloc(), &EACH_SECOND, Clocks::Utc)?;
     let opening = fixture.opening("S1", ALL_DAYS);
-    let (_, text) = opening.page(&rt, rt.alloc(), "", 2)?;
-    assert_eq!(rt; text.as_str(), FIRST_LINES);
-    let (_, text) = opening.page(&rt, rt.alloc(), "@-2208988799/T1/1/1/19000101", 1)?;
-    assert_eq!(rt; text.as_str(), THIRD_LINE);
-    Ok(())
+    let first = opening.page(&rt, rt.alloc(), "", 2);
+    assert_page(&rt, first, FIRST_LINES, "the first two lines")?;
+    let third = opening.page(&rt, rt.alloc(), "@-2208988799/T1/1/1/19000101", 1);
+    assert_page(&rt, third, THIRD_LINE, "the third line")
 }
 
 // Two days can hold each of the first three instants.
@@ -65,10 +65,14 @@ fn the_bounds_of_a_board_of_all_days_are_small(rt: HostRuntime) -> Result<(), Fa
     let bounds = fixture
         .opening("S1", ALL_DAYS)
         .bounds(&rt, rt.alloc(), None)?;
-    assert_eq!(rt; bounds.most_held(), 4);
-    assert_eq!(rt; bounds.most_steps(0, -2_208_988_800), 2);
-    assert_eq!(rt; bounds.most_steps(1, -2_208_988_799), 3);
-    assert_eq!(rt; bounds.most_steps(2, -2_208_988_798), 4);
+    assert_is(&rt, bounds.most_held(), 4, "departures that wait");
+    for (taken, next, steps) in [
+        (0, -2_208_988_800, 2),
+        (1, -2_208_988_799, 3),
+        (2, -2_208_988_798, 4),
+    ] {
+        assert_is(&rt, bounds.most_steps(taken, next), steps, next);
+    }
     Ok(())
 }
 
@@ -77,9 +81,9 @@ fn a_call_of_next_makes_a_step_or_two(rt: HostRuntime) -> Result<(), Fail> {
     let fixture = Fixture::of_files(&rt, rt.alloc(), &EACH_SECOND, Clocks::Utc)?;
     let mut board = fixture.opening("S1", ALL_DAYS).board(&rt, rt.alloc(), "")?;
     for most_steps in [2, 3, 4] {
-        assert!(rt; board.steps() <= most_steps);
-        assert!(rt; board.held() <= 4);
-        assert!(rt; matches!(board.next(), Ok(Some(_))));
+        assert_holds(&rt, board.steps() <= most_steps, most_steps);
+        assert_holds(&rt, board.held() <= 4, "four or fewer wait");
+        assert_holds(&rt, matches!(board.next(), Ok(Some(_))), "a departure");
     }
     Ok(())
 }
@@ -94,26 +98,34 @@ fn last_key(
 ) -> Result<String, Fail> {
     let mut text = String::new(alloc);
     for taken in 0..count {
-        assert!(rt; board.held() <= most_held, "after {taken}");
-        match board.next() {
-            Ok(Some(departure)) => {
-                text.clear();
-                push_key(alloc, &mut text, &departure.key)?;
-            }
-            Ok(None) => panic!(rt; "none is left after {taken}"),
-            Err(fault) => panic!(rt; "{fault}"),
-        }
+        assert_holds(rt, board.held() <= most_held, format_args!("after {taken}"));
+        text.clear();
+        push_next(rt, alloc, board, taken, &mut text)?;
     }
     Ok(text)
+}
+
+// Adds the key of the next departure.
+fn push_next(
+    rt: &impl Abort,
+    alloc: Global,
+    board: &mut Board<'_>,
+    taken: u64,
+    text: &mut String,
+) -> Result<(), Fail> {
+    match board.next() {
+        Ok(Some(departure)) => Ok(push_key(alloc, text, &departure.key)?),
+        Ok(None) => panic!(rt; "none is left after {taken}"),
+        Err(fault) => panic!(rt; "{fault}"),
+    }
 }
 
 #[test]
 fn a_million_departures_are_taken_and_few_wait(rt: HostRuntime) -> Result<(), Fail> {
     let fixture = Fixture::of_files(&rt, rt.alloc(), &EACH_SECOND, Clocks::Utc)?;
     let mut board = fixture.opening("S1", ALL_DAYS).board(&rt, rt.alloc(), "")?;
-    let key = last_key(&rt, rt.alloc(), &mut board, 1_000_000, 4)?;
-    assert_eq!(rt; key.as_str(), "@-2207988801/T1/49599/1/19000112");
-    Ok(())
+    let key = last_key(&rt, rt.alloc(), &mut board, 1_000_000, 4);
+    assert_text(&rt, key, "@-2207988801/T1/49599/1/19000112", "the last key")
 }
 
 // A lane of each kind. The first day has 86,401 departures, and on the second one other departure is before the last.
@@ -121,9 +133,8 @@ fn a_million_departures_are_taken_and_few_wait(rt: HostRuntime) -> Result<(), Fa
 fn few_wait_where_a_trip_stands_beside_runs(rt: HostRuntime) -> Result<(), Fail> {
     let fixture = Fixture::of_files(&rt, rt.alloc(), &BESIDE_A_TRIP, Clocks::Utc)?;
     let mut board = fixture.opening("S1", ALL_DAYS).board(&rt, rt.alloc(), "")?;
-    let key = last_key(&rt, rt.alloc(), &mut board, 120_000, 8)?;
-    assert_eq!(rt; key.as_str(), "@-2208868803/T1/33597/1/19000102");
-    Ok(())
+    let key = last_key(&rt, rt.alloc(), &mut board, 120_000, 8);
+    assert_text(&rt, key, "@-2208868803/T1/33597/1/19000102", "the last key")
 }
 
 // Each day of three years: 1,096 of them.
@@ -138,8 +149,8 @@ fn assert_daily(rt: &impl Abort, alloc: Global, lines: &str, from: i64) -> Resul
     let mut instant = from;
     for line in lines.lines() {
         let beginning = format!(in alloc; "@{instant}/T1/28800/1/20")?;
-        assert!(rt; line.starts_with(beginning.as_str()), "{line}");
-        assert!(rt; line.ends_with(" 08:00:00+00:00\tS1\t10\t\ts"), "{line}");
+        assert_holds(rt, line.starts_with(beginning.as_str()), line);
+        assert_holds(rt, line.ends_with(" 08:00:00+00:00\tS1\t10\t\ts"), line);
         instant = instant.saturating_add(86_400);
     }
     Ok(instant)
@@ -151,10 +162,10 @@ fn a_board_has_more_than_a_thousand_lines(rt: HostRuntime) -> Result<(), Fail> {
     let (count, lines) = fixture
         .opening("S1", ALL_DAYS)
         .page(&rt, rt.alloc(), "", u64::MAX)?;
-    assert_eq!(rt; count, 1_096);
+    assert_is(&rt, count, 1_096, "lines");
     // until 2 April 2027
     let until = assert_daily(&rt, rt.alloc(), lines.as_str(), 1_711_958_400)?;
-    assert_eq!(rt; until, 1_806_652_800);
+    assert_is(&rt, until, 1_806_652_800, "a day after the last");
     Ok(())
 }
 
@@ -172,10 +183,7 @@ fn nothing_runs_after_the_last_service_day(rt: HostRuntime) -> Result<(), Fail> 
         until: 999_999_999_999,
     };
     let fixture = Fixture::of_files(&rt, rt.alloc(), &LAST_DAYS, Clocks::Utc)?;
-    let lines = fixture.opening("S1", span).listed(&rt, rt.alloc(), "")?;
-    assert_eq!(rt;
-        lines.as_str(),
-        "@253370707200/T1/28800/1/99981231\t9998-12-31 08:00:00+00:00\tS1\t10\t\ts\n"
-    );
-    Ok(())
+    let lines = fixture.opening("S1", span).listed(&rt, rt.alloc(), "");
+    let wanted = "@253370707200/T1/28800/1/99981231\t9998-12-31 08:00:00+00:00\tS1\t10\t\ts\n";
+    assert_text(&rt, lines, wanted, "the last departure")
 }

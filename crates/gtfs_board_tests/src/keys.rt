@@ -1,5 +1,6 @@
 //! The texts of keys, their order, and boards opened above keys that no departure has.
 
+use crate::assertions::{assert_holds, assert_is, assert_text};
 use crate::cases::{FIRST_OF_APRIL, SMALL};
 use crate::opening::{Fixture, Opening};
 use gtfs_board::{Key, push_key, read_key};
@@ -13,12 +14,12 @@ use std::test::Fail;
 fn a_key_is_cut_at_its_first_slash_and_its_last_three(rt: HostRuntime) {
     match read_key("@1711837800/A/1/2/1800/5/20240331") {
         Ok(key) => {
-            assert_eq!(rt; key.instant, 1_711_837_800);
-            assert_eq!(rt; key.trip, "A/1/2");
-            assert_eq!(rt; key.run, 1_800);
-            assert_eq!(rt; key.sequence, 5);
+            assert_is(&rt, key.instant, 1_711_837_800, "instant");
+            assert_is(&rt, key.trip, "A/1/2", "trip");
+            assert_is(&rt, key.run, 1_800, "run");
+            assert_is(&rt, key.sequence, 5, "sequence");
             // 2024-03-31
-            assert_eq!(rt; key.day, Day::from_number(19_813));
+            assert_is(&rt, key.day, Day::from_number(19_813), "day");
         }
         Err(fault) => panic!(rt; "{fault}"),
     }
@@ -45,7 +46,7 @@ fn texts_of_keys_read_back(rt: HostRuntime) -> Result<(), Fail> {
         "@999999999999/\u{e9}@\t/3599998/10/20240229",
     ] {
         let written = rewritten(&rt, rt.alloc(), "> ", text)?;
-        assert_eq!(rt; written.as_str().strip_prefix("> "), Some(text));
+        assert_is(&rt, written.as_str().strip_prefix("> "), Some(text), text);
     }
     Ok(())
 }
@@ -63,10 +64,8 @@ fn a_key_that_does_not_read_back_is_written_as_it_is(rt: HostRuntime) -> Result<
     };
     let mut text = String::new(rt.alloc());
     push_key(rt.alloc(), &mut text, &key)?;
-    assert_eq!(rt;
-        text.as_str(),
-        "@-9223372036854775808//4294967295/4294967295/19700101"
-    );
+    let wanted = "@-9223372036854775808//4294967295/4294967295/19700101";
+    assert_is(&rt, text.as_str(), wanted, "the key");
     Ok(())
 }
 
@@ -108,7 +107,7 @@ fn other_texts_are_no_keys(rt: HostRuntime) {
         ("@0/T1/x/2147483648/20240331", FieldFault::Form),
         ("@0/T1/0/2147483648/x", FieldFault::Range),
     ] {
-        assert_eq!(rt; fault_of(text), Some(fault), "{text}");
+        assert_is(&rt, fault_of(text), Some(fault), text);
     }
 }
 
@@ -148,7 +147,8 @@ fn keys_stand_by_their_parts(rt: HostRuntime) {
     for (index, text) in ASCENDING.iter().enumerate() {
         for (other_index, other) in ASCENDING.iter().enumerate() {
             let wanted = Some(index.cmp(&other_index));
-            assert!(rt; order(text, other) == wanted, "{text} {other}");
+            let is_wanted = order(text, other) == wanted;
+            assert_holds(&rt, is_wanted, format_args!("{text} {other}"));
         }
     }
 }
@@ -184,12 +184,10 @@ fn a_board_is_opened_above_any_key(rt: HostRuntime) -> Result<(), Fail> {
     let fixture = Fixture::of_case(&rt, rt.alloc(), &SMALL)?;
     let opening = fixture.opening("S1", FIRST_OF_APRIL);
     for key in BELOW {
-        let lines = opening.listed(&rt, rt.alloc(), key)?;
-        assert_eq!(rt; lines.as_str(), SMALL.lines, "{key}");
+        assert_text(&rt, opening.listed(&rt, rt.alloc(), key), SMALL.lines, key)?;
     }
     for key in ABOVE {
-        let lines = opening.listed(&rt, rt.alloc(), key)?;
-        assert!(rt; lines.is_empty(), "{key}");
+        assert_text(&rt, opening.listed(&rt, rt.alloc(), key), "", key)?;
     }
     Ok(())
 }
@@ -235,7 +233,8 @@ fn assert_listed_above(
             day: Day::from_number(19_814),
         };
         let lines = opening.listed_above(rt, alloc, &key)?;
-        assert_eq!(rt; lines.as_str(), wanted, "{instant} {trip} {run} {sequence}");
+        let what = format_args!("{instant} {trip} {run} {sequence}");
+        assert_is(rt, lines.as_str(), wanted, what);
     }
     Ok(())
 }

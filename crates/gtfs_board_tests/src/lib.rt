@@ -8,10 +8,13 @@
 //! - `keys` has the texts and the order of keys, `lines` lines and sheets, `pages` pages, `outputs` outputs that fail,
 //!   and `refused` a departure for which there is no memory.
 //! - `timetables` has the timetables of routes, and `plain_sheets` lists them the slow way.
+//! - `assertions` has assertions as calls.
 #![tactic(auto)]
 
 #[cfg(test)]
 mod against_plain;
+#[cfg(test)]
+mod assertions;
 #[cfg(test)]
 mod bounds;
 #[cfg(test)]

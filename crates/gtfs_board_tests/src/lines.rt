@@ -1,10 +1,11 @@
 //! Lines of departures and sheets of timetables.
 
+use crate::assertions::{assert_is, assert_text};
 use gtfs_board::{Departure, Key, Mark, Sheet, push_line, push_sheet};
 use gtfs_days::Zone;
 use gtfs_field::{Clock, Day};
 use gtfs_fixtures::Clocks;
-use std::alloc::Global;
+use std::alloc::{AllocError, Global};
 use std::test::Fail;
 
 // 2024-04-01 08:00:00 in UTC.
@@ -66,9 +67,9 @@ fn a_clock_shows_how_far_it_is_ahead(rt: HostRuntime) -> Result<(), Fail> {
         (Clocks::Behind, "2024-04-01 04:30:00-03:30"),
     ] {
         let zone = clocks.zone(rt.alloc())?;
-        let text = line_after(rt.alloc(), "", &zone, EIGHT, &PLAIN)?;
         let wanted = format!(in rt.alloc(); "{KEY_TEXT}\t{shown}\tS1\t10\t\ts\n")?;
-        assert_eq!(rt; text.as_str(), wanted.as_str());
+        let text = line_after(rt.alloc(), "", &zone, EIGHT, &PLAIN);
+        assert_text(&rt, text, wanted.as_str(), shown)?;
     }
     Ok(())
 }
@@ -82,13 +83,12 @@ fn a_line_is_appended(rt: HostRuntime) -> Result<(), Fail> {
         mark: Mark::Frequency,
     };
     let zone = Clocks::Utc.zone(rt.alloc())?;
-    let text = line_after(rt.alloc(), "before\n", &zone, EIGHT, &shown)?;
     let clock = "2024-04-01 08:00:00+00:00";
     let wanted = format!(in rt.alloc();
         "before\n{KEY_TEXT}\t{clock}\tS/2\tLong way\tTo \"Mill\"\tf\n"
     )?;
-    assert_eq!(rt; text.as_str(), wanted.as_str());
-    Ok(())
+    let text = line_after(rt.alloc(), "before\n", &zone, EIGHT, &shown);
+    assert_text(&rt, text, wanted.as_str(), "the line")
 }
 
 // The widest run and sequence, beyond those of any feed.
@@ -110,10 +110,9 @@ fn a_line_has_any_run_and_sequence(rt: HostRuntime) -> Result<(), Fail> {
     let zone = Clocks::Utc.zone(rt.alloc())?;
     let mut text = String::new(rt.alloc());
     push_line(rt.alloc(), &mut text, &zone, &departure)?;
-    assert_eq!(rt;
-        text.as_str(),
-        "@1711958400/T1/4294967295/4294967295/20240401\t2024-04-01 08:00:00+00:00\tS1\t10\t\ts\n"
-    );
+    let wanted =
+        "@1711958400/T1/4294967295/4294967295/20240401\t2024-04-01 08:00:00+00:00\tS1\t10\t\ts\n";
+    assert_is(&rt, text.as_str(), wanted, "the line");
     Ok(())
 }
 
@@ -129,68 +128,90 @@ fn years_have_four_digits(rt: HostRuntime) -> Result<(), Fail> {
         (0, "1970-01-01 00:00:00+00:00"),
         (253_402_207_200, "9999-12-30 22:00:00+00:00"),
     ] {
-        let text = line_after(rt.alloc(), "", &zone, instant, &PLAIN)?;
         let wanted = format!(in rt.alloc();
             "@{instant}/T1/28800/1/20240401\t{clock}\tS1\t10\t\ts\n"
         )?;
-        assert_eq!(rt; text.as_str(), wanted.as_str());
+        let text = line_after(rt.alloc(), "", &zone, instant, &PLAIN);
+        assert_text(&rt, text, wanted.as_str(), clock)?;
     }
     Ok(())
+}
+
+// A sheet with these stops and runs, and the times of each stop.
+#[derive(Clone, Copy)]
+struct Made<'a> {
+    direction: Option<u8>,
+    stops: &'a [&'a str],
+    runs: &'a [(u32, &'a str)],
+    times: &'a [&'a [Option<Clock>]],
+}
+
+impl<'a> Made<'a> {
+    fn fill(&self, alloc: Global, sheet: &mut Sheet<'a>) -> Result<(), AllocError> {
+        sheet.stops.extend_from_slice(self.stops)?;
+        sheet.runs.extend_from_slice(self.runs)?;
+        for times in self.times {
+            sheet.times.push(Vec::from_slice(alloc, times)?)?;
+        }
+        Ok(())
+    }
+
+    // The text of the sheet after this text.
+    fn text_after(&self, alloc: Global, before: &str) -> Result<String, Fail> {
+        let mut sheet = Sheet {
+            route: "R1",
+            direction: self.direction,
+            day: Day::from_number(19_814),
+            stops: Vec::new(alloc),
+            runs: Vec::new(alloc),
+            times: Vec::new(alloc),
+        };
+        self.fill(alloc, &mut sheet)?;
+        let mut text = String::from_str(alloc, before)?;
+        push_sheet(alloc, &mut text, &sheet)?;
+        Ok(text)
+    }
 }
 
 // Two runs of a trip, of whose stops the second is untimed.
 #[test]
 fn a_sheet_has_a_line_for_each_stop(rt: HostRuntime) -> Result<(), Fail> {
-    let alloc = rt.alloc();
     let first = Some(Clock::from_seconds(28_800));
     let last = Some(Clock::from_seconds(7_199_997));
-    let sheet = Sheet {
-        route: "R1",
+    let sheet = Made {
         direction: Some(1),
-        day: Day::from_number(19_814),
-        stops: vec![in alloc; "S1", "S2"]?,
-        runs: vec![in alloc; (28_800, "T1"), (3_599_999, "T 2")]?,
-        times: vec![in alloc; vec![in alloc; first, last]?, vec![in alloc; None, None]?]?,
+        stops: &["S1", "S2"],
+        runs: &[(28_800, "T1"), (3_599_999, "T 2")],
+        times: &[&[first, last], &[None, None]],
     };
-    let mut text = String::from_str(alloc, "before\n")?;
-    push_sheet(alloc, &mut text, &sheet)?;
     let wanted = "before\n== R1 1 20240401\ntrip\tT1\tT 2\nS1\t08:00:00\t1999:59:57\nS2\t-\t-\n";
-    assert_eq!(rt; text.as_str(), wanted);
-    let sheet = Sheet {
-        route: "R1",
+    let text = sheet.text_after(rt.alloc(), "before\n");
+    assert_text(&rt, text, wanted, "two runs")?;
+    let second = Some(Clock::from_seconds(29_400));
+    let sheet = Made {
         direction: None,
-        day: Day::from_number(19_814),
-        stops: vec![in alloc; "S1", "S2"]?,
-        runs: vec![in alloc; (28_800, "T1")]?,
-        times: vec![in alloc;
-            vec![in alloc; first]?,
-            vec![in alloc; Some(Clock::from_seconds(29_400))]?,
-        ]?,
+        stops: &["S1", "S2"],
+        runs: &[(28_800, "T1")],
+        times: &[&[first], &[second]],
     };
-    text.clear();
-    push_sheet(alloc, &mut text, &sheet)?;
     let wanted = "== R1 - 20240401\ntrip\tT1\nS1\t08:00:00\nS2\t08:10:00\n";
-    assert_eq!(rt; text.as_str(), wanted);
-    Ok(())
+    assert_text(&rt, sheet.text_after(rt.alloc(), ""), wanted, "one run")
 }
 
 // Trips have direction 0, 1 or none, and a sheet made by hand any other.
 #[test]
 fn a_sheet_has_any_direction(rt: HostRuntime) -> Result<(), Fail> {
-    let alloc = rt.alloc();
-    let sheet = Sheet {
-        route: "R1",
+    let sheet = Made {
         direction: Some(255),
-        day: Day::from_number(19_814),
-        stops: vec![in alloc; "S1"]?,
-        runs: vec![in alloc; (28_800, "T1")]?,
-        times: vec![in alloc; vec![in alloc; Some(Clock::from_seconds(28_800))]?]?,
+        stops: &["S1"],
+        runs: &[(28_800, "T1")],
+        times: &[&[Some(Clock::from_seconds(28_800))]],
     };
-    let mut text = String::new(alloc);
-    push_sheet(alloc, &mut text, &sheet)?;
-    assert_eq!(rt;
-        text.as_str(),
-        "== R1 255 20240401\ntrip\tT1\nS1\t08:00:00\n"
-    );
-    Ok(())
+    let wanted = "== R1 255 20240401\ntrip\tT1\nS1\t08:00:00\n";
+    assert_text(
+        &rt,
+        sheet.text_after(rt.alloc(), ""),
+        wanted,
+        "direction 255",
+    )
 }

@@ -2,6 +2,7 @@
 
 ghost use Rattle.std.specs.Prelude.{◌<◌, length};
 
+use crate::assertions::{assert_holds, assert_is};
 use crate::bounds::Bounds;
 use crate::cases::Case;
 use crate::plain::{PlainKey, plain_keys, trip_shown};
@@ -228,16 +229,24 @@ impl<'a> Opening<'a> {
         for key in keys {
             bounds.assert_held(rt, board.held() as u64);
             bounds.assert_steps(rt, board.steps(), taken, key.instant);
-            match board.next() {
-                Ok(Some(departure)) => assert!(rt; key.is_of(self.feed, &departure), "{key:?}"),
-                Ok(None) => panic!(rt; "{key:?} is left out"),
-                Err(fault) => panic!(rt; "{fault}"),
-            }
+            self.assert_next(rt, board, key);
             taken = taken.saturating_add(1);
         }
         bounds.assert_steps(rt, board.steps(), taken, self.span.until.saturating_sub(1));
-        assert_eq!(rt; board.held(), 0);
+        assert_is(rt, board.held(), 0, "none waits");
         assert_none(rt, board);
+    }
+
+    // The next departure of a board is this one.
+    fn assert_next(&self, rt: &impl Abort, board: &mut Board<'_>, key: &PlainKey) {
+        match board.next() {
+            Ok(Some(departure)) => {
+                let is_next = key.is_of(self.feed, &departure);
+                assert_holds(rt, is_next, format_args!("{key:?}"));
+            }
+            Ok(None) => panic!(rt; "{key:?} is left out"),
+            Err(fault) => panic!(rt; "{fault}"),
+        }
     }
 }
 

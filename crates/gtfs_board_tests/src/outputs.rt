@@ -1,5 +1,6 @@
 //! Pages to outputs that fail, and that take a byte at a time.
 
+use crate::assertions::{assert_holds, assert_is};
 use crate::cases::PERIODS;
 use crate::opening::{Fixture, Opening};
 use crate::pages::last_key;
@@ -32,29 +33,31 @@ fn assert_cut(
     let left = opening.lines(rt, alloc, &mut board)?;
     let (_, lines) = whole_lines(text.as_str());
     let rest = opening.listed(rt, alloc, last_key(lines))?;
-    assert!(rt; PERIODS.lines.starts_with(text.as_str()), "room {room}");
-    assert!(rt; PERIODS.lines.ends_with(rest.as_str()), "room {room}");
+    assert_parts(rt, text.as_str(), rest.as_str(), room);
+    assert_left(rt, left.as_str(), rest.as_str(), room);
+    Ok(())
+}
+
+// A text is a beginning of the page, and the rest has all that stands after its whole lines.
+fn assert_parts(rt: &impl Abort, text: &str, rest: &str, room: usize) {
+    let (_, lines) = whole_lines(text);
+    let is_beginning = PERIODS.lines.starts_with(text);
+    let is_end = PERIODS.lines.ends_with(rest);
     let end = if lines.is_empty() {
         0
     } else {
         lines.len().saturating_add(1)
     };
-    assert_eq!(rt;
-        end.saturating_add(rest.len()),
-        PERIODS.lines.len(),
-        "room {room}"
-    );
-    // At most the line that was cut is missing.
-    let missing = rest
-        .as_str()
-        .lines()
-        .count()
-        .saturating_sub(left.as_str().lines().count());
-    assert!(rt;
-        rest.as_str().ends_with(left.as_str()) && missing <= 1,
-        "room {room}"
-    );
-    Ok(())
+    let found = (is_beginning, is_end, end.saturating_add(rest.len()));
+    let what = format_args!("room {room}");
+    assert_is(rt, found, (true, true, PERIODS.lines.len()), what);
+}
+
+// At most the line that was cut is missing in what is left.
+fn assert_left(rt: &impl Abort, left: &str, rest: &str, room: usize) {
+    let missing = rest.lines().count().saturating_sub(left.lines().count());
+    let is_left = rest.ends_with(left) && missing <= 1;
+    assert_holds(rt, is_left, format_args!("room {room}"));
 }
 
 // What went out of a page to an output with this room, which fails.
@@ -68,9 +71,10 @@ fn written(
     let fault = write_page(alloc, board, u64::MAX, &mut out).err();
     let text = str::from_utf8(out.bytes())?;
     let (count, _) = whole_lines(text);
-    assert_eq!(rt; fault, Some(PageFault::Out(count)), "room {room}");
-    assert_eq!(rt; out.failures(), 1);
-    assert_eq!(rt; text.len(), room);
+    let what = format_args!("room {room}");
+    assert_is(rt, fault, Some(PageFault::Out(count)), what);
+    assert_is(rt, out.failures(), 1, "failures");
+    assert_is(rt, text.len(), room, "bytes");
     Ok(String::from_str(alloc, text)?)
 }
 
@@ -122,9 +126,9 @@ fn assert_trickles(
         takes,
     });
     let page: Result<_, _> = write_page(alloc, &mut board, u64::MAX, &mut out);
-    assert_eq!(rt; page, told);
-    assert_eq!(rt; out.failures(), u64::from(page.is_err()));
-    assert_eq!(rt; str::from_utf8(&text)?, wanted);
+    assert_is(rt, page, told, takes);
+    assert_is(rt, out.failures(), u64::from(page.is_err()), "failures");
+    assert_is(rt, str::from_utf8(&text)?, wanted, "the text");
     Ok(())
 }
 
@@ -139,9 +143,7 @@ fn an_output_may_take_a_byte_a_call_or_none(rt: HostRuntime) -> Result<(), Fail>
 #[test]
 fn faults_have_lines(rt: HostRuntime) -> Result<(), Fail> {
     let text = format!(in rt.alloc(); "{}; {}", PageFault::Out(3), PageFault::OutOfMemory(0))?;
-    assert_eq!(rt;
-        text.as_str(),
-        "output failed after 3 lines; out of memory after 0 lines"
-    );
+    let wanted = "output failed after 3 lines; out of memory after 0 lines";
+    assert_is(&rt, text.as_str(), wanted, "the lines");
     Ok(())
 }

@@ -1,5 +1,6 @@
 //! Pages of every length, each opened above the last key of the one before.
 
+use crate::assertions::{assert_holds, assert_is, assert_page};
 use crate::cases::{ALL, Case, PERIODS};
 use crate::opening::{Fixture, Opening};
 use gtfs_board::Span;
@@ -34,8 +35,8 @@ fn joined(
     let mut key = String::from_str(alloc, after)?;
     for _ in 0..MOST {
         let (count, lines) = opening.page(rt, alloc, key.as_str(), limit)?;
-        assert!(rt; count <= limit);
-        assert_eq!(rt; lines.as_str().lines().count() as u64, count);
+        assert_holds(rt, count <= limit, format_args!("{count} of {limit}"));
+        assert_is(rt, lines.as_str().lines().count() as u64, count, "lines");
         text.push_str(lines.as_str())?;
         if count < limit {
             break;
@@ -54,12 +55,11 @@ fn assert_joined(
 ) -> Result<(), Fail> {
     for limit in 1..6 {
         let text = joined(rt, alloc, opening, case.after, limit)?;
-        assert_eq!(rt; text.as_str(), case.lines, "{}, by {limit}", case.what);
+        let what = format_args!("{}, by {limit}", case.what);
+        assert_is(rt, text.as_str(), case.lines, what);
     }
-    let (count, lines) = opening.page(rt, alloc, case.after, 0)?;
-    assert_eq!(rt; count, 0, "{}", case.what);
-    assert!(rt; lines.is_empty(), "{}", case.what);
-    Ok(())
+    let page = opening.page(rt, alloc, case.after, 0);
+    assert_page(rt, page, "", case.what)
 }
 
 #[test]
@@ -78,18 +78,26 @@ fn pages_of_worked_boards_join(rt: HostRuntime) -> Result<(), Fail> {
 fn a_page_has_at_most_its_limit(rt: HostRuntime) -> Result<(), Fail> {
     let fixture = Fixture::of_case(&rt, rt.alloc(), &PERIODS)?;
     let opening = fixture.opening("S1", PERIODS.span);
-    let (count, first) = opening.page(&rt, rt.alloc(), "", 2)?;
-    assert_eq!(rt; count, 2);
-    assert_eq!(rt; last_key(first.as_str()), "@1711953000/T1/23400/1/20240401");
-    let (count, second) = opening.page(&rt, rt.alloc(), last_key(first.as_str()), 2)?;
-    assert_eq!(rt; count, 2);
-    assert!(rt; PERIODS.lines.starts_with(first.as_str()));
-    assert!(rt; PERIODS.lines.ends_with(second.as_str()));
-    assert_eq!(rt;
-        first.len().saturating_add(second.len()),
-        PERIODS.lines.len()
-    );
+    assert_two_pages(&rt, rt.alloc(), &opening)
+}
+
+// Two lines on each of two pages are the whole board.
+fn assert_two_pages(rt: &impl Abort, alloc: Global, opening: &Opening<'_>) -> Result<(), Fail> {
+    let (count, first) = opening.page(rt, alloc, "", 2)?;
+    assert_is(rt, count, 2, "lines of the first page");
+    let key = last_key(first.as_str());
+    assert_is(rt, key, "@1711953000/T1/23400/1/20240401", "the last key");
+    let (count, second) = opening.page(rt, alloc, key, 2)?;
+    assert_is(rt, count, 2, "lines of the second page");
+    assert_halves(rt, first.as_str(), second.as_str());
     Ok(())
+}
+
+fn assert_halves(rt: &impl Abort, first: &str, second: &str) {
+    assert_holds(rt, PERIODS.lines.starts_with(first), first);
+    assert_holds(rt, PERIODS.lines.ends_with(second), second);
+    let length = first.len().saturating_add(second.len());
+    assert_is(rt, length, PERIODS.lines.len(), "bytes of both");
 }
 
 // The days around the instant at which the zone moves its clocks.
@@ -103,7 +111,8 @@ fn assert_whole(rt: &impl Abort, alloc: Global, opening: &Opening<'_>) -> Result
     let (count, whole) = opening.page(rt, alloc, "", u64::MAX)?;
     for limit in 1..=count.saturating_add(1) {
         let text = joined(rt, alloc, opening, "", limit)?;
-        assert_eq!(rt; text.as_str(), whole.as_str(), "by {limit}");
+        let what = format_args!("by {limit}");
+        assert_is(rt, text.as_str(), whole.as_str(), what);
     }
     Ok(())
 }
@@ -127,7 +136,7 @@ fn assert_same(
 ) -> Result<(), Fail> {
     let (_, lines) = opening.page(rt, alloc, "", u64::MAX)?;
     let (_, same) = other.page(rt, alloc, "", u64::MAX)?;
-    assert_eq!(rt; lines.as_str(), same.as_str());
+    assert_is(rt, lines.as_str(), same.as_str(), "lines");
     Ok(())
 }
 

@@ -1,5 +1,6 @@
 //! A departure that is refused for want of memory, and asked for again.
 
+use crate::assertions::{assert_holds, assert_is};
 use crate::opening::{Fixture, assert_none};
 use gtfs_board::{Board, Span};
 use gtfs_field::OutOfMemory;
@@ -104,13 +105,11 @@ fn a_refused_departure_can_be_asked_for_again(rt: HostRuntime) -> Result<(), Fai
         1_712_563_200,
     ] {
         let instant = next_instant(rt.alloc(), &mut board, &mut counts)?;
-        assert_eq!(rt; instant, Some(departure));
+        assert_is(&rt, instant, Some(departure), "the next instant");
     }
     // An allocator that looks for errors keeps memory for small pieces, however much is taken.
-    assert!(rt;
-        counts.refused > 0 || counts.without_memory == 0,
-        "{counts:?}"
-    );
+    let is_refused = counts.refused > 0 || counts.without_memory == 0;
+    assert_holds(&rt, is_refused, format_args!("{counts:?}"));
     assert_none(&rt, &mut board);
     Ok(())
 }

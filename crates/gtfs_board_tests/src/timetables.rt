@@ -1,5 +1,6 @@
 //! Timetables: worked ones, and those of made feeds beside plain ones.
 
+use crate::assertions::{assert_holds, assert_is, assert_text};
 use crate::plain_sheets::{Asked, plain_sheets};
 use gtfs_board::{Sheet, TableFault, push_sheet, timetable};
 use gtfs_feed::Feed;
@@ -210,13 +211,18 @@ fn sheets_text(alloc: Global, feed: &Feed, asked: &Asked<'_>) -> Result<String, 
     Ok(text)
 }
 
+fn assert_sheets(rt: &impl Abort, alloc: Global, feed: &Feed, case: &Case) -> Result<(), Fail> {
+    let text = sheets_text(alloc, feed, &case.asked);
+    assert_text(rt, text, case.text, case.what)?;
+    let plain = plain_sheets(alloc, feed, &case.asked)?;
+    let what = format_args!("slowly, {}", case.what);
+    assert_is(rt, plain.as_str(), case.text, what);
+    Ok(())
+}
+
 fn assert_case<R: Abort + RandomSource>(rt: &R, alloc: Global, case: &Case) -> Result<(), Fail> {
     let feed = feed_with(rt, alloc, case.files)?;
-    let text = sheets_text(alloc, &feed, &case.asked)?;
-    assert_eq!(rt; text.as_str(), case.text, "{}", case.what);
-    let plain = plain_sheets(alloc, &feed, &case.asked)?;
-    assert_eq!(rt; plain.as_str(), case.text, "slowly, {}", case.what);
-    Ok(())
+    assert_sheets(rt, alloc, &feed, case)
 }
 
 #[test]
@@ -242,14 +248,26 @@ fn assert_plain(rt: &impl Abort, alloc: Global, feed: &Feed) -> Result<usize, Fa
                     direction,
                     date,
                 };
-                let text = sheets_text(alloc, feed, &asked)?;
-                let plain = plain_sheets(alloc, feed, &asked)?;
-                assert_eq!(rt; text.as_str(), plain.as_str(), "{route} {date}");
-                count = count.saturating_add(usize::from(!text.is_empty()));
+                let is_empty = assert_plain_text(rt, alloc, feed, &asked)?;
+                count = count.saturating_add(usize::from(!is_empty));
             }
         }
     }
     Ok(count)
+}
+
+// The text of the sheets is the plain one. Whether it is empty.
+fn assert_plain_text(
+    rt: &impl Abort,
+    alloc: Global,
+    feed: &Feed,
+    asked: &Asked<'_>,
+) -> Result<bool, Fail> {
+    let text = sheets_text(alloc, feed, asked)?;
+    let plain = plain_sheets(alloc, feed, asked)?;
+    let what = format_args!("{} {}", asked.route, asked.date);
+    assert_is(rt, text.as_str(), plain.as_str(), what);
+    Ok(text.is_empty())
 }
 
 #[test]
@@ -257,7 +275,7 @@ fn sheets_of_made_feeds_are_the_plain_ones(rt: HostRuntime) -> Result<(), Fail> 
     for number in 0..3 {
         let feed = made_feed(&rt, rt.alloc(), number)?;
         let count = assert_plain(&rt, rt.alloc(), &feed)?;
-        assert!(rt; count > 5, "{count} texts");
+        assert_holds(&rt, count > 5, format_args!("{count} texts"));
     }
     Ok(())
 }
@@ -274,21 +292,22 @@ const SECONDS: u32 = 86_400;
 fn assert_starts(rt: &impl Abort, runs: &[(u32, &str)]) {
     let mut second = 0u32;
     for (start, trip) in runs {
-        assert_eq!(rt; *start, second);
-        assert_eq!(rt; *trip, "T1", "{second}");
+        assert_is(rt, *start, second, "the start");
+        assert_is(rt, *trip, "T1", second);
         second = second.saturating_add(1);
     }
-    assert_eq!(rt; second, SECONDS);
+    assert_is(rt, second, SECONDS, "runs");
 }
 
 // They pass a stop time so many seconds after their start.
 fn assert_times(rt: &impl Abort, times: &[Option<Clock>], after: u32) {
     let mut second = after;
     for time in times {
-        assert_eq!(rt; time.map(|time| time.seconds()), Some(second));
+        let seconds = time.map(|time| time.seconds());
+        assert_is(rt, seconds, Some(second), "seconds");
         second = second.saturating_add(1);
     }
-    assert_eq!(rt; second, SECONDS.saturating_add(after));
+    assert_is(rt, second, SECONDS.saturating_add(after), "times");
 }
 
 // How many bytes the text of a sheet has.
@@ -306,18 +325,22 @@ fn a_sheet_has_a_run_each_second_of_a_day(rt: HostRuntime) -> Result<(), Fail> {
     let [sheet] = sheets.as_slice() else {
         panic!(rt; "{} sheets", sheets.len());
     };
+    assert_each_second(&rt, sheet);
+    assert_is(&rt, text_len(rt.alloc(), sheet)?, 1_814_428, "bytes");
+    Ok(())
+}
+
+fn assert_each_second(rt: &impl Abort, sheet: &Sheet<'_>) {
     let ([first, second], [first_times, second_times]) = (
         sheet.stops.as_slice(),
         sheet.times.as_slice(),
     ) else {
         panic!(rt; "{} stops", sheet.stops.len());
     };
-    assert_eq!(rt; (*first, *second), ("S1", "S2"));
-    assert_starts(&rt, sheet.runs.as_slice());
-    assert_times(&rt, first_times.as_slice(), 0);
-    assert_times(&rt, second_times.as_slice(), 600);
-    assert_eq!(rt; text_len(rt.alloc(), sheet)?, 1_814_428);
-    Ok(())
+    assert_is(rt, (*first, *second), ("S1", "S2"), "stops");
+    assert_starts(rt, sheet.runs.as_slice());
+    assert_times(rt, first_times.as_slice(), 0);
+    assert_times(rt, second_times.as_slice(), 600);
 }
 
 // How a timetable of the small dataset is refused, if it is.
@@ -345,11 +368,8 @@ fn a_route_that_is_not_there_is_unknown(rt: HostRuntime) -> Result<(), Fail> {
                 direction: Some(0),
                 date,
             };
-            assert_eq!(rt;
-                refused(rt.alloc(), &feed, &asked)?,
-                fault,
-                "{route} {date}"
-            );
+            let found = refused(rt.alloc(), &feed, &asked)?;
+            assert_is(&rt, found, fault, format_args!("{route} {date}"));
         }
     }
     Ok(())
@@ -361,8 +381,9 @@ fn faults_of_timetables_have_lines_and_numbers(rt: HostRuntime) -> Result<(), Fa
         (TableFault::UnknownRoute, 1, "unknown route"),
         (TableFault::OutOfMemory, 2, "out of memory"),
     ] {
-        assert_eq!(rt; fault as u8, number);
-        assert_eq!(rt; format!(in rt.alloc(); "{fault}")?.as_str(), line);
+        assert_is(&rt, fault as u8, number, line);
+        let shown = format!(in rt.alloc(); "{fault}")?;
+        assert_is(&rt, shown.as_str(), line, number);
     }
     Ok(())
 }

@@ -1,5 +1,6 @@
 //! Worked boards, listed and written, with what bounds them.
 
+use crate::assertions::{assert_holds, assert_is, assert_page, assert_text};
 use crate::cases::{ALL, CHANGING, Case, END_OF_2011, LATE, OTHERS, PLAIN};
 use crate::opening::{Fixture, Opening};
 use gtfs_board::{Board, BoardFault, Span, read_key};
@@ -17,12 +18,10 @@ fn assert_case(
     opening: &Opening<'_>,
     case: &Case,
 ) -> Result<(), Fail> {
-    let lines = opening.listed(rt, alloc, case.after)?;
-    assert_eq!(rt; lines.as_str(), case.lines, "{}", case.what);
-    let (count, page) = opening.page(rt, alloc, case.after, u64::MAX)?;
-    assert_eq!(rt; count, case.lines.lines().count() as u64, "{}", case.what);
-    assert_eq!(rt; page.as_str(), case.lines, "{}", case.what);
-    Ok(())
+    let lines = opening.listed(rt, alloc, case.after);
+    assert_text(rt, lines, case.lines, case.what)?;
+    let page = opening.page(rt, alloc, case.after, u64::MAX);
+    assert_page(rt, page, case.lines, case.what)
 }
 
 fn assert_cases<R: Abort + RandomSource>(
@@ -65,9 +64,9 @@ fn assert_bounds(
     case: &Case,
 ) -> Result<(), Fail> {
     let bounds = opening.bounds(rt, alloc, None)?;
-    assert_eq!(rt; bounds.lanes, case.lanes, "{}", case.what);
-    assert_eq!(rt; bounds.greatest, case.greatest, "{}", case.what);
-    assert_eq!(rt; bounds.most_held(), case.held, "{}", case.what);
+    assert_is(rt, bounds.lanes, case.lanes, case.what);
+    assert_is(rt, bounds.greatest, case.greatest, case.what);
+    assert_is(rt, bounds.most_held(), case.held, case.what);
     opening.assert_plain(rt, alloc)?;
     assert_above(rt, alloc, opening, case.after)
 }
@@ -82,7 +81,7 @@ fn assert_above(
     match read_key(after) {
         Ok(key) => opening.assert_plain_above(rt, alloc, &key),
         Err(_) => {
-            assert!(rt; after.is_empty(), "{after}");
+            assert_holds(rt, after.is_empty(), after);
             Ok(())
         }
     }
@@ -118,7 +117,7 @@ fn a_stop_that_is_not_there_is_unknown(rt: HostRuntime) -> Result<(), Fail> {
     for span in [Span { from: 0, until: 1 }, Span { from: 1, until: 0 }] {
         for stop in ["S9", "", "s1", "S1 "] {
             let fault = refused(rt.alloc(), &feed, &zone, stop, span);
-            assert_eq!(rt; fault, Some(BoardFault::UnknownStop), "{stop}");
+            assert_is(&rt, fault, Some(BoardFault::UnknownStop), stop);
         }
     }
     Ok(())
@@ -140,8 +139,8 @@ fn a_span_does_not_end_before_it_begins(rt: HostRuntime) -> Result<(), Fail> {
     ] {
         let span = Span { from, until };
         let found = refused(rt.alloc(), &feed, &zone, "S1", span);
-        assert_eq!(rt; found, fault, "from {from}");
-        assert_eq!(rt; span.is_valid(), fault.is_none(), "from {from}");
+        assert_is(&rt, found, fault, format_args!("from {from}"));
+        assert_is(&rt, span.is_valid(), fault.is_none(), from);
     }
     Ok(())
 }
@@ -150,7 +149,7 @@ fn a_span_does_not_end_before_it_begins(rt: HostRuntime) -> Result<(), Fail> {
 fn a_span_has_its_first_instant_and_not_its_last(rt: HostRuntime) {
     let span = Span { from: -5, until: 7 };
     for (instant, is_within) in [(-6, false), (-5, true), (0, true), (6, true), (7, false)] {
-        assert_eq!(rt; span.contains(instant), is_within, "{instant}");
+        assert_is(&rt, span.contains(instant), is_within, instant);
     }
 }
 
@@ -161,8 +160,9 @@ fn faults_have_lines_and_numbers(rt: HostRuntime) -> Result<(), Fail> {
         (BoardFault::BadSpan, 2, "bad span"),
         (BoardFault::OutOfMemory, 3, "out of memory"),
     ] {
-        assert_eq!(rt; fault as u8, number);
-        assert_eq!(rt; format!(in rt.alloc(); "{fault}")?.as_str(), line);
+        assert_is(&rt, fault as u8, number, line);
+        let shown = format!(in rt.alloc(); "{fault}")?;
+        assert_is(&rt, shown.as_str(), line, number);
     }
     Ok(())
 }

@@ -1,8 +1,8 @@
 //! Boards of which only some lines are asked for, and feeds that have none.
 
+use crate::assertions::assert_case;
+use crate::ended::Ended;
 use crate::fixtures::{FIRST_LINE, ROOM, asked, asked_with, assert_ends, folders, state_of};
-use gtfs_cli::run;
-use gtfs_table::MemoryOut;
 use std::test::Fail;
 
 #[test]
@@ -59,12 +59,10 @@ fn the_random_state_changes_no_board(rt: HostRuntime) -> Result<(), Fail> {
     let mut folders = folders(rt.alloc())?;
     let words = asked("f1", "z1", "S1");
     for byte in [0, 1, 255] {
-        let mut out = MemoryOut::new(rt.alloc(), ROOM)?;
-        let mut err = MemoryOut::new(rt.alloc(), ROOM)?;
         let random = state_of(byte)?;
-        let status = run(rt.alloc(), random, &words, &mut folders, &mut out, &mut err);
-        assert_eq!(&rt; str::from_utf8(out.bytes())?, FIRST_LINE);
-        assert_eq!(&rt; status, 0);
+        let rooms = (ROOM, ROOM);
+        let ended = Ended::of(rt.alloc(), random, &mut folders, &words, rooms)?;
+        assert_case(&rt, ended.seen()?, (0, FIRST_LINE, ""), "end", byte);
     }
     Ok(())
 }

@@ -1,8 +1,10 @@
 //! Files of just the limit, outputs that take nothing, and several devices of which each fails.
 
+use crate::assertions::{assert_case, assert_is};
+use crate::ended::Ended;
 use crate::fixtures::{
-    CHECK, FIRST_LINE, MERGE, ROOM, asked, asked_with, assert_ends, fixed, folders,
-    folders_failing_at, folders_within, put_feed, put_island, timetable_asked,
+    CHECK, FIRST_LINE, MERGE, OUTPUT_FAILED, ROOM, asked, asked_with, assert_ends, fixed, folders,
+    folders_failing_at, folders_within, put_feed, put_island, start_of, timetable_asked,
 };
 use gtfs_cli::run;
 use gtfs_field::OutOfMemory;
@@ -66,9 +68,8 @@ fn assert_shut(
     let mut out = WriteOut::new(Shut);
     let mut err = MemoryOut::new(alloc, ROOM)?;
     let status = run(alloc, fixed()?, words, folders, &mut out, &mut err);
-    assert_eq!(rt; str::from_utf8(err.bytes())?, "gtfs: output failed\n");
-    assert_eq!(rt; out.failures(), 1);
-    assert_eq!(rt; status, 3);
+    let ended = (status, out.failures(), str::from_utf8(err.bytes())?);
+    assert_case(rt, ended, (3, 1, OUTPUT_FAILED), "end", words);
     Ok(())
 }
 
@@ -99,8 +100,8 @@ fn an_empty_board_needs_no_output(rt: HostRuntime) -> Result<(), Fail> {
         &mut out,
         &mut err,
     );
-    assert_eq!(rt; (out.failures(), err.failures()), (0, 0));
-    assert_eq!(rt; status, 0);
+    let ended = (status, out.failures(), err.failures());
+    assert_is(&rt, ended, (0, 0, 0), "end of an empty board");
     Ok(())
 }
 
@@ -113,13 +114,11 @@ fn assert_same_status(
     (status, line): (u8, &str),
 ) -> Result<(), Fail> {
     for room in 0..=line.len() {
-        let mut out = MemoryOut::new(alloc, 0)?;
-        let mut err = MemoryOut::new(alloc, room)?;
-        let ended = run(alloc, fixed()?, words, &mut folders, &mut out, &mut err);
-        let taken = line.as_bytes().get(..room).ok_or("past the end")?;
-        assert_eq!(rt; err.bytes(), taken, "{line}");
-        assert_eq!(rt; err.failures(), u64::from(room < line.len()), "{line}");
-        assert_eq!(rt; ended, status, "{line}");
+        let ended = Ended::of(alloc, fixed()?, &mut folders, words, (0, room))?;
+        let wanted = (status, "", start_of(line, room)?);
+        let failures = u64::from(room < line.len());
+        assert_case(rt, ended.seen()?, wanted, "end", line);
+        assert_case(rt, ended.err.failures(), failures, "failures", line);
     }
     Ok(())
 }
@@ -210,20 +209,11 @@ fn all_devices_may_fail(rt: HostRuntime) -> Result<(), Fail> {
         };
         for room in 0..line.len() {
             let mut folders = folders_failing_at(rt.alloc(), call)?;
-            let mut out = MemoryOut::new(rt.alloc(), 0)?;
-            let mut err = MemoryOut::new(rt.alloc(), room)?;
-            let status = run(
-                rt.alloc(),
-                fixed()?,
-                &words,
-                &mut folders,
-                &mut out,
-                &mut err,
-            );
-            let taken = line.as_bytes().get(..room).ok_or("past the end")?;
-            assert_eq!(rt; err.bytes(), taken, "call {call}");
-            assert_eq!(rt; out.failures(), 0, "call {call}");
-            assert_eq!(rt; status, 3, "call {call}");
+            let rooms = (0, room);
+            let ended = Ended::of(rt.alloc(), fixed()?, &mut folders, &words, rooms)?;
+            let wanted = (3, "", start_of(line, room)?);
+            assert_case(&rt, ended.seen()?, wanted, "end", call);
+            assert_case(&rt, ended.out.failures(), 0, "failures", call);
         }
     }
     Ok(())

@@ -2,9 +2,10 @@
 ghost use Rattle.std.specs.Prelude.{◌<◌, ◌-◌, ◌^◌};
 ghost use Rattle.std.specs.Option.{ForSome};
 
-use gtfs_cli::run;
+use crate::assertions::assert_case;
+use crate::ended::Ended;
 use gtfs_field::OutOfMemory;
-use gtfs_table::{MemoryFolders, MemoryOut};
+use gtfs_table::MemoryFolders;
 use std::alloc::Global;
 use std::hash::RandomState;
 use std::io;
@@ -21,6 +22,9 @@ pub(super) const LIMIT: u64 = 1_000;
 pub(super) const CHECK: [&str; 3] = ["gtfs", "check", "f1"];
 
 pub(super) const MERGE: [&str; 5] = ["gtfs", "merge", "f1", "f2", "out"];
+
+// What is told of an output that failed.
+pub(super) const OUTPUT_FAILED: &str = "gtfs: output failed\n";
 
 // The report of the merge of the feed with itself.
 pub(super) const JOINED: &str = "joined agency 1\n\
@@ -201,13 +205,15 @@ pub(super) fn assert_ends(
     alloc: Global,
     folders: &mut MemoryFolders,
     words: &[&str],
-    (status, printed, told): (u8, &str, &str),
+    wanted: (u8, &str, &str),
 ) -> Result<(), Fail> {
-    let mut out = MemoryOut::new(alloc, ROOM)?;
-    let mut err = MemoryOut::new(alloc, ROOM)?;
-    let ended = run(alloc, fixed()?, words, folders, &mut out, &mut err);
-    assert_eq!(rt; str::from_utf8(err.bytes())?, told);
-    assert_eq!(rt; str::from_utf8(out.bytes())?, printed);
-    assert_eq!(rt; ended, status);
+    let ended = Ended::of(alloc, fixed()?, folders, words, (ROOM, ROOM))?;
+    assert_case(rt, ended.seen()?, wanted, "end", words);
     Ok(())
+}
+
+// The start of a text, as far as there is room for it.
+pub(super) fn start_of(text: &str, room: usize) -> Result<&str, Fail> {
+    let start = text.as_bytes().get(..room).ok_or("past the end")?;
+    Ok(str::from_utf8(start)?)
 }

@@ -6,7 +6,11 @@
 #![tactic(auto)]
 
 #[cfg(test)]
+mod assertions;
+#[cfg(test)]
 mod boards;
+#[cfg(test)]
+mod ended;
 #[cfg(test)]
 mod faults;
 #[cfg(test)]

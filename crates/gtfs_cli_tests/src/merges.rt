@@ -1,10 +1,12 @@
 //! Merges over devices of which a call fails, and outputs that take less than the report.
 
+use crate::assertions::assert_case;
+use crate::ended::Ended;
 use crate::fixtures::{
-    JOINED, MERGE, ROOM, assert_ends, fixed, folders, folders_failing_at, put_feed,
+    JOINED, MERGE, OUTPUT_FAILED, ROOM, assert_ends, fixed, folders, folders_failing_at, put_feed,
+    start_of,
 };
-use gtfs_cli::run;
-use gtfs_table::{File, FolderFault, Folders, MemoryFolders, MemoryOut};
+use gtfs_table::{File, FolderFault, Folders, MemoryFolders};
 use std::alloc::Global;
 use std::process::Abort;
 use std::test::Fail;
@@ -59,7 +61,7 @@ fn assert_written(
         } else {
             None
         };
-        assert_eq!(rt; found.as_deref(), wanted);
+        assert_case(rt, found.as_deref(), wanted, "text", file.name());
     }
     Ok(())
 }
@@ -89,20 +91,10 @@ fn a_report_of_a_merge_may_be_cut_at_each_byte(rt: HostRuntime) -> Result<(), Fa
     for room in 0..JOINED.len() {
         let mut folders = folders(rt.alloc())?;
         put_feed(&mut folders, "f2")?;
-        let mut out = MemoryOut::new(rt.alloc(), room)?;
-        let mut err = MemoryOut::new(rt.alloc(), ROOM)?;
-        let status = run(
-            rt.alloc(),
-            fixed()?,
-            &MERGE,
-            &mut folders,
-            &mut out,
-            &mut err,
-        );
-        let taken = JOINED.as_bytes().get(..room).ok_or("past the end")?;
-        assert_eq!(&rt; out.bytes(), taken);
-        assert_eq!(&rt; str::from_utf8(err.bytes())?, "gtfs: output failed\n");
-        assert_eq!(&rt; status, 3);
+        let rooms = (room, ROOM);
+        let ended = Ended::of(rt.alloc(), fixed()?, &mut folders, &MERGE, rooms)?;
+        let wanted = (3, start_of(JOINED, room)?, OUTPUT_FAILED);
+        assert_case(&rt, ended.seen()?, wanted, "end", room);
         assert_written(&rt, rt.alloc(), &mut folders, 9)?;
     }
     Ok(())

@@ -1,11 +1,13 @@
 //! Outputs that take less than the whole, or the whole by single bytes.
 
+use crate::assertions::{assert_case, assert_is};
+use crate::ended::Ended;
 use crate::fixtures::{
-    CHECK, FIRST_LINE, JOINED, MERGE, ROOM, SHEET, asked, asked_with, fixed, folders, put_feed,
-    timetable_asked,
+    CHECK, FIRST_LINE, JOINED, MERGE, OUTPUT_FAILED, ROOM, SHEET, asked, asked_with, fixed,
+    folders, put_feed, start_of, timetable_asked,
 };
 use gtfs_cli::run;
-use gtfs_table::{MemoryFolders, MemoryOut, WriteOut};
+use gtfs_table::{MemoryFolders, WriteOut};
 use std::alloc::Global;
 use std::io;
 use std::io::{Error, ErrorKind, Write};
@@ -21,13 +23,9 @@ fn assert_cut(
     text: &str,
 ) -> Result<(), Fail> {
     for room in 0..text.len() {
-        let mut out = MemoryOut::new(alloc, room)?;
-        let mut err = MemoryOut::new(alloc, ROOM)?;
-        let status = run(alloc, fixed()?, words, folders, &mut out, &mut err);
-        let taken = text.as_bytes().get(..room).ok_or("past the end")?;
-        assert_eq!(rt; out.bytes(), taken);
-        assert_eq!(rt; str::from_utf8(err.bytes())?, "gtfs: output failed\n");
-        assert_eq!(rt; status, 3);
+        let ended = Ended::of(alloc, fixed()?, folders, words, (room, ROOM))?;
+        let wanted = (3, start_of(text, room)?, OUTPUT_FAILED);
+        assert_case(rt, ended.seen()?, wanted, "end", room);
     }
     Ok(())
 }
@@ -91,20 +89,12 @@ fn a_timetable_may_be_cut_at_each_byte(rt: HostRuntime) -> Result<(), Fail> {
 #[test]
 fn help_may_be_cut(rt: HostRuntime) -> Result<(), Fail> {
     let mut folders = folders(rt.alloc())?;
-    let mut out = MemoryOut::new(rt.alloc(), 4)?;
-    let mut err = MemoryOut::new(rt.alloc(), ROOM)?;
+    let rooms = (4, ROOM);
     let words = ["gtfs", "--help"];
-    let status = run(
-        rt.alloc(),
-        fixed()?,
-        &words,
-        &mut folders,
-        &mut out,
-        &mut err,
-    );
-    assert_eq!(&rt; out.bytes().len(), 4);
-    assert_eq!(&rt; str::from_utf8(err.bytes())?, "gtfs: output failed\n");
-    assert_eq!(&rt; status, 3);
+    let ended = Ended::of(rt.alloc(), fixed()?, &mut folders, &words, rooms)?;
+    let (status, printed, told) = ended.seen()?;
+    let found = (status, printed.len(), told);
+    assert_is(&rt, found, (3, 4, OUTPUT_FAILED), "end of help");
     Ok(())
 }
 
@@ -156,21 +146,31 @@ fn outputs_may_take_a_byte_a_call(rt: HostRuntime) -> Result<(), Fail> {
         (MERGE.as_slice(), (0, JOINED, "")),
         (refused.as_slice(), (1, "", "gtfs: unknown stop\n")),
     ];
-    for (words, (status, printed, told)) in cases {
-        let mut out = Vec::new(rt.alloc());
-        let mut err = Vec::new(rt.alloc());
-        let ended = run(
-            rt.alloc(),
-            fixed()?,
-            words,
-            &mut folders,
-            &mut trickling(&mut out),
-            &mut trickling(&mut err),
-        );
-        assert_eq!(&rt; str::from_utf8(&out)?, printed);
-        assert_eq!(&rt; str::from_utf8(&err)?, told);
-        assert_eq!(&rt; ended, status);
+    for (words, wanted) in cases {
+        assert_trickles(&rt, rt.alloc(), &mut folders, words, wanted)?;
     }
+    Ok(())
+}
+
+fn assert_trickles(
+    rt: &impl Abort,
+    alloc: Global,
+    folders: &mut MemoryFolders,
+    words: &[&str],
+    wanted: (u8, &str, &str),
+) -> Result<(), Fail> {
+    let mut out = Vec::new(alloc);
+    let mut err = Vec::new(alloc);
+    let status = run(
+        alloc,
+        fixed()?,
+        words,
+        folders,
+        &mut trickling(&mut out),
+        &mut trickling(&mut err),
+    );
+    let ended = (status, str::from_utf8(&out)?, str::from_utf8(&err)?);
+    assert_case(rt, ended, wanted, "end", words);
     Ok(())
 }
 
@@ -183,13 +183,9 @@ fn assert_told(
     (status, line): (u8, &str),
 ) -> Result<(), Fail> {
     for room in 0..line.len() {
-        let mut out = MemoryOut::new(alloc, ROOM)?;
-        let mut err = MemoryOut::new(alloc, room)?;
-        let ended = run(alloc, fixed()?, words, folders, &mut out, &mut err);
-        let taken = line.as_bytes().get(..room).ok_or("past the end")?;
-        assert_eq!(rt; err.bytes(), taken);
-        assert!(rt; out.bytes().is_empty());
-        assert_eq!(rt; ended, status);
+        let ended = Ended::of(alloc, fixed()?, folders, words, (ROOM, room))?;
+        let wanted = (status, "", start_of(line, room)?);
+        assert_case(rt, ended.seen()?, wanted, "end", room);
     }
     Ok(())
 }
@@ -219,13 +215,11 @@ fn assert_no_command(
     words: &[&str],
 ) -> Result<(), Fail> {
     for room in [0, ROOM] {
-        let mut out = MemoryOut::new(alloc, ROOM)?;
-        let mut err = MemoryOut::new(alloc, room)?;
-        let status = run(alloc, fixed()?, words, folders, &mut out, &mut err);
-        let told = str::from_utf8(err.bytes())?;
-        assert!(rt; told.contains("requires a subcommand") == (room > 0));
-        assert!(rt; out.bytes().is_empty());
-        assert_eq!(rt; status, 2);
+        let ended = Ended::of(alloc, fixed()?, folders, words, (ROOM, room))?;
+        let (status, printed, told) = ended.seen()?;
+        let is_told = told.contains("requires a subcommand");
+        let found = (status, printed, is_told);
+        assert_case(rt, found, (2, "", room > 0), "end", room);
     }
     Ok(())
 }

@@ -1,5 +1,6 @@
 //! Feeds that are written, read and checked again, and feeds of two random states.
 
+use crate::assertions::{assert_holds, assert_is};
 use crate::full::FULL;
 use gtfs_feed::Feed;
 use gtfs_fixtures::{FileText, feed_with, folders_of, read_feed};
@@ -19,9 +20,21 @@ pub(crate) fn assert_same(
     other: &Feed,
 ) -> Result<(), Fail> {
     for file in File::ALL {
-        let text = feed.file_text(alloc, file)?;
-        assert_eq!(rt; text.as_str(), other.file_text(alloc, file)?.as_str());
+        assert_same_file(rt, alloc, feed, other, file)?;
     }
+    Ok(())
+}
+
+fn assert_same_file(
+    rt: &impl Abort,
+    alloc: Global,
+    feed: &Feed,
+    other: &Feed,
+    file: File,
+) -> Result<(), Fail> {
+    let text = feed.file_text(alloc, file)?;
+    let other = other.file_text(alloc, file)?;
+    assert_is(rt, text.as_str(), other.as_str(), file.name());
     Ok(())
 }
 
@@ -33,15 +46,27 @@ pub(crate) fn write_tables(
     folders: &mut MemoryFolders,
 ) -> Result<(), Fail> {
     let tables = feed.to_tables(alloc)?;
-    assert!(rt; tables.others().is_empty());
+    assert_holds(rt, tables.others().is_empty(), "no other file");
     for file in File::ALL {
-        let Some(bytes) = tables.write(alloc, file)? else {
-            panic!(rt; "{} is missing", file.name());
-        };
-        let text = feed.file_text(alloc, file)?;
-        assert!(rt; bytes.as_slice() == text.as_bytes(), "{}", file.name());
-        folders.write(alloc, "again", file.name(), bytes.as_slice())?;
+        write_table(rt, alloc, feed, &tables, file, folders)?;
     }
+    Ok(())
+}
+
+fn write_table(
+    rt: &impl Abort,
+    alloc: Global,
+    feed: &Feed,
+    tables: &Tables,
+    file: File,
+    folders: &mut MemoryFolders,
+) -> Result<(), Fail> {
+    let Some(bytes) = tables.write(alloc, file)? else {
+        panic!(rt; "{} is missing", file.name());
+    };
+    let text = feed.file_text(alloc, file)?;
+    assert_holds(rt, bytes.as_slice() == text.as_bytes(), file.name());
+    folders.write(alloc, "again", file.name(), bytes.as_slice())?;
     Ok(())
 }
 
@@ -76,7 +101,8 @@ fn the_written_form_has_no_problem(rt: HostRuntime) -> Result<(), Fail> {
     let feed = feed_with(&rt, rt.alloc(), &[])?;
     let mut folders = MemoryFolders::new(rt.alloc(), 10_000, None);
     write_tables(&rt, rt.alloc(), &feed, &mut folders)?;
-    assert_eq!(rt; problems(rt.alloc(), &mut folders, "again")?, (0, true));
+    let found = problems(rt.alloc(), &mut folders, "again")?;
+    assert_is(&rt, found, (0, true), "problems");
     Ok(())
 }
 
@@ -86,7 +112,8 @@ fn periods_that_overlap_do_not_pass(rt: HostRuntime) -> Result<(), Fail> {
     let frequencies = "trip_id,start_time,end_time,headway_secs,exact_times\n\
 T1,06:00:00,07:00:00,1800,0\nT1,06:30:00,08:00:00,1800,1\n";
     let mut folders = folders_of(rt.alloc(), &[("frequencies.txt", frequencies)])?;
-    assert_eq!(rt; problems(rt.alloc(), &mut folders, "f1")?, (1, false));
+    let found = problems(rt.alloc(), &mut folders, "f1")?;
+    assert_is(&rt, found, (1, false), "problems");
     Ok(())
 }
 

@@ -1,5 +1,6 @@
 //! What passes a stop: each case is a change to the small dataset, with the events that it has at one stop.
 
+use crate::assertions::assert_is;
 use crate::full::FULL;
 use crate::lanes::{Wanted, assert_lanes};
 use crate::named::{service_id, stop_named, trip_id};
@@ -408,14 +409,18 @@ fn assert_cases<R: Abort + RandomSource>(
 ) -> Result<(), Fail> {
     for case in cases {
         let feed = feed_with(rt, alloc, case.files)?;
-        let stop = stop_named(rt, &feed, case.stop);
-        let events = flat_events(alloc, &feed, stop)?;
-        let text = shown(alloc, &feed, &events)?;
-        assert_eq!(rt; text.as_str(), case.events, "{}", case.what);
-        assert_lanes(rt, alloc, &feed, stop, case.lanes, case.what)?;
-        assert_unions(rt, alloc, &feed)?;
+        assert_case(rt, alloc, &feed, case)?;
     }
     Ok(())
+}
+
+fn assert_case(rt: &impl Abort, alloc: Global, feed: &Feed, case: &Case) -> Result<(), Fail> {
+    let stop = stop_named(rt, feed, case.stop);
+    let events = flat_events(alloc, feed, stop)?;
+    let text = shown(alloc, feed, &events)?;
+    assert_is(rt, text.as_str(), case.events, case.what);
+    assert_lanes(rt, alloc, feed, stop, case.lanes, case.what)?;
+    assert_unions(rt, alloc, feed)
 }
 
 #[test]
@@ -465,12 +470,17 @@ fn a_run_each_second_of_a_day_is_one_lane(rt: HostRuntime) -> Result<(), Fail> {
     let frequencies =
         "trip_id,start_time,end_time,headway_secs,exact_times\nT1,00:00:00,24:00:00,1,1\n";
     let feed = feed_with(&rt, rt.alloc(), &[("frequencies.txt", frequencies)])?;
-    let stop = stop_named(&rt, &feed, "S1");
-    assert_eq!(rt; flat_events(rt.alloc(), &feed, stop)?.len(), 86_400);
+    assert_each_second(&rt, rt.alloc(), &feed)
+}
+
+fn assert_each_second(rt: &impl Abort, alloc: Global, feed: &Feed) -> Result<(), Fail> {
+    let stop = stop_named(rt, feed, "S1");
+    let events = flat_events(alloc, feed, stop)?;
+    assert_is(rt, events.len(), 86_400, "events");
     let wanted = Wanted {
         lists: 0,
         periods: 1,
         greatest: 86_399,
     };
-    assert_lanes(&rt, rt.alloc(), &feed, stop, wanted, "each second")
+    assert_lanes(rt, alloc, feed, stop, wanted, "each second")
 }

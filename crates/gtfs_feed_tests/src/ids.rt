@@ -1,5 +1,6 @@
 //! Numbers of ids: by their bytes, whatever the order of the rows.
 
+use crate::assertions::assert_is;
 use crate::named::{service_id, stop_id, trip_id};
 use gtfs_feed::Feed;
 use gtfs_fixtures::{FileText, feed_with};
@@ -43,13 +44,13 @@ C2,1,1,1,1,1,1,1,20240401,20240401\nC10,1,1,1,1,1,1,1,20240401,20240401\nC1,1,1,
 #[test]
 fn stops_are_numbered_by_bytes(rt: HostRuntime) -> Result<(), Fail> {
     let feed = feed_with(&rt, rt.alloc(), &FILES)?;
-    assert_eq!(rt; feed.stop_count(), 4);
+    assert_is(&rt, feed.stop_count(), 4, "stops");
     for (number, id) in ["S10", "S2", "s1", "\u{e9}"].into_iter().enumerate() {
-        assert_eq!(rt; feed.stop(id), Some(StopNo(number)), "{id}");
-        assert_eq!(rt; stop_id(&feed, StopNo(number)), id);
+        assert_is(&rt, feed.stop(id), Some(StopNo(number)), id);
+        assert_is(&rt, stop_id(&feed, StopNo(number)), id, number);
     }
     for id in ["", "S1", "S", "s10", "S2 "] {
-        assert_eq!(rt; feed.stop(id), None, "{id}");
+        assert_is(&rt, feed.stop(id), None, id);
     }
     Ok(())
 }
@@ -57,24 +58,24 @@ fn stops_are_numbered_by_bytes(rt: HostRuntime) -> Result<(), Fail> {
 #[test]
 fn trips_are_numbered_by_bytes(rt: HostRuntime) -> Result<(), Fail> {
     let feed = feed_with(&rt, rt.alloc(), &FILES)?;
-    assert_eq!(rt; feed.trip_count(), 3);
+    assert_is(&rt, feed.trip_count(), 3, "trips");
     for (number, id) in ["T", "T10", "T2"].into_iter().enumerate() {
-        assert_eq!(rt; feed.trip(id), Some(TripNo(number)), "{id}");
-        assert_eq!(rt; trip_id(&feed, TripNo(number)), id);
+        assert_is(&rt, feed.trip(id), Some(TripNo(number)), id);
+        assert_is(&rt, trip_id(&feed, TripNo(number)), id, number);
     }
-    assert_eq!(rt; feed.trip("T1"), None);
+    assert_is(&rt, feed.trip("T1"), None, "no such trip");
     Ok(())
 }
 
 #[test]
 fn services_are_numbered_by_bytes(rt: HostRuntime) -> Result<(), Fail> {
     let feed = feed_with(&rt, rt.alloc(), &FILES)?;
-    assert_eq!(rt; feed.service_count(), 3);
+    assert_is(&rt, feed.service_count(), 3, "services");
     for (number, id) in ["C1", "C10", "C2"].into_iter().enumerate() {
-        assert_eq!(rt; feed.service(id), Some(ServiceNo(number)), "{id}");
-        assert_eq!(rt; service_id(&feed, ServiceNo(number)), id);
+        assert_is(&rt, feed.service(id), Some(ServiceNo(number)), id);
+        assert_is(&rt, service_id(&feed, ServiceNo(number)), id, number);
     }
-    assert_eq!(rt; feed.service("C"), None);
+    assert_is(&rt, feed.service("C"), None, "no such service");
     Ok(())
 }
 
@@ -90,12 +91,12 @@ fn agency_id(feed: &Feed, agency: AgencyNo) -> &str {
 #[test]
 fn agencies_are_numbered_by_bytes(rt: HostRuntime) -> Result<(), Fail> {
     let feed = feed_with(&rt, rt.alloc(), &FILES)?;
-    assert_eq!(rt; feed.agency_count(), 3);
+    assert_is(&rt, feed.agency_count(), 3, "agencies");
     for (number, id) in ["A", "B", "a"].into_iter().enumerate() {
-        assert_eq!(rt; feed.agency(id), Some(AgencyNo(number)), "{id}");
-        assert_eq!(rt; agency_id(&feed, AgencyNo(number)), id);
+        assert_is(&rt, feed.agency(id), Some(AgencyNo(number)), id);
+        assert_is(&rt, agency_id(&feed, AgencyNo(number)), id, number);
     }
-    assert_eq!(rt; feed.agency(""), None);
+    assert_is(&rt, feed.agency(""), None, "no such agency");
     Ok(())
 }
 
@@ -121,13 +122,13 @@ fn agency_of(feed: &Feed, route: RouteNo) -> &str {
 #[test]
 fn routes_are_numbered_by_bytes(rt: HostRuntime) -> Result<(), Fail> {
     let feed = feed_with(&rt, rt.alloc(), &FILES)?;
-    assert_eq!(rt; feed.route_count(), 3);
+    assert_is(&rt, feed.route_count(), 3, "routes");
     for (number, id) in ["R1", "R10", "R2"].into_iter().enumerate() {
-        assert_eq!(rt; feed.route(id), Some(RouteNo(number)), "{id}");
-        assert_eq!(rt; route_id(&feed, RouteNo(number)), id);
+        assert_is(&rt, feed.route(id), Some(RouteNo(number)), id);
+        assert_is(&rt, route_id(&feed, RouteNo(number)), id, number);
     }
     for (number, id) in ["B", "a", "A"].into_iter().enumerate() {
-        assert_eq!(rt; agency_of(&feed, RouteNo(number)), id);
+        assert_is(&rt, agency_of(&feed, RouteNo(number)), id, number);
     }
     Ok(())
 }

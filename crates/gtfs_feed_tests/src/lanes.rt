@@ -1,5 +1,6 @@
 //! The lanes of a stop, walked from their beginnings, beside the plain list of its events.
 
+use crate::assertions::{assert_holds, assert_is};
 use gtfs_feed::Feed;
 use gtfs_field::OutOfMemory;
 use gtfs_rows::{ServiceNo, StopNo, TripNo};
@@ -63,11 +64,10 @@ fn walk<L: Lane>(
         events.push((lane.service(), event))?;
         found = lane.next(feed, &event, steps);
         let seq = i64::from(event.seq);
-        assert_eq!(rt; lane.first_after(feed, &seek_at(&event, seq), steps), found);
-        assert_eq!(rt;
-            lane.first_after(feed, &seek_at(&event, seq - 1), steps),
-            Some(event)
-        );
+        let next = lane.first_after(feed, &seek_at(&event, seq), steps);
+        assert_is(rt, next, found, "the next event");
+        let same = lane.first_after(feed, &seek_at(&event, seq - 1), steps);
+        assert_is(rt, same, Some(event), "the same event");
     }
     Ok(())
 }
@@ -107,14 +107,14 @@ pub(crate) fn assert_lanes(
         periods: lanes.periods().len(),
         greatest: lanes.greatest(),
     };
-    assert_eq!(rt; found, wanted, "{what}");
-    assert_eq!(rt; steps.count(), 0, "{what}");
+    assert_is(rt, found, wanted, what);
+    assert_is(rt, steps.count(), 0, what);
     let events = walk_all(rt, alloc, feed, &lanes, &mut steps)?;
-    assert!(rt; events == flat_events(alloc, feed, stop)?, "{what}");
+    assert_holds(rt, events == flat_events(alloc, feed, stop)?, what);
     let calls = events.len().saturating_mul(3);
     let calls = calls
         .saturating_add(wanted.lists)
         .saturating_add(wanted.periods);
-    assert_eq!(rt; steps.count(), calls as u64, "{what}");
+    assert_is(rt, steps.count(), calls as u64, what);
     Ok(())
 }

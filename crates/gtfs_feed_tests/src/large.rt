@@ -3,6 +3,7 @@
 //! `rt try` builds with checks that make this take most of an hour; built for the gate it takes seconds.
 
 use crate::again::{assert_same, write_tables};
+use crate::assertions::assert_is;
 use crate::lanes::{Wanted, assert_lanes};
 use crate::named::stop_named;
 use gtfs_feed::Feed;
@@ -123,13 +124,18 @@ fn assert_whole(rt: &impl Abort, feed: &Feed) {
         feed.transfers().len(),
         feed.parts().headsigns.len(),
     ];
-    assert_eq!(rt; counts, [70_000; 6]);
-    assert_eq!(rt; feed.trip_count(), 210_000);
-    assert_eq!(rt; feed.agency("A169999"), Some(AgencyNo(69_999)));
-    assert_eq!(rt; feed.stop("S169999"), Some(StopNo(69_999)));
-    assert_eq!(rt; feed.route("R169999"), Some(RouteNo(69_999)));
-    assert_eq!(rt; feed.service("C169999"), Some(ServiceNo(69_999)));
-    assert_eq!(rt; feed.trip("V169999"), Some(TripNo(209_999)));
+    assert_is(rt, counts, [70_000; 6], "rows");
+    assert_is(rt, feed.trip_count(), 210_000, "trips");
+    assert_is(rt, feed.agency("A169999"), Some(AgencyNo(69_999)), "agency");
+    assert_is(rt, feed.stop("S169999"), Some(StopNo(69_999)), "stop");
+    assert_is(rt, feed.route("R169999"), Some(RouteNo(69_999)), "route");
+    assert_is(
+        rt,
+        feed.service("C169999"),
+        Some(ServiceNo(69_999)),
+        "service",
+    );
+    assert_is(rt, feed.trip("V169999"), Some(TripNo(209_999)), "trip");
 }
 
 // The headsigns have the same numbers in both feeds.
@@ -137,7 +143,7 @@ fn assert_same_headsigns(rt: &impl Abort, feed: &Feed, other: &Feed) {
     let headsigns = feed.parts().headsigns.as_slice();
     let others = other.parts().headsigns.as_slice();
     for (headsign, other) in headsigns.iter().zip(others) {
-        assert_eq!(rt; headsign.as_str(), other.as_str());
+        assert_is(rt, headsign.as_str(), other.as_str(), "headsigns");
     }
 }
 
@@ -153,8 +159,14 @@ fn assert_reads_back<R: Abort + RandomSource>(
     assert_whole(rt, &other);
     assert_same(rt, alloc, feed, &other)?;
     assert_same_headsigns(rt, feed, &other);
-    assert!(rt; feed.has_longer_file(alloc, 10_000_000)?);
-    assert!(rt; !feed.has_longer_file(alloc, 100_000_000)?);
+    assert_longer(rt, alloc, feed)
+}
+
+// A file of a feed is longer than 10,000,000 bytes, and none longer than 100,000,000.
+fn assert_longer(rt: &impl Abort, alloc: Global, feed: &Feed) -> Result<(), Fail> {
+    for (limit, is_passed) in [(10_000_000, true), (100_000_000, false)] {
+        assert_is(rt, feed.has_longer_file(alloc, limit)?, is_passed, limit);
+    }
     Ok(())
 }
 
@@ -207,7 +219,7 @@ fn assert_case(rt: &impl Abort, alloc: Global, feed: &Feed, case: &Case) -> Resu
         panic!(rt; "no route {}", case.route);
     };
     let found = patterns(alloc, feed, route)?;
-    assert_eq!(rt; found.len(), case.patterns, "{}", case.route);
+    assert_is(rt, found.len(), case.patterns, case.route);
     Ok(())
 }
 
@@ -224,7 +236,12 @@ fn assert_next(
 ) {
     for pair in events.windows(2) {
         if let [(_, event), (_, after)] = pair {
-            assert_eq!(rt; lane.next(feed, event, steps), Some(*after));
+            assert_is(
+                rt,
+                lane.next(feed, event, steps),
+                Some(*after),
+                "the next event",
+            );
         }
     }
 }
@@ -240,7 +257,7 @@ fn assert_searched(rt: &impl Abort, alloc: Global, feed: &Feed) -> Result<(), Fa
     for _ in 0..ROUNDS {
         assert_next(rt, feed, lane, &mut steps, events.as_slice());
     }
-    assert_eq!(rt; steps.count(), 1_399_980);
+    assert_is(rt, steps.count(), 1_399_980, "steps");
     Ok(())
 }
 

@@ -2,7 +2,7 @@
 //! `gtfs_rows`), in a crate of their own: a crate with tests is proved twice, with them and without. They call public
 //! functions alone.
 //!
-//! - `named` has the numbers of ids and the ids of numbers.
+//! - `assertions` has assertions as calls, and `named` the numbers of ids and the ids of numbers.
 //! - `full` is one with a value in every column, in texts and orders other than those that are written.
 //! - `ids` has the numbers of ids, `orders` rows in every order, and `rows` what the rows of a feed say.
 //! - `written` has the written form of feeds, and `again` feeds that are written and read again.
@@ -14,6 +14,8 @@
 
 #[cfg(test)]
 mod again;
+#[cfg(test)]
+mod assertions;
 #[cfg(test)]
 mod events;
 #[cfg(test)]

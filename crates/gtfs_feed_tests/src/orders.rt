@@ -1,5 +1,6 @@
 //! Rows in every order: a feed does not depend on it.
 
+use crate::assertions::assert_is;
 use gtfs_feed::Feed;
 use gtfs_field::OutOfMemory;
 use gtfs_fixtures::read_feed;
@@ -132,16 +133,29 @@ fn feed_of<R: Abort + RandomSource>(
 #[test]
 fn a_feed_does_not_depend_on_the_order_of_rows(rt: HostRuntime) -> Result<(), Fail> {
     let feed = feed_of(&rt, rt.alloc(), "", [0, 1, 2])?;
-    assert_eq!(rt; feed.transfers().len(), 3);
+    assert_is(&rt, feed.transfers().len(), 3, "transfers");
     for rows in FILES {
         for order in ORDERS {
             let other = feed_of(&rt, rt.alloc(), rows.name, order)?;
-            for file in File::ALL {
-                let text = feed.file_text(rt.alloc(), file)?;
-                let found = other.file_text(rt.alloc(), file)?;
-                assert_eq!(rt; found.as_str(), text.as_str(), "{} {order:?}", rows.name);
-            }
+            assert_same(&rt, rt.alloc(), &feed, &other, (rows.name, order))?;
         }
+    }
+    Ok(())
+}
+
+// Each file of the feed with the rows of a file in an order is that of the first feed.
+fn assert_same(
+    rt: &impl Abort,
+    alloc: Global,
+    feed: &Feed,
+    other: &Feed,
+    (changed, order): (&str, [usize; 3]),
+) -> Result<(), Fail> {
+    for file in File::ALL {
+        let text = feed.file_text(alloc, file)?;
+        let found = other.file_text(alloc, file)?;
+        let what = format_args!("{changed} {order:?}");
+        assert_is(rt, found.as_str(), text.as_str(), what);
     }
     Ok(())
 }
@@ -151,12 +165,14 @@ fn a_feed_does_not_depend_on_the_order_of_rows(rt: HostRuntime) -> Result<(), Fa
 fn rows_are_written_by_their_keys(rt: HostRuntime) -> Result<(), Fail> {
     let feed = feed_of(&rt, rt.alloc(), "stop_times.txt", [2, 1, 0])?;
     let text = feed.file_text(rt.alloc(), File::StopTimes)?;
-    assert_eq!(rt;
+    assert_is(
+        &rt,
         text.as_str(),
         "trip_id,arrival_time,departure_time,stop_id,stop_sequence,stop_headsign,pickup_type,drop_off_type,timepoint\n\
 T,10:00:00,10:00:00,S10,4,Pond,0,0,\nT,10:10:00,10:10:00,s1,5,Lake,0,0,\n\
 T10,09:00:00,09:00:00,s1,1,Mill,0,0,\nT10,09:10:00,09:10:00,S10,3,,0,0,\n\
-T2,08:00:00,08:00:00,s1,1,Lake,0,0,\nT2,08:10:00,08:10:00,S2,2,,0,0,\n"
+T2,08:00:00,08:00:00,s1,1,Lake,0,0,\nT2,08:10:00,08:10:00,S2,2,,0,0,\n",
+        "stop times",
     );
     Ok(())
 }

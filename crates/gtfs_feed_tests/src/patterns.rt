@@ -1,11 +1,13 @@
 //! The patterns of a route, beside those that a slow plain search finds.
 
+use crate::assertions::assert_is;
 use crate::named::{stop_id, trip_id};
 use gtfs_feed::Feed;
 use gtfs_fixtures::{FileText, feed_with};
 use gtfs_rows::{RouteNo, TripNo};
 use gtfs_runs::{Pattern, patterns};
 use std::alloc::Global;
+use std::process::Abort;
 use std::test::Fail;
 
 /// Trips of every direction, among them two whose stops begin those of another, one without stop times, and one of
@@ -161,13 +163,24 @@ fn shown(alloc: Global, feed: &Feed, route: RouteNo) -> Result<String, Fail> {
 fn patterns_are_those_of_a_slow_search(rt: HostRuntime) -> Result<(), Fail> {
     let feed = feed_with(&rt, rt.alloc(), &FILES)?;
     for wanted in WANTED {
-        let Some(route) = feed.route(wanted.route) else {
-            panic!(rt; "no route {}", wanted.route);
-        };
-        let slow = slowly(rt.alloc(), &feed, route)?;
-        assert_eq!(rt; slow.as_str(), wanted.patterns, "slowly, {}", wanted.route);
-        let found = shown(rt.alloc(), &feed, route)?;
-        assert_eq!(rt; found.as_str(), wanted.patterns, "{}", wanted.route);
+        assert_patterns(&rt, rt.alloc(), &feed, wanted)?;
     }
+    Ok(())
+}
+
+fn assert_patterns(
+    rt: &impl Abort,
+    alloc: Global,
+    feed: &Feed,
+    wanted: &Wanted,
+) -> Result<(), Fail> {
+    let Some(route) = feed.route(wanted.route) else {
+        panic!(rt; "no route {}", wanted.route);
+    };
+    let slow = slowly(alloc, feed, route)?;
+    let what = format_args!("slowly, {}", wanted.route);
+    assert_is(rt, slow.as_str(), wanted.patterns, what);
+    let found = shown(alloc, feed, route)?;
+    assert_is(rt, found.as_str(), wanted.patterns, wanted.route);
     Ok(())
 }

@@ -1,5 +1,6 @@
 //! What the rows of a feed say.
 
+use crate::assertions::{assert_count, assert_holds, assert_is};
 use crate::full::FULL;
 use crate::named::stop_id;
 use gtfs_days::Exception;
@@ -53,29 +54,30 @@ fn shown(alloc: Global, feed: &Feed, rows: &[StopRow]) -> Result<String, Fail> {
 #[test]
 fn stop_times_stand_by_sequence(rt: HostRuntime) -> Result<(), Fail> {
     let feed = feed_with(&rt, rt.alloc(), &FULL)?;
-    assert_eq!(rt; feed.trip_count(), 2);
+    assert_count(&rt, feed.trip_count(), 2, "trips");
     let first =
         "1 S2 None Some(360000) Mill Regular Regular None\n2 S2 None None  Regular Regular None\n\
 3 S2 Some(360600) Some(360600)  Regular Regular None\n";
     let second = "9 S2 Some(25200) Some(25500) Lake Driver Regular Some(Approximate)\n\
 10 S2 Some(25500) Some(29400) Mill None Phone Some(Exact)\n";
     let text = shown(rt.alloc(), &feed, feed.trip_rows(TripNo(0)))?;
-    assert_eq!(rt; text.as_str(), first);
+    assert_is(&rt, text.as_str(), first, "the first trip");
     let text = shown(rt.alloc(), &feed, feed.trip_rows(TripNo(1)))?;
-    assert_eq!(rt; text.as_str(), second);
+    assert_is(&rt, text.as_str(), second, "the second trip");
     Ok(())
 }
 
 #[test]
 fn a_stop_time_has_32_bytes(rt: HostRuntime) {
-    assert_eq!(rt; size_of::<StopRow>(), 32);
+    assert_is(&rt, size_of::<StopRow>(), 32, "bytes");
 }
 
 #[test]
 fn frequencies_stand_by_start(rt: HostRuntime) -> Result<(), Fail> {
     let feed = feed_with(&rt, rt.alloc(), &FULL)?;
-    assert_eq!(rt; feed.trip_count(), 2);
-    assert!(rt; feed.trip_frequencies(TripNo(0)).is_empty());
+    assert_count(&rt, feed.trip_count(), 2, "trips");
+    let first = feed.trip_frequencies(TripNo(0));
+    assert_holds(&rt, first.is_empty(), "none of the first trip");
     let wanted = [
         Frequency {
             start_time: Clock::from_seconds(21_600),
@@ -90,7 +92,8 @@ fn frequencies_stand_by_start(rt: HostRuntime) -> Result<(), Fail> {
             exact_times: ExactTimes::Schedule,
         },
     ];
-    assert!(rt; feed.trip_frequencies(TripNo(1)) == wanted.as_slice());
+    let second = feed.trip_frequencies(TripNo(1));
+    assert_holds(&rt, second == wanted.as_slice(), "those of the second trip");
     Ok(())
 }
 
@@ -98,38 +101,53 @@ fn frequencies_stand_by_start(rt: HostRuntime) -> Result<(), Fail> {
 #[test]
 fn a_service_may_have_days_alone(rt: HostRuntime) -> Result<(), Fail> {
     let feed = feed_with(&rt, rt.alloc(), &FULL)?;
-    assert_eq!(rt; feed.service_count(), 2);
-    assert_eq!(rt; feed.service_id(ServiceNo(1)), "D1");
+    assert_count(&rt, feed.service_count(), 2, "services");
+    assert_is(
+        &rt,
+        feed.service_id(ServiceNo(1)),
+        "D1",
+        "the second service",
+    );
     let service = feed.service_by_number(ServiceNo(1));
-    assert!(rt; service.week().is_none());
+    assert_holds(&rt, service.week().is_none(), "no week");
     let exceptions = [
         (Day::from_number(19_844), Exception::Added),
         (Day::from_number(19_845), Exception::Removed),
     ];
-    assert!(rt; service.exceptions() == exceptions.as_slice());
-    assert!(rt; feed.service_by_number(ServiceNo(0)).week().is_some());
+    let found = service.exceptions();
+    assert_holds(&rt, found == exceptions.as_slice(), "exceptions");
+    let first = feed.service_by_number(ServiceNo(0));
+    assert_holds(&rt, first.week().is_some(), "a week of the first service");
     Ok(())
 }
 
 #[test]
 fn a_stop_has_its_values(rt: HostRuntime) -> Result<(), Fail> {
     let feed = feed_with(&rt, rt.alloc(), &FULL)?;
-    assert_eq!(rt; feed.stop_count(), 3);
+    assert_count(&rt, feed.stop_count(), 3, "stops");
     let stop = feed.stop_by_number(StopNo(1));
     let Some(name) = &stop.stop_name else {
         panic!(rt; "no name");
     };
-    assert_eq!(rt; name.as_str(), "Mi ll");
-    assert_eq!(rt;
-        stop.stop_lat.map(|latitude| latitude.nanodegrees()),
-        Some(-52_500_000_000)
-    );
-    assert_eq!(rt; stop.location_type, LocationType::Stop);
-    assert_eq!(rt; stop.parent_station, Some(StopNo(0)));
+    assert_is(&rt, name.as_str(), "Mi ll", "the name");
+    let latitude = stop.stop_lat.map(|latitude| latitude.nanodegrees());
+    assert_is(&rt, latitude, Some(-52_500_000_000), "the latitude");
+    assert_is(&rt, stop.location_type, LocationType::Stop, "the type");
+    assert_is(&rt, stop.parent_station, Some(StopNo(0)), "the parent");
     let station = feed.stop_by_number(StopNo(0));
-    assert_eq!(rt; station.location_type, LocationType::Station);
-    assert_eq!(rt; station.parent_station, None);
-    assert!(rt; station.stop_code.is_none());
+    assert_is(
+        &rt,
+        station.location_type,
+        LocationType::Station,
+        "the station",
+    );
+    assert_is(
+        &rt,
+        station.parent_station,
+        None,
+        "the parent of the station",
+    );
+    assert_holds(&rt, station.stop_code.is_none(), "no code of the station");
     Ok(())
 }
 
@@ -137,14 +155,19 @@ fn a_stop_has_its_values(rt: HostRuntime) -> Result<(), Fail> {
 #[test]
 fn a_route_has_its_values(rt: HostRuntime) -> Result<(), Fail> {
     let feed = feed_with(&rt, rt.alloc(), &FULL)?;
-    assert_eq!(rt; feed.route_count(), 1);
+    assert_count(&rt, feed.route_count(), 1, "routes");
     let route = feed.route_by_number(RouteNo(0));
-    assert_eq!(rt; feed.agency("A1"), Some(route.agency_id));
-    assert_eq!(rt; route.route_type.number(), 700);
-    assert_eq!(rt; route.route_color.bits(), 0x00_FF7F);
-    assert_eq!(rt; route.route_text_color.bits(), 0);
-    assert_eq!(rt; route.route_sort_order, Some(7));
-    assert!(rt; route.route_short_name.is_none());
+    assert_is(&rt, feed.agency("A1"), Some(route.agency_id), "the agency");
+    assert_is(&rt, route.route_type.number(), 700, "the type");
+    assert_is(&rt, route.route_color.bits(), 0x00_FF7F, "the colour");
+    assert_is(
+        &rt,
+        route.route_text_color.bits(),
+        0,
+        "the colour of the text",
+    );
+    assert_is(&rt, route.route_sort_order, Some(7), "the sort order");
+    assert_holds(&rt, route.route_short_name.is_none(), "no short name");
     Ok(())
 }
 
@@ -154,14 +177,19 @@ fn transfers_stand_by_their_keys(rt: HostRuntime) -> Result<(), Fail> {
     let [stay, between, within] = feed.transfers() else {
         panic!(rt; "{} transfers", feed.transfers().len());
     };
-    assert_eq!(rt; stay.from_trip_id, Some(TripNo(0)));
-    assert_eq!(rt; stay.to_trip_id, Some(TripNo(1)));
-    assert_eq!(rt; stay.from_stop_id, None);
-    assert_eq!(rt; stay.transfer_type, TransferType::InSeat);
-    assert_eq!(rt; between.from_stop_id, Some(StopNo(0)));
-    assert_eq!(rt; between.transfer_type, TransferType::Recommended);
-    assert_eq!(rt; between.min_transfer_time, None);
-    assert_eq!(rt; within.from_stop_id, Some(StopNo(1)));
-    assert_eq!(rt; within.min_transfer_time, Some(120));
+    assert_is(&rt, stay.from_trip_id, Some(TripNo(0)), "from a trip");
+    assert_is(&rt, stay.to_trip_id, Some(TripNo(1)), "to a trip");
+    assert_is(&rt, stay.from_stop_id, None, "from no stop");
+    assert_is(&rt, stay.transfer_type, TransferType::InSeat, "stay");
+    assert_is(&rt, between.from_stop_id, Some(StopNo(0)), "between");
+    assert_is(
+        &rt,
+        between.transfer_type,
+        TransferType::Recommended,
+        "between",
+    );
+    assert_is(&rt, between.min_transfer_time, None, "no time between");
+    assert_is(&rt, within.from_stop_id, Some(StopNo(1)), "within");
+    assert_is(&rt, within.min_transfer_time, Some(120), "the time within");
     Ok(())
 }

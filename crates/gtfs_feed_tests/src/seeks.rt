@@ -1,5 +1,6 @@
 //! A lane that is asked from positions before, at, between and past its events.
 
+use crate::assertions::{assert_holds, assert_is};
 use crate::named::stop_named;
 use gtfs_feed::Feed;
 use gtfs_fixtures::feed_with;
@@ -27,7 +28,8 @@ fn assert_first<L: Lane>(
             seq: *seq,
         };
         let found = lane.first_after(feed, &seek, steps);
-        assert_eq!(rt; found.map(|event| event.at), *wanted, "{seek:?}");
+        let second = found.map(|event| event.at);
+        assert_is(rt, second, *wanted, format_args!("{seek:?}"));
     }
 }
 
@@ -84,7 +86,7 @@ T2,25:10:00,25:10:00,S1,1\nT2,25:20:00,25:20:00,S2,2\nT10,25:10:00,25:10:00,S1,1
         panic!(rt; "{} lists", lanes.lists().len());
     };
     assert_first(&rt, &feed, lane, &mut steps, OF_A_LIST);
-    assert_eq!(rt; steps.count(), OF_A_LIST.len() as u64);
+    assert_is(&rt, steps.count(), OF_A_LIST.len() as u64, "steps");
     Ok(())
 }
 
@@ -108,19 +110,15 @@ fn a_trip_of_3_599_999_runs_is_one_small_lane(rt: HostRuntime) -> Result<(), Fai
     let [lane] = lanes.periods() else {
         panic!(rt; "{} periods", lanes.periods().len());
     };
-    assert_eq!(rt; lanes.greatest(), 3_599_998);
-    assert!(rt; size_of::<StepLane>() <= 64);
+    assert_is(&rt, lanes.greatest(), 3_599_998, "the latest second");
+    assert_holds(&rt, size_of::<StepLane>() <= 64, "a small lane");
     for run in 2_599_998..3_599_998 {
         let found = lane.first_after(&feed, &seek_of_run(run), &mut steps);
-        assert_eq!(rt;
-            found.map(|event| (event.at, event.run)),
-            Some((run + 1, run + 1))
-        );
+        let second = found.map(|event| (event.at, event.run));
+        assert_is(&rt, second, Some((run + 1, run + 1)), run);
     }
-    assert_eq!(rt;
-        lane.first_after(&feed, &seek_of_run(3_599_998), &mut steps),
-        None
-    );
-    assert_eq!(rt; steps.count(), 1_000_001);
+    let found = lane.first_after(&feed, &seek_of_run(3_599_998), &mut steps);
+    assert_is(&rt, found, None, "after the last run");
+    assert_is(&rt, steps.count(), 1_000_001, "steps");
     Ok(())
 }

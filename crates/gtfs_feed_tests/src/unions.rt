@@ -1,6 +1,7 @@
 //! The lanes of a stop asked together, seek by seek, beside the plain list of its events.
 ghost use Rattle.std.specs.Prelude.{◌<◌, length};
 
+use crate::assertions::assert_is;
 use gtfs_feed::Feed;
 use gtfs_rows::{ServiceNo, StopNo, TripNo};
 use gtfs_runs::{Event, Lane, Seek, Steps, StopLanes, flat_events};
@@ -115,7 +116,8 @@ fn assert_union(rt: &impl Abort, alloc: Global, feed: &Feed, stop: StopNo) -> Re
                 let lists = least(feed, lanes.lists(), service, &seek, &mut steps);
                 let periods = least(feed, lanes.periods(), service, &seek, &mut steps);
                 let wanted = first_listed(&events, service, &seek);
-                assert_eq!(rt; lesser(lists, periods), wanted, "{seek:?}");
+                let found = lesser(lists, periods);
+                assert_is(rt, found, wanted, format_args!("{seek:?}"));
             }
         }
     }

@@ -1,5 +1,6 @@
 //! The written form: every kept column in its order, canonical values, and rows by their keys.
 
+use crate::assertions::assert_is;
 use crate::full::FULL;
 use gtfs_fixtures::{FileText, feed_with};
 use gtfs_table::File;
@@ -122,7 +123,7 @@ fn assert_written<R: Abort + RandomSource>(
     let feed = feed_with(rt, alloc, changes)?;
     for written in wanted {
         let text = feed.file_text(alloc, written.file)?;
-        assert_eq!(rt; text.as_str(), written.text);
+        assert_is(rt, text.as_str(), written.text, written.file.name());
     }
     Ok(())
 }
@@ -211,11 +212,8 @@ fn a_limit_of_the_longest_file_is_passed_by_one_byte_less(rt: HostRuntime) -> Re
         (LONGEST, false),
         (u64::MAX, false),
     ] {
-        assert_eq!(rt;
-            feed.has_longer_file(rt.alloc(), limit)?,
-            is_passed,
-            "{limit}"
-        );
+        let found = feed.has_longer_file(rt.alloc(), limit)?;
+        assert_is(&rt, found, is_passed, limit);
     }
     Ok(())
 }

@@ -1,4 +1,5 @@
 //! The lines of faults, which the program prints, and their numbers.
+use crate::assertions::{assert_is, assert_is_at};
 use gtfs_days::{CivilFault, ZoneFault};
 use gtfs_field::FieldFault;
 use gtfs_table::{Failed, FolderFault, OutFault};
@@ -16,8 +17,9 @@ const FOLDER_FAULTS: &[(FolderFault, u8, &str)] = &[
 #[test]
 fn faults_of_folders(rt: HostRuntime) -> Result<(), Fail> {
     for &(fault, number, line) in FOLDER_FAULTS {
-        assert_eq!(rt; fault as u8, number);
-        assert_eq!(rt; format!(in rt.alloc(); "{fault}")?.as_str(), line);
+        assert_is_at(&rt, fault as u8, number, "number of", fault);
+        let shown = format!(in rt.alloc(); "{fault}")?;
+        assert_is_at(&rt, shown.as_str(), line, "line of", fault);
     }
     Ok(())
 }
@@ -26,19 +28,22 @@ fn faults_of_folders(rt: HostRuntime) -> Result<(), Fail> {
 fn faults_of_outputs(rt: HostRuntime) -> Result<(), Fail> {
     let (failed, cut) = (Failed, OutFault { written: 12 });
     let lines = format!(in rt.alloc(); "{failed}; {cut}")?;
-    assert_eq!(rt;
-        lines.as_str(),
-        "output failed; output failed after 12 bytes"
-    );
+    let wanted = "output failed; output failed after 12 bytes";
+    assert_is(&rt, lines.as_str(), wanted, "lines");
     Ok(())
 }
 
 #[test]
 fn faults_of_fields(rt: HostRuntime) -> Result<(), Fail> {
     let lines = format!(in rt.alloc(); "{}; {}", FieldFault::Form, FieldFault::Range)?;
-    assert_eq!(rt; lines.as_str(), "not of this form; out of range");
-    assert_eq!(rt; FieldFault::Form as u8, 1);
-    assert_eq!(rt; FieldFault::Range as u8, 2);
+    assert_is(
+        &rt,
+        lines.as_str(),
+        "not of this form; out of range",
+        "lines",
+    );
+    assert_is(&rt, FieldFault::Form as u8, 1, "number of the first");
+    assert_is(&rt, FieldFault::Range as u8, 2, "number of the second");
     Ok(())
 }
 
@@ -46,9 +51,14 @@ fn faults_of_fields(rt: HostRuntime) -> Result<(), Fail> {
 fn faults_of_zones(rt: HostRuntime) -> Result<(), Fail> {
     let (unreadable, no_memory) = (ZoneFault::Unreadable, ZoneFault::OutOfMemory);
     let lines = format!(in rt.alloc(); "{unreadable}; {no_memory}")?;
-    assert_eq!(rt; lines.as_str(), "not a zone file; out of memory");
-    assert_eq!(rt; unreadable as u8, 1);
-    assert_eq!(rt; no_memory as u8, 2);
+    assert_is(
+        &rt,
+        lines.as_str(),
+        "not a zone file; out of memory",
+        "lines",
+    );
+    assert_is(&rt, unreadable as u8, 1, "number of the first");
+    assert_is(&rt, no_memory as u8, 2, "number of the second");
     Ok(())
 }
 
@@ -56,8 +66,13 @@ fn faults_of_zones(rt: HostRuntime) -> Result<(), Fail> {
 fn faults_of_clocks(rt: HostRuntime) -> Result<(), Fail> {
     let (out_of_range, no_memory) = (CivilFault::OutOfRange, CivilFault::OutOfMemory);
     let lines = format!(in rt.alloc(); "{out_of_range}; {no_memory}")?;
-    assert_eq!(rt; lines.as_str(), "instant out of range; out of memory");
-    assert_eq!(rt; out_of_range as u8, 1);
-    assert_eq!(rt; no_memory as u8, 2);
+    assert_is(
+        &rt,
+        lines.as_str(),
+        "instant out of range; out of memory",
+        "lines",
+    );
+    assert_is(&rt, out_of_range as u8, 1, "number of the first");
+    assert_is(&rt, no_memory as u8, 2, "number of the second");
     Ok(())
 }

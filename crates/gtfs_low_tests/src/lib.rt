@@ -10,11 +10,16 @@
 //!   take text.
 //! - `sizes` are outputs, files, folders and records that are larger than those.
 //! - `faults` are the lines and numbers of faults.
+//! - `assertions` are what the tests assert with, and `device` what they ask of folders.
 //!
 //! The worked examples of the definitions stand in `proofs/`, as lemmas that compute. Among them are
 //! counts of calls and failures that are full (`WorkedCounts.antt`), which no run reaches.
 #![tactic(auto)]
 
+#[cfg(test)]
+mod assertions;
+#[cfg(test)]
+mod device;
 #[cfg(test)]
 mod disk_folders;
 #[cfg(test)]

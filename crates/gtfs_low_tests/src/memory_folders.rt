@@ -1,6 +1,8 @@
 //! Folders in memory: what was put or written is told, and each call fails in turn.
 ghost use Rattle.std.specs.Prelude.{◌<◌};
 
+use crate::assertions::{assert_is, assert_is_at, assert_that};
+use crate::device::has_file;
 use gtfs_table::{FolderFault, Folders, MemoryFolders};
 use std::alloc::Global;
 use std::process::Abort;
@@ -38,7 +40,8 @@ fn assert_files(
     dir: &str,
     wanted: &[u8],
 ) -> Result<(), Fail> {
-    assert_eq!(rt; shown(alloc, folders, dir)?.as_slice(), wanted, "in {dir}");
+    let files = shown(alloc, folders, dir)?;
+    assert_is_at(rt, files.as_slice(), wanted, "files in", dir);
     Ok(())
 }
 
@@ -47,24 +50,15 @@ fn fault_of(alloc: Global, folders: &mut MemoryFolders, name: &str) -> Option<Fo
     folders.read(alloc, "f1", name).err()
 }
 
-// Whether a file of the folder f1 has these bytes.
-fn has_file(
-    alloc: Global,
-    folders: &mut MemoryFolders,
-    name: &str,
-    bytes: &[u8],
-) -> Result<bool, FolderFault> {
-    let file = folders.read(alloc, "f1", name)?;
-    Ok(file.is_some_and(|found| found.as_slice() == bytes))
-}
-
 #[test]
 fn an_absent_folder_is_none(rt: HostRuntime) {
     let mut folders = MemoryFolders::new(rt.alloc(), 100, None);
     let no_folder = Some(FolderFault::NoFolder);
-    assert_eq!(rt; folders.names(rt.alloc(), "f1").err(), no_folder);
-    assert_eq!(rt; fault_of(rt.alloc(), &mut folders, "stops.txt"), no_folder);
-    assert_eq!(rt; folders.failures(), 0);
+    let fault = folders.names(rt.alloc(), "f1").err();
+    assert_is(&rt, fault, no_folder, "fault of names");
+    let fault = fault_of(rt.alloc(), &mut folders, "stops.txt");
+    assert_is(&rt, fault, no_folder, "fault of a file");
+    assert_is(&rt, folders.failures(), 0, "failures");
 }
 
 #[test]
@@ -73,8 +67,8 @@ fn an_empty_folder_has_no_file(rt: HostRuntime) -> Result<(), Fail> {
     folders.put_folder("f1")?;
     assert_files(&rt, rt.alloc(), &mut folders, "f1", b"")?;
     let file = folders.read(rt.alloc(), "f1", "stops.txt")?;
-    assert!(rt; file.is_none());
-    assert_eq!(rt; folders.failures(), 0);
+    assert_that(&rt, file.is_none(), "no file is read");
+    assert_is(&rt, folders.failures(), 0, "failures");
     Ok(())
 }
 
@@ -96,7 +90,7 @@ fn what_was_put_is_told(rt: HostRuntime) -> Result<(), Fail> {
     folders.put("f1", "stops.txt", b"stop_id\n")?;
     let files = b"agency.txt=agency_name\n;stops.txt=stop_id\n;";
     assert_files(&rt, rt.alloc(), &mut folders, "f1", files)?;
-    assert_eq!(rt; folders.failures(), 0);
+    assert_is(&rt, folders.failures(), 0, "failures");
     Ok(())
 }
 
@@ -114,10 +108,11 @@ fn reading_alone_judges_the_limit(rt: HostRuntime) -> Result<(), Fail> {
     let mut folders = MemoryFolders::new(rt.alloc(), 4, None);
     folders.write(rt.alloc(), "f1", "fits", b"1234")?;
     folders.write(rt.alloc(), "f1", "large", b"12345")?;
-    assert!(rt; has_file(rt.alloc(), &mut folders, "fits", b"1234")?);
+    let fits = has_file(rt.alloc(), &mut folders, "f1", "fits", b"1234")?;
+    assert_that(&rt, fits, "a file within the limit is read");
     let fault = fault_of(rt.alloc(), &mut folders, "large");
-    assert_eq!(rt; fault, Some(FolderFault::TooLarge));
-    assert_eq!(rt; folders.failures(), 0);
+    assert_is(&rt, fault, Some(FolderFault::TooLarge), "fault");
+    assert_is(&rt, folders.failures(), 0, "failures");
     Ok(())
 }
 
@@ -154,11 +149,13 @@ fn assert_fails(rt: &impl Abort, alloc: Global, number: u64) -> Result<(), Fail>
     let mut folders = MemoryFolders::new(alloc, 100, Some(number));
     folders.put("f1", "a", b"old")?;
     let faults = faults_of(alloc, &mut folders);
-    assert_eq!(rt; faults, wanted_faults(number), "call {number}");
-    assert_eq!(rt; folders.failures(), u64::from(0 < number && number < 5));
+    assert_is_at(rt, faults, wanted_faults(number), "call", number);
+    let failures = u64::from(0 < number && number < 5);
+    assert_is_at(rt, folders.failures(), failures, "failures of call", number);
     if number != 5 {
         let kept: &[u8] = if number == 3 { b"old" } else { b"new" };
-        assert!(rt; has_file(alloc, &mut folders, "a", kept)?);
+        let is_kept = has_file(alloc, &mut folders, "f1", "a", kept)?;
+        assert_is_at(rt, is_kept, true, "a file is kept at call", number);
     }
     Ok(())
 }

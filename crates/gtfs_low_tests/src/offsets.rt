@@ -1,4 +1,5 @@
 //! Records of many fields and of long ones: where their fields begin is kept in two bytes each as long as these are enough.
+use crate::assertions::{assert_is, assert_is_at, assert_that};
 use gtfs_field::OutOfMemory;
 use gtfs_table::{File, FolderFault, Folders, MemoryFolders, Tables};
 use std::alloc::Global;
@@ -58,7 +59,8 @@ fn written(alloc: Global, text: &str) -> Result<Vec<u8>, Fail> {
 fn assert_kept(rt: &impl Abort, alloc: Global, text: &mut String) -> Result<(), Fail> {
     let bytes = written(alloc, text.as_str())?;
     text.push_str("p,q,r\n")?;
-    assert!(rt; bytes.as_slice() == text.as_bytes());
+    let is_kept = bytes.as_slice() == text.as_bytes();
+    assert_that(rt, is_kept, "the text is kept");
     Ok(())
 }
 
@@ -111,7 +113,7 @@ const FIELDS: &[(usize, usize, &str)] = &[
 fn assert_fields(rt: &impl Abort, tables: &Tables) {
     for &(row, index, field) in FIELDS {
         let found = tables.record(File::Trips, row).field(index);
-        assert_eq!(rt; found, field, "field {index} of row {row}");
+        assert_is_at(rt, found, field, "row and field", (row, index));
     }
 }
 
@@ -119,10 +121,12 @@ fn assert_fields(rt: &impl Abort, tables: &Tables) {
 fn a_long_field_stands_between_its_neighbours(rt: HostRuntime) -> Result<(), Fail> {
     let tables = long_tables(rt.alloc())?;
     for &(row, count) in COUNTS {
-        assert_eq!(rt; tables.record(File::Trips, row).len(), count, "row {row}");
+        let len = tables.record(File::Trips, row).len();
+        assert_is_at(&rt, len, count, "fields of row", row);
     }
     assert_fields(&rt, &tables);
-    assert_eq!(rt; tables.record(File::Trips, 2).field(1).len(), 70_000);
+    let len = tables.record(File::Trips, 2).field(1).len();
+    assert_is(&rt, len, 70_000, "length of the long field");
     Ok(())
 }
 
@@ -144,15 +148,21 @@ fn two_long(alloc: Global) -> Result<String, OutOfMemory> {
     Ok(text)
 }
 
+fn assert_two_long(rt: &impl Abort, alloc: Global, bytes: &[u8]) -> Result<(), Fail> {
+    assert_is(rt, bytes.len(), 140_002, "length");
+    let wanted = two_long(alloc)?;
+    assert_that(rt, bytes == wanted.as_bytes(), "both fields are written");
+    Ok(())
+}
+
 #[test]
 fn long_fields_are_pushed_and_written(rt: HostRuntime) -> Result<(), Fail> {
     let mut tables = Tables::empty(rt.alloc());
     push_two_long(rt.alloc(), &mut tables)?;
     for n in 0..2 {
-        assert_eq!(rt; tables.field(File::Trips, 1, n).len(), 70_000, "field {n}");
+        let len = tables.field(File::Trips, 1, n).len();
+        assert_is_at(&rt, len, 70_000, "length of field", n);
     }
     let bytes = tables.write(rt.alloc(), File::Trips)?.ok_or("no text")?;
-    assert_eq!(rt; bytes.len(), 140_002);
-    assert!(rt; bytes.as_slice() == two_long(rt.alloc())?.as_bytes());
-    Ok(())
+    assert_two_long(&rt, rt.alloc(), &bytes)
 }

@@ -1,4 +1,5 @@
 //! Outputs: a text goes out whole, or up to where its output fails.
+use crate::assertions::{assert_is, assert_is_at};
 use gtfs_table::{Failed, MemoryOut, Out, OutFault, WriteOut, write_text};
 use std::alloc::Global;
 use std::io;
@@ -59,9 +60,11 @@ fn a_text_goes_out_whole_or_up_to_its_room(rt: HostRuntime) -> Result<(), Fail> 
         let mut out = MemoryOut::new(rt.alloc(), room)?;
         let fault = write_text(&mut out, text).err();
         let written = room.min(text.len());
-        assert_eq!(rt; out.bytes(), &text[..written]);
-        assert_eq!(rt; fault, (room < 9).then_some(OutFault { written: room }));
-        assert_eq!(rt; out.failures(), u64::from(room < 9));
+        assert_is_at(&rt, out.bytes(), &text[..written], "bytes in room", room);
+        let wanted = (room < 9).then_some(OutFault { written: room });
+        assert_is_at(&rt, fault, wanted, "fault in room", room);
+        let failures = u64::from(room < 9);
+        assert_is_at(&rt, out.failures(), failures, "failures in room", room);
     }
     Ok(())
 }
@@ -79,31 +82,35 @@ const TAKEN: &[(&[u8], Result<usize, Failed>)] = &[
 fn an_output_in_memory_fails_where_its_room_ends(rt: HostRuntime) -> Result<(), Fail> {
     let mut out = MemoryOut::new(rt.alloc(), 10)?;
     for (text, taken) in TAKEN {
-        assert_eq!(rt; out.write(text), *taken);
+        assert_is_at(&rt, out.write(text), *taken, "taken of", *text);
     }
-    assert_eq!(rt; out.bytes(), b"E07 stop_t".as_slice());
-    assert_eq!(rt; out.failures(), 1);
+    assert_is(&rt, out.bytes(), b"E07 stop_t", "bytes");
+    assert_is(&rt, out.failures(), 1, "failures");
     Ok(())
 }
 
 #[test]
 fn a_writer_may_take_one_byte_a_call(rt: HostRuntime) {
     let mut out = trickling(rt, 9);
-    assert_eq!(rt; write_text(&mut out, b"departure"), Ok(()));
-    assert_eq!(rt; out.failures(), 0);
-    assert_eq!(rt; write_text(&mut out, b"s"), Err(OutFault { written: 0 }));
-    assert_eq!(rt; out.failures(), 1);
-    assert_eq!(rt; out.flush(), Err(Failed));
-    assert_eq!(rt; out.failures(), 2);
+    let written = write_text(&mut out, b"departure");
+    assert_is(&rt, written, Ok(()), "a text that fits");
+    assert_is(&rt, out.failures(), 0, "failures after it");
+    let written = write_text(&mut out, b"s");
+    let fault = OutFault { written: 0 };
+    assert_is(&rt, written, Err(fault), "one byte more");
+    assert_is(&rt, out.failures(), 1, "failures after that byte");
+    assert_is(&rt, out.flush(), Err(Failed), "flushing");
+    assert_is(&rt, out.failures(), 2, "failures after flushing");
 }
 
 #[test]
 fn a_writer_may_be_interrupted_often(rt: HostRuntime) {
     let mut writer = Trickle::new(rt.alloc(), 9, 1_000);
     let mut out = WriteOut::new(&mut writer);
-    assert_eq!(rt; write_text(&mut out, b"departure"), Ok(()));
-    assert_eq!(rt; out.failures(), 0);
-    assert_eq!(rt; writer.text.as_slice(), b"departure".as_slice());
+    let written = write_text(&mut out, b"departure");
+    assert_is(&rt, written, Ok(()), "writing");
+    assert_is(&rt, out.failures(), 0, "failures");
+    assert_is(&rt, writer.text.as_slice(), b"departure", "bytes");
 }
 
 // Takes nothing at its first call, for this fault or for none, and at each later one all that it is handed.
@@ -141,11 +148,11 @@ fn assert_fails_once(rt: &impl Abort, alloc: Global, fault: Option<ErrorKind>) {
     };
     let mut out = WriteOut::new(&mut writer);
     for taken in [Err(Failed), Ok(9)] {
-        assert_eq!(rt; out.write(b"departure"), taken, "after {fault:?}");
-        assert_eq!(rt; out.failures(), 1, "after {fault:?}");
+        assert_is_at(rt, out.write(b"departure"), taken, "taken after", fault);
+        assert_is_at(rt, out.failures(), 1, "failures after", fault);
     }
-    let text = b"departure".as_slice();
-    assert_eq!(rt; writer.text.as_slice(), text, "after {fault:?}");
+    let text = writer.text.as_slice();
+    assert_is_at(rt, text, b"departure", "bytes after", fault);
 }
 
 #[test]
@@ -163,28 +170,28 @@ fn a_writer_may_fail_once(rt: HostRuntime) {
 #[test]
 fn a_writer_that_takes_no_more_fails(rt: HostRuntime) {
     let mut out = trickling(rt, 4);
-    assert_eq!(rt;
-        write_text(&mut out, b"departure"),
-        Err(OutFault { written: 4 })
-    );
-    assert_eq!(rt; out.failures(), 1);
+    let written = write_text(&mut out, b"departure");
+    assert_is(&rt, written, Err(OutFault { written: 4 }), "writing");
+    assert_is(&rt, out.failures(), 1, "failures");
 }
 
 #[test]
 fn a_vector_is_a_writer(rt: HostRuntime) {
     let mut out = WriteOut::new(Vec::new(rt.alloc()));
-    assert_eq!(rt; write_text(&mut out, b"stop_times.txt"), Ok(()));
-    assert_eq!(rt; out.flush(), Ok(()));
-    assert_eq!(rt; out.failures(), 0);
+    let written = write_text(&mut out, b"stop_times.txt");
+    assert_is(&rt, written, Ok(()), "writing");
+    assert_is(&rt, out.flush(), Ok(()), "flushing");
+    assert_is(&rt, out.failures(), 0, "failures");
 }
 
 #[test]
 fn a_buffer_is_flushed_into_its_writer(rt: HostRuntime) -> Result<(), Fail> {
     let buffer = BufWriter::new(rt.alloc(), Vec::new(rt.alloc()))?;
     let mut out = WriteOut::new(buffer);
-    assert_eq!(rt; write_text(&mut out, b"stop_times.txt"), Ok(()));
-    assert_eq!(rt; out.flush_buffer(), Ok(()));
-    assert_eq!(rt; out.failures(), 0);
+    let written = write_text(&mut out, b"stop_times.txt");
+    assert_is(&rt, written, Ok(()), "writing");
+    assert_is(&rt, out.flush_buffer(), Ok(()), "flushing");
+    assert_is(&rt, out.failures(), 0, "failures");
     Ok(())
 }
 
@@ -193,10 +200,11 @@ fn a_buffer_is_flushed_into_its_writer(rt: HostRuntime) -> Result<(), Fail> {
 fn a_buffer_fails_where_its_writer_takes_no_more(rt: HostRuntime) -> Result<(), Fail> {
     let writer = Trickle::new(rt.alloc(), 4, 2);
     let mut out = WriteOut::new(BufWriter::new(rt.alloc(), writer)?);
-    assert_eq!(rt; write_text(&mut out, b"departure"), Ok(()));
-    assert_eq!(rt; out.failures(), 0);
-    assert_eq!(rt; out.flush_buffer(), Err(Failed));
-    assert_eq!(rt; out.failures(), 1);
+    let written = write_text(&mut out, b"departure");
+    assert_is(&rt, written, Ok(()), "writing");
+    assert_is(&rt, out.failures(), 0, "failures after writing");
+    assert_is(&rt, out.flush_buffer(), Err(Failed), "flushing");
+    assert_is(&rt, out.failures(), 1, "failures after flushing");
     Ok(())
 }
 
@@ -205,11 +213,12 @@ fn a_buffer_fails_where_its_writer_takes_no_more(rt: HostRuntime) -> Result<(), 
 fn a_buffer_fails_where_its_writer_cannot_be_flushed(rt: HostRuntime) -> Result<(), Fail> {
     let writer = Trickle::new(rt.alloc(), 9, 2);
     let mut out = WriteOut::new(BufWriter::new(rt.alloc(), writer)?);
-    assert_eq!(rt; out.flush_buffer(), Err(Failed));
-    assert_eq!(rt; out.failures(), 1);
-    assert_eq!(rt; write_text(&mut out, b"departure"), Ok(()));
-    assert_eq!(rt; out.failures(), 1);
-    assert_eq!(rt; out.flush_buffer(), Err(Failed));
-    assert_eq!(rt; out.failures(), 2);
+    assert_is(&rt, out.flush_buffer(), Err(Failed), "flushing");
+    assert_is(&rt, out.failures(), 1, "failures after flushing");
+    let written = write_text(&mut out, b"departure");
+    assert_is(&rt, written, Ok(()), "writing");
+    assert_is(&rt, out.failures(), 1, "failures after writing");
+    assert_is(&rt, out.flush_buffer(), Err(Failed), "flushing again");
+    assert_is(&rt, out.failures(), 2, "failures after flushing again");
     Ok(())
 }

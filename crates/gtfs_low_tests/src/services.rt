@@ -2,6 +2,7 @@
 ghost use Rattle.std.specs.Prelude.{◌≡◌, ℤ, pos, ◌+ℤ◌};
 ghost use Rattle.jiff_core.specs.Calendar.{IsBetween};
 
+use crate::assertions::{assert_is, assert_is_at};
 use gtfs_days::Exception::{Added, Removed};
 use gtfs_days::{FIRST_SERVICE_DAY, LAST_SERVICE_DAY, Service, Week};
 use gtfs_field::{Day, read_date};
@@ -19,14 +20,14 @@ fn april(day: i32) -> Day
 // Whether the service runs on these days.
 fn assert_active(rt: &impl Abort, service: &Service, days: &[(Day, bool)]) {
     for &(day, active) in days {
-        assert_eq!(rt; service.active(day), active, "on {day:?}");
+        assert_is_at(rt, service.active(day), active, "active on", day);
     }
 }
 
 // The first day from each of these on that the service runs.
 fn assert_next(rt: &impl Abort, service: &Service, days: &[(Day, Option<Day>)]) {
     for &(day, next) in days {
-        assert_eq!(rt; service.next_active(day), next, "from {day:?}");
+        assert_is_at(rt, service.next_active(day), next, "next from", day);
     }
 }
 
@@ -38,7 +39,8 @@ const ACTIVE: [bool; 11] = [
 fn assert_april(rt: &impl Abort, service: &Service) {
     for (before, active) in ACTIVE.iter().enumerate() {
         let day = Day::from_number(19_814 + before as i32);
-        assert_eq!(rt; service.active(day), *active, "{before} days after the 1st");
+        let found = service.active(day);
+        assert_is_at(rt, found, *active, "active, in days after the 1st:", before);
     }
     let next = [
         (april(1), Some(april(1))),
@@ -58,9 +60,9 @@ fn weekdays_with_an_added_and_a_removed_day(rt: HostRuntime) -> Result<(), Fail>
     let exceptions = [(april(10), Added), (april(3), Removed)];
     let service = Service::new(rt.alloc(), Some(week), &exceptions)?;
     assert_april(&rt, &service);
-    assert_eq!(rt; service.week(), Some(&week));
+    assert_is(&rt, service.week(), Some(&week), "week");
     let by_day = [(april(3), Removed), (april(10), Added)];
-    assert_eq!(rt; service.exceptions(), by_day.as_slice());
+    assert_is(&rt, service.exceptions(), &by_day, "exceptions");
     Ok(())
 }
 
@@ -75,7 +77,7 @@ fn one_added_day_alone(rt: HostRuntime) -> Result<(), Fail> {
     );
     let next = [(april(1), Some(day)), (day, Some(day)), (after, None)];
     assert_next(&rt, &service, &next);
-    assert_eq!(rt; service.week(), None);
+    assert_is(&rt, service.week(), None, "week");
     Ok(())
 }
 
@@ -87,7 +89,7 @@ fn a_weekday_that_the_row_does_not_reach(rt: HostRuntime) -> Result<(), Fail> {
         end: april(7),
     };
     let service = Service::new(rt.alloc(), Some(week), &[])?;
-    assert_eq!(rt; service.next_active(april(1)), None);
+    assert_is(&rt, service.next_active(april(1)), None, "next");
     Ok(())
 }
 
@@ -101,7 +103,8 @@ const LIMITS: &[(&str, i32)] = &[
 #[test]
 fn service_days_are_dates(rt: HostRuntime) {
     for (text, number) in LIMITS {
-        assert_eq!(rt; read_date(text).map(|day| day.number()), Ok(*number));
+        let found = read_date(text).map(|day| day.number());
+        assert_is_at(&rt, found, Ok(*number), "number of", *text);
     }
 }
 
@@ -146,7 +149,8 @@ fn no_service_in_the_year_9999(rt: HostRuntime) -> Result<(), Fail> {
 #[test]
 fn a_service_without_rows_is_never_active(rt: HostRuntime) -> Result<(), Fail> {
     let service = Service::new(rt.alloc(), None, &[])?;
-    assert_eq!(rt; service.next_active(Day::from_number(-25_567)), None);
+    let next = service.next_active(Day::from_number(-25_567));
+    assert_is(&rt, next, None, "next");
     Ok(())
 }
 
@@ -160,8 +164,8 @@ fn a_service_without_weekdays_is_never_active(rt: HostRuntime) -> Result<(), Fai
         end,
     };
     let service = Service::new(rt.alloc(), Some(week), &[])?;
-    assert_eq!(rt; service.next_active(first), None);
-    assert_eq!(rt; service.active(april(1)), false);
+    assert_is(&rt, service.next_active(first), None, "next");
+    assert_is(&rt, service.active(april(1)), false, "active");
     Ok(())
 }
 
@@ -181,7 +185,8 @@ fn removed_days_are_passed(rt: HostRuntime) -> Result<(), Fail> {
     ];
     let service = Service::new(rt.alloc(), Some(week), &exceptions)?;
     for day in [april(1), april(2), april(3), april(4), april(30)] {
-        assert_eq!(rt; service.next_active(day), Some(april(30)), "from {day:?}");
+        let next = service.next_active(day);
+        assert_is_at(&rt, next, Some(april(30)), "next from", day);
     }
     Ok(())
 }

@@ -1,4 +1,5 @@
 //! Large outputs, files, folders and records: memory alone bounds their sizes.
+use crate::assertions::{assert_is, assert_is_at};
 use gtfs_table::{File, Folders, MemoryFolders, MemoryOut, Out, Tables, write_text};
 use std::alloc::{AllocError, Global};
 use std::process::Abort;
@@ -7,9 +8,10 @@ use std::test::Fail;
 #[test]
 fn an_output_may_have_room_for_a_hundred_megabytes(rt: HostRuntime) -> Result<(), Fail> {
     let mut out = MemoryOut::new(rt.alloc(), 100_000_001)?;
-    assert_eq!(rt; write_text(&mut out, b"departure"), Ok(()));
-    assert_eq!(rt; out.bytes(), b"departure".as_slice());
-    assert_eq!(rt; out.failures(), 0);
+    let written = write_text(&mut out, b"departure");
+    assert_is(&rt, written, Ok(()), "writing");
+    assert_is(&rt, out.bytes(), b"departure", "bytes");
+    assert_is(&rt, out.failures(), 0, "failures");
     Ok(())
 }
 
@@ -35,9 +37,9 @@ fn large_file(alloc: Global) -> Result<Vec<u8>, AllocError> {
 // Its ends and its length alone: all its bytes take long to compare where the tests run unproved.
 fn assert_large(rt: &impl Abort, alloc: Global, folders: &mut MemoryFolders) -> Result<(), Fail> {
     let file = folders.read(alloc, "f1", "stops.txt")?.ok_or("no file")?;
-    assert_eq!(rt; file.len(), 70_000_000);
-    assert_eq!(rt; file.first(), Some(&b'0'));
-    assert_eq!(rt; file.last(), Some(&b'9'));
+    assert_is(rt, file.len(), 70_000_000, "length");
+    assert_is(rt, file.first(), Some(&b'0'), "first byte");
+    assert_is(rt, file.last(), Some(&b'9'), "last byte");
     Ok(())
 }
 
@@ -68,10 +70,10 @@ fn a_folder_may_have_seventy_thousand_files(rt: HostRuntime) -> Result<(), Fail>
     let mut folders = MemoryFolders::new(rt.alloc(), 100, None);
     put_numbers(rt.alloc(), &mut folders)?;
     let names = folders.names(rt.alloc(), "f1")?;
-    assert_eq!(rt; names.len(), 70_000);
+    assert_is(&rt, names.len(), 70_000, "names");
     for (name, number) in names.iter().zip(100_000_u32..170_000) {
         let wanted = format!(in rt.alloc(); "{number}")?;
-        assert_eq!(rt; name.as_str(), wanted.as_str());
+        assert_is(&rt, name.as_str(), wanted.as_str(), "name");
     }
     Ok(())
 }
@@ -99,16 +101,24 @@ fn wide_table(alloc: Global) -> Result<Vec<u8>, AllocError> {
     Ok(text)
 }
 
+fn assert_wide(rt: &impl Abort, tables: &Tables) {
+    let column = tables.column(File::Trips, "end");
+    assert_is(rt, column, Some(69_999), "column");
+    let field = tables.field(File::Trips, 2, 69_998);
+    assert_is(rt, field, "1", "last field but one");
+    let value = tables.value(File::Trips, 2, "end");
+    assert_is(rt, value, "last", "value");
+}
+
 #[test]
 fn a_record_may_have_seventy_thousand_fields(rt: HostRuntime) -> Result<(), Fail> {
     let mut folders = MemoryFolders::new(rt.alloc(), 1_000_000, None);
     folders.put("f1", "trips.txt", &wide_table(rt.alloc())?)?;
     let tables = Tables::read(rt.alloc(), &mut folders, "f1")?;
     for row in [1, 2] {
-        assert_eq!(rt; tables.fields(File::Trips, row), 70_000, "row {row}");
+        let fields = tables.fields(File::Trips, row);
+        assert_is_at(&rt, fields, 70_000, "fields of row", row);
     }
-    assert_eq!(rt; tables.column(File::Trips, "end"), Some(69_999));
-    assert_eq!(rt; tables.field(File::Trips, 2, 69_998), "1");
-    assert_eq!(rt; tables.value(File::Trips, 2, "end"), "last");
+    assert_wide(&rt, &tables);
     Ok(())
 }

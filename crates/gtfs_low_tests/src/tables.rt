@@ -2,11 +2,14 @@
 ghost use Rattle.std.specs.Prelude.{◌<◌, ◌-◌, ◌^◌};
 ghost use Rattle.std.specs.Option.{ForSome};
 
-use gtfs_field::OutOfMemory;
+use crate::assertions::{assert_is, assert_is_at, assert_that};
+use gtfs_field::{OutOfMemory, Text};
 use gtfs_table::{File, FolderFault, Folders, MemoryFolders, State, Tables};
 use std::alloc::Global;
 use std::process::Abort;
 use std::test::Fail;
+
+mod city;
 
 const LIMIT: u64 = 1_000;
 
@@ -61,14 +64,22 @@ fn stops_by_row(alloc: Global, tables: &Tables) -> Result<String, OutOfMemory> {
     Ok(text)
 }
 
+fn assert_rows(rt: &impl Abort, tables: &Tables) {
+    let is_row = tables.is_row(File::StopTimes, 1);
+    assert_is(rt, is_row, false, "the header is a row");
+    let blank = tables.row(File::StopTimes, 3);
+    assert_that(rt, blank.is_none(), "the blank record is none");
+    let last = tables.row(File::StopTimes, 4);
+    assert_that(rt, last.is_some(), "the last record is a row");
+}
+
 // A record of blanks alone counts in the numbers of rows, and is none.
 #[test]
 fn a_blank_record_is_no_row(rt: HostRuntime) -> Result<(), Fail> {
     let tables = tables_of(rt.alloc(), b"trip_id,stop_id\nT1,S1\n , \nT1,S2\n")?;
-    assert_eq!(rt; stops_by_row(rt.alloc(), &tables)?.as_str(), "2 S1;4 S2;");
-    assert!(rt; !tables.is_row(File::StopTimes, 1));
-    assert!(rt; tables.row(File::StopTimes, 3).is_none());
-    assert!(rt; tables.row(File::StopTimes, 4).is_some());
+    let stops = stops_by_row(rt.alloc(), &tables)?;
+    assert_is(&rt, stops.as_str(), "2 S1;4 S2;", "stops");
+    assert_rows(&rt, &tables);
     Ok(())
 }
 
@@ -77,11 +88,8 @@ type ValueAt = (File, usize, &'static str, &'static str);
 
 fn assert_values(rt: &impl Abort, tables: &Tables, values: &[ValueAt]) {
     for &(file, row, column, want) in values {
-        assert_eq!(rt;
-            tables.value(file, row, column),
-            want,
-            "{column} of row {row}"
-        );
+        let found = tables.value(file, row, column);
+        assert_is_at(rt, found, want, "row and column", (row, column));
     }
 }
 
@@ -101,7 +109,8 @@ const SIX_RECORDS: &str = "<trip_id><arrival_time><departure_time><stop_id><stop
 
 #[test]
 fn a_worn_file_has_six_records(rt: HostRuntime) -> Result<(), Fail> {
-    assert_eq!(rt; shown_of(rt.alloc(), WORN)?.as_str(), SIX_RECORDS);
+    let shown = shown_of(rt.alloc(), WORN)?;
+    assert_is(&rt, shown.as_str(), SIX_RECORDS, "records");
     Ok(())
 }
 
@@ -134,18 +143,23 @@ const SHORT_RECORDS: &[(usize, usize, usize, &str)] = &[
 fn a_worn_file_has_short_records(rt: HostRuntime) -> Result<(), Fail> {
     let tables = tables_of(rt.alloc(), WORN)?;
     for &(row, len, n, want) in SHORT_RECORDS {
-        assert_eq!(rt; tables.record(File::StopTimes, row).len(), len, "row {row}");
-        assert_eq!(rt; field_of(&tables, row, n), want, "field {n} of row {row}");
+        let found = tables.record(File::StopTimes, row).len();
+        assert_is_at(&rt, found, len, "fields of row", row);
+        let found = field_of(&tables, row, n);
+        assert_is_at(&rt, found, want, "row and field", (row, n));
     }
     Ok(())
 }
 
 fn assert_record(rt: &impl Abort, tables: &Tables, row: usize) {
     let record = tables.record(File::StopTimes, row);
-    assert_eq!(rt; record.len(), tables.fields(File::StopTimes, row));
-    assert_eq!(rt; record.is_empty(), row == 0 || row == 7);
+    let fields = tables.fields(File::StopTimes, row);
+    assert_is_at(rt, record.len(), fields, "fields of row", row);
+    let is_empty = row == 0 || row == 7;
+    assert_is_at(rt, record.is_empty(), is_empty, "no field in row", row);
     for n in 0..6 {
-        assert_eq!(rt; record.field(n), tables.field(File::StopTimes, row, n));
+        let field = tables.field(File::StopTimes, row, n);
+        assert_is_at(rt, record.field(n), field, "row and field", (row, n));
     }
 }
 
@@ -164,8 +178,8 @@ fn an_absent_file_has_no_record(rt: HostRuntime) {
     let tables = Tables::empty(rt.alloc());
     for row in 0..3 {
         let record = tables.record(File::Stops, row);
-        assert_eq!(rt; record.len(), 0);
-        assert_eq!(rt; record.field(0), "");
+        assert_is_at(&rt, record.len(), 0, "fields of row", row);
+        assert_is_at(&rt, record.field(0), "", "first field of row", row);
     }
 }
 
@@ -189,7 +203,8 @@ const CASES: &[(&[u8], &str)] = &[
 #[test]
 fn records_of_texts(rt: HostRuntime) -> Result<(), Fail> {
     for (bytes, want) in CASES {
-        assert_eq!(rt; shown_of(rt.alloc(), bytes)?.as_str(), *want);
+        let shown = shown_of(rt.alloc(), bytes)?;
+        assert_is_at(&rt, shown.as_str(), *want, "records of", *bytes);
     }
     Ok(())
 }
@@ -215,15 +230,23 @@ const STATES: &[(File, State)] = &[
     (File::Transfers, State::Absent),
 ];
 
+fn assert_others(rt: &impl Abort, others: &[Text]) {
+    assert_is(rt, others.len(), 1, "other names");
+    let first = match others {
+        [first, ..] => first.as_str(),
+        [] => "",
+    };
+    assert_is(rt, first, "notes.txt", "other name");
+}
+
 #[test]
 fn a_folder_has_states_and_other_names(rt: HostRuntime) -> Result<(), Fail> {
     let tables = tables_of_files(rt.alloc())?;
     for (file, state) in STATES {
-        assert!(rt; tables.state(*file) == *state, "{}", file.name());
+        assert_is_at(&rt, tables.state(*file), *state, "state of", file.name());
     }
-    assert!(rt; tables.records(File::Trips) == 0);
-    assert!(rt; tables.others().len() == 1);
-    assert!(rt; tables.others()[0].as_str() == "notes.txt");
+    assert_is(&rt, tables.records(File::Trips), 0, "records");
+    assert_others(&rt, tables.others());
     Ok(())
 }
 
@@ -237,7 +260,8 @@ const STOP_COLUMNS: &[(&str, Option<usize>)] = &[
 fn a_folder_has_columns(rt: HostRuntime) -> Result<(), Fail> {
     let tables = tables_of_files(rt.alloc())?;
     for (column, index) in STOP_COLUMNS {
-        assert_eq!(rt; tables.column(File::Stops, column), *index, "{column}");
+        let found = tables.column(File::Stops, column);
+        assert_is_at(&rt, found, *index, "column", *column);
     }
     Ok(())
 }
@@ -282,193 +306,34 @@ const PUSHED: &[u8] = b"trip_id,stop_headsign\nT1,\"Mill, \"\"north\"\"\"\n\"\"\
 #[test]
 fn pushed_records_are_written(rt: HostRuntime) -> Result<(), Fail> {
     let tables = pushed(rt.alloc())?;
-    assert!(rt; tables.state(File::StopTimes) == State::Read);
-    assert!(rt; tables.state(File::Stops) == State::Absent);
-    assert!(rt; written(rt.alloc(), &tables)?.as_slice() == PUSHED);
+    let pushed_to = tables.state(File::StopTimes);
+    assert_is(&rt, pushed_to, State::Read, "state of the pushed file");
+    let other = tables.state(File::Stops);
+    assert_is(&rt, other, State::Absent, "state of another");
+    let bytes = written(rt.alloc(), &tables)?;
+    assert_is(&rt, bytes.as_slice(), PUSHED, "text");
     Ok(())
 }
 
 #[test]
 fn written_records_are_read(rt: HostRuntime) -> Result<(), Fail> {
     let text = shown_of(rt.alloc(), PUSHED)?;
-    assert_eq!(rt;
-        text.as_str(),
-        "<trip_id><stop_headsign>\n<T1><Mill, \"north\">\n<>\n"
-    );
+    let wanted = "<trip_id><stop_headsign>\n<T1><Mill, \"north\">\n<>\n";
+    assert_is(&rt, text.as_str(), wanted, "records");
     Ok(())
 }
 
 #[test]
 fn an_absent_file_has_no_text(rt: HostRuntime) -> Result<(), Fail> {
     let tables = Tables::empty(rt.alloc());
-    assert!(rt; tables.write(rt.alloc(), File::Stops)?.is_none());
+    let text = tables.write(rt.alloc(), File::Stops)?;
+    assert_that(&rt, text.is_none(), "no text is written");
     Ok(())
 }
 
 #[test]
 fn files_have_their_names(rt: HostRuntime) {
-    assert!(rt; File::ALL[0].name() == "agency.txt");
-    assert!(rt; File::ALL[4].name() == "stop_times.txt");
-    assert!(rt; File::ALL[8].name() == "transfers.txt");
-}
-
-const CITY: &[(&str, &[u8])] = &[
-    (
-        "agency.txt",
-        b"agency_name,agency_url,agency_timezone\nMetro,http://m.example,UTC\n",
-    ),
-    (
-        "stops.txt",
-        b"stop_id,stop_name,stop_lat,stop_lon\nS1,Mill,52.5,13.4\nS2,Lake,52.6,13.5\nS3,Hill,52.7,13.6\n",
-    ),
-    (
-        "routes.txt",
-        b"route_id,route_short_name,route_type\nR1,10,3\n",
-    ),
-    ("trips.txt", b"route_id,service_id,trip_id\nR1,C1,T1\n"),
-    (
-        "stop_times.txt",
-        b"trip_id,arrival_time,departure_time,stop_id,stop_sequence\n\
-T1,08:00:00,08:00:00,S1,1\nT1,08:10:00,08:10:00,S2,2\n",
-    ),
-    (
-        "calendar.txt",
-        b"service_id,monday,tuesday,wednesday,thursday,friday,saturday,sunday,start_date,end_date\n\
-C1,1,1,1,1,1,1,1,20240401,20240401\n",
-    ),
-];
-
-// The folder of the city, in which the call with the number fails.
-fn city(alloc: Global, fail: Option<u64>) -> Result<MemoryFolders, OutOfMemory>
-    requires { ForSome fail (λ number. number < 2 ^ 64 - 1) }
-{
-    folders_of(alloc, CITY, fail)
-}
-
-// Why the folder cannot be read, if it cannot.
-fn fault_of(alloc: Global, folders: &mut MemoryFolders, dir: &str) -> Option<FolderFault> {
-    Tables::read(alloc, folders, dir).err()
-}
-
-// Of the calls of a reading, one for the names and one for each kept file, the one with the number fails.
-#[test]
-fn each_device_call_fails_in_turn(rt: HostRuntime) -> Result<(), Fail> {
-    for number in 1..12 {
-        let mut folders = city(rt.alloc(), Some(number))?;
-        let fault = fault_of(rt.alloc(), &mut folders, "f1");
-        assert_eq!(rt; fault, (number < 11).then_some(FolderFault::Read));
-        assert_eq!(rt; folders.failures(), u64::from(number < 11));
-    }
-    Ok(())
-}
-
-// More bytes than the limit.
-fn long_text(alloc: Global) -> Result<Vec<u8>, OutOfMemory> {
-    let mut long = Vec::new(alloc);
-    long.resize(1_001, b'a')?;
-    Ok(long)
-}
-
-// A file of the city is over the limit, and a call fails: which fault is told, and how many calls failed.
-fn first_fault(
-    alloc: Global,
-    file: File,
-    number: u64,
-) -> Result<(Option<FolderFault>, u64), OutOfMemory>
-    requires { number < 2 ^ 64 - 1 }
-{
-    let mut folders = city(alloc, Some(number))?;
-    folders.put("f1", file.name(), &long_text(alloc)?)?;
-    let fault = fault_of(alloc, &mut folders, "f1");
-    Ok((fault, folders.failures()))
-}
-
-// Each kept file, and which call reads it.
-const READINGS: &[(File, u64)] = &[
-    (File::Agency, 2),
-    (File::Stops, 3),
-    (File::Routes, 4),
-    (File::Trips, 5),
-    (File::StopTimes, 6),
-    (File::Calendar, 7),
-    (File::CalendarDates, 8),
-    (File::Frequencies, 9),
-    (File::Transfers, 10),
-];
-
-// What comes first is told, and no call comes after it.
-#[test]
-fn the_first_of_two_faults_is_told(rt: HostRuntime) -> Result<(), Fail> {
-    for &(file, reading) in READINGS {
-        for number in 1..12 {
-            let told = if number <= reading {
-                (Some(FolderFault::Read), 1)
-            } else {
-                (Some(FolderFault::TooLarge), 0)
-            };
-            assert_eq!(rt;
-                first_fault(rt.alloc(), file, number)?,
-                told,
-                "call {number}"
-            );
-        }
-    }
-    Ok(())
-}
-
-// How many records each file of the city has.
-const RECORDS: &[(File, usize)] = &[
-    (File::Agency, 2),
-    (File::Stops, 4),
-    (File::Routes, 2),
-    (File::Trips, 2),
-    (File::StopTimes, 3),
-    (File::Calendar, 2),
-    (File::CalendarDates, 0),
-    (File::Frequencies, 0),
-    (File::Transfers, 0),
-];
-
-const CITY_VALUES: &[ValueAt] = &[
-    (File::StopTimes, 3, "stop_id", "S2"),
-    (File::Calendar, 2, "end_date", "20240401"),
-];
-
-fn assert_city(rt: &impl Abort, tables: &Tables) {
-    for (file, count) in RECORDS {
-        assert_eq!(rt; tables.records(*file), *count, "{}", file.name());
-    }
-    assert_values(rt, tables, CITY_VALUES);
-    assert_eq!(rt; tables.others().len(), 0);
-}
-
-#[test]
-fn a_whole_folder_is_read(rt: HostRuntime) -> Result<(), Fail> {
-    let mut folders = city(rt.alloc(), None)?;
-    assert_city(&rt, &Tables::read(rt.alloc(), &mut folders, "f1")?);
-    Ok(())
-}
-
-#[test]
-fn a_folder_that_is_not_there_is_refused(rt: HostRuntime) -> Result<(), Fail> {
-    let mut folders = city(rt.alloc(), None)?;
-    let fault = fault_of(rt.alloc(), &mut folders, "f2");
-    assert_eq!(rt; fault, Some(FolderFault::NoFolder));
-    assert_eq!(rt; folders.failures(), 0);
-    Ok(())
-}
-
-// A long file is refused where it is a kept one.
-#[test]
-fn a_long_file_is_refused(rt: HostRuntime) -> Result<(), Fail> {
-    let mut folders = city(rt.alloc(), None)?;
-    for (name, fault) in [
-        ("notes.txt", None),
-        ("trips.txt", Some(FolderFault::TooLarge)),
-    ] {
-        folders.put("f1", name, &long_text(rt.alloc())?)?;
-        assert_eq!(rt; fault_of(rt.alloc(), &mut folders, "f1"), fault, "{name}");
-    }
-    assert_eq!(rt; folders.failures(), 0);
-    Ok(())
+    assert_is(&rt, File::ALL[0].name(), "agency.txt", "first name");
+    assert_is(&rt, File::ALL[4].name(), "stop_times.txt", "fifth name");
+    assert_is(&rt, File::ALL[8].name(), "transfers.txt", "last name");
 }

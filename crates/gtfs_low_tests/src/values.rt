@@ -1,4 +1,5 @@
 //! Texts of each kind with the values that they have, and the values' canonical texts.
+use crate::assertions::{assert_is, assert_is_at, assert_that};
 use gtfs_field::{
     Axis, Clock, Colour, Coord, Day, FieldFault, List, Text, push_colour, push_coord, push_count,
     push_date, push_time, read_colour, read_coord, read_count, read_date, read_instant, read_time,
@@ -37,7 +38,7 @@ type Numbers = &'static [(&'static str, Result<i64, FieldFault>)];
 
 fn assert_read(rt: &impl Abort, kind: Kind, numbers: Numbers) {
     for (text, want) in numbers {
-        assert_eq!(rt; read(kind, text), *want, "at {text}");
+        assert_is_at(rt, read(kind, text), *want, "at", *text);
     }
 }
 
@@ -211,10 +212,8 @@ fn canonical_texts(rt: HostRuntime) -> Result<(), Fail> {
     push_colour(rt.alloc(), &mut text, Colour::from_bits(0x00_FF7F))?;
     text.push(' ')?;
     push_count(rt.alloc(), &mut text, 7)?;
-    assert_eq!(rt;
-        text.as_str(),
-        "07:05:00 999:59:59 1999:59:57 20240229 99991231 00FF7F 7"
-    );
+    let wanted = "07:05:00 999:59:59 1999:59:57 20240229 99991231 00FF7F 7";
+    assert_is(&rt, text.as_str(), wanted, "texts");
     Ok(())
 }
 
@@ -239,7 +238,7 @@ fn canonical_coordinates(rt: HostRuntime) -> Result<(), Fail> {
     for &(nanodegrees, want) in COORDINATES {
         assert!(rt; -180_000_000_000 <= nanodegrees && nanodegrees <= 180_000_000_000);
         let text = coordinate_text(rt.alloc(), Coord::from_nanodegrees(nanodegrees))?;
-        assert_eq!(rt; text.as_str(), want);
+        assert_is_at(&rt, text.as_str(), want, "text of", nanodegrees);
     }
     Ok(())
 }
@@ -247,19 +246,19 @@ fn canonical_coordinates(rt: HostRuntime) -> Result<(), Fail> {
 #[test]
 fn texts(rt: HostRuntime) -> Result<(), Fail> {
     let text = Text::new(String::from_str(rt.alloc(), "Mill")?);
-    assert_eq!(rt; text.as_str(), "Mill");
-    assert_eq!(rt; text.len(), 4);
-    assert!(rt; !text.is_empty());
-    assert_eq!(rt; text.into_string().as_str(), "Mill");
+    assert_is(&rt, text.as_str(), "Mill", "text");
+    assert_is(&rt, text.len(), 4, "length");
+    assert_that(&rt, !text.is_empty(), "a text is not empty");
+    assert_is(&rt, text.into_string().as_str(), "Mill", "string");
     Ok(())
 }
 
 #[test]
 fn lists(rt: HostRuntime) -> Result<(), Fail> {
     let list = List::new([1_u8, 2].to_vec(rt.alloc())?);
-    assert_eq!(rt; list.as_slice(), [1, 2].as_slice());
-    assert_eq!(rt; list.len(), 2);
-    assert!(rt; !list.is_empty());
-    assert_eq!(rt; list.into_vec().as_slice(), [1, 2].as_slice());
+    assert_is(&rt, list.as_slice(), &[1, 2], "list");
+    assert_is(&rt, list.len(), 2, "length");
+    assert_that(&rt, !list.is_empty(), "a list is not empty");
+    assert_is(&rt, list.into_vec().as_slice(), &[1, 2], "vector");
     Ok(())
 }

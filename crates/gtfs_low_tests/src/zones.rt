@@ -1,6 +1,7 @@
 //! Zones with the origins of their days and what their clocks show.
 ghost use Rattle.std.specs.Prelude.{◌≤◌, length};
 
+use crate::assertions::{assert_is, assert_is_at};
 use gtfs_days::{Civil, CivilFault, Zone, ZoneFault};
 use gtfs_field::Day;
 use std::alloc::{AllocError, Global};
@@ -114,7 +115,8 @@ fn assert_origins(rt: &impl Abort, alloc: Global, zone: &Zone, origins: Origins)
         assert!(rt; number >= -25_567);
         assert!(rt; number <= 2_932_531);
         let day = Day::from_number(number);
-        assert_eq!(rt; zone.origin(alloc, day), Ok(origin), "on day {number}");
+        let found = zone.origin(alloc, day);
+        assert_is_at(rt, found, Ok(origin), "origin of day", number);
     }
 }
 
@@ -136,7 +138,8 @@ const LENGTHS: &[(ZoneFile, usize)] = &[
 #[test]
 fn files_have_their_lengths(rt: HostRuntime) -> Result<(), Fail> {
     for (file, len) in LENGTHS {
-        assert_eq!(rt; file.bytes(rt.alloc())?.len(), *len, "{}", file.footer);
+        let bytes = file.bytes(rt.alloc())?;
+        assert_is_at(&rt, bytes.len(), *len, "length of", file.footer);
     }
     Ok(())
 }
@@ -162,12 +165,14 @@ fn cut(alloc: Global, file: &[u8], end: usize) -> Option<ZoneFault>
 fn assert_cuts(rt: &impl Abort, alloc: Global, file: &[u8]) {
     for end in 0..file.len() {
         let fault = cut(alloc, file, end);
-        assert!(rt; fault != Some(ZoneFault::OutOfMemory), "before byte {end}");
+        let is_memory = fault == Some(ZoneFault::OutOfMemory);
+        assert_is_at(rt, is_memory, false, "no memory, cut before byte", end);
         if end < 44 {
-            assert_eq!(rt; fault, Some(ZoneFault::Unreadable), "before byte {end}");
+            let unreadable = Some(ZoneFault::Unreadable);
+            assert_is_at(rt, fault, unreadable, "cut before byte", end);
         }
     }
-    assert_eq!(rt; fault_of(alloc, file), None);
+    assert_is(rt, fault_of(alloc, file), None, "the whole file");
 }
 
 #[test]
@@ -182,7 +187,8 @@ fn files_cut_at_each_byte_are_read_or_refused(rt: HostRuntime) -> Result<(), Fai
 fn bytes_that_are_no_zone_file_are_unreadable(rt: HostRuntime) -> Result<(), Fail> {
     for len in [0, 1_048_576, 1_048_577] {
         let fault = fault_of(rt.alloc(), &zeros(rt.alloc(), len)?);
-        assert_eq!(rt; fault, Some(ZoneFault::Unreadable), "{len} bytes");
+        let unreadable = Some(ZoneFault::Unreadable);
+        assert_is_at(&rt, fault, unreadable, "fault of so many bytes:", len);
     }
     Ok(())
 }
@@ -199,8 +205,9 @@ fn longer_utc(alloc: Global, more: usize) -> Result<Vec<u8>, AllocError> {
 fn the_limit_is_included(rt: HostRuntime) -> Result<(), Fail> {
     for (len, fault) in [(1_048_576, None), (1_048_577, Some(ZoneFault::Unreadable))] {
         let file = longer_utc(rt.alloc(), len - 114)?;
-        assert_eq!(rt; file.len(), len);
-        assert_eq!(rt; fault_of(rt.alloc(), &file), fault, "{len} bytes");
+        assert_is(&rt, file.len(), len, "length");
+        let found = fault_of(rt.alloc(), &file);
+        assert_is_at(&rt, found, fault, "fault of so many bytes:", len);
     }
     Ok(())
 }
@@ -208,7 +215,8 @@ fn the_limit_is_included(rt: HostRuntime) -> Result<(), Fail> {
 #[test]
 fn a_footer_that_contradicts_the_table_is_unreadable(rt: HostRuntime) -> Result<(), Fail> {
     let file = CONTRADICTS_ITSELF.bytes(rt.alloc())?;
-    assert_eq!(rt; fault_of(rt.alloc(), &file), Some(ZoneFault::Unreadable));
+    let fault = fault_of(rt.alloc(), &file);
+    assert_is(&rt, fault, Some(ZoneFault::Unreadable), "fault");
     Ok(())
 }
 
@@ -230,7 +238,8 @@ fn assert_clocks(rt: &impl Abort, alloc: Global, zone: &Zone, clocks: Clocks) {
             second,
             offset,
         };
-        assert_eq!(rt; zone.civil(alloc, instant), Ok(civil), "at {instant}");
+        let shown = zone.civil(alloc, instant);
+        assert_is_at(rt, shown, Ok(civil), "shown at", instant);
     }
 }
 
@@ -276,7 +285,8 @@ fn instants_have_ends(rt: HostRuntime) -> Result<(), Fail> {
     let zone = UTC.zone(rt.alloc())?;
     for instant in [i64::MIN, -377_705_023_202, 253_402_207_201, i64::MAX] {
         let shown = zone.civil(rt.alloc(), instant);
-        assert_eq!(rt; shown, Err(CivilFault::OutOfRange), "at {instant}");
+        let fault = Err(CivilFault::OutOfRange);
+        assert_is_at(&rt, shown, fault, "shown at", instant);
     }
     assert_clocks(&rt, rt.alloc(), &zone, ENDS);
     Ok(())

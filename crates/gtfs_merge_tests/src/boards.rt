@@ -1,5 +1,6 @@
 //! The boards of a merged feed are those of both feeds: under the new names, in one order, those of joined trips once.
 
+use crate::assertions::assert_is;
 use crate::cases::{AT_TEN, merged_of};
 use crate::report::{count_of, id_of};
 use crate::worked::{RAIL, WITH_SECOND};
@@ -76,17 +77,42 @@ impl Fixture {
 
     fn assert_board(&self, rt: &impl Abort, alloc: Global, stop: &str) -> Result<usize, Fail> {
         let mut listed = Vec::new(alloc);
-        self.push_side(alloc, Side::A, stop, &mut listed)?;
-        let of_joined = self.joined_count(&listed);
-        self.push_side(alloc, Side::B, stop, &mut listed)?;
+        self.push_both(rt, alloc, stop, &mut listed)?;
+        self.assert_lines(rt, alloc, stop, &listed)?;
+        Ok(listed.len())
+    }
+
+    // Adds the departures of both sides in order, those of joined trips once.
+    fn push_both(
+        &self,
+        rt: &impl Abort,
+        alloc: Global,
+        stop: &str,
+        listed: &mut Vec<(Rank, String)>,
+    ) -> Result<(), Fail> {
+        self.push_side(alloc, Side::A, stop, listed)?;
+        let of_joined = self.joined_count(listed);
+        self.push_side(alloc, Side::B, stop, listed)?;
         let count = listed.len();
         listed.sort_unstable();
         listed.dedup();
-        assert_eq!(rt; count.saturating_sub(listed.len()), of_joined, "{stop}");
-        let wanted = joined_lines(alloc, &listed)?;
+        let twice = count.saturating_sub(listed.len());
+        assert_is(rt, twice, of_joined, stop);
+        Ok(())
+    }
+
+    // The lines of the board of a stop are these.
+    fn assert_lines(
+        &self,
+        rt: &impl Abort,
+        alloc: Global,
+        stop: &str,
+        listed: &[(Rank, String)],
+    ) -> Result<(), Fail> {
+        let wanted = joined_lines(alloc, listed)?;
         let lines = lines(alloc, &self.merged.feed, &self.zone, stop)?;
-        assert_eq!(rt; lines.as_str(), wanted.as_str(), "{stop}");
-        Ok(listed.len())
+        assert_is(rt, lines.as_str(), wanted.as_str(), stop);
+        Ok(())
     }
 
     // Adds the departures of a side at each stop that became this one.
@@ -237,10 +263,20 @@ fn merged_boards_are_those_that_were_worked_out(rt: HostRuntime) -> Result<(), F
         let a = feed_with(&rt, rt.alloc(), worked.a)?;
         let b = feed_with(&rt, rt.alloc(), worked.b)?;
         let fixture = Fixture::new(&rt, rt.alloc(), a, b, Clocks::Utc)?;
-        let lines = lines(rt.alloc(), &fixture.merged.feed, &fixture.zone, "S1")?;
-        assert_eq!(rt; lines.as_str(), worked.lines);
-        fixture.assert_boards(&rt, rt.alloc())?;
+        assert_worked(&rt, rt.alloc(), &fixture, worked)?;
     }
+    Ok(())
+}
+
+fn assert_worked(
+    rt: &impl Abort,
+    alloc: Global,
+    fixture: &Fixture,
+    worked: &Worked,
+) -> Result<(), Fail> {
+    let lines = lines(alloc, &fixture.merged.feed, &fixture.zone, "S1")?;
+    assert_is(rt, lines.as_str(), worked.lines, "S1");
+    fixture.assert_boards(rt, alloc)?;
     Ok(())
 }
 

@@ -1,5 +1,6 @@
 //! Merges of changes to the small dataset.
 
+use crate::assertions::assert_is;
 use crate::report::report;
 use crate::written::{Rows, assert_rows, assert_same_files, folders_with};
 use gtfs_feed::Feed;
@@ -71,9 +72,20 @@ fn assert_merge<R: Abort + RandomSource>(
     b: &Feed,
 ) -> Result<(), Fail> {
     let merged = merged_of(rt, alloc, a, b)?;
-    let told = report(alloc, a, b, &merged.names)?;
-    assert_eq!(rt; told.as_str(), case.report, "{}", case.what);
+    assert_report(rt, alloc, case, (a, b), &merged)?;
     assert_files(rt, alloc, case, &merged.feed)
+}
+
+fn assert_report(
+    rt: &impl Abort,
+    alloc: Global,
+    case: &Case,
+    (a, b): (&Feed, &Feed),
+    merged: &Merged,
+) -> Result<(), Fail> {
+    let told = report(alloc, a, b, &merged.names)?;
+    assert_is(rt, told.as_str(), case.report, case.what);
+    Ok(())
 }
 
 fn assert_files<R: Abort + RandomSource>(

@@ -7,10 +7,13 @@
 //!   renamed of each kind, and `chains` new names that are taken already, and merges of three feeds.
 //! - `names` asks for the name of each id, and `refusals` has zones that differ and files that are too long.
 //! - `boards` compares the boards of a merged feed with those of both feeds, renamed and united.
+//! - `assertions` has assertions as calls.
 #![tactic(auto)]
 
 #[cfg(test)]
 mod agencies;
+#[cfg(test)]
+mod assertions;
 #[cfg(test)]
 mod boards;
 #[cfg(test)]

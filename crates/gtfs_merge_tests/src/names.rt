@@ -1,5 +1,6 @@
 //! The names that ids have in a merged feed, and the ids that are joined.
 
+use crate::assertions::assert_is;
 use crate::cases::merged_of;
 use crate::refusals::BERLIN;
 use crate::report::{KINDS, report};
@@ -39,14 +40,14 @@ const JOINED: &str = "agency\nstop S1 S2 S3\nroute\nservice C1\ntrip\n";
 fn assert_wanted(rt: &impl Abort, names: &Names) {
     for (side, kind, id, wanted) in WANTED {
         let name = names.of(side, kind, id).unwrap_or("no id");
-        assert_eq!(rt; name, wanted, "{id}");
+        assert_is(rt, name, wanted, id);
     }
 }
 
 // So are the joined ids.
-fn assert_joined(rt: &impl Abort, alloc: Global, names: &Names) -> Result<(), Fail> {
+fn assert_joined(rt: &impl Abort, alloc: Global, names: &Names, wanted: &str) -> Result<(), Fail> {
     let told = joined_ids(alloc, names)?;
-    assert_eq!(rt; told.as_str(), JOINED);
+    assert_is(rt, told.as_str(), wanted, "joined ids");
     Ok(())
 }
 
@@ -61,7 +62,7 @@ fn assert_names<R: Abort + RandomSource>(
     let b = feed_with(rt, alloc, b)?;
     let names = Names::of_feeds(alloc, RandomState::new(rt)?, &a, &b)?;
     assert_wanted(rt, &names);
-    assert_joined(rt, alloc, &names)
+    assert_joined(rt, alloc, &names, JOINED)
 }
 
 #[test]
@@ -102,8 +103,7 @@ fn joined_ids_stand_by_their_bytes(rt: HostRuntime) -> Result<(), Fail> {
         (&b, JOINED),
     ] {
         let merged = merged_of(&rt, rt.alloc(), &a, other)?;
-        let told = joined_ids(rt.alloc(), &merged.names)?;
-        assert_eq!(rt; told.as_str(), wanted);
+        assert_joined(&rt, rt.alloc(), &merged.names, wanted)?;
     }
     Ok(())
 }
@@ -122,10 +122,17 @@ fn merge_text<R: RandomSource>(rt: &R, alloc: Global, a: &Feed, b: &Feed) -> Res
 fn two_random_states_give_the_same_bytes(rt: HostRuntime) -> Result<(), Fail> {
     let a = made_feed(&rt, rt.alloc(), 8)?;
     let b = made_feed(&rt, rt.alloc(), 9)?;
-    let text = merge_text(&rt, rt.alloc(), &a, &b)?;
-    assert_eq!(rt;
-        text.as_str(),
-        merge_text(&rt, rt.alloc(), &a, &b)?.as_str()
-    );
+    assert_same_texts(&rt, rt.alloc(), &a, &b)
+}
+
+fn assert_same_texts<R: Abort + RandomSource>(
+    rt: &R,
+    alloc: Global,
+    a: &Feed,
+    b: &Feed,
+) -> Result<(), Fail> {
+    let text = merge_text(rt, alloc, a, b)?;
+    let other = merge_text(rt, alloc, a, b)?;
+    assert_is(rt, text.as_str(), other.as_str(), "two texts");
     Ok(())
 }

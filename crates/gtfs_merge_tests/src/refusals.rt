@@ -1,5 +1,6 @@
 //! Feeds that are not merged: zones that differ, and files that are too long.
 
+use crate::assertions::assert_is;
 use crate::cases::AT_TEN;
 use crate::worked::WITH_SECOND;
 use gtfs_fixtures::{FileText, feed_with};
@@ -49,7 +50,7 @@ fn a_file_is_as_long_as_the_limit_and_no_longer(rt: HostRuntime) -> Result<(), F
             (u64::MAX, None),
         ] {
             let found = refused(&rt, rt.alloc(), feeds, limit)?;
-            assert_eq!(rt; found, (fault, false), "{limit}");
+            assert_is(&rt, found, (fault, false), limit);
         }
     }
     Ok(())
@@ -81,17 +82,22 @@ M,Metro,http://m.example,Europe/Berlin\nC,City,http://c.example,Europe/Berlin\n"
 
 #[test]
 fn zones_of_two_names_are_not_merged(rt: HostRuntime) -> Result<(), Fail> {
-    for (a, b, differ) in [
-        (&[] as &[FileText], &[BERLIN] as &[FileText], true),
-        (&[BERLIN], &[], true),
-        (&[], &[LOWER], true),
-        (&[], TWO_OF_BERLIN, true),
-        (&[BERLIN], TWO_OF_BERLIN, false),
-        (&[], &[AT_TEN], false),
+    for (a, b, differ, what) in [
+        (
+            &[] as &[FileText],
+            &[BERLIN] as &[FileText],
+            true,
+            "another zone in B",
+        ),
+        (&[BERLIN], &[], true, "another zone in A"),
+        (&[], &[LOWER], true, "another name of the zone"),
+        (&[], TWO_OF_BERLIN, true, "another zone of two agencies"),
+        (&[BERLIN], TWO_OF_BERLIN, false, "one zone"),
+        (&[], &[AT_TEN], false, "other times"),
     ] {
         let fault = differ.then_some(MergeFault::ZoneDiffers);
         let found = refused(&rt, rt.alloc(), (a, b), u64::MAX)?;
-        assert_eq!(rt; found, (fault, differ));
+        assert_is(&rt, found, (fault, differ), what);
     }
     Ok(())
 }
@@ -99,7 +105,8 @@ fn zones_of_two_names_are_not_merged(rt: HostRuntime) -> Result<(), Fail> {
 #[test]
 fn zones_are_judged_before_lengths(rt: HostRuntime) -> Result<(), Fail> {
     let found = refused(&rt, rt.alloc(), (&[], &[BERLIN]), 0)?;
-    assert_eq!(rt; found, (Some(MergeFault::ZoneDiffers), true));
+    let wanted = (Some(MergeFault::ZoneDiffers), true);
+    assert_is(&rt, found, wanted, "another zone in B");
     Ok(())
 }
 
@@ -110,8 +117,9 @@ fn faults_have_lines_and_numbers(rt: HostRuntime) -> Result<(), Fail> {
         (MergeFault::TooLarge, 2, "merged feed too large"),
         (MergeFault::OutOfMemory, 3, "out of memory"),
     ] {
-        assert_eq!(rt; fault as u8, number);
-        assert_eq!(rt; format!(in rt.alloc(); "{fault}")?.as_str(), line);
+        assert_is(&rt, fault as u8, number, line);
+        let shown = format!(in rt.alloc(); "{fault}")?;
+        assert_is(&rt, shown.as_str(), line, number);
     }
     Ok(())
 }

@@ -1,5 +1,6 @@
 //! The written files of a feed.
 
+use crate::assertions::assert_is;
 use gtfs_feed::Feed;
 use gtfs_table::{File, MemoryFolders};
 use std::alloc::Global;
@@ -48,10 +49,21 @@ pub(crate) fn assert_rows(
     written: &[Rows],
 ) -> Result<(), Fail> {
     for (file, rows) in written {
-        let wanted = format!(in alloc; "{}{rows}", header(*file))?;
-        let text = feed.file_text(alloc, *file)?;
-        assert_eq!(rt; text.as_str(), wanted.as_str());
+        assert_file(rt, alloc, feed, *file, rows)?;
     }
+    Ok(())
+}
+
+fn assert_file(
+    rt: &impl Abort,
+    alloc: Global,
+    feed: &Feed,
+    file: File,
+    rows: &str,
+) -> Result<(), Fail> {
+    let wanted = format!(in alloc; "{}{rows}", header(file))?;
+    let text = feed.file_text(alloc, file)?;
+    assert_is(rt, text.as_str(), wanted.as_str(), file.name());
     Ok(())
 }
 
@@ -64,7 +76,8 @@ pub(crate) fn assert_same_files(
 ) -> Result<(), Fail> {
     for file in File::ALL {
         let text = feed.file_text(alloc, file)?;
-        assert_eq!(rt; text.as_str(), other.file_text(alloc, file)?.as_str());
+        let other = other.file_text(alloc, file)?;
+        assert_is(rt, text.as_str(), other.as_str(), file.name());
     }
     Ok(())
 }

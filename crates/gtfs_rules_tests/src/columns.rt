@@ -1,5 +1,6 @@
 //! The columns' calls on their happy paths: what a value is, what is wrong with a text, and where an id stands.
 
+use crate::assertions::{assert_case, assert_is};
 use crate::feed::{FREQUENCIES, FileLines, put_files, small_feed};
 use crate::rows::PassedRow;
 use gtfs_columns::{
@@ -7,7 +8,7 @@ use gtfs_columns::{
     fault_code, has_control, is_one_of, is_required, length_code, read_choice, stop_types, type_of,
     values,
 };
-use gtfs_field::{Axis, FieldFault};
+use gtfs_field::{Axis, Clock, Colour, Coord, Day, FieldFault};
 use gtfs_rules::{Passed, check};
 use gtfs_table::{File, Tables};
 use std::alloc::Global;
@@ -21,52 +22,77 @@ fn times_and_days_are_read(rt: HostRuntime) {
         ("08:00:00", 28_800),
         ("999:59:59", 3_599_999),
     ] {
-        assert_eq!(rt; values::seconds(text), Some(seconds), "{text}");
-        assert_eq!(rt; values::time(text), Some(i64::from(seconds)), "{text}");
-        assert_eq!(rt;
-            values::clock(text).map(|clock| clock.seconds()),
-            Some(seconds),
-            "{text}"
-        );
+        let time = Some(i64::from(seconds));
+        let clock = seconds_of(values::clock(text));
+        assert_case(&rt, values::seconds(text), Some(seconds), "seconds", text);
+        assert_case(&rt, values::time(text), time, "time", text);
+        assert_case(&rt, clock, Some(seconds), "clock", text);
     }
     for text in ["1000:00:00", "08:60:00", ""] {
-        assert_eq!(rt; values::seconds(text), None, "{text}");
-        assert_eq!(rt; values::time(text), None, "{text}");
-        assert!(rt; values::clock(text).is_none(), "{text}");
+        assert_case(&rt, values::seconds(text), None, "seconds", text);
+        assert_case(&rt, values::time(text), None, "time", text);
+        assert_case(&rt, seconds_of(values::clock(text)), None, "clock", text);
     }
     for (text, number) in [
         ("19700102", 1),
         ("20240229", 19_782),
         ("99991231", 2_932_896),
     ] {
-        assert_eq!(rt; values::date(text), Some(i64::from(number)), "{text}");
-        assert_eq!(rt;
-            values::day(text).map(|day| day.number()),
-            Some(number),
-            "{text}"
-        );
+        let date = Some(i64::from(number));
+        assert_case(&rt, values::date(text), date, "date", text);
+        assert_case(&rt, number_of(values::day(text)), Some(number), "day", text);
     }
     for text in ["20230229", "18991231", "2024-02-29", ""] {
-        assert_eq!(rt; values::date(text), None, "{text}");
-        assert!(rt; values::day(text).is_none(), "{text}");
+        assert_case(&rt, values::date(text), None, "date", text);
+        assert_case(&rt, number_of(values::day(text)), None, "day", text);
     }
+}
+
+// The seconds of a time that was read.
+fn seconds_of(clock: Option<Clock>) -> Option<u32> {
+    Some(clock?.seconds())
+}
+
+// The number of a day that was read.
+fn number_of(day: Option<Day>) -> Option<i32> {
+    Some(day?.number())
+}
+
+// The bits of a colour that was read.
+fn bits_of(colour: Option<Colour>) -> Option<u32> {
+    Some(colour?.bits())
+}
+
+// The nanodegrees of a coordinate that was read.
+fn units_of(coord: Option<Coord>) -> Option<i64> {
+    Some(coord?.nanodegrees())
 }
 
 #[test]
 fn numbers_are_read(rt: HostRuntime) {
-    assert_eq!(rt; values::count("007"), Some(7));
-    assert_eq!(rt; values::count("2147483647"), Some(2_147_483_647));
-    assert_eq!(rt; values::count("2147483648"), None);
-    assert_eq!(rt; values::choice(&[(0, 7), (11, 12)], "11"), Some(11));
-    assert_eq!(rt; values::choice(&[(0, 7), (11, 12)], "8"), None);
-    assert_eq!(rt; values::choice_or(&[(0, 4)], "0", ""), Some(0));
-    assert_eq!(rt; values::choice_or(&[(0, 4)], "0", "3"), Some(3));
-    assert_eq!(rt; values::choice_or(&[(0, 4)], "0", "5"), None);
-    assert_eq!(rt;
-        values::colour("00ff7f").map(|colour| colour.bits()),
-        Some(0x00_FF7F)
-    );
-    assert!(rt; values::colour("00ff7").is_none());
+    for (text, count) in [
+        ("007", Some(7)),
+        ("2147483647", Some(2_147_483_647)),
+        ("2147483648", None),
+    ] {
+        assert_case(&rt, values::count(text), count, "count", text);
+    }
+    for (text, choice) in [("11", Some(11)), ("8", None)] {
+        let found = values::choice(&[(0, 7), (11, 12)], text);
+        assert_case(&rt, found, choice, "choice", text);
+    }
+    for (text, choice) in [("", Some(0)), ("3", Some(3)), ("5", None)] {
+        let found = values::choice_or(&[(0, 4)], "0", text);
+        assert_case(&rt, found, choice, "choice or 0", text);
+    }
+    for (text, bits) in [("00ff7f", Some(0x00_FF7F)), ("00ff7", None)] {
+        let found = bits_of(values::colour(text));
+        assert_case(&rt, found, bits, "colour", text);
+    }
+}
+
+#[test]
+fn coordinates_are_read(rt: HostRuntime) {
     let latitudes = [
         ("52.1234567899", Some(52_123_456_789)),
         ("-0.0000000001", Some(0)),
@@ -80,24 +106,22 @@ fn numbers_are_read(rt: HostRuntime) {
     ];
     for (text, units) in latitudes {
         let read = values::coordinate(Axis::Latitude, text);
-        assert_eq!(rt; read.map(|coord| coord.nanodegrees()), units, "{text}");
+        assert_case(&rt, units_of(read), units, "latitude", text);
     }
     let east = values::coordinate(Axis::Longitude, "180");
-    assert_eq!(rt;
-        east.map(|coord| coord.nanodegrees()),
-        Some(180_000_000_000)
-    );
+    assert_is(&rt, units_of(east), Some(180_000_000_000), "longitude 180");
 }
 
 #[test]
 fn texts_are_read(rt: HostRuntime) {
-    assert_eq!(rt; values::id("S1"), Some("S1"));
-    assert_eq!(rt; values::id("S\t1"), None);
-    assert_eq!(rt; values::id(""), None);
+    assert_is(&rt, values::id("S1"), Some("S1"), "id S1");
+    assert_is(&rt, values::id("S\t1"), None, "an id with a tab");
+    assert_is(&rt, values::id(""), None, "an empty id");
     assert!(rt; values::is_id("S1"));
     assert!(rt; !values::is_id(""));
-    assert_eq!(rt; values::text("Mill\tRoad"), Some("Mill\tRoad"));
-    assert_eq!(rt; values::text(""), None);
+    let road = "Mill\tRoad";
+    assert_is(&rt, values::text(road), Some(road), "a text with a tab");
+    assert_is(&rt, values::text(""), None, "an empty text");
     assert!(rt; has_control("\u{7f}"));
     assert!(rt; !has_control("Mill Road"));
 }
@@ -113,7 +137,7 @@ fn values_of_tables_that_pass_are_there(rt: HostRuntime) -> Result<(), Fail> {
 fn assert_passes(rt: &impl Abort, alloc: Global, tables: &Tables) -> Result<(), Fail> {
     match check(alloc, tables)?.passed() {
         Ok(passed) => assert_first_rows(rt, &passed),
-        Err(report) => assert_eq!(rt; report.problems().len(), 0),
+        Err(report) => assert_is(rt, report.problems().len(), 0, "problems"),
     }
     Ok(())
 }
@@ -121,25 +145,27 @@ fn assert_passes(rt: &impl Abort, alloc: Global, tables: &Tables) -> Result<(), 
 // The values of the first row of each file.
 fn assert_first_rows(rt: &impl Abort, passed: &Passed<'_>) {
     let agency = PassedRow::new(passed, File::Agency, 2);
-    assert_eq!(rt; agency.text("agency_name"), Some("Metro"));
+    assert_is(rt, agency.text("agency_name"), Some("Metro"), "agency_name");
     let stop = PassedRow::new(passed, File::Stops, 2);
-    assert_eq!(rt; stop.id("stop_id"), Some("S1"));
-    assert_eq!(rt; stop.choice_or("location_type", &[(0, 4)], "0"), Some(0));
+    assert_is(rt, stop.id("stop_id"), Some("S1"), "stop_id");
+    let location_type = stop.choice_or("location_type", &[(0, 4)], "0");
+    assert_is(rt, location_type, Some(0), "location_type");
     let route = PassedRow::new(passed, File::Routes, 2);
-    let route_types = [(0, 7), (11, 12), (100, 1799)];
-    assert_eq!(rt; route.choice("route_type", &route_types), Some(3));
+    let route_type = route.choice("route_type", &[(0, 7), (11, 12), (100, 1799)]);
+    assert_is(rt, route_type, Some(3), "route_type");
     let colour = route.colour_or("route_color", "FFFFFF");
-    assert_eq!(rt; colour.map(|colour| colour.bits()), Some(0xFF_FFFF));
+    assert_is(rt, bits_of(colour), Some(0xFF_FFFF), "route_color");
     let stop_time = PassedRow::new(passed, File::StopTimes, 2);
-    assert_eq!(rt; stop_time.count("stop_sequence"), Some(1));
+    let sequence = stop_time.count("stop_sequence");
+    assert_is(rt, sequence, Some(1), "stop_sequence");
     let frequency = PassedRow::new(passed, File::Frequencies, 2);
     let start = frequency.clock("start_time");
-    assert_eq!(rt; start.map(|clock| clock.seconds()), Some(21_600));
+    assert_is(rt, seconds_of(start), Some(21_600), "start_time");
     let calendar = PassedRow::new(passed, File::Calendar, 2);
     let first_day = calendar.day("start_date");
-    assert_eq!(rt; first_day.map(|day| day.number()), Some(19_814));
+    assert_is(rt, number_of(first_day), Some(19_814), "start_date");
     let none = PassedRow::new(passed, File::Agency, 3);
-    assert_eq!(rt; none.text("agency_name"), None);
+    assert_is(rt, none.text("agency_name"), None, "a value of no row");
 }
 
 // A frequency of the trip of the small feed.
@@ -148,33 +174,54 @@ const HOURLY: FileLines = (
     &[FREQUENCIES, "T1,06:00:00,07:00:00,600"],
 );
 
-#[test]
-fn a_text_has_one_code_under_a_column(rt: HostRuntime) {
-    let column = |empty| Column {
+fn stop_id_column(empty: Empty) -> Column {
+    Column {
         name: "stop_id",
         kind: Kind::Id,
         empty,
-    };
-    let required = column(Empty::Refused);
-    let optional = column(Empty::Nothing);
+    }
+}
+
+#[test]
+fn a_text_has_one_code_under_a_column(rt: HostRuntime) {
+    let required = stop_id_column(Empty::Refused);
+    let optional = stop_id_column(Empty::Nothing);
     assert!(rt; is_required(&required));
     assert!(rt; !is_required(&optional));
-    assert!(rt; !is_required(&column(Empty::Means("0"))));
-    assert_eq!(rt; cell_code(true, &required, ""), Some(Code::E06));
-    assert_eq!(rt; cell_code(false, &required, ""), None);
-    assert_eq!(rt; cell_code(true, &optional, ""), None);
-    assert_eq!(rt; cell_code(true, &required, "S\t1"), Some(Code::E20));
-    assert_eq!(rt; cell_code(true, &required, "S1"), None);
-    assert_eq!(rt; fault_code(Kind::Text, "S\t1"), Some(Code::W05));
-    assert_eq!(rt; fault_code(Kind::Time, "08:60:00"), Some(Code::E07));
-    assert_eq!(rt; fault_code(Kind::Choice(&[(0, 4)]), "5"), Some(Code::E08));
-    assert_eq!(rt; fault_code(Kind::Coordinate(Axis::Latitude), "90"), None);
-    assert_eq!(rt; read_choice(&[(0, 4)], "4"), Ok(4));
-    assert_eq!(rt; read_choice(&[(0, 4)], "5"), Err(FieldFault::Range));
-    assert_eq!(rt; read_choice(&[(0, 4)], "x"), Err(FieldFault::Form));
-    assert_eq!(rt; length_code(5, 4), Some(Code::W01));
-    assert_eq!(rt; length_code(5, 6), Some(Code::W02));
-    assert_eq!(rt; length_code(5, 5), None);
+    assert!(rt; !is_required(&stop_id_column(Empty::Means("0"))));
+    for (is_named, column, text, code) in [
+        (true, &required, "", Some(Code::E06)),
+        (false, &required, "", None),
+        (true, &optional, "", None),
+        (true, &required, "S\t1", Some(Code::E20)),
+        (true, &required, "S1", None),
+    ] {
+        let found = cell_code(is_named, column, text);
+        let case = (is_named, is_required(column), text);
+        assert_case(&rt, found, code, "code", case);
+    }
+}
+
+#[test]
+fn a_text_has_one_code_under_a_kind(rt: HostRuntime) {
+    for (kind, text, code) in [
+        (Kind::Text, "S\t1", Some(Code::W05)),
+        (Kind::Time, "08:60:00", Some(Code::E07)),
+        (Kind::Choice(&[(0, 4)]), "5", Some(Code::E08)),
+        (Kind::Coordinate(Axis::Latitude), "90", None),
+    ] {
+        assert_case(&rt, fault_code(kind, text), code, "code", text);
+    }
+    for (text, choice) in [
+        ("4", Ok(4)),
+        ("5", Err(FieldFault::Range)),
+        ("x", Err(FieldFault::Form)),
+    ] {
+        assert_case(&rt, read_choice(&[(0, 4)], text), choice, "choice", text);
+    }
+    for (fields, code) in [(4, Some(Code::W01)), (6, Some(Code::W02)), (5, None)] {
+        assert_case(&rt, length_code(5, fields), code, "length", fields);
+    }
 }
 
 // The first row of an id, which is asked for after others.
@@ -197,11 +244,24 @@ fn the_first_row_of_an_id_is_found(rt: HostRuntime) -> Result<(), Fail> {
     put_files(rt.alloc(), &mut folders, &[TYPED])?;
     let tables = Tables::read(rt.alloc(), &mut folders, "f1")?;
     let ids = FeedIds::new(rt.alloc(), &tables)?;
-    assert_eq!(rt; first_row_of(&ids.stops, "S1"), Some(2));
-    assert_eq!(rt; first_row_of(&ids.stops, "P1"), Some(3));
-    assert_eq!(rt; first_row_of(&ids.stops, "X1"), Some(5));
-    assert_eq!(rt; first_row_of(&ids.stops, "S9"), None);
+    assert_stops_found(&rt, &ids.stops);
     let types = stop_types(rt.alloc(), &tables)?;
+    assert_types(&rt, types.as_slice());
+    Ok(())
+}
+
+fn assert_stops_found(rt: &impl Abort, stops: &Ids<'_>) {
+    for (id, row) in [
+        ("S1", Some(2)),
+        ("P1", Some(3)),
+        ("X1", Some(5)),
+        ("S9", None),
+    ] {
+        assert_case(rt, first_row_of(stops, id), row, "first row", id);
+    }
+}
+
+fn assert_types(rt: &impl Abort, types: &[Option<i64>]) {
     for (row, location_type) in [
         (2, Some(0)),
         (3, Some(1)),
@@ -209,11 +269,10 @@ fn the_first_row_of_an_id_is_found(rt: HostRuntime) -> Result<(), Fail> {
         (5, None),
         (6, Some(0)),
     ] {
-        assert_eq!(rt; type_of(types.as_slice(), row), location_type, "{row}");
+        assert_case(rt, type_of(types, row), location_type, "type", row);
     }
     assert!(rt; is_one_of(&[0, 2, 3], 2));
     assert!(rt; !is_one_of(&[0, 2, 3], 1));
-    Ok(())
 }
 
 fn problem(

@@ -15,6 +15,8 @@
 #![tactic(auto)]
 
 #[cfg(test)]
+mod assertions;
+#[cfg(test)]
 mod codes;
 #[cfg(test)]
 mod columns;

@@ -1,10 +1,12 @@
 //! A feed of which two files have more than 2^17 rows, and each of those rows a problem.
 
+use crate::assertions::{assert_case, assert_is};
 use crate::feed::{FEED, STOP_TIMES, TRIPS, put_files};
 use gtfs_field::OutOfMemory;
 use gtfs_rules::{Code, FileName, Problem, check};
 use gtfs_table::{File, MemoryFolders, Tables};
 use std::alloc::Global;
+use std::process::Abort;
 use std::test::Fail;
 
 // How many trips there are, more than 2^17.
@@ -63,9 +65,13 @@ fn every_problem_of_many_is_reported(rt: HostRuntime) -> Result<(), Fail> {
     folders.put("f1", "stop_times.txt", stop_times.as_bytes())?;
     let tables = Tables::read(rt.alloc(), &mut folders, "f1")?;
     let report = check(rt.alloc(), &tables)?;
-    assert_eq!(rt; report.problems().len(), 2 * COUNT);
-    for (n, problem) in report.problems().iter().enumerate() {
-        assert!(rt; *problem == wanted(n), "at {n}");
-    }
+    assert_problems(&rt, report.problems());
     Ok(())
+}
+
+fn assert_problems(rt: &impl Abort, problems: &[Problem<'_>]) {
+    assert_is(rt, problems.len(), 2 * COUNT, "problems");
+    for (n, problem) in problems.iter().enumerate() {
+        assert_case(rt, *problem, wanted(n), "problem", n);
+    }
 }

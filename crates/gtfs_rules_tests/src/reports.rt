@@ -1,5 +1,6 @@
 //! What is found in a folder, beside what is wanted.
 
+use crate::assertions::{assert_case, assert_is};
 use crate::feed::{FileLines, put_files, small_feed, text_of};
 use crate::slow::slow_check;
 use gtfs_rules::{Problem, check};
@@ -37,6 +38,18 @@ fn lines_of(alloc: Global, problems: &[Problem]) -> Result<String, Fail> {
     Ok(lines)
 }
 
+// The lines of what the check finds.
+fn found_lines(alloc: Global, tables: &Tables) -> Result<String, Fail> {
+    let report = check(alloc, tables)?;
+    lines_of(alloc, report.problems())
+}
+
+// The lines of what the slow check finds.
+fn slow_lines(alloc: Global, tables: &Tables) -> Result<String, Fail> {
+    let problems = slow_check(alloc, tables)?;
+    lines_of(alloc, &problems)
+}
+
 /// The tables of the folder have these problems, as the check finds them and as the slow check does.
 pub(crate) fn assert_report(
     rt: &impl Abort,
@@ -47,18 +60,10 @@ pub(crate) fn assert_report(
 ) -> Result<(), Fail> {
     let tables = Tables::read(alloc, folders, "f1")?;
     let wanted = text_of(alloc, wanted)?;
-    let slow = slow_check(alloc, &tables)?;
-    assert_eq!(rt;
-        lines_of(alloc, &slow)?.as_str(),
-        wanted.as_str(),
-        "slowly, {what}"
-    );
-    let report = check(alloc, &tables)?;
-    assert_eq!(rt;
-        lines_of(alloc, report.problems())?.as_str(),
-        wanted.as_str(),
-        "{what}"
-    );
+    let slow = slow_lines(alloc, &tables)?;
+    assert_case(rt, slow.as_str(), wanted.as_str(), "slow report", what);
+    let found = found_lines(alloc, &tables)?;
+    assert_case(rt, found.as_str(), wanted.as_str(), "report", what);
     Ok(())
 }
 
@@ -69,9 +74,9 @@ pub(crate) fn assert_same(
     folders: &mut MemoryFolders,
 ) -> Result<(), Fail> {
     let tables = Tables::read(alloc, folders, "f1")?;
-    let slow = lines_of(alloc, &slow_check(alloc, &tables)?)?;
-    let report = check(alloc, &tables)?;
-    assert_eq!(rt; lines_of(alloc, report.problems())?.as_str(), slow.as_str());
+    let slow = slow_lines(alloc, &tables)?;
+    let found = found_lines(alloc, &tables)?;
+    assert_is(rt, found.as_str(), slow.as_str(), "what both checks find");
     Ok(())
 }
 

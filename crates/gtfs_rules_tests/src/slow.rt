@@ -55,21 +55,21 @@ fn ask_row<'a>(
     problems: &mut Vec<Problem<'a>>,
 ) -> Result<(), AllocError> {
     for code in Code::all() {
-        let at = |column| Asked {
+        let asked = Asked {
             tables,
             file,
             row,
             code,
-            column,
+            column: "",
         };
-        ask(at(""), problems)?;
+        ask(asked, problems)?;
         for n in 0..12 {
             if let Some(column) = column_at(file, n) {
-                ask(at(column.name), problems)?;
+                ask(asked.at(column.name), problems)?;
             }
         }
         for n in 0..tables.fields(file, 1) {
-            ask(at(tables.field(file, 1, n)), problems)?;
+            ask(asked.at(tables.field(file, 1, n)), problems)?;
         }
     }
     Ok(())
@@ -85,6 +85,13 @@ fn ask<'a>(asked: Asked<'a>, problems: &mut Vec<Problem<'a>>) -> Result<(), Allo
         })?;
     }
     Ok(())
+}
+
+impl<'a> Asked<'a> {
+    // The same question of another column.
+    fn at(self, column: &'a str) -> Asked<'a> {
+        Asked { column, ..self }
+    }
 }
 
 impl Asked<'_> {

@@ -1,5 +1,6 @@
 //! The stop times of a feed that passes, as they are handed on.
 
+use crate::assertions::assert_is;
 use crate::feed::{FileLines, HILL, LAKE, MILL, STOPS, TRIPS, put_files, small_feed};
 use gtfs_rules::{StopTime, check};
 use gtfs_table::Tables;
@@ -65,6 +66,6 @@ fn stop_times_stand_by_trip_and_sequence(rt: HostRuntime) -> Result<(), Fail> {
         Ok(passed) => lines_of(rt.alloc(), passed.stop_times())?,
         Err(_) => String::new(rt.alloc()),
     };
-    assert_eq!(rt; lines.as_str(), WANTED);
+    assert_is(&rt, lines.as_str(), WANTED, "stop times");
     Ok(())
 }

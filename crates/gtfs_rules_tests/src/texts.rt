@@ -1,6 +1,7 @@
 //! Texts of each length up to twenty bytes, beside themselves, beside those that differ at one byte, and beside shorter
 //! ones.
 
+use crate::assertions::assert_case;
 use gtfs_columns::are_equal;
 
 const TEXT: [u8; 20] = *b"ABCDEFGHIJKLMNOPQRST";
@@ -10,17 +11,19 @@ fn a_text_equals_itself_alone(rt: HostRuntime) {
     for length in 0..TEXT.len() {
         let text = &TEXT[..length];
         let longer = &TEXT[..length + 1];
-        assert!(rt; are_equal(text, text), "{length}");
-        assert!(rt; !are_equal(text, longer), "{length}");
-        assert!(rt; !are_equal(longer, text), "{length}");
+        assert_case(&rt, are_equal(text, text), true, "itself", length);
+        assert_case(&rt, are_equal(text, longer), false, "one more", length);
+        assert_case(&rt, are_equal(longer, text), false, "one less", length);
     }
 }
 
 #[test]
 fn texts_that_differ_at_one_byte_are_not_equal(rt: HostRuntime) {
     for length in 1..TEXT.len() + 1 {
-        let told = (0..length).filter(|at| is_told(*at, length)).count();
-        assert_eq!(rt; told, length);
+        for at in 0..length {
+            let case = (length, at);
+            assert_case(&rt, is_told(at, length), true, "a byte", case);
+        }
     }
 }
 

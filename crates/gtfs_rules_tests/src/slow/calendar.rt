@@ -30,8 +30,8 @@ impl Asked<'_> {
     }
 
     fn is_empty_period(self) -> bool {
-        let time = |column| amount_in(self.tables, File::Frequencies, self.row, column);
-        match (time("start_time"), time("end_time")) {
+        let start = period_time(self.tables, self.row, "start_time");
+        match (start, period_time(self.tables, self.row, "end_time")) {
             (Some(start), Some(end)) => end <= start,
             _ => false,
         }
@@ -41,76 +41,116 @@ impl Asked<'_> {
         let Some(own) = period(self.tables, self.row) else {
             return false;
         };
-        (2..self.row)
-            .filter(|row| is_row(self.tables, File::Frequencies, *row))
-            .filter_map(|row| period(self.tables, row))
-            .any(|other| other.0 == own.0 && other.1.max(own.1) < other.2.min(own.2))
+        for row in 2..self.row {
+            if is_row(self.tables, File::Frequencies, row) && share(period(self.tables, row), own) {
+                return true;
+            }
+        }
+        false
     }
 
     // The row is the first of its service, all of whose rows are sound and none of whose days is active.
     fn never_runs(self) -> bool {
-        let first = |file, id| row_with(self.tables, file, "service_id", id);
         let is_calendar = self.file == File::Calendar || self.file == File::CalendarDates;
-        let Some(id) = word_in(self.tables, self.file, self.row, "service_id") else {
+        let Some(id) = service_of(self.tables, self.file, self.row) else {
             return false;
         };
-        let in_calendar = first(File::Calendar, id);
-        let reported = in_calendar.or(first(File::CalendarDates, id));
+        let in_calendar = first_row(self.tables, File::Calendar, id);
+        let reported = in_calendar.or(first_row(self.tables, File::CalendarDates, id));
         let own_file = self.file == File::Calendar || in_calendar.is_none();
         is_calendar
             && own_file
             && reported == Some(self.row)
-            && self.is_sound(File::Calendar, id)
-            && self.is_sound(File::CalendarDates, id)
-            && !self.has_active_day(id)
+            && are_sound(self.tables, File::Calendar, id)
+            && are_sound(self.tables, File::CalendarDates, id)
+            && !has_active_day(self.tables, id)
     }
+}
 
-    fn is_sound(self, file: File, id: &str) -> bool {
-        (2..=self.tables.records(file))
-            .filter(|row| is_row(self.tables, file, *row))
-            .filter(|row| word_in(self.tables, file, *row, "service_id") == Some(id))
-            .all(|row| {
-                let readable = (0..12).filter_map(|n| column_at(file, n)).all(|column| value_in(
-                    self.tables,
-                    file,
-                    row,
-                    column.name,
-                ).is_some());
-                let ends_early = file == File::Calendar && ends_early(self.tables, row);
-                readable && !has_key_twice(self.tables, file, row) && !ends_early
-            })
+fn service_of(tables: &Tables, file: File, row: usize) -> Option<&str> {
+    word_in(tables, file, row, "service_id")
+}
+
+fn first_row(tables: &Tables, file: File, id: &str) -> Option<usize> {
+    row_with(tables, file, "service_id", id)
+}
+
+// Whether all rows of a service are sound.
+fn are_sound(tables: &Tables, file: File, id: &str) -> bool {
+    for row in 2..=tables.records(file) {
+        let is_of_service = service_of(tables, file, row) == Some(id);
+        if is_row(tables, file, row) && is_of_service && !is_sound(tables, file, row) {
+            return false;
+        }
     }
+    true
+}
 
-    fn has_active_day(self, id: &str) -> bool {
-        let dates = self.tables.records(File::CalendarDates);
-        let is_added = |row| matches!(self.exception(id, 1, row), Some(day) if is_service_day(day));
-        if (2..=dates).any(is_added) {
+fn is_sound(tables: &Tables, file: File, row: usize) -> bool {
+    let ends_early = file == File::Calendar && ends_early(tables, row);
+    is_readable(tables, file, row) && !has_key_twice(tables, file, row) && !ends_early
+}
+
+// Whether each kept column has a value.
+fn is_readable(tables: &Tables, file: File, row: usize) -> bool {
+    for n in 0..12 {
+        if let Some(column) = column_at(file, n)
+            && value_in(tables, file, row, column.name).is_none()
+        {
+            return false;
+        }
+    }
+    true
+}
+
+fn has_active_day(tables: &Tables, id: &str) -> bool {
+    let Some(row) = first_row(tables, File::Calendar, id) else {
+        return has_added_day(tables, id);
+    };
+    has_added_day(tables, id) || has_day_that_stays(tables, id, row)
+}
+
+fn has_added_day(tables: &Tables, id: &str) -> bool {
+    for row in 2..=tables.records(File::CalendarDates) {
+        if let Some(day) = exception(tables, id, 1, row)
+            && is_service_day(day)
+        {
             return true;
         }
-        let Some(row) = row_with(self.tables, File::Calendar, "service_id", id) else {
-            return false;
-        };
-        let date = |column| amount_in(self.tables, File::Calendar, row, column).unwrap_or(0);
-        (date("start_date")..=date("end_date")).any(|day| {
-            is_service_day(day) && runs_on(self.tables, row, day) && !self.is_removed(id, day)
-        })
     }
+    false
+}
 
-    fn is_removed(self, id: &str, day: i64) -> bool {
-        (2..=self.tables.records(File::CalendarDates)).any(|row| self.exception(id, 2, row)
-            == Some(day))
-    }
-
-    // The day of a row of calendar_dates.txt, where it is an exception of this service and type.
-    fn exception(self, id: &str, kind: i64, row: usize) -> Option<i64> {
-        let number = |column| amount_in(self.tables, File::CalendarDates, row, column);
-        let is_of_service = is_row(self.tables, File::CalendarDates, row)
-            && word_in(self.tables, File::CalendarDates, row, "service_id") == Some(id);
-        if is_of_service && number("exception_type") == Some(kind) {
-            number("date")
-        } else {
-            None
+// Whether a day of the row of calendar.txt is not removed.
+fn has_day_that_stays(tables: &Tables, id: &str, row: usize) -> bool {
+    let first = date(tables, row, "start_date").unwrap_or(0);
+    let last = date(tables, row, "end_date").unwrap_or(0);
+    for day in first..=last {
+        if is_service_day(day) && runs_on(tables, row, day) && !is_removed(tables, id, day) {
+            return true;
         }
+    }
+    false
+}
+
+fn is_removed(tables: &Tables, id: &str, day: i64) -> bool {
+    for row in 2..=tables.records(File::CalendarDates) {
+        if exception(tables, id, 2, row) == Some(day) {
+            return true;
+        }
+    }
+    false
+}
+
+// The day of a row of calendar_dates.txt, where it is an exception of this service and type.
+fn exception(tables: &Tables, id: &str, kind: i64, row: usize) -> Option<i64> {
+    let is_of_service = is_row(tables, File::CalendarDates, row)
+        && service_of(tables, File::CalendarDates, row) == Some(id);
+    let own_kind = amount_in(tables, File::CalendarDates, row, "exception_type");
+    if is_of_service && own_kind == Some(kind) {
+        amount_in(tables, File::CalendarDates, row, "date")
+    } else {
+        None
     }
 }
 
@@ -118,9 +158,15 @@ fn is_service_day(day: i64) -> bool {
     (FIRST_DAY..=LAST_DAY).contains(&day)
 }
 
+fn date(tables: &Tables, row: usize, column: &str) -> Option<i64> {
+    amount_in(tables, File::Calendar, row, column)
+}
+
 fn ends_early(tables: &Tables, row: usize) -> bool {
-    let date = |column| amount_in(tables, File::Calendar, row, column);
-    match (date("start_date"), date("end_date")) {
+    match (
+        date(tables, row, "start_date"),
+        date(tables, row, "end_date"),
+    ) {
         (Some(start), Some(end)) => end < start,
         _ => false,
     }
@@ -129,16 +175,31 @@ fn ends_early(tables: &Tables, row: usize) -> bool {
 fn period(tables: &Tables, row: usize) -> Option<(&str, i64, i64)> {
     Some((
         word_in(tables, File::Frequencies, row, "trip_id")?,
-        amount_in(tables, File::Frequencies, row, "start_time")?,
-        amount_in(tables, File::Frequencies, row, "end_time")?,
+        period_time(tables, row, "start_time")?,
+        period_time(tables, row, "end_time")?,
     ))
+}
+
+fn period_time(tables: &Tables, row: usize, column: &str) -> Option<i64> {
+    amount_in(tables, File::Frequencies, row, column)
+}
+
+// Whether a period is of the same trip as another, and shares a second with it.
+fn share(period: Option<(&str, i64, i64)>, other: (&str, i64, i64)) -> bool {
+    match period {
+        Some((trip, start, end)) => { trip == other.0 && start.max(other.1) < end.min(other.2) }
+        None => false,
+    }
 }
 
 // Whether a calendar row runs on the weekday of a day.
 fn runs_on(tables: &Tables, row: usize, day: i64) -> bool {
     // 1970-01-01 was a Thursday.
     let weekday = day.wrapping_add(3).rem_euclid(7);
-    (0..).zip(WEEKDAYS).any(|(n, name)| {
-        n == weekday && amount_in(tables, File::Calendar, row, name) == Some(1)
-    })
+    for (n, name) in (0..).zip(WEEKDAYS) {
+        if n == weekday && date(tables, row, name) == Some(1) {
+            return true;
+        }
+    }
+    false
 }

@@ -1,6 +1,6 @@
 use super::Asked;
-use super::values::{column_named, is_row};
-use gtfs_columns::Empty;
+use super::values::{column_named, count_rows};
+use gtfs_columns::{Column, Empty};
 use gtfs_rules::Code;
 use gtfs_table::{File, State, Tables};
 
@@ -15,20 +15,35 @@ impl Asked<'_> {
     }
 
     pub(super) fn header_holds(self) -> bool {
-        let times = (0..self.tables.fields(self.file, 1))
-            .filter(|n| self.tables.field(self.file, 1, *n) == self.column)
-            .count();
+        let times = times_named(self.tables, self.file, self.column);
         let kept = column_named(self.file, self.column);
         self.row == 1
             && match self.code {
                 Code::E03 => {
-                    let required = kept.is_some_and(|kept| matches!(kept.empty, Empty::Refused));
+                    let required = matches!(
+                        kept,
+                        Some(Column {
+                            empty: Empty::Refused,
+                            ..
+                        })
+                    );
                     self.tables.records(self.file) > 0 && times == 0 && required
                 }
                 Code::E04 => kept.is_some() && times > 1,
                 _ => kept.is_none() && times > 0 && !self.column.is_empty(),
             }
     }
+}
+
+// How often the header has a name.
+fn times_named(tables: &Tables, file: File, name: &str) -> usize {
+    let mut times = 0usize;
+    for n in 0..tables.fields(file, 1) {
+        if tables.field(file, 1, n) == name {
+            times += 1;
+        }
+    }
+    times
 }
 
 fn is_needed(file: File) -> bool {
@@ -57,12 +72,11 @@ fn is_missing(tables: &Tables, file: File) -> bool {
 // Whether a needed file has no record (reported at row 0), or agency.txt has a header alone (reported at row 1).
 fn is_bare(tables: &Tables, file: File, row: usize) -> bool {
     let records = tables.records(file);
-    let has_row = (2..=records).any(|row| is_row(tables, file, row));
     is_needed(file)
         && tables.state(file) == State::Read
         && match row {
             0 => records == 0,
-            1 => file == File::Agency && records > 0 && !has_row,
+            1 => file == File::Agency && records > 0 && count_rows(tables, file) == 0,
             _ => false,
         }
 }

@@ -72,11 +72,10 @@ impl Asked<'_> {
 
     fn names_nothing(self) -> bool {
         let files = named_by(self.file, self.column);
-        let id = word_in(self.tables, self.file, self.row, self.column);
-        !files.is_empty()
-            && id.is_some_and(|id| {
-                files.iter().all(|named| row_with(self.tables, named.0, named.1, id).is_none())
-            })
+        match word_in(self.tables, self.file, self.row, self.column) {
+            Some(id) => !files.is_empty() && !has_row(self.tables, files, id),
+            None => false,
+        }
     }
 
     fn names_other_kind(self) -> bool {
@@ -92,22 +91,48 @@ impl Asked<'_> {
             }
             _ => return false,
         };
-        let named = word_in(self.tables, self.file, self.row, self.column)
-            .and_then(|id| row_with(self.tables, File::Stops, "stop_id", id))
-            .and_then(|row| choice_in(self.tables, File::Stops, row, "location_type"));
-        named.is_some_and(|kind| !wanted.contains(&kind))
+        match self.kind_of_named() {
+            Some(kind) => !wanted.contains(&kind),
+            None => false,
+        }
     }
+
+    // The location type of the stop that the column names.
+    fn kind_of_named(self) -> Option<i64> {
+        let id = word_in(self.tables, self.file, self.row, self.column)?;
+        let row = row_with(self.tables, File::Stops, "stop_id", id)?;
+        choice_in(self.tables, File::Stops, row, "location_type")
+    }
+}
+
+// Whether one of the files has a row with the id.
+fn has_row(tables: &Tables, files: &[(File, &str)], id: &str) -> bool {
+    for (file, column) in files {
+        if row_with(tables, *file, column, id).is_some() {
+            return true;
+        }
+    }
+    false
 }
 
 /// Whether an earlier row of the file has the row's key.
 pub(super) fn has_key_twice(tables: &Tables, file: File, row: usize) -> bool {
-    (2..row).any(|earlier| {
-        is_row(tables, file, earlier)
-            && key_columns(file).0.iter().all(|column| {
-                let part = key_part(tables, file, row, column);
-                part.is_some() && part == key_part(tables, file, earlier, column)
-            })
-    })
+    for earlier in 2..row {
+        if is_row(tables, file, earlier) && have_same_key(tables, file, row, earlier) {
+            return true;
+        }
+    }
+    false
+}
+
+fn have_same_key(tables: &Tables, file: File, row: usize, earlier: usize) -> bool {
+    for column in key_columns(file).0 {
+        let part = key_part(tables, file, row, column);
+        if part.is_none() || part != key_part(tables, file, earlier, column) {
+            return false;
+        }
+    }
+    true
 }
 
 fn key_part<'a>(tables: &'a Tables, file: File, row: usize, column: &str) -> Option<Value<'a>> {

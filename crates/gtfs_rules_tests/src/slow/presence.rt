@@ -1,5 +1,5 @@
 use super::Asked;
-use super::values::{choice_in, is_row, value_in, word_in};
+use super::values::{choice_in, count_rows, is_row, value_in, word_in};
 use gtfs_rules::Code;
 use gtfs_table::{File, Tables};
 
@@ -22,7 +22,7 @@ impl Asked<'_> {
     }
 
     fn lacks_agency(self) -> bool {
-        rows(self.tables, File::Agency) > 1 && !self.has("agency_id")
+        count_rows(self.tables, File::Agency) > 1 && !self.has("agency_id")
     }
 
     fn stop_lacks(self) -> bool {
@@ -60,17 +60,21 @@ impl Asked<'_> {
     }
 
     fn has_other_zone(self) -> bool {
-        let zone = |row| word_in(self.tables, File::Agency, row, "agency_timezone");
-        let first = (2..=self.tables.records(File::Agency))
-            .filter(|row| is_row(self.tables, File::Agency, *row))
-            .filter_map(zone)
-            .next();
-        zone(self.row).is_some() && zone(self.row) != first
+        let own = zone(self.tables, self.row);
+        own.is_some() && own != first_zone(self.tables)
     }
 }
 
-fn rows(tables: &Tables, file: File) -> usize {
-    (2..=tables.records(file))
-        .filter(|row| is_row(tables, file, *row))
-        .count()
+fn zone(tables: &Tables, row: usize) -> Option<&str> {
+    word_in(tables, File::Agency, row, "agency_timezone")
+}
+
+// The first zone that is readable.
+fn first_zone(tables: &Tables) -> Option<&str> {
+    for row in 2..=tables.records(File::Agency) {
+        if is_row(tables, File::Agency, row) && zone(tables, row).is_some() {
+            return zone(tables, row);
+        }
+    }
+    None
 }

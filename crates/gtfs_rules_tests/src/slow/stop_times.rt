@@ -32,20 +32,21 @@ impl Asked<'_> {
     }
 
     fn leaves_early(self) -> bool {
-        let time = |column| amount_in(self.tables, File::StopTimes, self.row, column);
-        match (time("departure_time"), time("arrival_time")) {
+        match (self.time("departure_time"), self.time("arrival_time")) {
             (Some(departure), Some(arrival)) => departure < arrival,
             _ => false,
         }
     }
 
+    fn time(self, column: &str) -> Option<i64> {
+        amount_in(self.tables, File::StopTimes, self.row, column)
+    }
+
     fn has_few_rows(self) -> bool {
-        let trip = word_in(self.tables, File::Trips, self.row, "trip_id");
-        let count = (2..=self.tables.records(File::StopTimes))
-            .filter(|row| is_row(self.tables, File::StopTimes, *row))
-            .filter(|row| word_in(self.tables, File::StopTimes, *row, "trip_id") == trip)
-            .count();
-        trip.is_some() && count < 2
+        match word_in(self.tables, File::Trips, self.row, "trip_id") {
+            Some(trip) => count_stop_times(self.tables, trip) < 2,
+            None => false,
+        }
     }
 
     // No row of the trip stands before this one, or of the rows with the greatest sequence it is the first.
@@ -53,16 +54,31 @@ impl Asked<'_> {
         let Some(own) = order(self.tables, self.row) else {
             return false;
         };
-        let records = self.tables.records(File::StopTimes);
-        let is_first = (2..=records).all(|row| match self.order_in_trip(row) {
-            Some(other) => other >= own,
-            None => true,
-        });
-        let is_last = (2..=records).all(|row| match self.order_in_trip(row) {
-            Some(other) => other.0 < own.0 || other.0 == own.0 && other.1 >= own.1,
-            None => true,
-        });
-        self.is_empty("arrival_time") && self.is_empty("departure_time") && (is_first || is_last)
+        self.is_empty("arrival_time")
+            && self.is_empty("departure_time")
+            && (self.is_first(own) || self.is_last(own))
+    }
+
+    fn is_first(self, own: (i64, usize)) -> bool {
+        for row in 2..=self.tables.records(File::StopTimes) {
+            match self.order_in_trip(row) {
+                Some(other) if other < own => return false,
+                _ => {}
+            }
+        }
+        true
+    }
+
+    fn is_last(self, own: (i64, usize)) -> bool {
+        for row in 2..=self.tables.records(File::StopTimes) {
+            match self.order_in_trip(row) {
+                Some(other) if other.0 > own.0 || other.0 == own.0 && other.1 < own.1 => {
+                    return false;
+                }
+                _ => {}
+            }
+        }
+        true
     }
 
     // The site of a row of the same trip.
@@ -75,10 +91,10 @@ impl Asked<'_> {
     }
 
     fn is_of_same_trip(self, row: usize) -> bool {
-        let trip = |row| word_in(self.tables, File::StopTimes, row, "trip_id");
+        let trip = trip_of(self.tables, row);
         is_row(self.tables, File::StopTimes, row)
-            && trip(row).is_some()
-            && trip(row) == trip(self.row)
+            && trip.is_some()
+            && trip == trip_of(self.tables, self.row)
     }
 
     // The last timed row before this one leaves after this one is reached.
@@ -89,21 +105,49 @@ impl Asked<'_> {
         ) else {
             return false;
         };
-        let before = (2..=self.tables.records(File::StopTimes))
-            .filter(|row| self.is_of_same_trip(*row))
-            .filter_map(|row| {
-                let left = time(self.tables, row, "departure_time", "arrival_time")?;
-                Some((order(self.tables, row)?, left))
-            })
-            .filter(|other| other.0 < own)
-            .max();
-        before.is_some_and(|last| arrival < last.1)
+        match self.last_before(own) {
+            Some((_, departure)) => arrival < departure,
+            None => false,
+        }
     }
+
+    // The site and the departure of the last timed row of the trip before this site.
+    fn last_before(self, own: (i64, usize)) -> Option<((i64, usize), i64)> {
+        let mut last = None;
+        for row in 2..=self.tables.records(File::StopTimes) {
+            last = last.max(self.left_before(row, own));
+        }
+        last
+    }
+
+    fn left_before(self, row: usize, own: (i64, usize)) -> Option<((i64, usize), i64)> {
+        let other = self.order_in_trip(row)?;
+        let departure = time(self.tables, row, "departure_time", "arrival_time")?;
+        if other < own {
+            Some((other, departure))
+        } else {
+            None
+        }
+    }
+}
+
+fn trip_of(tables: &Tables, row: usize) -> Option<&str> {
+    word_in(tables, File::StopTimes, row, "trip_id")
+}
+
+fn count_stop_times(tables: &Tables, trip: &str) -> usize {
+    let mut count = 0usize;
+    for row in 2..=tables.records(File::StopTimes) {
+        if is_row(tables, File::StopTimes, row) && trip_of(tables, row) == Some(trip) {
+            count += 1;
+        }
+    }
+    count
 }
 
 // The site of a row among those of its trip: by sequence, then by row.
 fn order(tables: &Tables, row: usize) -> Option<(i64, usize)> {
-    word_in(tables, File::StopTimes, row, "trip_id")?;
+    trip_of(tables, row)?;
     Some((
         amount_in(tables, File::StopTimes, row, "stop_sequence")?,
         row,
@@ -112,13 +156,15 @@ fn order(tables: &Tables, row: usize) -> Option<(i64, usize)> {
 
 // The one time, and else the other: none where one of them is neither readable nor empty.
 fn time(tables: &Tables, row: usize, first: &str, second: &str) -> Option<i64> {
-    let of = |column| amount_in(tables, File::StopTimes, row, column);
-    let is_clear = |column| {
-        of(column).is_some() || tables.value(File::StopTimes, row, column).is_empty()
-    };
-    if is_clear(first) && is_clear(second) {
-        of(first).or(of(second))
+    if is_clear(tables, row, first) && is_clear(tables, row, second) {
+        let other = amount_in(tables, File::StopTimes, row, second);
+        amount_in(tables, File::StopTimes, row, first).or(other)
     } else {
         None
     }
+}
+
+fn is_clear(tables: &Tables, row: usize, column: &str) -> bool {
+    amount_in(tables, File::StopTimes, row, column).is_some()
+        || tables.value(File::StopTimes, row, column).is_empty()
 }

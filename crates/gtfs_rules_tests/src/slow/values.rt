@@ -38,7 +38,26 @@ impl Asked<'_> {
 }
 
 pub(super) fn is_row(tables: &Tables, file: File, row: usize) -> bool {
-    row > 1 && (0..tables.fields(file, row)).any(|n| !tables.field(file, row, n).is_empty())
+    row > 1 && !is_blank(tables, file, row)
+}
+
+fn is_blank(tables: &Tables, file: File, row: usize) -> bool {
+    for n in 0..tables.fields(file, row) {
+        if !tables.field(file, row, n).is_empty() {
+            return false;
+        }
+    }
+    true
+}
+
+pub(super) fn count_rows(tables: &Tables, file: File) -> usize {
+    let mut count = 0usize;
+    for row in 2..=tables.records(file) {
+        if is_row(tables, file, row) {
+            count += 1;
+        }
+    }
+    count
 }
 
 pub(super) fn column_at(file: File, n: usize) -> Option<Column> {
@@ -56,9 +75,13 @@ pub(super) fn column_at(file: File, n: usize) -> Option<Column> {
 }
 
 pub(super) fn column_named(file: File, name: &str) -> Option<Column> {
-    (0..12)
-        .filter_map(|n| column_at(file, n))
-        .find(|column| column.name == name)
+    for n in 0..12 {
+        let column = column_at(file, n)?;
+        if column.name == name {
+            return Some(column);
+        }
+    }
+    None
 }
 
 /// The value of a column, where it is readable.
@@ -105,12 +128,21 @@ pub(super) fn word_in<'a>(
 
 /// The first row of a file with this id.
 pub(super) fn row_with(tables: &Tables, file: File, name: &str, id: &str) -> Option<usize> {
-    (2..=tables.records(file)).find(|row| is_row(tables, file, *row)
-        && tables.value(file, *row, name) == id)
+    for row in 2..=tables.records(file) {
+        if is_row(tables, file, row) && tables.value(file, row, name) == id {
+            return Some(row);
+        }
+    }
+    None
 }
 
 fn has_control(text: &str) -> bool {
-    text.bytes().any(|byte| byte.is_ascii_control())
+    for byte in text.bytes() {
+        if byte.is_ascii_control() {
+            return true;
+        }
+    }
+    false
 }
 
 fn read(kind: Kind, text: &str) -> Result<Value<'_>, FieldFault> {
@@ -128,12 +160,10 @@ fn read(kind: Kind, text: &str) -> Result<Value<'_>, FieldFault> {
 
 fn read_choice(ranges: &[(u32, u32)], text: &str) -> Result<u32, FieldFault> {
     let number = read_count(text)?;
-    if ranges
-        .iter()
-        .any(|range| (range.0..=range.1).contains(&number))
-    {
-        Ok(number)
-    } else {
-        Err(FieldFault::Range)
+    for (first, last) in ranges {
+        if (*first..=*last).contains(&number) {
+            return Ok(number);
+        }
     }
+    Err(FieldFault::Range)
 }
