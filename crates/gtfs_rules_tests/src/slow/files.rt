@@ -40,7 +40,7 @@ fn times_named(tables: &Tables, file: File, name: &str) -> usize {
     let mut times = 0usize;
     for n in 0..tables.fields(file, 1) {
         if tables.field(file, 1, n) == name {
-            times += 1;
+            times = times.saturating_add(1);
         }
     }
     times

@@ -139,7 +139,7 @@ fn count_stop_times(tables: &Tables, trip: &str) -> usize {
     let mut count = 0usize;
     for row in 2..=tables.records(File::StopTimes) {
         if is_row(tables, File::StopTimes, row) && trip_of(tables, row) == Some(trip) {
-            count += 1;
+            count = count.saturating_add(1);
         }
     }
     count

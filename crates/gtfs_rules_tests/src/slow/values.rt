@@ -54,7 +54,7 @@ pub(super) fn count_rows(tables: &Tables, file: File) -> usize {
     let mut count = 0usize;
     for row in 2..=tables.records(file) {
         if is_row(tables, file, row) {
-            count += 1;
+            count = count.saturating_add(1);
         }
     }
     count
