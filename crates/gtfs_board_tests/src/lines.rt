@@ -5,7 +5,7 @@ use gtfs_board::{Departure, Key, Mark, Sheet, push_line, push_sheet};
 use gtfs_days::Zone;
 use gtfs_field::{Clock, Day};
 use gtfs_fixtures::Clocks;
-use std::alloc::{AllocError, Global};
+use std::alloc::Global;
 use std::test::Fail;
 
 // 2024-04-01 08:00:00 in UTC.
@@ -137,81 +137,57 @@ fn years_have_four_digits(rt: HostRuntime) -> Result<(), Fail> {
     Ok(())
 }
 
-// A sheet with these stops and runs, and the times of each stop.
-#[derive(Clone, Copy)]
-struct Made<'a> {
-    direction: Option<u8>,
-    stops: &'a [&'a str],
-    runs: &'a [(u32, &'a str)],
-    times: &'a [&'a [Option<Clock>]],
-}
-
-impl<'a> Made<'a> {
-    fn fill(&self, alloc: Global, sheet: &mut Sheet<'a>) -> Result<(), AllocError> {
-        sheet.stops.extend_from_slice(self.stops)?;
-        sheet.runs.extend_from_slice(self.runs)?;
-        for times in self.times {
-            sheet.times.push(Vec::from_slice(alloc, times)?)?;
-        }
-        Ok(())
-    }
-
-    // The text of the sheet after this text.
-    fn text_after(&self, alloc: Global, before: &str) -> Result<String, Fail> {
-        let mut sheet = Sheet {
-            route: "R1",
-            direction: self.direction,
-            day: Day::from_number(19_814),
-            stops: Vec::new(alloc),
-            runs: Vec::new(alloc),
-            times: Vec::new(alloc),
-        };
-        self.fill(alloc, &mut sheet)?;
-        let mut text = String::from_str(alloc, before)?;
-        push_sheet(alloc, &mut text, &sheet)?;
-        Ok(text)
-    }
-}
-
 // Two runs of a trip, of whose stops the second is untimed.
 #[test]
 fn a_sheet_has_a_line_for_each_stop(rt: HostRuntime) -> Result<(), Fail> {
+    let alloc = rt.alloc();
     let first = Some(Clock::from_seconds(28_800));
     let last = Some(Clock::from_seconds(7_199_997));
-    let sheet = Made {
+    let sheet = Sheet {
+        route: "R1",
         direction: Some(1),
-        stops: &["S1", "S2"],
-        runs: &[(28_800, "T1"), (3_599_999, "T 2")],
-        times: &[&[first, last], &[None, None]],
+        day: Day::from_number(19_814),
+        stops: vec![in alloc; "S1", "S2"]?,
+        runs: vec![in alloc; (28_800, "T1"), (3_599_999, "T 2")]?,
+        times: vec![in alloc; vec![in alloc; first, last]?, vec![in alloc; None, None]?]?,
     };
+    let mut text = String::from_str(alloc, "before\n")?;
+    push_sheet(alloc, &mut text, &sheet)?;
     let wanted = "before\n== R1 1 20240401\ntrip\tT1\tT 2\nS1\t08:00:00\t1999:59:57\nS2\t-\t-\n";
-    let text = sheet.text_after(rt.alloc(), "before\n");
-    assert_text(&rt, text, wanted, "two runs")?;
-    let second = Some(Clock::from_seconds(29_400));
-    let sheet = Made {
+    assert_is(&rt, text.as_str(), wanted, "two runs");
+    let sheet = Sheet {
+        route: "R1",
         direction: None,
-        stops: &["S1", "S2"],
-        runs: &[(28_800, "T1")],
-        times: &[&[first], &[second]],
+        day: Day::from_number(19_814),
+        stops: vec![in alloc; "S1", "S2"]?,
+        runs: vec![in alloc; (28_800, "T1")]?,
+        times: vec![in alloc;
+            vec![in alloc; first]?,
+            vec![in alloc; Some(Clock::from_seconds(29_400))]?,
+        ]?,
     };
+    text.clear();
+    push_sheet(alloc, &mut text, &sheet)?;
     let wanted = "== R1 - 20240401\ntrip\tT1\nS1\t08:00:00\nS2\t08:10:00\n";
-    assert_text(&rt, sheet.text_after(rt.alloc(), ""), wanted, "one run")
+    assert_is(&rt, text.as_str(), wanted, "one run");
+    Ok(())
 }
 
 // Trips have direction 0, 1 or none, and a sheet made by hand any other.
 #[test]
 fn a_sheet_has_any_direction(rt: HostRuntime) -> Result<(), Fail> {
-    let sheet = Made {
+    let alloc = rt.alloc();
+    let sheet = Sheet {
+        route: "R1",
         direction: Some(255),
-        stops: &["S1"],
-        runs: &[(28_800, "T1")],
-        times: &[&[Some(Clock::from_seconds(28_800))]],
+        day: Day::from_number(19_814),
+        stops: vec![in alloc; "S1"]?,
+        runs: vec![in alloc; (28_800, "T1")]?,
+        times: vec![in alloc; vec![in alloc; Some(Clock::from_seconds(28_800))]?]?,
     };
+    let mut text = String::new(alloc);
+    push_sheet(alloc, &mut text, &sheet)?;
     let wanted = "== R1 255 20240401\ntrip\tT1\nS1\t08:00:00\n";
-    assert_text(
-        &rt,
-        sheet.text_after(rt.alloc(), ""),
-        wanted,
-        "direction 255",
-    )
+    assert_is(&rt, text.as_str(), wanted, "direction 255");
+    Ok(())
 }
