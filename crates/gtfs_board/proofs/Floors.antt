@@ -22,7 +22,7 @@ use Rattle.gtfs_feed.proofs.SoundOrder.{in_order}
 use Rattle.gtfs_rows.proofs.SameElements.{pairs-map}
 use Rattle.gtfs_rows.specs.Views.{IsSoundParts, text_of_number, trip_ids}
 use Rattle.gtfs_rows.specs.declared.parts.Parts.{Parts}
-use Rattle.gtfs_devices.specs.Folder.{text_cmp}
+use Rattle.gtfs_field.specs.TextOrder.{text_cmp}
 use Rattle.gtfs_board.specs.CandidateKeys.{key_among}
 use Rattle.gtfs_board.specs.Departures.{is_above}
 use Rattle.gtfs_board.specs.Key.{Key, key_cmp}

@@ -30,7 +30,7 @@ use Rattle.gtfs_rows.specs.Views.{IsSoundParts, content_of_parts, service_ids, s
 use Rattle.gtfs_rows.specs.declared.parts.Parts.{Parts}
 use Rattle.gtfs_runs.specs.Lanes.{latest}
 use Rattle.gtfs_runs.specs.StopLanes.{AreLanesOf, StopLanesValue, lanes_of}
-use Rattle.gtfs_devices.specs.Folder.{text_cmp}
+use Rattle.gtfs_field.specs.TextOrder.{text_cmp}
 use Rattle.gtfs_board.specs.Board as board
 use Rattle.gtfs_board.specs.Board.{FirstIsLeast, first_instant, keys_of, may_be_opened, start_of, step_count, steps_for_days}
 use Rattle.gtfs_board.specs.CandidateKeys.{key_among}

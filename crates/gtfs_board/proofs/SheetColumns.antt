@@ -15,7 +15,7 @@ use Rattle.std.proofs.lemmas.Simd.{map-map}
 use Rattle.std.proofs.lemmas.Option.{same_Some as some_is, slice_get-get_or, slice_get_within}
 use Rattle.gtfs_field.proofs.OrderingFacts.{tied}
 use Rattle.gtfs_field.proofs.ListFacts.{some_of}
-use Rattle.gtfs_devices.specs.Folder.{text_cmp}
+use Rattle.gtfs_field.specs.TextOrder.{text_cmp}
 use Rattle.gtfs_table.proofs.PartFacts.{length-parts}
 use Rattle.gtfs_columns.proofs.SiteFacts.{text_is, text_itself}
 use Rattle.gtfs_columns.specs.Values.{if_there}

@@ -21,7 +21,7 @@ use Rattle.std.proofs.lemmas.Simd.{map-map}
 use Rattle.gtfs_field.proofs.OrderingFacts.{tied}
 use Rattle.gtfs_columns.specs.Values.{if_there}
 use Rattle.gtfs_table.proofs.PartFacts.{length-parts}
-use Rattle.gtfs_devices.specs.Folder.{text_cmp}
+use Rattle.gtfs_field.specs.TextOrder.{text_cmp}
 use Rattle.gtfs_rows.proofs.SameElements.{pairs-head, pairs-map, pairs-tail}
 use Rattle.gtfs_rows.specs.Choices.{direction_code}
 use Rattle.gtfs_rows.specs.Order.{Ascends}

@@ -25,7 +25,7 @@ use Rattle.gtfs_runs.specs.Places.{is_in_place}
 use Rattle.gtfs_runs.specs.StopLanes.{AreLanesOf, StopLanesValue, lanes_of}
 use Rattle.gtfs_runs.specs.Trips.{is_run, is_departure_row, passes_at}
 use Rattle.gtfs_runs.specs.declared.event.Event.{Event}
-use Rattle.gtfs_devices.specs.Folder.{text_cmp}
+use Rattle.gtfs_field.specs.TextOrder.{text_cmp}
 use Rattle.gtfs_board.specs.CandidateKeys.{key_among}
 use Rattle.gtfs_board.specs.Departures.{Origins, departs_at, runs_on}
 use Rattle.gtfs_board.specs.Key.{Key}

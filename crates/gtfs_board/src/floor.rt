@@ -5,7 +5,7 @@ ghost use Rattle.std.specs.Ordering.{is_lt, ordering_then, int_cmp, nat_cmp};
 ghost use Rattle.std.specs.declared.cmp.Ordering.TheVariants.{Less};
 ghost use Rattle.gtfs_days.specs.Service.{first_service_day};
 ghost use Rattle.gtfs_rows.specs.Views.{text_of_number, trip_ids};
-ghost use Rattle.gtfs_devices.specs.Folder.{text_cmp};
+ghost use Rattle.gtfs_field.specs.TextOrder.{text_cmp};
 ghost use Rattle.gtfs_board.specs.Board.{start_of};
 ghost use Rattle.gtfs_board.specs.Floors.{IsNumbered, is_from};
 ghost use Rattle.gtfs_board.specs.Key.{key_cmp};

@@ -5,13 +5,14 @@ use Rattle.std.specs.List.{All, list_all}
 use Rattle.std.specs.Ordering.{eq_by_cmp}
 use Rattle.std.proofs.lemmas.Bool.{and_parts}
 use Rattle.gtfs_table.specs.Files.{file_name}
-use Rattle.gtfs_devices.specs.Folder.{files_of, put, text_cmp, Files, Store}
+use Rattle.gtfs_devices.specs.Folder.{files_of, put, Files, Store}
+use Rattle.gtfs_field.specs.TextOrder.{text_cmp}
 use Rattle.gtfs_table.specs.Reading.{dataset_of, kept_files, other_names, table_in, HoldsDataset}
 use Rattle.gtfs_table.specs.Tables.{table_of, table_of_bytes, Dataset}
 use Rattle.gtfs_table.specs.declared.file.File.{File}
 use Rattle.gtfs_table.specs.declared.file.File.TheVariants as file
 use Rattle.gtfs_devices.proofs.FolderLemmas.{get-insert-same}
-use Rattle.gtfs_devices.proofs.ByTextLemmas.{texts_total}
+use Rattle.gtfs_field.proofs.TextOrderFacts.{texts_total}
 use Rattle.gtfs_columns.specs.Problems.{Passes}
 use Rattle.gtfs_rows.specs.Content.{Content}
 use Rattle.gtfs_rows.specs.Reading.{content_of}

@@ -15,7 +15,7 @@ use Rattle.std.proofs.lemmas.List.Sorted.{searchable_from_sorted}
 use Rattle.std.proofs.lemmas.Map.Keys.{Less-from_sorted}
 use Rattle.std.proofs.lemmas.Map.Text.{is_eq-slice_cmp}
 use Rattle.std.proofs.Math.Seq.{take-length}
-use Rattle.gtfs_devices.specs.Folder.{text_cmp}
+use Rattle.gtfs_field.specs.TextOrder.{text_cmp}
 use Rattle.gtfs_columns.specs.declared.id_row.IdRow.{IdRow}
 use Rattle.gtfs_columns.specs.steps.Ids.{IdColumn, ListsFirstRows}
 use Rattle.gtfs_columns.specs.steps.IdRows.{id_of, listed_row}

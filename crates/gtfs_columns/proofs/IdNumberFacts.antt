@@ -13,7 +13,7 @@ use Rattle.std.proofs.lemmas.Bool.{and_from as both, cases_Bool}
 use Rattle.std.proofs.lemmas.Bool.Decides.{nat_tests}
 use Rattle.std.proofs.lemmas.List.{length-map}
 use Rattle.std.proofs.lemmas.Map.Text.{is_eq-slice_cmp}
-use Rattle.gtfs_devices.specs.Folder.{text_cmp}
+use Rattle.gtfs_field.specs.TextOrder.{text_cmp}
 use Rattle.gtfs_table.specs.Rows.{rows}
 use Rattle.gtfs_columns.specs.declared.id_row.IdRow.{IdRow}
 use Rattle.gtfs_columns.specs.IdNumbers.{first_rows}

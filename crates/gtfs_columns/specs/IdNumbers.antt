@@ -2,7 +2,7 @@
 -- GTFS Schedule Reference, fields of type "Foreign ID". The order is this toolkit's.
 use Rattle.std.specs.Prelude.{ℕ, List, bytes_eq, map, position, slice_get, Option}
 use Rattle.std.specs.FinMap as table
-use Rattle.gtfs_devices.specs.Folder.{text_cmp}
+use Rattle.gtfs_field.specs.TextOrder.{text_cmp}
 use Rattle.gtfs_table.specs.Rows.{rows}
 use Rattle.gtfs_table.specs.Tables.{Dataset}
 use Rattle.gtfs_table.specs.declared.file.File.{File}

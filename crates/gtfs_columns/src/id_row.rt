@@ -67,7 +67,7 @@ impl PartialEq for IdRow<'_> {
     ghost use Rattle.std.specs.Cmp.{eq_by_cmp_equiv, on_per, partial_equiv_from_equiv};
     ghost use Rattle.std.specs.Cmp.Lexicographic.{nat_list_cmp_total};
     ghost use Rattle.std.specs.Ordering.{eq_by_cmp, on};
-    ghost use Rattle.gtfs_devices.specs.Folder.{text_cmp};
+    ghost use Rattle.gtfs_field.specs.TextOrder.{text_cmp};
     ghost use Rattle.gtfs_columns.specs.steps.IdRows.{id_of};
 
     ghost eq = { on id_of (eq_by_cmp text_cmp) };
@@ -91,7 +91,7 @@ impl PartialOrd for IdRow<'_> {
     ghost use Rattle.std.specs.Cmp.{on_po, po};
     ghost use Rattle.std.specs.Cmp.Lexicographic.{nat_list_cmp_total};
     ghost use Rattle.std.specs.Prelude.{Some, refl};
-    ghost use Rattle.gtfs_devices.specs.Folder.{text_cmp};
+    ghost use Rattle.gtfs_field.specs.TextOrder.{text_cmp};
     ghost use Rattle.gtfs_columns.specs.steps.IdRows.{id_of};
 
     ghost partial_cmp = { λ a b. Some (text_cmp (id_of a) (id_of b)) };
@@ -107,7 +107,7 @@ impl Ord for IdRow<'_> {
     ghost use Rattle.std.specs.Cmp.{on_total};
     ghost use Rattle.std.specs.Cmp.Lexicographic.{nat_list_cmp_total};
     ghost use Rattle.std.specs.Prelude.{refl};
-    ghost use Rattle.gtfs_devices.specs.Folder.{text_cmp};
+    ghost use Rattle.gtfs_field.specs.TextOrder.{text_cmp};
     ghost use Rattle.gtfs_columns.specs.steps.IdRows.{id_of};
 
     ghost cmp = { λ a b. text_cmp (id_of a) (id_of b) };

@@ -7,22 +7,17 @@ use Rattle.std.specs.Map.{lookup, keys_of}
 use Rattle.std.specs.Map.Iter.{deref}
 use Rattle.std.specs.String.{string_cmp}
 use Rattle.std.specs.Ordering.{nat_cmp, is_eq, is_lt, eq_by_cmp}
-use Rattle.std.specs.Cmp.{IsTotalOrder}
-use Rattle.std.specs.Cmp.Lexicographic.{slice_cmp, nat_list_cmp_total}
+use Rattle.std.specs.Cmp.Lexicographic.{slice_cmp}
 use Rattle.std.specs.List.Sorted.{IsStrictlySortedBy}
 use Rattle.std.specs.List.{AllByRecursion}
 use Rattle.std.proofs.lemmas.Cmp.{eq_by_cmp_equiv}
 use Rattle.std.proofs.lemmas.Map.Text.{is_eq-slice_cmp, btree_map_updates_text}
 use Rattle.gtfs_field.proofs.OrderingFacts.{equal}
 use Rattle.gtfs_field.proofs.TestFacts.{both_so}
-use Rattle.gtfs_devices.specs.Folder.{Files, Store, text_cmp, put, put_folder}
+use Rattle.gtfs_field.proofs.TextOrderFacts.{texts_total, texts_exact}
+use Rattle.gtfs_field.specs.TextOrder.{text_cmp}
+use Rattle.gtfs_devices.specs.Folder.{Files, Store, put, put_folder}
 use Rattle.gtfs_devices.specs.ByText.{by_text}
-
-pub texts_total : IsTotalOrder text_cmp
-texts_total = nat_list_cmp_total
-
-pub texts_exact : fin.IsAntisymmetric text_cmp
-texts_exact = fin.slice_cmp-IsAntisymmetric fin.nat_cmp-IsAntisymmetric
 
 -- an entry under the bytes of its text
 abbrev bytes_of : {X Y : Type 0} → String Y × X → List ℕ × X

@@ -4,8 +4,9 @@ use Rattle.std.specs.FinMap as fin
 use Rattle.std.specs.Ordering.{eq_by_cmp}
 use Rattle.std.proofs.lemmas.Cmp.{eq_by_cmp_equiv}
 use Rattle.gtfs_field.proofs.OrderingFacts.{equal}
-use Rattle.gtfs_devices.specs.Folder.{Store, text_cmp, files_of, file_in, put, put_folder}
-use Rattle.gtfs_devices.proofs.ByTextLemmas.{texts_total, texts_exact}
+use Rattle.gtfs_devices.specs.Folder.{Store, files_of, file_in, put, put_folder}
+use Rattle.gtfs_field.proofs.TextOrderFacts.{texts_total, texts_exact}
+use Rattle.gtfs_field.specs.TextOrder.{text_cmp}
 
 same : (text : List ℕ) → eq_by_cmp text_cmp text text ≡ true
 same text = (eq_by_cmp_equiv texts_total).refl text

@@ -6,7 +6,7 @@ use Rattle.std.specs.List.Sorted.{IsStrictlySortedBy}
 use Rattle.std.proofs.lemmas.List.{get_or-map, length-map}
 use Rattle.std.proofs.lemmas.Map.Keys.{Less-from_sorted}
 use Rattle.gtfs_devices.specs.Folder.{IsByBytes}
-use Rattle.gtfs_devices.proofs.ByTextLemmas.{texts_total}
+use Rattle.gtfs_field.proofs.TextOrderFacts.{texts_total}
 
 -- texts in order are bytes in order
 pub by_bytes : {Y : Type 0} (names : List (String Y)) → IsSorted string_cmp names → IsByBytes (map string_bytes names)

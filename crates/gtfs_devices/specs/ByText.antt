@@ -2,7 +2,8 @@
 use Rattle.std.specs.Prelude.{List, String, string_bytes, map}
 use Rattle.std.specs.Coded.{Coded, coded_ℕ, coded_list}
 use Rattle.std.specs.FinMap as finite
-use Rattle.gtfs_devices.specs.Folder.{text_cmp, Files, Store}
+use Rattle.gtfs_field.specs.TextOrder.{text_cmp}
+use Rattle.gtfs_devices.specs.Folder.{Files, Store}
 
 -- entries under texts, as the map from the texts' bytes
 abbrev pub by_text : {X Y : Type 0} → List (String Y × X) → finite.FinMap text_cmp X

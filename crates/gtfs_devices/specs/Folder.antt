@@ -2,17 +2,11 @@
 -- GTFS Schedule Reference, "Dataset Files": a dataset lies in one folder, each file under its own name.
 -- The contents of a device may be unknown (None); then the words below that speak of them say nothing.
 use Rattle.std.specs.Prelude.{ℕ, IsTrue, is_some, length, List, Option, Some, None, option_map, unwrap_or, IsSorted, ◌≡◌, ◌≢◌, ◌<◌, ⊤}
-use Rattle.std.specs.Cmp.Lexicographic.{slice_cmp}
-use Rattle.std.specs.Ordering.{nat_cmp}
-use Rattle.std.specs.declared.cmp.Ordering.{Ordering}
 use Rattle.std.specs.FinMap as map
+use Rattle.gtfs_field.specs.TextOrder.{text_cmp}
 use Rattle.gtfs_devices.specs.Device.{Rises}
 use Rattle.gtfs_devices.specs.declared.folders.FolderFault.{FolderFault}
 use Rattle.gtfs_devices.specs.declared.folders.FolderFault.TheVariants.{Read, TooLarge, OutOfMemory, NoFolder, Write}
-
--- texts by their bytes
-abbrev pub text_cmp : List ℕ → List ℕ → Ordering
-text_cmp = slice_cmp nat_cmp
 
 -- the files of a folder, from their names to their bytes
 abbrev pub Files : Type 0

@@ -1,7 +1,7 @@
 ghost use Rattle.std.specs.Prelude.{◌≡◌, [], ◌∷◌, ◌++◌, IfOk, OnOk, map, position, bytes_eq, string_bytes, false};
 ghost use Rattle.std.specs.List.{list_any};
 ghost use Rattle.std.specs.Ordering.{on};
-ghost use Rattle.gtfs_devices.specs.Folder.{text_cmp};
+ghost use Rattle.gtfs_field.specs.TextOrder.{text_cmp};
 ghost use Rattle.gtfs_rows.specs.Order.{Ascends};
 
 use crate::named::Named;

@@ -10,6 +10,7 @@ pub mod Numerals
 pub mod OptionFacts
 pub mod OrderingFacts
 pub mod TestFacts
+pub mod TextOrderFacts
 pub mod Texts
 mod TimeColons
 mod Times

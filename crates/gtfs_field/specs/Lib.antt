@@ -2,3 +2,4 @@ pub mod Digits
 pub mod Kinds
 pub mod Calendar
 pub mod Canonical
+pub mod TextOrder

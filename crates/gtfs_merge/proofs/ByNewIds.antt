@@ -5,8 +5,8 @@ use Rattle.std.specs.Ordering.{on}
 use Rattle.std.specs.declared.cmp.Ordering.TheVariants.{Less}
 use Rattle.std.proofs.lemmas.Option.{same_Some as some-is}
 use Rattle.gtfs_field.proofs.ListFacts.{pairs-from_map}
-use Rattle.gtfs_devices.specs.Folder.{text_cmp}
-use Rattle.gtfs_devices.proofs.ByTextLemmas.{texts_total}
+use Rattle.gtfs_field.specs.TextOrder.{text_cmp}
+use Rattle.gtfs_field.proofs.TextOrderFacts.{texts_total}
 use Rattle.gtfs_rows.specs.Order.{Ascends}
 use Rattle.gtfs_rows.proofs.ByKey.{by_key_is}
 use Rattle.gtfs_rows.proofs.Held.{text_antisymmetric}

@@ -12,8 +12,8 @@ use Rattle.std.proofs.lemmas.List.Elements.{Contains-get_or}
 use Rattle.std.proofs.lemmas.List.Kept.{AllPairs-cons}
 use Rattle.std.proofs.lemmas.List.Sorted.{sum_by-IsPermutation}
 use Rattle.std.proofs.lemmas.List.Sums.{sum_by-cons}
-use Rattle.gtfs_devices.specs.Folder.{text_cmp}
-use Rattle.gtfs_devices.proofs.ByTextLemmas.{texts_total}
+use Rattle.gtfs_field.specs.TextOrder.{text_cmp}
+use Rattle.gtfs_field.proofs.TextOrderFacts.{texts_total}
 use Rattle.gtfs_columns.proofs.SiteFacts.{text_is as same_bytes}
 use Rattle.gtfs_rows.specs.Order.{Ascends}
 use Rattle.gtfs_rows.proofs.ByKey.{ascends-from_adjacent}

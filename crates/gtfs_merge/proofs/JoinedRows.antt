@@ -5,7 +5,7 @@ use Rattle.std.specs.List.{slice_get, position, position_or_len}
 use Rattle.std.specs.Ordering.{on}
 use Rattle.std.proofs.Math.Seq.{take-suc}
 use Rattle.std.proofs.lemmas.List.{map-append}
-use Rattle.gtfs_devices.specs.Folder.{text_cmp}
+use Rattle.gtfs_field.specs.TextOrder.{text_cmp}
 use Rattle.gtfs_columns.proofs.NamedFacts.{text_turned as bytes_flip}
 use Rattle.gtfs_rows.specs.Order.{Ascends}
 use Rattle.gtfs_feed.proofs.NumberFacts.{own_number}

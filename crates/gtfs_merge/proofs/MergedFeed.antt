@@ -18,7 +18,7 @@ use Rattle.gtfs_rows.specs.declared.transfer.Transfer.{Transfer as TransferRow}
 use Rattle.gtfs_rows.specs.declared.trip.Trip.{Trip as TripRow}
 use Rattle.gtfs_rows.proofs.SameElements.{pairs-map}
 use Rattle.gtfs_stop_times.specs.Lists.{has_numbers_below, stop_row_named}
-use Rattle.gtfs_devices.specs.Folder.{text_cmp}
+use Rattle.gtfs_field.specs.TextOrder.{text_cmp}
 use Rattle.gtfs_table.specs.Parts.{parts}
 use Rattle.gtfs_merge.specs.Headsigns.{AreHeadsigns, HeadsignTable}
 use Rattle.gtfs_merge.specs.IdRows.{AreIdRows}

@@ -14,7 +14,7 @@ use Rattle.gtfs_rows.specs.declared.numbers.TripNo.{TripNo}
 use Rattle.gtfs_rows.specs.declared.parts.Parts.{Parts}
 use Rattle.gtfs_rows.specs.declared.transfer.Transfer.{Transfer as ByNumber}
 use Rattle.gtfs_rows.proofs.ContentAgain.{transfer_antisymmetric as text_key_antisymmetric, transfer_total}
-use Rattle.gtfs_devices.specs.Folder.{text_cmp}
+use Rattle.gtfs_field.specs.TextOrder.{text_cmp}
 use Rattle.gtfs_merge.specs.KindRows.{AllEntries, AreMergedKinds}
 use Rattle.gtfs_merge.specs.Merged.{by_transfer, transfer_with}
 use Rattle.gtfs_merge.specs.Renumbered.{numbers_of}

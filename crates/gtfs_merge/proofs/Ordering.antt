@@ -6,7 +6,7 @@ use Rattle.std.specs.Ordering.{is_lt, on}
 use Rattle.std.proofs.lemmas.List.{get_or-map, length-map, map-append}
 use Rattle.std.proofs.lemmas.List.Elements.{filter-append}
 use Rattle.gtfs_field.proofs.ListFacts.{range-push as range-more}
-use Rattle.gtfs_devices.specs.Folder.{text_cmp}
+use Rattle.gtfs_field.specs.TextOrder.{text_cmp}
 use Rattle.gtfs_merge.specs.Order.{Entry, entry_value}
 use Rattle.gtfs_merge.specs.declared.order.MergedRow.{MergedRow}
 

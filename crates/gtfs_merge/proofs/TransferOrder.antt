@@ -13,7 +13,7 @@ use Rattle.gtfs_parts.specs.TransferEnds.{names_ends, transfer_named, transfer_n
 use Rattle.gtfs_rows.specs.Order.{Ascends, transfer_key, transfer_key_cmp}
 use Rattle.gtfs_rows.specs.Views.{is_within, text_of_number}
 use Rattle.gtfs_rows.specs.declared.transfer.Transfer.{Transfer as ByNumber}
-use Rattle.gtfs_devices.specs.Folder.{text_cmp}
+use Rattle.gtfs_field.specs.TextOrder.{text_cmp}
 use Rattle.gtfs_rows.proofs.ContentAgain.{same_option}
 use Rattle.gtfs_merge.specs.Transfers.{ends_cmp}
 

@@ -1,7 +1,7 @@
 ghost use Rattle.std.specs.List.Sorted.{IsPermutation, IsSorted};
 ghost use Rattle.std.specs.Ordering.{on};
 ghost use Rattle.std.specs.Prelude.{◌≡◌, ◌<◌, ◌∷◌, ◌++◌, [], IfOk, OnOk, filter, length, map};
-ghost use Rattle.gtfs_devices.specs.Folder.{text_cmp};
+ghost use Rattle.gtfs_field.specs.TextOrder.{text_cmp};
 ghost use Rattle.gtfs_merge.specs.Joined.{joined_rows};
 ghost use Rattle.gtfs_merge.specs.MergedKinds.{AreMergedRows};
 ghost use Rattle.gtfs_merge.specs.Names.{AreKindNames};

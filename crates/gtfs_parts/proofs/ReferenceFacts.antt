@@ -10,7 +10,7 @@ use Rattle.std.specs.List.{Contains, range_with_len}
 use Rattle.std.specs.Cmp.Lexicographic.{nat_list_cmp_total}
 use Rattle.std.specs.FinMap as table
 use Rattle.std.specs.FinMap.Entries.{put}
-use Rattle.gtfs_devices.specs.Folder.{text_cmp}
+use Rattle.gtfs_field.specs.TextOrder.{text_cmp}
 use Rattle.gtfs_table.specs.Rows.{has_no_record, is_empty, is_row, records_in, rows}
 use Rattle.gtfs_table.specs.Tables.{Dataset, table_of, table_state}
 use Rattle.gtfs_table.specs.declared.file.File.{File}

@@ -1,7 +1,7 @@
 -- The ids of services.
 use Rattle.std.specs.Prelude.{◌≡◌, ◌++◌, ◌<◌, ℕ, [], List, length, map, slice_index_or, codes, MatchOption, Option}
 use Rattle.std.specs.List.{All, Contains}
-use Rattle.gtfs_devices.specs.Folder.{text_cmp}
+use Rattle.gtfs_field.specs.TextOrder.{text_cmp}
 use Rattle.gtfs_table.specs.Tables.{Dataset}
 use Rattle.gtfs_table.specs.Rows.{rows}
 use Rattle.gtfs_table.specs.declared.file.File.TheVariants as file

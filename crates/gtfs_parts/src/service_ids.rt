@@ -21,7 +21,7 @@ pub(crate) struct ServiceIds<'a> {
 impl<'a> Model for ServiceIds<'a> {
     ghost use Rattle.std.specs.Prelude.{List, ℕ, map};
     ghost use Rattle.gtfs_rows.specs.Order.{Ascends};
-    ghost use Rattle.gtfs_devices.specs.Folder.{text_cmp};
+    ghost use Rattle.gtfs_field.specs.TextOrder.{text_cmp};
 
     ghost Value = { List (List ℕ) };
 

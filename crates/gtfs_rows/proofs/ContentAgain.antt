@@ -9,7 +9,7 @@ use Rattle.std.specs.Option.{option_cmp}
 use Rattle.std.specs.declared.cmp.Ordering.{Ordering}
 use Rattle.std.proofs.lemmas.Bool.{and_parts, or_cases, cases_Bool, not-true, eqb-true}
 use Rattle.std.proofs.lemmas.List.{map-id}
-use Rattle.gtfs_devices.specs.Folder.{text_cmp}
+use Rattle.gtfs_field.specs.TextOrder.{text_cmp}
 use Rattle.gtfs_table.specs.declared.file.File.TheVariants as file
 use Rattle.gtfs_table.specs.Rows.{rows, is_empty}
 use Rattle.gtfs_table.proofs.BlankFacts.{no_text}

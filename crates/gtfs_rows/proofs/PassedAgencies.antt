@@ -5,7 +5,7 @@ use Rattle.std.specs.Cmp.Lexicographic.{nat_list_cmp_total}
 use Rattle.std.specs.List.{Contains, list_all}
 use Rattle.std.proofs.lemmas.Bool.{and_from, or_left, or_right, cases_Bool, not_from_false, and_cases, true≢false, not-false as not_false}
 use Rattle.std.proofs.lemmas.Bool.Decides.{nat_tests}
-use Rattle.gtfs_devices.specs.Folder.{text_cmp}
+use Rattle.gtfs_field.specs.TextOrder.{text_cmp}
 use Rattle.gtfs_table.specs.Rows.{is_row, records_in, rows, is_empty, has_no_record}
 use Rattle.gtfs_table.specs.Tables.{Dataset, table_of, table_state}
 use Rattle.gtfs_table.specs.declared.file.File.TheVariants as file

@@ -9,7 +9,7 @@ use Rattle.std.proofs.lemmas.Bool.{and_parts, and_from, not-true, true≢false}
 use Rattle.std.proofs.lemmas.List.Folds.{list_all-map}
 use Rattle.gtfs_days.specs.declared.exception.Exception.TheVariants.{Added, Removed}
 use Rattle.gtfs_field.specs.declared.coord.Axis.TheVariants.{Latitude, Longitude}
-use Rattle.gtfs_devices.specs.Folder.{text_cmp}
+use Rattle.gtfs_field.specs.TextOrder.{text_cmp}
 use Rattle.gtfs_table.specs.Rows.{is_row, records_in, rows, is_empty}
 use Rattle.gtfs_table.specs.Tables.{Dataset}
 use Rattle.gtfs_table.specs.declared.file.File.{File}

@@ -10,7 +10,7 @@ use Rattle.std.proofs.lemmas.Bool.{not-false as not_false, or_cases}
 use Rattle.std.proofs.lemmas.List.Elements.{Contains-append_left, Contains-append_right}
 use Rattle.gtfs_field.proofs.OrderingFacts.{equal as tie_from}
 use Rattle.gtfs_field.proofs.ListFacts.{any_alike}
-use Rattle.gtfs_devices.specs.Folder.{text_cmp}
+use Rattle.gtfs_field.specs.TextOrder.{text_cmp}
 use Rattle.gtfs_table.specs.Rows.{is_row, records_in, rows}
 use Rattle.gtfs_table.specs.Tables.{Dataset}
 use Rattle.gtfs_table.specs.declared.file.File.{File}

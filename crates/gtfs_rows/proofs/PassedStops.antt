@@ -7,7 +7,7 @@ use Rattle.std.specs.List.{list_all}
 use Rattle.std.proofs.lemmas.Bool.{and_parts, and_from, or_left, or_right, or_cases, or_parts, cases_Bool, le-leb, leb-true, ltb-false, true≢false}
 use Rattle.gtfs_field.specs.declared.coord.Axis.TheVariants.{Latitude, Longitude}
 use Rattle.gtfs_field.specs.Kinds.{is_in_ranges}
-use Rattle.gtfs_devices.specs.Folder.{text_cmp}
+use Rattle.gtfs_field.specs.TextOrder.{text_cmp}
 use Rattle.gtfs_table.specs.Rows.{is_row, records_in, rows}
 use Rattle.gtfs_table.specs.Tables.{Dataset}
 use Rattle.gtfs_table.specs.declared.file.File.{File}

@@ -7,7 +7,7 @@ use Rattle.std.specs.Cmp.Lexicographic.{nat_list_cmp_total}
 use Rattle.std.specs.Ordering.{nat_cmp, on}
 use Rattle.std.specs.declared.cmp.Ordering.{Ordering}
 use Rattle.std.proofs.lemmas.List.{map-id}
-use Rattle.gtfs_devices.specs.Folder.{text_cmp}
+use Rattle.gtfs_field.specs.TextOrder.{text_cmp}
 use Rattle.gtfs_table.specs.declared.file.File.TheVariants as file
 use Rattle.gtfs_table.specs.Rows.{rows}
 use Rattle.gtfs_columns.specs.Rows.{word_in}

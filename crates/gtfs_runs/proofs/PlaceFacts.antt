@@ -13,7 +13,7 @@ use Rattle.std.proofs.lemmas.Option.{get_or_from_slice_get, slice_get_within}
 use Rattle.std.proofs.Math.Bool.{and_assoc as and_group, or-false as or_none}
 use Rattle.gtfs_field.proofs.NumberFacts.{neither_less, number_itself as equal_itself}
 use Rattle.gtfs_field.proofs.ListFacts.{any_mapped as any-map}
-use Rattle.gtfs_devices.specs.Folder.{text_cmp}
+use Rattle.gtfs_field.specs.TextOrder.{text_cmp}
 use Rattle.gtfs_columns.specs.Values.{if_there}
 use Rattle.gtfs_columns.proofs.SiteFacts.{text_itself}
 use Rattle.gtfs_rows.specs.declared.numbers.StopNo.{StopNo}

@@ -14,7 +14,7 @@ use Rattle.std.proofs.lemmas.Map.Text.{is_eq-slice_cmp}
 use Rattle.std.proofs.lemmas.List.Elements.{filter_agree as same_filter}
 use denote.Ref.{Bor}
 use Rattle.gtfs_field.proofs.OrderingFacts.{less as less-from}
-use Rattle.gtfs_devices.specs.Folder.{text_cmp}
+use Rattle.gtfs_field.specs.TextOrder.{text_cmp}
 use Rattle.gtfs_trip_rules.specs.RowsById.{row_with_id, rows_of, IdRow, IsById}
 
 -- ---- what stands in the middle of a list

@@ -13,7 +13,7 @@ use Rattle.std.proofs.Math.Bool.{and_comm as turned}
 use Rattle.gtfs_field.proofs.NumberFacts.{eq-int_eq as same_numbers, int_eq-true as same_number}
 use Rattle.gtfs_field.proofs.OrderingFacts.{tied_second as last_ties}
 use Rattle.gtfs_field.proofs.TestFacts.{and_fails}
-use Rattle.gtfs_devices.specs.Folder.{text_cmp}
+use Rattle.gtfs_field.specs.TextOrder.{text_cmp}
 use Rattle.gtfs_trip_rules.specs.TripOrder.{row_cmp, same_sequence, same_trip, trip_cmp}
 use Rattle.gtfs_trip_rules.specs.TripStopTimes.{TripStopTime}
 use Rattle.gtfs_columns.proofs.BoolFacts.{and_parts, and_under}

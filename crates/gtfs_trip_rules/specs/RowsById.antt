@@ -2,7 +2,7 @@
 use Rattle.std.specs.Prelude.{ℕ, List, bytes_eq, filter, map, Option}
 use Rattle.std.specs.List.Sorted.{IsSortedByKey}
 use denote.Ref.{Bor}
-use Rattle.gtfs_devices.specs.Folder.{text_cmp}
+use Rattle.gtfs_field.specs.TextOrder.{text_cmp}
 use Rattle.gtfs_table.specs.Rows.{records_in}
 use Rattle.gtfs_table.specs.Tables.{Dataset, field_under, record_at}
 use Rattle.gtfs_table.specs.declared.file.File.{File}

@@ -2,7 +2,7 @@ use Rattle.std.proofs.Common.{rules}
 use Rattle.std.specs.Cmp.Lexicographic.{nat_list_cmp_total}
 use Rattle.std.specs.Ordering.{is_lt}
 use Rattle.std.proofs.lemmas.List.Sorted.{IsPermutation-map, answers_always, ranks_by}
-use Rattle.gtfs_devices.specs.Folder.{text_cmp}
+use Rattle.gtfs_field.specs.TextOrder.{text_cmp}
 use Rattle.gtfs_merge.specs.Order.{entry_value}
 use Rattle.gtfs_merge.proofs.Ordering.{sorted-values}
 use Rattle.gtfs_merge.proofs.order.sorted.Goals as goal

@@ -1,6 +1,6 @@
 use Rattle.std.proofs.Common.{◌≡◌, ◌∙◌, ap, map, refl, sym}
 use Rattle.std.specs.Cmp.Lexicographic.{nat_list_cmp_total}
-use Rattle.gtfs_devices.specs.Folder.{text_cmp}
+use Rattle.gtfs_field.specs.TextOrder.{text_cmp}
 use Rattle.gtfs_rows.specs.Reading.{content_of, service_row_in, services_named}
 use Rattle.gtfs_rows.specs.Views.{service_of}
 use Rattle.gtfs_parts.proofs.ByIds.{by_key_made}

@@ -4,7 +4,7 @@ use Rattle.std.specs.List.Sorted.{IsNonDecreasingBy, IsPartitionPoint}
 use Rattle.std.specs.Ordering.{ordering_index}
 use Rattle.std.specs.declared.cmp.Ordering.TheVariants.{Less, Equal, Greater}
 use Rattle.std.proofs.lemmas.Fn.{always_returns_same}
-use Rattle.gtfs_devices.specs.Folder.{text_cmp}
+use Rattle.gtfs_field.specs.TextOrder.{text_cmp}
 use Rattle.gtfs_parts.specs.ServiceIds.{NumbersText}
 use Rattle.gtfs_parts.proofs.ServiceFacts.{text_found, text_missing}
 use Rattle.gtfs_parts.proofs.service_ids.ServiceIds.find.Goals as goal

@@ -3,7 +3,7 @@ use Rattle.std.specs.Ordering.{is_le}
 use Rattle.std.specs.List.Sorted.{IsPartitionPoint}
 use Rattle.std.proofs.lemmas.List.{take_rest}
 use Rattle.std.proofs.lemmas.List.Sorted.{IsPartitionPoint-from_clause}
-use Rattle.gtfs_devices.specs.Folder.{text_cmp}
+use Rattle.gtfs_field.specs.TextOrder.{text_cmp}
 use Rattle.gtfs_trip_rules.specs.RowsById.{rows_of, IdRow}
 use Rattle.gtfs_trip_rules.proofs.ServiceIds.{below-partitioned, upto-partitioned, rest-by-id, rows-between, rows_of_kept}
 use Rattle.gtfs_trip_rules.proofs.services.by_id.RowsById.of.Goals as goal
