@@ -1,7 +1,7 @@
 use gtfs_field::Text;
 
 /// A row of `agency.txt` (GTFS Schedule Reference, `agency.txt`).
-#[derive(Debug, Drop)]
+#[derive(Drop)]
 pub struct Agency {
     /// Empty where the only agency of a feed has no id.
     pub agency_id: Text,

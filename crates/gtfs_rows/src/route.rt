@@ -44,7 +44,7 @@ impl RouteType {
 }
 
 /// A row of `routes.txt` (GTFS Schedule Reference, `routes.txt`).
-#[derive(Debug, Drop)]
+#[derive(Drop)]
 pub struct Route {
     pub route_id: Text,
     /// The only agency of the feed where the row names none.

@@ -3,7 +3,7 @@ use crate::numbers::StopNo;
 use gtfs_field::{Coord, Text};
 
 /// A row of `stops.txt` (GTFS Schedule Reference, `stops.txt`).
-#[derive(Debug, Drop)]
+#[derive(Drop)]
 pub struct Stop {
     pub stop_id: Text,
     pub stop_code: Option<Text>,

@@ -3,7 +3,7 @@ use crate::numbers::{RouteNo, ServiceNo};
 use gtfs_field::Text;
 
 /// A row of `trips.txt` (GTFS Schedule Reference, `trips.txt`). Its stop times and frequencies stand in lists of the feed.
-#[derive(Debug, Drop)]
+#[derive(Drop)]
 pub struct Trip {
     pub route_id: RouteNo,
     pub service_id: ServiceNo,

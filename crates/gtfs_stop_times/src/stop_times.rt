@@ -11,7 +11,7 @@ use std::hash::RandomState;
 
 /// The stop times of a dataset, as the lists of [`gtfs_rows::Parts`] with the same names (GTFS Schedule Reference,
 /// `stop_times.txt`).
-#[derive(Debug, Drop)]
+#[derive(Drop)]
 pub struct StopTimes {
     /// The stop times of all trips, by the numbers of trips and in each trip by sequence.
     pub stop_rows: List<StopRow>,

@@ -1,13 +1,13 @@
 -- The rows of trips in their order: by trip, sequence and row. What a row breaks by its position among them.
-use Rattle.std.specs.Prelude.{ℕ, ◌&&◌, ◌||◌, not, Bool, true, false, if◌then◌else◌, List, [], ◌∷◌, bytes_eq, Option, None, ℤ, pos, int_lt, map, IsPermutation}
+use Rattle.std.specs.Prelude.{ℕ, ◌-◌, ◌&&◌, ◌||◌, not, Bool, true, false, if◌then◌else◌, List, [], ◌∷◌, bytes_eq, length, slice_get, Option, None, ℤ, pos, int_lt, map, IsPermutation}
 use Rattle.std.specs.List.Sorted.{IsStrictlySortedBy}
 use Rattle.std.specs.Option.{option_or}
-use Rattle.std.specs.Ordering.{int_cmp, int_eq, nat_cmp, on, then_cmp}
+use Rattle.std.specs.Ordering.{int_cmp, int_eq, is_lt, nat_cmp, on, then_cmp}
 use Rattle.std.specs.declared.cmp.Ordering.{Ordering}
 use Rattle.gtfs_field.specs.TextOrder.{text_cmp}
 use Rattle.gtfs_table.specs.Tables.{Dataset}
 use Rattle.gtfs_trip_rules.specs.declared.trips.row.StopTime.{StopTime}
-use Rattle.gtfs_columns.specs.Values.{if_both}
+use Rattle.gtfs_columns.specs.Values.{if_both, if_there}
 use Rattle.gtfs_trip_rules.specs.TripNumbers.{AllNumbered}
 use Rattle.gtfs_trip_rules.specs.TripStopTimes.{TripStopTime, trip_stop_time, trip_stop_times_in}
 
@@ -28,6 +28,10 @@ row_cmp number = then_cmp (on (λ r. r.trip_id) (trip_cmp number)) (then_cmp (on
 -- rows as they are kept, by the numbers of their trips
 abbrev pub kept_cmp : StopTime → StopTime → Ordering
 kept_cmp = then_cmp (on (λ r. r.trip) nat_cmp) (then_cmp (on (λ r. pos r.stop_sequence) int_cmp) (on (λ r. r.row) nat_cmp))
+
+-- a row stands below the last of the rows before it
+abbrev pub falls : List StopTime → StopTime → Bool
+falls before row = if_there (slice_get before (length before - 1)) (λ last. is_lt (kept_cmp row last))
 
 -- the rows of a dataset, each once and in their order, by some numbers of trips
 pub record InOrder (d : Dataset) (rows : List TripStopTime) : Type 0 where

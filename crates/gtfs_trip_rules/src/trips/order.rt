@@ -11,7 +11,7 @@ ghost use Rattle.gtfs_trip_rules.specs.StopTimePicks.{breaks_order};
 ghost use Rattle.gtfs_trip_rules.specs.KeptOrder.{AreKeptOf};
 ghost use Rattle.gtfs_trip_rules.specs.TripNotes.{trip_notes_in};
 ghost use Rattle.gtfs_trip_rules.specs.TripNumbers.{AllNumbered, AreRowsNumbered, IsNumbered};
-ghost use Rattle.gtfs_trip_rules.specs.TripOrder.{ends, follows, is_left_later, is_untimed_end, last_left as last_left_of, left_before, kept_cmp, repeats, AreInOrder};
+ghost use Rattle.gtfs_trip_rules.specs.TripOrder.{ends, falls, follows, is_left_later, is_untimed_end, last_left as last_left_of, left_before, kept_cmp, repeats, AreInOrder};
 ghost use Rattle.gtfs_trip_rules.specs.TripStopTimes.{trip_stop_time, trip_stop_times_in};
 
 use crate::trips::notes::TripNotes;
@@ -34,7 +34,11 @@ pub fn report_order<'a>(
     ensures reported { OnOk result (Reports tables.now breaks_order found.old found.new) }
     ensures kept { IfOk result (λ rows. AreKeptOf tables.now rows.items) }
 {
-    let rows = in_order(notes.into_rows());
+    let rows = notes.into_rows();
+    if are_faultless(&rows) {
+        return Ok(rows);
+    }
+    let rows = in_order(rows);
     report_rows(&rows, found)?;
     Ok(rows)
 }
@@ -53,17 +57,24 @@ fn report_rows<'a>(rows: &[StopTime], found: &mut Found<'a>) -> Result<(), OutOf
     Ok(())
 }
 
-// Whether the order of rows, each of which has a time, breaks nothing. Of rows without times this does not tell.
+// Whether rows, each of which has a time, stand in their order and it breaks nothing. Of rows without times this
+// does not tell.
 fn are_faultless(rows: &[StopTime]) -> bool
-    ensures { result ≡ true → (d : Dataset) (found : List ProblemOf) → AreInOrder d rows.now
-        → Reports d breaks_order found found }
+    ensures order { result ≡ true → (d : Dataset) → AreRowsNumbered (trip_stop_times_in d) rows.now
+        → AreInOrder d rows.now }
+    ensures faultless { result ≡ true → (d : Dataset) (found : List ProblemOf)
+        → AreInOrder d rows.now → Reports d breaks_order found found }
 {
     let mut last_left = None;
     for at in 0..rows.len() {
         let row = &rows[at];
         let before = &rows[..at];
         let left = left_before(before, row, last_left);
-        if row.is_untimed() || repeats(before, row) || is_left_later(left, row.arrives()) {
+        if falls(before, row)
+            || repeats(before, row)
+            || row.is_untimed()
+            || is_left_later(left, row.arrives())
+        {
             return false;
         }
         last_left = row.departs().or(left);
@@ -81,6 +92,16 @@ fn in_order(rows: Vec<StopTime>) -> Vec<StopTime>
     let mut rows = by_stretches(rows);
     rows.sort_unstable_by(|a, b| order(a, b));
     rows
+}
+
+// Whether the row stands below the one before it.
+fn falls(before: &[StopTime], row: &StopTime) -> bool
+    ensures { result ≡ falls before.now row.now }
+{
+    match before.last() {
+        Some(last) => order(row, last).is_lt(),
+        None => false,
+    }
 }
 
 fn order(a: &StopTime, b: &StopTime) -> Ordering

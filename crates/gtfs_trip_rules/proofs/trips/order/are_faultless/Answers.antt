@@ -1,17 +1,19 @@
-use Rattle.std.proofs.Common.{◌∙◌, ap, option_map, refl, sym}
+use Rattle.std.proofs.Common.{◌∙◌, ap, arith, option_map, refl, sym}
 use Rattle.std.specs.Option.{option_or}
 use Rattle.std.specs.Prelude.{codes, pos}
 use Rattle.std.proofs.lemmas.List.Elements.{All-take}
+use Rattle.std.proofs.lemmas.List.Sorted.{IsPermutation-refl}
 use Rattle.gtfs_columns.specs.declared.code.Code.TheVariants as code
 use Rattle.gtfs_trip_rules.specs.TripNumbers.{IsNumbered}
 use Rattle.gtfs_trip_rules.specs.TripOrder.{is_left_later}
 use Rattle.gtfs_trip_rules.proofs.TripPicks.{order_reported}
 use Rattle.gtfs_trip_rules.proofs.TripReports.{back_here, back_reported, before_end, ends_reported, faultless_none, left_more, repeats_here, repeats_reported, rows_before, seen_all, silent_forward, timed_forward}
+use Rattle.gtfs_trip_rules.proofs.TripSorted.{numbered_in_order, sorted_further}
 use Rattle.gtfs_trip_rules.proofs.TripRestated.{ends_untimed, goes_back_among, repeats_among}
 use Rattle.gtfs_trip_rules.proofs.trips.order.are_faultless.Goals as goal
 
 pub loop-at-init : goal.loop-at-init
-loop-at-init c = record { faultless = λ d ps o. faultless_none d ps; left = λ number name each. refl }
+loop-at-init c = record { faultless = λ d ps o. faultless_none d ps; sorted = λ k x low h. absurd (omega (arith, h)); left = λ number name each. refl }
 
 pub loop-at-preserved : goal.loop-at-preserved
 loop-at-preserved c =
@@ -33,14 +35,21 @@ loop-at-preserved c =
                 (sym c.if-is_left_later.false ∙ c.is_left_later.ensures ∙ ap (λ a. is_left_later (option_map pos c.left_before-left.result) (option_map pos a)) c.arrives.ensures
                 ∙ back_here d o.name rows o.order at _ below _ left) before.back;
           };
+      sorted = sorted_further rows at _ below c.loop-at.invariant.sorted (sym c.falls.ensures ∙ c.if-falls.false);
       left = λ number name each.
           left_more name rows at _ below c.left_before-left.result c.or-last_left.result
           (c.left_before-left.ensures number name (All-take (IsNumbered number name) at rows each) (each at _ below) (c.loop-at.invariant.left number name each))
           (c.or-last_left.ensures ∙ ap (λ o. option_or o c.left_before-left.result) c.departs.ensures);
     }
 
-pub returns : goal.returns
-returns c = λ same d ps o.
+pub returns-clause-order : goal.returns-clause-order
+returns-clause-order c = λ same d are.
+    let rows = c.args.rows.now in
+    numbered_in_order are.number are.name d rows rows are.same are.numbered (IsPermutation-refl rows)
+    (λ k x low h. c.loop-at.invariant.sorted k x low (omega (arith, h, c.loop-at-test.false)))
+
+pub returns-clause-faultless : goal.returns-clause-faultless
+returns-clause-faultless c = λ same d ps o.
     let rows = rows_before o.name c.args.rows.now c.loop-at.at in
     let all = before_end d o.name c.args.rows.now o.order c.loop-at.at c.loop-at-test.false in
     let so_far = c.loop-at.invariant.faultless d ps o in
