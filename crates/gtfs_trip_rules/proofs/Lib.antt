@@ -23,6 +23,7 @@ pub mod TripKept
 pub mod TripNumberFacts
 pub mod TripPicks
 pub mod TripPositions
+mod TripRanks
 pub mod TripReports
 pub mod TripRestated
 pub mod TripSorted

@@ -202,7 +202,7 @@ sorted_further rows at z within sorted stands k x low h = elim (eq-or-lt_of_le {
       let size : length (take at rows) ≡ at = length-take-le at rows (omega (arith, within)) in
       let before_it : length (take at rows) - 1 ≡ k = omega (arith, size, here) in
       let last : slice_get (take at rows) (length (take at rows) - 1) ≡ Some (get_or rows k x) =
-          ap (slice_get (take at rows)) before_it ∙ slice_get-get_or (take at rows) k x (omega (arith, size, here)) ∙ ap (λ y. Some y) (get_or-take at rows k x (omega (arith, here))) in
+      ap (slice_get (take at rows)) before_it ∙ slice_get-get_or (take at rows) k x (omega (arith, size, here)) ∙ ap (λ y. Some y) (get_or-take at rows k x (omega (arith, here))) in
       let row : get_or rows at x ≡ get_or rows at z = get_or_from_slice_get rows at (get_or rows at z) x (slice_get-get_or rows at z within) in
       ap (λ n. below (get_or rows n x) (get_or rows k x)) here ∙ ap (λ r. below r (get_or rows k x)) row ∙ ap (λ o. if_there o (below (get_or rows at z))) (sym last) ∙ stands
 ]

@@ -1,4 +1,4 @@
-ghost use Rattle.std.specs.Prelude.{◌≡◌, ◌∷◌, true, List, ℕ, map, reverse, codes, pos, option_map, IfOk, IsPermutation, OnOk};
+ghost use Rattle.std.specs.Prelude.{◌≡◌, ◌<◌, ◌^◌, ◌∷◌, true, List, ℕ, map, reverse, codes, pos, option_map, IfOk, IsPermutation, OnOk};
 ghost use Rattle.gtfs_table.specs.Tables.{Dataset};
 ghost use Rattle.gtfs_table.specs.declared.file.File.TheVariants as file;
 ghost use Rattle.gtfs_columns.specs.declared.code.Code.TheVariants as code;
@@ -11,7 +11,7 @@ ghost use Rattle.gtfs_trip_rules.specs.StopTimePicks.{breaks_order};
 ghost use Rattle.gtfs_trip_rules.specs.KeptOrder.{AreKeptOf};
 ghost use Rattle.gtfs_trip_rules.specs.TripNotes.{trip_notes_in};
 ghost use Rattle.gtfs_trip_rules.specs.TripNumbers.{AllNumbered, AreRowsNumbered, IsNumbered};
-ghost use Rattle.gtfs_trip_rules.specs.TripOrder.{ends, falls, follows, is_left_later, is_untimed_end, last_left as last_left_of, left_before, kept_cmp, repeats, AreInOrder};
+ghost use Rattle.gtfs_trip_rules.specs.TripOrder.{ends, falls, follows, is_left_later, is_untimed_end, last_left as last_left_of, left_before, kept_cmp, rank, repeats, AreInOrder};
 ghost use Rattle.gtfs_trip_rules.specs.TripStopTimes.{trip_stop_time, trip_stop_times_in};
 
 use crate::trips::notes::TripNotes;
@@ -107,10 +107,15 @@ fn falls(before: &[StopTime], row: &StopTime) -> bool
 fn order(a: &StopTime, b: &StopTime) -> Ordering
     ensures { result ≡ kept_cmp a.now b.now }
 {
-    a.trip
-        .cmp(&b.trip)
-        .then(a.stop_sequence.cmp(&b.stop_sequence))
-        .then(a.row.cmp(&b.row))
+    rank(a).cmp(&rank(b)).then(a.row.cmp(&b.row))
+}
+
+// A number that grows with the trip, and within a trip with the sequence, so that a sort has one comparison in place of two.
+fn rank(row: &StopTime) -> u64
+    ensures value { result ≡ rank row.now }
+    ensures sequence { row.now.stop_sequence < 2 ^ 32 }
+{
+    (u64::from(row.trip) << 32) + u64::from(row.stop_sequence)
 }
 
 // Rows whose trip and sequence an earlier row has.
