@@ -43,7 +43,7 @@ pub fn report_order<'a>(
     Ok(rows)
 }
 
-// Reports what the order of these rows breaks. In most feeds a single pass finds nothing.
+// Reports what the order of these rows breaks. Where it breaks nothing, a single pass finds it so.
 fn report_rows<'a>(rows: &[StopTime], found: &mut Found<'a>) -> Result<(), OutOfMemory>
     ensures { OnOk result ((d : Dataset) → AreInOrder d rows.now
         → Reports d breaks_order found.old found.new) }
@@ -57,8 +57,8 @@ fn report_rows<'a>(rows: &[StopTime], found: &mut Found<'a>) -> Result<(), OutOf
     Ok(())
 }
 
-// Whether rows, each of which has a time, stand in their order and it breaks nothing. Of rows without times this
-// does not tell.
+// Whether rows, each of which has a time, stand in their order already and it breaks nothing, as is mostly so. Of rows
+// without times this does not tell.
 fn are_faultless(rows: &[StopTime]) -> bool
     ensures order { result ≡ true → (d : Dataset) → AreRowsNumbered (trip_stop_times_in d) rows.now
         → AreInOrder d rows.now }
@@ -82,8 +82,7 @@ fn are_faultless(rows: &[StopTime]) -> bool
     true
 }
 
-// The rows by trip, sequence and row. Where they stand in this order already, as they mostly do,
-// one pass finds it so.
+// The rows by trip, sequence and row.
 fn in_order(rows: Vec<StopTime>) -> Vec<StopTime>
     ensures order { (d : Dataset) → AreRowsNumbered (trip_stop_times_in d) rows.items
         → AreInOrder d result.items }
@@ -110,7 +109,7 @@ fn order(a: &StopTime, b: &StopTime) -> Ordering
     rank(a).cmp(&rank(b)).then(a.row.cmp(&b.row))
 }
 
-// A number that grows with the trip, and within a trip with the sequence, so that a sort has one comparison in place of two.
+// A number that grows with the trip, and within a trip with the sequence: one comparison in place of two.
 fn rank(row: &StopTime) -> u64
     ensures value { result ≡ rank row.now }
     ensures sequence { row.now.stop_sequence < 2 ^ 32 }
