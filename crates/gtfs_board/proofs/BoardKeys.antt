@@ -14,8 +14,8 @@ use Rattle.gtfs_rows.specs.Order.{Ascends}
 use Rattle.gtfs_field.specs.TextOrder.{text_cmp}
 use Rattle.gtfs_columns.proofs.BoolFacts.{same_test as same_tests}
 use Rattle.gtfs_board.specs.CandidateKeys.{key_among}
-use Rattle.gtfs_board.specs.Departures.{IsBoard, Origins, is_listed, is_member}
-use Rattle.gtfs_board.specs.Key.{Key, key_cmp}
+use Rattle.gtfs_rows.specs.Departures.{IsBoard, Origins, is_listed, is_member}
+use Rattle.gtfs_rows.specs.Key.{Key, key_cmp}
 use Rattle.gtfs_board.specs.declared.merge.candidate.Candidate.{Candidate}
 use Rattle.gtfs_board.specs.merge.Candidates.{candidate_lt}
 use Rattle.gtfs_board.specs.merge.Lanes.{rest_of}

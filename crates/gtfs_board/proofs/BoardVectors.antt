@@ -7,8 +7,8 @@ use Rattle.gtfs_rows.specs.Rows.{Frequency, Route, Stop, StopRow, Trip}
 use Rattle.gtfs_board.specs.declared.departure.Mark.{Mark}
 use Rattle.gtfs_board.specs.declared.departure.Mark.TheVariants as mark
 use Rattle.gtfs_board.specs.Board.{width}
-use Rattle.gtfs_board.specs.Departures.{is_departure, is_listed}
-use Rattle.gtfs_board.specs.Key.{Key}
+use Rattle.gtfs_rows.specs.Departures.{is_departure, is_listed}
+use Rattle.gtfs_rows.specs.Key.{Key}
 use Rattle.gtfs_board.specs.Lines.{Listed}
 use Rattle.gtfs_board.specs.Shown.{shown}
 

@@ -10,7 +10,7 @@ use Rattle.gtfs_rows.specs.Order.{Ascends}
 use Rattle.gtfs_rows.specs.Views.{text_of_number}
 use Rattle.gtfs_field.specs.TextOrder.{text_cmp}
 use Rattle.gtfs_board.specs.CandidateKeys.{key_among}
-use Rattle.gtfs_board.specs.Key.{key_cmp}
+use Rattle.gtfs_rows.specs.Key.{key_cmp}
 use Rattle.gtfs_board.specs.declared.merge.candidate.Candidate.{Candidate}
 use Rattle.gtfs_board.specs.merge.Candidates.{candidate_lt, departure_cmp, lane_cmp}
 use Rattle.gtfs_board.proofs.KeyOrder.{key_cmp-IsAntisymmetric}

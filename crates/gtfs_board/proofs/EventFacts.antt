@@ -24,9 +24,9 @@ use Rattle.gtfs_rows.specs.declared.stop_row.StopRow.{StopRow as StopTime}
 use Rattle.gtfs_rows.specs.declared.trip.Trip.{Trip as TripRow}
 use Rattle.gtfs_runs.specs.Counts.{is_same, tally}
 use Rattle.gtfs_runs.specs.Events.{is_event}
-use Rattle.gtfs_runs.specs.Places.{is_in_place}
+use Rattle.gtfs_rows.specs.Places.{is_in_place}
 use Rattle.gtfs_runs.specs.StopLanes.{AreLanesOf, LaneValue, StopLanesValue, events_of_service, lanes_of}
-use Rattle.gtfs_runs.specs.Trips.{is_run, is_departure_row, passes_at}
+use Rattle.gtfs_rows.specs.Runs.{is_run, is_departure_row, passes_at}
 use Rattle.gtfs_runs.specs.declared.event.Event.{Event}
 use Rattle.gtfs_runs.proofs.Counting.{same-is as event_same, same-self as same_itself}
 use Rattle.gtfs_runs.proofs.Tallies.{tally-append as tally_more}

@@ -24,8 +24,8 @@ use Rattle.gtfs_rows.specs.Views.{IsSoundParts, text_of_number, trip_ids}
 use Rattle.gtfs_rows.specs.declared.parts.Parts.{Parts}
 use Rattle.gtfs_field.specs.TextOrder.{text_cmp}
 use Rattle.gtfs_board.specs.CandidateKeys.{key_among}
-use Rattle.gtfs_board.specs.Departures.{is_above}
-use Rattle.gtfs_board.specs.Key.{Key, key_cmp}
+use Rattle.gtfs_rows.specs.Departures.{is_above}
+use Rattle.gtfs_rows.specs.Key.{Key, key_cmp}
 use Rattle.gtfs_board.specs.declared.merge.candidate.Candidate.{Candidate}
 use Rattle.gtfs_board.specs.merge.Candidates.{candidate_lt, departure_cmp, lane_cmp}
 use Rattle.gtfs_board.proofs.CandidateKeys.{compares}

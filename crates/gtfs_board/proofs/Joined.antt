@@ -5,7 +5,7 @@ use Rattle.std.specs.Fmt.{signed_decimal}
 use Rattle.gtfs_field.specs.Digits.{wide}
 use Rattle.gtfs_days.specs.declared.civil.Civil.{Civil}
 use Rattle.gtfs_field.specs.Canonical.{date_text}
-use Rattle.gtfs_board.specs.Key.{Key}
+use Rattle.gtfs_rows.specs.Key.{Key}
 use Rattle.gtfs_board.specs.KeyTexts.{key_text}
 use Rattle.gtfs_board.specs.Lines.{Listed, clock_text, line_text, mark_text, offset_text}
 

@@ -8,7 +8,7 @@ use Rattle.std.specs.Ordering.{ordering_then, is_lt, int_cmp, MatchOrdering}
 use Rattle.std.specs.declared.cmp.Ordering.{Ordering}
 use Rattle.std.specs.declared.cmp.Ordering.TheVariants.{Less, Equal, Greater}
 use Rattle.gtfs_field.proofs.OrderingFacts.{less, tied_first, tied_second}
-use Rattle.gtfs_board.specs.Key.{Key, key_cmp}
+use Rattle.gtfs_rows.specs.Key.{Key, key_cmp}
 
 -- ---- five comparisons, one after the other
 

@@ -18,7 +18,7 @@ use Rattle.gtfs_field.proofs.Numerals.{digits-append}
 use Rattle.gtfs_field.proofs.Texts.{decimal-digits, decimal-is_number, number-decimal}
 use Rattle.gtfs_field.proofs.Wides.{wide-digits}
 use Rattle.gtfs_field.proofs.Choices.{shaped-false, shaped-true, within-true}
-use Rattle.gtfs_board.specs.Key.{Key, IsInRange, last_run, last_sequence}
+use Rattle.gtfs_rows.specs.Key.{Key, IsInRange, last_run, last_sequence}
 use Rattle.gtfs_board.specs.KeyTexts.{key_text, key_of, plain_up_to, and_then}
 use Rattle.gtfs_board.specs.Parts.{LacksSlash, AreTexts}
 use Rattle.gtfs_board.proofs.Slashes.{digits-lack_slash, parts}

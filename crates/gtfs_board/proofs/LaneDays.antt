@@ -31,7 +31,7 @@ use Rattle.gtfs_runs.specs.Order.{event_cmp, is_above, is_later}
 use Rattle.gtfs_runs.specs.declared.seek.Seek.{Seek}
 use Rattle.gtfs_runs.specs.StopLanes.{LaneValue, StopLanesValue, lanes_of}
 use Rattle.gtfs_runs.specs.declared.event.Event.{Event}
-use Rattle.gtfs_board.specs.Departures.{Origins}
+use Rattle.gtfs_rows.specs.Departures.{Origins}
 use Rattle.gtfs_board.specs.LaneDays.{departing, event_of, serves_on, no_lane, lane_at, ends_by, departures_on, departures_of_day, all_departures, AreAscending, AreTimely}
 use Rattle.gtfs_board.specs.declared.merge.candidate.Candidate.{Candidate}
 use Rattle.gtfs_board.specs.merge.Candidates.{candidate_lt, IsAside, AreCandidateLanes, EndsBy, day_of, lane_of, first_above}

@@ -8,8 +8,8 @@ use Rattle.gtfs_field.proofs.OrderingFacts.{equal}
 use Rattle.gtfs_rows.specs.Content.{Content}
 use Rattle.gtfs_rows.proofs.ByKey.{by_key_is}
 use Rattle.gtfs_rows.proofs.SameElements.{SameElements, contains-first, contains-later}
-use Rattle.gtfs_board.specs.Departures.{Origins, IsBoard, is_member}
-use Rattle.gtfs_board.specs.Key.{Key, key_cmp}
+use Rattle.gtfs_rows.specs.Departures.{Origins, IsBoard, is_member}
+use Rattle.gtfs_rows.specs.Key.{Key, key_cmp}
 use Rattle.gtfs_board.proofs.KeyOrder.{key_cmp_total, key_cmp-IsAntisymmetric}
 
 contains_step : (k x : Key) (xs : List Key) → (is_member k xs ≡ true → Contains xs k) → (b : Bool) → is_eq (key_cmp k x) ≡ b → (b || is_member k xs) ≡ true → Contains (x ∷ xs) k

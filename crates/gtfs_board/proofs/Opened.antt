@@ -34,9 +34,9 @@ use Rattle.gtfs_field.specs.TextOrder.{text_cmp}
 use Rattle.gtfs_board.specs.Board as board
 use Rattle.gtfs_board.specs.Board.{FirstIsLeast, first_instant, keys_of, may_be_opened, start_of, step_count, steps_for_days}
 use Rattle.gtfs_board.specs.CandidateKeys.{key_among}
-use Rattle.gtfs_board.specs.Departures.{IsBoard, departs_at, is_above, is_member}
+use Rattle.gtfs_rows.specs.Departures.{IsBoard, departs_at, is_above, is_member}
 use Rattle.gtfs_board.specs.Floors.{IsNumbered, is_from}
-use Rattle.gtfs_board.specs.Key.{Key, key_cmp}
+use Rattle.gtfs_rows.specs.Key.{Key, key_cmp}
 use Rattle.gtfs_board.specs.LaneDays.{all_departures, lane_at}
 use Rattle.gtfs_board.specs.Opening.{IsOpen, IsOpened, board_value}
 use Rattle.gtfs_board.specs.Span.{is_span, is_writable}

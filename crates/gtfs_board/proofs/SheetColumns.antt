@@ -38,9 +38,9 @@ use Rattle.gtfs_feed.proofs.TripsAt.{content_trip}
 use Rattle.gtfs_feed.specs.Trips.{frequencies_by_trip, left_at, stop_rows_by_trip}
 use Rattle.gtfs_runs.specs.Counts.{tally}
 use Rattle.gtfs_runs.specs.Patterns.{rows_of}
-use Rattle.gtfs_runs.specs.Trips.{is_run, runs}
+use Rattle.gtfs_rows.specs.Runs.{is_run, runs}
 use Rattle.gtfs_runs.specs.declared.pattern.Pattern.{Pattern}
-use Rattle.gtfs_board.specs.Departures.{runs_on}
+use Rattle.gtfs_rows.specs.Departures.{runs_on}
 use Rattle.gtfs_board.specs.LaneDays.{serves_on}
 use Rattle.gtfs_board.specs.SheetSteps.{IsPattern, IsShownAlong, column_cmp, column_times, is_column_before, is_column_of, is_run_on, is_same_column, named_column, running_at, sheet_along, sheet_of_columns, sheet_with, sheets_along, time_of_column}
 use Rattle.gtfs_board.specs.Timetable.{Run, Sheet, has_run_on, is_run_before, named_runs, row_at, run_cmp, runs_of, time_at, time_of_run}

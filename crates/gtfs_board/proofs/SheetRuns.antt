@@ -19,7 +19,7 @@ use Rattle.gtfs_rows.specs.declared.stop_row.StopRow.{StopRow}
 use Rattle.gtfs_rows.specs.declared.trip.Trip.{Trip as TripRow}
 use Rattle.gtfs_feed.specs.Trips.{ArePeriods, frequencies_by_trip, left_at, stop_rows_by_trip}
 use Rattle.gtfs_runs.specs.Counts.{tally}
-use Rattle.gtfs_runs.specs.Trips.{is_run, passes_at, runs}
+use Rattle.gtfs_rows.specs.Runs.{is_run, passes_at, runs}
 use Rattle.gtfs_runs.proofs.Bounds.{IsPeriod, periods_within, rows_within}
 use Rattle.gtfs_runs.proofs.ContentRows.{no_run, own_run, period_run}
 use Rattle.gtfs_runs.proofs.RunStarts.{one_period, starts, within}

@@ -8,7 +8,7 @@ use Rattle.std.proofs.lemmas.Bool.Decides.{nat_tests}
 use Rattle.gtfs_rows.specs.Views.{frequency_of}
 use Rattle.gtfs_rows.specs.declared.frequency.Frequency.{Frequency}
 use Rattle.gtfs_runs.specs.Counts.{tally}
-use Rattle.gtfs_runs.specs.Trips.{starts_run}
+use Rattle.gtfs_rows.specs.Runs.{starts_run}
 use Rattle.gtfs_runs.proofs.Tallies.{tally-push}
 use Rattle.gtfs_board.specs.SheetSteps.{is_same_column}
 use Rattle.gtfs_board.specs.declared.sheet.columns.Column.{Column}

@@ -26,10 +26,10 @@ use Rattle.gtfs_rows.specs.Views.{IsSoundParts, content_of_parts, route_ids, rou
 use Rattle.gtfs_rows.specs.declared.parts.Parts.{Parts}
 use Rattle.gtfs_rows.specs.declared.route.Route.{Route as RouteRow}
 use Rattle.gtfs_runs.specs.Patterns.{ArePatterns, is_of_route, rows_of}
-use Rattle.gtfs_runs.specs.Trips.{is_run, runs}
+use Rattle.gtfs_rows.specs.Runs.{is_run, runs}
 use Rattle.gtfs_runs.specs.declared.pattern.Pattern.{Pattern}
 use Rattle.gtfs_field.specs.TextOrder.{text_cmp}
-use Rattle.gtfs_board.specs.Departures.{runs_on}
+use Rattle.gtfs_rows.specs.Departures.{runs_on}
 use Rattle.gtfs_board.specs.SheetSteps.{goes, is_idle, running_at, sheet_along, sheets_along}
 use Rattle.gtfs_board.specs.Timetable.{Heading, Run, Sheet, direction_at, direction_rank, has_heading, has_run_on, heading_cmp, heading_of, headings, is_heading_before, is_route, named_runs, row_at, running, runs_of, runs_under, sheet_under, sheets, time_at, time_of_run, wants}
 use Rattle.gtfs_board.specs.declared.sheet.TableFault.{TableFault}

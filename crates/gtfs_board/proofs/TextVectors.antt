@@ -11,7 +11,7 @@ use Rattle.gtfs_field.specs.declared.fault.FieldFault.TheVariants.{Form, Range}
 use Rattle.gtfs_board.specs.declared.departure.Mark.TheVariants as mark
 use Rattle.gtfs_field.specs.Calendar.{date_after, date_after-number}
 use Rattle.gtfs_field.specs.Canonical.{digits_of_date, date_text}
-use Rattle.gtfs_board.specs.Key.{Key}
+use Rattle.gtfs_rows.specs.Key.{Key}
 use Rattle.gtfs_board.specs.KeyTexts.{key_text, key_of}
 use Rattle.gtfs_board.specs.Lines.{clock_text, line_text}
 

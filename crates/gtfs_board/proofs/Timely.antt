@@ -18,9 +18,9 @@ use Rattle.gtfs_rows.specs.declared.frequency.Frequency.{Frequency as PeriodRow}
 use Rattle.gtfs_rows.specs.declared.parts.Parts.{Parts}
 use Rattle.gtfs_runs.proofs.Bounds.{IsPeriod, periods_within, rows_within}
 use Rattle.gtfs_runs.specs.Lanes.{departure_rows, latest}
-use Rattle.gtfs_runs.specs.Places.{is_in_place}
+use Rattle.gtfs_rows.specs.Places.{is_in_place}
 use Rattle.gtfs_runs.specs.StopLanes.{AreLanesOf, LaneValue, StopLanesValue, lanes_of}
-use Rattle.gtfs_runs.specs.Trips.{first_leaves, is_departure_row, is_run, passes_at, runs, starts_run, trip_start}
+use Rattle.gtfs_rows.specs.Runs.{first_leaves, is_departure_row, is_run, passes_at, runs, starts_run, trip_start}
 use Rattle.gtfs_runs.specs.declared.event.Event.{Event}
 use Rattle.gtfs_runs.proofs.TripTimes.{at_most as most_left}
 use Rattle.gtfs_board.specs.LaneDays.{AreTimely, lane_at, no_lane}

@@ -6,8 +6,8 @@ use Rattle.std.specs.Ordering.{is_lt}
 use Rattle.gtfs_days.specs.Service.{service_days}
 use Rattle.gtfs_days.specs.declared.zone.Zone.{Zone}
 use Rattle.gtfs_rows.specs.Content.{Content}
-use Rattle.gtfs_board.specs.Departures.{is_member}
-use Rattle.gtfs_board.specs.Key.{Key, key_cmp}
+use Rattle.gtfs_rows.specs.Departures.{is_member}
+use Rattle.gtfs_rows.specs.Key.{Key, key_cmp}
 use Rattle.gtfs_board.specs.Lines.{Listed}
 
 -- the departures that are left, the keys that wait in memory, and with what the board was opened: the number of lanes, the

@@ -4,7 +4,7 @@ use Rattle.std.specs.declared.cmp.Ordering.{Ordering}
 use Rattle.gtfs_rows.specs.Order.{Ascends}
 use Rattle.gtfs_rows.specs.Views.{text_of_number}
 use Rattle.gtfs_field.specs.TextOrder.{text_cmp}
-use Rattle.gtfs_board.specs.Key.{Key, key_cmp}
+use Rattle.gtfs_rows.specs.Key.{Key, key_cmp}
 use Rattle.gtfs_board.specs.declared.merge.candidate.Candidate.{Candidate}
 
 -- the key of a candidate among trips with these ids

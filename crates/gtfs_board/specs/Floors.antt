@@ -2,8 +2,8 @@
 use Rattle.std.specs.Prelude.{◌<◌, ◌&&◌, ◌≤ℤ◌, ℕ, ℤ, Bool, Option, length, int_le}
 use Rattle.gtfs_days.specs.Service.{first_service_day}
 use Rattle.gtfs_rows.specs.declared.parts.Parts.{Parts}
-use Rattle.gtfs_board.specs.Departures.{is_above}
-use Rattle.gtfs_board.specs.Key.{Key}
+use Rattle.gtfs_rows.specs.Departures.{is_above}
+use Rattle.gtfs_rows.specs.Key.{Key}
 use Rattle.gtfs_board.specs.Showing.{key_in}
 use Rattle.gtfs_board.specs.declared.merge.candidate.Candidate.{Candidate}
 

@@ -6,7 +6,7 @@ use Rattle.gtfs_field.specs.Canonical.{date_text}
 use Rattle.gtfs_field.specs.Digits.{number}
 use Rattle.gtfs_field.specs.Kinds.{shaped, within, is_plain_number, instant_of, date_of}
 use Rattle.gtfs_field.specs.declared.fault.FieldFault.{FieldFault}
-use Rattle.gtfs_board.specs.Key.{Key, last_run, last_sequence}
+use Rattle.gtfs_rows.specs.Key.{Key, last_run, last_sequence}
 
 -- @INSTANT/TRIP/RUN/SEQUENCE/YYYYMMDD, numbers with no zero in front
 abbrev pub key_text : Key → List ℕ

@@ -8,7 +8,7 @@ use Rattle.gtfs_rows.specs.declared.parts.Parts.{Parts}
 use Rattle.gtfs_runs.specs.Order.{event_cmp}
 use Rattle.gtfs_runs.specs.StopLanes.{LaneValue, StopLanesValue, lanes_of}
 use Rattle.gtfs_runs.specs.declared.event.Event.{Event}
-use Rattle.gtfs_board.specs.Departures.{Origins}
+use Rattle.gtfs_rows.specs.Departures.{Origins}
 use Rattle.gtfs_board.specs.declared.merge.candidate.Candidate.{Candidate}
 
 -- the departure that an event of a lane is on a day with this origin

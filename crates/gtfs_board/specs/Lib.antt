@@ -1,8 +1,6 @@
 pub mod Board
 pub mod CandidateKeys
-pub mod Departures
 pub mod Floors
-pub mod Key
 pub mod KeyTexts
 pub mod LaneDays
 pub mod Lent

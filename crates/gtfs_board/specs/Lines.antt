@@ -6,7 +6,7 @@ use Rattle.gtfs_days.specs.declared.civil.Civil.{Civil}
 use Rattle.gtfs_days.specs.declared.zone.Zone.{Zone}
 use Rattle.gtfs_board.specs.declared.departure.Mark.{Mark}
 use Rattle.gtfs_board.specs.declared.departure.Mark.TheVariants as mark
-use Rattle.gtfs_board.specs.Key.{Key}
+use Rattle.gtfs_rows.specs.Key.{Key}
 use Rattle.gtfs_board.specs.KeyTexts.{key_text}
 
 -- what a line shows of a departure: its key, the stop's id, the route's name, the headsign and the mark

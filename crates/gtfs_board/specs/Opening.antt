@@ -7,8 +7,8 @@ use Rattle.gtfs_rows.specs.Content.{Content}
 use Rattle.gtfs_rows.specs.declared.parts.Parts.{Parts}
 use Rattle.gtfs_runs.specs.Lanes.{lane_count, latest}
 use Rattle.gtfs_board.specs.Board.{BoardValue, IsQueued, keys_of, start_of, steps_for_days}
-use Rattle.gtfs_board.specs.Departures.{IsBoard}
-use Rattle.gtfs_board.specs.Key.{Key}
+use Rattle.gtfs_rows.specs.Departures.{IsBoard}
+use Rattle.gtfs_rows.specs.Key.{Key}
 use Rattle.gtfs_board.specs.Showing.{IsOfFeed, key_in, listed_in}
 use Rattle.gtfs_board.specs.Shown.{IsShown}
 use Rattle.gtfs_board.specs.declared.span.Span.{Span}

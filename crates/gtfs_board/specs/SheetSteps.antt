@@ -11,9 +11,9 @@ use Rattle.gtfs_rows.specs.declared.numbers.TripNo.{TripNo}
 use Rattle.gtfs_rows.specs.declared.parts.Parts.{Parts}
 use Rattle.gtfs_runs.specs.Counts.{tally}
 use Rattle.gtfs_runs.specs.Patterns.{rows_of}
-use Rattle.gtfs_runs.specs.Trips.{is_run}
+use Rattle.gtfs_rows.specs.Runs.{is_run}
 use Rattle.gtfs_runs.specs.declared.pattern.Pattern.{Pattern}
-use Rattle.gtfs_board.specs.Departures.{runs_on}
+use Rattle.gtfs_rows.specs.Departures.{runs_on}
 use Rattle.gtfs_board.specs.Timetable.{Run, Sheet, direction_rank, has_run_on, row_at, runs_of, time_at, time_of_run}
 use Rattle.gtfs_board.specs.declared.sheet.columns.Column.{Column}
 

@@ -8,7 +8,7 @@ use Rattle.gtfs_rows.specs.Views.{content_of_parts, trip_ids}
 use Rattle.gtfs_rows.specs.declared.parts.Parts.{Parts}
 use Rattle.gtfs_rows.specs.declared.stop_row.StopRow.{StopRow as StopTime}
 use Rattle.gtfs_board.specs.CandidateKeys.{key_among}
-use Rattle.gtfs_board.specs.Key.{Key}
+use Rattle.gtfs_rows.specs.Key.{Key}
 use Rattle.gtfs_board.specs.Lines.{Listed}
 use Rattle.gtfs_board.specs.Shown.{headsign, mark_of, route_name}
 use Rattle.gtfs_board.specs.declared.departure.Mark.TheVariants as mark

@@ -5,10 +5,10 @@ use Rattle.std.specs.List.{list_any}
 use Rattle.std.specs.Option.{option_or}
 use Rattle.gtfs_rows.specs.Content.{Content}
 use Rattle.gtfs_rows.specs.Rows.{Route, StopRow, Trip}
-use Rattle.gtfs_runs.specs.Trips.{starts_run}
+use Rattle.gtfs_rows.specs.Runs.{starts_run}
 use Rattle.gtfs_board.specs.declared.departure.Mark.{Mark}
 use Rattle.gtfs_board.specs.declared.departure.Mark.TheVariants as mark
-use Rattle.gtfs_board.specs.Key.{Key}
+use Rattle.gtfs_rows.specs.Key.{Key}
 use Rattle.gtfs_board.specs.Lines.{Listed}
 
 -- the short name of a route, or where it has none the long one

@@ -10,8 +10,8 @@ use Rattle.gtfs_field.specs.TextOrder.{text_cmp}
 use Rattle.gtfs_rows.specs.Content.{Content}
 use Rattle.gtfs_rows.specs.Rows.{StopRow, Trip}
 use Rattle.gtfs_runs.specs.Lanes.{stops_of}
-use Rattle.gtfs_runs.specs.Trips.{is_timed, passes_at, runs}
-use Rattle.gtfs_board.specs.Departures.{runs_on}
+use Rattle.gtfs_rows.specs.Runs.{is_timed, passes_at, runs}
+use Rattle.gtfs_rows.specs.Departures.{runs_on}
 use Rattle.gtfs_board.specs.merge.Order.{in_order}
 
 -- a run of a sheet: the second at which it starts, and its trip

@@ -4,7 +4,7 @@ ghost use Rattle.gtfs_days.specs.Zone.{IsInstant, zone_origin};
 ghost use Rattle.gtfs_feed.specs.Content.{content_of};
 ghost use Rattle.gtfs_rows.specs.Views.{stop_ids, text_of_number};
 ghost use Rattle.gtfs_board.specs.Board.{AreStepsWithin, IsQueued, SameSettings, is_stop, keys_of, step_count, steps_for_days};
-ghost use Rattle.gtfs_board.specs.Departures.{IsBoard};
+ghost use Rattle.gtfs_rows.specs.Departures.{IsBoard};
 ghost use Rattle.gtfs_board.specs.Lent.{listed, plain_key};
 ghost use Rattle.gtfs_board.specs.Opening.{HasSettings, IsOpened};
 ghost use Rattle.gtfs_board.specs.Shown.{IsShown};

@@ -8,7 +8,7 @@ ghost use Rattle.gtfs_rows.specs.Views.{text_of_number, trip_ids};
 ghost use Rattle.gtfs_field.specs.TextOrder.{text_cmp};
 ghost use Rattle.gtfs_board.specs.Board.{start_of};
 ghost use Rattle.gtfs_board.specs.Floors.{IsNumbered, is_from};
-ghost use Rattle.gtfs_board.specs.Key.{key_cmp};
+ghost use Rattle.gtfs_rows.specs.Key.{key_cmp};
 ghost use Rattle.gtfs_board.specs.Lent.{plain_key};
 ghost use Rattle.gtfs_board.specs.Showing.{key_in};
 ghost use Rattle.gtfs_board.specs.declared.merge.candidate.Candidate.{Candidate as CandidateValue};

@@ -1,6 +1,6 @@
 ghost use Rattle.std.specs.Prelude.{◌≡◌, ℕ, ℤ, List, Option};
-ghost use Rattle.gtfs_board.specs.Departures.{IsBoard, Origins};
-ghost use Rattle.gtfs_board.specs.Key.{Key};
+ghost use Rattle.gtfs_rows.specs.Departures.{IsBoard, Origins};
+ghost use Rattle.gtfs_rows.specs.Key.{Key};
 ghost use Rattle.gtfs_rows.specs.Content.{Content};
 
 /// A law of boards, which its contract states: two lists that are the board of one feed, zone, stop, span and key

@@ -4,7 +4,7 @@ ghost use Rattle.std.specs.List.{list_any};
 ghost use Rattle.std.specs.Option.{option_or};
 ghost use Rattle.gtfs_feed.specs.Trips.{ArePeriods};
 ghost use Rattle.gtfs_rows.specs.Views.{frequency_of, stop_ids, text_of_number, trip_ids};
-ghost use Rattle.gtfs_runs.specs.Trips.{starts_run};
+ghost use Rattle.gtfs_rows.specs.Runs.{starts_run};
 ghost use Rattle.gtfs_board.specs.Lent.{listed, plain_key};
 ghost use Rattle.gtfs_board.specs.Showing.{IsOfFeed, key_in, listed_in};
 ghost use Rattle.gtfs_board.specs.Shown.{mark_if};

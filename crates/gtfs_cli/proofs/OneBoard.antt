@@ -10,8 +10,8 @@ use Rattle.gtfs_table.specs.Tables.{Dataset}
 use Rattle.gtfs_rows.specs.Content.{Content}
 use Rattle.gtfs_rows.specs.Reading.{content_of}
 use Rattle.gtfs_board.specs.Board.{is_stop, keys_of}
-use Rattle.gtfs_board.specs.Departures.{IsBoard, Origins}
-use Rattle.gtfs_board.specs.Key.{Key}
+use Rattle.gtfs_rows.specs.Departures.{IsBoard, Origins}
+use Rattle.gtfs_rows.specs.Key.{Key}
 use Rattle.gtfs_board.specs.Page.{IsPage}
 use Rattle.gtfs_board.proofs.OneBoard.{one-board as one-list-of-keys}
 use Rattle.gtfs_words.specs.Words.{BoardTexts}

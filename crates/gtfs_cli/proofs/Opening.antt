@@ -7,8 +7,8 @@ use Rattle.gtfs_days.specs.Zone.{zone_origin}
 use Rattle.gtfs_days.specs.declared.zone.Zone.{Zone}
 use Rattle.gtfs_rows.specs.Content.{Content}
 use Rattle.gtfs_board.specs.Board.{is_stop, keys_of}
-use Rattle.gtfs_board.specs.Departures.{IsBoard}
-use Rattle.gtfs_board.specs.Key.{Key}
+use Rattle.gtfs_rows.specs.Departures.{IsBoard}
+use Rattle.gtfs_rows.specs.Key.{Key}
 use Rattle.gtfs_board.specs.Lent.{plain_key}
 use Rattle.gtfs_board.specs.Lines.{Listed}
 use Rattle.gtfs_board.specs.Shown.{IsShown}

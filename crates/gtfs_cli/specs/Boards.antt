@@ -12,7 +12,7 @@ use Rattle.gtfs_rows.specs.Reading.{content_of}
 use Rattle.gtfs_feed.specs.Content.{content_of as content_of_feed}
 use Rattle.gtfs_feed.specs.declared.feed.Feed.{Feed}
 use Rattle.gtfs_board.specs.Board.{is_stop, keys_of}
-use Rattle.gtfs_board.specs.Departures.{IsBoard}
+use Rattle.gtfs_rows.specs.Departures.{IsBoard}
 use Rattle.gtfs_board.specs.Lent.{plain_key}
 use Rattle.gtfs_board.specs.Lines.{Listed}
 use Rattle.gtfs_board.specs.Page.{IsCutShort, IsPage, IsStopped}

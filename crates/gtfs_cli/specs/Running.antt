@@ -19,8 +19,8 @@ use Rattle.gtfs_table.specs.declared.file.File.{File}
 use Rattle.gtfs_columns.specs.Problems.{Passes}
 use Rattle.gtfs_rows.specs.Reading.{content_of}
 use Rattle.gtfs_board.specs.Board.{is_stop}
-use Rattle.gtfs_board.specs.Departures.{Origins}
-use Rattle.gtfs_board.specs.Key.{Key}
+use Rattle.gtfs_rows.specs.Departures.{Origins}
+use Rattle.gtfs_rows.specs.Key.{Key}
 use Rattle.gtfs_board.specs.KeyTexts.{key_of}
 use Rattle.gtfs_cli.specs.Options.{first_of_bad}
 use Rattle.gtfs_cli.specs.TimetableOptions.{HasBadTimetableValue}

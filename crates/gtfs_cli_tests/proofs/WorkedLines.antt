@@ -6,7 +6,7 @@ use Rattle.jiff_core.specs.declared.civil.date.Date.{Date}
 use Rattle.jiff_core.proofs.SignedLemmas.{signed_arith}
 use Rattle.gtfs_field.specs.Canonical.{date_text}
 use Rattle.gtfs_board.specs.declared.departure.Mark.TheVariants as mark
-use Rattle.gtfs_board.specs.Key.{Key}
+use Rattle.gtfs_rows.specs.Key.{Key}
 use Rattle.gtfs_board.specs.KeyTexts.{key_text}
 use Rattle.gtfs_board.specs.Lines.{clock_text, line_text}
 use Rattle.gtfs_board.proofs.TextVectors.{same_digits}

@@ -11,7 +11,7 @@ use Rattle.gtfs_rows.specs.Sound.{IsSound}
 use Rattle.gtfs_rows.specs.Views.{IsSoundParts, content_of_parts, stop_row_of}
 use Rattle.gtfs_rows.proofs.PassingIsSound.{passing_is_sound}
 use Rattle.gtfs_parts.specs.FeedRows.{AreRowsOf, rows_in}
-use Rattle.gtfs_parts.specs.Named.{stop_named, trip_named, without_rows}
+use Rattle.gtfs_rows.specs.NamedRows.{stop_named, trip_named, without_rows}
 use Rattle.gtfs_parts.specs.declared.feed_rows.FeedRows.{FeedRows}
 use Rattle.gtfs_stop_times.proofs.OfParts.{cut_in_parts, numbers_in_parts, rows_in_parts}
 use Rattle.gtfs_stop_times.specs.Lists.{AreStopTimesOf, content_stop_ids}

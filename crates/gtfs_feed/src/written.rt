@@ -5,7 +5,7 @@ ghost use Rattle.gtfs_rows.specs.WrittenForm.{IsWrittenForm};
 ghost use Rattle.gtfs_table.specs.Reading.{kept_files};
 ghost use Rattle.gtfs_table.specs.Tables.{table_of, table_of_bytes};
 ghost use Rattle.gtfs_table.specs.Written.{text_of_table};
-ghost use Rattle.gtfs_written.specs.FileTexts.{is_longer};
+ghost use Rattle.gtfs_rows.specs.FileTexts.{is_longer};
 ghost use Rattle.gtfs_feed.specs.Content.{content_of};
 
 use crate::feed::Feed;

@@ -6,11 +6,11 @@ use Rattle.std.proofs.lemmas.Bool.{and_parts, and_from}
 use Rattle.gtfs_field.proofs.ListFacts.{any_mapped as list_any-map}
 use Rattle.gtfs_rows.specs.Rows.{ServiceRow, StopRow, Trip}
 use Rattle.gtfs_rows.specs.Content.{Content}
-use Rattle.gtfs_board.specs.Key.{Key}
+use Rattle.gtfs_rows.specs.Key.{Key}
 use Rattle.gtfs_days.specs.Service.{is_active}
-use Rattle.gtfs_runs.specs.Trips.{is_run, is_departure_row, passes_at, first_leaves, trip_start, starts_run, is_timed, allows_boarding}
+use Rattle.gtfs_rows.specs.Runs.{is_run, is_departure_row, passes_at, first_leaves, trip_start, starts_run, is_timed, allows_boarding}
 use Rattle.gtfs_rows.specs.Sound.{leaves}
-use Rattle.gtfs_board.specs.Departures.{Origins, departs_from, runs_on}
+use Rattle.gtfs_rows.specs.Departures.{Origins, departs_from, runs_on}
 use Rattle.gtfs_merge.specs.Renaming.{Names, Renaming, has_id, ids, trip_with, stop_row_with}
 use Rattle.gtfs_merge.specs.Merged.{service_with}
 use Rattle.gtfs_merge.specs.Departures.{key_with}

@@ -4,8 +4,8 @@ use Rattle.std.specs.Prelude.{nat_lt}
 use Rattle.std.specs.List.{list_any}
 use Rattle.gtfs_rows.specs.Content.{Content}
 use Rattle.gtfs_table.specs.Reading.{kept_files}
-use Rattle.gtfs_written.specs.FileTexts.{is_longer}
-use Rattle.gtfs_written.proofs.TextFacts.{table-text}
+use Rattle.gtfs_rows.specs.FileTexts.{is_longer}
+use Rattle.gtfs_rows.proofs.FileTexts.{table-text}
 use Rattle.gtfs_merge.specs.Merged.{is_too_large}
 use Rattle.gtfs_merge.proofs.Lookups.{list_any-alike}
 

@@ -5,8 +5,8 @@ use Rattle.std.specs.List.{slice_get}
 use Rattle.std.proofs.Math.Seq.{take-suc}
 use Rattle.std.proofs.lemmas.List.{map-append}
 use Rattle.gtfs_rows.specs.declared.parts.Parts.{Parts}
-use Rattle.gtfs_stop_times.specs.Headsigns.{AreDistinct, KeepsHeadsigns}
-use Rattle.gtfs_stop_times.proofs.HeadsignFacts.{kept-append as kept-longer}
+use Rattle.gtfs_rows.specs.Headsigns.{AreDistinct, KeepsHeadsigns}
+use Rattle.gtfs_rows.proofs.HeadsignFacts.{kept-append as kept-longer}
 use Rattle.gtfs_merge.specs.Headsigns.{AreHeadsigns, AreNumbersOf, numbers_on}
 use Rattle.gtfs_merge.specs.Sides.{side_parts}
 use Rattle.gtfs_merge.specs.declared.kind.Side.{Side}

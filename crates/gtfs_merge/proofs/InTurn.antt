@@ -8,7 +8,7 @@ use Rattle.csv.specs.Records.{Rising}
 use Rattle.csv.proofs.RecordFacts.{rising-end, rising-more}
 use Rattle.gtfs_table.specs.Parts.{parts}
 use Rattle.gtfs_table.proofs.PartFacts.{length-parts, parts-push}
-use Rattle.gtfs_parts.proofs.Cuts.{first_push as first-stays}
+use Rattle.gtfs_rows.proofs.Cuts.{first_push as first-stays}
 use Rattle.gtfs_merge.specs.TripRows.{StandInTurn}
 
 -- none yet

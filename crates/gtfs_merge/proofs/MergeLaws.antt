@@ -3,7 +3,7 @@ use Rattle.std.proofs.Common.{refl, sym, ◌∙◌}
 use Rattle.gtfs_merge.specs.declared.kind.Kind.{Kind}
 use Rattle.gtfs_merge.specs.declared.kind.Kind.TheVariants as kind
 use Rattle.gtfs_rows.specs.Content.{Content}
-use Rattle.gtfs_board.specs.Departures.{any_row}
+use Rattle.gtfs_rows.specs.Departures.{any_row}
 use Rattle.gtfs_rows.specs.Sound.{IsSound}
 use Rattle.gtfs_merge.specs.Same.{same_trip}
 use Rattle.gtfs_merge.specs.Renaming.{Nearness, kept_as_is, names_a, trip_with, route_b, service_b, stop_b}

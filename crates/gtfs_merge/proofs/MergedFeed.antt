@@ -5,8 +5,8 @@ use Rattle.std.specs.List.{list_all}
 use Rattle.std.specs.declared.cmp.Ordering.TheVariants.{Less}
 use Rattle.std.proofs.lemmas.List.{length-map}
 use Rattle.gtfs_field.proofs.ListFacts.{first_is as first-is, map_alike as read-alike, rest_is as rest-is}
-use Rattle.gtfs_parts.specs.Named.{route_named, stop_named, trip_named, without_rows}
-use Rattle.gtfs_parts.specs.TransferEnds.{transfer_named}
+use Rattle.gtfs_rows.specs.NamedRows.{route_named, stop_named, trip_named, without_rows}
+use Rattle.gtfs_rows.specs.TransferEnds.{transfer_named}
 use Rattle.gtfs_rows.specs.Order.{Ascends}
 use Rattle.gtfs_rows.specs.Rows.{Trip}
 use Rattle.gtfs_rows.specs.Sound.{IsSound}
@@ -17,7 +17,7 @@ use Rattle.gtfs_rows.specs.declared.stop_row.StopRow.{StopRow as StopTime}
 use Rattle.gtfs_rows.specs.declared.transfer.Transfer.{Transfer as TransferRow}
 use Rattle.gtfs_rows.specs.declared.trip.Trip.{Trip as TripRow}
 use Rattle.gtfs_rows.proofs.SameElements.{pairs-map}
-use Rattle.gtfs_stop_times.specs.Lists.{has_numbers_below, stop_row_named}
+use Rattle.gtfs_rows.specs.NamedRows.{has_numbers_below, stop_row_named}
 use Rattle.gtfs_field.specs.TextOrder.{text_cmp}
 use Rattle.gtfs_table.specs.Parts.{parts}
 use Rattle.gtfs_merge.specs.Headsigns.{AreHeadsigns, HeadsignTable}

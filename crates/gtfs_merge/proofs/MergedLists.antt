@@ -8,7 +8,7 @@ use Rattle.std.proofs.lemmas.List.{get_or-map, length-map, map-append, take_all}
 use Rattle.std.proofs.lemmas.List.Elements.{Contains-get_or}
 use Rattle.std.proofs.lemmas.Simd.{map-map}
 use Rattle.gtfs_field.proofs.ListFacts.{mapped_at as row-map}
-use Rattle.gtfs_parts.specs.Named.{names_agency, names_parent, names_route_and_service, route_named, stop_named, trip_named, without_rows}
+use Rattle.gtfs_rows.specs.NamedRows.{names_agency, names_parent, names_route_and_service, route_named, stop_named, trip_named, without_rows}
 use Rattle.gtfs_rows.specs.Rows.{Trip as ContentTrip}
 use Rattle.gtfs_rows.specs.Views.{IsSoundParts, agency_of, agency_ids, is_within, route_ids, route_of, service_ids, service_of, stop_ids, stop_of, text_of_number, trips_of}
 use Rattle.gtfs_days.specs.Service.{ServiceDates}

@@ -15,7 +15,7 @@ use Rattle.gtfs_rows.specs.Views.{IsSoundParts, content_of_parts, frequency_of, 
 use Rattle.gtfs_rows.specs.declared.parts.Parts.{Parts}
 use Rattle.gtfs_rows.specs.declared.stop_row.StopRow.{StopRow as RowByNumber}
 use Rattle.gtfs_rows.specs.declared.trip.Trip.{Trip as TripByNumber}
-use Rattle.gtfs_stop_times.specs.Lists.{has_numbers_below, stop_row_named}
+use Rattle.gtfs_rows.specs.NamedRows.{has_numbers_below, stop_row_named}
 use Rattle.gtfs_table.proofs.PartFacts.{length-parts}
 use Rattle.gtfs_merge.specs.Headsigns.{AreHeadsigns, AreNumbersOf, HeadsignTable}
 use Rattle.gtfs_merge.specs.KindRows.{AllEntries, AreMergedKinds}

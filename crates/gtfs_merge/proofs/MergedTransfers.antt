@@ -4,7 +4,7 @@ use Rattle.std.specs.Prelude.{◌&&◌, IfSome, option_map}
 use Rattle.std.specs.List.{list_all}
 use Rattle.std.proofs.lemmas.Bool.{and_from, and_parts, ltb-true}
 use Rattle.std.proofs.lemmas.List.{length-map, map-append}
-use Rattle.gtfs_parts.specs.TransferEnds.{names_ends, transfer_named, transfer_numbers}
+use Rattle.gtfs_rows.specs.TransferEnds.{names_ends, transfer_named, transfer_numbers}
 use Rattle.gtfs_rows.specs.Order.{Ascends, transfer_key, transfer_key_cmp}
 use Rattle.gtfs_rows.specs.Rows.{Transfer}
 use Rattle.gtfs_rows.specs.Views.{IsSoundParts, is_within, names_route, names_stop, names_trip, route_ids, stop_ids, transfer_names_rows, transfer_of, trip_ids}

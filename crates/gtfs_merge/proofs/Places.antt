@@ -7,10 +7,9 @@ use Rattle.gtfs_rows.specs.Rows.{Stop}
 use Rattle.gtfs_rows.specs.Content.{Content}
 use Rattle.gtfs_columns.specs.Values.{if_there}
 use Rattle.gtfs_columns.proofs.SiteFacts.{text_is as same_bytes}
-use Rattle.gtfs_board.specs.Key.{Key}
-use Rattle.gtfs_board.specs.Departures.{is_above, Origins, departs_at}
-use Rattle.gtfs_runs.specs.Places.{is_plain_stop, is_in_place}
-use Rattle.gtfs_board.specs.Span.{is_within}
+use Rattle.gtfs_rows.specs.Key.{Key}
+use Rattle.gtfs_rows.specs.Departures.{is_above, is_within, Origins, departs_at}
+use Rattle.gtfs_rows.specs.Places.{is_plain_stop, is_in_place}
 use Rattle.gtfs_merge.specs.Renaming.{Nearness, kept_as_is, has_id, ids, names_a, names_b, stop_with, stop_b, trip_b}
 use Rattle.gtfs_merge.specs.Merged.{merged}
 use Rattle.gtfs_merge.specs.Departures.{key_with, IsImageAt, HasBoards}

@@ -6,7 +6,7 @@ use Rattle.std.specs.Option.{option_eq}
 use Rattle.std.proofs.lemmas.Bool.{and_parts, and_from, cases_Bool}
 use Rattle.gtfs_rows.specs.Rows.{Stop, StopRow, Trip}
 use Rattle.gtfs_rows.specs.Content.{Content}
-use Rattle.gtfs_runs.specs.Places.{is_plain_stop}
+use Rattle.gtfs_rows.specs.Places.{is_plain_stop}
 use Rattle.gtfs_merge.specs.Same.{same_stop}
 use Rattle.gtfs_merge.specs.Renaming.{Renaming, Nearness, never_near, kept_as_is, has_id, ids, free_id, stop_with, joined_stop_under, near_stop_under, stop_under, stop_within, stop_b, renamed_b}
 use Rattle.gtfs_merge.specs.Merged.{merged}

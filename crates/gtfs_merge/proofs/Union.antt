@@ -2,8 +2,8 @@
 use Rattle.std.proofs.Common.{◌≡◌, ℕ, Bool, true, List, [], ◌∷◌, ◌++◌, refl, sym, ap, ◌∙◌, subst, inl, inr, ◌⊎◌, map, option_map}
 use Rattle.gtfs_rows.specs.Rows.{ServiceRow, StopRow, Trip}
 use Rattle.gtfs_rows.specs.Content.{Content}
-use Rattle.gtfs_board.specs.Key.{Key}
-use Rattle.gtfs_board.specs.Departures.{Origins, departs_from, is_departure, any_row}
+use Rattle.gtfs_rows.specs.Key.{Key}
+use Rattle.gtfs_rows.specs.Departures.{Origins, departs_from, is_departure, any_row}
 use Rattle.gtfs_merge.specs.Same.{same_trip, same_service}
 use Rattle.gtfs_merge.specs.Renaming.{Names, Nearness, kept_as_is, has_id, ids, trip_with, stop_row_with, names_a, names_b, trip_b, route_b, service_b, stop_b, joined_trip, joined_service}
 use Rattle.gtfs_merge.specs.Merged.{service_with, merged}

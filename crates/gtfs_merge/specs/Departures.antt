@@ -1,9 +1,8 @@
 -- The departures of a merged feed: those of both feeds, each trip under its new name.
 use Rattle.std.specs.Prelude.{◌≡◌, ◌↔◌, ◌⊎◌, ℕ, ◌&&◌, true, List, Option, ℤ}
 use Rattle.gtfs_rows.specs.Content.{Content}
-use Rattle.gtfs_board.specs.Departures.{Origins, is_departure, departs_at, is_listed, is_above}
-use Rattle.gtfs_board.specs.Key.{Key}
-use Rattle.gtfs_board.specs.Span.{is_within}
+use Rattle.gtfs_rows.specs.Departures.{Origins, is_departure, departs_at, is_listed, is_above, is_within}
+use Rattle.gtfs_rows.specs.Key.{Key}
 use Rattle.gtfs_merge.specs.declared.kind.Kind.{Kind}
 use Rattle.gtfs_merge.specs.declared.kind.Kind.TheVariants as kind
 use Rattle.gtfs_merge.specs.Merged.{merged}

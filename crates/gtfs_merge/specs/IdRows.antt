@@ -1,7 +1,7 @@
 -- The rows with ids of a merged feed: what the lists stand for, and that their numbers lie within them.
 use Rattle.std.specs.Prelude.{◌≡◌, true, map}
 use Rattle.std.specs.List.{list_all}
-use Rattle.gtfs_parts.specs.Named.{names_agency, names_parent, names_route_and_service, route_named, stop_named, trip_named, without_rows}
+use Rattle.gtfs_rows.specs.NamedRows.{names_agency, names_parent, names_route_and_service, route_named, stop_named, trip_named, without_rows}
 use Rattle.gtfs_rows.specs.Views.{agency_of, service_of}
 use Rattle.gtfs_rows.specs.declared.parts.Parts.{Parts}
 use Rattle.gtfs_merge.specs.Sides.{merged_ids, merged_parts}

@@ -3,8 +3,8 @@ use Rattle.std.specs.Prelude.{◌≡◌, ◌↔◌, ◌+◌, ◌<◌, ◌^◌, t
 use Rattle.gtfs_merge.specs.declared.kind.Kind.{Kind}
 use Rattle.gtfs_rows.specs.Rows.{Stop}
 use Rattle.gtfs_rows.specs.Content.{Content}
-use Rattle.gtfs_board.specs.Key.{Key}
-use Rattle.gtfs_board.specs.Departures.{Origins, is_departure}
+use Rattle.gtfs_rows.specs.Key.{Key}
+use Rattle.gtfs_rows.specs.Departures.{Origins, is_departure}
 use Rattle.gtfs_rows.specs.Sound.{IsSound}
 use Rattle.gtfs_merge.specs.Renaming.{Renaming, Nearness, names_a, names_b, ids, joined_trip}
 use Rattle.gtfs_merge.specs.Departures.{IsImage}

@@ -5,7 +5,7 @@ use Rattle.std.specs.Cmp.Lexicographic.{slice_cmp}
 use Rattle.std.specs.Option.{option_cmp}
 use Rattle.std.specs.Ordering.{nat_cmp}
 use Rattle.std.specs.declared.cmp.Ordering.{Ordering}
-use Rattle.gtfs_parts.specs.TransferEnds.{transfer_numbers}
+use Rattle.gtfs_rows.specs.TransferEnds.{transfer_numbers}
 use Rattle.gtfs_rows.specs.Order.{by_key}
 use Rattle.gtfs_rows.specs.declared.parts.Parts.{Parts}
 use Rattle.gtfs_rows.specs.declared.transfer.Transfer.{Transfer}

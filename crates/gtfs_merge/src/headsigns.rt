@@ -1,5 +1,5 @@
 ghost use Rattle.std.specs.Prelude.{◌≡◌, [], IfOk, OnOk, Some, option_and_then, slice_get};
-ghost use Rattle.gtfs_stop_times.specs.Headsigns.{AreDistinct, KeepsHeadsigns};
+ghost use Rattle.gtfs_rows.specs.Headsigns.{AreDistinct, KeepsHeadsigns};
 ghost use Rattle.gtfs_merge.specs.Headsigns.{AreHeadsigns, AreNumbersOf, numbers_on};
 
 use crate::kind::Side;

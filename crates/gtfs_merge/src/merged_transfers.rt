@@ -1,7 +1,7 @@
 ghost use Rattle.std.specs.FinMap as table;
 ghost use Rattle.std.specs.List.{list_all};
 ghost use Rattle.std.specs.Prelude.{◌≡◌, ◌<◌, ◌++◌, IfOk, IfSome, List, OnOk, length, map, option_map, slice_index_or, true};
-ghost use Rattle.gtfs_parts.specs.TransferEnds.{transfer_numbers};
+ghost use Rattle.gtfs_rows.specs.TransferEnds.{transfer_numbers};
 ghost use Rattle.gtfs_rows.specs.declared.transfer.Transfer.{Transfer as TransferOf};
 ghost use Rattle.gtfs_merge.specs.KindRows.{AreMergedKinds};
 ghost use Rattle.gtfs_merge.specs.Renumbered.{numbers_of};

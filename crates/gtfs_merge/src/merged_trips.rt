@@ -1,6 +1,6 @@
 ghost use Rattle.std.specs.Prelude.{◌≡◌, ◌<◌, IfOk, length, map, slice_index_or, true};
 ghost use Rattle.std.specs.List.{list_all};
-ghost use Rattle.gtfs_parts.specs.Named.{names_route_and_service, trip_named, without_rows};
+ghost use Rattle.gtfs_rows.specs.NamedRows.{names_route_and_service, trip_named, without_rows};
 ghost use Rattle.gtfs_merge.specs.KindRows.{AreKindRows};
 ghost use Rattle.gtfs_merge.specs.Sides.{merged_ids, merged_parts};
 ghost use Rattle.gtfs_merge.specs.declared.kind.Kind.TheVariants as kind;

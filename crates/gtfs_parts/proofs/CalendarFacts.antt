@@ -25,7 +25,6 @@ use Rattle.gtfs_columns.specs.Rows.{amount_in, text_in, word_in}
 use Rattle.gtfs_columns.specs.Values.{as_amount, if_both, is_word, readable}
 use Rattle.gtfs_columns.proofs.NamedFacts.{text_turned}
 use Rattle.gtfs_columns.proofs.ReadFacts.{amount_some, read_as_there, stands}
-use Rattle.gtfs_rows.specs.Order.{by_key}
 use Rattle.gtfs_rows.proofs.ByKey.{by_key_is}
 use Rattle.gtfs_rows.proofs.SameElements.{pairs-map, same-from_permutation}
 use Rattle.gtfs_parts.specs.CalendarRows.{rows_with}
@@ -126,8 +125,3 @@ module _ (d : Dataset) (passes : Passes d) where
       numbers_apart d passes file.CalendarDates "service_id" "date" (λ n. refl) t i j e h l (exception_in d (get_or (dates t) i e)).0
       (date_at t i e (omega (arith, h, l)))
       (date_at t j e l ∙ ap Some (sym same)))
-
--- by day
-pub by_day : (es fs : List (ℤ × Exception)) → IsPermutation es fs → IsByDay fs → by_key int_cmp (λ e. e.0) es ≡ fs
-by_day es fs moved up =
-    by_key_is int_cmp int_cmp_total (λ e. e.0) table.int_cmp-IsAntisymmetric es fs (same-from_permutation es fs moved) (λ i j d h l. int-less (get_or fs i d).0 (get_or fs j d).0 (up i j d h l))

@@ -1,6 +1,5 @@
 mod ByIds
-pub mod CalendarFacts
-pub mod Cuts
+mod CalendarFacts
 mod Fields
 pub mod Filled
 mod FrequencyFacts

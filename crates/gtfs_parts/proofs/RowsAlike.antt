@@ -17,9 +17,10 @@ use Rattle.gtfs_rows.specs.Views.{agency_of, frequency_of, is_within, service_of
 use Rattle.gtfs_parts.specs.declared.feed_rows.FeedRows.{FeedRows}
 use Rattle.gtfs_parts.specs.Cuts.{IsCutInto}
 use Rattle.gtfs_parts.specs.FeedRows.{AreRowsOf, NumbersWithin}
-use Rattle.gtfs_parts.specs.Named.{ids_of, names_agency, names_parent, names_route_and_service, route_named, stop_named, trip_named, without_rows}
+use Rattle.gtfs_parts.specs.Named.{ids_of}
+use Rattle.gtfs_rows.specs.NamedRows.{names_agency, names_parent, names_route_and_service, route_named, stop_named, trip_named, without_rows}
 use Rattle.gtfs_parts.specs.ServiceIds.{service_ids}
-use Rattle.gtfs_parts.specs.TransferEnds.{names_ends, transfer_named}
+use Rattle.gtfs_rows.specs.TransferEnds.{names_ends, transfer_named}
 use Rattle.gtfs_parts.proofs.ByIds.{by_key_made}
 use Rattle.gtfs_parts.proofs.IdTexts.{content_ids}
 

@@ -11,7 +11,7 @@ use Rattle.gtfs_rows.specs.Reading.{content_of}
 use Rattle.gtfs_rows.specs.Rows.{Trip}
 use Rattle.gtfs_rows.specs.Views.{content_of_parts, frequency_of, route_ids, service_ids, stop_row_of, trip_of, trips_of}
 use Rattle.gtfs_parts.specs.FeedRows.{AreRowsOf, rows_in}
-use Rattle.gtfs_parts.specs.Named.{trip_named, without_rows}
+use Rattle.gtfs_rows.specs.NamedRows.{trip_named, without_rows}
 
 module _ (p : Parts) where
   abbrev as_named : TripRow → Trip

@@ -39,7 +39,7 @@ use Rattle.gtfs_rows.specs.Views.{is_within, text_of_number}
 use Rattle.gtfs_rows.proofs.ContentAgain.{transfer_antisymmetric, transfer_total}
 use Rattle.gtfs_rows.proofs.RowTexts.{all_at}
 use Rattle.gtfs_rows.proofs.SameElements.{pairs-map}
-use Rattle.gtfs_parts.specs.TransferEnds.{names_ends, transfer_named, transfer_numbers}
+use Rattle.gtfs_rows.specs.TransferEnds.{names_ends, transfer_named, transfer_numbers}
 use Rattle.gtfs_parts.proofs.Fields.{numbers_of}
 use Rattle.gtfs_parts.proofs.IdTexts.{word_none, word_there}
 use Rattle.gtfs_parts.proofs.RowKeys.{all_rows, keys_apart, rows_up}

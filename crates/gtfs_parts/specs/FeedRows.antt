@@ -8,8 +8,8 @@ use Rattle.gtfs_rows.specs.Reading.{content_of}
 use Rattle.gtfs_rows.specs.Views.{agency_of, frequency_of, is_within, service_of}
 use Rattle.gtfs_parts.specs.declared.feed_rows.FeedRows.{FeedRows}
 use Rattle.gtfs_parts.specs.Cuts.{IsCutInto}
-use Rattle.gtfs_parts.specs.Named.{route_named, stop_named, trip_named, without_rows}
-use Rattle.gtfs_parts.specs.TransferEnds.{transfer_named}
+use Rattle.gtfs_rows.specs.NamedRows.{route_named, stop_named, trip_named, without_rows}
+use Rattle.gtfs_rows.specs.TransferEnds.{transfer_named}
 
 -- each number is that of a row in its list
 pub record NumbersWithin (r : FeedRows) : Type 0 where

@@ -14,5 +14,4 @@ pub mod RouteColumns
 pub mod ServiceIds
 pub mod StopColumns
 pub mod TransferColumns
-pub mod TransferEnds
 pub mod TripColumns

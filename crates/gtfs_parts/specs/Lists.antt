@@ -6,7 +6,8 @@ use Rattle.gtfs_table.specs.declared.file.File.TheVariants as file
 use Rattle.gtfs_rows.specs.Reading.{content_of}
 use Rattle.gtfs_rows.specs.Views.{agency_of, service_of}
 use Rattle.gtfs_parts.specs.declared.feed_rows.FeedRows.{FeedRows}
-use Rattle.gtfs_parts.specs.Named.{ids_of, names_agency, names_parent, names_route_and_service, route_named, stop_named, trip_named, without_rows}
+use Rattle.gtfs_parts.specs.Named.{ids_of}
+use Rattle.gtfs_rows.specs.NamedRows.{names_agency, names_parent, names_route_and_service, route_named, stop_named, trip_named, without_rows}
 use Rattle.gtfs_parts.specs.ServiceIds.{service_ids}
 
 -- the agencies, the stops and the routes

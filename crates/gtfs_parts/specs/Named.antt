@@ -1,5 +1,5 @@
--- What rows with numbers stand for, given the ids by their numbers.
-use Rattle.std.specs.Prelude.{ℕ, ◌&&◌, [], Bool, List, length, nat_lt, option_map, codes}
+-- The ids of a column by their numbers, and rows that have the texts of a row.
+use Rattle.std.specs.Prelude.{ℕ, List, codes}
 use Prim.Native.String.{String as Literal}
 use Rattle.gtfs_table.specs.Tables.{Dataset}
 use Rattle.gtfs_table.specs.declared.file.File.{File}
@@ -10,30 +10,10 @@ use Rattle.gtfs_rows.specs.declared.trip.Trip.{Trip as TripRow}
 use Rattle.gtfs_table.specs.declared.file.File.TheVariants as file
 use Rattle.gtfs_columns.specs.Rows.{word_in}
 use Rattle.gtfs_rows.specs.Reading.{text_at}
-use Rattle.gtfs_rows.specs.Choices.{bikes_code, boarding_code, direction_code, location_code, wheelchair_code}
-use Rattle.gtfs_rows.specs.Rows.{Route, Stop, Trip}
-use Rattle.gtfs_rows.specs.Views.{is_within, text_of_number}
 
 -- the ids of a column by their numbers
 abbrev pub ids_of : Dataset → File → Literal → List (List ℕ)
 ids_of d x column = ids_by_bytes d x (codes column)
-
--- a stop, where these are the ids of all stops
-abbrev pub stop_named : List (List ℕ) → StopRow → Stop
-stop_named ids s = record {
-  stop_id = s.stop_id;
-  stop_code = s.stop_code;
-  stop_name = s.stop_name;
-  tts_stop_name = s.tts_stop_name;
-  stop_desc = s.stop_desc;
-  stop_lat = s.stop_lat;
-  stop_lon = s.stop_lon;
-  stop_url = s.stop_url;
-  location_type = location_code s.location_type;
-  parent_station = option_map (λ n. text_of_number ids n.0) s.parent_station;
-  wheelchair_boarding = boarding_code s.wheelchair_boarding;
-  platform_code = s.platform_code;
-}
 
 -- a stop that has the texts of a row
 abbrev pub stop_with_texts : Dataset → ℕ → StopRow → StopRow
@@ -47,25 +27,6 @@ stop_with_texts d n s = record s {
   platform_code = word_in d file.Stops n "platform_code";
 }
 
--- the number of its parent, if it has one, is that of one of these ids
-abbrev pub names_parent : List (List ℕ) → StopRow → Bool
-names_parent ids s = is_within (length ids) (option_map (λ n. n.0) s.parent_station)
-
--- a route, where these are the ids of all agencies
-abbrev pub route_named : List (List ℕ) → RouteRow → Route
-route_named ids r = record {
-  route_id = r.route_id;
-  agency_id = text_of_number ids r.agency_id.0;
-  route_short_name = r.route_short_name;
-  route_long_name = r.route_long_name;
-  route_desc = r.route_desc;
-  route_type = r.route_type;
-  route_url = r.route_url;
-  route_color = r.route_color;
-  route_text_color = r.route_text_color;
-  route_sort_order = r.route_sort_order;
-}
-
 -- a route that has the texts of a row
 abbrev pub route_with_texts : Dataset → ℕ → RouteRow → RouteRow
 route_with_texts d n r = record r {
@@ -76,25 +37,6 @@ route_with_texts d n r = record r {
   route_url = word_in d file.Routes n "route_url";
 }
 
--- the number of its agency is that of one of these ids
-abbrev pub names_agency : List (List ℕ) → RouteRow → Bool
-names_agency ids r = nat_lt r.agency_id.0 (length ids)
-
--- a trip without its stop times and frequencies, where these are the ids of all routes and of all services
-abbrev pub trip_named : List (List ℕ) → List (List ℕ) → TripRow → Trip
-trip_named routes services t = record {
-  route_id = text_of_number routes t.route_id.0;
-  service_id = text_of_number services t.service_id.0;
-  trip_id = t.trip_id;
-  trip_headsign = t.trip_headsign;
-  trip_short_name = t.trip_short_name;
-  direction_id = option_map direction_code t.direction_id;
-  wheelchair_accessible = wheelchair_code t.wheelchair_accessible;
-  bikes_allowed = bikes_code t.bikes_allowed;
-  stop_rows = [];
-  frequencies = [];
-}
-
 -- a trip that has the texts of a row
 abbrev pub trip_with_texts : Dataset → ℕ → TripRow → TripRow
 trip_with_texts d n t = record t {
@@ -102,11 +44,3 @@ trip_with_texts d n t = record t {
   trip_headsign = word_in d file.Trips n "trip_headsign";
   trip_short_name = word_in d file.Trips n "trip_short_name";
 }
-
--- the numbers of its route and of its service are those of ids
-abbrev pub names_route_and_service : List (List ℕ) → List (List ℕ) → TripRow → Bool
-names_route_and_service routes services t = nat_lt t.route_id.0 (length routes) && nat_lt t.service_id.0 (length services)
-
--- the same of a content's trip
-abbrev pub without_rows : Trip → Trip
-without_rows t = record t { stop_rows = []; frequencies = [] }

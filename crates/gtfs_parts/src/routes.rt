@@ -3,7 +3,8 @@
 ghost use Rattle.std.specs.Prelude.{◌≡◌, ℕ, [], IfOk, OnOk, codes, map, true};
 ghost use Rattle.gtfs_columns.specs.Problems.{Passes};
 ghost use Rattle.gtfs_columns.specs.steps.Ids.{ids_in, rows_by_number};
-ghost use Rattle.gtfs_parts.specs.Named.{ids_of, names_agency, route_named, route_with_texts};
+ghost use Rattle.gtfs_parts.specs.Named.{ids_of, route_with_texts};
+ghost use Rattle.gtfs_rows.specs.NamedRows.{names_agency, route_named};
 ghost use Rattle.std.specs.List.{list_all};
 ghost use Rattle.gtfs_rows.specs.Reading.{content_of, route_in};
 ghost use Rattle.gtfs_table.specs.Rows.{is_row, records_in};

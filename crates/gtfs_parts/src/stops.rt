@@ -3,7 +3,8 @@
 ghost use Rattle.std.specs.Prelude.{◌≡◌, ℕ, [], IfOk, OnOk, codes, map, true};
 ghost use Rattle.gtfs_columns.specs.Problems.{Passes};
 ghost use Rattle.gtfs_columns.specs.steps.Ids.{ids_in, rows_by_number};
-ghost use Rattle.gtfs_parts.specs.Named.{ids_of, names_parent, stop_named, stop_with_texts};
+ghost use Rattle.gtfs_parts.specs.Named.{ids_of, stop_with_texts};
+ghost use Rattle.gtfs_rows.specs.NamedRows.{names_parent, stop_named};
 ghost use Rattle.std.specs.List.{list_all};
 ghost use Rattle.gtfs_rows.specs.Reading.{content_of, stop_in};
 ghost use Rattle.gtfs_table.specs.Rows.{is_row, records_in};

@@ -4,7 +4,7 @@ ghost use Rattle.std.specs.List.{list_all};
 ghost use Rattle.std.specs.Prelude.{◌≡◌, [], IfOk, OnOk, codes, map, option_map, true};
 ghost use Rattle.gtfs_columns.specs.Problems.{Passes};
 ghost use Rattle.gtfs_columns.specs.steps.Ids.{ids_in};
-ghost use Rattle.gtfs_parts.specs.TransferEnds.{names_ends, transfer_named, transfer_numbers};
+ghost use Rattle.gtfs_rows.specs.TransferEnds.{names_ends, transfer_named, transfer_numbers};
 ghost use Rattle.gtfs_parts.specs.Named.{ids_of};
 ghost use Rattle.gtfs_rows.specs.Reading.{content_of, transfer_in};
 ghost use Rattle.gtfs_table.specs.Rows.{is_row, records_in, rows};

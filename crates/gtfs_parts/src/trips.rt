@@ -3,7 +3,8 @@
 ghost use Rattle.std.specs.Prelude.{◌≡◌, ℕ, [], IfOk, OnOk, codes, map, true};
 ghost use Rattle.gtfs_columns.specs.Problems.{Passes};
 ghost use Rattle.gtfs_columns.specs.steps.Ids.{ids_in, rows_by_number};
-ghost use Rattle.gtfs_parts.specs.Named.{ids_of, names_route_and_service, trip_named, trip_with_texts, without_rows};
+ghost use Rattle.gtfs_parts.specs.Named.{ids_of, trip_with_texts};
+ghost use Rattle.gtfs_rows.specs.NamedRows.{names_route_and_service, trip_named, without_rows};
 ghost use Rattle.std.specs.List.{list_all};
 ghost use Rattle.gtfs_parts.specs.ServiceIds.{HasAll, service_ids, service_texts};
 ghost use Rattle.gtfs_rows.specs.Reading.{content_of, trip_in};

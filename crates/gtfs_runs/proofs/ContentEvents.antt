@@ -14,8 +14,8 @@ use Rattle.gtfs_feed.specs.Trips.{frequencies_by_trip, stop_rows_by_trip}
 use Rattle.gtfs_feed.proofs.NumberFacts.{trip_service}
 use Rattle.gtfs_feed.proofs.TripsAt.{content_trip}
 use Rattle.gtfs_runs.specs.Events.{is_event}
-use Rattle.gtfs_runs.specs.Places.{is_in_place, members}
-use Rattle.gtfs_runs.specs.Trips.{is_departure_row, is_run, passes_at}
+use Rattle.gtfs_rows.specs.Places.{is_in_place, members}
+use Rattle.gtfs_rows.specs.Runs.{is_departure_row, is_run, passes_at}
 use Rattle.gtfs_runs.specs.declared.event.Event.{Event}
 use Rattle.gtfs_runs.proofs.ContentRows.{flag_at, same_service}
 

@@ -18,8 +18,8 @@ use Rattle.gtfs_rows.specs.Views.{IsSoundParts, content_of_parts, frequency_of, 
 use Rattle.gtfs_feed.specs.Trips.{left_at}
 use Rattle.gtfs_feed.proofs.SoundOrder.{in_order}
 use Rattle.gtfs_runs.specs.Lanes.{departure_rows}
-use Rattle.gtfs_runs.specs.Places.{is_in_place, members}
-use Rattle.gtfs_runs.specs.Trips.{is_departure_row, is_run, passes_at, starts_run, trip_start}
+use Rattle.gtfs_rows.specs.Places.{is_in_place, members}
+use Rattle.gtfs_rows.specs.Runs.{is_departure_row, is_run, passes_at, starts_run, trip_start}
 use Rattle.gtfs_runs.proofs.PlaceFacts.{id_at, same_number}
 
 -- ---- lists

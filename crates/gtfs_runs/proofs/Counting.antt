@@ -14,7 +14,7 @@ use Rattle.gtfs_rows.specs.Rows.{Frequency}
 use Rattle.gtfs_runs.specs.declared.event.Event.{Event}
 use Rattle.gtfs_runs.specs.Counts.{is_same, tally}
 use Rattle.gtfs_runs.specs.Periods.{run_event, run_events, event_of_run, is_of_period}
-use Rattle.gtfs_runs.specs.Trips.{starts_run}
+use Rattle.gtfs_rows.specs.Runs.{starts_run}
 use Rattle.gtfs_runs.proofs.Orders.{events_total}
 
 -- ---- the same event

@@ -11,7 +11,7 @@ use Rattle.gtfs_rows.specs.Views.{frequency_of}
 use Rattle.gtfs_runs.specs.Counts.{is_same, tally}
 use Rattle.gtfs_runs.specs.Periods.{event_of_run, is_of_period}
 use Rattle.gtfs_runs.specs.StopLanes.{LaneValue, events_of_service}
-use Rattle.gtfs_runs.specs.Trips.{starts_run}
+use Rattle.gtfs_rows.specs.Runs.{starts_run}
 use Rattle.gtfs_runs.specs.declared.event.Event.{Event}
 use Rattle.gtfs_runs.specs.declared.stop_lanes.passing.Passing.{Passing}
 use Rattle.gtfs_runs.specs.steps.Finds.{times_passed, times_passed_in, times_told}

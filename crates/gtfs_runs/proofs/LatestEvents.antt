@@ -26,9 +26,9 @@ use Rattle.gtfs_feed.proofs.TripsAt.{content_trip}
 use Rattle.gtfs_runs.specs.Counts.{is_same, tally}
 use Rattle.gtfs_runs.specs.Events.{is_event}
 use Rattle.gtfs_runs.specs.Lanes.{departure_rows, latest}
-use Rattle.gtfs_runs.specs.Places.{is_in_place}
+use Rattle.gtfs_rows.specs.Places.{is_in_place}
 use Rattle.gtfs_runs.specs.StopLanes.{AreLanesOf, LaneValue, events_of_service}
-use Rattle.gtfs_runs.specs.Trips.{is_departure_row, is_run, passes_at, runs, starts_run}
+use Rattle.gtfs_rows.specs.Runs.{is_departure_row, is_run, passes_at, runs, starts_run}
 use Rattle.gtfs_runs.specs.declared.event.Event.{Event}
 use Rattle.gtfs_runs.specs.steps.Finds.{HasRuns}
 use Rattle.gtfs_runs.specs.steps.Lists.{latest_of}

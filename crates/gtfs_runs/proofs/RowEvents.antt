@@ -23,8 +23,8 @@ use Rattle.gtfs_table.proofs.PartFacts.{length-parts}
 use Rattle.gtfs_runs.specs.Counts.{is_same, tally}
 use Rattle.gtfs_runs.specs.Events.{is_event}
 use Rattle.gtfs_runs.specs.FlatEvents.{Served, is_event_of, is_served, served_at}
-use Rattle.gtfs_runs.specs.Places.{members}
-use Rattle.gtfs_runs.specs.Trips.{is_departure_row, is_run, passes_at}
+use Rattle.gtfs_rows.specs.Places.{members}
+use Rattle.gtfs_rows.specs.Runs.{is_departure_row, is_run, passes_at}
 use Rattle.gtfs_runs.specs.declared.event.Event.{Event}
 use Rattle.gtfs_runs.proofs.ContentEvents.{event_is, is_at, no_event}
 use Rattle.gtfs_runs.proofs.Counting.{same-is, same-self, tally-map}

@@ -11,7 +11,7 @@ use Rattle.gtfs_rows.specs.declared.trip.Trip.{Trip}
 use Rattle.gtfs_rows.specs.Views.{frequency_of, trip_of}
 use Rattle.gtfs_feed.specs.Trips.{ArePeriods, left_at}
 use Rattle.gtfs_runs.specs.Counts.{tally}
-use Rattle.gtfs_runs.specs.Trips.{is_run, starts_run}
+use Rattle.gtfs_rows.specs.Runs.{is_run, starts_run}
 use Rattle.gtfs_runs.proofs.ContentRows.{own_run, period_run}
 use Rattle.gtfs_runs.proofs.Tallies.{tally-none, tally-push}
 

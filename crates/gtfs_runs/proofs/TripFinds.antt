@@ -27,9 +27,9 @@ use Rattle.gtfs_runs.specs.Counts.{is_same, tally}
 use Rattle.gtfs_runs.specs.Events.{is_event}
 use Rattle.gtfs_runs.specs.Kinds.{IsPeriodLane}
 use Rattle.gtfs_runs.specs.Lanes.{Course, courses_of, departure_rows, has_periods, stops_of}
-use Rattle.gtfs_runs.specs.Places.{members}
+use Rattle.gtfs_rows.specs.Places.{members}
 use Rattle.gtfs_runs.specs.StopLanes.{LaneValue}
-use Rattle.gtfs_runs.specs.Trips.{allows_boarding, is_departure_row, is_not_last, is_run, is_timed, passes_at, starts_run, trip_start}
+use Rattle.gtfs_rows.specs.Runs.{allows_boarding, is_departure_row, is_not_last, is_run, is_timed, passes_at, starts_run, trip_start}
 use Rattle.gtfs_runs.specs.declared.event.Event.{Event}
 use Rattle.gtfs_runs.specs.declared.stop_lanes.passing.Passing.{Passing}
 use Rattle.gtfs_runs.specs.steps.Courses.{IsCourse, IsListed, Stopping, course_of, stopping_events, stops_in}

@@ -3,8 +3,8 @@
 use Rattle.std.specs.Prelude.{ℕ, ◌==◌, ◌&&◌, Bool, List, bytes_eq, slice_get}
 use Rattle.gtfs_columns.specs.Values.{if_there}
 use Rattle.gtfs_rows.specs.Content.{Content}
-use Rattle.gtfs_runs.specs.Places.{is_in_place}
-use Rattle.gtfs_runs.specs.Trips.{is_run, is_departure_row, passes_at}
+use Rattle.gtfs_rows.specs.Places.{is_in_place}
+use Rattle.gtfs_rows.specs.Runs.{is_run, is_departure_row, passes_at}
 use Rattle.gtfs_runs.specs.declared.event.Event.{Event}
 
 -- the event belongs to a trip of the service, one of its runs and one of its departure rows at the place of the stop

@@ -13,7 +13,7 @@ use Rattle.gtfs_rows.specs.declared.trip.Trip.{Trip}
 use Rattle.gtfs_runs.specs.Counts.{is_same}
 use Rattle.gtfs_runs.specs.Events.{is_event}
 use Rattle.gtfs_runs.specs.Order.{event_cmp}
-use Rattle.gtfs_runs.specs.Trips.{passes_at}
+use Rattle.gtfs_rows.specs.Runs.{passes_at}
 use Rattle.gtfs_runs.specs.declared.event.Event.{Event}
 
 -- an event under the number of the service of its trip

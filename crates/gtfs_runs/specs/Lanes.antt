@@ -8,8 +8,8 @@ use Rattle.std.specs.FinSet as set
 use Rattle.gtfs_field.specs.TextOrder.{text_cmp}
 use Rattle.gtfs_rows.specs.Content.{Content}
 use Rattle.gtfs_rows.specs.Rows.{StopRow, Trip}
-use Rattle.gtfs_runs.specs.Places.{is_in_place}
-use Rattle.gtfs_runs.specs.Trips.{is_departure_row, passes_at, runs}
+use Rattle.gtfs_rows.specs.Places.{is_in_place}
+use Rattle.gtfs_rows.specs.Runs.{is_departure_row, passes_at, runs}
 
 -- what the trips of a list lane have in common: the stops of their rows, the position of a row from 0, the service
 abbrev pub Course : Type 0

@@ -1,5 +1,3 @@
-pub mod Trips
-pub mod Places
 pub mod Order
 pub mod Counts
 pub mod Periods

@@ -5,7 +5,7 @@ use Rattle.std.specs.List.{range_with_len}
 use Rattle.gtfs_rows.specs.Rows.{Frequency}
 use Rattle.gtfs_runs.specs.declared.event.Event.{Event}
 use Rattle.gtfs_runs.specs.Counts.{is_same}
-use Rattle.gtfs_runs.specs.Trips.{starts_run}
+use Rattle.gtfs_rows.specs.Runs.{starts_run}
 
 -- the event of the run with this number, from 0
 abbrev pub run_event : Event → ℕ → ℕ → Event

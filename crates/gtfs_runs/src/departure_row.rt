@@ -5,7 +5,7 @@ ghost use Rattle.gtfs_rows.specs.declared.frequency.Frequency.{Frequency};
 ghost use Rattle.gtfs_rows.specs.declared.parts.Parts.{Parts};
 ghost use Rattle.gtfs_rows.specs.declared.stop_row.StopRow.{StopRow as StopTime};
 ghost use Rattle.gtfs_rows.specs.declared.trip.Trip.{Trip};
-ghost use Rattle.gtfs_runs.specs.Trips.{allows_boarding, is_departure_row, is_timed};
+ghost use Rattle.gtfs_rows.specs.Runs.{allows_boarding, is_departure_row, is_timed};
 
 use crate::place::Place;
 use gtfs_field::Clock;

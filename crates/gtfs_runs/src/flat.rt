@@ -8,8 +8,8 @@ ghost use Rattle.gtfs_rows.specs.declared.stop_row.StopRow.{StopRow as StopTime}
 ghost use Rattle.gtfs_rows.specs.declared.trip.Trip.{Trip};
 ghost use Rattle.gtfs_runs.specs.Counts.{tally};
 ghost use Rattle.gtfs_runs.specs.FlatEvents.{AreEvents, is_event_of, is_served, served_at};
-ghost use Rattle.gtfs_runs.specs.Places.{members};
-ghost use Rattle.gtfs_runs.specs.Trips.{is_run, passes_at, starts_run};
+ghost use Rattle.gtfs_rows.specs.Places.{members};
+ghost use Rattle.gtfs_rows.specs.Runs.{is_run, passes_at, starts_run};
 ghost use Rattle.gtfs_runs.specs.declared.event.Event.{Event as EventValue};
 
 use crate::departure_row::{departure, leaves_place};

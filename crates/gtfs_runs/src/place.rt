@@ -2,7 +2,7 @@ ghost use Rattle.std.specs.Prelude.{◌≡◌, ◌==◌, ◌<◌, IfOk, false, l
 ghost use Rattle.gtfs_columns.specs.Values.{if_there};
 ghost use Rattle.gtfs_feed.specs.Content.{content_of};
 ghost use Rattle.gtfs_rows.specs.Views.{stop_ids, text_of_number};
-ghost use Rattle.gtfs_runs.specs.Places.{is_in_place, members};
+ghost use Rattle.gtfs_rows.specs.Places.{is_in_place, members};
 
 use gtfs_feed::Feed;
 use gtfs_field::OutOfMemory;

@@ -23,8 +23,9 @@ use Rattle.gtfs_rules.specs.StopTimes.{AreStopTimes, SaysStopTime, stop_time_cmp
 use Rattle.gtfs_rows.specs.Reading.{content_of, stop_row_in}
 use Rattle.gtfs_rows.specs.declared.stop_row.StopRow.{StopRow}
 use Rattle.gtfs_stop_times.specs.Gathering.{AreGathered, IsEmptyFor, by_trip}
-use Rattle.gtfs_stop_times.specs.Headsigns.{AddsOnly, AreDistinct, KeepsHeadsigns, NamesHeadsign}
-use Rattle.gtfs_stop_times.specs.Lists.{AreStopTimesOf, content_stop_ids, has_headsign, has_numbers_below, is_number, stop_row_named}
+use Rattle.gtfs_rows.specs.Headsigns.{AddsOnly, AreDistinct, KeepsHeadsigns, NamesHeadsign}
+use Rattle.gtfs_stop_times.specs.Lists.{AreStopTimesOf, content_stop_ids, has_headsign, is_number}
+use Rattle.gtfs_rows.specs.NamedRows.{has_numbers_below, stop_row_named}
 use Rattle.gtfs_stop_times.specs.Rows.{SaysRow}
 use Rattle.gtfs_stop_times.specs.declared.gathered.Gathered.{Gathered}
 use Rattle.gtfs_stop_times.specs.declared.stop_times.StopTimes.{StopTimes}

@@ -1,7 +1,6 @@
 pub mod Blank
 pub mod ContentIds
 pub mod Gathers
-pub mod HeadsignFacts
 pub mod Keyed
 pub mod OfParts
 pub mod RowSays

@@ -7,7 +7,8 @@ use Rattle.gtfs_table.specs.Tables.{Dataset}
 use Rattle.gtfs_rows.specs.Reading.{content_of}
 use Rattle.gtfs_rows.specs.Views.{IsCut, stop_ids, stop_row_of, stop_time_names_rows}
 use Rattle.gtfs_rows.specs.declared.parts.Parts.{Parts}
-use Rattle.gtfs_stop_times.specs.Lists.{AreStopTimesOf, content_stop_ids, has_numbers_below, stop_row_named}
+use Rattle.gtfs_stop_times.specs.Lists.{AreStopTimesOf, content_stop_ids}
+use Rattle.gtfs_rows.specs.NamedRows.{has_numbers_below, stop_row_named}
 use Rattle.gtfs_stop_times.specs.declared.stop_times.StopTimes.{StopTimes}
 
 module _ (d : Dataset) (lists : StopTimes) (are : AreStopTimesOf d lists) (p : Parts)

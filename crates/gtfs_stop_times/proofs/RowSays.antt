@@ -18,8 +18,9 @@ use Rattle.gtfs_rules.proofs.PassedRows.{stop_is}
 use Rattle.gtfs_rows.specs.Reading.{content_of, stop_row_in}
 use Rattle.gtfs_rows.specs.Views.{is_within, text_of_number}
 use Rattle.gtfs_rows.specs.declared.stop_row.StopRow.{StopRow}
-use Rattle.gtfs_stop_times.specs.Headsigns.{KeepsHeadsigns, NamesHeadsign}
-use Rattle.gtfs_stop_times.specs.Lists.{content_stop_ids, has_numbers_below, stop_row_named}
+use Rattle.gtfs_rows.specs.Headsigns.{KeepsHeadsigns, NamesHeadsign}
+use Rattle.gtfs_stop_times.specs.Lists.{content_stop_ids}
+use Rattle.gtfs_rows.specs.NamedRows.{has_numbers_below, stop_row_named}
 use Rattle.gtfs_stop_times.specs.Rows.{IsTimely, SaysRow}
 use Rattle.gtfs_stop_times.proofs.ContentIds.{stop_ids_are}
 use Rattle.gtfs_stop_times.proofs.TimeBound.{timely}

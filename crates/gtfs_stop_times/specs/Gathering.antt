@@ -6,7 +6,8 @@ use Rattle.gtfs_table.specs.Parts.{parts}
 use Rattle.gtfs_table.specs.Tables.{Dataset}
 use Rattle.gtfs_trip_rules.specs.declared.trips.row.StopTime.{StopTime}
 use Rattle.gtfs_rows.specs.Reading.{content_of, stop_row_in}
-use Rattle.gtfs_stop_times.specs.Lists.{content_stop_ids, has_headsign, has_numbers_below, stop_row_named}
+use Rattle.gtfs_stop_times.specs.Lists.{content_stop_ids, has_headsign}
+use Rattle.gtfs_rows.specs.NamedRows.{has_numbers_below, stop_row_named}
 use Rattle.gtfs_stop_times.specs.declared.gathered.Gathered.{Gathered}
 
 -- the stop times of the trip with this number

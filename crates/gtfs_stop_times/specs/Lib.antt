@@ -1,4 +1,3 @@
 pub mod Gathering
-pub mod Headsigns
 pub mod Lists
 pub mod Rows

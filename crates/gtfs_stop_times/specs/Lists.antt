@@ -10,34 +10,18 @@ use Rattle.gtfs_rows.specs.Reading.{content_of}
 use Rattle.gtfs_rows.specs.Rows.{StopRow}
 use Rattle.gtfs_rows.specs.Views.{is_within, text_of_number}
 use Rattle.gtfs_rows.specs.declared.stop_row.StopRow.{StopRow as RowByNumber}
-use Rattle.gtfs_stop_times.specs.Headsigns.{AreDistinct}
+use Rattle.gtfs_rows.specs.Headsigns.{AreDistinct}
+use Rattle.gtfs_rows.specs.NamedRows.{has_numbers_below, stop_row_named}
 use Rattle.gtfs_stop_times.specs.declared.stop_times.StopTimes.{StopTimes}
 
 -- the ids of the stops of the content, each at its number
 abbrev pub content_stop_ids : Dataset → List (List ℕ)
 content_stop_ids d = map (λ s. s.stop_id) (content_of d).stops
 
--- what a row stands for, where these are the ids of all stops and all headsigns: as `stop_row_of` of parts that have them
-abbrev pub stop_row_named : List (List ℕ) → List (List ℕ) → RowByNumber → StopRow
-stop_row_named stop_ids headsigns r = record {
-  arrival_time = r.arrival_time;
-  departure_time = r.departure_time;
-  stop_id = text_of_number stop_ids r.stop_id.0;
-  stop_sequence = r.stop_sequence;
-  stop_headsign = option_map (text_of_number headsigns) r.stop_headsign;
-  pickup_type = pickup_code r.pickup_type;
-  drop_off_type = drop_off_code r.drop_off_type;
-  timepoint = option_map timepoint_code r.timepoint;
-}
-
 -- the number is there, and it is this one
 abbrev pub is_number : ℕ → Option ℕ → Bool
 is_number k None = false
 is_number k (Some n) = n == k
-
--- its stop and its headsign lie within lists of these lengths
-abbrev pub has_numbers_below : ℕ → ℕ → RowByNumber → Bool
-has_numbers_below stops headsigns r = nat_lt r.stop_id.0 stops && is_within headsigns r.stop_headsign
 
 -- its headsign is the one of this number
 abbrev pub has_headsign : ℕ → RowByNumber → Bool

@@ -4,7 +4,7 @@ ghost use Rattle.std.specs.Prelude.{◌≡◌, [], IfOk, OnOk, Some, slice_get, 
 ghost use Rattle.gtfs_columns.specs.Columns as kind;
 ghost use Rattle.gtfs_columns.specs.Reads.{word_of};
 ghost use Rattle.gtfs_columns.specs.Values.{plain};
-ghost use Rattle.gtfs_stop_times.specs.Headsigns.{AddsOnly, AreDistinct, KeepsHeadsigns, NamesHeadsign};
+ghost use Rattle.gtfs_rows.specs.Headsigns.{AddsOnly, AreDistinct, KeepsHeadsigns, NamesHeadsign};
 
 use crate::plain::plain;
 use gtfs_columns::has_control;
@@ -26,7 +26,7 @@ pub(crate) struct Headsigns {
 
 impl Model for Headsigns {
     ghost use Rattle.std.specs.Prelude.{List as Sequence, ℕ, map, string_bytes};
-    ghost use Rattle.gtfs_stop_times.specs.Headsigns.{ArePlain};
+    ghost use Rattle.gtfs_rows.specs.Headsigns.{ArePlain};
 
     ghost Value = { Sequence (Sequence ℕ) };
 

@@ -23,9 +23,9 @@ use Rattle.gtfs_rows.specs.RowCells.{held_by, number, stop_time_cells, stop_time
 use Rattle.gtfs_rows.specs.Rows.{StopRow, Trip as TripWithRows}
 use Rattle.gtfs_rows.specs.Views.{IsSoundParts, content_of_parts, stop_ids, stop_row_of, text_of_number, trips_of}
 use Rattle.gtfs_written.specs.Bounds.{longest}
-use Rattle.gtfs_written.specs.FileTexts.{is_longer, written_text}
+use Rattle.gtfs_rows.specs.FileTexts.{is_longer, written_text}
 use Rattle.gtfs_written.proofs.CellBounds.{cell_most, row-bound, rows-bound}
-use Rattle.gtfs_written.proofs.TextFacts.{text-of-cells}
+use Rattle.gtfs_rows.proofs.FileTexts.{text-of-cells}
 
 -- ---- the longest text
 

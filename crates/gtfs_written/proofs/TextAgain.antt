@@ -17,8 +17,9 @@ use Rattle.gtfs_rows.specs.Content.{Content}
 use Rattle.gtfs_rows.specs.RowCells.{cells_in}
 use Rattle.gtfs_rows.specs.Sound.{IsSound}
 use Rattle.gtfs_rows.specs.Written.{records_of_cells, written}
-use Rattle.gtfs_written.specs.FileTexts.{written_text}
-use Rattle.gtfs_written.proofs.TextFacts.{has_columns, text-of-cells, written-table}
+use Rattle.gtfs_rows.specs.FileTexts.{written_text}
+use Rattle.gtfs_rows.proofs.FileTexts.{text-of-cells, written-table}
+use Rattle.gtfs_written.proofs.TextFacts.{has_columns}
 
 -- ---- no record is without a field
 

@@ -18,7 +18,8 @@ use Rattle.gtfs_rows.specs.Content.{Content}
 use Rattle.gtfs_rows.specs.RowCells.{cells_in}
 use Rattle.gtfs_rows.specs.Sound.{IsSound}
 use Rattle.gtfs_rows.specs.Written.{records_of_cells, written}
-use Rattle.gtfs_written.specs.FileTexts.{is_longer, written_text}
+use Rattle.gtfs_rows.specs.FileTexts.{is_longer, written_text}
+use Rattle.gtfs_rows.proofs.FileTexts.{text-of-cells}
 use Rattle.gtfs_written.specs.Taking.{into_room, into_text, room_after, with_fields, with_row, with_rows}
 
 -- ---- into a text
@@ -88,28 +89,9 @@ has_columns file.CalendarDates = omega arith
 has_columns file.Frequencies = omega arith
 has_columns file.Transfers = omega arith
 
--- the table of a file of the written form
-pub written-table : (c : Content) (x : File) → table_of (written c) x ≡ of_records (records_of_cells x (cells_in c x))
-written-table c file.Agency = refl
-written-table c file.Stops = refl
-written-table c file.Routes = refl
-written-table c file.Trips = refl
-written-table c file.StopTimes = refl
-written-table c file.Calendar = refl
-written-table c file.CalendarDates = refl
-written-table c file.Frequencies = refl
-written-table c file.Transfers = refl
-
-pub text-of-cells : (c : Content) (x : File) → written_text c x ≡ text_of_records (records_of_cells x (cells_in c x))
-text-of-cells c x = ap (λ t. text_of_records (table_records t)) (written-table c x)
-
 -- the rows of a file make its text
 pub taken-text : (c : Content) (x : File) → IsSound c → with_rows into_text [] (records_of_cells x (cells_in c x)) ≡ written_text c x
 taken-text c x sound = whole-of (columns_of x) (cells_in c x) (has_columns x) (sound.cells x) ∙ sym (text-of-cells c x)
-
--- which is what is written of its table
-pub table-text : (c : Content) (x : File) → text_of_table (table_of (written c) x) ≡ Some (written_text c x)
-table-text c x = ap text_of_table (written-table c x) ∙ ap Some (sym (text-of-cells c x))
 
 -- ---- into a room
 

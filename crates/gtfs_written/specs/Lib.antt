@@ -1,4 +1,3 @@
 pub mod Bounds
-pub mod FileTexts
 pub mod Plain
 pub mod Taking

@@ -3,7 +3,7 @@ ghost use Rattle.std.specs.Prelude.{◌≡◌, length, false, true};
 ghost use Rattle.gtfs_rows.specs.Views.{IsSoundParts, content_of_parts};
 ghost use Rattle.gtfs_table.specs.declared.file.File.TheVariants as file;
 ghost use Rattle.gtfs_written.specs.Bounds.{longest};
-ghost use Rattle.gtfs_written.specs.FileTexts.{is_longer};
+ghost use Rattle.gtfs_rows.specs.FileTexts.{is_longer};
 
 use gtfs_field::Text;
 use gtfs_rows::{Parts, Stop, Trip};

@@ -3,7 +3,7 @@ ghost use Rattle.std.specs.String.{string_capacity};
 ghost use Rattle.std.specs.Str.{IsAscii};
 ghost use Rattle.gtfs_field.specs.Calendar.{date_of_day};
 ghost use Rattle.gtfs_field.specs.Canonical.{date_text, digits_of_date};
-ghost use Rattle.gtfs_board.specs.Key.{IsInRange};
+ghost use Rattle.gtfs_rows.specs.Key.{IsInRange};
 ghost use Rattle.gtfs_board.specs.KeyTexts.{key_text, key_of};
 ghost use Rattle.gtfs_board.specs.Lent.{plain_key};
 

@@ -6,7 +6,7 @@ ghost use Rattle.gtfs_rows.specs.Views.{frequency_of, trip_of};
 ghost use Rattle.gtfs_rows.specs.declared.parts.Parts.{Parts};
 ghost use Rattle.gtfs_rows.specs.declared.trip.Trip.{Trip};
 ghost use Rattle.gtfs_runs.specs.Counts.{tally};
-ghost use Rattle.gtfs_runs.specs.Trips.{is_run, starts_run};
+ghost use Rattle.gtfs_rows.specs.Runs.{is_run, starts_run};
 ghost use Rattle.gtfs_board.specs.SheetSteps.{HasRow, column_cmp, is_column_of, is_run_on, is_same_column};
 ghost use Rattle.gtfs_board.specs.declared.sheet.columns.Column.{Column as ColumnValue};
 

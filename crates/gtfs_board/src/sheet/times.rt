@@ -7,7 +7,7 @@ ghost use Rattle.gtfs_rows.specs.declared.frequency.Frequency.{Frequency as Peri
 ghost use Rattle.gtfs_rows.specs.declared.parts.Parts.{Parts};
 ghost use Rattle.gtfs_rows.specs.declared.stop_row.StopRow.{StopRow as StopTime};
 ghost use Rattle.gtfs_rows.specs.declared.trip.Trip.{Trip};
-ghost use Rattle.gtfs_runs.specs.Trips.{passes_at};
+ghost use Rattle.gtfs_rows.specs.Runs.{passes_at};
 ghost use Rattle.gtfs_board.specs.SheetSteps.{IsShownAlong, column_times, time_of_column};
 ghost use Rattle.gtfs_board.specs.Timetable.{row_at, time_at};
 

@@ -7,8 +7,8 @@ use Rattle.gtfs_rows.specs.declared.frequency.Frequency.{Frequency}
 use Rattle.gtfs_rows.specs.declared.parts.Parts.{Parts}
 use Rattle.gtfs_rows.specs.declared.stop_row.StopRow.{StopRow}
 use Rattle.gtfs_rows.specs.declared.trip.Trip.{Trip}
-use Rattle.gtfs_runs.specs.Places.{members}
-use Rattle.gtfs_runs.specs.Trips.{is_departure_row}
+use Rattle.gtfs_rows.specs.Places.{members}
+use Rattle.gtfs_rows.specs.Runs.{is_departure_row}
 use Rattle.gtfs_runs.specs.declared.event.Event.{Event}
 use Rattle.gtfs_runs.specs.declared.stop_lanes.passing.Passing.{Passing}
 

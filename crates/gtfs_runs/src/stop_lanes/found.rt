@@ -4,7 +4,7 @@ ghost use Rattle.gtfs_rows.specs.Content.{Content};
 ghost use Rattle.gtfs_rows.specs.Rows.{Trip};
 ghost use Rattle.gtfs_rows.specs.Views.{frequency_of, stop_ids, text_of_number};
 ghost use Rattle.gtfs_runs.specs.Kinds.{IsPeriodLane};
-ghost use Rattle.gtfs_runs.specs.Places.{members};
+ghost use Rattle.gtfs_rows.specs.Places.{members};
 ghost use Rattle.gtfs_runs.specs.StopLanes.{period_value};
 ghost use Rattle.gtfs_runs.specs.declared.event.Event.{Event as EventValue};
 ghost use Rattle.gtfs_runs.specs.steps.Courses.{stopping_of, stops_in};

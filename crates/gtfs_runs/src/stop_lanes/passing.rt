@@ -5,7 +5,7 @@ ghost use Rattle.gtfs_rows.specs.Views.{stop_ids, text_of_number};
 ghost use Rattle.gtfs_rows.specs.declared.frequency.Frequency.{Frequency};
 ghost use Rattle.gtfs_rows.specs.declared.stop_row.StopRow.{StopRow as StopTime};
 ghost use Rattle.gtfs_rows.specs.declared.trip.Trip.{Trip};
-ghost use Rattle.gtfs_runs.specs.Places.{members};
+ghost use Rattle.gtfs_rows.specs.Places.{members};
 ghost use Rattle.gtfs_runs.specs.steps.Passings.{first_left, passing_at, passing_event, passings_of};
 
 use crate::departure_row::{departure, leaves_place};

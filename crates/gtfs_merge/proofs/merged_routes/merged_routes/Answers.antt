@@ -1,7 +1,7 @@
 use Rattle.std.proofs.Common.{◌≡◌, ◌<◌, ◌≤◌, ◌∙◌, List, ℕ, Some, ap, arith, get_or, length, map, slice_get, subst, sym}
 use Rattle.std.specs.List.{list_all}
 use Rattle.std.proofs.lemmas.List.{length-map}
-use Rattle.gtfs_parts.specs.Named.{names_agency, route_named}
+use Rattle.gtfs_rows.specs.NamedRows.{names_agency, route_named}
 use Rattle.gtfs_rows.specs.Views.{agency_ids}
 use Rattle.gtfs_rows.specs.declared.parts.Parts.{Parts}
 use Rattle.gtfs_merge.specs.MergedKinds.{AreMergedRows, route_from}

@@ -2,7 +2,7 @@ use Rattle.std.proofs.Common.{◌≡◌, ◌<◌, ◌≤◌, ◌∙◌, List, �
 use Rattle.std.specs.Prelude.{IfSome}
 use Rattle.std.specs.List.{list_all}
 use Rattle.std.proofs.lemmas.List.{length-map}
-use Rattle.gtfs_parts.specs.Named.{names_parent, stop_named}
+use Rattle.gtfs_rows.specs.NamedRows.{names_parent, stop_named}
 use Rattle.gtfs_rows.specs.Views.{stop_ids}
 use Rattle.gtfs_rows.specs.declared.parts.Parts.{Parts}
 use Rattle.gtfs_merge.specs.MergedKinds.{AreMergedRows, stop_from}

@@ -1,6 +1,6 @@
 use Rattle.std.proofs.Common.{◌≡◌, Some, map, take, true}
 use Rattle.std.specs.List.{list_all}
-use Rattle.gtfs_parts.specs.Named.{names_parent, stop_named}
+use Rattle.gtfs_rows.specs.NamedRows.{names_parent, stop_named}
 use Rattle.gtfs_merge.specs.MergedKinds.{stop_from}
 use Rattle.gtfs_merge.specs.Order.{entry_value}
 use Rattle.gtfs_merge.specs.Sides.{merged_ids}

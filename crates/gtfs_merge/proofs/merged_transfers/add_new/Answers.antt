@@ -1,6 +1,6 @@
 use Rattle.std.proofs.Common.{◌∙◌, ◌++◌, map, ap, sym}
 use Rattle.std.proofs.lemmas.List.{take_all}
-use Rattle.gtfs_parts.specs.TransferEnds.{transfer_numbers}
+use Rattle.gtfs_rows.specs.TransferEnds.{transfer_numbers}
 use Rattle.gtfs_merge.specs.Transfers.{ends_cmp, transfer_on}
 use Rattle.gtfs_merge.proofs.KeyedMaps.{entries_of, turn-new, turn-old}
 use Rattle.gtfs_merge.proofs.MergedTransfers.{within-index}

@@ -2,7 +2,7 @@ use Rattle.std.proofs.Common.{◌≡◌, ◌∙◌, [], ap, map, subst, sym}
 use Rattle.std.specs.Prelude.{IfOk}
 use Rattle.std.proofs.lemmas.Iterator.{items_from_collect}
 use Rattle.std.proofs.lemmas.Iterator.Consumers.{YieldsList-from_rest}
-use Rattle.gtfs_parts.specs.TransferEnds.{transfer_numbers}
+use Rattle.gtfs_rows.specs.TransferEnds.{transfer_numbers}
 use Rattle.gtfs_merge.specs.Transfers.{ends_cmp, merged_transfers, transfers_on}
 use Rattle.gtfs_merge.specs.declared.kind.Side.TheVariants as side
 use Rattle.gtfs_merge.proofs.KeyedMaps.{entries-none}

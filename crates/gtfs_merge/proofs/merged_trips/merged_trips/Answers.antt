@@ -1,7 +1,7 @@
 use Rattle.std.proofs.Common.{◌≡◌, ◌<◌, ◌≤◌, ◌∙◌, List, ℕ, Some, ap, arith, get_or, length, map, option_map, slice_get, subst, sym}
 use Rattle.std.specs.List.{list_all}
 use Rattle.std.proofs.lemmas.List.{length-map}
-use Rattle.gtfs_parts.specs.Named.{names_route_and_service, trip_named, without_rows}
+use Rattle.gtfs_rows.specs.NamedRows.{names_route_and_service, trip_named, without_rows}
 use Rattle.gtfs_rows.specs.Views.{route_ids, service_ids}
 use Rattle.gtfs_rows.specs.declared.parts.Parts.{Parts}
 use Rattle.gtfs_merge.specs.MergedKinds.{AreMergedRows, trip_from}

@@ -3,7 +3,7 @@ use Rattle.std.specs.List.{list_any}
 use Rattle.gtfs_rows.specs.Content.{Content}
 use Rattle.gtfs_rows.specs.Views.{content_of_parts}
 use Rattle.gtfs_table.specs.Reading.{kept_files}
-use Rattle.gtfs_written.specs.FileTexts.{is_longer}
+use Rattle.gtfs_rows.specs.FileTexts.{is_longer}
 use Rattle.gtfs_merge.specs.Merged.{is_too_large}
 use Rattle.gtfs_merge.specs.Sides.{merged_parts}
 use Rattle.gtfs_merge.proofs.FileLimit.{longer-is}

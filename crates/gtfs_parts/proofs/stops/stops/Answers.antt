@@ -5,7 +5,8 @@ use Rattle.gtfs_columns.specs.Columns.{id, required}
 use Rattle.gtfs_columns.specs.Problems.{Passes}
 use Rattle.gtfs_columns.specs.steps.Ids.{ids_in, rows_by_number}
 use Rattle.gtfs_rows.specs.Reading.{content_of, stop_in}
-use Rattle.gtfs_parts.specs.Named.{ids_of, names_parent, stop_named}
+use Rattle.gtfs_parts.specs.Named.{ids_of}
+use Rattle.gtfs_rows.specs.NamedRows.{names_parent, stop_named}
 use Rattle.gtfs_parts.proofs.Filled.{list_filled}
 use Rattle.gtfs_parts.proofs.IdTexts.{content_list}
 use Rattle.gtfs_parts.proofs.stops.stops.Goals as goal

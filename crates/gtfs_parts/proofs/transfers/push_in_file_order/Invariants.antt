@@ -5,7 +5,7 @@ use Rattle.gtfs_table.specs.declared.file.File.TheVariants as file
 use Rattle.gtfs_columns.specs.steps.Ids.{ids_in}
 use Rattle.gtfs_rows.specs.Reading.{transfer_in}
 use Rattle.gtfs_parts.specs.Named.{ids_of}
-use Rattle.gtfs_parts.specs.TransferEnds.{names_ends, transfer_named}
+use Rattle.gtfs_rows.specs.TransferEnds.{names_ends, transfer_named}
 use Rattle.gtfs_parts.proofs.transfers.push_in_file_order.Given as goal
 
 -- the rows so far

@@ -4,7 +4,7 @@ use Rattle.std.proofs.lemmas.List.Sorted.{answers_always}
 use Rattle.gtfs_table.specs.declared.file.File.TheVariants as file
 use Rattle.gtfs_columns.specs.steps.Ids.{ids_in}
 use Rattle.gtfs_parts.specs.Named.{ids_of}
-use Rattle.gtfs_parts.specs.TransferEnds.{names_ends, transfer_named, transfer_numbers}
+use Rattle.gtfs_rows.specs.TransferEnds.{names_ends, transfer_named, transfer_numbers}
 use Rattle.gtfs_parts.proofs.TransferFacts.{all_moved, transfers_sorted}
 use Rattle.gtfs_parts.proofs.transfers.transfers.Goals as goal
 

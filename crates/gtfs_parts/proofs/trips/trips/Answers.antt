@@ -6,7 +6,8 @@ use Rattle.gtfs_columns.specs.Columns.{id, required}
 use Rattle.gtfs_columns.specs.Problems.{Passes}
 use Rattle.gtfs_columns.specs.steps.Ids.{ids_in, rows_by_number}
 use Rattle.gtfs_rows.specs.Reading.{content_of, trip_in}
-use Rattle.gtfs_parts.specs.Named.{ids_of, names_route_and_service, trip_named, without_rows}
+use Rattle.gtfs_parts.specs.Named.{ids_of}
+use Rattle.gtfs_rows.specs.NamedRows.{names_route_and_service, trip_named, without_rows}
 use Rattle.gtfs_parts.specs.ServiceIds.{HasAll, service_ids, service_texts}
 use Rattle.gtfs_parts.proofs.Filled.{list_filled}
 use Rattle.gtfs_parts.proofs.IdTexts.{content_list}

@@ -8,7 +8,7 @@ use Rattle.gtfs_rows.specs.Views.{stop_row_of, trip_of}
 use Rattle.gtfs_feed.proofs.TripFacts.{periods, stop_times}
 use Rattle.gtfs_runs.specs.Counts.{tally}
 use Rattle.gtfs_runs.specs.FlatEvents.{is_served, served_at}
-use Rattle.gtfs_runs.specs.Trips.{allows_boarding, is_departure_row, is_not_last, is_timed}
+use Rattle.gtfs_rows.specs.Runs.{allows_boarding, is_departure_row, is_not_last, is_timed}
 use Rattle.gtfs_runs.proofs.Bounds.{periods_within}
 use Rattle.gtfs_runs.proofs.RowEvents.{leaves_here, leaves_later, row_left, row_pushed}
 use Rattle.gtfs_runs.proofs.Tallies.{kept, tally-append}

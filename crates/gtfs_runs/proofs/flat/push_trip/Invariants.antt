@@ -2,7 +2,7 @@ use Rattle.std.proofs.Common.{◌≡◌, ◌+◌, ◌==◌, ◌&&◌, ℕ, cond,
 use Rattle.gtfs_rows.specs.Views.{content_of_parts, stop_ids, text_of_number}
 use Rattle.gtfs_runs.specs.Counts.{tally}
 use Rattle.gtfs_runs.specs.FlatEvents.{is_event_of, is_served}
-use Rattle.gtfs_runs.specs.Places.{members}
+use Rattle.gtfs_rows.specs.Places.{members}
 use Rattle.gtfs_runs.specs.declared.event.Event.{Event}
 use Rattle.gtfs_runs.proofs.flat.push_trip.Given as goal
 

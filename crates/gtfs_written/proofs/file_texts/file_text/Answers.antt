@@ -7,9 +7,10 @@ use Rattle.gtfs_rows.specs.Views.{content_of_parts}
 use Rattle.gtfs_rows.specs.Written.{records_of_cells}
 use Rattle.gtfs_rows.proofs.Passing.{written_form}
 use Rattle.gtfs_written.specs.Taking.{into_text, with_rows}
-use Rattle.gtfs_written.specs.FileTexts.{written_text}
+use Rattle.gtfs_rows.specs.FileTexts.{written_text}
 use Rattle.gtfs_written.proofs.TextAgain.{reads-back}
-use Rattle.gtfs_written.proofs.TextFacts.{table-text, taken-text}
+use Rattle.gtfs_rows.proofs.FileTexts.{table-text}
+use Rattle.gtfs_written.proofs.TextFacts.{taken-text}
 use Rattle.gtfs_written.proofs.file_texts.file_text.Goals as goal
 
 pub returns-in-Ok-clause-text : goal.returns-in-Ok-clause-text

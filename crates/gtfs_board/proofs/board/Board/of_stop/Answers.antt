@@ -6,7 +6,7 @@ use Rattle.gtfs_rows.specs.Views.{stop_ids, text_of_number}
 use Rattle.gtfs_runs.specs.StopLanes.{StopLanesValue, lanes_of}
 use Rattle.gtfs_board.specs.Board.{start_of}
 use Rattle.gtfs_board.specs.Floors.{IsNumbered, is_from}
-use Rattle.gtfs_board.specs.Key.{Key}
+use Rattle.gtfs_rows.specs.Key.{Key}
 use Rattle.gtfs_board.specs.LaneDays.{all_departures}
 use Rattle.gtfs_board.specs.Lent.{plain_key}
 use Rattle.gtfs_board.specs.declared.merge.candidate.Candidate.{Candidate}

@@ -4,7 +4,7 @@ use Rattle.std.proofs.lemmas.Bool.{true≢false}
 use Rattle.gtfs_days.specs.Zone.{zone_origin}
 use Rattle.gtfs_feed.specs.Content.{content_of}
 use Rattle.gtfs_board.specs.Board.{keys_of}
-use Rattle.gtfs_board.specs.Departures.{IsBoard}
+use Rattle.gtfs_rows.specs.Departures.{IsBoard}
 use Rattle.gtfs_board.specs.Lent.{plain_key}
 use Rattle.gtfs_board.specs.Opening.{HasSettings}
 use Rattle.gtfs_board.proofs.Opened.{stop_none, stop_some}

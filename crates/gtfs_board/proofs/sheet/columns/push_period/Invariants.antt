@@ -1,7 +1,7 @@
 use Rattle.std.proofs.Common.{◌≡◌, ◌-◌, ◌+◌, ◌==◌, ◌&&◌, cond}
 use Rattle.gtfs_rows.specs.Views.{frequency_of}
 use Rattle.gtfs_runs.specs.Counts.{tally}
-use Rattle.gtfs_runs.specs.Trips.{starts_run}
+use Rattle.gtfs_rows.specs.Runs.{starts_run}
 use Rattle.gtfs_board.specs.SheetSteps.{is_same_column}
 use Rattle.gtfs_board.specs.declared.sheet.columns.Column.{Column}
 use Rattle.gtfs_board.proofs.SheetStarts.{starts_from}

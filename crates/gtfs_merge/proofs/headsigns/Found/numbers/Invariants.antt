@@ -1,5 +1,5 @@
 use Rattle.std.proofs.Common.{take}
-use Rattle.gtfs_stop_times.specs.Headsigns.{KeepsHeadsigns}
+use Rattle.gtfs_rows.specs.Headsigns.{KeepsHeadsigns}
 use Rattle.gtfs_merge.specs.Headsigns.{AreNumbersOf}
 use Rattle.gtfs_merge.proofs.headsigns.Found.numbers.Given as goal
 

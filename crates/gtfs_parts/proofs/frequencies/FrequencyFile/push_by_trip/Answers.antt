@@ -13,7 +13,7 @@ use Rattle.gtfs_rows.specs.Order.{by_key}
 use Rattle.gtfs_rows.specs.Reading.{frequency_in, rows_of, trip_in}
 use Rattle.gtfs_rows.specs.Views.{frequency_of}
 use Rattle.gtfs_parts.proofs.ByIds.{as_many}
-use Rattle.gtfs_parts.proofs.Cuts.{first_push, no_parts, rising_none, rising_push}
+use Rattle.gtfs_rows.proofs.Cuts.{first_push, no_parts, rising_none, rising_push}
 use Rattle.gtfs_parts.proofs.Fields.{field_is, listed_all, listed_next, numbered_row}
 use Rattle.gtfs_parts.proofs.IdTexts.{text_at_is}
 use Rattle.gtfs_parts.proofs.frequencies.FrequencyFile.push_by_trip.Goals as goal

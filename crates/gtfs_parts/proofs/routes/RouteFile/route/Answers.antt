@@ -6,7 +6,8 @@ use Rattle.gtfs_table.specs.declared.file.File.TheVariants as file
 use Rattle.gtfs_columns.specs.Columns as kind
 use Rattle.gtfs_columns.specs.Reads.{colour_or}
 use Rattle.gtfs_rows.specs.Reading.{route_in}
-use Rattle.gtfs_parts.specs.Named.{ids_of, names_agency, route_named}
+use Rattle.gtfs_parts.specs.Named.{ids_of}
+use Rattle.gtfs_rows.specs.NamedRows.{names_agency, route_named}
 use Rattle.gtfs_parts.specs.Numbers.{number_if_there, number_of}
 use Rattle.gtfs_parts.proofs.Fields.{field_is}
 use Rattle.gtfs_parts.proofs.Filled.{filled}

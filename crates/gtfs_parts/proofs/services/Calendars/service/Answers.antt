@@ -5,7 +5,8 @@ use Rattle.gtfs_table.specs.declared.file.File.TheVariants as file
 use Rattle.gtfs_columns.specs.Calendars.{exception_in, service_rows}
 use Rattle.gtfs_rows.specs.Order.{by_key}
 use Rattle.gtfs_parts.specs.CalendarRows.{rows_with}
-use Rattle.gtfs_parts.proofs.CalendarFacts.{by_day, dates_named, days_once}
+use Rattle.gtfs_parts.proofs.CalendarFacts.{dates_named, days_once}
+use Rattle.gtfs_rows.proofs.Exceptions.{by_day}
 use Rattle.gtfs_parts.proofs.services.Calendars.service.Goals as goal
 
 pub new-requires-clause-once : goal.new-requires-clause-once

@@ -3,7 +3,8 @@ use Rattle.std.specs.List.{list_all}
 use Rattle.gtfs_table.specs.declared.file.File.TheVariants as file
 use Rattle.gtfs_columns.specs.steps.Ids.{ids_in, rows_by_number}
 use Rattle.gtfs_rows.specs.Reading.{stop_in}
-use Rattle.gtfs_parts.specs.Named.{ids_of, names_parent, stop_named}
+use Rattle.gtfs_parts.specs.Named.{ids_of}
+use Rattle.gtfs_rows.specs.NamedRows.{names_parent, stop_named}
 use Rattle.gtfs_parts.proofs.stops.StopFile.push_stops.Given as goal
 
 -- the rows so far

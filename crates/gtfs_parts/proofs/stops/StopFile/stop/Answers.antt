@@ -7,7 +7,8 @@ use Rattle.gtfs_columns.specs.Columns as kind
 use Rattle.gtfs_columns.specs.Reads.{amount_of}
 use Rattle.gtfs_rows.specs.Reading.{stop_in}
 use Rattle.gtfs_rows.specs.Views.{text_of_number}
-use Rattle.gtfs_parts.specs.Named.{ids_of, names_parent, stop_named}
+use Rattle.gtfs_parts.specs.Named.{ids_of}
+use Rattle.gtfs_rows.specs.NamedRows.{names_parent, stop_named}
 use Rattle.gtfs_parts.specs.Numbers.{chosen}
 use Rattle.gtfs_parts.proofs.Fields.{field_is, numbers_of}
 use Rattle.gtfs_parts.proofs.Filled.{filled}

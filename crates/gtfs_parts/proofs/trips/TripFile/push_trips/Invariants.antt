@@ -3,7 +3,8 @@ use Rattle.std.specs.List.{list_all}
 use Rattle.gtfs_table.specs.declared.file.File.TheVariants as file
 use Rattle.gtfs_columns.specs.steps.Ids.{ids_in, rows_by_number}
 use Rattle.gtfs_rows.specs.Reading.{trip_in}
-use Rattle.gtfs_parts.specs.Named.{ids_of, names_route_and_service, trip_named, without_rows}
+use Rattle.gtfs_parts.specs.Named.{ids_of}
+use Rattle.gtfs_rows.specs.NamedRows.{names_route_and_service, trip_named, without_rows}
 use Rattle.gtfs_parts.specs.ServiceIds.{service_ids}
 use Rattle.gtfs_parts.proofs.trips.TripFile.push_trips.Given as goal
 

@@ -6,7 +6,8 @@ use Rattle.gtfs_table.specs.declared.file.File.TheVariants as file
 use Rattle.gtfs_columns.specs.Columns as kind
 use Rattle.gtfs_rows.specs.Reading.{trip_in}
 use Rattle.gtfs_rows.specs.Views.{text_of_number}
-use Rattle.gtfs_parts.specs.Named.{ids_of, names_route_and_service, trip_named, without_rows}
+use Rattle.gtfs_parts.specs.Named.{ids_of}
+use Rattle.gtfs_rows.specs.NamedRows.{names_route_and_service, trip_named, without_rows}
 use Rattle.gtfs_parts.specs.Numbers.{chosen, number_if_there}
 use Rattle.gtfs_parts.specs.ServiceIds.{service_ids}
 use Rattle.gtfs_parts.proofs.Fields.{field_is}

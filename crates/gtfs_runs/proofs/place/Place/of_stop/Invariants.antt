@@ -1,6 +1,6 @@
 use Rattle.std.proofs.Common.{◌≡◌, map, take}
 use Rattle.gtfs_rows.specs.Views.{content_of_parts, stop_ids, text_of_number}
-use Rattle.gtfs_runs.specs.Places.{is_in_place}
+use Rattle.gtfs_rows.specs.Places.{is_in_place}
 use Rattle.gtfs_runs.proofs.place.Place.of_stop.Given as goal
 
 -- the stops so far

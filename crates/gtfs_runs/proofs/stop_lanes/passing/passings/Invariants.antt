@@ -3,7 +3,7 @@ use Rattle.std.specs.List.{All, enumerate_from}
 use Rattle.gtfs_rows.specs.Views.{content_of_parts, stop_ids, text_of_number}
 use Rattle.gtfs_rows.specs.declared.frequency.Frequency.{Frequency}
 use Rattle.gtfs_rows.specs.declared.trip.Trip.{Trip}
-use Rattle.gtfs_runs.specs.Places.{members}
+use Rattle.gtfs_rows.specs.Places.{members}
 use Rattle.gtfs_runs.specs.steps.Passings.{first_left, leaves, passing_at}
 use Rattle.gtfs_runs.proofs.stop_lanes.passing.passings.Given as goal
 

@@ -8,7 +8,7 @@ use Rattle.gtfs_table.proofs.RowFacts.{value_is}
 use Rattle.gtfs_columns.specs.Columns as kind
 use Rattle.gtfs_columns.specs.Reads.{word_of}
 use Rattle.gtfs_stop_times.specs.Gathering.{AreGathered}
-use Rattle.gtfs_stop_times.specs.Headsigns.{NamesHeadsign}
+use Rattle.gtfs_rows.specs.Headsigns.{NamesHeadsign}
 use Rattle.gtfs_stop_times.proofs.Blank.{blank}
 use Rattle.gtfs_stop_times.proofs.Gathers.{gathered-next, gathered-none}
 use Rattle.gtfs_stop_times.proofs.RowSays.{in_time}

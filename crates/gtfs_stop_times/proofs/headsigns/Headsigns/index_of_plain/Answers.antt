@@ -2,8 +2,8 @@ use Rattle.std.proofs.Common.{◌≡◌, ◌∙◌, ◌++◌, ◌∷◌, [], ap,
 use Rattle.std.specs.List.{slice_get}
 use Rattle.std.proofs.lemmas.List.{length-map}
 use Rattle.gtfs_field.proofs.ListFacts.{position-map}
-use Rattle.gtfs_stop_times.specs.Headsigns.{AddsOnly, ArePlain, KeepsHeadsigns}
-use Rattle.gtfs_stop_times.proofs.HeadsignFacts.{found-at, kept-append, last-added, last-at, plain-more, texts-more}
+use Rattle.gtfs_rows.specs.Headsigns.{AddsOnly, ArePlain, KeepsHeadsigns}
+use Rattle.gtfs_rows.proofs.HeadsignFacts.{found-at, kept-append, last-added, last-at, plain-more, texts-more}
 use Rattle.gtfs_stop_times.proofs.headsigns.Headsigns.index_of_plain.Goals as goal
 
 pub returns-in-Some-clause-index : goal.returns-in-Some-clause-index

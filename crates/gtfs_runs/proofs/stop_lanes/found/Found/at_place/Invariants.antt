@@ -1,6 +1,6 @@
 use Rattle.std.proofs.Common.{◌≡◌, ℕ, map}
 use Rattle.gtfs_rows.specs.Views.{content_of_parts, stop_ids, text_of_number}
-use Rattle.gtfs_runs.specs.Places.{members}
+use Rattle.gtfs_rows.specs.Places.{members}
 use Rattle.gtfs_runs.specs.StopLanes.{period_value}
 use Rattle.gtfs_runs.specs.steps.Courses.{stopping_of}
 use Rattle.gtfs_runs.specs.steps.Finds.{AreFound}

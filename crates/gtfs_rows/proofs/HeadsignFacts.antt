@@ -10,7 +10,7 @@ use Rattle.std.proofs.lemmas.Option.{slice_get-get_or}
 use Rattle.gtfs_columns.specs.Values.{plain}
 use Rattle.gtfs_columns.proofs.SiteFacts.{text_is}
 use Rattle.gtfs_rows.proofs.SameElements.{pairs-map}
-use Rattle.gtfs_stop_times.specs.Headsigns.{AddsOnly, AreDistinct, ArePlain, KeepsHeadsigns}
+use Rattle.gtfs_rows.specs.Headsigns.{AddsOnly, AreDistinct, ArePlain, KeepsHeadsigns}
 
 -- the text at an index that was found
 pub found-at : (t : List ℕ) (ts : List (List ℕ)) (k : ℕ) → position (bytes_eq t) ts ≡ Some k → slice_get ts k ≡ Some t

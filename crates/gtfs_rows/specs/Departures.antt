@@ -1,16 +1,15 @@
--- The departures of a feed, and a stop's board.
+-- The departures of a feed, and those that a stop's board lists.
 -- GTFS Schedule Reference, trips.txt, stop_times.txt, frequencies.txt, calendar.txt and calendar_dates.txt.
-use Rattle.std.specs.Prelude.{◌≡◌, ℕ, ◌==◌, ◌&&◌, Bool, true, List, bytes_eq, Option, Some, None, ℤ, pos, ◌+ℤ◌}
+use Rattle.std.specs.Prelude.{◌≡◌, ℕ, ◌==◌, ◌&&◌, Bool, true, List, bytes_eq, Option, Some, None, ℤ, pos, ◌+ℤ◌, int_le, int_lt}
 use Rattle.std.specs.List.{list_any}
 use Rattle.std.specs.Ordering.{int_eq, is_eq, is_lt}
 use Rattle.gtfs_days.specs.Service.{is_active}
 use Rattle.gtfs_rows.specs.Content.{Content}
 use Rattle.gtfs_rows.specs.Order.{Ascends}
 use Rattle.gtfs_rows.specs.Rows.{StopRow, Trip}
-use Rattle.gtfs_runs.specs.Places.{is_in_place}
-use Rattle.gtfs_runs.specs.Trips.{is_run, is_departure_row, passes_at}
-use Rattle.gtfs_board.specs.Key.{Key, key_cmp}
-use Rattle.gtfs_board.specs.Span.{is_within}
+use Rattle.gtfs_rows.specs.Places.{is_in_place}
+use Rattle.gtfs_rows.specs.Runs.{is_run, is_departure_row, passes_at}
+use Rattle.gtfs_rows.specs.Key.{Key, key_cmp}
 
 -- where each service day begins in a zone: noon less twelve hours, in seconds of the epoch
 abbrev pub Origins : Type 0
@@ -42,6 +41,10 @@ departs_at f origin s k = departs_from f origin (λ row. is_in_place f s row.sto
 abbrev pub is_above : Option Key → Key → Bool
 is_above None x = true
 is_above (Some k) x = is_lt (key_cmp k x)
+
+-- the first instant is in the span, and the last is not
+abbrev pub is_within : ℤ → ℤ → ℤ → Bool
+is_within from until x = int_le from x && int_lt x until
 
 -- a key belongs on the board of a stop over a span, above a key
 abbrev pub is_listed : Content → Origins → List ℕ → ℤ → ℤ → Option Key → Key → Bool
