@@ -32,7 +32,6 @@ pub mod Results
 mod SheetTexts
 pub mod TextVectors
 mod BoardVectors
-mod SheetExamples
 mod SheetColumns
 mod SheetLists
 mod SheetPatterns

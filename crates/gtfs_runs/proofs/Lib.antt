@@ -3,20 +3,16 @@ pub mod ContentEvents
 pub mod ContentRows
 pub mod Counting
 mod DepartureFacts
-mod Examples
 mod Finding
-mod FlatExamples
 mod FlatOrder
 mod Grouping
 pub mod Orders
 mod PlaceFacts
-mod PatternExamples
 pub mod Pushes
 pub mod Runs
 pub mod RowEvents
 mod RowsSoFar
 pub mod RunStarts
-mod Samples
 mod LaneTallies
 mod TripFinds
 pub mod TripTimes

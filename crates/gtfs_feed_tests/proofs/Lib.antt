@@ -1,0 +1,4 @@
+pub mod Samples
+pub mod WorkedEvents
+pub mod WorkedPatterns
+pub mod WorkedRuns
