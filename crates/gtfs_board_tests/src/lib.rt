@@ -9,6 +9,8 @@
 //!   and `refused` a departure for which there is no memory.
 //! - `timetables` has the timetables of routes, and `plain_sheets` lists them the slow way.
 //! - `assertions` has assertions as calls.
+//!
+//! The worked examples of sheets stand in `proofs/`, as lemmas that compute.
 #![tactic(auto)]
 
 #[cfg(test)]

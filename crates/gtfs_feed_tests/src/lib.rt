@@ -10,6 +10,8 @@
 //!   from positions between its events, and `unions` all lanes of each stop together.
 //! - `large` has more rows of each kind than two bytes can number.
 //! - `patterns` compares the patterns of a route with those that a slow plain search finds.
+//!
+//! The worked examples of runs, events and patterns stand in `proofs/`, as lemmas that compute.
 #![tactic(auto)]
 
 #[cfg(test)]
