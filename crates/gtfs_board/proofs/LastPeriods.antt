@@ -8,7 +8,7 @@ use Rattle.std.proofs.Math.Bool.{or-false as or_none}
 use Rattle.gtfs_field.proofs.NumberFacts.{cases_up_to as upto_cases}
 use Rattle.gtfs_rows.specs.declared.frequency.Frequency.{Frequency}
 use Rattle.gtfs_rows.specs.Views.{frequency_of}
-use Rattle.gtfs_feed.specs.Trips.{ArePeriods}
+use Rattle.gtfs_rows.specs.Trips.{ArePeriods}
 use Rattle.gtfs_rows.specs.Runs.{starts_run}
 
 -- ---- lists of which at most one element passes a test

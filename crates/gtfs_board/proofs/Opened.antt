@@ -20,7 +20,7 @@ use Rattle.gtfs_columns.proofs.SiteFacts.{text_is, text_itself}
 use Rattle.gtfs_days.specs.Service.{is_service_day, service_days}
 use Rattle.gtfs_days.specs.Zone.{zone_origin}
 use Rattle.gtfs_days.specs.declared.zone.Zone.{Zone}
-use Rattle.gtfs_feed.specs.Trips.{frequencies_by_trip, stop_rows_by_trip}
+use Rattle.gtfs_rows.specs.Trips.{frequencies_by_trip, stop_rows_by_trip}
 use Rattle.gtfs_rows.proofs.Held.{apart}
 use Rattle.gtfs_rows.proofs.SameElements.{pairs-head, pairs-tail}
 use Rattle.gtfs_rows.specs.Content.{Content}

@@ -32,10 +32,10 @@ use Rattle.gtfs_rows.specs.declared.parts.Parts.{Parts}
 use Rattle.gtfs_rows.specs.declared.service.ServiceRow.{ServiceRow}
 use Rattle.gtfs_rows.specs.declared.stop_row.StopRow.{StopRow}
 use Rattle.gtfs_rows.specs.declared.trip.Trip.{Trip as TripRow}
-use Rattle.gtfs_feed.proofs.NumberFacts.{trip_service}
-use Rattle.gtfs_feed.proofs.SoundOrder.{in_order}
-use Rattle.gtfs_feed.proofs.TripsAt.{content_trip}
-use Rattle.gtfs_feed.specs.Trips.{frequencies_by_trip, left_at, stop_rows_by_trip}
+use Rattle.gtfs_rows.proofs.NumberFacts.{trip_service}
+use Rattle.gtfs_rows.proofs.SoundOrder.{in_order}
+use Rattle.gtfs_rows.proofs.TripsAt.{content_trip}
+use Rattle.gtfs_rows.specs.Trips.{frequencies_by_trip, left_at, stop_rows_by_trip}
 use Rattle.gtfs_runs.specs.Counts.{tally}
 use Rattle.gtfs_runs.specs.Patterns.{rows_of}
 use Rattle.gtfs_rows.specs.Runs.{is_run, runs}

@@ -30,9 +30,9 @@ use Rattle.gtfs_rows.specs.Views.{IsSoundParts, content_of_parts, stop_ids, stop
 use Rattle.gtfs_rows.specs.declared.numbers.StopNo.{StopNo}
 use Rattle.gtfs_rows.specs.declared.numbers.TripNo.{TripNo}
 use Rattle.gtfs_rows.specs.declared.parts.Parts.{Parts}
-use Rattle.gtfs_feed.proofs.SoundOrder.{in_order}
-use Rattle.gtfs_feed.proofs.TripFacts.{stop_times}
-use Rattle.gtfs_feed.specs.Trips.{stop_rows_by_trip}
+use Rattle.gtfs_rows.proofs.SoundOrder.{in_order}
+use Rattle.gtfs_rows.proofs.TripFacts.{stop_times}
+use Rattle.gtfs_rows.specs.Trips.{stop_rows_by_trip}
 use Rattle.gtfs_runs.specs.Counts.{tally}
 use Rattle.gtfs_runs.specs.Lanes.{stops_of}
 use Rattle.gtfs_runs.specs.Patterns.{ArePatterns, Entry, Heading, are_apart, entries_of, entries_under, entry_cmp, entry_of, heading_of, is_filled, is_of_route, is_same_heading, rows_of, stops_cmp}

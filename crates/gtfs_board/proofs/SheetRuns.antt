@@ -17,7 +17,7 @@ use Rattle.gtfs_rows.specs.declared.frequency.Frequency.{Frequency}
 use Rattle.gtfs_rows.specs.declared.parts.Parts.{Parts}
 use Rattle.gtfs_rows.specs.declared.stop_row.StopRow.{StopRow}
 use Rattle.gtfs_rows.specs.declared.trip.Trip.{Trip as TripRow}
-use Rattle.gtfs_feed.specs.Trips.{ArePeriods, frequencies_by_trip, left_at, stop_rows_by_trip}
+use Rattle.gtfs_rows.specs.Trips.{ArePeriods, frequencies_by_trip, left_at, stop_rows_by_trip}
 use Rattle.gtfs_runs.specs.Counts.{tally}
 use Rattle.gtfs_rows.specs.Runs.{is_run, passes_at, runs}
 use Rattle.gtfs_runs.proofs.Bounds.{IsPeriod, periods_within, rows_within}

@@ -13,8 +13,8 @@ use Rattle.gtfs_field.proofs.ListFacts.{mapped_at as at_map}
 use Rattle.gtfs_columns.proofs.SiteFacts.{text_is, text_itself}
 use Rattle.gtfs_columns.specs.Values.{if_there}
 use Rattle.gtfs_days.specs.Service.{is_active}
-use Rattle.gtfs_feed.proofs.SoundOrder.{in_order}
-use Rattle.gtfs_feed.specs.Trips.{stop_rows_by_trip, frequencies_by_trip}
+use Rattle.gtfs_rows.proofs.SoundOrder.{in_order}
+use Rattle.gtfs_rows.specs.Trips.{stop_rows_by_trip, frequencies_by_trip}
 use Rattle.gtfs_rows.proofs.SameElements.{pairs-map}
 use Rattle.gtfs_rows.specs.Content.{Content}
 use Rattle.gtfs_rows.specs.Order.{Ascends}

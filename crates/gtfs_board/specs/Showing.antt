@@ -2,7 +2,7 @@
 use Rattle.std.specs.Prelude.{◌<◌, ◌≤ℤ◌, ℕ, List, [], Option, length, option_map, option_and_then, slice_get, unwrap_or}
 use Rattle.gtfs_days.specs.Service.{first_service_day, last_service_day}
 use Rattle.gtfs_days.specs.Zone.{IsInstant}
-use Rattle.gtfs_feed.specs.Trips.{stop_rows_by_trip}
+use Rattle.gtfs_rows.specs.Trips.{stop_rows_by_trip}
 use Rattle.gtfs_rows.specs.Rows.{StopRow, Trip}
 use Rattle.gtfs_rows.specs.Views.{content_of_parts, trip_ids}
 use Rattle.gtfs_rows.specs.declared.parts.Parts.{Parts}

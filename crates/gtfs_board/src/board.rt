@@ -1,7 +1,7 @@
 //! Boards of stops.
 ghost use Rattle.std.specs.Prelude.{◌≡◌, ◌≢◌, ◌<◌, ◌≤◌, ◌∷◌, ◌↔◌, [], IfErr, All, true, false, length, IfOk, IfSome, IsErrOf, OnErr, MatchOption, option_map};
 ghost use Rattle.gtfs_days.specs.Zone.{IsInstant, zone_origin};
-ghost use Rattle.gtfs_feed.specs.Content.{content_of};
+ghost use Rattle.gtfs_rows.specs.Views.{content_of_parts as content_of};
 ghost use Rattle.gtfs_rows.specs.Views.{stop_ids, text_of_number};
 ghost use Rattle.gtfs_board.specs.Board.{AreStepsWithin, IsQueued, SameSettings, is_stop, keys_of, step_count, steps_for_days};
 ghost use Rattle.gtfs_rows.specs.Departures.{IsBoard};
@@ -19,10 +19,9 @@ use crate::service_days::Days;
 use crate::showing::departure_of;
 use crate::span::Span;
 use gtfs_days::Zone;
-use gtfs_feed::Feed;
 use gtfs_field::OutOfMemory;
 use gtfs_rows::StopNo;
-use gtfs_runs::StopLanes;
+use gtfs_runs::{Feed, StopLanes};
 use std::alloc::Global;
 use std::marker::Model;
 use std::mem::size_of;

@@ -16,7 +16,7 @@ ghost use Rattle.gtfs_board.specs.merge.Candidates.{candidate_lt};
 
 use crate::key::Key;
 use crate::merge::Candidate;
-use gtfs_feed::Feed;
+use gtfs_runs::Feed;
 
 // The floor of a board from an instant on, above a key if there is one. It belongs to none of so many lanes,
 // or to a day before all service days.

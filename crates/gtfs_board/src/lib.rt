@@ -15,7 +15,7 @@
 //! write_page(alloc, &mut board, 10, &mut out)?;
 //! ```
 //!
-//! What keys, lines and boards are stands in `specs/`.
+//! What keys, lines and boards are stands in `specs/`. [`Feed`] is handed on from `gtfs_feed`.
 #![tactic(auto)]
 
 mod board;
@@ -34,6 +34,7 @@ mod span;
 
 pub use board::{Board, BoardFault};
 pub use departure::{Departure, Mark};
+pub use gtfs_runs::Feed;
 pub use key::{Key, push_key, read_key};
 pub use law::boards_are_one;
 pub use line::push_line;

@@ -11,10 +11,9 @@ mod seeking;
 
 use crate::merge::{Candidate, Source};
 use gtfs_days::{FIRST_SERVICE_DAY, LAST_SERVICE_DAY, Service, Zone};
-use gtfs_feed::Feed;
 use gtfs_field::Day;
 use gtfs_rows::{ServiceNo, TripNo};
-use gtfs_runs::{Event, Lane, Seek, Steps, StopLanes};
+use gtfs_runs::{Event, Feed, Lane, Seek, Steps, StopLanes};
 use seeking::seek_from;
 use std::alloc::{AllocError, Global};
 

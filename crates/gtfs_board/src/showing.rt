@@ -2,7 +2,7 @@
 ghost use Rattle.std.specs.Prelude.{◌≡◌, ◌<◌, ◌==◌, ◌&&◌, All, Some, [], IfSome, length, option_map, unwrap_or};
 ghost use Rattle.std.specs.List.{list_any};
 ghost use Rattle.std.specs.Option.{option_or};
-ghost use Rattle.gtfs_feed.specs.Trips.{ArePeriods};
+ghost use Rattle.gtfs_rows.specs.Trips.{ArePeriods};
 ghost use Rattle.gtfs_rows.specs.Views.{frequency_of, stop_ids, text_of_number, trip_ids};
 ghost use Rattle.gtfs_rows.specs.Runs.{starts_run};
 ghost use Rattle.gtfs_board.specs.Lent.{listed, plain_key};
@@ -12,9 +12,9 @@ ghost use Rattle.gtfs_board.specs.Shown.{mark_if};
 use crate::departure::{Departure, Mark};
 use crate::key::Key;
 use crate::merge::Candidate;
-use gtfs_feed::Feed;
 use gtfs_field::{Day, Text};
 use gtfs_rows::{Frequency, Route, StopNo, StopRow, Trip, TripNo};
+use gtfs_runs::Feed;
 
 // The departure that a candidate stands for.
 pub(crate) fn departure_of<'a>(feed: &'a Feed, candidate: &Candidate) -> Departure<'a>

@@ -8,8 +8,8 @@ use Rattle.std.proofs.KnownBytes.{Appends-trans}
 use Rattle.std.proofs.lemmas.Bool.{true_from_ne_false}
 use Rattle.gtfs_devices.specs.Folder.{Store}
 use Rattle.gtfs_rows.specs.Content.{Content}
-use Rattle.gtfs_feed.specs.Content.{content_of as content_of_feed}
-use Rattle.gtfs_feed.specs.declared.feed.Feed.{Feed}
+use Rattle.gtfs_rows.specs.Views.{content_of_parts as content_of_feed}
+use Rattle.gtfs_rows.specs.declared.parts.Parts.{Parts as Feed}
 use Rattle.gtfs_board.specs.LentSheets.{plain_sheet}
 use Rattle.gtfs_board.specs.Timetable.{is_route, sheet_text}
 use Rattle.gtfs_board.specs.declared.sheet.Sheet.{Sheet}

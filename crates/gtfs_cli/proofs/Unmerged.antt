@@ -7,8 +7,8 @@ use Rattle.gtfs_devices.specs.Folder.{Store}
 use Rattle.gtfs_table.specs.Reading.{kept_files}
 use Rattle.gtfs_rows.specs.Content.{Content}
 use Rattle.gtfs_rows.specs.Reading.{content_of}
-use Rattle.gtfs_feed.specs.Content.{content_of as content_of_feed}
-use Rattle.gtfs_feed.specs.declared.feed.Feed.{Feed}
+use Rattle.gtfs_rows.specs.Views.{content_of_parts as content_of_feed}
+use Rattle.gtfs_rows.specs.declared.parts.Parts.{Parts as Feed}
 use Rattle.gtfs_merge.specs.Merged.{is_too_large, merged, zones_differ}
 use Rattle.gtfs_merge.specs.Merging.{IsMergeOf, KeepsDepartures}
 use Rattle.gtfs_merge.specs.Renaming.{never_near}

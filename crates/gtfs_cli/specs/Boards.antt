@@ -9,8 +9,8 @@ use Rattle.gtfs_table.specs.Tables.{Dataset}
 use Rattle.gtfs_columns.specs.Problems.{Passes}
 use Rattle.gtfs_rows.specs.Content.{Content}
 use Rattle.gtfs_rows.specs.Reading.{content_of}
-use Rattle.gtfs_feed.specs.Content.{content_of as content_of_feed}
-use Rattle.gtfs_feed.specs.declared.feed.Feed.{Feed}
+use Rattle.gtfs_rows.specs.Views.{content_of_parts as content_of_feed}
+use Rattle.gtfs_rows.specs.declared.parts.Parts.{Parts as Feed}
 use Rattle.gtfs_board.specs.Board.{is_stop, keys_of}
 use Rattle.gtfs_rows.specs.Departures.{IsBoard}
 use Rattle.gtfs_board.specs.Lent.{plain_key}

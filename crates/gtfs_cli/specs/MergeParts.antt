@@ -6,7 +6,7 @@ use Rattle.gtfs_table.specs.Tables.{table_of, table_of_bytes}
 use Rattle.gtfs_table.specs.declared.file.File.{File}
 use Rattle.gtfs_rows.specs.Content.{Content}
 use Rattle.gtfs_rows.specs.Written.{written}
-use Rattle.gtfs_feed.specs.Content.{content_of}
+use Rattle.gtfs_rows.specs.Views.{content_of_parts as content_of}
 use Rattle.gtfs_merge.specs.declared.merging.Merged.{Merged}
 use Rattle.gtfs_words.specs.Words.{MergeTexts}
 use Rattle.gtfs_cli.specs.Merges.{file_text, IsFolderMerge}

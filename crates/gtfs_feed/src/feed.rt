@@ -1,6 +1,6 @@
 ghost use Rattle.std.specs.Prelude.{◌≡◌, ◌<◌, [], IfOk, Some, length, position, option_map, bytes_eq, slice_get, slice_index_or};
 ghost use Rattle.gtfs_rows.specs.Views.{IsSoundParts, agency_ids, stop_ids, route_ids, service_ids, trip_ids};
-ghost use Rattle.gtfs_feed.specs.Trips.{stop_rows_by_trip, frequencies_by_trip};
+ghost use Rattle.gtfs_rows.specs.Trips.{stop_rows_by_trip, frequencies_by_trip};
 
 use crate::row_ids::RowIds;
 use gtfs_days::Service;

@@ -9,7 +9,7 @@ use Rattle.gtfs_rows.specs.Content.{Content}
 use Rattle.gtfs_rows.specs.Sound.{is_stop_of}
 use Rattle.gtfs_rows.specs.declared.parts.Parts.{Parts}
 use Rattle.gtfs_rows.specs.Views.{IsSoundParts, content_of_parts, stop_ids, text_of_number}
-use Rattle.gtfs_feed.proofs.SoundOrder.{in_order}
+use Rattle.gtfs_rows.proofs.SoundOrder.{in_order}
 use Rattle.gtfs_merge.specs.Joined.{joined_numbers}
 use Rattle.gtfs_merge.specs.Law.{AreFew}
 use Rattle.gtfs_merge.specs.Renaming.{ids, never_near, stop_b, stop_within}

@@ -20,8 +20,8 @@ use Rattle.gtfs_rows.specs.Views.{IsSoundParts, content_of_parts, stop_of, stop_
 use Rattle.gtfs_rows.specs.declared.numbers.StopNo.{StopNo}
 use Rattle.gtfs_rows.specs.declared.parts.Parts.{Parts}
 use Rattle.gtfs_rows.specs.declared.stop.Stop.{Stop as StopByNumber}
-use Rattle.gtfs_feed.proofs.SoundOrder.{in_order}
-use Rattle.gtfs_feed.proofs.NumberFacts.{own_number, stop_parent}
+use Rattle.gtfs_rows.proofs.SoundOrder.{in_order}
+use Rattle.gtfs_rows.proofs.NumberFacts.{own_number, stop_parent}
 use Rattle.gtfs_merge.specs.Joined.{became, is_same_parent, joined_number, number_if, parent_became}
 use Rattle.gtfs_merge.specs.Numbered.{same_parent_in, same_stop_in}
 use Rattle.gtfs_merge.specs.Same.{same_stop, same_text}

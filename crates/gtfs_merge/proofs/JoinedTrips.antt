@@ -16,9 +16,9 @@ use Rattle.gtfs_rows.specs.declared.parts.Parts.{Parts}
 use Rattle.gtfs_rows.specs.declared.stop_row.StopRow.{StopRow}
 use Rattle.gtfs_rows.specs.declared.trip.Trip.{Trip as TripRow}
 use Rattle.gtfs_rows.specs.Views.{IsSoundParts, content_of_parts, stop_row_of, stop_ids, text_of_number, route_ids, service_ids, trip_ids, trip_of}
-use Rattle.gtfs_feed.specs.Trips.{stop_rows_by_trip, frequencies_by_trip}
-use Rattle.gtfs_feed.proofs.SoundOrder.{in_order}
-use Rattle.gtfs_feed.proofs.TripsAt.{content_trip}
+use Rattle.gtfs_rows.specs.Trips.{stop_rows_by_trip, frequencies_by_trip}
+use Rattle.gtfs_rows.proofs.SoundOrder.{in_order}
+use Rattle.gtfs_rows.proofs.TripsAt.{content_trip}
 use Rattle.gtfs_merge.specs.Joined.{joined_number, joined_numbers}
 use Rattle.gtfs_merge.specs.Numbered.{same_route_id_in, same_service_id_in, same_trip_in}
 use Rattle.gtfs_merge.specs.Renaming.{Renaming, ids, kept_as_is, never_near, joined_route, joined_service, route_b, service_b, stop_b, trip_with}

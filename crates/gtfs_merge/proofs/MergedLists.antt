@@ -37,7 +37,7 @@ use Rattle.gtfs_merge.specs.declared.kind.Kind.TheVariants as kind
 use Rattle.gtfs_merge.specs.declared.kind.Side.{Side}
 use Rattle.gtfs_merge.specs.declared.kind.Side.TheVariants as side
 use Rattle.gtfs_merge.specs.declared.order.MergedRow.{MergedRow}
-use Rattle.gtfs_feed.proofs.NumberFacts.{route_agency, stop_parent, trip_route, trip_service}
+use Rattle.gtfs_rows.proofs.NumberFacts.{route_agency, stop_parent, trip_route, trip_service}
 use Rattle.gtfs_merge.proofs.JoinedKinds.{id-at}
 use Rattle.gtfs_merge.proofs.NewNumbers.{own-entry}
 

@@ -7,9 +7,9 @@ use Rattle.std.proofs.lemmas.List.{length-map}
 use Rattle.std.proofs.lemmas.List.Elements.{All-head, All-tail}
 use Rattle.std.proofs.lemmas.Option.{slice_get-get_or}
 use Rattle.gtfs_field.proofs.ListFacts.{some_of}
-use Rattle.gtfs_feed.specs.Trips.{frequencies_by_trip, stop_rows_by_trip}
-use Rattle.gtfs_feed.proofs.TripFacts.{stop_times}
-use Rattle.gtfs_feed.proofs.TripsAt.{content_trip}
+use Rattle.gtfs_rows.specs.Trips.{frequencies_by_trip, stop_rows_by_trip}
+use Rattle.gtfs_rows.proofs.TripFacts.{stop_times}
+use Rattle.gtfs_rows.proofs.TripsAt.{content_trip}
 use Rattle.gtfs_rows.specs.Rows.{StopRow, Trip}
 use Rattle.gtfs_rows.specs.Views.{IsSoundParts, content_of_parts, frequency_of, is_within, stop_ids, stop_row_of, trip_of}
 use Rattle.gtfs_rows.specs.declared.parts.Parts.{Parts}

@@ -11,7 +11,7 @@ use Rattle.gtfs_rows.proofs.Held.{apart_turned}
 use Rattle.gtfs_rows.proofs.SameElements.{pairs-head, pairs-map, pairs-tail}
 use Rattle.gtfs_rows.specs.declared.parts.Parts.{Parts}
 use Rattle.gtfs_rows.specs.Views.{IsSoundParts}
-use Rattle.gtfs_feed.proofs.SoundOrder.{in_order}
+use Rattle.gtfs_rows.proofs.SoundOrder.{in_order}
 use Rattle.gtfs_merge.specs.Names.{NewIds, new_id, new_ids, with_id}
 use Rattle.gtfs_merge.specs.Numbered.{known_ids}
 use Rattle.gtfs_merge.specs.Renaming.{Renaming}

@@ -1,7 +1,7 @@
 ghost use Rattle.std.specs.Option.{option_eq};
 ghost use Rattle.std.specs.Prelude.{◌≡◌, ◌<◌, ◌∷◌, [], All, IfSome, None, Some, length, map, nat_eq, option_map, slice_index_or, true};
 ghost use Rattle.gtfs_feed.specs.Content.{content_of};
-ghost use Rattle.gtfs_feed.specs.Trips.{AreStopTimes};
+ghost use Rattle.gtfs_rows.specs.Trips.{AreStopTimes};
 ghost use Rattle.gtfs_rows.specs.Sound.{is_stop_of};
 ghost use Rattle.gtfs_rows.specs.Views.{stop_ids, text_of_number};
 ghost use Rattle.gtfs_merge.specs.Joined.{joined_numbers};

@@ -18,8 +18,8 @@ use Rattle.gtfs_rows.specs.declared.stop_row.StopRow.{StopRow}
 use Rattle.gtfs_rows.specs.declared.trip.Trip.{Trip}
 use Rattle.gtfs_rows.specs.Views.{IsSoundParts, content_of_parts, frequency_of, stop_row_of, trip_of}
 use Rattle.gtfs_rows.proofs.RowTexts.{all_at}
-use Rattle.gtfs_feed.specs.Trips.{frequencies_by_trip, left_at, stop_rows_by_trip}
-use Rattle.gtfs_feed.proofs.TripsAt.{content_trip}
+use Rattle.gtfs_rows.specs.Trips.{frequencies_by_trip, left_at, stop_rows_by_trip}
+use Rattle.gtfs_rows.proofs.TripsAt.{content_trip}
 
 -- what holds of all that rows hold, with the rows' ids, holds of what one of them holds
 held_all : {X Y : Type 0} (id : X → List ℕ) (of : X → List Y) (q : List ℕ × Y → Bool) (xs : List X) (k : ℕ) (x : X)

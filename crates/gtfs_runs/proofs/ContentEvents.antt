@@ -10,9 +10,9 @@ use Rattle.gtfs_rows.specs.declared.parts.Parts.{Parts}
 use Rattle.gtfs_rows.specs.declared.stop_row.StopRow.{StopRow}
 use Rattle.gtfs_rows.specs.declared.trip.Trip.{Trip}
 use Rattle.gtfs_rows.specs.Views.{IsSoundParts, content_of_parts, service_ids, stop_ids, stop_row_of, text_of_number, trip_of, trips_of}
-use Rattle.gtfs_feed.specs.Trips.{frequencies_by_trip, stop_rows_by_trip}
-use Rattle.gtfs_feed.proofs.NumberFacts.{trip_service}
-use Rattle.gtfs_feed.proofs.TripsAt.{content_trip}
+use Rattle.gtfs_rows.specs.Trips.{frequencies_by_trip, stop_rows_by_trip}
+use Rattle.gtfs_rows.proofs.NumberFacts.{trip_service}
+use Rattle.gtfs_rows.proofs.TripsAt.{content_trip}
 use Rattle.gtfs_runs.specs.Events.{is_event}
 use Rattle.gtfs_rows.specs.Places.{is_in_place, members}
 use Rattle.gtfs_rows.specs.Runs.{is_departure_row, is_run, passes_at}

@@ -20,7 +20,7 @@ use Rattle.gtfs_rows.proofs.Held.{text_antisymmetric}
 use Rattle.gtfs_rows.specs.declared.parts.Parts.{Parts}
 use Rattle.gtfs_rows.specs.declared.stop.Stop.{Stop}
 use Rattle.gtfs_rows.specs.Views.{IsSoundParts, service_ids, stop_ids, text_of_number}
-use Rattle.gtfs_feed.proofs.SoundOrder.{in_order}
+use Rattle.gtfs_rows.proofs.SoundOrder.{in_order}
 use Rattle.gtfs_runs.specs.Counts.{tally}
 use Rattle.gtfs_runs.specs.Lanes.{Course, course_cmp}
 use Rattle.gtfs_runs.specs.steps.Courses.{CourseNo, IsCourse, course_of, how_many, is_same_course}

@@ -24,8 +24,8 @@ use Rattle.gtfs_rows.specs.Order.{Ascends}
 use Rattle.gtfs_rows.specs.Views.{IsSoundParts, content_of_parts, stop_ids, stop_of, text_of_number}
 use Rattle.gtfs_rows.proofs.Held.{apart, apart_turned}
 use Rattle.gtfs_rows.proofs.SameElements.{pairs-head, pairs-tail}
-use Rattle.gtfs_feed.proofs.NumberFacts.{stop_parent}
-use Rattle.gtfs_feed.proofs.SoundOrder.{in_order}
+use Rattle.gtfs_rows.proofs.NumberFacts.{stop_parent}
+use Rattle.gtfs_rows.proofs.SoundOrder.{in_order}
 use Rattle.gtfs_rows.specs.Places.{is_in_place, is_plain_stop}
 
 regroup : {X : Type 0} (a b c : X → Bool) (xs : List X) → list_any (λ x. a x && b x && c x) xs ≡ list_any (λ x. a x && (b x && c x)) xs

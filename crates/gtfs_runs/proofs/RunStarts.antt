@@ -9,7 +9,7 @@ use Rattle.gtfs_rows.specs.declared.parts.Parts.{Parts}
 use Rattle.gtfs_rows.specs.declared.stop_row.StopRow.{StopRow}
 use Rattle.gtfs_rows.specs.declared.trip.Trip.{Trip}
 use Rattle.gtfs_rows.specs.Views.{frequency_of, trip_of}
-use Rattle.gtfs_feed.specs.Trips.{ArePeriods, left_at}
+use Rattle.gtfs_rows.specs.Trips.{ArePeriods, left_at}
 use Rattle.gtfs_runs.specs.Counts.{tally}
 use Rattle.gtfs_rows.specs.Runs.{is_run, starts_run}
 use Rattle.gtfs_runs.proofs.ContentRows.{own_run, period_run}

@@ -22,7 +22,7 @@ use Rattle.gtfs_rows.specs.declared.parts.Parts.{Parts}
 use Rattle.gtfs_rows.specs.declared.stop_row.StopRow.{StopRow}
 use Rattle.gtfs_rows.specs.declared.trip.Trip.{Trip}
 use Rattle.gtfs_rows.specs.Views.{IsSoundParts, content_of_parts, service_ids, stop_ids, text_of_number, trips_of}
-use Rattle.gtfs_feed.specs.Trips.{frequencies_by_trip, stop_rows_by_trip}
+use Rattle.gtfs_rows.specs.Trips.{frequencies_by_trip, stop_rows_by_trip}
 use Rattle.gtfs_runs.specs.Counts.{is_same, tally}
 use Rattle.gtfs_runs.specs.Events.{is_event}
 use Rattle.gtfs_runs.specs.Kinds.{AreByKind, IsListLane}

@@ -7,6 +7,8 @@
 //! - A [`Pattern`] has the trips of a route that go in one direction along one list of stops; [`patterns`] has them all.
 //! - [`StopLanes`] are the lanes of a stop. [`flat_events`] lists all of its events one by one, for tests.
 //! - [`Steps`] counts how often a lane was asked.
+//!
+//! [`Feed`], which these are made of, is handed on from `gtfs_feed`.
 #![tactic(auto)]
 
 mod departure_row;
@@ -23,6 +25,7 @@ mod stop_lanes;
 
 pub use event::Event;
 pub use flat::flat_events;
+pub use gtfs_feed::Feed;
 pub use lane::Lane;
 pub use list_lane::ListLane;
 pub use pattern::{Pattern, patterns};

@@ -1,7 +1,7 @@
 //! The columns of a sheet: the runs of a pattern's trips on a day.
 ghost use Rattle.std.specs.Prelude.{◌≡◌, ◌<◌, ◌+◌, ◌==◌, ◌&&◌, All, IfOk, OnOk, cond, length, unwrap_or};
 ghost use Rattle.std.specs.List.Sorted.{IsSorted};
-ghost use Rattle.gtfs_feed.specs.Trips.{ArePeriods, left_at};
+ghost use Rattle.gtfs_rows.specs.Trips.{ArePeriods, left_at};
 ghost use Rattle.gtfs_rows.specs.Views.{frequency_of, trip_of};
 ghost use Rattle.gtfs_rows.specs.declared.parts.Parts.{Parts};
 ghost use Rattle.gtfs_rows.specs.declared.trip.Trip.{Trip};
@@ -10,9 +10,9 @@ ghost use Rattle.gtfs_rows.specs.Runs.{is_run, starts_run};
 ghost use Rattle.gtfs_board.specs.SheetSteps.{HasRow, column_cmp, is_column_of, is_run_on, is_same_column};
 ghost use Rattle.gtfs_board.specs.declared.sheet.columns.Column.{Column as ColumnValue};
 
-use gtfs_feed::Feed;
 use gtfs_field::{Clock, Day, OutOfMemory};
 use gtfs_rows::{Frequency, StopRow, TripNo};
+use gtfs_runs::Feed;
 use std::alloc::Global;
 
 // A run of a trip. The order of the fields is that of the runs of a sheet: trips are numbered by the bytes of their ids.

@@ -1,7 +1,7 @@
 //! The timetable of a route: a sheet for each of its patterns that has a run on the day.
 ghost use Rattle.std.specs.Prelude.{◌≡◌, ◌≢◌, ◌<◌, ◌++◌, ◌↔◌, All, IfErr, IfOk, IsErrOf, OnOk, false, length, map};
 ghost use Rattle.std.specs.List.{filter, flat_map};
-ghost use Rattle.gtfs_feed.specs.Content.{content_of};
+ghost use Rattle.gtfs_rows.specs.Views.{content_of_parts as content_of};
 ghost use Rattle.gtfs_rows.specs.Views.{route_ids, stop_ids, text_of_number};
 ghost use Rattle.gtfs_board.specs.LentSheets.{plain_sheet};
 ghost use Rattle.gtfs_board.specs.SheetSteps.{IsPattern, IsShownAlong, goes, named_column, sheet_of_columns, sheets_along};
@@ -11,10 +11,9 @@ use crate::sheet::columns::{Column, columns};
 use crate::sheet::times::times;
 use crate::sheet::{Sheet, TableFault};
 use crate::showing::{stop_id, trip_id};
-use gtfs_feed::Feed;
 use gtfs_field::{Day, OutOfMemory};
 use gtfs_rows::{RouteNo, StopNo};
-use gtfs_runs::{Pattern, patterns};
+use gtfs_runs::{Feed, Pattern, patterns};
 use std::alloc::Global;
 
 /// The timetable of a route on a day: a sheet for each direction and list of stops along which a trip of the route runs on

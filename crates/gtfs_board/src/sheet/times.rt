@@ -1,7 +1,7 @@
 //! The times of a sheet: when each run passes each stop time of its trip.
 ghost use Rattle.std.specs.Prelude.{◌≡◌, ◌<◌, ◌≤◌, ◌+◌, All, IfOk, List, true, is_some, length, map, option_and_then, slice_index_or, unwrap_or};
-ghost use Rattle.gtfs_feed.specs.Content.{content_of};
-ghost use Rattle.gtfs_feed.specs.Trips.{left_at};
+ghost use Rattle.gtfs_rows.specs.Views.{content_of_parts as content_of};
+ghost use Rattle.gtfs_rows.specs.Trips.{left_at};
 ghost use Rattle.gtfs_rows.specs.Views.{stop_row_of, trip_of};
 ghost use Rattle.gtfs_rows.specs.declared.frequency.Frequency.{Frequency as PeriodRow};
 ghost use Rattle.gtfs_rows.specs.declared.parts.Parts.{Parts};
@@ -12,9 +12,9 @@ ghost use Rattle.gtfs_board.specs.SheetSteps.{IsShownAlong, column_times, time_o
 ghost use Rattle.gtfs_board.specs.Timetable.{row_at, time_at};
 
 use crate::sheet::columns::{Column, leaves, seconds_left};
-use gtfs_feed::Feed;
 use gtfs_field::{Clock, OutOfMemory};
 use gtfs_rows::StopRow;
+use gtfs_runs::Feed;
 use std::alloc::Global;
 
 // The times of the runs at each of this many stop times.

@@ -1,6 +1,6 @@
 ghost use Rattle.std.specs.Prelude.{◌≡◌, ◌≤◌, ℕ, Option, IfOk, IfErr, OnOk};
 ghost use Rattle.gtfs_days.specs.Zone.{IsZoneOf};
-ghost use Rattle.gtfs_feed.specs.Content.{content_of};
+ghost use Rattle.gtfs_rows.specs.Views.{content_of_parts as content_of};
 ghost use Rattle.gtfs_devices.specs.Folder.{Store};
 ghost use Rattle.gtfs_board.specs.Page.{IsPage};
 ghost use Rattle.gtfs_cli.specs.Boards.{request_of, AreValues, EndsBoard, EndsLines, IsLinesCause, IsOpeningCause, ListsBoard, OfBoard, PrintsBoard};
@@ -13,9 +13,8 @@ use crate::commands::folder::of_folder;
 use crate::commands::paths::cut_path;
 use crate::commands::refusal::Refusal;
 use crate::commands::values::{Values, read_values};
-use gtfs_board::{Board, BoardFault, PageFault, Span, write_page};
+use gtfs_board::{Board, BoardFault, Feed, PageFault, Span, write_page};
 use gtfs_days::{Zone, ZoneFault};
-use gtfs_feed::Feed;
 use gtfs_table::{Folders, Out};
 use gtfs_words::BoardWords;
 use std::alloc::Global;

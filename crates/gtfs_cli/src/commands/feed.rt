@@ -5,7 +5,7 @@ ghost use Rattle.gtfs_cli.specs.Refusals.{IsReadingCause, UnlessGrave};
 
 use crate::commands::folder::read_tables;
 use crate::commands::refusal::Refusal;
-use gtfs_feed::Feed;
+use gtfs_board::Feed;
 use gtfs_rules::check;
 use gtfs_table::{Folders, Tables};
 use std::alloc::Global;

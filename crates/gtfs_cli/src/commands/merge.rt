@@ -1,5 +1,5 @@
 ghost use Rattle.std.specs.Prelude.{◌≡◌, ◌<◌, ◌≤◌, ℕ, length, Option, IfOk, IfErr, OnOk};
-ghost use Rattle.gtfs_feed.specs.Content.{content_of};
+ghost use Rattle.gtfs_rows.specs.Views.{content_of_parts as content_of};
 ghost use Rattle.gtfs_merge.specs.Merging.{IsMergeOf, KeepsDepartures};
 ghost use Rattle.gtfs_table.specs.Files.{file_name};
 ghost use Rattle.gtfs_devices.specs.Folder.{RefusesWrite, Store, Writes};
@@ -14,7 +14,7 @@ ghost use Rattle.gtfs_cli.specs.Running.{FailedNowhere, Failures};
 use crate::commands::feed::read_feed;
 use crate::commands::names::print_names;
 use crate::commands::refusal::Refusal;
-use gtfs_feed::Feed;
+use gtfs_board::Feed;
 use gtfs_merge::{MergeFault, Merged, Options, merge};
 use gtfs_table::{File, FolderFault, Folders, Out};
 use gtfs_words::MergeWords;

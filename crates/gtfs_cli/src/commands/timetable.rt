@@ -1,7 +1,7 @@
 ghost use Rattle.std.specs.Prelude.{◌≡◌, ◌≤◌, ℕ, map, true, IfOk, IfErr, OnOk, OnErr};
 ghost use Rattle.std.specs.List.{flat_map};
 ghost use Rattle.std.specs.Io.KnownBytes.{Appends};
-ghost use Rattle.gtfs_feed.specs.Content.{content_of};
+ghost use Rattle.gtfs_rows.specs.Views.{content_of_parts as content_of};
 ghost use Rattle.gtfs_board.specs.LentSheets.{plain_sheet};
 ghost use Rattle.gtfs_board.specs.Timetable.{is_route, sheet_text, sheets};
 ghost use Rattle.gtfs_words.specs.Words.{timetable_texts_of};
@@ -15,8 +15,7 @@ use crate::commands::feed::read_feed;
 use crate::commands::refusal::Refusal;
 use crate::commands::send::send;
 use crate::commands::timetable_values::{TimetableValues, read_timetable_values};
-use gtfs_board::{Sheet, TableFault, push_sheet, timetable};
-use gtfs_feed::Feed;
+use gtfs_board::{Feed, Sheet, TableFault, push_sheet, timetable};
 use gtfs_table::{Folders, Out};
 use gtfs_words::TimetableWords;
 use std::alloc::Global;

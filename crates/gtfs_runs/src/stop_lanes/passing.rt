@@ -1,6 +1,6 @@
 ghost use Rattle.std.specs.Prelude.{◌≡◌, ◌≤◌, ◌<◌, ◌-◌, ℕ, All, IfOk, List, Some, length, slice_get, unwrap_or};
 ghost use Rattle.gtfs_feed.specs.Content.{content_of};
-ghost use Rattle.gtfs_feed.specs.Trips.{left_at, stop_rows_by_trip};
+ghost use Rattle.gtfs_rows.specs.Trips.{left_at, stop_rows_by_trip};
 ghost use Rattle.gtfs_rows.specs.Views.{stop_ids, text_of_number};
 ghost use Rattle.gtfs_rows.specs.declared.frequency.Frequency.{Frequency};
 ghost use Rattle.gtfs_rows.specs.declared.stop_row.StopRow.{StopRow as StopTime};

@@ -2,7 +2,7 @@ use Rattle.std.proofs.Common.{rules, of_calls, ◌≡◌, true, false, List}
 use Rattle.std.specs.Ordering.{is_lt}
 use Rattle.std.specs.List.Sorted.{IsPartitionPoint}
 use Rattle.std.proofs.lemmas.List.Sorted.{IsPartitionPoint-from_clause}
-use Rattle.gtfs_feed.proofs.SoundOrder.{in_order}
+use Rattle.gtfs_rows.proofs.SoundOrder.{in_order}
 use Rattle.gtfs_rows.specs.declared.trip.Trip.{Trip}
 use Rattle.gtfs_field.specs.TextOrder.{text_cmp}
 use Rattle.gtfs_board.proofs.Floors.{count_below, trips_parted}

@@ -1,8 +1,8 @@
 use Rattle.std.proofs.Common.{◌≡◌, ◌<◌, ◌∙◌, Some, length, sym, ap, subst, unwrap_or, []}
 use Rattle.std.specs.Prelude.{slice_get}
 use Rattle.std.proofs.lemmas.Option.{slice_get-get_or}
-use Rattle.gtfs_feed.proofs.NumberFacts.{trip_route}
-use Rattle.gtfs_feed.proofs.TripFacts.{periods}
+use Rattle.gtfs_rows.proofs.NumberFacts.{trip_route}
+use Rattle.gtfs_rows.proofs.TripFacts.{periods}
 use Rattle.gtfs_board.proofs.ShownRows.{periods_move, shown_rows, stop_within}
 use Rattle.gtfs_board.proofs.showing.departure_of.Goals as goal
 

@@ -2,8 +2,8 @@ use Rattle.std.proofs.Common.{◌≡◌, ◌∙◌, Bool, true, false, ap, sym, 
 use Rattle.std.specs.Prelude.{◌&&◌}
 use Rattle.std.proofs.lemmas.List.{length-map}
 use Rattle.gtfs_rows.specs.Views.{content_of_parts}
-use Rattle.gtfs_feed.proofs.NumberFacts.{trip_route, trip_service}
-use Rattle.gtfs_feed.proofs.TripFacts.{stop_times}
+use Rattle.gtfs_rows.proofs.NumberFacts.{trip_route, trip_service}
+use Rattle.gtfs_rows.proofs.TripFacts.{stop_times}
 use Rattle.gtfs_merge.specs.Numbered.{same_frequencies_in, same_stop_rows_in}
 use Rattle.gtfs_merge.specs.Renaming.{never_near, route_b, service_b, stop_b}
 use Rattle.gtfs_merge.specs.declared.kind.Kind.TheVariants as kind

@@ -5,7 +5,7 @@ use Rattle.std.proofs.lemmas.Option.{slice_get-get_or}
 use Rattle.gtfs_field.proofs.ListFacts.{some_of}
 use Rattle.gtfs_rows.specs.declared.stop_row.StopRow.{StopRow}
 use Rattle.gtfs_rows.specs.Views.{stop_row_of, trip_of}
-use Rattle.gtfs_feed.proofs.TripFacts.{periods, stop_times}
+use Rattle.gtfs_rows.proofs.TripFacts.{periods, stop_times}
 use Rattle.gtfs_runs.specs.Counts.{tally}
 use Rattle.gtfs_runs.specs.FlatEvents.{is_served, served_at}
 use Rattle.gtfs_rows.specs.Runs.{allows_boarding, is_departure_row, is_not_last, is_timed}

@@ -2,7 +2,7 @@ use Rattle.std.proofs.Common.{◌∙◌, sym, ap, subst, refl}
 use Rattle.std.specs.Prelude.{option_map}
 use Rattle.std.proofs.lemmas.Bool.{true≢false}
 use Rattle.gtfs_days.specs.Zone.{zone_origin}
-use Rattle.gtfs_feed.specs.Content.{content_of}
+use Rattle.gtfs_rows.specs.Views.{content_of_parts as content_of}
 use Rattle.gtfs_board.specs.Board.{keys_of}
 use Rattle.gtfs_rows.specs.Departures.{IsBoard}
 use Rattle.gtfs_board.specs.Lent.{plain_key}

@@ -1,6 +1,6 @@
 use Rattle.std.proofs.Common.{◌<◌, length, subst}
-use Rattle.gtfs_feed.proofs.NumberFacts.{trip_service}
-use Rattle.gtfs_feed.proofs.TripFacts.{periods}
+use Rattle.gtfs_rows.proofs.NumberFacts.{trip_service}
+use Rattle.gtfs_rows.proofs.TripFacts.{periods}
 use Rattle.gtfs_runs.proofs.Bounds.{periods_within}
 use Rattle.gtfs_board.proofs.SheetColumns.{rows-are, trip-idle, trip-pushed}
 use Rattle.gtfs_board.proofs.sheet.columns.push_trip.Goals as goal

@@ -1,5 +1,5 @@
 use Rattle.std.proofs.Common.{◌≡◌, length, ap, arith}
-use Rattle.gtfs_feed.proofs.TripFacts.{stop_times}
+use Rattle.gtfs_rows.proofs.TripFacts.{stop_times}
 use Rattle.gtfs_runs.specs.Patterns.{rows_of}
 use Rattle.gtfs_runs.proofs.RowEvents.{leaves_later}
 use Rattle.gtfs_board.proofs.SheetColumns.{column-time, late-rows, rows-are}

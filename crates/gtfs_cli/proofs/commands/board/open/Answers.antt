@@ -1,6 +1,6 @@
 use Rattle.std.proofs.Common.{◌≡◌, ap, rules, Err, option_map, to_z, of_z, to_z-of_z, FitsSigned, w64}
 use Rattle.gtfs_days.specs.Zone.{zone_origin}
-use Rattle.gtfs_feed.specs.Content.{content_of}
+use Rattle.gtfs_rows.specs.Views.{content_of_parts as content_of}
 use Rattle.gtfs_board.specs.Lent.{plain_key}
 use Rattle.gtfs_board.specs.declared.board.BoardFault.{BoardFault}
 use Rattle.gtfs_board.specs.declared.span.Span.{Span}

@@ -1,5 +1,5 @@
 use Rattle.std.proofs.Common.{inr, refl, subst}
-use Rattle.gtfs_feed.specs.Content.{content_of}
+use Rattle.gtfs_rows.specs.Views.{content_of_parts as content_of}
 use Rattle.gtfs_board.specs.Page.{IsCutShort, IsPage, IsStopped}
 use Rattle.gtfs_board.specs.PageFaults.{EndsPage, IsCounted}
 use Rattle.gtfs_board.specs.declared.page.PageFault.{PageFault}

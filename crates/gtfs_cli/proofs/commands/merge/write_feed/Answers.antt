@@ -6,7 +6,7 @@ use Rattle.std.proofs.lemmas.List.Elements.{All-more, All-nil}
 use Rattle.gtfs_table.specs.Reading.{kept_files}
 use Rattle.gtfs_table.specs.declared.file.File.{File}
 use Rattle.gtfs_table.specs.declared.file.File.TheVariants as file
-use Rattle.gtfs_feed.specs.Content.{content_of}
+use Rattle.gtfs_rows.specs.Views.{content_of_parts as content_of}
 use Rattle.gtfs_cli.specs.MergeParts.{ReadsAs}
 use Rattle.gtfs_cli.specs.Merges.{IsWritingEnd}
 use Rattle.gtfs_cli.proofs.Endings.{told-up}

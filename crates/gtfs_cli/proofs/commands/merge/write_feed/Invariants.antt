@@ -1,7 +1,7 @@
 use Rattle.std.proofs.Common.{◌≡◌, ◌≤◌, take}
 use Rattle.std.specs.List.{All}
 use Rattle.gtfs_table.specs.Reading.{kept_files}
-use Rattle.gtfs_feed.specs.Content.{content_of}
+use Rattle.gtfs_rows.specs.Views.{content_of_parts as content_of}
 use Rattle.gtfs_cli.specs.MergeParts.{ReadsAs}
 use Rattle.gtfs_cli.specs.Merges.{HoldsFiles}
 use Rattle.gtfs_cli.proofs.commands.merge.write_feed.Given as goal

@@ -3,7 +3,7 @@ use Rattle.std.specs.Prelude.{flat_map, OnErr, OnOk}
 use Rattle.std.specs.Io.KnownBytes.{Appends}
 use Rattle.std.proofs.lemmas.Result.{IfErr-weaker}
 use Rattle.gtfs_table.proofs.StoreFacts.{on_ok-map}
-use Rattle.gtfs_feed.specs.Content.{content_of}
+use Rattle.gtfs_rows.specs.Views.{content_of_parts as content_of}
 use Rattle.gtfs_board.specs.LentSheets.{plain_sheet}
 use Rattle.gtfs_board.specs.Timetable.{Sheet, sheet_text}
 use Rattle.gtfs_cli.specs.Sending.{SendsBeginning}

@@ -1,5 +1,5 @@
 use Rattle.std.proofs.Common.{◌∙◌, ap, map}
-use Rattle.gtfs_feed.proofs.SoundOrder.{in_order}
+use Rattle.gtfs_rows.proofs.SoundOrder.{in_order}
 use Rattle.gtfs_feed.proofs.row_ids.RowIds.of_parts.Goals as goal
 
 pub of_rows-requires : goal.of_rows-requires

@@ -1,7 +1,7 @@
 use Rattle.std.proofs.Common.{◌<◌, ◌+◌, ◌++◌, ◌∙◌, ◌==◌, ◌*◌, Some, cond, [], length, map, get_or, sym, ap, subst}
 use Rattle.std.specs.List.{All}
 use Rattle.std.proofs.lemmas.List.{length-map}
-use Rattle.gtfs_feed.specs.Trips.{stop_rows_by_trip}
+use Rattle.gtfs_rows.specs.Trips.{stop_rows_by_trip}
 use Rattle.gtfs_runs.specs.Kinds.{IsPeriodLane}
 use Rattle.gtfs_runs.specs.StopLanes.{period_value}
 use Rattle.gtfs_runs.specs.steps.Courses.{stopping_of, stops_in}

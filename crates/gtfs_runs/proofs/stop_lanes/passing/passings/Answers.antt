@@ -11,8 +11,8 @@ use Rattle.gtfs_rows.specs.declared.frequency.Frequency.{Frequency}
 use Rattle.gtfs_rows.specs.declared.parts.Parts.{Parts}
 use Rattle.gtfs_rows.specs.declared.trip.Trip.{Trip}
 use Rattle.gtfs_rows.specs.Views.{content_of_parts, stop_ids, stop_row_of, text_of_number, trip_of}
-use Rattle.gtfs_feed.specs.Trips.{left_at, stop_rows_by_trip}
-use Rattle.gtfs_feed.proofs.TripFacts.{stop_times}
+use Rattle.gtfs_rows.specs.Trips.{left_at, stop_rows_by_trip}
+use Rattle.gtfs_rows.proofs.TripFacts.{stop_times}
 use Rattle.gtfs_rows.specs.Runs.{allows_boarding, is_departure_row, is_not_last, is_timed}
 use Rattle.gtfs_rows.specs.Places.{members}
 use Rattle.gtfs_runs.specs.steps.Passings.{first_left, leaves, passing_at, passings_of}

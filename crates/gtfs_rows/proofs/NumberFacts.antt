@@ -22,8 +22,8 @@ use Rattle.gtfs_rows.specs.Sound.{if_given, is_sound_agency, is_sound_service, i
 use Rattle.gtfs_rows.specs.Views.{IsSoundParts, content_of_parts, agency_of, service_of, names_stop, trip_names_rows}
 use Rattle.gtfs_rows.proofs.Held.{apart_turned}
 use Rattle.gtfs_rows.proofs.SameElements.{pairs-head, pairs-tail}
-use Rattle.gtfs_feed.proofs.ListFacts.{all_of}
-use Rattle.gtfs_feed.proofs.TripFacts.{number_within}
+use Rattle.gtfs_rows.proofs.ListFacts.{all_of}
+use Rattle.gtfs_rows.proofs.TripFacts.{number_within}
 
 module _ (p : Parts) (sound : IsSoundParts p) where
   pub trip_route : (t : ℕ) (row : Trip) → slice_get p.trips t ≡ Some row → row.route_id.0 < length p.routes

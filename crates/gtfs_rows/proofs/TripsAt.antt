@@ -7,7 +7,7 @@ use Rattle.gtfs_rows.specs.declared.parts.Parts.{Parts}
 use Rattle.gtfs_rows.specs.declared.stop_row.StopRow.{StopRow}
 use Rattle.gtfs_rows.specs.declared.trip.Trip.{Trip}
 use Rattle.gtfs_rows.specs.Views.{trip_of, trips_of, content_of_parts}
-use Rattle.gtfs_feed.specs.Trips.{stop_rows_by_trip, frequencies_by_trip}
+use Rattle.gtfs_rows.specs.Trips.{stop_rows_by_trip, frequencies_by_trip}
 
 at : (p : Parts) (ts : List Trip) (rs : List (List StopRow)) (fs : List (List Frequency)) (t : ℕ) (row : Trip) (r : List StopRow) (f : List Frequency)
     → slice_get ts t ≡ Some row → slice_get rs t ≡ Some r → slice_get fs t ≡ Some f → slice_get (trips_of p ts rs fs) t ≡ Some (trip_of p row r f)

@@ -20,9 +20,9 @@ use Rattle.gtfs_rows.specs.Order.{Ascends}
 use Rattle.gtfs_rows.specs.Sound.{comes, leaves, keeps_time, is_end, is_sound_in, is_sound_stop_row, is_sound_period, is_sound_trip, is_stop_of, are_apart, has_id}
 use Rattle.gtfs_rows.specs.Views.{IsSoundParts, content_of_parts, trip_of, stop_row_of, frequency_of, stop_time_names_rows, is_within}
 use Rattle.gtfs_rows.proofs.RowTexts.{all_at}
-use Rattle.gtfs_feed.specs.Trips.{AreStopTimes, ArePeriods, stop_rows_by_trip, frequencies_by_trip}
-use Rattle.gtfs_feed.proofs.ListFacts.{all_of, all_from, less_is}
-use Rattle.gtfs_feed.proofs.TripsAt.{content_trip}
+use Rattle.gtfs_rows.specs.Trips.{AreStopTimes, ArePeriods, stop_rows_by_trip, frequencies_by_trip}
+use Rattle.gtfs_rows.proofs.ListFacts.{all_of, all_from, less_is}
+use Rattle.gtfs_rows.proofs.TripsAt.{content_trip}
 
 -- ---- tests
 
