@@ -6,13 +6,14 @@ pub(crate) mod reading;
 mod times;
 
 ghost use Rattle.std.specs.List.{cons_option};
-ghost use Rattle.std.specs.Prelude.{◌≡◌, ◌++◌, [], ℕ, option_and_then, IfOk, OnOk};
+ghost use Rattle.std.specs.Prelude.{◌≡◌, ◌++◌, [], true, ℕ, codes, option_and_then, IfOk, OnOk};
 ghost use Rattle.gtfs_table.specs.declared.file.File.TheVariants as file;
 ghost use Rattle.gtfs_columns.specs.declared.file_name.FileName.TheVariants as file_name;
-ghost use Rattle.gtfs_table.specs.Tables.{Dataset};
+ghost use Rattle.gtfs_table.specs.Tables.{Dataset, record_at};
+ghost use Rattle.gtfs_table.specs.Rows.{is_row, records_in};
 ghost use Rattle.gtfs_columns.specs.steps.FeedIds.{AreIdsOf};
 ghost use Rattle.gtfs_columns.specs.steps.Found.{Reports};
-ghost use Rattle.gtfs_columns.specs.steps.Ids.{first_row_with, number_with};
+ghost use Rattle.gtfs_columns.specs.steps.Ids.{first_row_with, ids_in, number_with};
 ghost use Rattle.gtfs_columns.specs.steps.StopTypes.{AreStopTypes};
 ghost use Rattle.gtfs_trip_rules.specs.StopTimePicks.{in_rows, in_stop_times};
 ghost use Rattle.gtfs_trip_rules.specs.Kept.{AllKeep};
@@ -28,7 +29,7 @@ use crate::stop_times::times::report_times;
 use crate::trips::notes::TripNotes;
 use gtfs_columns::{Code, FeedIds, FileName, Found, Problem};
 use gtfs_field::OutOfMemory;
-use gtfs_table::{File, Tables};
+use gtfs_table::{File, Record, Tables};
 use std::alloc::Global;
 
 // Reports what is wrong with the rows of stop_times.txt by themselves, and what they name that is
@@ -47,17 +48,65 @@ pub fn report_stop_times<'a, 'i>(
     ensures notes { IfOk result (λ notes. notes.notes ≡ trip_notes_in tables.now) }
     ensures kept { IfOk result (λ notes. AllKeep tables.now notes.rows) }
 {
-    let columns = StopTimeColumns::of(tables);
-    let mut named = NamedRows::new(&*ids, types);
     let count = tables.records(File::StopTimes);
     let mut notes = TripNotes::with_room(alloc, &ids.trips, count)?;
-    for (row, record) in tables.rows(File::StopTimes) {
-        let ids = named.find(record.value(columns.trip_id), record.value(columns.stop_id));
-        let stop_time = columns.stop_time(row, &record, ids.trip.reading, ids.stop.reading);
-        report_row(&columns, &named, &stop_time, &ids, found)?;
-        take_note(&stop_time, &ids, &mut notes)?;
-    }
+    read_rows(tables, ids, types, &mut notes, found)?;
     Ok(notes)
+}
+
+// Reports what is wrong with the rows, and notes what they say, where nothing is noted yet.
+fn read_rows<'a, 'i>(
+    tables: &'a Tables,
+    ids: &'i FeedIds<'a>,
+    types: &[Option<i64>],
+    notes: &mut TripNotes<'i>,
+    found: &mut Found<'a>,
+) -> Result<(), OutOfMemory>
+    requires ids { AreIdsOf tables.now ids.now }
+    requires types { AreStopTypes tables.now types.now }
+    requires none { notes.old ≡ record { trips = ids.now.trips; notes = []; rows = [] } }
+    ensures reported { OnOk result (Reports tables.now in_stop_times found.old found.new) }
+    ensures notes { OnOk result (notes.new.notes ≡ trip_notes_in tables.now) }
+    ensures kept { OnOk result (AllKeep tables.now notes.new.rows) }
+{
+    let columns = StopTimeColumns::of(tables);
+    let mut named = NamedRows::new(&*ids, types);
+    for (row, record) in tables.rows(File::StopTimes) {
+        read_row(&columns, &mut named, row, &record, notes, found)?;
+    }
+    Ok(())
+}
+
+// Reports what is wrong with one row, and notes what it says.
+#[inline(always)]
+fn read_row<'a: 'i, 'i>(
+    columns: &StopTimeColumns<'a>,
+    named: &mut NamedRows<'i, '_>,
+    row: usize,
+    record: &Record<'a>,
+    notes: &mut TripNotes<'i>,
+    found: &mut Found<'a>,
+) -> Result<(), OutOfMemory>
+    requires columns { AreStopTimeColumns columns.now.tables.now columns.now }
+    requires named { AreNamedRows columns.now.tables.now named.old }
+    requires row { is_row (records_in columns.now.tables.now file.StopTimes) row ≡ true }
+    requires fields { «record».now
+        ≡ record_at (records_in columns.now.tables.now file.StopTimes) row }
+    requires trips { notes.old.trips
+        ≡ ids_in columns.now.tables.now file.Trips (codes "trip_id") }
+    ensures named { AreNamedRows columns.now.tables.now named.new }
+    ensures reported { OnOk result
+        (ReportsOfRow columns.now.tables.now in_rows row found.old found.new) }
+    ensures trips { notes.new.trips ≡ notes.old.trips }
+    ensures notes { OnOk result (notes.new.notes
+        ≡ notes.old.notes ++ cons_option (note_read columns.now.tables.now row) []) }
+    ensures kept { OnOk result (AllKeep columns.now.tables.now notes.old.rows
+        → AllKeep columns.now.tables.now notes.new.rows) }
+{
+    let ids = named.find(record.value(columns.trip_id), record.value(columns.stop_id));
+    let stop_time = columns.stop_time(row, record, ids.trip.reading, ids.stop.reading);
+    report_row(columns, named, &stop_time, &ids, found)?;
+    take_note(&stop_time, &ids, notes)
 }
 
 // Reports what is wrong with one row, whose ids were found.

@@ -10,7 +10,7 @@ use Rattle.gtfs_trip_rules.specs.StopTimePicks.{in_rows}
 use Rattle.gtfs_trip_rules.specs.StopTimes.{AreNamedRows}
 use Rattle.gtfs_columns.proofs.RowFacts.{at_rows}
 use Rattle.gtfs_trip_rules.specs.TripTexts.{note_read}
-use Rattle.gtfs_trip_rules.proofs.stop_times.report_stop_times.Given as goal
+use Rattle.gtfs_trip_rules.proofs.stop_times.read_rows.Given as goal
 
 -- what is named, and of the rows so far what was reported and what they say of their trips
 abbrev pub invariant-loop-row : goal.invariant-loop-row
