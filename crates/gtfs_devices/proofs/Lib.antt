@@ -2,4 +2,5 @@ pub mod ByTextLemmas
 pub mod FolderLemmas
 mod HeldLemmas
 mod NameLemmas
+mod ReadLemmas
 mod SentLemmas
