@@ -9,7 +9,7 @@ use crate::write_whole::write_whole;
 use gtfs_field::OutOfMemory;
 use std::alloc::Global;
 use std::fs;
-use std::fs::OpenFile;
+use std::fs::{OpenFile, ReadDir};
 use std::io::ErrorKind;
 use std::marker::Model;
 use std::rt::Files;
@@ -214,14 +214,48 @@ fn push_names<R: Files + Alloc + Clone + Drop>(
     ensures few { OnOk result (vec_len names.new ≤ entries) }
     ensures refused { IfErr result RefusesOpen }
 {
-    let listing = fs::read_dir(rt, dir).map_err(|fault| list_fault(rt, dir, fault.kind()))?;
-    for entry in listing {
-        let entry = entry.map_err(|fault| list_fault(rt, dir, fault.kind()))?;
-        if names.len() >= entries {
-            return Err(FolderFault::Read);
-        }
-        names.push(String::from_str(alloc, entry.file_name())?)?;
+    match fs::read_dir(rt, dir) {
+        Ok(mut listing) => push_listed(rt, alloc, dir, entries, &mut listing, names),
+        Err(fault) => Err(list_fault(rt, dir, fault.kind())),
     }
+}
+
+// Adds the names of the entries that a listing has left.
+fn push_listed<R: Files + Alloc + Clone + Drop>(
+    rt: &R,
+    alloc: Global,
+    dir: &str,
+    entries: usize,
+    listing: &mut ReadDir<R, R::A>,
+    names: &mut Vec<String>,
+) -> Result<(), FolderFault>
+    requires { vec_len names.old ≤ entries }
+    ensures few { OnOk result (vec_len names.new ≤ entries) }
+    ensures refused { IfErr result RefusesOpen }
+{
+    for entry in listing {
+        match entry {
+            Ok(entry) => push_name(alloc, entry.file_name(), entries, names)?,
+            Err(fault) => return Err(list_fault(rt, dir, fault.kind())),
+        }
+    }
+    Ok(())
+}
+
+// Adds a name, where there are fewer names than `entries`.
+fn push_name(
+    alloc: Global,
+    name: &str,
+    entries: usize,
+    names: &mut Vec<String>,
+) -> Result<(), FolderFault>
+    ensures few { OnOk result (vec_len names.new ≤ entries) }
+    ensures refused { IfErr result RefusesOpen }
+{
+    if names.len() >= entries {
+        return Err(FolderFault::Read);
+    }
+    names.push(String::from_str(alloc, name)?)?;
     Ok(())
 }
 
