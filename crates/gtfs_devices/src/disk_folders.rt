@@ -372,7 +372,10 @@ fn write_file<R: Files>(
         return Err(FolderFault::Write);
     }
     let path = path_of(alloc, dir, name)?;
-    match fs::create_dir_all(rt, dir).and_then(|()| fs::create(rt, path.as_str())) {
+    if fs::create_dir_all(rt, dir).is_err() {
+        return Err(FolderFault::Write);
+    }
+    match fs::create(rt, path.as_str()) {
         Ok(mut file) => write_whole(&mut file, bytes),
         Err(_) => Err(FolderFault::Write),
     }
