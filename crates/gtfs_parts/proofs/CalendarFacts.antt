@@ -2,16 +2,11 @@
 use Rattle.std.proofs.Common.{◌≡◌, ℕ, ◌∷◌, [], List, map, get_or, true, false, Bool, codes, Option, Some, None, is_some, refl, sym, ap, ◌∙◌, subst, arith, inl, inr}
 use Rattle.std.specs.Prelude.{◌&&◌, bytes_eq, filter, find, option_and_then, unwrap_or, int_lt, ℤ, pos, ◌≤ℤ◌}
 use Prim.Native.String.{String as Literal}
-use Rattle.std.specs.Cmp.{int_cmp_total}
-use Rattle.std.specs.FinMap as table
 use Rattle.std.specs.List.{All}
-use Rattle.std.specs.List.Sorted.{IsPermutation}
-use Rattle.std.specs.Ordering.{int_cmp}
 use Rattle.std.proofs.lemmas.Bool.{cases_Bool}
 use Rattle.std.proofs.lemmas.Int.{ints}
 use Rattle.std.proofs.lemmas.List.Elements.{All-filter, All-head, All-tail}
-use Rattle.gtfs_field.proofs.OrderingFacts.{int-less}
-use Rattle.gtfs_days.specs.Service.{IsByDay, NamesEachDayOnce}
+use Rattle.gtfs_days.specs.Service.{NamesEachDayOnce}
 use Rattle.gtfs_days.specs.declared.exception.Exception.{Exception}
 use Rattle.gtfs_table.specs.Rows.{is_row, records_in, rows}
 use Rattle.gtfs_table.specs.Tables.{Dataset}
@@ -25,8 +20,7 @@ use Rattle.gtfs_columns.specs.Rows.{amount_in, text_in, word_in}
 use Rattle.gtfs_columns.specs.Values.{as_amount, if_both, is_word, readable}
 use Rattle.gtfs_columns.proofs.NamedFacts.{text_turned}
 use Rattle.gtfs_columns.proofs.ReadFacts.{amount_some, read_as_there, stands}
-use Rattle.gtfs_rows.proofs.ByKey.{by_key_is}
-use Rattle.gtfs_rows.proofs.SameElements.{pairs-map, same-from_permutation}
+use Rattle.gtfs_rows.proofs.SameElements.{pairs-map}
 use Rattle.gtfs_parts.specs.CalendarRows.{rows_with}
 use Rattle.gtfs_parts.proofs.IdTexts.{filled_required, word_there}
 use Rattle.gtfs_parts.proofs.RowKeys.{all_rows, numbers_apart}

@@ -1,14 +1,11 @@
 -- The stop times of a dataset as lists of a feed's parts: the rows of all trips, where those of each trip begin, and headsigns.
 -- GTFS Schedule Reference, stop_times.txt. Trips and stops have the numbers of their ids by bytes, from 0.
-use Rattle.std.specs.Prelude.{◌≡◌, ◌<◌, ◌==◌, ℕ, ◌&&◌, Bool, true, false, nat_lt, List, length, map, slice_index_or, Option, Some, None, option_map}
+use Rattle.std.specs.Prelude.{◌≡◌, ◌<◌, ◌==◌, ℕ, Bool, true, false, List, length, map, slice_index_or, Option, Some, None}
 use Rattle.std.specs.List.{list_all, list_any}
 use Rattle.csv.specs.Records.{Rising}
 use Rattle.gtfs_table.specs.Parts.{parts}
 use Rattle.gtfs_table.specs.Tables.{Dataset}
-use Rattle.gtfs_rows.specs.Choices.{drop_off_code, pickup_code, timepoint_code}
 use Rattle.gtfs_rows.specs.Reading.{content_of}
-use Rattle.gtfs_rows.specs.Rows.{StopRow}
-use Rattle.gtfs_rows.specs.Views.{is_within, text_of_number}
 use Rattle.gtfs_rows.specs.declared.stop_row.StopRow.{StopRow as RowByNumber}
 use Rattle.gtfs_rows.specs.Headsigns.{AreDistinct}
 use Rattle.gtfs_rows.specs.NamedRows.{has_numbers_below, stop_row_named}
