@@ -83,14 +83,14 @@ fn read_row<'a: 'i, 'i>(
     columns: &StopTimeColumns<'a>,
     named: &mut NamedRows<'i, '_>,
     row: usize,
-    record: &Record<'a>,
+    fields: &Record<'a>,
     notes: &mut TripNotes<'i>,
     found: &mut Found<'a>,
 ) -> Result<(), OutOfMemory>
     requires columns { AreStopTimeColumns columns.now.tables.now columns.now }
     requires named { AreNamedRows columns.now.tables.now named.old }
     requires row { is_row (records_in columns.now.tables.now file.StopTimes) row ≡ true }
-    requires fields { «record».now
+    requires fields { fields.now
         ≡ record_at (records_in columns.now.tables.now file.StopTimes) row }
     requires trips { notes.old.trips
         ≡ ids_in columns.now.tables.now file.Trips (codes "trip_id") }
@@ -103,8 +103,8 @@ fn read_row<'a: 'i, 'i>(
     ensures kept { OnOk result (AllKeep columns.now.tables.now notes.old.rows
         → AllKeep columns.now.tables.now notes.new.rows) }
 {
-    let ids = named.find(record.value(columns.trip_id), record.value(columns.stop_id));
-    let stop_time = columns.stop_time(row, record, ids.trip.reading, ids.stop.reading);
+    let ids = named.find(fields.value(columns.trip_id), fields.value(columns.stop_id));
+    let stop_time = columns.stop_time(row, fields, ids.trip.reading, ids.stop.reading);
     report_row(columns, named, &stop_time, &ids, found)?;
     take_note(&stop_time, &ids, notes)
 }
