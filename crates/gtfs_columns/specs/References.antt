@@ -1,6 +1,6 @@
 -- The keys of the nine files, and the columns that name rows of other files, as data.
 -- GTFS Schedule Reference, the "Primary key" of each file and its fields of type "Foreign ID".
-use Rattle.std.specs.Prelude.{ℕ, Bool, true, false, List, [], ◌∷◌, codes}
+use Rattle.std.specs.Prelude.{ℕ, Bool, true, false, List, [], ◌∷◌, codes, slice_index_or}
 use Prim.Native.String.{String as Literal}
 use Rattle.gtfs_table.specs.declared.file.File.{File}
 use Rattle.gtfs_table.specs.declared.file.File.TheVariants as file
@@ -16,6 +16,10 @@ key_columns file.Calendar = codes "service_id" ∷ []
 key_columns file.CalendarDates = codes "service_id" ∷ codes "date" ∷ []
 key_columns file.Frequencies = codes "trip_id" ∷ codes "start_time" ∷ []
 key_columns file.Transfers = codes "from_stop_id" ∷ codes "to_stop_id" ∷ codes "from_route_id" ∷ codes "to_route_id" ∷ codes "from_trip_id" ∷ codes "to_trip_id" ∷ []
+
+-- the column of the ids that a file's rows are named by: the first of its key
+abbrev pub id_column : File → List ℕ
+id_column x = slice_index_or (key_columns x) 0 []
 
 -- the column at which a second row with one key is reported
 abbrev pub reported_column : File → List ℕ

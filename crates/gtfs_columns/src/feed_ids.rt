@@ -32,12 +32,12 @@ impl<'a> FeedIds<'a> {
         ensures { IfOk result (λ ids. AreIdsOf tables.now ids) }
     {
         Ok(FeedIds {
-            agencies: Ids::new(alloc, tables, File::Agency, "agency_id")?,
-            stops: Ids::new(alloc, tables, File::Stops, "stop_id")?,
-            routes: Ids::new(alloc, tables, File::Routes, "route_id")?,
-            trips: Ids::new(alloc, tables, File::Trips, "trip_id")?,
-            calendar: Ids::new(alloc, tables, File::Calendar, "service_id")?,
-            calendar_dates: Ids::new(alloc, tables, File::CalendarDates, "service_id")?,
+            agencies: Ids::new(alloc, tables, File::Agency)?,
+            stops: Ids::new(alloc, tables, File::Stops)?,
+            routes: Ids::new(alloc, tables, File::Routes)?,
+            trips: Ids::new(alloc, tables, File::Trips)?,
+            calendar: Ids::new(alloc, tables, File::Calendar)?,
+            calendar_dates: Ids::new(alloc, tables, File::CalendarDates)?,
         })
     }
 }

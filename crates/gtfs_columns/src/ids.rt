@@ -1,5 +1,6 @@
 ghost use Rattle.std.specs.Prelude.{◌≡◌, ◌<◌, ◌^◌, length, option_map, slice_index_or, IfOk, IfSome, Some};
 ghost use Rattle.std.specs.List.{All};
+ghost use Rattle.gtfs_columns.specs.References.{id_column};
 ghost use Rattle.gtfs_columns.specs.steps.Ids.{are_clear, first_row_with, number_with, ids_in, ids_of, rows_are_clear, rows_by_number, Answers, IdColumn, IsIdIndex, ListsFirstRows};
 
 use crate::cell::holds_control;
@@ -11,12 +12,12 @@ use gtfs_table::{File, Tables};
 use std::alloc::Global;
 use std::marker::Model;
 
-/// The first row of each id of one column of one file, as a [`Finder`](crate::Finder) looks it up.
+/// The first row of each id of one file, as a [`Finder`](crate::Finder) looks it up. Ids stand in the first column of the
+/// file's key (GTFS Schedule Reference, the "Primary key" of each file).
 #[derive(Drop)]
 pub struct Ids<'a> {
     tables: &'a Tables,
     file: File,
-    column: &'static str,
     rows: Vec<IdRow<'a>>,
     // The numbers of all ids, by what is mixed of them.
     slots: Vec<Slot>,
@@ -25,29 +26,25 @@ pub struct Ids<'a> {
 }
 
 impl<'a> Model for Ids<'a> {
+    ghost use Rattle.gtfs_columns.specs.References.{id_column};
     ghost use Rattle.gtfs_columns.specs.steps.Ids.{IdColumn, IsFilledIndex, ids_in};
 
     ghost Value = { IdColumn };
 
-    ghost view = { λ i. ids_in i.tables.now i.file i.column.now };
+    ghost view = { λ i. ids_in i.tables.now i.file (id_column i.file) };
 
-    ghost invariant = { λ i. IsFilledIndex (ids_in i.tables.now i.file i.column.now) i.rows.items i.slots.items i.are_clear };
+    ghost invariant = { λ i. IsFilledIndex (ids_in i.tables.now i.file (id_column i.file)) i.rows.items i.slots.items i.are_clear };
 }
 
 impl<'a> Ids<'a> {
-    /// The ids of this column, whose texts they borrow from the tables.
+    /// The ids of this file, whose texts they borrow from the tables.
     ///
     /// # Errors
     /// `OutOfMemory` where the list of rows cannot grow, or there is no room to sort it or to find by.
-    pub fn new(
-        alloc: Global,
-        tables: &'a Tables,
-        file: File,
-        column: &'static str,
-    ) -> Result<Ids<'a>, OutOfMemory>
-        ensures { IfOk result (λ ids. ids ≡ ids_in tables.now file column.now) }
+    pub fn new(alloc: Global, tables: &'a Tables, file: File) -> Result<Ids<'a>, OutOfMemory>
+        ensures { IfOk result (λ ids. ids ≡ ids_in tables.now file (id_column file)) }
     {
-        let mut rows = id_rows(alloc, tables, file, column)?;
+        let mut rows = id_rows(alloc, tables, file, first_key_column(file))?;
         rows.sort()?;
         rows.dedup();
         let are_clear = are_clear(&rows);
@@ -55,7 +52,6 @@ impl<'a> Ids<'a> {
         Ok(Ids {
             tables,
             file,
-            column,
             rows,
             slots,
             are_clear,
@@ -191,4 +187,18 @@ fn id_rows<'a>(
         rows.push(IdRow::new(id, row))?;
     }
     Ok(rows)
+}
+
+// The first column of a file's key.
+fn first_key_column(file: File) -> &'static str
+    ensures { result.now ≡ id_column file }
+{
+    match file {
+        File::Agency => "agency_id",
+        File::Stops => "stop_id",
+        File::Routes => "route_id",
+        File::Trips | File::StopTimes | File::Frequencies => "trip_id",
+        File::Calendar | File::CalendarDates => "service_id",
+        File::Transfers => "from_stop_id",
+    }
 }

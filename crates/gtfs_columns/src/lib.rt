@@ -9,7 +9,7 @@
 //!   nowhere else; so [`present`] reads what is always there, and answers the value itself.
 //! - A column is found once, by its index in the header, and then read record after record (`Tables::column`,
 //!   `Record::value` of `gtfs_table`).
-//! - [`Ids`] are the ids in a column, each with its number by bytes and its first row, [`Finder`] looks them up, and
+//! - [`Ids`] are the ids of a file, each with its number by bytes and its first row, [`Finder`] looks them up, and
 //!   [`FeedIds`] has all those that other files name. [`stop_types`] are the location types of stops.
 //! - A [`Code`] says what is wrong, and a [`Problem`] where: in which [`FileName`], row and column. [`Found`] gathers
 //!   the problems that were found.

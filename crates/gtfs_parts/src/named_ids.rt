@@ -33,10 +33,10 @@ impl<'a> NamedIds<'a> {
     pub(crate) fn new(alloc: Global, tables: &'a Tables) -> Result<NamedIds<'a>, OutOfMemory>
         ensures { IfOk result (AreNamedIds tables.now) }
     {
-        let agencies = Ids::new(alloc, tables, File::Agency, "agency_id")?;
-        let stops = Ids::new(alloc, tables, File::Stops, "stop_id")?;
-        let routes = Ids::new(alloc, tables, File::Routes, "route_id")?;
-        let trips = Ids::new(alloc, tables, File::Trips, "trip_id")?;
+        let agencies = Ids::new(alloc, tables, File::Agency)?;
+        let stops = Ids::new(alloc, tables, File::Stops)?;
+        let routes = Ids::new(alloc, tables, File::Routes)?;
+        let trips = Ids::new(alloc, tables, File::Trips)?;
         Ok(NamedIds {
             agencies,
             stops,

@@ -1,14 +1,16 @@
 use Rattle.std.proofs.lemmas.List.Filters.{dedup_is}
 use Rattle.std.proofs.Common.{◌∙◌}
-use Rattle.gtfs_columns.specs.steps.Ids.{IsIdIndex, ids_in}
+use Rattle.gtfs_columns.specs.References.{id_column}
+use Rattle.gtfs_columns.specs.steps.Ids.{IsIdIndex, ListsFirstRows, ids_in}
 use Rattle.gtfs_columns.proofs.IdFacts.{ascending_once, listed_sorted}
 use Rattle.gtfs_columns.proofs.ids.Ids.new.Goals as goal
 
 pub invariant_of-result : goal.invariant_of-result
 invariant_of-result c =
-    let index : IsIdIndex (ids_in c.args.tables.now c.args.file c.args.column.now) c.dedup.new.self.items = rw (dedup_is _ _ _ c.dedup.ensures.filtered) (record {
+    let rows : ListsFirstRows (ids_in c.args.tables.now c.args.file (id_column c.args.file)) c.in_ok-rows.rows.items = rw c.first_key_column.ensures at c.in_ok-rows.ensures in
+    let index : IsIdIndex (ids_in c.args.tables.now c.args.file (id_column c.args.file)) c.dedup.new.self.items = rw (dedup_is _ _ _ c.dedup.ensures.filtered) (record {
       ascending = ascending_once _ c.in_ok-sort.ensures.sorted;
-      first = λ id. listed_sorted id _ _ c.in_ok-sort.ensures.stable ∙ c.in_ok-rows.ensures id;
+      first = λ id. listed_sorted id _ _ c.in_ok-sort.ensures.stable ∙ rows id;
     }) in
     record {
       index = index;
