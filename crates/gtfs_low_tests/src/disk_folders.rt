@@ -1,4 +1,5 @@
-//! Folders of a real file system, and of one that stands in for it.
+//! Folders of a real file system, and of one that stands in for it. What is held of them stands in functions over any
+//! folders, which take less to prove than those that name the disk's.
 mod odd_systems;
 mod stand_in;
 
@@ -79,17 +80,21 @@ fn assert_written(
     Ok(())
 }
 
-fn write_below(rt: &impl Abort, system: &HostRuntime, base: &str) -> Result<(), Fail> {
+fn write_below(
+    rt: &impl Abort,
+    system: &HostRuntime,
+    folders: &mut impl Folders,
+    base: &str,
+) -> Result<(), Fail> {
     let dir = format!(in system.alloc(); "{base}/a/b/c")?;
-    let mut disk = DiskFolders::new(system);
-    write_files(system, &mut disk, dir.as_str())?;
-    assert_written(rt, system.alloc(), &mut disk, dir.as_str())
+    write_files(system, folders, dir.as_str())?;
+    assert_written(rt, system.alloc(), folders, dir.as_str())
 }
 
 #[test]
 fn files_are_written_listed_and_read(rt: HostRuntime) -> Result<(), Fail> {
     let base = make_folder(&rt, "files")?;
-    write_below(&rt, &rt, base.as_str())?;
+    write_below(&rt, &rt, &mut DiskFolders::new(&rt), base.as_str())?;
     fs::remove_dir_all(&rt, base.as_str())?;
     Ok(())
 }
@@ -107,14 +112,18 @@ const ODD_NAMES: &[&str] = &[
     "～",
 ];
 
-fn list_odd_names(rt: &impl Abort, system: &HostRuntime, dir: &str) -> Result<(), Fail> {
-    let mut disk = DiskFolders::new(system);
+fn list_odd_names(
+    rt: &impl Abort,
+    alloc: Global,
+    folders: &mut impl Folders,
+    dir: &str,
+) -> Result<(), Fail> {
     for name in ODD_NAMES.iter().rev() {
-        disk.write(system.alloc(), dir, name, name.as_bytes())?;
+        folders.write(alloc, dir, name, name.as_bytes())?;
     }
-    assert_names(rt, system.alloc(), &mut disk, dir, ODD_NAMES)?;
+    assert_names(rt, alloc, folders, dir, ODD_NAMES)?;
     for name in ODD_NAMES {
-        let is_kept = has_file(system.alloc(), &mut disk, dir, name, name.as_bytes())?;
+        let is_kept = has_file(alloc, folders, dir, name, name.as_bytes())?;
         assert_is_at(rt, is_kept, true, "kept as", *name);
     }
     Ok(())
@@ -123,7 +132,7 @@ fn list_odd_names(rt: &impl Abort, system: &HostRuntime, dir: &str) -> Result<()
 #[test]
 fn odd_names_are_listed(rt: HostRuntime) -> Result<(), Fail> {
     let base = make_folder(&rt, "names")?;
-    list_odd_names(&rt, &rt, base.as_str())?;
+    list_odd_names(&rt, rt.alloc(), &mut DiskFolders::new(&rt), base.as_str())?;
     fs::remove_dir_all(&rt, base.as_str())?;
     Ok(())
 }
@@ -137,36 +146,46 @@ fn telling_bytes(alloc: Global, len: u32) -> Result<Vec<u8>, AllocError> {
     Ok(bytes)
 }
 
-fn write_megabytes(rt: &impl Abort, system: &HostRuntime, dir: &str) -> Result<(), Fail> {
-    let mut disk = DiskFolders::new(system);
+fn write_megabytes(
+    rt: &impl Abort,
+    alloc: Global,
+    folders: &mut impl Folders,
+    dir: &str,
+) -> Result<(), Fail> {
     for len in [65_536_u32, 65_537, 5_000_001] {
-        let bytes = telling_bytes(system.alloc(), len)?;
-        disk.write(system.alloc(), dir, "stops.txt", &bytes)?;
-        let is_kept = has_file(system.alloc(), &mut disk, dir, "stops.txt", &bytes)?;
+        let bytes = telling_bytes(alloc, len)?;
+        folders.write(alloc, dir, "stops.txt", &bytes)?;
+        let is_kept = has_file(alloc, folders, dir, "stops.txt", &bytes)?;
         assert_is_at(rt, is_kept, true, "kept with so many bytes:", len);
     }
-    assert_is(rt, disk.failures(), 0, "failures");
+    assert_is(rt, folders.failures(), 0, "failures");
     Ok(())
 }
 
 #[test]
 fn a_file_of_megabytes_is_read_as_it_was_written(rt: HostRuntime) -> Result<(), Fail> {
     let base = make_folder(&rt, "megabytes")?;
-    write_megabytes(&rt, &rt, base.as_str())?;
+    write_megabytes(&rt, rt.alloc(), &mut DiskFolders::new(&rt), base.as_str())?;
     fs::remove_dir_all(&rt, base.as_str())?;
     Ok(())
 }
 
 // A folder that its permissions close cannot be read. A user with all rights reads it nevertheless.
-fn assert_closed(rt: &impl Abort, system: &HostRuntime, dir: &str) -> Result<(), Fail> {
-    let mut disk = DiskFolders::new(system);
+fn assert_closed(
+    rt: &impl Abort,
+    system: &HostRuntime,
+    folders: &mut impl Folders,
+    dir: &str,
+) -> Result<(), Fail> {
+    folders.write(system.alloc(), dir, "stops.txt", b"stop_id")?;
+    fs::set_permissions(system, dir, Permissions::from_mode(0))?;
     let wanted = if fs::read_dir(system, dir).is_ok() {
         (Ok(1), Ok(true))
     } else {
         (Err(FolderFault::Read), Err(FolderFault::Read))
     };
-    let names = listed(system.alloc(), &mut disk, dir);
-    let file = has_file(system.alloc(), &mut disk, dir, "stops.txt", b"stop_id");
+    let names = listed(system.alloc(), folders, dir);
+    let file = has_file(system.alloc(), folders, dir, "stops.txt", b"stop_id");
     assert_is(rt, (names, file), wanted, "names and file");
     Ok(())
 }
@@ -174,36 +193,37 @@ fn assert_closed(rt: &impl Abort, system: &HostRuntime, dir: &str) -> Result<(),
 #[test]
 fn a_closed_folder_is_not_absent(rt: HostRuntime) -> Result<(), Fail> {
     let base = make_folder(&rt, "closed")?;
-    let mut disk = DiskFolders::new(&rt);
-    disk.write(rt.alloc(), base.as_str(), "stops.txt", b"stop_id")?;
-    fs::set_permissions(&rt, base.as_str(), Permissions::from_mode(0))?;
-    assert_closed(&rt, &rt, base.as_str())?;
+    assert_closed(&rt, &rt, &mut DiskFolders::new(&rt), base.as_str())?;
     fs::set_permissions(&rt, base.as_str(), Permissions::from_mode(0o700))?;
     fs::remove_dir_all(&rt, base.as_str())?;
     Ok(())
 }
 
-fn assert_absent(rt: &impl Abort, system: &HostRuntime, dir: &str) {
-    let mut disk = DiskFolders::new(system);
-    let names = listed(system.alloc(), &mut disk, dir);
+fn assert_absent(rt: &impl Abort, alloc: Global, folders: &mut impl Folders, dir: &str) {
+    let names = listed(alloc, folders, dir);
     assert_is_at(rt, names, Err(FolderFault::NoFolder), "names of", dir);
-    let file = has_file(system.alloc(), &mut disk, dir, "stops.txt", b"");
+    let file = has_file(alloc, folders, dir, "stops.txt", b"");
     assert_is_at(rt, file, Err(FolderFault::NoFolder), "file of", dir);
-    assert_is_at(rt, disk.failures(), 0, "failures of", dir);
+    assert_is_at(rt, folders.failures(), 0, "failures of", dir);
+}
+
+fn assert_both_absent(rt: &impl Abort, alloc: Global, folders: &mut impl Folders, dir: &str) {
+    assert_absent(rt, alloc, folders, "");
+    assert_absent(rt, alloc, folders, dir);
 }
 
 #[test]
 fn what_no_entry_has_the_name_of_is_not_there(rt: HostRuntime) -> Result<(), Fail> {
     let base = make_folder(&rt, "absent")?;
-    assert_absent(&rt, &rt, "");
-    assert_absent(&rt, &rt, format!(in rt.alloc(); "{base}/none")?.as_str());
+    let dir = format!(in rt.alloc(); "{base}/none")?;
+    assert_both_absent(&rt, rt.alloc(), &mut DiskFolders::new(&rt), dir.as_str());
     fs::remove_dir_all(&rt, base.as_str())?;
     Ok(())
 }
 
 // A file, a folder, and a link that leads nowhere.
-fn make_types(rt: &HostRuntime, base: &str) -> Result<(), Fail> {
-    DiskFolders::new(rt).write(rt.alloc(), base, "file", b"")?;
+fn make_types(rt: &HostRuntime, folders: &mut impl Folders, base: &str) -> Result<(), Fail> {
+    folders.write(rt.alloc(), base, "file", b"")?;
     fs::create_dir(rt, format!(in rt.alloc(); "{base}/folder")?)?;
     let link = format!(in rt.alloc(); "{base}/link")?;
     std::os::unix::fs::symlink(rt, "nowhere", link.as_str())?;
@@ -234,12 +254,16 @@ fn assert_no_files(rt: &impl Abort, alloc: Global, folders: &mut impl Folders, b
     }
 }
 
-fn assert_types(rt: &impl Abort, system: &HostRuntime, base: &str) -> Result<(), Fail> {
-    make_types(system, base)?;
-    let mut disk = DiskFolders::new(system);
-    assert_no_folders(rt, system.alloc(), &mut disk, base)?;
-    assert_no_files(rt, system.alloc(), &mut disk, base);
-    assert_is(rt, disk.failures(), 7, "failures");
+fn assert_types(
+    rt: &impl Abort,
+    system: &HostRuntime,
+    folders: &mut impl Folders,
+    base: &str,
+) -> Result<(), Fail> {
+    make_types(system, folders, base)?;
+    assert_no_folders(rt, system.alloc(), folders, base)?;
+    assert_no_files(rt, system.alloc(), folders, base);
+    assert_is(rt, folders.failures(), 7, "failures");
     Ok(())
 }
 
@@ -247,7 +271,7 @@ fn assert_types(rt: &impl Abort, system: &HostRuntime, base: &str) -> Result<(),
 #[test]
 fn what_is_of_another_type_cannot_be_read(rt: HostRuntime) -> Result<(), Fail> {
     let base = make_folder(&rt, "types")?;
-    assert_types(&rt, &rt, base.as_str())?;
+    assert_types(&rt, &rt, &mut DiskFolders::new(&rt), base.as_str())?;
     fs::remove_dir_all(&rt, base.as_str())?;
     Ok(())
 }
@@ -264,16 +288,20 @@ fn assert_unwritable(
     assert_is_at(rt, written, fault, "name and folder", (name, dir));
 }
 
-fn write_where_it_fails(rt: &impl Abort, system: &HostRuntime, base: &str) -> Result<(), Fail> {
-    let below = format!(in system.alloc(); "{base}/file/below")?;
-    let mut disk = DiskFolders::new(system);
-    disk.write(system.alloc(), base, "file", b"kept")?;
-    assert_unwritable(rt, system.alloc(), &mut disk, "", "stops.txt");
-    assert_unwritable(rt, system.alloc(), &mut disk, below.as_str(), "stops.txt");
-    assert_unwritable(rt, system.alloc(), &mut disk, base, "folder");
-    assert_unwritable(rt, system.alloc(), &mut disk, "/dev/null", "a");
-    assert_is(rt, disk.failures(), 4, "failures");
-    let is_kept = has_file(system.alloc(), &mut disk, base, "file", b"kept")?;
+fn write_where_it_fails(
+    rt: &impl Abort,
+    alloc: Global,
+    folders: &mut impl Folders,
+    base: &str,
+) -> Result<(), Fail> {
+    let below = format!(in alloc; "{base}/file/below")?;
+    folders.write(alloc, base, "file", b"kept")?;
+    assert_unwritable(rt, alloc, folders, "", "stops.txt");
+    assert_unwritable(rt, alloc, folders, below.as_str(), "stops.txt");
+    assert_unwritable(rt, alloc, folders, base, "folder");
+    assert_unwritable(rt, alloc, folders, "/dev/null", "a");
+    assert_is(rt, folders.failures(), 4, "failures");
+    let is_kept = has_file(alloc, folders, base, "file", b"kept")?;
     assert_that(rt, is_kept, "the file is kept");
     Ok(())
 }
@@ -282,7 +310,7 @@ fn write_where_it_fails(rt: &impl Abort, system: &HostRuntime, base: &str) -> Re
 fn what_cannot_be_written_counts_as_a_failure(rt: HostRuntime) -> Result<(), Fail> {
     let base = make_folder(&rt, "unwritable")?;
     fs::create_dir(&rt, format!(in rt.alloc(); "{base}/folder")?)?;
-    write_where_it_fails(&rt, &rt, base.as_str())?;
+    write_where_it_fails(&rt, rt.alloc(), &mut DiskFolders::new(&rt), base.as_str())?;
     fs::remove_dir_all(&rt, base.as_str())?;
     Ok(())
 }
@@ -292,69 +320,73 @@ fn make_sparse(rt: &HostRuntime, base: &str, len: u64) -> Result<(), Fail> {
     Ok(fs::create(rt, path.as_str())?.set_len(len)?)
 }
 
-fn assert_limit(rt: &impl Abort, system: &HostRuntime, base: &str) -> Result<(), Fail> {
-    let mut disk = DiskFolders::with_limits(system, 100_000, 1_000_000);
+fn assert_limit(
+    rt: &impl Abort,
+    system: &HostRuntime,
+    folders: &mut impl Folders,
+    base: &str,
+) -> Result<(), Fail> {
     let too_large = Err(FolderFault::TooLarge);
     for (len, wanted) in [(100_000, Ok(Some(100_000))), (100_001, too_large)] {
         make_sparse(system, base, len)?;
-        let found = read_len(system.alloc(), &mut disk, base, "sparse");
+        let found = read_len(system.alloc(), folders, base, "sparse");
         assert_is_at(rt, found, wanted, "read of a file of length", len);
     }
-    let endless = read_len(system.alloc(), &mut disk, "/dev", "zero");
+    let endless = read_len(system.alloc(), folders, "/dev", "zero");
     assert_is(rt, endless, too_large, "read of a file without end");
-    assert_is(rt, disk.failures(), 0, "failures");
+    assert_is(rt, folders.failures(), 0, "failures");
     Ok(())
 }
 
 #[test]
 fn a_file_is_read_up_to_the_limit(rt: HostRuntime) -> Result<(), Fail> {
     let base = make_folder(&rt, "limit")?;
-    assert_limit(&rt, &rt, base.as_str())?;
+    let mut disk = DiskFolders::with_limits(&rt, 100_000, 1_000_000);
+    assert_limit(&rt, &rt, &mut disk, base.as_str())?;
     fs::remove_dir_all(&rt, base.as_str())?;
     Ok(())
 }
 
-fn write_over_limit(rt: &impl Abort, system: &HostRuntime, dir: &str) -> Result<(), Fail> {
-    let mut disk = DiskFolders::with_limits(system, 4, 10);
-    let written = disk.write(system.alloc(), dir, "stops.txt", b"12345");
+fn write_over_limit(rt: &impl Abort, alloc: Global, folders: &mut impl Folders, dir: &str) {
+    let written = folders.write(alloc, dir, "stops.txt", b"12345");
     assert_is(rt, written, Ok(()), "writing");
-    let file = has_file(system.alloc(), &mut disk, dir, "stops.txt", b"12345");
+    let file = has_file(alloc, folders, dir, "stops.txt", b"12345");
     assert_is(rt, file, Err(FolderFault::TooLarge), "reading");
-    assert_is(rt, disk.failures(), 0, "failures");
-    Ok(())
-}
-
-fn assert_stands(rt: &impl Abort, system: &HostRuntime, dir: &str) -> Result<(), Fail> {
-    let mut disk = DiskFolders::with_limits(system, 5, 10);
-    let stands = has_file(system.alloc(), &mut disk, dir, "stops.txt", b"12345")?;
-    assert_that(rt, stands, "the file stands");
-    Ok(())
+    assert_is(rt, folders.failures(), 0, "failures");
 }
 
 #[test]
 fn writing_judges_no_limit(rt: HostRuntime) -> Result<(), Fail> {
     let base = make_folder(&rt, "over")?;
-    write_over_limit(&rt, &rt, base.as_str())?;
-    assert_stands(&rt, &rt, base.as_str())?;
+    let mut strict = DiskFolders::with_limits(&rt, 4, 10);
+    write_over_limit(&rt, rt.alloc(), &mut strict, base.as_str());
+    let mut wide = DiskFolders::with_limits(&rt, 5, 10);
+    let stands = has_file(rt.alloc(), &mut wide, base.as_str(), "stops.txt", b"12345");
+    assert_is(&rt, stands, Ok(true), "reading what stands");
     fs::remove_dir_all(&rt, base.as_str())?;
     Ok(())
 }
 
-fn assert_entries(rt: &impl Abort, system: &HostRuntime, dir: &str) -> Result<(), Fail> {
-    let mut disk = DiskFolders::with_limits(system, 100, 2);
+fn assert_entries(
+    rt: &impl Abort,
+    alloc: Global,
+    folders: &mut impl Folders,
+    dir: &str,
+) -> Result<(), Fail> {
     for (name, wanted) in [("a", Ok(1)), ("b", Ok(2)), ("c", Err(FolderFault::Read))] {
-        disk.write(system.alloc(), dir, name, b"")?;
-        let found = listed(system.alloc(), &mut disk, dir);
+        folders.write(alloc, dir, name, b"")?;
+        let found = listed(alloc, folders, dir);
         assert_is_at(rt, found, wanted, "names after", name);
     }
-    assert_is(rt, disk.failures(), 1, "failures");
+    assert_is(rt, folders.failures(), 1, "failures");
     Ok(())
 }
 
 #[test]
 fn a_folder_is_listed_up_to_its_entries(rt: HostRuntime) -> Result<(), Fail> {
     let base = make_folder(&rt, "entries")?;
-    assert_entries(&rt, &rt, base.as_str())?;
+    let mut disk = DiskFolders::with_limits(&rt, 100, 2);
+    assert_entries(&rt, rt.alloc(), &mut disk, base.as_str())?;
     fs::remove_dir_all(&rt, base.as_str())?;
     Ok(())
 }

@@ -11,21 +11,20 @@ use std::io::ErrorKind;
 use std::process::Abort;
 use std::test::Fail;
 
-// Why nothing of these folders can be listed, read and written.
-fn faults_of(alloc: Global, folders: &mut impl Folders) -> [Option<FolderFault>; 3] {
-    [
+// Why nothing of these folders can be listed, read and written, and how many calls failed.
+fn faults_of(alloc: Global, folders: &mut impl Folders) -> ([Option<FolderFault>; 3], u64) {
+    let faults = [
         listed(alloc, folders, "f1").err(),
         read_len(alloc, folders, "f1", "stops.txt").err(),
         folders.write(alloc, "f1", "stops.txt", b"").err(),
-    ]
+    ];
+    (faults, folders.failures())
 }
 
 // The faults of a system that refuses for this reason, and how many calls failed.
 fn refusals(rt: HostRuntime, kind: ErrorKind) -> ([Option<FolderFault>; 3], u64) {
     let system = StandIn::refusing(rt, kind);
-    let mut disk = DiskFolders::new(&system);
-    let faults = faults_of(rt.alloc(), &mut disk);
-    (faults, disk.failures())
+    faults_of(rt.alloc(), &mut DiskFolders::new(&system))
 }
 
 #[test]
@@ -37,28 +36,35 @@ fn what_is_refused_is_not_absent(rt: HostRuntime) {
     }
 }
 
+fn assert_not_found(rt: &impl Abort, alloc: Global, folders: &mut impl Folders) {
+    let names = listed(alloc, folders, "f1");
+    assert_is(rt, names, Err(FolderFault::NoFolder), "names");
+    let file = read_len(alloc, folders, "f1", "stops.txt");
+    assert_is(rt, file, Ok(None), "file");
+    assert_is(rt, folders.failures(), 0, "failures");
+}
+
 // No entry has the name: the system says so by NotFound alone.
 #[test]
 fn what_is_not_found_is_absent(rt: HostRuntime) {
     let system = StandIn::refusing(rt, ErrorKind::NotFound);
-    let mut disk = DiskFolders::new(&system);
-    let names = listed(rt.alloc(), &mut disk, "f1");
-    assert_is(&rt, names, Err(FolderFault::NoFolder), "names");
-    let file = read_len(rt.alloc(), &mut disk, "f1", "stops.txt");
-    assert_is(&rt, file, Ok(None), "file");
-    assert_is(&rt, disk.failures(), 0, "failures");
+    assert_not_found(&rt, rt.alloc(), &mut DiskFolders::new(&system));
 }
 
-// How many names a stand-in's folder has that repeats these so many times, and how many calls failed.
+// How many names a folder has, and how many calls failed.
+fn count_names(alloc: Global, folders: &mut impl Folders) -> (Result<usize, FolderFault>, u64) {
+    let names = listed(alloc, folders, "f1");
+    (names, folders.failures())
+}
+
+// The same of a stand-in's folder that repeats these names so many times.
 fn listed_of(
     rt: HostRuntime,
     names: &'static [u8],
     times: usize,
 ) -> (Result<usize, FolderFault>, u64) {
     let system = StandIn::with_names(rt, names, times);
-    let mut disk = DiskFolders::new(&system);
-    let names = listed(rt.alloc(), &mut disk, "f1");
-    (names, disk.failures())
+    count_names(rt.alloc(), &mut DiskFolders::new(&system))
 }
 
 #[test]
