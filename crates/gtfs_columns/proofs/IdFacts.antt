@@ -3,6 +3,9 @@ use Rattle.std.proofs.Common.{◌≡◌, ℕ, zero, suc, ◌+◌, ◌<◌, ◌�
 use Rattle.std.specs.Prelude.{◌&&◌, not}
 use Rattle.std.specs.Cmp.{Equal-is, alike_right, on_total}
 use Rattle.std.specs.Cmp.Lexicographic.{nat_list_cmp_total}
+use Rattle.std.specs.FinMap as table
+use Rattle.std.specs.FinMap.{nat_cmp-IsAntisymmetric, slice_cmp-IsAntisymmetric}
+use Rattle.std.specs.FinMap.Entries.{find as find_first}
 use Rattle.std.specs.List.{All, HoldsAt, dedup, dedup_from, filter, find}
 use Rattle.std.specs.List.Sorted.{IsNonDecreasingBy, IsPartitionPoint, IsSorted, IsSortedBy, IsStable, IsStrictlySortedBy, ties}
 use Rattle.std.specs.Ordering.{eq_by_cmp, is_eq, is_lt, on, ordering_index, ordering_reverse}
@@ -17,15 +20,15 @@ use Rattle.std.proofs.lemmas.Map.Text.{is_eq-slice_cmp}
 use Rattle.std.proofs.Math.Seq.{take-length}
 use Rattle.gtfs_field.specs.TextOrder.{text_cmp}
 use Rattle.gtfs_columns.specs.declared.id_row.IdRow.{IdRow}
-use Rattle.gtfs_columns.specs.steps.Ids.{IdColumn, ListsFirstRows}
-use Rattle.gtfs_columns.specs.steps.IdRows.{id_of, listed_row}
+use Rattle.gtfs_columns.specs.steps.Ids.{first_row_with, first_rows, listed_first_rows, FirstRows, ListsFirstRows}
+use Rattle.gtfs_columns.specs.steps.IdRows.{id_and_row, id_of, listed_row}
 use Rattle.gtfs_table.specs.Rows.{rows}
-use Rattle.gtfs_columns.specs.Rows.{text_in}
+use Rattle.gtfs_table.specs.Tables.{Dataset}
+use Rattle.gtfs_table.specs.declared.file.File.{File}
+use Rattle.gtfs_columns.specs.Rows.{row_with, text_in}
+use Rattle.gtfs_columns.proofs.NamedFacts.{text_turned}
 
 -- ---- in the order of the file
-
-abbrev pub id_and_row : IdRow → List ℕ × ℕ
-id_and_row r = (id_of r, r.row)
 
 -- the row of the first pair with an id
 abbrev pub row_paired : List (List ℕ × ℕ) → List ℕ → Option ℕ
@@ -45,12 +48,37 @@ paired_numbers f (n ∷ ns) id = elim (cases_Bool (bytes_eq (f n) id)) [
   | inr later ↦ rw later (paired_numbers f ns id)
 ]
 
+-- a map of the ids answers with the row of the first pair
+first_paired : (ps : List (List ℕ × ℕ)) (id : List ℕ) → find_first text_cmp id ps ≡ row_paired ps id
+first_paired [] id = refl
+first_paired (p ∷ ps) id =
+    let same : eq_by_cmp text_cmp id p.0 ≡ bytes_eq p.0 id = is_eq-slice_cmp id p.0 ∙ text_turned id p.0 in
+    elim (cases_Bool (bytes_eq p.0 id)) [
+      | inl here ↦ rw (same, here) refl
+      | inr later ↦ rw (same, later) (first_paired ps id)
+    ]
+
+pub row_of_pairs : (ps : List (List ℕ × ℕ)) (id : List ℕ) → first_row_with (table.from_entries ps) id ≡ row_paired ps id
+row_of_pairs ps id = table.get-from_entries nat_list_cmp_total ps id ∙ first_paired ps id
+
+-- of the rows of a column, the first with an id
+pub first_row_is : (d : Dataset) (x : File) (column id : List ℕ) → first_row_with (first_rows d x column) id ≡ row_with d x column id
+first_row_is d x column id =
+    row_of_pairs (map (λ n. (text_in d x n column, n)) (rows d x)) id ∙ paired_numbers (λ n. text_in d x n column) (rows d x) id
+
+-- of rows as they are listed, the first
+pub row_listed : (listed : List IdRow) (id : List ℕ) → first_row_with (listed_first_rows listed) id ≡ listed_row listed id
+row_listed listed id = row_of_pairs (map id_and_row listed) id ∙ paired_rows listed id
+
 -- where all rows are listed with their ids
-pub lists_first : (i : IdColumn) (listed : List IdRow)
-    → map id_and_row listed ≡ map (λ n. (text_in i.dataset i.file n i.column, n)) (rows i.dataset i.file) → ListsFirstRows i listed
-lists_first i listed same id =
-    sym (paired_rows listed id) ∙ ap (λ ps. row_paired ps id) same
-    ∙ paired_numbers (λ n. text_in i.dataset i.file n i.column) (rows i.dataset i.file) id
+pub lists_first : (d : Dataset) (x : File) (column : List ℕ) (listed : List IdRow)
+    → map id_and_row listed ≡ map (λ n. (text_in d x n column, n)) (rows d x) → ListsFirstRows (first_rows d x column) listed
+lists_first d x column listed same id = sym (row_listed listed id) ∙ ap (λ ps. first_row_with (table.from_entries ps) id) same
+
+-- rows that list the first rows of ids are these
+pub as_listed : (ids : FirstRows) (listed : List IdRow) → ListsFirstRows ids listed → listed_first_rows listed ≡ ids
+as_listed ids listed lists =
+    table.same_map nat_list_cmp_total (slice_cmp-IsAntisymmetric nat_cmp-IsAntisymmetric) _ _ (λ id. row_listed listed id ∙ lists id)
 
 -- ---- sorted, each id once
 

@@ -4,7 +4,7 @@ use Rattle.std.specs.Prelude.{bytes_eq, is_some, nat_lt, not, slice_get}
 use Rattle.std.specs.Cmp.Lexicographic.{nat_list_cmp_total}
 use Rattle.std.specs.FinMap as table
 use Rattle.std.specs.FinMap.{nat_cmp-IsAntisymmetric, slice_cmp-IsAntisymmetric}
-use Rattle.std.specs.FinMap.Entries.{below_all, is_sorted, find}
+use Rattle.std.specs.FinMap.Entries.{below_all, is_sorted}
 use Rattle.std.specs.List.{AllByRecursion, find as find_first, list_any, position_or_len}
 use Rattle.std.specs.List.Sorted.{IsStrictlySortedBy}
 use Rattle.std.specs.Ordering.{eq_by_cmp, is_lt, on}
@@ -14,18 +14,15 @@ use Rattle.std.proofs.lemmas.Bool.Decides.{nat_tests}
 use Rattle.std.proofs.lemmas.List.{length-map}
 use Rattle.std.proofs.lemmas.Map.Text.{is_eq-slice_cmp}
 use Rattle.gtfs_field.specs.TextOrder.{text_cmp}
-use Rattle.gtfs_table.specs.Rows.{rows}
 use Rattle.gtfs_columns.specs.declared.id_row.IdRow.{IdRow}
-use Rattle.gtfs_columns.specs.IdNumbers.{first_rows}
-use Rattle.gtfs_columns.specs.Rows.{text_in}
-use Rattle.gtfs_columns.specs.steps.IdRows.{id_of, listed_row}
+use Rattle.gtfs_columns.specs.steps.IdRows.{id_and_row, id_of, listed_row}
 use Rattle.gtfs_columns.specs.Values.{has_control}
 use Rattle.std.specs.List.{All, list_all}
 use Rattle.std.proofs.lemmas.Bool.{not-true}
 use Rattle.std.proofs.lemmas.List.Folds.{list_all-map}
 use Rattle.std.proofs.lemmas.List.Sums.{AllPass-from_list_all}
-use Rattle.gtfs_columns.specs.steps.Ids.{IdColumn, IsIdIndex, are_clear, first_row_with, ids_of, number_with, rows_are_clear, rows_by_number}
-use Rattle.gtfs_columns.proofs.IdFacts.{earlier, id_and_row, paired_numbers, paired_rows, row_paired}
+use Rattle.gtfs_columns.specs.steps.Ids.{FirstRows, IsIdIndex, are_clear, first_row_with, ids_of, number_with, rows_are_clear, rows_by_number}
+use Rattle.gtfs_columns.proofs.IdFacts.{earlier, row_listed}
 use Rattle.std.proofs.lemmas.List.Quantifiers.{position-Some}
 use Rattle.std.proofs.lemmas.Option.{slice_get-get_or}
 use Rattle.gtfs_field.proofs.ListFacts.{any_alike, position_any as is_placed}
@@ -43,25 +40,13 @@ unfolding IsStrictlySortedBy
 ascend [] h = refl
 ascend (r ∷ rs) h = both (below_all text_cmp (id_of r) (map id_and_row rs)) (is_sorted text_cmp (map id_and_row rs)) (below r rs h.0) (ascend rs h.1)
 
-first_paired : (q : List ℕ) (ps : List (List ℕ × ℕ)) → find text_cmp q ps ≡ row_paired ps q
-first_paired q [] = refl
-first_paired q (p ∷ ps) =
-    let same : eq_by_cmp text_cmp q p.0 ≡ bytes_eq p.0 q = is_eq-slice_cmp q p.0 ∙ text_turned q p.0 in
-    elim (cases_Bool (bytes_eq p.0 q)) [
-      | inl here ↦ rw (same, here) refl
-      | inr later ↦ rw (same, later) (first_paired q ps)
-    ]
-
-module _ (i : IdColumn) (listed : List IdRow) (index : IsIdIndex i listed) where
-  as_map : first_rows i.dataset i.file i.column ≡ table.from_sorted {R = text_cmp} (map id_and_row listed)
+module _ (i : FirstRows) (listed : List IdRow) (index : IsIdIndex i listed) where
+  as_map : i ≡ table.from_sorted {R = text_cmp} (map id_and_row listed)
   as_map =
       table.same_map nat_list_cmp_total (slice_cmp-IsAntisymmetric nat_cmp-IsAntisymmetric) _ _ (λ q.
-      table.get-from_entries nat_list_cmp_total (map (λ n. (text_in i.dataset i.file n i.column, n)) (rows i.dataset i.file)) q
-      ∙ first_paired q (map (λ n. (text_in i.dataset i.file n i.column, n)) (rows i.dataset i.file))
-      ∙ paired_numbers (λ n. text_in i.dataset i.file n i.column) (rows i.dataset i.file) q
-      ∙ sym (index.first q)
-      ∙ sym (paired_rows listed q)
-      ∙ sym (first_paired q (map id_and_row listed))
+      sym (index.first q)
+      ∙ sym (row_listed listed q)
+      ∙ table.get-from_entries nat_list_cmp_total (map id_and_row listed) q
       ∙ sym (table.get-from_sorted text_cmp (map id_and_row listed) q (rw (ascend listed index.ascending) tt)))
 
   keys_listed : (rs : List IdRow) → map (λ e. e.0) (map id_and_row rs) ≡ map id_of rs
@@ -111,7 +96,7 @@ no_row : (o : Option IdRow) → option_map (λ r. r.row) o ≡ None → o ≡ No
 no_row None e = refl
 no_row (Some r) e = cc e
 
-module _ (i : IdColumn) (listed : List IdRow) (index : IsIdIndex i listed) (id : List ℕ) where
+module _ (i : FirstRows) (listed : List IdRow) (index : IsIdIndex i listed) (id : List ℕ) where
   abbrev has_id : IdRow → Bool
   has_id r = bytes_eq (id_of r) id
 
@@ -140,13 +125,9 @@ module _ (i : IdColumn) (listed : List IdRow) (index : IsIdIndex i listed) (id :
 
 -- ---- ids that are there
 
-module _ (i : IdColumn) (id : List ℕ) where
-  abbrev pairs : List (List ℕ × ℕ)
-  pairs = map (λ n. (text_in i.dataset i.file n i.column, n)) (rows i.dataset i.file)
-
+module _ (i : FirstRows) (id : List ℕ) where
   key_there : list_any (eq_by_cmp text_cmp id) (ids_of i) ≡ is_some (first_row_with i id)
-  key_there = sym (table.contains_key-keys (first_rows i.dataset i.file i.column) id)
-      ∙ ap is_some (table.get-from_entries nat_list_cmp_total pairs id ∙ first_paired id pairs ∙ paired_numbers (λ n. text_in i.dataset i.file n i.column) (rows i.dataset i.file) id)
+  key_there = sym (table.contains_key-keys i id)
 
   same_test : (k : List ℕ) → eq_by_cmp text_cmp id k ≡ bytes_eq k id
   same_test k = is_eq-slice_cmp id k ∙ text_turned id k
@@ -173,12 +154,12 @@ module _ (i : IdColumn) (id : List ℕ) where
       slice_get-get_or (ids_of i) n [] at.0 ∙ ap Some (text_is (get_or (ids_of i) n []) id at.1)
 
 -- the ids have no control character where the listed ones have none
-pub clear_listed : (i : IdColumn) (listed : List IdRow) → IsIdIndex i listed → rows_are_clear listed ≡ are_clear i
+pub clear_listed : (i : FirstRows) (listed : List IdRow) → IsIdIndex i listed → rows_are_clear listed ≡ are_clear i
 clear_listed i listed index =
     sym (ap (list_all (λ k. not (has_control k))) (listed_ids i listed index) ∙ list_all-map (λ k. not (has_control k)) id_of listed)
 
 -- where no id has a control character, none that has a number has one
-pub clear_numbered : (i : IdColumn) → are_clear i ≡ true → (id : List ℕ) (n : ℕ) → number_with i id ≡ Some n → has_control id ≡ false
+pub clear_numbered : (i : FirstRows) → are_clear i ≡ true → (id : List ℕ) (n : ℕ) → number_with i id ≡ Some n → has_control id ≡ false
 clear_numbered i clear id n e =
     let at = position-Some (λ k. bytes_eq k id) (ids_of i) n [] e in
     let all : All (λ k. not (has_control k) ≡ true) (ids_of i) = AllPass-from_list_all (λ k. not (has_control k)) (ids_of i) clear in

@@ -1,28 +1,47 @@
 -- References that name no row: what a row's rule says, and where they are reported.
-use Rattle.std.proofs.Common.{◌≡◌, ◌++◌, ◌∷◌, ℕ, List, codes, true, Bool, refl, sym, ◌∙◌}
-use Rattle.std.specs.Prelude.{◌&&◌, not, bytes_eq, is_some}
+use Rattle.std.proofs.Common.{◌≡◌, ◌++◌, ◌∷◌, ℕ, List, codes, true, false, Bool, refl, sym, ◌∙◌}
+use Rattle.std.specs.Prelude.{◌&&◌, ◌||◌, not, bytes_eq, is_some}
 use Rattle.std.specs.List.{list_any}
 use Rattle.std.proofs.lemmas.Bool.{and_from as and_both}
 use Rattle.gtfs_table.specs.Tables.{Dataset}
 use Rattle.gtfs_table.specs.declared.file.File.{File}
 use Rattle.gtfs_table.specs.declared.file.File.TheVariants as file
-use Rattle.gtfs_columns.specs.steps.Ids.{IdColumn}
+use Rattle.gtfs_columns.specs.steps.Ids.{first_rows, FirstRows}
 use Rattle.gtfs_columns.specs.KeyRules.{is_known, unknown_reference}
 use Rattle.gtfs_columns.specs.References.{Reference, references}
 use Rattle.gtfs_columns.specs.steps.ReferencePicks.{agency_names, route_names, service_names, stop_names, trip_names}
 use Rattle.gtfs_columns.specs.steps.Picks.{is_kept}
 use Rattle.gtfs_columns.specs.Problems.{FileName, kept, other}
-use Rattle.gtfs_columns.specs.Rows.{is_file, text_in, value_in}
+use Rattle.gtfs_columns.specs.Reads.{is_id}
+use Rattle.gtfs_columns.specs.Rows.{is_file, row_with, text_in, value_in}
 use Rattle.gtfs_table.specs.Rows.{is_row, records_in}
 use Rattle.gtfs_columns.specs.steps.UnknownIds.{is_unknown}
 use Rattle.gtfs_columns.proofs.BoolFacts.{and_parts}
+use Rattle.gtfs_columns.proofs.IdFacts.{first_row_is}
 use Rattle.gtfs_columns.proofs.SiteSteps.{is_site}
 use Rattle.gtfs_columns.proofs.EachFacts.{any_follows}
 use Rattle.gtfs_columns.proofs.NamedFacts.{text_turned}
 
 -- the rule reads the ids and the text that are asked for
-pub read_alike : (reported row : Bool) (i j : IdColumn) (t u : List ℕ) → reported ≡ (row && is_unknown i t) → j ≡ i → u ≡ t → reported ≡ (row && is_unknown j u)
+pub read_alike : (reported row : Bool) (i j : FirstRows) (t u : List ℕ) → reported ≡ (row && is_unknown i t) → j ≡ i → u ≡ t → reported ≡ (row && is_unknown j u)
 read_alike reported row i j t u rule ids text = rule ∙ (λ k. row && is_unknown (sym ids k) (sym text k))
+
+known_once : (row there known : Bool) → ((row && there) && (not (known || false) || false)) ≡ (row && (there && not known))
+known_once true true true = refl
+known_once true true false = refl
+known_once true false known = refl
+known_once false there known = refl
+
+-- a reference to the ids of one file is unknown where no row has the id
+pub unknown_in : (d : Dataset) (x : File) (n : ℕ) (name : List ℕ) (y : File) (column : List ℕ) (ids : FirstRows) → ids ≡ first_rows d y column
+    → ((is_row (records_in d x) n && is_id (text_in d x n name)) && (not (is_some (row_with d y column (text_in d x n name)) || false) || false))
+    ≡ (is_row (records_in d x) n && is_unknown ids (text_in d x n name))
+unknown_in d x n name y column ids is =
+    let row = is_row (records_in d x) n in
+    let t = text_in d x n name in
+    known_once row (is_id t) (is_some (row_with d y column t))
+    ∙ (λ k. row && (is_id t && not (is_some (sym (first_row_is d y column t) k))))
+    ∙ (λ k. row && is_unknown (sym is k) t)
 
 -- each column that names rows, in their order
 abbrev pub all_names : List (File × List ℕ)

@@ -1,7 +1,7 @@
 -- What the slots of listed rows say is true.
 use Rattle.std.proofs.Common.{◌≡◌, ℕ, ◌<◌, List, length, get_or, bytes_eq, true, Some, sym, ap, ◌∙◌}
 use Rattle.gtfs_columns.specs.declared.id_row.IdRow.{IdRow}
-use Rattle.gtfs_columns.specs.steps.Ids.{AnswersRow, IdColumn, IsIdIndex}
+use Rattle.gtfs_columns.specs.steps.Ids.{AnswersRow, FirstRows, IsIdIndex}
 use Rattle.gtfs_columns.specs.steps.IdRows.{id_of}
 use Rattle.gtfs_columns.specs.steps.Slots.{held_id}
 use Rattle.gtfs_columns.proofs.IdFacts.{found_there}
@@ -9,7 +9,7 @@ use Rattle.gtfs_columns.proofs.IdNumberFacts.{numbered_at}
 use Rattle.gtfs_columns.proofs.SiteFacts.{text_itself}
 
 -- the slot of a listed row
-pub row_answers : (i : IdColumn) (listed : List IdRow) → IsIdIndex i listed → (at : ℕ) (r : IdRow) → at < length listed → r ≡ get_or listed at r → AnswersRow i r at
+pub row_answers : (i : FirstRows) (listed : List IdRow) → IsIdIndex i listed → (at : ℕ) (r : IdRow) → at < length listed → r ≡ get_or listed at r → AnswersRow i r at
 row_answers i listed index at r within is s of there =
     let h = of there in
     let id = held_id s in

@@ -10,13 +10,14 @@ use Rattle.gtfs_table.specs.Tables.{Dataset, column_of, field_under}
 use Rattle.gtfs_table.specs.declared.file.File.{File}
 use Rattle.gtfs_table.specs.declared.file.File.TheVariants as file
 use Rattle.gtfs_columns.specs.Columns.{id}
-use Rattle.gtfs_columns.specs.steps.Ids.{IdColumn, ids_in}
+use Rattle.gtfs_columns.specs.steps.Ids.{first_row_with, first_rows, FirstRows}
 use Rattle.gtfs_columns.specs.Reads.{word_of}
 use Rattle.gtfs_columns.specs.Rows.{choice_in, is_file, row_with, text_in}
 use Rattle.gtfs_table.specs.Rows.{records_in}
 use Rattle.gtfs_columns.specs.steps.StopTypes.{AreStopTypes, type_in_text, type_of, type_with}
 use Rattle.gtfs_columns.specs.StopRules.{has_parent_of_other_type, names_none_of, wrong_kind_of_stop}
 use Rattle.gtfs_columns.specs.Values.{if_there, is_one_of}
+use Rattle.gtfs_columns.proofs.IdFacts.{first_row_is}
 use Rattle.gtfs_columns.proofs.BoolFacts.{and_parts}
 use Rattle.gtfs_columns.proofs.SiteSteps.{is_site}
 use Rattle.gtfs_columns.proofs.EachFacts.{any_follows}
@@ -56,12 +57,13 @@ types_all d n types long past read m = elim (cases_lt m n) [
 pub alone : (row x : Bool) → ((row && x) || false) ≡ (row && x)
 alone row x = or-false (row && x)
 
-module _ (d : Dataset) (types : List (Option ℤ)) (all : AreStopTypes d types) (i : IdColumn) (ids : i ≡ ids_in d file.Stops (codes "stop_id")) where
+module _ (d : Dataset) (types : List (Option ℤ)) (all : AreStopTypes d types) (i : FirstRows) (ids : i ≡ first_rows d file.Stops (codes "stop_id")) where
   abbrev pub read_type : List ℕ → Option ℤ
   read_type t = option_and_then (λ m. choice_in d file.Stops m "location_type") (option_and_then (row_with d file.Stops (codes "stop_id")) (word_of id t))
 
   pub same_type : (t : List ℕ) → type_with types i t ≡ read_type t
-  same_type t = λ k. option_and_then (λ m. all m k) (option_and_then (λ t. row_with (ids k).dataset (ids k).file (ids k).column t) (word_of id t))
+  same_type t = (λ k. option_and_then (λ m. all m k) (option_and_then (first_row_with (ids k)) (word_of id t)))
+      ∙ (λ k. option_and_then (λ m. choice_in d file.Stops m "location_type") (option_and_then (λ t. first_row_is d file.Stops (codes "stop_id") t k) (word_of id t)))
 
   pub named_reported : (row : Bool) (wanted : List ℕ) (t : List ℕ)
       → ((row && if_there (read_type t) (λ x. not (is_one_of wanted x))) || false) ≡ (row && if_there (type_with types i t) (λ x. not (is_one_of wanted x)))

@@ -16,9 +16,13 @@ first_rows d x column = table.from_entries (map (λ n. (text_in d x n column, n)
 abbrev pub ids_by_bytes : Dataset → File → List ℕ → List (List ℕ)
 ids_by_bytes d x column = table.keys (first_rows d x column)
 
+-- the number of an id among these
+abbrev pub number_among : List (List ℕ) → List ℕ → Option ℕ
+number_among ids id = position (λ k. bytes_eq k id) ids
+
 -- the number of an id, where a row has it
 abbrev pub number_in : Dataset → File → List ℕ → List ℕ → Option ℕ
-number_in d x column id = position (λ k. bytes_eq k id) (ids_by_bytes d x column)
+number_in d x column id = number_among (ids_by_bytes d x column) id
 
 -- the id of a number
 abbrev pub id_numbered : Dataset → File → List ℕ → ℕ → Option (List ℕ)

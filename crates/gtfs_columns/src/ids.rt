@@ -1,7 +1,7 @@
 ghost use Rattle.std.specs.Prelude.{◌≡◌, ◌<◌, ◌^◌, length, option_map, slice_index_or, IfOk, IfSome, Some};
 ghost use Rattle.std.specs.List.{All};
 ghost use Rattle.gtfs_columns.specs.References.{id_column};
-ghost use Rattle.gtfs_columns.specs.steps.Ids.{are_clear, first_row_with, number_with, ids_in, ids_of, rows_are_clear, rows_by_number, Answers, IdColumn, IsIdIndex, ListsFirstRows};
+ghost use Rattle.gtfs_columns.specs.steps.Ids.{are_clear, first_row_with, first_rows, ids_of, number_with, rows_are_clear, rows_by_number, Answers, FirstRows, IsIdIndex, ListsFirstRows};
 
 use crate::cell::holds_control;
 use crate::finder::FoundId;
@@ -16,8 +16,6 @@ use std::marker::Model;
 /// file's key (GTFS Schedule Reference, the "Primary key" of each file).
 #[derive(Drop)]
 pub struct Ids<'a> {
-    tables: &'a Tables,
-    file: File,
     rows: Vec<IdRow<'a>>,
     // The numbers of all ids, by what is mixed of them.
     slots: Vec<Slot>,
@@ -26,14 +24,17 @@ pub struct Ids<'a> {
 }
 
 impl<'a> Model for Ids<'a> {
-    ghost use Rattle.gtfs_columns.specs.References.{id_column};
-    ghost use Rattle.gtfs_columns.specs.steps.Ids.{IdColumn, IsFilledIndex, ids_in};
+    ghost use Rattle.std.specs.Coded.{coded_list, coded_ℕ};
+    ghost use Rattle.std.specs.FinMap as table;
+    ghost use Rattle.gtfs_columns.specs.steps.Ids.{listed_first_rows, FirstRows, IsFilledIndex};
 
-    ghost Value = { IdColumn };
+    ghost Value = { FirstRows };
 
-    ghost view = { λ i. ids_in i.tables.now i.file (id_column i.file) };
+    ghost coded = { table.code (coded_list coded_ℕ) coded_ℕ };
 
-    ghost invariant = { λ i. IsFilledIndex (ids_in i.tables.now i.file (id_column i.file)) i.rows.items i.slots.items i.are_clear };
+    ghost view = { λ i. listed_first_rows i.rows.items };
+
+    ghost invariant = { λ i. IsFilledIndex (listed_first_rows i.rows.items) i.rows.items i.slots.items i.are_clear };
 }
 
 impl<'a> Ids<'a> {
@@ -42,7 +43,7 @@ impl<'a> Ids<'a> {
     /// # Errors
     /// `OutOfMemory` where the list of rows cannot grow, or there is no room to sort it or to find by.
     pub fn new(alloc: Global, tables: &'a Tables, file: File) -> Result<Ids<'a>, OutOfMemory>
-        ensures { IfOk result (λ ids. ids ≡ ids_in tables.now file (id_column file)) }
+        ensures { IfOk result (λ ids. ids ≡ first_rows tables.now file (id_column file)) }
     {
         let mut rows = id_rows(alloc, tables, file, first_key_column(file))?;
         rows.sort()?;
@@ -50,8 +51,6 @@ impl<'a> Ids<'a> {
         let are_clear = are_clear(&rows);
         let slots = slots_for(alloc, &rows)?;
         Ok(Ids {
-            tables,
-            file,
             rows,
             slots,
             are_clear,
@@ -154,7 +153,7 @@ impl<'a> Ids<'a> {
 // The slots of the ids of these rows.
 fn slots_for(alloc: Global, rows: &[IdRow<'_>]) -> Result<Vec<Slot>, OutOfMemory>
     ensures { IfOk result
-        (λ slots. (i : IdColumn) → IsIdIndex i rows.now → All (Answers i) slots.items) }
+        (λ slots. (ids : FirstRows) → IsIdIndex ids rows.now → All (Answers ids) slots.items) }
 {
     let mut slots = free_slots(alloc, rows.len())?;
     for number in 0..rows.len() {
@@ -177,7 +176,7 @@ fn id_rows<'a>(
     file: File,
     column: &str,
 ) -> Result<Vec<IdRow<'a>>, OutOfMemory>
-    ensures { IfOk result (λ rows. ListsFirstRows (ids_in tables.now file column.now) rows.items) }
+    ensures { IfOk result (λ rows. ListsFirstRows (first_rows tables.now file column.now) rows.items) }
 {
     let index = tables.column(file, column);
     // Room that is asked for at once may stand on large pages, where a search by chance costs less.

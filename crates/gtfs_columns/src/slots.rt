@@ -1,6 +1,6 @@
 ghost use Rattle.std.specs.Prelude.{◌≡◌, ◌<◌, length, IfOk, IfSome};
 ghost use Rattle.std.specs.List.{All};
-ghost use Rattle.gtfs_columns.specs.steps.Ids.{Answers, AnswersRow, IdColumn};
+ghost use Rattle.gtfs_columns.specs.steps.Ids.{Answers, AnswersRow, FirstRows};
 ghost use Rattle.gtfs_columns.specs.steps.Slots.{IsFoundIn, IsSlotOf};
 
 use crate::equal::are_equal;
@@ -98,7 +98,7 @@ const FREE: Slot = Slot {
 
 // Free slots for this many ids: more than twice as many, so that most ids stand in the first that is tried.
 pub(crate) fn free_slots(alloc: Global, ids: usize) -> Result<Vec<Slot>, OutOfMemory>
-    ensures { IfOk result (λ slots. (i : IdColumn) → All (Answers i) slots.items) }
+    ensures { IfOk result (λ slots. (i : FirstRows) → All (Answers i) slots.items) }
 {
     let mut slots = Vec::new(alloc);
     slots.resize(ids.saturating_mul(2).saturating_add(TRIES), FREE)?;
@@ -114,7 +114,7 @@ pub(crate) fn bounds(slots: &[Slot], tag: u32) -> (usize, usize) {
 
 // Puts a row whose id has this number into the first free slot for it. Where there is none, the number is not guessed.
 pub(crate) fn fill_slot(slots: &mut Vec<Slot>, row: &IdRow<'_>, number: usize)
-    ensures { (i : IdColumn) → AnswersRow i row.now number
+    ensures { (i : FirstRows) → AnswersRow i row.now number
         → All (Answers i) slots.old.items → All (Answers i) slots.new.items }
 {
     if let Some(slot) = Slot::new(row, number)

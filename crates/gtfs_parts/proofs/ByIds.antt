@@ -12,8 +12,10 @@ use Rattle.std.proofs.lemmas.List.{length-map}
 use Rattle.std.proofs.lemmas.List.Elements.{All-cons, All-head, All-map, All-nil, All-tail, filter_passes}
 use Rattle.gtfs_field.specs.TextOrder.{text_cmp}
 use Rattle.gtfs_table.specs.Rows.{is_row, records_in, rows}
+use Rattle.gtfs_table.specs.Tables.{Dataset}
+use Rattle.gtfs_table.specs.declared.file.File.{File}
 use Rattle.gtfs_columns.specs.Rows.{text_in}
-use Rattle.gtfs_columns.specs.steps.Ids.{IdColumn, ids_of, rows_by_number}
+use Rattle.gtfs_columns.specs.steps.Ids.{first_rows, ids_of, rows_by_number, FirstRows}
 use Rattle.gtfs_rows.specs.Order.{by_key}
 use Rattle.gtfs_rows.proofs.KeyedRows.{no_entries}
 
@@ -86,13 +88,13 @@ module _ {K X : Type 0} (R : K → K → Ordering) (o : IsTotalOrder R) (P : X �
 -- ---- the rows of a column by their ids
 
 -- each is a row
-pub rows_are : (i : IdColumn) → All (λ n. is_row (records_in i.dataset i.file) n ≡ true) (rows_by_number i)
-rows_are i =
-    let Row : ℕ → Type 0 = λ n. is_row (records_in i.dataset i.file) n ≡ true in
-    let named : ℕ → List ℕ × ℕ = λ n. (text_in i.dataset i.file n i.column, n) in
-    let all = rows i.dataset i.file in
+pub rows_are : (d : Dataset) (x : File) (column : List ℕ) → All (λ n. is_row (records_in d x) n ≡ true) (rows_by_number (first_rows d x column))
+rows_are d x column =
+    let Row : ℕ → Type 0 = λ n. is_row (records_in d x) n ≡ true in
+    let named : ℕ → List ℕ × ℕ = λ n. (text_in d x n column, n) in
+    let all = rows d x in
     values_all text_cmp nat_list_cmp_total Row (map named all)
-    (All-map (λ e. Row e.1) named all (filter_passes (is_row (records_in i.dataset i.file)) (range_with_len 2 (length (records_in i.dataset i.file) - 1))))
+    (All-map (λ e. Row e.1) named all (filter_passes (is_row (records_in d x)) (range_with_len 2 (length (records_in d x) - 1))))
 
 -- ---- each id with its first row
 
@@ -120,10 +122,10 @@ module _ (text : ℕ → List ℕ) where
   keys_read (e ∷ es) all = λ i. All-head Paired e es all i ∷ keys_read es (All-tail Paired e es all) i
 
 -- the ids of a column are the texts of their rows
-pub ids_read : (i : IdColumn) → ids_of i ≡ map (λ n. text_in i.dataset i.file n i.column) (rows_by_number i)
-ids_read i =
-    let text : ℕ → List ℕ = λ n. text_in i.dataset i.file n i.column in
-    keys_read text _ (entries_paired text (rows i.dataset i.file))
+pub ids_read : (d : Dataset) (x : File) (column : List ℕ) → ids_of (first_rows d x column) ≡ map (λ n. text_in d x n column) (rows_by_number (first_rows d x column))
+ids_read d x column =
+    let text : ℕ → List ℕ = λ n. text_in d x n column in
+    keys_read text _ (entries_paired text (rows d x))
 
-pub as_many : (i : IdColumn) → length (ids_of i) ≡ length (rows_by_number i)
-as_many i = ap length (ids_read i) ∙ length-map (rows_by_number i) (λ n. text_in i.dataset i.file n i.column)
+pub as_many : (ids : FirstRows) → length (ids_of ids) ≡ length (rows_by_number ids)
+as_many ids = length-map (table.entries ids) (λ e. e.0) ∙ sym (length-map (table.entries ids) (λ e. e.1))

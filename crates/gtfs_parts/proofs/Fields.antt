@@ -9,7 +9,7 @@ use Rattle.gtfs_table.specs.Rows.{is_row, records_in}
 use Rattle.gtfs_table.specs.Tables.{Dataset, column_of, field_under, record_at}
 use Rattle.gtfs_table.specs.declared.file.File.{File}
 use Rattle.gtfs_columns.specs.Rows.{text_in}
-use Rattle.gtfs_columns.specs.steps.Ids.{IdColumn, ids_in, rows_by_number}
+use Rattle.gtfs_columns.specs.steps.Ids.{FirstRows, first_rows, rows_by_number}
 use Rattle.gtfs_parts.proofs.ByIds.{rows_are}
 use Rattle.std.proofs.lemmas.List.Elements.{All-head}
 use Rattle.std.proofs.lemmas.Simd.{map-map}
@@ -36,10 +36,10 @@ pub listed_all : {A X Y : Type 0} (f : X → Y) (g : A → Y) (ns : List A) (k :
 listed_all f g ns k out h before = before ∙ ap (map g) (take_all k ns h)
 
 -- a row of a column by the number of its id
-pub numbered_row : (d : Dataset) (x : File) (name : List ℕ) (i : IdColumn) → i ≡ ids_in d x name → (k n : ℕ) → k < length (rows_by_number i)
+pub numbered_row : (d : Dataset) (x : File) (name : List ℕ) (i : FirstRows) → i ≡ first_rows d x name → (k n : ℕ) → k < length (rows_by_number i)
     → n ≡ get_or (rows_by_number i) k 0 → is_row (records_in d x) n ≡ true
 numbered_row d x name i is k n h same =
-    ap (is_row (records_in d x)) same ∙ subst (λ i. k < length (rows_by_number i) → is_row (records_in d x) (get_or (rows_by_number i) k 0) ≡ true) (sym is) (rows_are (ids_in d x name) k 0) h
+    ap (is_row (records_in d x)) same ∙ subst (λ i. k < length (rows_by_number i) → is_row (records_in d x) (get_or (rows_by_number i) k 0) ≡ true) (sym is) (rows_are d x name k 0) h
 
 -- numbers taken out of their types
 pub numbers_of : {N Y : Type 0} (number : N → ℕ) (f : ℕ → Y) (o : Option N) → option_map (λ n. f (number n)) o ≡ option_map f (option_map number o)

@@ -6,6 +6,7 @@ use Rattle.std.specs.List.{All, list_any, range_with_len}
 use Rattle.std.proofs.lemmas.Bool.{cases_Bool}
 use Rattle.std.proofs.lemmas.Bool.Decides.{nat_tests}
 use Rattle.std.proofs.lemmas.List.Quantifiers.{position-Some}
+use Rattle.gtfs_columns.proofs.IdFacts.{first_row_is}
 use Rattle.gtfs_columns.proofs.IdNumberFacts.{number_known, number_there}
 use Rattle.std.proofs.lemmas.List.Elements.{All-head, All-tail, filter_passes}
 use Rattle.std.specs.Cmp.Lexicographic.{nat_list_cmp_total}
@@ -22,7 +23,7 @@ use Rattle.gtfs_columns.specs.Reads.{word_of}
 use Rattle.gtfs_columns.specs.References.{references}
 use Rattle.gtfs_columns.specs.Rows.{is_file, row_with, text_in, value_in, word_in}
 use Rattle.gtfs_columns.specs.Values.{as_word, has_control, readable}
-use Rattle.gtfs_columns.specs.steps.Ids.{IdColumn, first_row_with, ids_in, ids_of, number_with, rows_by_number}
+use Rattle.gtfs_columns.specs.steps.Ids.{FirstRows, first_row_with, first_rows, ids_of, number_with, rows_by_number}
 use Rattle.gtfs_columns.proofs.ReadFacts.{passes_read}
 use Rattle.std.proofs.lemmas.Slice.Eq.{bytes_eq-Decides}
 use Rattle.gtfs_table.proofs.BlankFacts.{no_text}
@@ -104,7 +105,7 @@ module _ (d : Dataset) (passes : Passes d) (x : File) (column : Literal) (c : Co
 
   -- the list of a content whose rows have this id
   pub content_list : {X : Type 0} (key : X → List ℕ) (f : ℕ → X) → ((n : ℕ) → key (f n) ≡ text_at d x n column)
-      → by_key text_cmp key (map f (rows d x)) ≡ map f (rows_by_number (ids_in d x (codes column)))
+      → by_key text_cmp key (map f (rows d x)) ≡ map f (rows_by_number (first_rows d x (codes column)))
   content_list key f keyed =
       let all = rows d x in
       let rows_too = filter_passes (is_row (records_in d x)) (range_with_len 2 (length (records_in d x) - 1)) in
@@ -112,10 +113,10 @@ module _ (d : Dataset) (passes : Passes d) (x : File) (column : Literal) (c : Co
 
   -- the ids of that list are those of the column
   pub content_ids : {X : Type 0} (key : X → List ℕ) (f : ℕ → X) → ((n : ℕ) → key (f n) ≡ text_at d x n column)
-      → map key (by_key text_cmp key (map f (rows d x))) ≡ ids_of (ids_in d x (codes column))
+      → map key (by_key text_cmp key (map f (rows d x))) ≡ ids_of (first_rows d x (codes column))
   content_ids key f keyed =
-      let i = ids_in d x (codes column) in
-      ap (map key) (content_list key f keyed) ∙ keyed_rows (rows_by_number i) (rows_are i) ∙ sym (ids_read i)
+      let i = first_rows d x (codes column) in
+      ap (map key) (content_list key f keyed) ∙ keyed_rows (rows_by_number i) (rows_are d x (codes column)) ∙ sym (ids_read d x (codes column))
     where
       keyed_rows : (ns : List ℕ) → All (λ n. is_row (records_in d x) n ≡ true) ns → map key (map f ns) ≡ map (λ n. text_in d x n (codes column)) ns
       keyed_rows [] are = refl
@@ -142,18 +143,19 @@ module _ (d : Dataset) (passes : Passes d) (y : File) (target : Literal) (c : Co
         | inr filled ↦ filled
       ]
 
-  pub no_empty_id : first_row_with (ids_in d y (codes target)) [] ≡ None
+  pub no_empty_id : first_row_with (first_rows d y (codes target)) [] ≡ None
   no_empty_id =
       let all = filter_passes (is_row (records_in d y)) (range_with_len 2 (length (records_in d y) - 1)) in
-      find_none (λ m. bytes_eq (text_in d y m (codes target)) []) (rows d y) (λ k e h. filled_row (get_or (rows d y) k e) (all k e h))
+      first_row_is d y (codes target) []
+      ∙ find_none (λ m. bytes_eq (text_in d y m (codes target)) []) (rows d y) (λ k e h. filled_row (get_or (rows d y) k e) (all k e h))
 
-pub known_one : (d : Dataset) (y : File) (name t : List ℕ) → not (is_known d ((y, name) ∷ []) t) ≡ false → is_some (row_with d y name t) ≡ true
-known_one d y name t known = elim (row_with d y name t) as (λ o. not (is_some o || false) ≡ false → is_some o ≡ true) [
+pub known_one : (d : Dataset) (y : File) (name t : List ℕ) → not (is_known d ((y, name) ∷ []) t) ≡ false → is_some (first_row_with (first_rows d y name) t) ≡ true
+known_one d y name t known = ap is_some (first_row_is d y name t) ∙ elim (row_with d y name t) as (λ o. not (is_some o || false) ≡ false → is_some o ≡ true) [
   | None ↦ λ e. sym e
   | Some m ↦ λ e. refl
 ] known
 
-module _ (i : IdColumn) (t : List ℕ) where
+module _ (i : FirstRows) (t : List ℕ) where
   text_from : (o : Option ℕ) → number_with i t ≡ o → is_some o ≡ true → option_map (text_of_number (ids_of i)) o ≡ Some t
   text_from None e has = cc has
   text_from (Some n) e has = let at = position-Some (λ k. bytes_eq k t) (ids_of i) n [] e in ap Some ((bytes_eq-Decides (get_or (ids_of i) n []) t).0 at.1)

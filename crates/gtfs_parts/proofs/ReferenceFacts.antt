@@ -20,6 +20,7 @@ use Rattle.gtfs_columns.specs.Columns.{Column, id, optional, required, column_na
 use Rattle.gtfs_columns.specs.KeyRules.{is_known}
 use Rattle.gtfs_columns.specs.PresenceRules.{has_many_agencies}
 use Rattle.gtfs_columns.specs.Problems.{Passes, kept}
+use Rattle.gtfs_columns.proofs.IdFacts.{first_row_is}
 use Rattle.gtfs_columns.proofs.IdNumberFacts.{number_there}
 use Rattle.gtfs_columns.proofs.SiteFacts.{text_itself}
 use Rattle.gtfs_columns.specs.FileRules.{is_absent_state, is_not_utf8_state, is_read, is_read_state}
@@ -27,7 +28,7 @@ use Rattle.gtfs_table.specs.declared.state.State.{State}
 use Rattle.gtfs_table.specs.declared.state.State.TheVariants as state
 use Rattle.gtfs_table.proofs.BlankFacts.{no_text}
 use Rattle.gtfs_columns.specs.Rows.{row_with, text_in, word_in}
-use Rattle.gtfs_columns.specs.steps.Ids.{IdColumn, first_row_with, ids_in, ids_of as ids_of_column, number_with, rows_by_number}
+use Rattle.gtfs_columns.specs.steps.Ids.{FirstRows, first_row_with, first_rows, ids_of as ids_of_column, number_with, rows_by_number}
 use Rattle.gtfs_rows.specs.Reading.{first_agency, text_at}
 use Rattle.gtfs_rows.specs.Views.{is_within, text_of_number}
 use Rattle.gtfs_rows.proofs.SameElements.{contains-first, contains-later}
@@ -38,17 +39,17 @@ use Rattle.gtfs_parts.proofs.ByIds.{ids_read}
 use Rattle.gtfs_parts.proofs.IdTexts.{filled_required, known_one, no_empty_id, number_within, numbered, unnumbered, none_unknown, text_at_is, word_none, word_there}
 
 -- the number of an id of a column, by what these are
-same_number : {X : Type 0} (f : Option ℕ → X) (i j : IdColumn) (s t : List ℕ) (x : X) → i ≡ j → s ≡ t → x ≡ f (number_with i s) → x ≡ f (number_with j t)
+same_number : {X : Type 0} (f : Option ℕ → X) (i j : FirstRows) (s t : List ℕ) (x : X) → i ≡ j → s ≡ t → x ≡ f (number_with i s) → x ≡ f (number_with j t)
 same_number f i j s t x same is number = number ∙ ap f (λ k. number_with (same k) (is k))
 
 module _ (d : Dataset) (passes : Passes d) (x : File) (n : ℕ) (row : is_row (records_in d x) n ≡ true) (column : Literal) (c : Column)
     (there : column_named x (codes column) ≡ Some c) (is_id : c.kind ≡ id) (y : File) (target : Literal)
-    (known : is_empty (text_in d x n (codes column)) ≡ false → is_some (row_with d y (codes target) (text_in d x n (codes column))) ≡ true) where
+    (known : is_empty (text_in d x n (codes column)) ≡ false → is_some (first_row_with (first_rows d y (codes target)) (text_in d x n (codes column))) ≡ true) where
   abbrev named : List ℕ
   named = text_in d x n (codes column)
 
-  abbrev ids_there : IdColumn
-  ids_there = ids_in d y (codes target)
+  abbrev ids_there : FirstRows
+  ids_there = first_rows d y (codes target)
 
   -- the id that is there
   pub filled_named : is_empty named ≡ false → option_map (text_of_number (ids_of d y target)) (number_with ids_there named) ≡ word_in d x n column
@@ -68,13 +69,13 @@ module _ (d : Dataset) (passes : Passes d) (x : File) (n : ℕ) (row : is_row (r
 
 module _ (d : Dataset) (passes : Passes d) (n : ℕ) (row : is_row (records_in d file.Stops) n ≡ true) where
   parent_known : is_empty (text_in d file.Stops n (codes "parent_station")) ≡ false
-      → is_some (row_with d file.Stops (codes "stop_id") (text_in d file.Stops n (codes "parent_station"))) ≡ true
+      → is_some (first_row_with (first_rows d file.Stops (codes "stop_id")) (text_in d file.Stops n (codes "parent_station"))) ≡ true
   parent_known filled =
       known_one d file.Stops (codes "stop_id") (text_in d file.Stops n (codes "parent_station"))
       (or_parts (not (is_known d ((file.Stops, codes "stop_id") ∷ []) (text_in d file.Stops n (codes "parent_station")))) false
       (none_unknown d passes file.Stops n row "parent_station" (optional "parent_station" id) refl refl filled)).0
 
-  pub parent_named : (i : IdColumn) (t : List ℕ) (o : Option ℕ) → i ≡ ids_in d file.Stops (codes "stop_id") → t ≡ text_in d file.Stops n (codes "parent_station")
+  pub parent_named : (i : FirstRows) (t : List ℕ) (o : Option ℕ) → i ≡ first_rows d file.Stops (codes "stop_id") → t ≡ text_in d file.Stops n (codes "parent_station")
       → o ≡ number_with i t → option_map (text_of_number (ids_of d file.Stops "stop_id")) o ≡ word_in d file.Stops n "parent_station"
   parent_named i t o same is number =
       ap (option_map (text_of_number (ids_of d file.Stops "stop_id"))) (same_number (λ o. o) i _ t _ o same is number)
@@ -87,7 +88,7 @@ module _ (d : Dataset) (passes : Passes d) (n : ℕ) (row : is_row (records_in d
     (is_there : column_named y (codes target) ≡ Some (required target id)) where
   pub end_named : (column : Literal) → column_named file.Transfers (codes column) ≡ Some (optional column id)
       → (is_empty (text_in d file.Transfers n (codes column)) ≡ false → (not (is_known d ((y, codes target) ∷ []) (text_in d file.Transfers n (codes column))) || false) ≡ false)
-      → (i : IdColumn) (t : List ℕ) (o : Option ℕ) → i ≡ ids_in d y (codes target) → t ≡ text_in d file.Transfers n (codes column) → o ≡ number_with i t
+      → (i : FirstRows) (t : List ℕ) (o : Option ℕ) → i ≡ first_rows d y (codes target) → t ≡ text_in d file.Transfers n (codes column) → o ≡ number_with i t
       → option_map (text_of_number (ids_of d y target)) o ≡ word_in d file.Transfers n column
   end_named column there told i t o same is number =
       ap (option_map (text_of_number (ids_of d y target))) (same_number (λ o. o) i _ t _ o same is number)
@@ -102,21 +103,16 @@ abbrev put_in : List (List ℕ × ℕ) → List ℕ × ℕ → List (List ℕ ×
 put_in es e = put text_cmp e.0 e.1 es
 
 -- of one row alone, and of none
-only_row : (i : IdColumn) (m : ℕ) → rows i.dataset i.file ≡ m ∷ [] → rows_by_number i ≡ m ∷ []
-only_row i m one =
-    let named : ℕ → List ℕ × ℕ = λ n. (text_in i.dataset i.file n i.column, n) in
+only_row : (d : Dataset) (x : File) (column : List ℕ) (m : ℕ) → rows d x ≡ m ∷ [] → rows_by_number (first_rows d x column) ≡ m ∷ []
+only_row d x column m one =
+    let named : ℕ → List ℕ × ℕ = λ n. (text_in d x n column, n) in
     let e = named m in
     let start = table.empty {X = ℕ} {R = text_cmp} in
     ap (λ ns. table.values (table.from_entries {R = text_cmp} (map named ns))) one
     ∙ ap (map (λ e. e.1)) (table.entries-insert nat_list_cmp_total start e.0 e.1 ∙ ap (put text_cmp e.0 e.1) (no_entries text_cmp))
 
-not_any_row : (i : IdColumn) → rows i.dataset i.file ≡ [] → rows_by_number i ≡ []
-not_any_row i none =
-    let named : ℕ → List ℕ × ℕ = λ n. (text_in i.dataset i.file n i.column, n) in
-    ap (λ ns. table.values (table.from_entries {R = text_cmp} (map named ns))) none ∙ ap (map (λ e. e.1)) (no_entries text_cmp)
-
-only_id : (i : IdColumn) (m : ℕ) → rows i.dataset i.file ≡ m ∷ [] → ids_of_column i ≡ text_in i.dataset i.file m i.column ∷ []
-only_id i m one = ids_read i ∙ ap (map (λ n. text_in i.dataset i.file n i.column)) (only_row i m one)
+only_id : (d : Dataset) (x : File) (column : List ℕ) (m : ℕ) → rows d x ≡ m ∷ [] → ids_of_column (first_rows d x column) ≡ text_in d x m column ∷ []
+only_id d x column m one = ids_read d x column ∙ ap (map (λ n. text_in d x n column)) (only_row d x column m one)
 
 -- a dataset that passes has an agency
 module _ (d : Dataset) (passes : Passes d) where
@@ -150,10 +146,10 @@ module _ (d : Dataset) (passes : Passes d) (n : ℕ) (row : is_row (records_in d
   abbrev agency_there : List ℕ
   agency_there = text_in d file.Routes n (codes "agency_id")
 
-  abbrev agency_ids : IdColumn
-  agency_ids = ids_in d file.Agency (codes "agency_id")
+  abbrev agency_ids : FirstRows
+  agency_ids = first_rows d file.Agency (codes "agency_id")
 
-  agency_known : is_empty agency_there ≡ false → is_some (row_with d file.Agency (codes "agency_id") agency_there) ≡ true
+  agency_known : is_empty agency_there ≡ false → is_some (first_row_with agency_ids agency_there) ≡ true
   agency_known filled =
       known_one d file.Agency (codes "agency_id") agency_there
       (or_parts (not (is_known d ((file.Agency, codes "agency_id") ∷ []) agency_there)) false
@@ -175,14 +171,14 @@ module _ (d : Dataset) (passes : Passes d) (n : ℕ) (row : is_row (records_in d
 
   -- the number is that of the only agency
   one_number : (m : ℕ) → rows d file.Agency ≡ m ∷ [] → (t : List ℕ) → unwrap_or (number_with agency_ids t) 0 ≡ 0
-  one_number m one t = first_of_one (number_with agency_ids t) (subst (λ ids. is_within (length ids) (number_with agency_ids t) ≡ true) (only_id agency_ids m one) (number_within agency_ids t))
+  one_number m one t = first_of_one (number_with agency_ids t) (subst (λ ids. is_within (length ids) (number_with agency_ids t) ≡ true) (only_id d file.Agency (codes "agency_id") m one) (number_within agency_ids t))
 
   only_agency : (ns : List ℕ) → rows d file.Agency ≡ ns → nat_lt 1 (length ns) ≡ false → (t : List ℕ)
       → text_of_number (ids_of d file.Agency "agency_id") (unwrap_or (number_with agency_ids t) 0) ≡ first_agency d ns
   only_agency [] none few t = let some : nat_lt 0 0 ≡ true = rw none at (has_agency d passes) in cc some
   only_agency (m ∷ []) one few t =
       ap (text_of_number (ids_of d file.Agency "agency_id")) (one_number m one t)
-      ∙ ap (λ ids. text_of_number ids 0) (only_id agency_ids m one)
+      ∙ ap (λ ids. text_of_number ids 0) (only_id d file.Agency (codes "agency_id") m one)
       ∙ sym (text_at_is d passes file.Agency m (agency_row m one) "agency_id" (optional "agency_id" id) refl refl)
     where
       agency_row : (m : ℕ) → rows d file.Agency ≡ m ∷ [] → is_row (records_in d file.Agency) m ≡ true
@@ -208,13 +204,13 @@ module _ (d : Dataset) (passes : Passes d) (n : ℕ) (row : is_row (records_in d
   ]
 
   -- the agency of a route, or the only one
-  pub agency_named : (i : IdColumn) (t : List ℕ) (k : ℕ) → i ≡ agency_ids → t ≡ agency_there → k ≡ unwrap_or (number_with i t) 0
+  pub agency_named : (i : FirstRows) (t : List ℕ) (k : ℕ) → i ≡ agency_ids → t ≡ agency_there → k ≡ unwrap_or (number_with i t) 0
       → text_of_number (ids_of d file.Agency "agency_id") k ≡ unwrap_or (word_in d file.Routes n "agency_id") (first_agency d (rows d file.Agency))
   agency_named i t k same is number =
       ap (text_of_number (ids_of d file.Agency "agency_id")) (same_number (λ o. unwrap_or o 0) i agency_ids t agency_there k same is number) ∙ agency_is
 
 -- a number that is that of a row, or the first one where there is a row
-pub first_within : (i : IdColumn) (t : List ℕ) (k : ℕ) → k ≡ unwrap_or (number_with i t) 0 → nat_lt 0 (length (ids_of_column i)) ≡ true → nat_lt k (length (ids_of_column i)) ≡ true
+pub first_within : (i : FirstRows) (t : List ℕ) (k : ℕ) → k ≡ unwrap_or (number_with i t) 0 → nat_lt 0 (length (ids_of_column i)) ≡ true → nat_lt k (length (ids_of_column i)) ≡ true
 first_within i t k number some = within (number_with i t) number (number_within i t)
   where
     within : (o : Option ℕ) → k ≡ unwrap_or o 0 → is_within (length (ids_of_column i)) o ≡ true → nat_lt k (length (ids_of_column i)) ≡ true
@@ -222,32 +218,33 @@ first_within i t k number some = within (number_with i t) number (number_within 
     within (Some m) number h = ap (λ k. nat_lt k (length (ids_of_column i))) number ∙ h
 
 -- a column of a file that has a row has an id
-rows_ids : (i : IdColumn) → nat_lt 0 (length (rows i.dataset i.file)) ≡ true → nat_lt 0 (length (ids_of_column i)) ≡ true
-rows_ids i some = from (rows i.dataset i.file) refl some
+rows_ids : (d : Dataset) (x : File) (column : List ℕ) → nat_lt 0 (length (rows d x)) ≡ true → nat_lt 0 (length (ids_of_column (first_rows d x column))) ≡ true
+rows_ids d x column some = from (rows d x) refl some
   where
     some_within : (k : ℕ) (o : Option ℕ) → is_some o ≡ true → is_within k o ≡ true → nat_lt 0 k ≡ true
     some_within k None has within = cc has
     some_within k (Some m) has within = grind (arith, nat_tests, within)
 
-    from : (ns : List ℕ) → rows i.dataset i.file ≡ ns → nat_lt 0 (length ns) ≡ true → nat_lt 0 (length (ids_of_column i)) ≡ true
+    from : (ns : List ℕ) → rows d x ≡ ns → nat_lt 0 (length ns) ≡ true → nat_lt 0 (length (ids_of_column (first_rows d x column))) ≡ true
     from [] is some = cc some
     from (n ∷ ns) is some =
-        let t = text_in i.dataset i.file n i.column in
-        let here : find (λ m. bytes_eq (text_in i.dataset i.file m i.column) t) (n ∷ ns) ≡ Some n = rw (text_itself t) refl in
-        let known : is_some (first_row_with i t) ≡ true = ap is_some (ap (find (λ m. bytes_eq (text_in i.dataset i.file m i.column) t)) is ∙ here) in
-        some_within (length (ids_of_column i)) (number_with i t) (number_there i t known) (number_within i t)
+        let ids = first_rows d x column in
+        let t = text_in d x n column in
+        let here : find (λ m. bytes_eq (text_in d x m column) t) (n ∷ ns) ≡ Some n = rw (text_itself t) refl in
+        let known : is_some (first_row_with ids t) ≡ true = ap is_some (first_row_is d x column t ∙ ap (find (λ m. bytes_eq (text_in d x m column) t)) is ∙ here) in
+        some_within (length (ids_of_column ids)) (number_with ids t) (number_there ids t known) (number_within ids t)
 
 -- the number of an agency, or of the only one, is that of an agency
-pub agency_within : (d : Dataset) → Passes d → (i : IdColumn) (t : List ℕ) (k : ℕ) → i ≡ ids_in d file.Agency (codes "agency_id") → k ≡ unwrap_or (number_with i t) 0
+pub agency_within : (d : Dataset) → Passes d → (i : FirstRows) (t : List ℕ) (k : ℕ) → i ≡ first_rows d file.Agency (codes "agency_id") → k ≡ unwrap_or (number_with i t) 0
     → nat_lt k (length (ids_of d file.Agency "agency_id")) ≡ true
 agency_within d passes i t k same number =
-    let j = ids_in d file.Agency (codes "agency_id") in
-    first_within j t k (same_number (λ o. unwrap_or o 0) i j t t k same refl number) (rows_ids j (has_agency d passes))
+    let j = first_rows d file.Agency (codes "agency_id") in
+    first_within j t k (same_number (λ o. unwrap_or o 0) i j t t k same refl number) (rows_ids d file.Agency (codes "agency_id") (has_agency d passes))
 
-pub end_within : (d : Dataset) (y : File) (target : Literal) (i : IdColumn) (t : List ℕ) (o : Option ℕ) → i ≡ ids_in d y (codes target) → o ≡ number_with i t
+pub end_within : (d : Dataset) (y : File) (target : Literal) (i : FirstRows) (t : List ℕ) (o : Option ℕ) → i ≡ first_rows d y (codes target) → o ≡ number_with i t
     → is_within (length (ids_of d y target)) o ≡ true
 end_within d y target i t o same number =
-    let j = ids_in d y (codes target) in
+    let j = first_rows d y (codes target) in
     ap (is_within (length (ids_of_column j))) (same_number (λ o. o) i j t t o same refl number) ∙ number_within j t
 
 -- ---- references that are always there
@@ -263,10 +260,10 @@ module _ (d : Dataset) (passes : Passes d) (n : ℕ) (row : is_row (records_in d
   abbrev service_there : List ℕ
   service_there = text_in d file.Trips n (codes "service_id")
 
-  abbrev route_ids : IdColumn
-  route_ids = ids_in d file.Routes (codes "route_id")
+  abbrev route_ids : FirstRows
+  route_ids = first_rows d file.Routes (codes "route_id")
 
-  route_known : is_empty route_there ≡ false → is_some (row_with d file.Routes (codes "route_id") route_there) ≡ true
+  route_known : is_empty route_there ≡ false → is_some (first_row_with route_ids route_there) ≡ true
   route_known filled =
       known_one d file.Routes (codes "route_id") route_there
       (or_parts (not (is_known d ((file.Routes, codes "route_id") ∷ []) route_there)) false
@@ -275,14 +272,14 @@ module _ (d : Dataset) (passes : Passes d) (n : ℕ) (row : is_row (records_in d
   route_filled : is_empty route_there ≡ false
   route_filled = filled_required d passes file.Trips n row "route_id" (required "route_id" id) refl refl refl
 
-  pub route_named_by : (i : IdColumn) (t : List ℕ) (k : ℕ) → i ≡ route_ids → t ≡ route_there → k ≡ unwrap_or (number_with i t) 0
+  pub route_named_by : (i : FirstRows) (t : List ℕ) (k : ℕ) → i ≡ route_ids → t ≡ route_there → k ≡ unwrap_or (number_with i t) 0
       → text_of_number (ids_of d file.Routes "route_id") k ≡ text_at d file.Trips n "route_id"
   route_named_by i t k same is number =
       ap (text_of_number (ids_of d file.Routes "route_id")) (same_number (λ o. unwrap_or o 0) i route_ids t route_there k same is number)
       ∙ some_number (text_of_number (ids_of d file.Routes "route_id")) (number_with route_ids route_there) route_there (numbered route_ids route_there (route_known route_filled))
       ∙ sym (text_at_is d passes file.Trips n row "route_id" (required "route_id" id) refl refl)
 
-  pub route_within : (i : IdColumn) (t : List ℕ) (k : ℕ) → i ≡ route_ids → t ≡ route_there → k ≡ unwrap_or (number_with i t) 0
+  pub route_within : (i : FirstRows) (t : List ℕ) (k : ℕ) → i ≡ route_ids → t ≡ route_there → k ≡ unwrap_or (number_with i t) 0
       → nat_lt k (length (ids_of d file.Routes "route_id")) ≡ true
   route_within i t k same is number =
       known_within (number_with route_ids route_there) (same_number (λ o. unwrap_or o 0) i route_ids t route_there k same is number)

@@ -11,7 +11,7 @@ use Rattle.gtfs_table.specs.Tables.{Dataset}
 use Rattle.gtfs_table.specs.declared.file.File.TheVariants as file
 use Rattle.gtfs_columns.specs.Columns.{id, optional, required}
 use Rattle.gtfs_columns.specs.Problems.{Passes}
-use Rattle.gtfs_columns.specs.steps.Ids.{IdColumn, ids_of as ids_of_column}
+use Rattle.gtfs_columns.specs.steps.Ids.{FirstRows, ids_of as ids_of_column}
 use Rattle.gtfs_rows.specs.Reading.{agency_in, content_of, route_in, service_row_in, services_named, stop_in, trip_in}
 use Rattle.gtfs_rows.specs.Views.{agency_of, frequency_of, is_within, service_of}
 use Rattle.gtfs_parts.specs.declared.feed_rows.FeedRows.{FeedRows}
@@ -34,7 +34,7 @@ own_ids f own key xs ys ids same are keys = alike xs ∙ ap (map key) are ∙ ke
     alike (x ∷ xs) = λ i. sym (same x) i ∷ alike xs i
 
 -- a cut by the ids of one column
-pub same_cut : {X : Type 0} (i j : IdColumn) (starts : List ℕ) (xs : List X) → i ≡ j → IsCutInto (length (ids_of_column i)) starts xs → IsCutInto (length (ids_of_column j)) starts xs
+pub same_cut : {X : Type 0} (i j : FirstRows) (starts : List ℕ) (xs : List X) → i ≡ j → IsCutInto (length (ids_of_column i)) starts xs → IsCutInto (length (ids_of_column j)) starts xs
 same_cut i j starts xs same = subst (λ i. IsCutInto (length (ids_of_column i)) starts xs) same
 
 -- what the functions of the lists promise

@@ -27,8 +27,7 @@ use Rattle.gtfs_columns.specs.KeyRules.{all_there, key_in, key_part, same_key}
 use Rattle.gtfs_columns.specs.Problems.{Passes}
 use Rattle.gtfs_columns.specs.Rows.{text_in, value_in, word_in}
 use Rattle.gtfs_columns.specs.Values.{Value, if_both, value_eq, word}
-use Rattle.gtfs_columns.specs.steps.Ids.{IdColumn, ids_of}
-use Rattle.gtfs_columns.specs.IdNumbers.{first_rows}
+use Rattle.gtfs_columns.specs.steps.Ids.{FirstRows, ids_of}
 use Rattle.gtfs_columns.proofs.SiteFacts.{text_itself}
 use Rattle.gtfs_columns.proofs.ValueFacts.{word_value}
 use Rattle.gtfs_rows.specs.declared.transfer.Transfer.{Transfer as TransferRow}
@@ -63,8 +62,8 @@ keys_up (e ∷ es) h =
     let parts = both_hold (below_all text_cmp e.0 es) (is_sorted text_cmp es) h in
     AllPairs-cons (λ x y. text_cmp x y ≡ Less) e.0 (map (λ e. e.0) es) (below_keys e.0 es parts.0) (keys_up es parts.1)
 
-pub ids_up : (i : IdColumn) → Ascends text_cmp (ids_of i)
-ids_up i = keys_up (table.entries (first_rows i.dataset i.file i.column)) (table.entries_sorted (first_rows i.dataset i.file i.column))
+pub ids_up : (ids : FirstRows) → Ascends text_cmp (ids_of ids)
+ids_up ids = keys_up (table.entries ids) (table.entries_sorted ids)
 
 -- ---- numbers stand in the order of ids
 
@@ -194,7 +193,7 @@ pub all_moved : {X : Type 0} (p : X → Bool) (xs ys : List X) → list_all p xs
 all_moved p xs ys all moved = all_of p ys (All-permutation (λ x. p x ≡ true) xs ys moved (λ k d h. all_at p xs k d all h))
 
 -- sorted by the numbers of what they name, what was read of the rows are the transfers
-pub transfers_sorted : (d : Dataset) → Passes d → (i j k : IdColumn) (read sorted : List TransferRow)
+pub transfers_sorted : (d : Dataset) → Passes d → (i j k : FirstRows) (read sorted : List TransferRow)
     → map (transfer_named (ids_of i) (ids_of j) (ids_of k)) read ≡ map (transfer_in d) (rows d file.Transfers)
     → list_all (names_ends (ids_of i) (ids_of j) (ids_of k)) read ≡ true → IsPermutation read sorted → IsSortedByKey transfer_numbers (slice_cmp (option_cmp nat_cmp)) sorted
     → map (transfer_named (ids_of i) (ids_of j) (ids_of k)) sorted ≡ by_key transfer_key_cmp transfer_key (map (transfer_in d) (rows d file.Transfers))

@@ -2,7 +2,7 @@
 
 ghost use Rattle.std.specs.Prelude.{◌≡◌, [], IfOk, OnOk, codes, map};
 ghost use Rattle.gtfs_columns.specs.Problems.{Passes};
-ghost use Rattle.gtfs_columns.specs.steps.Ids.{ids_in, rows_by_number};
+ghost use Rattle.gtfs_columns.specs.steps.Ids.{first_rows, rows_by_number};
 ghost use Rattle.gtfs_rows.specs.Reading.{agency_in, content_of};
 ghost use Rattle.gtfs_rows.specs.Views.{agency_of};
 ghost use Rattle.gtfs_table.specs.declared.file.File.TheVariants as file;
@@ -22,7 +22,7 @@ pub(crate) fn agencies(
     ids: &Ids<'_>,
 ) -> Result<List<Agency>, OutOfMemory>
     requires passes { Passes tables.now }
-    requires ids { ids.now ≡ ids_in tables.now file.Agency (codes "agency_id") }
+    requires ids { ids.now ≡ first_rows tables.now file.Agency (codes "agency_id") }
     ensures { IfOk result (λ rows. map agency_of rows ≡ (content_of tables.now).agencies) }
 {
     let mut agencies = Vec::with_capacity(alloc, ids.len())?;

@@ -3,7 +3,7 @@
 ghost use Rattle.std.specs.Ordering.{nat_cmp};
 ghost use Rattle.std.specs.Prelude.{◌≡◌, [], IfOk, OnOk, codes, length, map};
 ghost use Rattle.gtfs_columns.specs.Problems.{Passes};
-ghost use Rattle.gtfs_columns.specs.steps.Ids.{ids_in, ids_of};
+ghost use Rattle.gtfs_columns.specs.steps.Ids.{first_rows, ids_of};
 ghost use Rattle.gtfs_parts.specs.ByTrip.{AreByTrip};
 ghost use Rattle.gtfs_parts.specs.Cuts.{IsCutInto};
 ghost use Rattle.gtfs_rows.specs.Order.{by_key};
@@ -36,7 +36,7 @@ pub(crate) fn frequencies(
     trips: &Ids<'_>,
 ) -> Result<TripFrequencies, OutOfMemory>
     requires passes { Passes tables.now }
-    requires trips { trips.now ≡ ids_in tables.now file.Trips (codes "trip_id") }
+    requires trips { trips.now ≡ first_rows tables.now file.Trips (codes "trip_id") }
     ensures rows { IfOk result (λ f. map (map frequency_of) (parts f.starts f.rows)
         ≡ map (λ t. t.frequencies) (content_of tables.now).trips) }
     ensures cut { IfOk result (λ f. IsCutInto (length (ids_of trips.now)) f.starts f.rows) }
@@ -58,7 +58,7 @@ fn push_frequencies(
     rows: &mut Vec<Frequency>,
 ) -> Result<(), OutOfMemory>
     requires passes { Passes tables.now }
-    requires trips { trips.now ≡ ids_in tables.now file.Trips (codes "trip_id") }
+    requires trips { trips.now ≡ first_rows tables.now file.Trips (codes "trip_id") }
     requires no_starts { starts.old.items ≡ [] }
     requires no_rows { rows.old.items ≡ [] }
     ensures { OnOk result (AreByTrip tables.now trips.now starts.new.items rows.new.items) }
@@ -116,7 +116,7 @@ impl<'a> FrequencyFile<'a> {
         rows: &mut Vec<Frequency>,
     ) -> Result<(), OutOfMemory>
         requires passes { Passes self.now }
-        requires trips { trips.now ≡ ids_in self.now file.Trips (codes "trip_id") }
+        requires trips { trips.now ≡ first_rows self.now file.Trips (codes "trip_id") }
         requires no_starts { starts.old.items ≡ [] }
         requires no_rows { rows.old.items ≡ [] }
         ensures { OnOk result (AreByTrip self.now trips.now starts.new.items rows.new.items) }

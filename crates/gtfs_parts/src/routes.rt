@@ -2,7 +2,7 @@
 
 ghost use Rattle.std.specs.Prelude.{◌≡◌, ℕ, [], IfOk, OnOk, codes, map, true};
 ghost use Rattle.gtfs_columns.specs.Problems.{Passes};
-ghost use Rattle.gtfs_columns.specs.steps.Ids.{ids_in, rows_by_number};
+ghost use Rattle.gtfs_columns.specs.steps.Ids.{first_rows, rows_by_number};
 ghost use Rattle.gtfs_parts.specs.Named.{ids_of, route_with_texts};
 ghost use Rattle.gtfs_rows.specs.NamedRows.{names_agency, route_named};
 ghost use Rattle.std.specs.List.{list_all};
@@ -30,8 +30,8 @@ pub(crate) fn routes(
     ids: &Ids<'_>,
 ) -> Result<List<Route>, OutOfMemory>
     requires passes { Passes tables.now }
-    requires agencies { agencies.now ≡ ids_in tables.now file.Agency (codes "agency_id") }
-    requires ids { ids.now ≡ ids_in tables.now file.Routes (codes "route_id") }
+    requires agencies { agencies.now ≡ first_rows tables.now file.Agency (codes "agency_id") }
+    requires ids { ids.now ≡ first_rows tables.now file.Routes (codes "route_id") }
     ensures rows { IfOk result (λ rows.
         map (route_named (ids_of tables.now file.Agency "agency_id")) rows
         ≡ (content_of tables.now).routes) }
@@ -100,8 +100,8 @@ impl<'a> RouteFile<'a> {
         routes: &mut Vec<Route>,
     ) -> Result<(), OutOfMemory>
         requires passes { Passes self.now }
-        requires ids { ids.now ≡ ids_in self.now file.Routes (codes "route_id") }
-        requires agencies { agencies.old.ids.now ≡ ids_in self.now file.Agency (codes "agency_id") }
+        requires ids { ids.now ≡ first_rows self.now file.Routes (codes "route_id") }
+        requires agencies { agencies.old.ids.now ≡ first_rows self.now file.Agency (codes "agency_id") }
         requires none { routes.old.items ≡ [] }
         ensures rows { OnOk result
             (map (route_named (ids_of self.now file.Agency "agency_id")) routes.new.items
@@ -125,7 +125,7 @@ impl<'a> RouteFile<'a> {
     ) -> Result<Route, OutOfMemory>
         requires passes { Passes self.now }
         requires row { is_row (records_in self.now file.Routes) row ≡ true }
-        requires agencies { agencies.old.ids.now ≡ ids_in self.now file.Agency (codes "agency_id") }
+        requires agencies { agencies.old.ids.now ≡ first_rows self.now file.Agency (codes "agency_id") }
         ensures value { IfOk result (λ r. route_named (ids_of self.now file.Agency "agency_id") r
             ≡ route_in self.now row) }
         ensures number { IfOk result (λ r.

@@ -2,7 +2,7 @@
 
 ghost use Rattle.std.specs.Prelude.{◌≡◌, ℕ, [], IfOk, OnOk, codes, map, true};
 ghost use Rattle.gtfs_columns.specs.Problems.{Passes};
-ghost use Rattle.gtfs_columns.specs.steps.Ids.{ids_in, rows_by_number};
+ghost use Rattle.gtfs_columns.specs.steps.Ids.{first_rows, rows_by_number};
 ghost use Rattle.gtfs_parts.specs.Named.{ids_of, stop_with_texts};
 ghost use Rattle.gtfs_rows.specs.NamedRows.{names_parent, stop_named};
 ghost use Rattle.std.specs.List.{list_all};
@@ -28,7 +28,7 @@ pub(crate) fn stops(
     ids: &Ids<'_>,
 ) -> Result<List<Stop>, OutOfMemory>
     requires passes { Passes tables.now }
-    requires ids { ids.now ≡ ids_in tables.now file.Stops (codes "stop_id") }
+    requires ids { ids.now ≡ first_rows tables.now file.Stops (codes "stop_id") }
     ensures rows { IfOk result (λ rows.
         map (stop_named (ids_of tables.now file.Stops "stop_id")) rows
         ≡ (content_of tables.now).stops) }
@@ -101,8 +101,8 @@ impl<'a> StopFile<'a> {
         stops: &mut Vec<Stop>,
     ) -> Result<(), OutOfMemory>
         requires passes { Passes self.now }
-        requires ids { ids.now ≡ ids_in self.now file.Stops (codes "stop_id") }
-        requires finder { finder.old.ids.now ≡ ids_in self.now file.Stops (codes "stop_id") }
+        requires ids { ids.now ≡ first_rows self.now file.Stops (codes "stop_id") }
+        requires finder { finder.old.ids.now ≡ first_rows self.now file.Stops (codes "stop_id") }
         requires none { stops.old.items ≡ [] }
         ensures rows { OnOk result
             (map (stop_named (ids_of self.now file.Stops "stop_id")) stops.new.items
@@ -121,7 +121,7 @@ impl<'a> StopFile<'a> {
     fn stop(&self, alloc: Global, row: usize, stops: &mut Finder<'_>) -> Result<Stop, OutOfMemory>
         requires passes { Passes self.now }
         requires row { is_row (records_in self.now file.Stops) row ≡ true }
-        requires stops { stops.old.ids.now ≡ ids_in self.now file.Stops (codes "stop_id") }
+        requires stops { stops.old.ids.now ≡ first_rows self.now file.Stops (codes "stop_id") }
         ensures value { IfOk result (λ s. stop_named (ids_of self.now file.Stops "stop_id") s
             ≡ stop_in self.now row) }
         ensures number { IfOk result (λ s.

@@ -3,7 +3,7 @@
 ghost use Rattle.std.specs.List.{list_all};
 ghost use Rattle.std.specs.Prelude.{◌≡◌, [], IfOk, OnOk, codes, map, option_map, true};
 ghost use Rattle.gtfs_columns.specs.Problems.{Passes};
-ghost use Rattle.gtfs_columns.specs.steps.Ids.{ids_in};
+ghost use Rattle.gtfs_columns.specs.steps.Ids.{first_rows};
 ghost use Rattle.gtfs_rows.specs.TransferEnds.{names_ends, transfer_named, transfer_numbers};
 ghost use Rattle.gtfs_parts.specs.Named.{ids_of};
 ghost use Rattle.gtfs_rows.specs.Reading.{content_of, transfer_in};
@@ -29,9 +29,9 @@ pub(crate) fn transfers(
     trips: &Ids<'_>,
 ) -> Result<List<Transfer>, OutOfMemory>
     requires passes { Passes tables.now }
-    requires stops { stops.now ≡ ids_in tables.now file.Stops (codes "stop_id") }
-    requires routes { routes.now ≡ ids_in tables.now file.Routes (codes "route_id") }
-    requires trips { trips.now ≡ ids_in tables.now file.Trips (codes "trip_id") }
+    requires stops { stops.now ≡ first_rows tables.now file.Stops (codes "stop_id") }
+    requires routes { routes.now ≡ first_rows tables.now file.Routes (codes "route_id") }
+    requires trips { trips.now ≡ first_rows tables.now file.Trips (codes "trip_id") }
     ensures rows { IfOk result (λ rows. map (transfer_named (ids_of tables.now file.Stops "stop_id")
         (ids_of tables.now file.Routes "route_id") (ids_of tables.now file.Trips "trip_id")) rows
         ≡ (content_of tables.now).transfers) }
@@ -58,9 +58,9 @@ fn push_in_file_order(
     transfers: &mut Vec<Transfer>,
 ) -> Result<(), OutOfMemory>
     requires passes { Passes tables.now }
-    requires stops { stops.now ≡ ids_in tables.now file.Stops (codes "stop_id") }
-    requires routes { routes.now ≡ ids_in tables.now file.Routes (codes "route_id") }
-    requires trips { trips.now ≡ ids_in tables.now file.Trips (codes "trip_id") }
+    requires stops { stops.now ≡ first_rows tables.now file.Stops (codes "stop_id") }
+    requires routes { routes.now ≡ first_rows tables.now file.Routes (codes "route_id") }
+    requires trips { trips.now ≡ first_rows tables.now file.Trips (codes "trip_id") }
     requires none { transfers.old.items ≡ [] }
     ensures rows { OnOk result (map (transfer_named (ids_of tables.now file.Stops "stop_id")
         (ids_of tables.now file.Routes "route_id")
@@ -169,9 +169,9 @@ impl<'a> TransferFile<'a> {
     ) -> Transfer
         requires passes { Passes self.now }
         requires row { is_row (records_in self.now file.Transfers) row ≡ true }
-        requires stops { stops.old.ids.now ≡ ids_in self.now file.Stops (codes "stop_id") }
-        requires routes { routes.old.ids.now ≡ ids_in self.now file.Routes (codes "route_id") }
-        requires trips { trips.old.ids.now ≡ ids_in self.now file.Trips (codes "trip_id") }
+        requires stops { stops.old.ids.now ≡ first_rows self.now file.Stops (codes "stop_id") }
+        requires routes { routes.old.ids.now ≡ first_rows self.now file.Routes (codes "route_id") }
+        requires trips { trips.old.ids.now ≡ first_rows self.now file.Trips (codes "trip_id") }
         ensures value { transfer_named (ids_of self.now file.Stops "stop_id")
             (ids_of self.now file.Routes "route_id") (ids_of self.now file.Trips "trip_id") result
             ≡ transfer_in self.now row }

@@ -2,7 +2,7 @@
 
 ghost use Rattle.std.specs.Prelude.{◌≡◌, ℕ, [], IfOk, OnOk, codes, map, true};
 ghost use Rattle.gtfs_columns.specs.Problems.{Passes};
-ghost use Rattle.gtfs_columns.specs.steps.Ids.{ids_in, rows_by_number};
+ghost use Rattle.gtfs_columns.specs.steps.Ids.{first_rows, rows_by_number};
 ghost use Rattle.gtfs_parts.specs.Named.{ids_of, trip_with_texts};
 ghost use Rattle.gtfs_rows.specs.NamedRows.{names_route_and_service, trip_named, without_rows};
 ghost use Rattle.std.specs.List.{list_all};
@@ -32,10 +32,10 @@ pub(crate) fn trips(
     ids: &Ids<'_>,
 ) -> Result<List<Trip>, OutOfMemory>
     requires passes { Passes tables.now }
-    requires routes { routes.now ≡ ids_in tables.now file.Routes (codes "route_id") }
+    requires routes { routes.now ≡ first_rows tables.now file.Routes (codes "route_id") }
     requires services { services.now ≡ service_ids tables.now }
     requires named { HasAll (service_texts tables.now) services.now }
-    requires ids { ids.now ≡ ids_in tables.now file.Trips (codes "trip_id") }
+    requires ids { ids.now ≡ first_rows tables.now file.Trips (codes "trip_id") }
     ensures rows { IfOk result (λ rows.
         map (trip_named (ids_of tables.now file.Routes "route_id") (service_ids tables.now)) rows
         ≡ map without_rows (content_of tables.now).trips) }
@@ -101,8 +101,8 @@ impl<'a> TripFile<'a> {
         trips: &mut Vec<Trip>,
     ) -> Result<(), OutOfMemory>
         requires passes { Passes self.now }
-        requires ids { ids.now ≡ ids_in self.now file.Trips (codes "trip_id") }
-        requires routes { routes.old.ids.now ≡ ids_in self.now file.Routes (codes "route_id") }
+        requires ids { ids.now ≡ first_rows self.now file.Trips (codes "trip_id") }
+        requires routes { routes.old.ids.now ≡ first_rows self.now file.Routes (codes "route_id") }
         requires services { services.now ≡ service_ids self.now }
         requires named { HasAll (service_texts self.now) services.now }
         requires none { trips.old.items ≡ [] }
@@ -130,7 +130,7 @@ impl<'a> TripFile<'a> {
     ) -> Result<Trip, OutOfMemory>
         requires passes { Passes self.now }
         requires row { is_row (records_in self.now file.Trips) row ≡ true }
-        requires routes { routes.old.ids.now ≡ ids_in self.now file.Routes (codes "route_id") }
+        requires routes { routes.old.ids.now ≡ first_rows self.now file.Routes (codes "route_id") }
         requires services { services.now ≡ service_ids self.now }
         requires named { HasAll (service_texts self.now) services.now }
         ensures value { IfOk result (λ t. trip_named (ids_of self.now file.Routes "route_id")

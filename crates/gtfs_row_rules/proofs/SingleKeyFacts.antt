@@ -12,7 +12,7 @@ use Rattle.gtfs_table.specs.declared.file.File.{File}
 use Rattle.gtfs_columns.specs.declared.code.Code.TheVariants as code
 use Rattle.gtfs_columns.specs.Columns.{id}
 use Rattle.gtfs_columns.specs.steps.Found.{Reports}
-use Rattle.gtfs_columns.specs.steps.Ids.{IdColumn, ids_in}
+use Rattle.gtfs_columns.specs.steps.Ids.{FirstRows, first_rows}
 use Rattle.gtfs_columns.specs.KeyRules.{all_there, key_twice}
 use Rattle.gtfs_columns.specs.steps.Picks.{at_column, in_file, is_kept}
 use Rattle.gtfs_columns.specs.Problems.{Problem, holds, is_code, is_problem}
@@ -22,6 +22,7 @@ use Rattle.gtfs_columns.specs.Rows.{text_in}
 use Rattle.gtfs_row_rules.specs.SingleKeys.{is_repeated}
 use Rattle.gtfs_columns.specs.Reads.{is_id}
 use Rattle.gtfs_columns.specs.Values.{Value, word, value_eq, has_control, if_both, if_there, readable}
+use Rattle.gtfs_columns.proofs.IdFacts.{first_row_is}
 use Rattle.gtfs_columns.proofs.BoolFacts.{same_test, no_test, and_parts}
 use Rattle.gtfs_columns.proofs.SiteFacts.{code_is, file_is, text_is, text_itself}
 use Rattle.gtfs_columns.proofs.ReportingFacts.{reports_alike}
@@ -108,15 +109,18 @@ first_repeats d x text n = elim (cases_Bool (is_id (text n))) [
   | inr none ↦ rw none (ap (λ (f : ℕ → Bool). list_any (λ m. nat_lt m n && f m) (rows d x)) (λ i m. no_key (text n) (text m) none i) ∙ never (rows d x) n)
 ]
 
-pub single_reported : (d : Dataset) (x : File) (name : List ℕ) (i : IdColumn) → i ≡ ids_in d x name → (n : ℕ)
+pub single_reported : (d : Dataset) (x : File) (name : List ℕ) (i : FirstRows) → i ≡ first_rows d x name → (n : ℕ)
     → (is_row (records_in d x) n && list_any (λ m. nat_lt m n && same_keys (text_in d x n name) (text_in d x m name)) (rows d x))
     ≡ (is_row (records_in d x) n && is_repeated i (text_in d x n name) n)
 single_reported d x name i ids n =
     let row = is_row (records_in d x) n in
-    ap (λ b. row && b) (first_repeats d x (λ m. text_in d x m name) n) ∙ (λ k. row && is_repeated (sym ids k) (text_in d x n name) n)
+    let text = text_in d x n name in
+    ap (λ b. row && b) (first_repeats d x (λ m. text_in d x m name) n)
+    ∙ (λ k. row && (is_id text && if_there (sym (first_row_is d x name text) k) (λ m. nat_lt m n)))
+    ∙ (λ k. row && is_repeated (sym ids k) text n)
 
 -- the rule reads the ids and the text that are asked for
-pub repeats_alike : (reported row : Bool) (i j : IdColumn) (t u : List ℕ) (n : ℕ) → reported ≡ (row && is_repeated i t n) → j ≡ i → u ≡ t → reported ≡ (row && is_repeated j u n)
+pub repeats_alike : (reported row : Bool) (i j : FirstRows) (t u : List ℕ) (n : ℕ) → reported ≡ (row && is_repeated i t n) → j ≡ i → u ≡ t → reported ≡ (row && is_repeated j u n)
 repeats_alike reported row i j t u n rule ids text = rule ∙ (λ k. row && is_repeated (sym ids k) (sym text k) n)
 
 -- ---- reported in a file

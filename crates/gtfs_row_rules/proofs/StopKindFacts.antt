@@ -5,7 +5,7 @@ use Rattle.std.specs.List.{list_any}
 use Rattle.gtfs_table.specs.Tables.{Dataset}
 use Rattle.gtfs_table.specs.declared.file.File.{File}
 use Rattle.gtfs_table.specs.declared.file.File.TheVariants as file
-use Rattle.gtfs_columns.specs.steps.Ids.{IdColumn, ids_in}
+use Rattle.gtfs_columns.specs.steps.Ids.{FirstRows, first_rows}
 use Rattle.gtfs_columns.specs.steps.Picks.{is_kept}
 use Rattle.gtfs_columns.specs.Problems.{FileName, kept, other}
 use Rattle.gtfs_columns.specs.Rows.{choice_in, is_file}
@@ -19,12 +19,12 @@ use Rattle.gtfs_columns.proofs.StopTypeFacts.{alone, kind_sites, read_type, same
 -- ---- rows that name stops
 
 -- the rule reads the ids and the text that are asked for
-pub kinds_alike : (reported row : Bool) (types : List (Option ℤ)) (wanted : List ℕ) (i j : IdColumn) (t u : List ℕ)
+pub kinds_alike : (reported row : Bool) (types : List (Option ℤ)) (wanted : List ℕ) (i j : FirstRows) (t u : List ℕ)
     → reported ≡ (row && if_there (type_with types i t) (λ x. not (is_one_of wanted x))) → j ≡ i → u ≡ t
     → reported ≡ (row && if_there (type_with types j u) (λ x. not (is_one_of wanted x)))
 kinds_alike reported row types wanted i j t u rule ids text = rule ∙ (λ k. row && if_there (type_with types (sym ids k) (sym text k)) (λ x. not (is_one_of wanted x)))
 
-module _ (d : Dataset) (types : List (Option ℤ)) (all : AreStopTypes d types) (i : IdColumn) (ids : i ≡ ids_in d file.Stops (codes "stop_id")) where
+module _ (d : Dataset) (types : List (Option ℤ)) (all : AreStopTypes d types) (i : FirstRows) (ids : i ≡ first_rows d file.Stops (codes "stop_id")) where
   no_parent : (a b : Bool) → ((a && false) || (b && false)) ≡ false
   no_parent true true = refl
   no_parent true false = refl
@@ -37,7 +37,7 @@ module _ (d : Dataset) (types : List (Option ℤ)) (all : AreStopTypes d types) 
   parent_moved (Some o) None = no_parent (is_one_of (0 ∷ 2 ∷ 3 ∷ []) o) (is_one_of (4 ∷ []) o)
   parent_moved (Some o) (Some t) = refl
 
-  pub parent_reported : (row : Bool) (n : ℕ) (t u : List ℕ) (j : IdColumn) → u ≡ t → j ≡ i
+  pub parent_reported : (row : Bool) (n : ℕ) (t u : List ℕ) (j : FirstRows) → u ≡ t → j ≡ i
       → ((row && if_there (choice_in d file.Stops n "location_type") (λ o. (is_one_of (0 ∷ 2 ∷ 3 ∷ []) o && if_there (read_type d types all i ids t) (λ t. not (is_one_of (1 ∷ []) t)))
       || (is_one_of (4 ∷ []) o && if_there (read_type d types all i ids t) (λ t. not (is_one_of (0 ∷ []) t))))) || false)
       ≡ (row && if_there (type_of types n) (λ own. if_there (type_with types j u) (is_other_parent own)))

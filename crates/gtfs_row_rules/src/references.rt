@@ -1,7 +1,7 @@
 ghost use Rattle.std.specs.Prelude.{◌≡◌, codes, OnOk};
 ghost use Rattle.gtfs_columns.specs.steps.FeedIds.{AreIdsOf};
 ghost use Rattle.gtfs_columns.specs.steps.Found.{Reports};
-ghost use Rattle.gtfs_columns.specs.steps.Ids.{ids_in};
+ghost use Rattle.gtfs_columns.specs.steps.Ids.{first_rows};
 ghost use Rattle.gtfs_columns.specs.steps.Picks.{at_column, elsewhere};
 ghost use Rattle.gtfs_columns.specs.steps.SitePicks.{at_sites};
 ghost use Rattle.gtfs_columns.specs.steps.ReferencePicks.{route_names, service_names, stop_names, trip_names};
@@ -76,7 +76,7 @@ fn report_unknown_stops<'a>(
     stops: &Ids<'a>,
     found: &mut Found<'a>,
 ) -> Result<(), OutOfMemory>
-    requires { stops.now ≡ ids_in tables.now File.Stops (codes "stop_id") }
+    requires { stops.now ≡ first_rows tables.now File.Stops (codes "stop_id") }
     ensures { OnOk result (Reports tables.now (at_sites Code.E10 stop_names) found.old found.new) }
 {
     report_unknown(tables, File::Stops, "parent_station", stops, found)?;
@@ -89,7 +89,7 @@ fn report_unknown_routes<'a>(
     routes: &Ids<'a>,
     found: &mut Found<'a>,
 ) -> Result<(), OutOfMemory>
-    requires { routes.now ≡ ids_in tables.now File.Routes (codes "route_id") }
+    requires { routes.now ≡ first_rows tables.now File.Routes (codes "route_id") }
     ensures { OnOk result (Reports tables.now (at_sites Code.E10 route_names) found.old found.new) }
 {
     report_unknown(tables, File::Trips, "route_id", routes, found)?;
@@ -102,7 +102,7 @@ fn report_unknown_trips<'a>(
     trips: &Ids<'a>,
     found: &mut Found<'a>,
 ) -> Result<(), OutOfMemory>
-    requires { trips.now ≡ ids_in tables.now File.Trips (codes "trip_id") }
+    requires { trips.now ≡ first_rows tables.now File.Trips (codes "trip_id") }
     ensures { OnOk result (Reports tables.now (at_sites Code.E10 trip_names) found.old found.new) }
 {
     report_unknown(tables, File::Frequencies, "trip_id", trips, found)?;

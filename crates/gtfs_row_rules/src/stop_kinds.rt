@@ -1,6 +1,6 @@
 ghost use Rattle.std.specs.Prelude.{◌≡◌, ◌∷◌, [], not, codes, OnOk};
 ghost use Rattle.gtfs_columns.specs.steps.Found.{Reports};
-ghost use Rattle.gtfs_columns.specs.steps.Ids.{ids_in};
+ghost use Rattle.gtfs_columns.specs.steps.Ids.{first_rows};
 ghost use Rattle.gtfs_columns.specs.steps.Picks.{at_column, elsewhere};
 ghost use Rattle.gtfs_columns.specs.Rows.{text_in};
 ghost use Rattle.gtfs_row_rules.specs.RowRules.{HoldsWhere};
@@ -97,7 +97,7 @@ pub fn report_stop_kinds<'a>(
     types: &[Option<i64>],
     found: &mut Found<'a>,
 ) -> Result<(), OutOfMemory>
-    requires ids { stops.now ≡ ids_in tables.now File.Stops (codes "stop_id") }
+    requires ids { stops.now ≡ first_rows tables.now File.Stops (codes "stop_id") }
     requires types { AreStopTypes tables.now types.now }
     ensures { OnOk result (Reports tables.now (elsewhere Code.E11) found.old found.new) }
 {
@@ -112,7 +112,7 @@ fn report_parents<'a>(
     types: &[Option<i64>],
     found: &mut Found<'a>,
 ) -> Result<(), OutOfMemory>
-    requires ids { stops.now ≡ ids_in tables.now File.Stops (codes "stop_id") }
+    requires ids { stops.now ≡ first_rows tables.now File.Stops (codes "stop_id") }
     requires types { AreStopTypes tables.now types.now }
     ensures { OnOk result
         (Reports tables.now (at_column Code.E11 File.Stops (codes "parent_station"))

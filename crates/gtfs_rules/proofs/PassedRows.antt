@@ -12,19 +12,20 @@ use Rattle.gtfs_columns.specs.ReadRules.{StandsDefaulting, StandsRequired, Stand
 use Rattle.gtfs_columns.specs.Reads.{amount_of, choice_of, word_of}
 use Rattle.gtfs_columns.specs.Rows.{row_with}
 use Rattle.gtfs_columns.specs.Values.{meaning, readable}
-use Rattle.gtfs_columns.specs.steps.Ids.{IdColumn, first_row_with, ids_in, ids_of, number_with}
+use Rattle.gtfs_columns.specs.steps.Ids.{FirstRows, first_row_with, first_rows, ids_of, number_with}
 use Rattle.gtfs_trip_rules.specs.declared.trips.row.StopTime.{StopTime}
 use Rattle.gtfs_trip_rules.specs.Kept.{AreTimesRead, Keeps}
 use Rattle.gtfs_trip_rules.specs.KeptTimes.{is_placed}
 use Rattle.gtfs_trip_rules.specs.StopTimes.{text_at}
 use Rattle.gtfs_rules.specs.StopTimes.{SaysStopTime}
+use Rattle.gtfs_columns.proofs.IdFacts.{first_row_is}
 use Rattle.gtfs_columns.proofs.IdNumberFacts.{id_of_number, number_there}
 use Rattle.gtfs_columns.proofs.ReadFacts.{amount_some, id_there, read_as_there, read_stands, stands}
 
 -- ---- numbers of ids
 
 -- a number that is that of an id, which a row has
-named_id : (i : IdColumn) (t : List ℕ) (r : ℕ) → is_some (first_row_with i t) ≡ true → ((m : ℕ) → number_with i t ≡ Some m → r ≡ m) → slice_get (ids_of i) r ≡ Some t
+named_id : (i : FirstRows) (t : List ℕ) (r : ℕ) → is_some (first_row_with i t) ≡ true → ((m : ℕ) → number_with i t ≡ Some m → r ≡ m) → slice_get (ids_of i) r ≡ Some t
 named_id i t r there is = from (number_with i t) refl (number_there i t there)
   where
     from : (o : Option ℕ) → number_with i t ≡ o → is_some o ≡ true → slice_get (ids_of i) r ≡ Some t
@@ -90,13 +91,13 @@ module _ (d : Dataset) (passes : Passes d) (n : ℕ) (row : is_row (records_in d
     departure = read_stands time nothing (text_at d n "departure_time") departure_stands;
   }
 
-  trip_known : is_some (row_with d file.Trips (codes "trip_id") (text_at d n "trip_id")) ≡ true
-  trip_known = known_there (is_row (records_in d file.StopTimes) n) (is_some (readable id (text_at d n "trip_id"))) (is_some (row_with d file.Trips (codes "trip_id") (text_at d n "trip_id")))
+  trip_known : is_some (first_row_with (first_rows d file.Trips (codes "trip_id")) (text_at d n "trip_id")) ≡ true
+  trip_known = ap is_some (first_row_is d file.Trips (codes "trip_id") (text_at d n "trip_id")) ∙ known_there (is_row (records_in d file.StopTimes) n) (is_some (readable id (text_at d n "trip_id"))) (is_some (row_with d file.Trips (codes "trip_id") (text_at d n "trip_id")))
       row (read_as_there id _ (text_at d n "trip_id") trip_stands refl)
       (passes (record { file = kept file.StopTimes; row = n; code = code.E10; column = codes "trip_id" }) refl)
 
-  stop_known : is_some (row_with d file.Stops (codes "stop_id") (text_at d n "stop_id")) ≡ true
-  stop_known = known_there (is_row (records_in d file.StopTimes) n) (is_some (readable id (text_at d n "stop_id"))) (is_some (row_with d file.Stops (codes "stop_id") (text_at d n "stop_id")))
+  stop_known : is_some (first_row_with (first_rows d file.Stops (codes "stop_id")) (text_at d n "stop_id")) ≡ true
+  stop_known = ap is_some (first_row_is d file.Stops (codes "stop_id") (text_at d n "stop_id")) ∙ known_there (is_row (records_in d file.StopTimes) n) (is_some (readable id (text_at d n "stop_id"))) (is_some (row_with d file.Stops (codes "stop_id") (text_at d n "stop_id")))
       row (read_as_there id _ (text_at d n "stop_id") stop_stands refl)
       (passes (record { file = kept file.StopTimes; row = n; code = code.E10; column = codes "stop_id" }) refl)
 
@@ -105,10 +106,10 @@ module _ (d : Dataset) (passes : Passes d) (n : ℕ) (row : is_row (records_in d
 pub says : (d : Dataset) → Passes d → (s : StopTime) → is_row (records_in d file.StopTimes) s.row ≡ true → is_placed s.times ≡ true → Keeps d s → SaysStopTime d s
 says d passes s row placed keeps = record {
   row = row;
-  trip = named_id (ids_in d file.Trips (codes "trip_id")) (text_at d s.row "trip_id") s.trip (trip_known d passes s.row row)
+  trip = named_id (first_rows d file.Trips (codes "trip_id")) (text_at d s.row "trip_id") s.trip (trip_known d passes s.row row)
       (λ m e. keeps.trip m (ap (option_and_then (number_in d file.Trips (codes "trip_id"))) (trip_is d passes s.row row) ∙ e))
       ∙ sym (trip_is d passes s.row row);
-  stop = named_id (ids_in d file.Stops (codes "stop_id")) (text_at d s.row "stop_id") s.stop (stop_known d passes s.row row)
+  stop = named_id (first_rows d file.Stops (codes "stop_id")) (text_at d s.row "stop_id") s.stop (stop_known d passes s.row row)
       (λ m e. keeps.rest.stop m (ap (option_and_then (number_in d file.Stops (codes "stop_id"))) (stop_is d passes s.row row) ∙ e))
       ∙ sym (stop_is d passes s.row row);
   arrival_time = keeps.rest.arrival placed (times_read d passes s.row row);

@@ -14,12 +14,12 @@ use Rattle.gtfs_trip_rules.specs.declared.stop_times.columns.ReadStopTime.{ReadS
 use Rattle.gtfs_trip_rules.specs.declared.stop_times.named.NamedRows.{NamedRows}
 use Rattle.gtfs_columns.specs.Columns.{id, time}
 use Rattle.gtfs_columns.specs.steps.Found.{Adds, is_same}
-use Rattle.gtfs_columns.specs.steps.Ids.{IdColumn, first_row_with, ids_in}
+use Rattle.gtfs_columns.specs.steps.Ids.{FirstRows, first_row_with, first_rows}
 use Rattle.gtfs_columns.specs.steps.Picks.{at_column}
 use Rattle.gtfs_columns.specs.steps.SitePicks.{at_sites}
 use Rattle.gtfs_columns.specs.Problems.{Problem, holds_in, is_problem}
 use Rattle.gtfs_trip_rules.specs.Readings.{is_blank, text_of, value_in}
-use Rattle.gtfs_columns.specs.Reads.{amount_of, is_id}
+use Rattle.gtfs_columns.specs.Reads.{amount_of}
 use Rattle.gtfs_table.specs.Rows.{is_row, records_in, is_empty}
 use Rattle.gtfs_columns.specs.steps.StopTypes.{type_of, type_with}
 use Rattle.gtfs_trip_rules.specs.StopTimePicks.{at_row, departures_in_rows, in_names, in_times, names_in_rows, stops_in_rows, times_in_rows}
@@ -28,6 +28,7 @@ use Rattle.gtfs_columns.specs.TripRules.{lacks_time, leaves_early}
 use Rattle.gtfs_columns.specs.steps.UnknownIds.{is_unknown}
 use Rattle.gtfs_columns.specs.Values.{word, amount, as_amount, as_word, has_control, if_both, if_there, is_one_of, readable}
 use Rattle.gtfs_columns.proofs.SiteFacts.{problem_at}
+use Rattle.gtfs_columns.proofs.ReferenceFacts.{unknown_in}
 use Rattle.gtfs_columns.proofs.RuleFacts.{row_reported}
 use Rattle.gtfs_columns.proofs.StepFacts.{alone}
 use Rattle.gtfs_columns.proofs.StopTypeFacts.{named_reported}
@@ -75,29 +76,21 @@ worded_text (Some t) = refl
 abbrev pub Rules : Dataset → Code → List ℕ → (ℕ → Bool) → Type 0
 Rules d c name breaks = (n : ℕ) → holds_in c d file.StopTimes n name ≡ (is_row (records_in d file.StopTimes) n && breaks n)
 
-known_once : (row there known : Bool) → ((row && there) && (not (known || false) || false)) ≡ (row && (there && not known))
-known_once true true true = refl
-known_once true true false = refl
-known_once true false known = refl
-known_once false there known = refl
-
 module _ (d : Dataset) where
   abbrev pub stop_unknown : ℕ → Bool
-  stop_unknown n = is_unknown (ids_in d file.Stops (codes "stop_id")) (text_at d n "stop_id")
+  stop_unknown n = is_unknown (first_rows d file.Stops (codes "stop_id")) (text_at d n "stop_id")
 
   abbrev pub trip_unknown : ℕ → Bool
-  trip_unknown n = is_unknown (ids_in d file.Trips (codes "trip_id")) (text_at d n "trip_id")
+  trip_unknown n = is_unknown (first_rows d file.Trips (codes "trip_id")) (text_at d n "trip_id")
 
   abbrev pub other_kind : NamedRows → ℕ → Bool
   other_kind r n = if_there (type_with r.types.now r.stops.ids.now (text_at d n "stop_id")) (λ t. not (is_one_of (0 ∷ []) t))
 
   pub stop_rule : Rules d code.E10 (codes "stop_id") stop_unknown
-  stop_rule n = known_once (is_row (records_in d file.StopTimes) n) (is_id (text_at d n "stop_id"))
-      (is_some (first_row_with (ids_in d file.Stops (codes "stop_id")) (text_at d n "stop_id")))
+  stop_rule n = unknown_in d file.StopTimes n (codes "stop_id") file.Stops (codes "stop_id") _ refl
 
   pub trip_rule : Rules d code.E10 (codes "trip_id") trip_unknown
-  trip_rule n = known_once (is_row (records_in d file.StopTimes) n) (is_id (text_at d n "trip_id"))
-      (is_some (first_row_with (ids_in d file.Trips (codes "trip_id")) (text_at d n "trip_id")))
+  trip_rule n = unknown_in d file.StopTimes n (codes "trip_id") file.Trips (codes "trip_id") _ refl
 
   pub kind_rule : (r : NamedRows) → AreNamedRows d r → Rules d code.E11 (codes "stop_id") (other_kind r)
   kind_rule r named n = named_reported d r.types.now named.types r.stops.ids.now named.stops (is_row (records_in d file.StopTimes) n) (0 ∷ []) (text_at d n "stop_id")
@@ -151,7 +144,7 @@ module _ (d : Dataset) (s : ReadStopTime) (is : IsRow d s) where
 
 -- ---- named rows
 
-module _ (i : IdColumn) (t : List ℕ) where
+module _ (i : FirstRows) (t : List ℕ) where
   unknown_shape : (v : Option (Bor (List ℕ))) (empty control : Bool)
       → option_map (λ t. word t.now) v ≡ (if empty then None else result_ok (shaped (not control) (Ok (word t))))
       → (is_some v && not (is_some (option_and_then (first_row_with i) (text_of v))))

@@ -15,7 +15,7 @@ use Rattle.gtfs_columns.specs.Columns.{Kind, id, text, count, time, up_to}
 use Rattle.gtfs_columns.specs.steps.FieldCodes.{is_found_at, length_code}
 use Rattle.gtfs_columns.specs.FieldRules.{field_count}
 use Rattle.gtfs_columns.specs.steps.Found.{Reports}
-use Rattle.gtfs_columns.specs.steps.Ids.{IdColumn, first_row_with, ids_in, number_with}
+use Rattle.gtfs_columns.specs.steps.Ids.{FirstRows, first_row_with, first_rows, number_with}
 use Rattle.gtfs_columns.specs.Problems.{Problem}
 use Rattle.gtfs_trip_rules.specs.KeptChoices.{boarding_number, exact_number}
 use Rattle.gtfs_trip_rules.specs.Readings.{code_in, fault_in, fault_of, is_blank, text_of, value_in}
@@ -96,18 +96,18 @@ abbrev pub ReportsOfRow : Dataset → (Problem → Bool) → ℕ → List Proble
 ReportsOfRow d picks n old new = Reports d (at_row picks n) old new
 
 -- what was read of the text of an id, and where it stands
-pub record IsNamedId (i : IdColumn) (t : List ℕ) (n : NamedId) : Type 0 where
+pub record IsNamedId (i : FirstRows) (t : List ℕ) (n : NamedId) : Type 0 where
   pub reading : IsReading id (λ t. word t.now) t n.reading
   pub number : n.number ≡ option_and_then (number_with i) (text_of (value_in n.reading))
   pub row : n.row ≡ option_and_then (first_row_with i) (text_of (value_in n.reading))
 
 -- the ids have the numbers of the trip and of the stop that a row names
 pub record AreNumbersOf (d : Dataset) (s : ReadStopTime) (names : NamedIds) : Type 0 where
-  pub trip : names.trip.number ≡ option_and_then (number_with (ids_in d file.Trips (codes "trip_id"))) (text_of (value_in s.trip_id))
-  pub stop : names.stop.number ≡ option_and_then (number_with (ids_in d file.Stops (codes "stop_id"))) (text_of (value_in s.stop_id))
+  pub trip : names.trip.number ≡ option_and_then (number_with (first_rows d file.Trips (codes "trip_id"))) (text_of (value_in s.trip_id))
+  pub stop : names.stop.number ≡ option_and_then (number_with (first_rows d file.Stops (codes "stop_id"))) (text_of (value_in s.stop_id))
 
 -- the rows that stop times name are those of this dataset
 pub record AreNamedRows (d : Dataset) (r : NamedRows) : Type 0 where
-  pub stops : r.stops.ids.now ≡ ids_in d file.Stops (codes "stop_id")
-  pub trips : r.trips.ids.now ≡ ids_in d file.Trips (codes "trip_id")
+  pub stops : r.stops.ids.now ≡ first_rows d file.Stops (codes "stop_id")
+  pub trips : r.trips.ids.now ≡ first_rows d file.Trips (codes "trip_id")
   pub types : AreStopTypes d r.types.now

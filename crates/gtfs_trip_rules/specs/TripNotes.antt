@@ -8,7 +8,6 @@ use Rattle.gtfs_trip_rules.specs.declared.trips.notes.TripNote.{TripNote as Code
 use Rattle.gtfs_trip_rules.specs.declared.trips.row.StopTime.{StopTime}
 use Rattle.gtfs_table.specs.Rows.{rows}
 use Rattle.gtfs_columns.specs.Rows.{is_empty_in, word_in}
-use Rattle.gtfs_columns.specs.steps.Ids.{IdColumn}
 use Rattle.gtfs_trip_rules.specs.KeptRow.{with_trip}
 use Rattle.gtfs_trip_rules.specs.KeptTimes.{is_placed}
 use Rattle.gtfs_trip_rules.specs.TripStopTimes.{TripStopTime, trip_stop_time}
@@ -68,7 +67,7 @@ note_of name r = record { trip_id = name r.trip; row = said name r }
 
 -- what rows say of their trips, the rows, and the ids of trips.txt
 pub record Noted : Type 0 where
-  pub trips : IdColumn
+  pub trips : List (List ℕ)
   pub notes : List TripNote
   pub rows : List StopTime
 

@@ -11,9 +11,10 @@ ghost use Rattle.gtfs_table.specs.declared.file.File.TheVariants as file;
 ghost use Rattle.gtfs_columns.specs.declared.file_name.FileName.TheVariants as file_name;
 ghost use Rattle.gtfs_table.specs.Tables.{Dataset, record_at};
 ghost use Rattle.gtfs_table.specs.Rows.{is_row, records_in};
+ghost use Rattle.gtfs_columns.specs.IdNumbers.{ids_by_bytes, number_among};
 ghost use Rattle.gtfs_columns.specs.steps.FeedIds.{AreIdsOf};
 ghost use Rattle.gtfs_columns.specs.steps.Found.{Reports};
-ghost use Rattle.gtfs_columns.specs.steps.Ids.{first_row_with, ids_in, number_with};
+ghost use Rattle.gtfs_columns.specs.steps.Ids.{first_row_with, ids_of};
 ghost use Rattle.gtfs_columns.specs.steps.StopTypes.{AreStopTypes};
 ghost use Rattle.gtfs_trip_rules.specs.StopTimePicks.{in_rows, in_stop_times};
 ghost use Rattle.gtfs_trip_rules.specs.Kept.{AllKeep};
@@ -64,7 +65,7 @@ fn read_rows<'a, 'i>(
 ) -> Result<(), OutOfMemory>
     requires ids { AreIdsOf tables.now ids.now }
     requires types { AreStopTypes tables.now types.now }
-    requires none { notes.old ≡ record { trips = ids.now.trips; notes = []; rows = [] } }
+    requires none { notes.old ≡ record { trips = ids_of ids.now.trips; notes = []; rows = [] } }
     ensures reported { OnOk result (Reports tables.now in_stop_times found.old found.new) }
     ensures notes { OnOk result (notes.new.notes ≡ trip_notes_in tables.now) }
     ensures kept { OnOk result (AllKeep tables.now notes.new.rows) }
@@ -93,7 +94,7 @@ fn read_row<'a: 'i, 'i>(
     requires fields { fields.now
         ≡ record_at (records_in columns.now.tables.now file.StopTimes) row }
     requires trips { notes.old.trips
-        ≡ ids_in columns.now.tables.now file.Trips (codes "trip_id") }
+        ≡ ids_by_bytes columns.now.tables.now file.Trips (codes "trip_id") }
     ensures named { AreNamedRows columns.now.tables.now named.new }
     ensures reported { OnOk result
         (ReportsOfRow columns.now.tables.now in_rows row found.old found.new) }
@@ -137,7 +138,7 @@ fn take_note<'i>(
     ids: &NamedIds<'i>,
     notes: &mut TripNotes<'i>,
 ) -> Result<(), OutOfMemory>
-    requires { ids.now.trip.number ≡ option_and_then (number_with notes.old.trips)
+    requires { ids.now.trip.number ≡ option_and_then (number_among notes.old.trips)
         (text_of (value_in stop_time.now.trip_id)) }
     ensures trips { notes.new.trips ≡ notes.old.trips }
     ensures notes { OnOk result ((d : Dataset) (n : ℕ) → IsStopTime d n stop_time.now

@@ -1,77 +1,74 @@
--- The ids of one column of one file, and the first row of each.
-use Rattle.std.specs.Prelude.{◌≡◌, ◌<◌, ℕ, Bool, not, List, Option, Some}
+-- The ids of a column of a file, and the first row of each.
+use Rattle.std.specs.Prelude.{◌≡◌, ◌<◌, ℕ, Bool, map, not, List, Option, Some}
 use Rattle.std.specs.List.{All, list_all}
 use Rattle.std.specs.FinMap as table
 use Rattle.std.specs.List.Sorted.{IsStrictlySortedBy}
 use Rattle.std.specs.Ordering.{on}
 use Rattle.gtfs_field.specs.TextOrder.{text_cmp}
-use Rattle.gtfs_table.specs.Tables.{Dataset}
-use Rattle.gtfs_table.specs.declared.file.File.{File}
 use Rattle.gtfs_columns.specs.declared.id_row.IdRow.{IdRow}
 use Rattle.gtfs_columns.specs.declared.slots.Slot.{Slot}
-use Rattle.gtfs_columns.specs.steps.IdRows.{id_of, listed_row}
+use Rattle.gtfs_columns.specs.steps.IdRows.{id_and_row, id_of, listed_row}
 use Rattle.gtfs_columns.specs.steps.Slots.{held_id, IsSlotOf}
-use Rattle.gtfs_columns.specs.IdNumbers.{first_rows, ids_by_bytes, number_in}
-use Rattle.gtfs_columns.specs.Rows.{row_with}
+pub use Rattle.gtfs_columns.specs.IdNumbers.{first_rows}
+use Rattle.gtfs_columns.specs.IdNumbers.{number_among}
 use Rattle.gtfs_columns.specs.Values.{has_control}
 
--- a column of a file of a dataset
-pub record IdColumn : Type 0 where
-  pub dataset : Dataset
-  pub file : File
-  pub column : List ℕ
+-- the first row of each id
+abbrev pub FirstRows : Type 0
+FirstRows = table.FinMap text_cmp ℕ
 
-abbrev pub ids_in : Dataset → File → List ℕ → IdColumn
-ids_in d x column = record { dataset = d; file = x; column = column }
+-- those that rows are listed with
+abbrev pub listed_first_rows : List IdRow → FirstRows
+listed_first_rows listed = table.from_entries (map id_and_row listed)
 
 -- the first row with an id
-abbrev pub first_row_with : IdColumn → List ℕ → Option ℕ
-first_row_with i id = row_with i.dataset i.file i.column id
+abbrev pub first_row_with : FirstRows → List ℕ → Option ℕ
+first_row_with ids id = table.get ids id
 
 -- the ids by their numbers
-abbrev pub ids_of : IdColumn → List (List ℕ)
-ids_of i = ids_by_bytes i.dataset i.file i.column
+abbrev pub ids_of : FirstRows → List (List ℕ)
+ids_of ids = table.keys ids
 
 -- the first row of each id, by their numbers
-abbrev pub rows_by_number : IdColumn → List ℕ
-rows_by_number i = table.values (first_rows i.dataset i.file i.column)
+abbrev pub rows_by_number : FirstRows → List ℕ
+rows_by_number ids = table.values ids
 
 -- the number of an id
-abbrev pub number_with : IdColumn → List ℕ → Option ℕ
-number_with i id = number_in i.dataset i.file i.column id
+abbrev pub number_with : FirstRows → List ℕ → Option ℕ
+number_with ids id = number_among (ids_of ids) id
 
 -- of the rows with an id the first is listed first
-abbrev pub ListsFirstRows : IdColumn → List IdRow → Type 0
-ListsFirstRows i rows = (id : List ℕ) → listed_row rows id ≡ first_row_with i id
+abbrev pub ListsFirstRows : FirstRows → List IdRow → Type 0
+ListsFirstRows ids rows = (id : List ℕ) → listed_row rows id ≡ first_row_with ids id
 
 -- each id once, in order, with its first row
-pub record IsIdIndex (i : IdColumn) (rows : List IdRow) : Type 0 where
+pub record IsIdIndex (ids : FirstRows) (rows : List IdRow) : Type 0 where
   pub ascending : IsStrictlySortedBy (on id_of text_cmp) rows
-  pub first : ListsFirstRows i rows
+  pub first : ListsFirstRows ids rows
 
--- no id of a column has a control character
-abbrev pub are_clear : IdColumn → Bool
-are_clear i = list_all (λ id. not (has_control id)) (ids_of i)
+-- no id has a control character
+abbrev pub are_clear : FirstRows → Bool
+are_clear ids = list_all (λ id. not (has_control id)) (ids_of ids)
 
 -- the same of ids as they are listed
 abbrev pub rows_are_clear : List IdRow → Bool
 rows_are_clear rows = list_all (λ r. not (has_control (id_of r))) rows
 
 -- an id that stands in a slot has its first row and its number there
-pub record Tells (i : IdColumn) (s : Slot) : Type 0 where
-  pub row : Some s.row ≡ first_row_with i (held_id s)
-  pub number : Some s.number ≡ number_with i (held_id s)
+pub record Tells (ids : FirstRows) (s : Slot) : Type 0 where
+  pub row : Some s.row ≡ first_row_with ids (held_id s)
+  pub number : Some s.number ≡ number_with ids (held_id s)
 
 -- what a slot says is true of the id that stands there, where one does
-abbrev pub Answers : IdColumn → Slot → Type 0
-Answers i s = 0 < s.length → Tells i s
+abbrev pub Answers : FirstRows → Slot → Type 0
+Answers ids s = 0 < s.length → Tells ids s
 
 -- whatever slot a row has, what it says is true
-abbrev pub AnswersRow : IdColumn → IdRow → ℕ → Type 0
-AnswersRow i r n = (s : Slot) → IsSlotOf r n s → Answers i s
+abbrev pub AnswersRow : FirstRows → IdRow → ℕ → Type 0
+AnswersRow ids r n = (s : Slot) → IsSlotOf r n s → Answers ids s
 
 -- an index with its slots, and whether its ids have no control character
-pub record IsFilledIndex (i : IdColumn) (rows : List IdRow) (slots : List Slot) (is_clear : Bool) : Type 0 where
-  pub index : IsIdIndex i rows
+pub record IsFilledIndex (ids : FirstRows) (rows : List IdRow) (slots : List Slot) (is_clear : Bool) : Type 0 where
+  pub index : IsIdIndex ids rows
   pub clear : is_clear ≡ rows_are_clear rows
-  pub answers : All (Answers i) slots
+  pub answers : All (Answers ids) slots

@@ -3,7 +3,7 @@ use Rattle.std.specs.Prelude.{◌≡◌, ℕ, List, [], ◌∷◌, slice_index_o
 use Rattle.gtfs_table.specs.Tables.{Dataset}
 use Rattle.gtfs_table.specs.declared.file.File.TheVariants as file
 use Rattle.gtfs_columns.specs.Columns.{id}
-use Rattle.gtfs_columns.specs.steps.Ids.{IdColumn, first_row_with}
+use Rattle.gtfs_columns.specs.steps.Ids.{FirstRows, first_row_with}
 use Rattle.gtfs_columns.specs.Reads.{choice_of, word_of}
 use Rattle.gtfs_columns.specs.Rows.{choice_in}
 
@@ -20,5 +20,5 @@ abbrev pub AreStopTypes : Dataset → List (Option ℤ) → Type 0
 AreStopTypes d types = (n : ℕ) → type_of types n ≡ choice_in d file.Stops n "location_type"
 
 -- the type of the stop of an id
-abbrev pub type_with : List (Option ℤ) → IdColumn → List ℕ → Option ℤ
+abbrev pub type_with : List (Option ℤ) → FirstRows → List ℕ → Option ℤ
 type_with types i t = option_and_then (type_of types) (option_and_then (first_row_with i) (word_of id t))

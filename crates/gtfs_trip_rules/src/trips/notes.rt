@@ -1,6 +1,7 @@
 ghost use Rattle.std.specs.Prelude.{◌≡◌, ◌∷◌, ◌++◌, [], true, List, ℕ, min, IfOk, OnOk};
 ghost use Rattle.std.specs.List.{All};
-ghost use Rattle.gtfs_columns.specs.steps.Ids.{ids_of, number_with};
+ghost use Rattle.gtfs_columns.specs.IdNumbers.{number_among};
+ghost use Rattle.gtfs_columns.specs.steps.Ids.{ids_of};
 ghost use Rattle.gtfs_table.specs.Tables.{Dataset};
 ghost use Rattle.gtfs_trip_rules.specs.Kept.{AllKeep};
 ghost use Rattle.gtfs_trip_rules.specs.KeptTimes.{is_placed};
@@ -53,7 +54,7 @@ impl<'a> Model for TripNotes<'a> {
     ghost Value = { Noted };
 
     ghost view = { λ n. record {
-      trips = n.trips.now;
+      trips = ids_of n.trips.now;
       notes = map (note_of (name_at (ids_of n.trips.now) n.names.items)) n.rows.items;
       rows = n.rows.items;
     } };
@@ -70,7 +71,7 @@ impl<'a> TripNotes<'a> {
         rows: usize,
     ) -> Result<TripNotes<'a>, OutOfMemory>
         ensures { IfOk result (λ notes. notes
-            ≡ record { trips = trips.now; notes = []; rows = [] }) }
+            ≡ record { trips = ids_of trips.now; notes = []; rows = [] }) }
     {
         Ok(TripNotes {
             trips,
@@ -84,7 +85,7 @@ impl<'a> TripNotes<'a> {
 
     // Takes note of one more row.
     pub(crate) fn note(&mut self, note: TripNote<'a>) -> Result<(), OutOfMemory>
-        requires { note.number ≡ number_with self.old.trips note.trip_id.now }
+        requires { note.number ≡ number_among self.old.trips note.trip_id.now }
         ensures trips { self.new.trips ≡ self.old.trips }
         ensures notes { OnOk result (self.new.notes ≡ self.old.notes ++ trip_note note.entry ∷ []) }
         ensures rows { OnOk result (NotesRow note.entry self.old.rows self.new.rows) }
@@ -108,9 +109,9 @@ impl<'a> TripNotes<'a> {
 
     // How many rows name each trip, up to two.
     pub(crate) fn counts<'n>(&'n self) -> RowCounts<'a, 'n>
-        ensures counts { (trip : List ℕ) → count_of (ids_of self.now.trips) result.numbers.now
+        ensures counts { (trip : List ℕ) → count_of self.now.trips result.numbers.now
             result.counts.now trip ≡ min (times_noted self.now.notes trip) 2 }
-        ensures trips { result.trips.ids.now ≡ self.now.trips }
+        ensures trips { ids_of result.trips.ids.now ≡ self.now.trips }
     {
         RowCounts {
             trips: Finder::new(self.trips),

@@ -1,9 +1,9 @@
 use Rattle.std.proofs.Common.{◌∙◌, ap, map}
 use Rattle.gtfs_table.proofs.RowFacts.{all_taken, listed_more, turn, value_is}
 use Rattle.gtfs_table.specs.Rows.{records_in}
-use Rattle.gtfs_columns.specs.steps.Ids.{ids_in}
 use Rattle.gtfs_columns.specs.Rows.{text_in}
-use Rattle.gtfs_columns.proofs.IdFacts.{id_and_row, lists_first}
+use Rattle.gtfs_columns.specs.steps.IdRows.{id_and_row}
+use Rattle.gtfs_columns.proofs.IdFacts.{lists_first}
 use Rattle.gtfs_columns.proofs.ids.id_rows.Goals as goal
 
 pub loop-row-init : goal.loop-row-init
@@ -21,4 +21,4 @@ pub returns : goal.returns
 returns c =
     let d = c.args.tables.now in
     let all = all_taken d c.args.file _ c.loop-row.yielded _ (c.into_iter-row-iterator.ensures.into_iter_gives ∙ c.rows-row-items.ensures) c.loop-row.yielded_by c.in-None.ensures.steps.0 in
-    lists_first (ids_in d c.args.file c.args.column.now) c.loop-row.rows.items (rw all at c.loop-row.invariant)
+    lists_first d c.args.file c.args.column.now c.loop-row.rows.items (rw all at c.loop-row.invariant)

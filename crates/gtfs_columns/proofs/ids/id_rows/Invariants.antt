@@ -1,7 +1,7 @@
 use Rattle.std.proofs.Common.{◌≡◌, map}
 use Rattle.gtfs_table.specs.Rows.{numbers}
 use Rattle.gtfs_columns.specs.Rows.{text_in}
-use Rattle.gtfs_columns.proofs.IdFacts.{id_and_row}
+use Rattle.gtfs_columns.specs.steps.IdRows.{id_and_row}
 use Rattle.gtfs_columns.proofs.ids.id_rows.Given as goal
 
 -- the rows so far are listed

@@ -3,7 +3,7 @@ use Rattle.std.proofs.lemmas.Simd.{map-map}
 use Rattle.gtfs_table.specs.Parts.{parts}
 use Rattle.gtfs_table.specs.declared.file.File.TheVariants as file
 use Rattle.gtfs_columns.specs.Columns.{id, required}
-use Rattle.gtfs_columns.specs.steps.Ids.{ids_in, ids_of, rows_by_number}
+use Rattle.gtfs_columns.specs.steps.Ids.{first_rows, ids_of, rows_by_number}
 use Rattle.gtfs_rows.specs.declared.frequency.Frequency.{Frequency as FrequencyRow}
 use Rattle.gtfs_rows.specs.Reading.{content_of, trip_in}
 use Rattle.gtfs_rows.specs.Views.{frequency_of}
@@ -27,7 +27,7 @@ returns-clause-rows c =
     (λ i. map (map frequency_of) (parts (c.new-2.ensures i) (c.new.ensures i)))
     ∙ are.rows ∙ ap (λ i. map (λ n. (trip_in d n).frequencies) (rows_by_number i)) c.requires.trips
     ∙ sym (ap (map (λ t. t.frequencies)) (content_list d c.requires.passes file.Trips "trip_id" (required "trip_id" id) refl refl (λ r. r.trip_id) (trip_in d) (λ n. refl))
-    ∙ map-map (λ t. t.frequencies) (trip_in d) (rows_by_number (ids_in d file.Trips (codes "trip_id")))))
+    ∙ map-map (λ t. t.frequencies) (trip_in d) (rows_by_number (first_rows d file.Trips (codes "trip_id")))))
 
 pub returns-clause-cut : goal.returns-clause-cut
 returns-clause-cut c =

@@ -3,7 +3,7 @@ use Rattle.std.specs.List.{list_all}
 use Rattle.gtfs_table.specs.declared.file.File.TheVariants as file
 use Rattle.gtfs_columns.specs.Columns.{id, required}
 use Rattle.gtfs_columns.specs.Problems.{Passes}
-use Rattle.gtfs_columns.specs.steps.Ids.{ids_in, rows_by_number}
+use Rattle.gtfs_columns.specs.steps.Ids.{first_rows, rows_by_number}
 use Rattle.gtfs_rows.specs.Reading.{content_of, route_in}
 use Rattle.gtfs_parts.specs.Named.{ids_of}
 use Rattle.gtfs_rows.specs.NamedRows.{names_agency, route_named}
@@ -15,10 +15,10 @@ pub push_routes-requires-clause-passes : goal.push_routes-requires-clause-passes
 push_routes-requires-clause-passes c = subst Passes (sym c.new-file.ensures) c.requires.passes
 
 pub push_routes-requires-clause-ids : goal.push_routes-requires-clause-ids
-push_routes-requires-clause-ids c = c.requires.ids ∙ ap (λ d. ids_in d file.Routes (codes "route_id")) (sym c.new-file.ensures)
+push_routes-requires-clause-ids c = c.requires.ids ∙ ap (λ d. first_rows d file.Routes (codes "route_id")) (sym c.new-file.ensures)
 
 pub push_routes-requires-clause-agencies : goal.push_routes-requires-clause-agencies
-push_routes-requires-clause-agencies c = c.new-finder.ensures ∙ c.requires.agencies ∙ ap (λ d. ids_in d file.Agency (codes "agency_id")) (sym c.new-file.ensures)
+push_routes-requires-clause-agencies c = c.new-finder.ensures ∙ c.requires.agencies ∙ ap (λ d. first_rows d file.Agency (codes "agency_id")) (sym c.new-file.ensures)
 
 pub push_routes-requires-clause-none : goal.push_routes-requires-clause-none
 push_routes-requires-clause-none c = c.in_ok-routes.ensures.items

@@ -3,7 +3,7 @@ use Rattle.std.specs.List.{list_all}
 use Rattle.gtfs_table.specs.declared.file.File.TheVariants as file
 use Rattle.gtfs_columns.specs.Columns.{id, required}
 use Rattle.gtfs_columns.specs.Problems.{Passes}
-use Rattle.gtfs_columns.specs.steps.Ids.{ids_in, rows_by_number}
+use Rattle.gtfs_columns.specs.steps.Ids.{first_rows, rows_by_number}
 use Rattle.gtfs_rows.specs.Reading.{content_of, stop_in}
 use Rattle.gtfs_parts.specs.Named.{ids_of}
 use Rattle.gtfs_rows.specs.NamedRows.{names_parent, stop_named}
@@ -15,10 +15,10 @@ pub push_stops-requires-clause-passes : goal.push_stops-requires-clause-passes
 push_stops-requires-clause-passes c = subst Passes (sym c.new-file.ensures) c.requires.passes
 
 pub push_stops-requires-clause-ids : goal.push_stops-requires-clause-ids
-push_stops-requires-clause-ids c = c.requires.ids ∙ ap (λ d. ids_in d file.Stops (codes "stop_id")) (sym c.new-file.ensures)
+push_stops-requires-clause-ids c = c.requires.ids ∙ ap (λ d. first_rows d file.Stops (codes "stop_id")) (sym c.new-file.ensures)
 
 pub push_stops-requires-clause-finder : goal.push_stops-requires-clause-finder
-push_stops-requires-clause-finder c = c.new-finder.ensures ∙ c.requires.ids ∙ ap (λ d. ids_in d file.Stops (codes "stop_id")) (sym c.new-file.ensures)
+push_stops-requires-clause-finder c = c.new-finder.ensures ∙ c.requires.ids ∙ ap (λ d. first_rows d file.Stops (codes "stop_id")) (sym c.new-file.ensures)
 
 pub push_stops-requires-clause-none : goal.push_stops-requires-clause-none
 push_stops-requires-clause-none c = c.in_ok-stops.ensures.items

@@ -4,8 +4,11 @@ use Rattle.gtfs_table.specs.declared.file.File.TheVariants as file
 use Rattle.gtfs_columns.specs.declared.code.Code.TheVariants as code
 use Rattle.gtfs_columns.specs.steps.ReferencePicks.{agency_names, route_names, service_names, stop_names, trip_names}
 use Rattle.gtfs_columns.proofs.SiteSteps.{reports_both, reports_elsewhere, reports_first}
-use Rattle.gtfs_columns.proofs.ReferenceFacts.{other_names, others_apart, reported_at_others}
+use Rattle.gtfs_columns.proofs.ReferenceFacts.{other_names, others_apart, reported_at_others, unknown_in}
 use Rattle.gtfs_row_rules.proofs.references.report_references.Goals as goal
+
+pub report_unknown-requires : goal.report_unknown-requires
+report_unknown-requires c = λ n. unknown_in c.args.tables.now file.Routes n (codes "agency_id") file.Agency (codes "agency_id") _ c.requires.agencies
 
 pub returns : goal.returns
 returns c =

@@ -3,8 +3,18 @@ use Rattle.std.proofs.lemmas.Result.{on_ok_weaker}
 use Rattle.gtfs_table.specs.declared.file.File.TheVariants as file
 use Rattle.gtfs_columns.specs.declared.code.Code.TheVariants as code
 use Rattle.gtfs_columns.specs.steps.ReferencePicks.{route_names}
+use Rattle.gtfs_columns.proofs.ReferenceFacts.{unknown_in}
 use Rattle.gtfs_columns.proofs.SiteSteps.{reports_first, reports_last}
 use Rattle.gtfs_row_rules.proofs.references.report_unknown_routes.Goals as goal
+
+pub report_unknown-requires : goal.report_unknown-requires
+report_unknown-requires c = λ n. unknown_in c.args.tables.now file.Trips n (codes "route_id") file.Routes (codes "route_id") _ c.requires
+
+pub report_unknown-requires-2 : goal.report_unknown-requires-2
+report_unknown-requires-2 c = λ n. unknown_in c.args.tables.now file.Transfers n (codes "from_route_id") file.Routes (codes "route_id") _ c.requires
+
+pub report_unknown-requires-3 : goal.report_unknown-requires-3
+report_unknown-requires-3 c = λ n. unknown_in c.args.tables.now file.Transfers n (codes "to_route_id") file.Routes (codes "route_id") _ c.requires
 
 pub returns : goal.returns
 returns c = on_ok_weaker _ (λ last.

@@ -1,10 +1,11 @@
-use Rattle.std.proofs.Common.{◌≡◌, ◌∙◌, List, ℕ, subst, sym}
+use Rattle.std.proofs.Common.{◌≡◌, ◌∙◌, ap, List, ℕ, subst, sym}
 use Rattle.std.specs.Prelude.{option_and_then}
 use Rattle.std.proofs.lemmas.Result.{on_ok_weaker}
 use Rattle.gtfs_table.specs.Tables.{field_under}
 use Rattle.gtfs_columns.specs.Columns.{id}
 use Rattle.gtfs_columns.specs.Values.{word}
-use Rattle.gtfs_columns.specs.steps.Ids.{first_row_with, number_with}
+use Rattle.gtfs_columns.specs.IdNumbers.{number_among}
+use Rattle.gtfs_columns.specs.steps.Ids.{first_row_with, ids_of, number_with}
 use Rattle.gtfs_trip_rules.specs.Readings.{text_of, value_in}
 use Rattle.gtfs_trip_rules.specs.StopTimes.{text_at, AreNumbersOf, IsReading, IsRow, IsStopTime}
 use Rattle.gtfs_trip_rules.proofs.stop_times.read_row.Goals as goal
@@ -34,7 +35,7 @@ report_row-requires-clause-stop c =
 pub take_note-requires : goal.take_note-requires
 take_note-requires c =
     c.find-ids.ensures.trip.number
-    ∙ (λ i. option_and_then (number_with ((c.requires.named.trips ∙ sym c.requires.trips) i)) (text_of (value_in (sym c.stop_time-stop_time.ensures.trip i))))
+    ∙ (λ i. option_and_then (number_among ((ap ids_of c.requires.named.trips ∙ sym c.requires.trips) i)) (text_of (value_in (sym c.stop_time-stop_time.ensures.trip i))))
 
 pub returns-in_err-report_row-clause-named : goal.returns-in_err-report_row-clause-named
 returns-in_err-report_row-clause-named c = c.find-ids.ensures.same c.args.columns.now.tables.now c.requires.named

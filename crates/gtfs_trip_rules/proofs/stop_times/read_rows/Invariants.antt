@@ -2,7 +2,7 @@ use Rattle.std.proofs.Common.{◌≡◌}
 use Rattle.std.specs.List.{filter_map}
 use Rattle.std.specs.Prelude.{codes}
 use Rattle.gtfs_table.specs.declared.file.File.TheVariants as file
-use Rattle.gtfs_columns.specs.steps.Ids.{ids_in}
+use Rattle.gtfs_columns.specs.IdNumbers.{ids_by_bytes}
 use Rattle.gtfs_trip_rules.specs.Kept.{AllKeep}
 use Rattle.gtfs_table.specs.Rows.{numbers}
 use Rattle.gtfs_columns.specs.steps.Found.{Reports}
@@ -17,7 +17,7 @@ abbrev pub invariant-loop-row : goal.invariant-loop-row
 invariant-loop-row l = record {
   named : AreNamedRows l.tables l.named;
   reported : Reports l.tables (at_rows in_rows (numbers l.yielded)) l.fn.found l.found;
-  trips : l.notes.trips ≡ ids_in l.tables file.Trips (codes "trip_id");
+  trips : l.notes.trips ≡ ids_by_bytes l.tables file.Trips (codes "trip_id");
   notes : l.notes.notes ≡ filter_map (note_read l.tables) (numbers l.yielded);
   kept : AllKeep l.tables l.notes.rows;
 }

@@ -1,7 +1,7 @@
 use Rattle.std.proofs.Common.{◌≡◌, codes, length, map, take, true}
 use Rattle.std.specs.List.{list_all}
 use Rattle.gtfs_table.specs.declared.file.File.TheVariants as file
-use Rattle.gtfs_columns.specs.steps.Ids.{ids_in, rows_by_number}
+use Rattle.gtfs_columns.specs.steps.Ids.{first_rows, rows_by_number}
 use Rattle.gtfs_rows.specs.Reading.{route_in}
 use Rattle.gtfs_parts.specs.Named.{ids_of}
 use Rattle.gtfs_rows.specs.NamedRows.{names_agency, route_named}
@@ -13,5 +13,5 @@ invariant-loop-number l = record {
   listed : map (route_named (ids_of l.self file.Agency "agency_id")) l.routes.items ≡ map (route_in l.self) (take l.number (rows_by_number l.ids));
   within : list_all (names_agency (ids_of l.self file.Agency "agency_id")) l.routes.items ≡ true;
   end : l.number-end ≡ length (rows_by_number l.ids);
-  finder : l.agencies.ids.now ≡ ids_in l.self file.Agency (codes "agency_id");
+  finder : l.agencies.ids.now ≡ first_rows l.self file.Agency (codes "agency_id");
 }

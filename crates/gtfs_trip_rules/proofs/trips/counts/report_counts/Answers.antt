@@ -19,7 +19,7 @@ use Rattle.gtfs_trip_rules.proofs.trips.counts.report_counts.Goals as goal
 pub loop-row-init : goal.loop-row-init
 loop-row-init c = record {
   reported = reported_none c.args.tables.now (at_column code.W06 file.Trips (codes "trip_id")) c.args.found.now;
-  few = λ trip. ap (λ m. nat_lt m 2) (ap (λ i. count_of (ids_of i) c.counts-counts.result.numbers.now c.counts-counts.result.counts.now trip) c.counts-counts.ensures.trips ∙ c.counts-counts.ensures.counts trip) ∙ few_of_two (times_noted c.args.notes.now.notes trip);
+  few = λ trip. ap (λ m. nat_lt m 2) (ap (λ ids. count_of ids c.counts-counts.result.numbers.now c.counts-counts.result.counts.now trip) c.counts-counts.ensures.trips ∙ c.counts-counts.ensures.counts trip) ∙ few_of_two (times_noted c.args.notes.now.notes trip);
 }
 
 pub loop-row-preserved : goal.loop-row-preserved

@@ -1,6 +1,7 @@
 use Rattle.std.proofs.Common.{◌≡◌, ◌≤◌, ◌∙◌, ◌++◌, ◌∷◌, [], ap, arith, map, refl, sym}
 use Rattle.std.specs.Prelude.{◌&&◌}
 use Rattle.std.proofs.lemmas.List.{map-append}
+use Rattle.gtfs_columns.specs.IdNumbers.{number_among}
 use Rattle.gtfs_columns.specs.steps.Ids.{ids_of, number_with}
 use Rattle.gtfs_trip_rules.specs.KeptRow.{with_trip}
 use Rattle.gtfs_trip_rules.specs.KeptTimes.{is_placed}
@@ -92,7 +93,7 @@ returns-clause-notes c =
 pub returns-clause-rows : goal.returns-clause-rows
 returns-clause-rows c =
     let id = c.args.note.trip_id.now in
-    let told : c.args.note.number ≡ number_with c.self.inside.trips.now id = c.requires ∙ ap (λ v. number_with v.trips id) (sym c.self.view_is) in
+    let told : c.args.note.number ≡ number_with c.self.inside.trips.now id = c.requires ∙ ap (λ v. number_among v.trips id) (sym c.self.view_is) in
     record {
       trip = c.in_ok-trip.trip;
       rows = c.in_ok-push.ensures.items ∙ (λ i. ap (λ v. v.rows) c.self.view_is i ++ (c.of_trip-row.ensures ∙ ap (with_trip c.args.note.kept) c.in_ok-small_number.ensures) i ∷ []);
