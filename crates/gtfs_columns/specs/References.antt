@@ -17,7 +17,7 @@ key_columns file.CalendarDates = codes "service_id" ∷ codes "date" ∷ []
 key_columns file.Frequencies = codes "trip_id" ∷ codes "start_time" ∷ []
 key_columns file.Transfers = codes "from_stop_id" ∷ codes "to_stop_id" ∷ codes "from_route_id" ∷ codes "to_route_id" ∷ codes "from_trip_id" ∷ codes "to_trip_id" ∷ []
 
--- the column of the ids that a file's rows are named by: the first of its key
+-- the column of a file's ids: the first of its key
 abbrev pub id_column : File → List ℕ
 id_column x = slice_index_or (key_columns x) 0 []
 

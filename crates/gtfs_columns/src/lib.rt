@@ -9,8 +9,9 @@
 //!   nowhere else; so [`present`] reads what is always there, and answers the value itself.
 //! - A column is found once, by its index in the header, and then read record after record (`Tables::column`,
 //!   `Record::value` of `gtfs_table`).
-//! - [`Ids`] are the ids of a file, each with its number by bytes and its first row, [`Finder`] looks them up, and
-//!   [`FeedIds`] has all those that other files name. [`stop_types`] are the location types of stops.
+//! - [`Ids`] are the ids of a file, each with its number by bytes and its first row, and a [`Finder`] looks them up.
+//!   [`FeedIds`] has all those that other files name, of which [`NetworkIds`] are those of agencies, stops, routes and trips.
+//! - [`stop_types`] are the location types of stops.
 //! - A [`Code`] says what is wrong, and a [`Problem`] where: in which [`FileName`], row and column. [`Found`] gathers
 //!   the problems that were found.
 //!
@@ -39,6 +40,7 @@ mod found;
 mod id_row;
 mod ids;
 mod location_types;
+mod network_ids;
 pub mod present;
 mod problem;
 mod slots;
@@ -58,4 +60,5 @@ pub use finder::{Finder, FoundId};
 pub use found::Found;
 pub use ids::Ids;
 pub use location_types::{is_one_of, stop_types, type_of};
+pub use network_ids::NetworkIds;
 pub use problem::Problem;

@@ -8,7 +8,6 @@ pub mod FeedRows
 pub mod FrequencyColumns
 pub mod Lists
 pub mod Named
-pub mod NamedIds
 pub mod Numbers
 pub mod RouteColumns
 pub mod ServiceIds

@@ -1,8 +1,8 @@
 ghost use Rattle.std.specs.Prelude.{◌≡◌, map, IfOk, OnOk};
 ghost use Rattle.gtfs_columns.specs.Problems.{Passes};
+ghost use Rattle.gtfs_columns.specs.steps.FeedIds.{AreNetworkIdsOf};
 ghost use Rattle.gtfs_parts.specs.FeedRows.{AreRowsOf, rows_in};
 ghost use Rattle.gtfs_parts.specs.Lists.{HasNetwork, HasTrips};
-ghost use Rattle.gtfs_parts.specs.NamedIds.{AreNamedIds};
 ghost use Rattle.gtfs_parts.specs.ServiceIds.{HasAll, service_ids, service_texts};
 ghost use Rattle.gtfs_rows.specs.Reading.{content_of};
 ghost use Rattle.gtfs_rows.specs.Views.{content_of_parts, stop_row_of};
@@ -11,13 +11,13 @@ ghost use Rattle.gtfs_table.specs.Tables.{Dataset};
 
 use crate::agencies::agencies;
 use crate::frequencies::{TripFrequencies, frequencies};
-use crate::named_ids::NamedIds;
 use crate::routes::routes;
 use crate::service_ids::ServiceIds;
 use crate::services::services;
 use crate::stops::stops;
 use crate::transfers::transfers;
 use crate::trips::trips;
+use gtfs_columns::NetworkIds;
 use gtfs_field::{List, OutOfMemory, Text};
 use gtfs_rows::{Agency, Frequency, Parts, Route, ServiceRow, Stop, StopRow, Transfer, Trip};
 use gtfs_rules::Passed;
@@ -90,7 +90,7 @@ impl FeedRows {
         requires { Passes tables.now }
         ensures { OnOk result (AreRowsOf tables.now self.new) }
     {
-        let ids = NamedIds::new(alloc, tables)?;
+        let ids = NetworkIds::new(alloc, tables)?;
         self.read_by_ids(alloc, tables, &ids)
     }
 
@@ -99,10 +99,10 @@ impl FeedRows {
         &mut self,
         alloc: Global,
         tables: &Tables,
-        ids: &NamedIds<'_>,
+        ids: &NetworkIds<'_>,
     ) -> Result<(), OutOfMemory>
         requires passes { Passes tables.now }
-        requires ids { AreNamedIds tables.now ids.now }
+        requires ids { AreNetworkIdsOf tables.now ids.now }
         ensures { OnOk result (AreRowsOf tables.now self.new) }
     {
         let services = ServiceIds::new(alloc, tables)?;
@@ -114,11 +114,11 @@ impl FeedRows {
         &mut self,
         alloc: Global,
         tables: &Tables,
-        ids: &NamedIds<'_>,
+        ids: &NetworkIds<'_>,
         services: &ServiceIds<'_>,
     ) -> Result<(), OutOfMemory>
         requires passes { Passes tables.now }
-        requires ids { AreNamedIds tables.now ids.now }
+        requires ids { AreNetworkIdsOf tables.now ids.now }
         requires services { services.now ≡ service_ids tables.now }
         requires named { HasAll (service_texts tables.now) services.now }
         ensures { OnOk result (AreRowsOf tables.now self.new) }
@@ -133,10 +133,10 @@ impl FeedRows {
         &mut self,
         alloc: Global,
         tables: &Tables,
-        ids: &NamedIds<'_>,
+        ids: &NetworkIds<'_>,
     ) -> Result<(), OutOfMemory>
         requires passes { Passes tables.now }
-        requires ids { AreNamedIds tables.now ids.now }
+        requires ids { AreNetworkIdsOf tables.now ids.now }
         ensures { OnOk result (HasNetwork tables.now self.new) }
     {
         self.agencies = agencies(alloc, tables, &ids.agencies)?;
@@ -150,11 +150,11 @@ impl FeedRows {
         &mut self,
         alloc: Global,
         tables: &Tables,
-        ids: &NamedIds<'_>,
+        ids: &NetworkIds<'_>,
         service_numbers: &ServiceIds<'_>,
     ) -> Result<(), OutOfMemory>
         requires passes { Passes tables.now }
-        requires ids { AreNamedIds tables.now ids.now }
+        requires ids { AreNetworkIdsOf tables.now ids.now }
         requires services { service_numbers.now ≡ service_ids tables.now }
         requires named { HasAll (service_texts tables.now) service_numbers.now }
         requires network { HasNetwork tables.now self.old }
@@ -170,10 +170,10 @@ impl FeedRows {
         &mut self,
         alloc: Global,
         tables: &Tables,
-        ids: &NamedIds<'_>,
+        ids: &NetworkIds<'_>,
     ) -> Result<(), OutOfMemory>
         requires passes { Passes tables.now }
-        requires ids { AreNamedIds tables.now ids.now }
+        requires ids { AreNetworkIdsOf tables.now ids.now }
         requires trips { HasTrips tables.now self.old }
         ensures { OnOk result (AreRowsOf tables.now self.new) }
     {

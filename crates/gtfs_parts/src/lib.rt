@@ -13,8 +13,9 @@
 //! list from its beginning.
 //!
 //! Each file has a module, with its columns found once: `agencies`, `stops`, `routes`, `trips`, `transfers`,
-//! `frequencies`, and `calendar` and `dates`, of which `services` are made. `named_ids` has the ids of files, and
-//! `service_ids` those of services, which come of two files. `texts`, `numbers`, `choices` and `references` read a field.
+//! `frequencies`, and `calendar` and `dates`, of which `services` are made. The ids of files are
+//! [`NetworkIds`](gtfs_columns::NetworkIds), and `service_ids` has those of services, which come of two files. `texts`,
+//! `numbers`, `choices` and `references` read a field.
 //!
 //! What the rows are is said in `gtfs_rows`: `specs/Reading.antt` there has the content of a dataset. `specs/FeedRows.antt`
 //! here says that the lists are that content, and `specs/Named.antt` what a row with numbers stands for.
@@ -26,7 +27,6 @@ mod choices;
 mod dates;
 mod feed_rows;
 mod frequencies;
-mod named_ids;
 mod numbers;
 mod references;
 mod routes;

@@ -64,11 +64,11 @@ pub fn report_references<'a>(
     requires { AreIdsOf tables.now ids.now }
     ensures { OnOk result (Reports tables.now (elsewhere Code.E10) found.old found.new) }
 {
-    report_unknown_stops(tables, &ids.stops, found)?;
-    report_unknown(tables, File::Routes, "agency_id", &ids.agencies, found)?;
-    report_unknown_routes(tables, &ids.routes, found)?;
+    report_unknown_stops(tables, &ids.network.stops, found)?;
+    report_unknown(tables, File::Routes, "agency_id", &ids.network.agencies, found)?;
+    report_unknown_routes(tables, &ids.network.routes, found)?;
     report_unknown_services(tables, ids, found)?;
-    report_unknown_trips(tables, &ids.trips, found)
+    report_unknown_trips(tables, &ids.network.trips, found)
 }
 
 fn report_unknown_stops<'a>(

@@ -1,12 +1,20 @@
--- What rows with numbers stand for, given the ids by their numbers.
-use Rattle.std.specs.Prelude.{ℕ, ◌&&◌, [], Bool, List, length, nat_lt, option_map}
+-- What rows with numbers stand for, given the ids by their numbers: with ids and headsigns as texts in place of numbers.
+use Rattle.std.specs.Prelude.{ℕ, ◌&&◌, [], true, Bool, List, length, nat_lt, slice_index_or, Option, Some, None, option_map}
 use Rattle.gtfs_rows.specs.declared.route.Route.{Route as RouteRow}
 use Rattle.gtfs_rows.specs.declared.stop.Stop.{Stop as StopRowOf}
 use Rattle.gtfs_rows.specs.declared.stop_row.StopRow.{StopRow as RowByNumber}
 use Rattle.gtfs_rows.specs.declared.trip.Trip.{Trip as TripRow}
 use Rattle.gtfs_rows.specs.Choices.{bikes_code, boarding_code, direction_code, drop_off_code, location_code, pickup_code, timepoint_code, wheelchair_code}
 use Rattle.gtfs_rows.specs.Rows.{Route, Stop, StopRow, Trip}
-use Rattle.gtfs_rows.specs.Views.{is_within, text_of_number}
+
+-- the text of a number; of a number beyond the list this says nothing that a clause uses
+abbrev pub text_of_number : List (List ℕ) → ℕ → List ℕ
+text_of_number texts n = slice_index_or texts n []
+
+-- a number that is there lies within a list of this length
+abbrev pub is_within : ℕ → Option ℕ → Bool
+is_within count None = true
+is_within count (Some n) = nat_lt n count
 
 -- a stop, where these are the ids of all stops
 abbrev pub stop_named : List (List ℕ) → StopRowOf → Stop
@@ -71,7 +79,7 @@ names_route_and_service routes services t = nat_lt t.route_id.0 (length routes) 
 abbrev pub without_rows : Trip → Trip
 without_rows t = record t { stop_rows = []; frequencies = [] }
 
--- what a row stands for, where these are the ids of all stops and all headsigns: as `stop_row_of` of parts that have them
+-- what a row stands for, where these are the ids of all stops and all headsigns
 abbrev pub stop_row_named : List (List ℕ) → List (List ℕ) → RowByNumber → StopRow
 stop_row_named stop_ids headsigns r = record {
   arrival_time = r.arrival_time;

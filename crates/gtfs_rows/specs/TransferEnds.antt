@@ -3,7 +3,7 @@ use Rattle.std.specs.Prelude.{ℕ, ◌&&◌, [], ◌∷◌, Bool, List, length, 
 use Rattle.gtfs_rows.specs.declared.transfer.Transfer.{Transfer as TransferRow}
 use Rattle.gtfs_rows.specs.Choices.{transfer_code}
 use Rattle.gtfs_rows.specs.Rows.{Transfer}
-use Rattle.gtfs_rows.specs.Views.{is_within, text_of_number}
+use Rattle.gtfs_rows.specs.NamedRows.{is_within, text_of_number}
 
 abbrev pub transfer_named : List (List ℕ) → List (List ℕ) → List (List ℕ) → TransferRow → Transfer
 transfer_named stops routes trips t = record {

@@ -15,10 +15,13 @@ use Rattle.gtfs_rows.specs.declared.stop.Stop.{Stop as StopByNumber}
 use Rattle.gtfs_rows.specs.declared.stop_row.StopRow.{StopRow as StopTime}
 use Rattle.gtfs_rows.specs.declared.transfer.Transfer.{Transfer as TransferRow}
 use Rattle.gtfs_rows.specs.declared.trip.Trip.{Trip as TripRow}
-use Rattle.gtfs_rows.specs.Choices.{location_code, boarding_code, direction_code, wheelchair_code, bikes_code, pickup_code, drop_off_code, timepoint_code, exact_code, transfer_code}
+use Rattle.gtfs_rows.specs.Choices.{exact_code}
 use Rattle.gtfs_rows.specs.Content.{Content}
+pub use Rattle.gtfs_rows.specs.NamedRows.{is_within, text_of_number}
+use Rattle.gtfs_rows.specs.NamedRows.{route_named, stop_named, stop_row_named, trip_named}
 use Rattle.gtfs_rows.specs.Rows.{Agency, Stop, Route, ServiceRow, StopRow, Frequency, Trip, Transfer}
 use Rattle.gtfs_rows.specs.Sound.{IsSound}
+use Rattle.gtfs_rows.specs.TransferEnds.{transfer_named}
 
 -- ---- names
 
@@ -37,10 +40,6 @@ service_ids p = map (λ s. s.service_id) p.services
 abbrev pub trip_ids : Parts → List (List ℕ)
 trip_ids p = map (λ t. t.trip_id) p.trips
 
--- the text of a number; of a number beyond the list this says nothing that a clause uses
-abbrev pub text_of_number : List (List ℕ) → ℕ → List ℕ
-text_of_number texts n = slice_index_or texts n []
-
 -- ---- rows
 
 abbrev pub agency_of : AgencyRow → Agency
@@ -56,49 +55,16 @@ agency_of a = record {
 }
 
 abbrev pub stop_of : Parts → StopByNumber → Stop
-stop_of p s = record {
-  stop_id = s.stop_id;
-  stop_code = s.stop_code;
-  stop_name = s.stop_name;
-  tts_stop_name = s.tts_stop_name;
-  stop_desc = s.stop_desc;
-  stop_lat = s.stop_lat;
-  stop_lon = s.stop_lon;
-  stop_url = s.stop_url;
-  location_type = location_code s.location_type;
-  parent_station = option_map (λ n. text_of_number (stop_ids p) n.0) s.parent_station;
-  wheelchair_boarding = boarding_code s.wheelchair_boarding;
-  platform_code = s.platform_code;
-}
+stop_of p s = stop_named (stop_ids p) s
 
 abbrev pub route_of : Parts → RouteRow → Route
-route_of p r = record {
-  route_id = r.route_id;
-  agency_id = text_of_number (agency_ids p) r.agency_id.0;
-  route_short_name = r.route_short_name;
-  route_long_name = r.route_long_name;
-  route_desc = r.route_desc;
-  route_type = r.route_type;
-  route_url = r.route_url;
-  route_color = r.route_color;
-  route_text_color = r.route_text_color;
-  route_sort_order = r.route_sort_order;
-}
+route_of p r = route_named (agency_ids p) r
 
 abbrev pub service_of : ServiceByNumber → ServiceRow
 service_of s = record { service_id = s.service_id; service = s.service }
 
 abbrev pub stop_row_of : Parts → StopTime → StopRow
-stop_row_of p r = record {
-  arrival_time = r.arrival_time;
-  departure_time = r.departure_time;
-  stop_id = text_of_number (stop_ids p) r.stop_id.0;
-  stop_sequence = r.stop_sequence;
-  stop_headsign = option_map (text_of_number p.headsigns) r.stop_headsign;
-  pickup_type = pickup_code r.pickup_type;
-  drop_off_type = drop_off_code r.drop_off_type;
-  timepoint = option_map timepoint_code r.timepoint;
-}
+stop_row_of p r = stop_row_named (stop_ids p) p.headsigns r
 
 abbrev pub frequency_of : FrequencyRow → Frequency
 frequency_of f = record {
@@ -110,15 +76,7 @@ frequency_of f = record {
 
 -- a trip with its stop times and frequencies
 abbrev pub trip_of : Parts → TripRow → List StopTime → List FrequencyRow → Trip
-trip_of p t stop_times frequencies = record {
-  route_id = text_of_number (route_ids p) t.route_id.0;
-  service_id = text_of_number (service_ids p) t.service_id.0;
-  trip_id = t.trip_id;
-  trip_headsign = t.trip_headsign;
-  trip_short_name = t.trip_short_name;
-  direction_id = option_map direction_code t.direction_id;
-  wheelchair_accessible = wheelchair_code t.wheelchair_accessible;
-  bikes_allowed = bikes_code t.bikes_allowed;
+trip_of p t stop_times frequencies = record (trip_named (route_ids p) (service_ids p) t) {
   stop_rows = map (stop_row_of p) stop_times;
   frequencies = map frequency_of frequencies;
 }
@@ -131,16 +89,7 @@ trips_of p (t ∷ ts) (r ∷ rs) [] = []
 trips_of p (t ∷ ts) (r ∷ rs) (f ∷ fs) = trip_of p t r f ∷ trips_of p ts rs fs
 
 abbrev pub transfer_of : Parts → TransferRow → Transfer
-transfer_of p t = record {
-  from_stop_id = option_map (λ n. text_of_number (stop_ids p) n.0) t.from_stop_id;
-  to_stop_id = option_map (λ n. text_of_number (stop_ids p) n.0) t.to_stop_id;
-  from_route_id = option_map (λ n. text_of_number (route_ids p) n.0) t.from_route_id;
-  to_route_id = option_map (λ n. text_of_number (route_ids p) n.0) t.to_route_id;
-  from_trip_id = option_map (λ n. text_of_number (trip_ids p) n.0) t.from_trip_id;
-  to_trip_id = option_map (λ n. text_of_number (trip_ids p) n.0) t.to_trip_id;
-  transfer_type = transfer_code t.transfer_type;
-  min_transfer_time = t.min_transfer_time;
-}
+transfer_of p t = transfer_named (stop_ids p) (route_ids p) (trip_ids p) t
 
 -- the content that the parts stand for
 abbrev pub content_of_parts : Parts → Content
@@ -154,11 +103,6 @@ content_of_parts p = record {
 }
 
 -- ---- parts that make a feed
-
--- a number that is there lies within a list of this length
-abbrev pub is_within : ℕ → Option ℕ → Bool
-is_within count None = true
-is_within count (Some n) = nat_lt n count
 
 abbrev pub names_stop : Parts → Option StopNo → Bool
 names_stop p o = is_within (length p.stops) (option_map (λ n. n.0) o)

@@ -108,7 +108,7 @@ fn report_keys_and_references<'a>(
     report_single_keys(tables, ids, found)?;
     report_composite_keys(alloc, tables, found)?;
     report_references(tables, ids, found)?;
-    report_stop_kinds(tables, &ids.stops, types, found)
+    report_stop_kinds(tables, &ids.network.stops, types, found)
 }
 
 // What is wrong with stop times and with the trips that they name.

@@ -244,7 +244,7 @@ fn the_first_row_of_an_id_is_found(rt: HostRuntime) -> Result<(), Fail> {
     put_files(rt.alloc(), &mut folders, &[TYPED])?;
     let tables = Tables::read(rt.alloc(), &mut folders, "f1")?;
     let ids = FeedIds::new(rt.alloc(), &tables)?;
-    assert_stops_found(&rt, &ids.stops);
+    assert_stops_found(&rt, &ids.network.stops);
     let types = stop_types(rt.alloc(), &tables)?;
     assert_types(&rt, types.as_slice());
     Ok(())

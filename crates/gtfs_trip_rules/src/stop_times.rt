@@ -50,7 +50,7 @@ pub fn report_stop_times<'a, 'i>(
     ensures kept { IfOk result (λ notes. AllKeep tables.now notes.rows) }
 {
     let count = tables.records(File::StopTimes);
-    let mut notes = TripNotes::with_room(alloc, &ids.trips, count)?;
+    let mut notes = TripNotes::with_room(alloc, &ids.network.trips, count)?;
     read_rows(tables, ids, types, &mut notes, found)?;
     Ok(notes)
 }
@@ -65,7 +65,7 @@ fn read_rows<'a, 'i>(
 ) -> Result<(), OutOfMemory>
     requires ids { AreIdsOf tables.now ids.now }
     requires types { AreStopTypes tables.now types.now }
-    requires none { notes.old ≡ record { trips = ids_of ids.now.trips; notes = []; rows = [] } }
+    requires none { notes.old ≡ record { trips = ids_of ids.now.network.trips; notes = []; rows = [] } }
     ensures reported { OnOk result (Reports tables.now in_stop_times found.old found.new) }
     ensures notes { OnOk result (notes.new.notes ≡ trip_notes_in tables.now) }
     ensures kept { OnOk result (AllKeep tables.now notes.new.rows) }

@@ -28,8 +28,8 @@ impl<'a, 't> NamedRows<'a, 't> {
             → AreNamedRows d result }
     {
         NamedRows {
-            stops: Finder::new(&ids.stops),
-            trips: Finder::new(&ids.trips),
+            stops: Finder::new(&ids.network.stops),
+            trips: Finder::new(&ids.network.trips),
             types,
         }
     }

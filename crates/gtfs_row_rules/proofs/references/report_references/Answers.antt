@@ -8,7 +8,7 @@ use Rattle.gtfs_columns.proofs.ReferenceFacts.{other_names, others_apart, report
 use Rattle.gtfs_row_rules.proofs.references.report_references.Goals as goal
 
 pub report_unknown-requires : goal.report_unknown-requires
-report_unknown-requires c = λ n. unknown_in c.args.tables.now file.Routes n (codes "agency_id") file.Agency (codes "agency_id") _ c.requires.agencies
+report_unknown-requires c = λ n. unknown_in c.args.tables.now file.Routes n (codes "agency_id") file.Agency (codes "agency_id") _ c.requires.network.agencies
 
 pub returns : goal.returns
 returns c =

@@ -9,16 +9,16 @@ use Rattle.gtfs_columns.proofs.ReportingFacts.{reports_then}
 use Rattle.gtfs_row_rules.proofs.single_keys.report_single_keys.Goals as goal
 
 pub report_single_key-requires-clause-rule : goal.report_single_key-requires-clause-rule
-report_single_key-requires-clause-rule c = single_reported c.args.tables.now file.Agency (codes "agency_id") c.args.ids.now.agencies c.requires.agencies
+report_single_key-requires-clause-rule c = single_reported c.args.tables.now file.Agency (codes "agency_id") c.args.ids.now.network.agencies c.requires.network.agencies
 
 pub report_single_key-requires-2-clause-rule : goal.report_single_key-requires-2-clause-rule
-report_single_key-requires-2-clause-rule c = single_reported c.args.tables.now file.Stops (codes "stop_id") c.args.ids.now.stops c.requires.stops
+report_single_key-requires-2-clause-rule c = single_reported c.args.tables.now file.Stops (codes "stop_id") c.args.ids.now.network.stops c.requires.network.stops
 
 pub report_single_key-requires-3-clause-rule : goal.report_single_key-requires-3-clause-rule
-report_single_key-requires-3-clause-rule c = single_reported c.args.tables.now file.Routes (codes "route_id") c.args.ids.now.routes c.requires.routes
+report_single_key-requires-3-clause-rule c = single_reported c.args.tables.now file.Routes (codes "route_id") c.args.ids.now.network.routes c.requires.network.routes
 
 pub report_single_key-requires-4-clause-rule : goal.report_single_key-requires-4-clause-rule
-report_single_key-requires-4-clause-rule c = single_reported c.args.tables.now file.Trips (codes "trip_id") c.args.ids.now.trips c.requires.trips
+report_single_key-requires-4-clause-rule c = single_reported c.args.tables.now file.Trips (codes "trip_id") c.args.ids.now.network.trips c.requires.network.trips
 
 pub report_single_key-requires-5-clause-rule : goal.report_single_key-requires-5-clause-rule
 report_single_key-requires-5-clause-rule c = single_reported c.args.tables.now file.Calendar (codes "service_id") c.args.ids.now.calendar c.requires.calendar

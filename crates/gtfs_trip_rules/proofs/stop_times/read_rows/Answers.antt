@@ -14,7 +14,7 @@ pub loop-row-init : goal.loop-row-init
 loop-row-init c = record {
   named = c.new-named.ensures c.args.tables.now c.requires.ids c.requires.types;
   reported = reported_none c.args.tables.now in_rows c.args.found.now;
-  trips = ap (λ v. v.trips) c.requires.none ∙ ap ids_of c.requires.ids.trips;
+  trips = ap (λ v. v.trips) c.requires.none ∙ ap ids_of c.requires.ids.network.trips;
   notes = ap (λ v. v.notes) c.requires.none;
   kept = subst (AllKeep c.args.tables.now) (sym (ap (λ v. v.rows) c.requires.none)) (λ k d below. absurd (omega (arith, below)));
 }

@@ -1,4 +1,4 @@
-use Rattle.gtfs_parts.proofs.named_ids.NamedIds.new.Goals as goal
+use Rattle.gtfs_columns.proofs.network_ids.NetworkIds.new.Goals as goal
 
 pub returns : goal.returns
 returns c = record {
