@@ -65,7 +65,13 @@ pub fn report_references<'a>(
     ensures { OnOk result (Reports tables.now (elsewhere Code.E10) found.old found.new) }
 {
     report_unknown_stops(tables, &ids.network.stops, found)?;
-    report_unknown(tables, File::Routes, "agency_id", &ids.network.agencies, found)?;
+    report_unknown(
+        tables,
+        File::Routes,
+        "agency_id",
+        &ids.network.agencies,
+        found,
+    )?;
     report_unknown_routes(tables, &ids.network.routes, found)?;
     report_unknown_services(tables, ids, found)?;
     report_unknown_trips(tables, &ids.network.trips, found)

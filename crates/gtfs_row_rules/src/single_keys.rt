@@ -44,7 +44,13 @@ pub fn report_single_keys<'a>(
     requires { AreIdsOf tables.now ids.now }
     ensures { OnOk result (Reports tables.now in_single_keys found.old found.new) }
 {
-    report_single_key(tables, File::Agency, "agency_id", &ids.network.agencies, found)?;
+    report_single_key(
+        tables,
+        File::Agency,
+        "agency_id",
+        &ids.network.agencies,
+        found,
+    )?;
     report_single_key(tables, File::Stops, "stop_id", &ids.network.stops, found)?;
     report_single_key(tables, File::Routes, "route_id", &ids.network.routes, found)?;
     report_single_key(tables, File::Trips, "trip_id", &ids.network.trips, found)?;
