@@ -34,7 +34,7 @@ _gtfs_pass() {
     fi
 }
 
-# Offers those paths, or those of the words, that begin with what stands at the cursor.
+# Offers the paths, or those of the words, that begin with what stands at the cursor.
 _gtfs_paths() {
     compopt -o filenames 2>/dev/null
     mapfile -t COMPREPLY < <(compgen "$1" -- "$2")
@@ -56,22 +56,18 @@ _gtfs() {
         options[--version]=''
     fi
     word=${words[-1]}
-    [[ $word != *=* || -n $value ]] || value=${options[${word%%=*}]-}
-    case $value:$word in
-        FILE:*) _gtfs_paths -f "$2" ;;
-        *'|'*:*) _gtfs_words "$2" ${value//|/ } ;;
-        ?*:*) ;;
-        :-*) _gtfs_words "$2" "${!options[@]}" ;;
-        *)
-            if ((${#words[@]} == 2)); then
-                _gtfs_words "$2" check board timetable merge
-            elif ((folders > 0)); then
-                _gtfs_paths -d "$2"
-            else
-                _gtfs_words "$2" "${!options[@]}"
-            fi
-            ;;
-    esac
+    [[ $word != --*=* || -n $value ]] || value=${options[${word%%=*}]-}
+    if [[ $value == FILE ]]; then
+        _gtfs_paths -f "$2"
+    elif [[ -n $value ]]; then
+        [[ $value != *'|'* ]] || _gtfs_words "$2" "${value//|/ }"
+    elif ((${#words[@]} == 2)) && [[ $word != -* ]]; then
+        _gtfs_words "$2" check board timetable merge
+    elif ((folders > 0)) && [[ $word != -* ]]; then
+        _gtfs_paths -d "$2"
+    else
+        _gtfs_words "$2" "${!options[@]}"
+    fi
 }
 
 complete -F _gtfs gtfs
