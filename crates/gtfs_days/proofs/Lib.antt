@@ -4,3 +4,5 @@ pub mod Clocks
 pub mod ActiveDays
 pub mod Weekdays
 pub mod SameZones
+pub mod CutDays
+pub mod TrimFacts

@@ -1,3 +1,4 @@
 pub mod Noon
 pub mod Service
 pub mod Zone
+pub mod Cut

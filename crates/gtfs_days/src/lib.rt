@@ -30,14 +30,17 @@
 #![tactic(auto)]
 
 mod civil;
+mod cut;
 mod exception;
 mod law;
 mod service;
 mod service_day;
+mod trimmed;
 mod week;
 mod zone;
 
 pub use civil::{Civil, CivilFault};
+pub use cut::Cut;
 pub use exception::Exception;
 pub use law::zones_are_one;
 pub use service::Service;

@@ -1,10 +1,12 @@
-ghost use Rattle.std.specs.Prelude.{◌≡◌, [], Bool, false, All, IfOk, IsOk, IsPermutation, option_copied, ℤ, pos, ◌+ℤ◌, ◌≤ℤ◌, int_lt, if◌then◌else◌};
+ghost use Rattle.std.specs.Prelude.{◌≡◌, [], Bool, false, true, option_and_then, All, IfOk, IsOk, IsPermutation, option_copied, ℤ, pos, ◌+ℤ◌, ◌≤ℤ◌, int_lt, if◌then◌else◌};
 ghost use Rattle.std.specs.Option.{option_map_or};
 ghost use Rattle.jiff_core.specs.Calendar.{IsBetween};
-ghost use Rattle.gtfs_days.specs.Service.{first_service_day, is_service_day};
+ghost use Rattle.gtfs_days.specs.Service.{IsByDay, IsOrdered, first_service_day, is_service_day};
 
+use crate::cut::Cut;
 use crate::exception::Exception;
 use crate::service_day::LAST_SERVICE_DAY;
+use crate::trimmed::exceptions_in;
 use crate::week::Week;
 use gtfs_field::{Day, OutOfMemory};
 use std::alloc::Global;
@@ -32,6 +34,7 @@ impl Model for Service {
 impl Service {
     ghost use Rattle.gtfs_days.specs.Service.{is_active, has_exception, is_regular, covered_by, with_exceptions, IsFirstIfAny, IsByDay, IsOrdered, NamesEachDayOnce};
     ghost use Rattle.gtfs_days.specs.declared.exception.Exception.{Exception};
+    ghost use Rattle.gtfs_days.specs.Cut.{ActiveInPart, cut_day, cut_week, trimmed_service, week_or};
 
     /// The service with this calendar row, if any, and these exceptions, in whatever order, of
     /// which no two are for one day. With neither it is never active.
@@ -73,6 +76,41 @@ impl Service {
         ensures by_day { IsByDay result.now }
     {
         self.exceptions.as_slice()
+    }
+
+    /// The service on one side of a service day: it runs on the days there on which it ran, and on no other. Of its calendar
+    /// row the days there stay, and so do its exceptions. Where nothing is left it has a row that names no weekday.
+    ///
+    /// # Errors
+    /// `OutOfMemory` where memory ran out.
+    pub fn trim(&self, alloc: Global, cut: Cut) -> Result<Service, OutOfMemory>
+        requires { is_service_day (cut_day cut) ≡ true }
+        ensures value { IfOk result (λ s. s ≡ trimmed_service cut self.now) }
+        ensures active { ActiveInPart cut self.now }
+    {
+        let exceptions = exceptions_in(alloc, self.exceptions.as_slice(), &cut)?;
+        match &self.week {
+            Some(week) if week.reaches_into(&cut) => Ok(Service {
+                week: Some(Week {
+                    days: week.days,
+                    start: week.start_in(&cut),
+                    end: week.end_in(&cut),
+                }),
+                exceptions,
+            }),
+            _ if exceptions.is_empty() => Ok(Service {
+                week: Some(Week {
+                    days: [false; 7],
+                    start: cut.day(),
+                    end: cut.day(),
+                }),
+                exceptions,
+            }),
+            _ => Ok(Service {
+                week: None,
+                exceptions,
+            }),
+        }
     }
 
     /// Whether the service runs on the day: its calendar row covers the day and no exception

@@ -2,7 +2,8 @@
 //! proved twice, with them and without. They call public functions alone.
 //!
 //! - `values` are texts of each kind of field with the values that they have, and the values' texts.
-//! - `services` are the days on which services run, and `zones` what the clocks of zones show, of small
+//! - `services` are the days on which services run, `cuts` what stays of them on one side of a day, and
+//!   `zones` what the clocks of zones show, of small
 //!   zone files and of those of five cities.
 //! - `tables` are files with the records and values that they have, and `offsets` such with many fields
 //!   and with long ones.
@@ -18,6 +19,8 @@
 
 #[cfg(test)]
 mod assertions;
+#[cfg(test)]
+mod cuts;
 #[cfg(test)]
 mod device;
 #[cfg(test)]

@@ -10,7 +10,7 @@ use std::process::Abort;
 use std::test::Fail;
 
 // A day of April 2024, of which the 1st is a Monday.
-fn april(day: i32) -> Day
+pub(crate) fn april(day: i32) -> Day
     requires { IsBetween (pos 1) (pos 30) day }
     ensures { result ≡ pos 19_813 +ℤ day }
 {

@@ -1,0 +1,182 @@
+//! Services on one side of a service day: the rows that stay, and the days on which they run.
+ghost use Rattle.std.specs.Prelude.{◌≡◌, true};
+ghost use Rattle.gtfs_days.specs.Cut.{cut_day};
+ghost use Rattle.gtfs_days.specs.Service.{is_service_day};
+
+use crate::assertions::{assert_is, assert_is_at};
+use crate::services::april;
+use gtfs_days::Exception::{Added, Removed};
+use gtfs_days::{Cut, Exception, FIRST_SERVICE_DAY, LAST_SERVICE_DAY, Service, Week};
+use gtfs_field::Day;
+use std::process::Abort;
+use std::test::Fail;
+
+// Holds that these rows stay of the service.
+fn assert_stay<R: Abort + AllocGlobal>(
+    rt: &R,
+    service: &Service,
+    cut: Cut,
+    week: Option<&Week>,
+    exceptions: &[(Day, Exception)],
+) -> Result<(), Fail>
+    requires { is_service_day (cut_day cut) ≡ true }
+{
+    let trimmed = service.trim(rt.alloc(), cut)?;
+    assert_is(rt, trimmed.week(), week, "calendar row");
+    assert_is(rt, trimmed.exceptions(), exceptions, "exceptions");
+    Ok(())
+}
+
+// A calendar row of every day from the one to the other.
+fn daily(start: Day, end: Day) -> Week {
+    Week {
+        days: [true; 7],
+        start,
+        end,
+    }
+}
+
+// A calendar row of one day that names no weekday.
+fn idle(day: Day) -> Week {
+    Week {
+        days: [false; 7],
+        start: day,
+        end: day,
+    }
+}
+
+#[test]
+fn rows_go_where_nothing_of_them_is_left(rt: HostRuntime) -> Result<(), Fail> {
+    let week = daily(april(1), april(2));
+    let third = [(april(3), Added)];
+    let service = Service::new(rt.alloc(), Some(week), &third)?;
+    let first = daily(april(1), april(1));
+    assert_stay(&rt, &service, Cut::Before(april(2)), Some(&first), &[])?;
+    assert_stay(&rt, &service, Cut::From(april(3)), None, &third)?;
+    let never = Day::from_number(FIRST_SERVICE_DAY);
+    assert_stay(&rt, &service, Cut::Before(never), Some(&idle(never)), &[])
+}
+
+#[test]
+fn a_trimmed_service_runs_in_its_part_alone(rt: HostRuntime) -> Result<(), Fail> {
+    let week = daily(april(1), april(2));
+    let service = Service::new(rt.alloc(), Some(week), &[(april(3), Added)])?;
+    let before = service.trim(rt.alloc(), Cut::Before(april(2)))?;
+    let from = service.trim(rt.alloc(), Cut::From(april(3)))?;
+    for (day, runs_before, runs_from) in [
+        (april(1), true, false),
+        (april(2), false, false),
+        (april(3), false, true),
+    ] {
+        assert_is_at(
+            &rt,
+            before.active(day),
+            runs_before,
+            "before the 2nd, on",
+            day,
+        );
+        assert_is_at(&rt, from.active(day), runs_from, "from the 3rd, on", day);
+    }
+    Ok(())
+}
+
+// A cut before a calendar row, at its first day, in it, at its last day and after it; exceptions on the day before the
+// cut, on it and after it, and an added day on each side of the row.
+#[test]
+fn rows_are_cut_at_the_day(rt: HostRuntime) -> Result<(), Fail> {
+    let all = [
+        (april(7), Added),
+        (april(9), Removed),
+        (april(10), Removed),
+        (april(11), Removed),
+        (april(20), Added),
+    ];
+    let whole = daily(april(8), april(12));
+    let service = Service::new(rt.alloc(), Some(whole), &all)?;
+    let early = daily(april(8), april(9));
+    assert_stay(
+        &rt,
+        &service,
+        Cut::Before(april(10)),
+        Some(&early),
+        &all[..2],
+    )?;
+    let late = daily(april(10), april(12));
+    assert_stay(&rt, &service, Cut::From(april(10)), Some(&late), &all[2..])?;
+    assert_stay(&rt, &service, Cut::Before(april(8)), None, &all[..1])?;
+    assert_stay(&rt, &service, Cut::From(april(13)), None, &all[4..])?;
+    let last = daily(april(12), april(12));
+    assert_stay(&rt, &service, Cut::From(april(12)), Some(&last), &all[4..])?;
+    assert_stay(
+        &rt,
+        &service,
+        Cut::Before(april(13)),
+        Some(&whole),
+        &all[..4],
+    )?;
+    assert_stay(&rt, &service, Cut::From(april(7)), Some(&whole), &all)?;
+    assert_stay(
+        &rt,
+        &service,
+        Cut::Before(april(7)),
+        Some(&idle(april(7))),
+        &[],
+    )?;
+    assert_stay(
+        &rt,
+        &service,
+        Cut::From(april(21)),
+        Some(&idle(april(21))),
+        &[],
+    )
+}
+
+// An exception that removes a day is a row too, so no other stands for it.
+#[test]
+fn a_removed_day_alone_gets_no_calendar_row(rt: HostRuntime) -> Result<(), Fail> {
+    let week = daily(april(1), april(5));
+    let removed = [(april(10), Removed)];
+    let service = Service::new(rt.alloc(), Some(week), &removed)?;
+    assert_stay(&rt, &service, Cut::From(april(6)), None, &removed)
+}
+
+#[test]
+fn a_cut_at_the_first_and_the_last_service_day(rt: HostRuntime) -> Result<(), Fail> {
+    let first = Day::from_number(FIRST_SERVICE_DAY);
+    let last = Day::from_number(LAST_SERVICE_DAY);
+    let end = Day::from_number(2_932_896);
+    let week = daily(first, end);
+    let service = Service::new(rt.alloc(), Some(week), &[(end, Added)])?;
+    assert_stay(
+        &rt,
+        &service,
+        Cut::From(first),
+        Some(&week),
+        &[(end, Added)],
+    )?;
+    let until = daily(first, Day::from_number(LAST_SERVICE_DAY - 1));
+    assert_stay(&rt, &service, Cut::Before(last), Some(&until), &[])?;
+    let since = daily(last, end);
+    assert_stay(
+        &rt,
+        &service,
+        Cut::From(last),
+        Some(&since),
+        &[(end, Added)],
+    )
+}
+
+// A service of 70,000 days, cut in the middle.
+#[test]
+fn many_days_are_cut(rt: HostRuntime) -> Result<(), Fail> {
+    let mut added = Vec::new(rt.alloc());
+    for number in 0..70_000 {
+        added.push((Day::from_number(number), Added))?;
+    }
+    let service = Service::new(rt.alloc(), None, added.as_slice())?;
+    let middle = Day::from_number(35_000);
+    let before = &added.as_slice()[..35_000];
+    let from = &added.as_slice()[35_000..];
+    assert_stay(&rt, &service, Cut::Before(middle), None, before)?;
+    assert_stay(&rt, &service, Cut::From(middle), None, from)
+}
