@@ -1,7 +1,7 @@
 """Examples of code in docs: each of their lines stands in a source that the gate compiles.
 
 The examples are the blocks of the pages of the crates, which are the `//!` comments of their `lib.rt` and `main.rt`, and the
-```rust blocks of docs/library.md.
+```rust blocks of docs/library.md. The signatures of functions on that page stand in a source too.
 """
 import glob
 import os
@@ -35,12 +35,11 @@ def listed_crates():
 
 
 def compiled_lines():
-    """The lines of code of all sources that the gate compiles."""
-    code = set()
+    """The lines of code of all sources that the gate compiles, in their order."""
+    paths = []
     for crate in listed_crates():
-        for path in glob.glob(os.path.join(CRATES, crate, "src", "**", "*.rt"), recursive=True):
-            code.update(map(code_of, lines_of(path)))
-    return code
+        paths += sorted(glob.glob(os.path.join(CRATES, crate, "src", "**", "*.rt"), recursive=True))
+    return [code_of(line) for path in paths for line in lines_of(path)]
 
 
 def blocks(lines, opening):
@@ -75,8 +74,24 @@ def unknown_lines(path, examples, known):
     return [f"{shown(path)}:{number}: {line}" for number, line in code if line not in known], len(code)
 
 
+def signature_of(text):
+    """A signature on one line, however its parameters are laid out."""
+    return " ".join(text.split()).replace("( ", "(").replace(", )", ")").replace(",)", ")")
+
+
+def unknown_signatures(lines):
+    """The signatures of the library's page that stand in no source, and how many there are in all."""
+    with open(LIBRARY, encoding="utf-8") as file:
+        signatures = [signature_of(text) for text in re.findall(r"`((?:pub )?fn [^`]+)`", file.read())]
+    code = signature_of(" ".join(lines))
+    # What follows a signature in a source is a clause, its body, or the end of a method without one.
+    follows = r"(?= (?:requires|ensures|\{)|;)"
+    return [f"{shown(LIBRARY)}: {it}" for it in signatures if not re.search(re.escape(it) + follows, code)], len(signatures)
+
+
 def test_page_examples():
-    code, usage = compiled_lines(), usage_lines()
+    lines = compiled_lines()
+    code, usage = set(lines), usage_lines()
     unknown, count = [], 0
     for path in sorted(glob.glob(os.path.join(CRATES, "*", "src", "lib.rt")) + glob.glob(os.path.join(CRATES, "*", "src", "main.rt"))):
         known = code | usage if path.startswith(os.path.join(CRATES, "gtfs_words", "")) else code
@@ -84,6 +99,8 @@ def test_page_examples():
         unknown, count = unknown + more, count + checked
     more, checked = unknown_lines(LIBRARY, blocks(enumerate(lines_of(LIBRARY), 1), "```rust"), code)
     unknown, count = unknown + more, count + checked
-    want(not unknown, "lines of examples that stand in no source:\n" + "\n".join(unknown))
-    want(count > 0, "no example was found")
-    return f"{count} lines of examples stand in sources that the gate compiles"
+    more, signatures = unknown_signatures(lines)
+    unknown += more
+    want(not unknown, "examples that stand in no source:\n" + "\n".join(unknown))
+    want(count > 0 and signatures > 0, "no example or no signature was found")
+    return f"{count} lines of examples and {signatures} signatures stand in sources that the gate compiles"
