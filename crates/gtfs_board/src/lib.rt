@@ -9,10 +9,8 @@
 //!   that day can hold a departure before all those that wait, so a board may span years.
 //!
 //! ```text
-//! let key = read_key("@1711958400/T1/28800/1/20240401")?;
-//! key.trip                                    // T1
-//! let mut board = Board::open(alloc, &feed, &zone, "S1", span, Some(&key))?;
-//! write_page(alloc, &mut board, 10, &mut out)?;
+//! let mut board = Board::open(alloc, feed, zone, stop, span, None)?;
+//! write_page(alloc, &mut board, 3, out)?;
 //! ```
 //!
 //! What keys, lines and boards are stands in `specs/`. [`Feed`] is handed on from `gtfs_feed`.

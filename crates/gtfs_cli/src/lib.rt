@@ -29,9 +29,9 @@
 //! [`Fault`], which [`tell`] sends to the error output.
 //!
 //! ```text
-//! let mut folders = DiskFolders::new();
-//! let words = ["gtfs", "board", "feed", "--zone", "Berlin", "--stop", "S1", "--from", "20240401", "--until", "20240402"];
-//! let status = run(alloc, random, &words, &mut folders, &mut out, &mut err);
+//! let mut disk = DiskFolders::new(rt);
+//! let status = run(alloc, random, words, &mut disk, &mut out, err);
+//! close(&mut out, status)
 //! ```
 #![tactic(auto)]
 

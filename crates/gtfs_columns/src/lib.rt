@@ -15,15 +15,6 @@
 //! - A [`Code`] says what is wrong, and a [`Problem`] where: in which [`FileName`], row and column. [`Found`] gathers
 //!   the problems that were found.
 //!
-//! A column is found once and then read row after row:
-//!
-//! ```text
-//! let sequence = tables.column(File::StopTimes, "stop_sequence");
-//! for (row, record) in tables.rows(File::StopTimes) {
-//!     let number = values::count(record.value(sequence));
-//! }
-//! ```
-//!
 //! When a problem holds stands in `specs/`, a file for each topic: files, columns, fields, keys and references, presence,
 //! stops, trips, periods and services; and the columns, keys and references of the nine files as data. What only the steps
 //! of a check need stands in `specs/steps/`.

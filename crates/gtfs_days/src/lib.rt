@@ -14,14 +14,16 @@
 //! [`FIRST_SERVICE_DAY`] and [`LAST_SERVICE_DAY`] are the numbers.
 //!
 //! ```text
-//! let week = Week { days: [true, true, true, true, true, false, false], start, end };
-//! let service = Service::new(alloc, Some(week), &[(holiday, Exception::Removed)])?;
-//! let zone = Zone::read(alloc, bytes)?;
-//! if let Some(day) = service.next_active(today) {
-//!     // A stop time of 25:10:00 on that day is this instant.
-//!     let instant = zone.origin(alloc, day)? + 25 * 3_600 + 10 * 60;
-//! }
+//! let week = Week { days, start, end };
+//! let exceptions = [(april(10), Added), (april(3), Removed)];
+//! let service = Service::new(rt.alloc(), Some(week), &exceptions)?;
+//! let next = service.next_active(day);
+//!
+//! let zone = Zone::read(alloc, file)?;
+//! let origin = zone.origin(alloc, day).ok()?;
 //! ```
+//!
+//! A stop time of 25:10:00 on that day is 90,600 seconds after `origin`.
 //!
 //! Zones exist in which two days begin at one instant, or a later day begins earlier: where a
 //! place skips a day, or moves its clocks by more than a day. So nothing may be concluded from the

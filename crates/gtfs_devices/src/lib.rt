@@ -13,12 +13,12 @@
 //! is promised of it says nothing then.
 //!
 //! ```text
-//! let mut folders = MemoryFolders::new(alloc, 1_000, None);
-//! folders.put("feed", "agency.txt", b"agency_name\nCity Bus\n")?;
-//! let file = folders.read(alloc, "feed", "agency.txt")?;
+//! let mut folders = MemoryFolders::new(rt.alloc(), 100, None);
+//! folders.put("f1", "stops.txt", b"stop_id\nS1\n")?;
+//! let file = folders.read(rt.alloc(), "f1", "stops.txt")?;
 //!
-//! let mut out = MemoryOut::new(alloc, 80)?;
-//! write_text(&mut out, b"City Bus\n")?;
+//! let mut out = MemoryOut::new(rt.alloc(), 10)?;
+//! let written = write_text(&mut out, b"departure");
 //! ```
 //!
 //! What a folder holds and what its calls answer stands in `specs/Folder.antt`, what devices tell of

@@ -10,9 +10,8 @@
 //! - [`Text`] and [`List`] are what public records of the crates above hold in place of `String` and `Vec`.
 //!
 //! ```text
-//! let departure = read_time("25:10:00")?;     // ten past one on the day after
-//! departure.seconds()                         // 90,600
-//! push_time(alloc, &mut line, departure)?;    // appends 25:10:00
+//! let clock = read_time(text).ok()?;                       // 25:10:00 is 90,600 seconds
+//! push_time(alloc, text, Clock::from_seconds(25_500))?;    // appends 07:05:00
 //! ```
 //!
 //! What a text of each kind means stands in `specs/Kinds.antt`, the canonical texts in `specs/Canonical.antt`.

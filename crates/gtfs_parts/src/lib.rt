@@ -4,8 +4,8 @@
 //! [`FeedRows::with_stop_times`] makes [`Parts`](gtfs_rows::Parts) of them and the stop times.
 //!
 //! ```text
-//! let rows = FeedRows::new(alloc, &passed)?;
-//! let parts = rows.with_stop_times(stop_rows, stop_row_starts, headsigns);
+//! let rows = FeedRows::new(alloc, passed)?;
+//! rows.with_stop_times(stop_rows, stop_row_starts, headsigns)
 //! ```
 //!
 //! Each list stands in the order of its keys: ids by their bytes, transfers by the six parts of their keys, frequencies

@@ -8,11 +8,6 @@
 //!   and a headsign an [`OptionalHeadsign`], a number in the feed's list of headsigns.
 //! - [`Parts`] are all rows of a feed, each list in the order of its keys; [`stretch`] finds the rows of one trip.
 //!
-//! ```text
-//! let row = StopRow { stop_id: StopNo(3), arrival_time: OptionalClock::new(None), .. };
-//! row.pickup_type == PickupType::Regular
-//! ```
-//!
 //! What a row stands for, with ids as texts, is in `specs/Views.antt`. `specs/Reading.antt` says what the content of a
 //! dataset is, `specs/Sound.antt` which rows make a feed, and `specs/Written.antt` how a feed is written; that what is
 //! written passes the validator and reads back is proved in `proofs/`.

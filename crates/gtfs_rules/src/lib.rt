@@ -9,15 +9,9 @@
 //!   [`Code::text`] says what is wrong in a few words.
 //!
 //! ```text
-//! let report = check(alloc, &tables)?;
-//! for problem in report.problems() {
-//!     // E07 stop_times.txt 3 arrival_time value unreadable
-//!     let Problem { file, row, code, column } = *problem;
-//!     (code.name(), file.as_str(), row, column, code.text())
-//! }
-//! match report.passed() {
-//!     Ok(passed) => passed.tables(),
-//!     Err(report) => return Err(report),
+//! match check(alloc, tables)?.passed() {
+//!     Ok(passed) => assert_first_rows(rt, &passed),
+//!     Err(report) => assert_is(rt, report.problems().len(), 0, "problems"),
 //! }
 //! ```
 //!

@@ -4,10 +4,6 @@
 //! begin, and the headsigns that rows name by their indices. What a row says was read when its dataset was checked, and is
 //! not read again, but for the headsign.
 //!
-//! ```text
-//! let StopTimes { stop_rows, stop_row_starts, headsigns } = StopTimes::new(alloc, random, &passed, trips.len())?;
-//! ```
-//!
 //! What the lists stand for is said in `specs/Lists.antt`.
 #![tactic(auto)]
 

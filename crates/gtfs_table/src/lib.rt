@@ -21,10 +21,12 @@
 //! All that `gtfs_devices` has, its folders and outputs, is handed on here.
 //!
 //! ```text
-//! let mut folders = MemoryFolders::new(alloc, 1_000, None);
-//! folders.put("feed", "agency.txt", b"agency_name\nCity Bus\n")?;
-//! let tables = Tables::read(alloc, &mut folders, "feed")?;
-//! let name = tables.value(File::Agency, 2, "agency_name");
+//! let tables = Tables::read(alloc, folders, dir)?;
+//! let stop_id = tables.column(File::StopTimes, "stop_id");
+//! for (n, record) in tables.rows(File::StopTimes) {
+//!     let stop = record.value(stop_id);
+//!     text.push_str(format!(in alloc; "{n} {stop};")?.as_str())?;
+//! }
 //! ```
 #![tactic(auto)]
 

@@ -11,11 +11,9 @@
 //! [`WordsFault`]. It judges no text: whether a text is a date, an instant or a number is for the command to say.
 //!
 //! ```text
-//! match read_words(alloc, &["gtfs", "merge", "north", "south", "both"]) {
-//!     Ok(Command::Merge(words)) => .. words.a, words.b, words.out ..
-//!     Err(WordsFault::Help(text)) => .. the text, on the output ..
-//!     ..
-//! }
+//! let Ok(Command::Check(dir)) = read_words(rt.alloc(), &["gtfs", "check", "f1"]) else {
+//!     return Err("no check".into());
+//! };
 //! ```
 #![tactic(auto)]
 

@@ -6,13 +6,6 @@
 //!   its table.
 //! - [`has_longer_file`] tells whether the text of some file is longer than a limit, and makes none.
 //!
-//! ```text
-//! for file in &File::ALL {
-//!     let text = file_text(alloc, &parts, *file)?;
-//!     folders.write(alloc, dir, file.name(), text.as_bytes())?;
-//! }
-//! ```
-//!
 //! What the written form of a content is stands in `specs/Written.antt` of `gtfs_rows`, and what is promised of it in
 //! `specs/WrittenForm.antt` there. `specs/Taking.antt` says how rows are taken, field by field, into a table or a
 //! text.
