@@ -4,7 +4,7 @@
 //! - A [`Service`] is a row of `calendar.txt`, if any, which is a [`Week`], and its rows of
 //!   `calendar_dates.txt`, each a day and an [`Exception`]. `active` says whether it runs on a day,
 //!   and `next_active` finds the first day on which it runs: neither walks over days without
-//!   service.
+//!   service. `trim` is the service on one side of a service day, a [`Cut`].
 //! - A [`Zone`] is read from a zone file (TZif, RFC 9636). `origin` is the instant from which the
 //!   times of a service day count: noon less twelve hours, which on a day with a change of clocks
 //!   is not midnight. `civil` is the local date and time at an instant, a [`Civil`].

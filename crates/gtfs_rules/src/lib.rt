@@ -9,10 +9,14 @@
 //!   [`Code::text`] says what is wrong in a few words.
 //!
 //! ```text
-//! match check(alloc, tables)?.passed() {
-//!     Ok(passed) => assert_first_rows(rt, &passed),
-//!     Err(report) => assert_is(rt, report.problems().len(), 0, "problems"),
+//! let report = check(alloc, &tables)?;
+//! for problem in report.problems() {
+//!     let (code, file, row) = (problem.code, problem.file.as_str(), problem.row);
+//!     println!(rt; "{} {file}:{row} {}", code.name(), code.text())?;
 //! }
+//! let Ok(passed) = report.passed() else {
+//!     bail!("{dir} has errors");
+//! };
 //! ```
 //!
 //! The words of the contracts stand on one page, `specs/Words.antt`, which names where each is defined.
