@@ -118,9 +118,9 @@ class Clone:
         """Puts a program on the path of the calls."""
         write(os.path.join(self.tools, name), text, mode=0o755)
 
-    def make_ready(self):
+    def make_ready(self, program=PROGRAM + "ready\n"):
         """A program in dist/ with its digests, made here and not by tools/dist."""
-        write(self.ready, PROGRAM + "ready\n", mode=0o755)
+        write(self.ready, program, mode=0o755)
         write(self.path("dist", "digests"), "toolchain: stand-in 7\n" + self.digests())
 
     def digests(self):
