@@ -11,6 +11,7 @@ from program import LIMIT, ROOT, want
 
 # A stand-in for the program, but for its name, which is its last line.
 PROGRAM = r"""#!/bin/sh
+[ "$*" = --help ] && exit 0
 [ "$1" = --kill ] && kill -TERM $$
 case " $* " in *" --pages "*) echo "${GLIBC_TUNABLES-unset}"; exit 0 ;; esac
 for word; do printf '[%s]' "$word"; done
