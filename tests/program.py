@@ -1,10 +1,11 @@
-"""What the test scripts share: the repository's root, the launcher and the built program."""
+"""What the test scripts share: the repository's root, the launcher, and the program that was built."""
 import os
 import subprocess
 import sys
 
 ROOT = os.path.dirname(os.path.dirname(os.path.abspath(__file__)))
 LAUNCHER = os.path.join(ROOT, "gtfs")
+BUILD = os.path.join(ROOT, "tools", "build")
 PROGRAM = os.path.join(ROOT, "crates", "gtfs", "out", "gtfs")
 
 # The small feed f1 and the zone file z1, of UTC, on which the cases build too.
@@ -38,9 +39,9 @@ def want(holds, why):
 
 
 def build():
-    """Has the launcher build the program, where it is not built."""
-    built = subprocess.run([LAUNCHER, "--help"], stdout=subprocess.DEVNULL, stdin=subprocess.DEVNULL)
-    want(built.returncode == 0, f"{LAUNCHER} --help ended with status {built.returncode}")
+    """Builds the program, where it is not built."""
+    built = subprocess.run([BUILD], stdin=subprocess.DEVNULL)
+    want(built.returncode == 0, f"{BUILD} ended with status {built.returncode}")
 
 
 def want_lines(name, text, wanted):
