@@ -104,7 +104,7 @@ def without_code(text):
 def links_of(page):
     """Where the links of a page lead that lead to no other host, each with the number of its line."""
     text = without_code(page.text())
-    for found in re.finditer(r"\]\(([^()\s]+)\)", text):
+    for found in re.finditer(r"\]\(([^)]*)\)", text):
         if not re.match("[a-z]+:", found[1]):
             yield text.count("\n", 0, found.start(1)) + 1, found[1]
 
