@@ -142,4 +142,4 @@ def paths_of(page):
 def is_there(path):
     """Whether the repository has an entry of a path, in which a word in capitals stands for any name."""
     parts = ["*" if re.fullmatch("[A-Z]{2,}", part) else part for part in path.split("/")]
-    return bool(glob.glob("/".join(parts), root_dir=ROOT, recursive=True, include_hidden=True))
+    return bool(glob.glob("/".join(parts), root_dir=ROOT, recursive=True))
