@@ -44,11 +44,11 @@ def compiled_lines():
 
 def blocks(lines, opening):
     """The lines of the blocks that such fences open, each with its number."""
-    inside = False
+    fence = None
     for number, line in lines:
         if line.startswith("```"):
-            inside = not inside and re.fullmatch(opening, line) is not None
-        elif inside:
+            fence = line if fence is None else None
+        elif fence is not None and re.fullmatch(opening, fence):
             yield number, line
 
 

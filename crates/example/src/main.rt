@@ -1,7 +1,8 @@
-//! A program to start from. It checks the feeds of two folders, prints the first departures of a day
-//! at a stop of one of them, and writes both as one feed into a third folder.
+//! A program to start from. It checks the feeds of two folders, prints the first departures of a
+//! day at a stop of one of them, and writes both as one feed into a third folder.
 //!
-//! What a refusal means stands above each call. Each may also be refused because memory ran out.
+//! Above each call of the library stands what it does, and what it means where it is refused. Each
+//! may also be refused because memory ran out.
 #![tactic(auto)]
 
 use anyhow::{Context, Result, bail, ensure};
@@ -13,24 +14,18 @@ use gtfs_merge::{Kind, Options, merge};
 use gtfs_rules::check;
 use gtfs_table::{DiskFolders, File, Folders, Tables, WriteOut};
 use std::hash::RandomState;
-use std::random::RandomSource;
-use std::rt::Runtime;
 use std::{fs, io};
 
 fn main(rt: HostRuntime) -> Result<()> {
-    run(&rt)
+    let ferry = read_feed(&rt, "ferry")?;
+    let tram = read_feed(&rt, "tram")?;
+    let zone = read_zone(&rt, "central-europe")?;
+    print_departures(&rt, &ferry, &zone, "HAR")?;
+    write_both(&rt, &ferry, &tram, "both")
 }
 
-fn run<R: Runtime + AllocGlobal + RandomSource>(rt: &R) -> Result<()> {
-    let ferry = read_feed(rt, "ferry")?;
-    let tram = read_feed(rt, "tram")?;
-    let zone = read_zone(rt, "central-europe")?;
-    print_departures(rt, &ferry, &zone)?;
-    write_both(rt, &ferry, &tram, "both")
-}
-
-/// The feed in a folder, once its problems are printed. A feed with errors is refused.
-fn read_feed<R: Runtime + AllocGlobal + RandomSource>(rt: &R, dir: &str) -> Result<Feed> {
+/// The feed in a folder, after its problems are printed.
+fn read_feed(rt: &HostRuntime, dir: &str) -> Result<Feed> {
     let alloc = rt.alloc();
     let mut disk = DiskFolders::new(rt);
     // Reads the files of a folder. Refused: it is not there, or one of them cannot be read.
@@ -46,26 +41,27 @@ fn read_feed<R: Runtime + AllocGlobal + RandomSource>(rt: &R, dir: &str) -> Resu
         bail!("{dir} has errors");
     };
     // Makes a feed of them. It has no other refusal.
-    Ok(Feed::new(alloc, RandomState::new(rt)?, &passed)?)
+    let feed = Feed::new(alloc, RandomState::new(rt)?, &passed)?;
+    Ok(feed)
 }
 
 /// The time zone in a file.
-fn read_zone<R: Runtime + AllocGlobal>(rt: &R, path: &str) -> Result<Zone> {
+fn read_zone(rt: &HostRuntime, path: &str) -> Result<Zone> {
     let bytes = fs::read(rt, path).context(format_args!("reading {path}"))?;
     // Reads a zone. Refused: the bytes are no zone file.
     let zone = Zone::read(rt.alloc(), &bytes)?;
     Ok(zone)
 }
 
-/// Prints the first three departures at the harbour on 2 April 2024.
-fn print_departures<R: Runtime + AllocGlobal>(rt: &R, feed: &Feed, zone: &Zone) -> Result<()> {
-    let (alloc, stop) = (rt.alloc(), "HAR");
+/// Prints the first three departures at a stop on 2 April 2024.
+fn print_departures(rt: &HostRuntime, feed: &Feed, zone: &Zone, stop: &str) -> Result<()> {
+    let alloc = rt.alloc();
     // Reads a date. Refused: the text is none.
     let day = read_date("20240402")?;
     ensure!(day.number() <= LAST_SERVICE_DAY, "no services run in 9999");
     // Tells from which instant the times of a service day count. It is never refused.
     let from = zone.origin(alloc, day)?;
-    let until = from.saturating_add(24 * 3_600);
+    let until = from + 24 * 3_600;
     let span = Span { from, until };
     // Opens the board of a stop. Refused: there is no such stop, or the span is none.
     let mut board = Board::open(alloc, feed, zone, stop, span, None)?;
@@ -76,20 +72,13 @@ fn print_departures<R: Runtime + AllocGlobal>(rt: &R, feed: &Feed, zone: &Zone) 
 }
 
 /// Writes two feeds as one into a folder.
-fn write_both<R: Runtime + AllocGlobal + RandomSource>(
-    rt: &R,
-    a: &Feed,
-    b: &Feed,
-    dir: &str,
-) -> Result<()> {
+fn write_both(rt: &HostRuntime, a: &Feed, b: &Feed, dir: &str) -> Result<()> {
     let alloc = rt.alloc();
     let random = RandomState::new(rt)?;
     // Makes one feed of two. Refused: their zones differ, or a file would be over the limit.
     let merged = merge(alloc, random, a, b, &Options::default())?;
-    let (trips, joined) = (
-        merged.feed.trip_count(),
-        merged.names.joined(Kind::Trip).len(),
-    );
+    let trips = merged.feed.trip_count();
+    let joined = merged.names.joined(Kind::Trip).len();
     println!(rt; "{dir}: {trips} trips, {joined} joined")?;
     // Makes the files of a feed. It has no other refusal.
     let tables = merged.feed.to_tables(alloc)?;
@@ -97,7 +86,7 @@ fn write_both<R: Runtime + AllocGlobal + RandomSource>(
 }
 
 /// Writes the files of a feed into a folder.
-fn write_tables<R: Runtime + AllocGlobal>(rt: &R, tables: &Tables, dir: &str) -> Result<()> {
+fn write_tables(rt: &HostRuntime, tables: &Tables, dir: &str) -> Result<()> {
     let alloc = rt.alloc();
     let mut disk = DiskFolders::new(rt);
     for file in File::ALL {
