@@ -13,7 +13,7 @@
 //! ```text
 //! match read_words(alloc, &["gtfs", "merge", "north", "south", "both"]) {
 //!     Ok(Command::Merge(words)) => .. words.a, words.b, words.out ..
-//!     Err(WordsFault::Help(text)) => .. the text, on the output ..
+//!     Err(WordsFault::Help(text) | WordsFault::Version(text)) => .. the text, on the output ..
 //!     ..
 //! }
 //! ```
