@@ -9,11 +9,12 @@
 //!
 //! [`read_words`] answers a [`Command`] with the texts that were given, each as it stands in the words, or a
 //! [`WordsFault`]. It judges no text: whether a text is a date, an instant or a number is for the command to say.
+//! `--help` asks for help of the program or of a command, and `--version` for the version of the program.
 //!
 //! ```text
 //! match read_words(alloc, &["gtfs", "merge", "north", "south", "both"]) {
 //!     Ok(Command::Merge(words)) => .. words.a, words.b, words.out ..
-//!     Err(WordsFault::Help(text) | WordsFault::Version(text)) => .. the text, on the output ..
+//!     Err(WordsFault::Help(text)) => .. the text, on the output ..
 //!     ..
 //! }
 //! ```
