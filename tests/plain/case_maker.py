@@ -181,17 +181,18 @@ def words_of(random, command, given):
 
 
 def odd_words(random, command, given):
-    """Words that are refused, or that ask for help."""
+    """Words that are refused, or that ask for help or for the version."""
     words = words_of(random, command, given)
     lost = random.choice(list(given))
     less = words_of(random, command, {name: text for name, text in given.items() if name != lost})
     not_utf8 = random.choice([[*words, "\udcff"], ["\udcff", *words], [command, "\udcff", "--help"]])
     asking = random.choice([["--help"], ["-h"], [command, "--help"], [command, "-h"], [*words, "--help"]])
+    version = random.choice([["--version"], ["-V"], ["--version", *words], ["-V", "--help"]])
     refused = random.choice([
-        [], ["help"], ["Check", "f"], ["--version"], [*words, "--foo"], [*words, "more"], [*words, "--foo", "--help"],
-        [*words, "--zone"], ["--foo"], ["-x", *words], [*words, "--"], [*words, "--", "--help"], ["check", "--", "-d"], less, less,
+        [], ["help"], ["Check", "f"], [command, "--version"], [*words, "-V"], [*words, "--foo"], [*words, "more"],
+        [*words, "--foo", "--help"], [*words, "--zone"], ["--foo"], ["-x", *words], [*words, "--"], [*words, "--", "--help"], ["check", "--", "-d"], less, less,
     ])
-    return random.choice([not_utf8, asking, asking, refused, refused, refused])
+    return random.choice([not_utf8, asking, version, refused, refused, refused])
 
 
 def make_case(name):

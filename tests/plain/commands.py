@@ -10,7 +10,7 @@ from content import content_of
 from problems import passes, problems, report
 from tables import NotThere, Unreadable, read_tables
 from values import FIRST_SERVICE_DAY, LAST_SERVICE_DAY, Form, Range, plain, read_count, read_date, shaped
-from words import Help, NotUtf8, Refused, read_words
+from words import Help, NotUtf8, Refused, Version, read_words
 from zones import NoZone, Odd, read_zone
 
 # The most bytes in the name of a file, and in a path, on the file systems that this is run on.
@@ -199,6 +199,8 @@ def outcome(words):
         return {"check": check, "board": board, "timetable": timetable, "merge": merge}[command](given)
     except Help:
         return Outcome(0, out=SOME, cause="help")
+    except Version:
+        return Outcome(0, out="gtfs 1.0.0\n", cause="version")
     except Refused:
         return Outcome(2, err=SOME, cause="refused words")
     except NotUtf8:

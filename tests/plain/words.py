@@ -1,4 +1,4 @@
-"""The words of the command line: what they ask for, what they are refused for, and when they ask for help."""
+"""The words of the command line: what they ask for, what they are refused for, and when they ask for help or for the version."""
 
 # Of each command the words by position, the options that it needs and those that it may have.
 COMMANDS = {
@@ -11,6 +11,10 @@ COMMANDS = {
 
 class Help(Exception):
     """The words ask for help before anything is wrong with them."""
+
+
+class Version(Exception):
+    """They ask for the version so."""
 
 
 class NotUtf8(Exception):
@@ -26,6 +30,10 @@ def asks_for_help(word):
     return word == "--help" or word.startswith("-h")
 
 
+def asks_for_version(word):
+    return word == "--version" or word.startswith("-V")
+
+
 def looks_like_option(word):
     """A dash alone is a text as any other."""
     return word.startswith("-") and word != "-"
@@ -39,6 +47,8 @@ def read_words(words):
         raise Refused
     if asks_for_help(words[0]):
         raise Help
+    if asks_for_version(words[0]):
+        raise Version
     if words[0] not in COMMANDS:
         raise Refused
     positions, needed, free = COMMANDS[words[0]]

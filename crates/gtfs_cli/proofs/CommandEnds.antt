@@ -22,7 +22,7 @@ use Rattle.gtfs_cli.specs.Merges.{EndsMerge, IsMergeCause, PrintsMerge}
 use Rattle.gtfs_cli.specs.Refusals.{IsCause, IsCauseInWords, IsCheckCause, UnlessGrave}
 use Rattle.gtfs_cli.specs.Running.{FailedNowhere, Failures}
 use Rattle.gtfs_cli.specs.Timetables.{EndsTimetable, IsTimetableCause, PrintsTimetable}
-use Rattle.gtfs_cli.specs.WordsRun.{IsHelped}
+use Rattle.gtfs_cli.specs.WordsRun.{IsAnswered}
 use Rattle.gtfs_cli.specs.declared.commands.refusal.Refusal.{Refusal}
 use Rattle.gtfs_cli.specs.declared.commands.refusal.Refusal.TheVariants.{OutOfMemory}
 use Rattle.gtfs_cli.proofs.Gravely.{unless-then}
@@ -133,9 +133,9 @@ module _ (texts : List Text) (limit : ℕ) (held now : Option Store) (before aft
         unlisted = λ asked asks. absurd (not-both _ _ _ refl refl name (board-named _ asked asks.asks));
         tabled = λ asked asks. absurd (not-both _ _ _ refl refl name (timetable-named _ asked asks.asks));
         untabled = λ asked asks. absurd (not-both _ _ _ refl refl name (timetable-named _ asked asks.asks));
-        helped = λ e. absurd (untaken e);
-        unhelped = λ e. absurd (untaken e);
-        nothing = λ no. absurd (untaken no.0);
+        answered = λ e. absurd (untaken e);
+        unanswered = λ e. absurd (untaken e);
+        nothing = λ no. absurd (untaken no.untaken);
         untouched = λ e. absurd (untaken e);
         merged = λ asked asks. absurd (not-both _ _ _ refl refl name (merge-named _ asked asks.asks));
         unmerged = λ asked asks. absurd (not-both _ _ _ refl refl name (merge-named _ asked asks.asks));
@@ -165,9 +165,9 @@ module _ (texts : List Text) (limit : ℕ) (held now : Option Store) (before aft
             }) cause cut;
         tabled = λ asked asks. absurd (not-both _ _ _ refl refl name (timetable-named _ asked asks.asks));
         untabled = λ asked asks. absurd (not-both _ _ _ refl refl name (timetable-named _ asked asks.asks));
-        helped = λ e. absurd (untaken e);
-        unhelped = λ e. absurd (untaken e);
-        nothing = λ no. absurd (untaken no.0);
+        answered = λ e. absurd (untaken e);
+        unanswered = λ e. absurd (untaken e);
+        nothing = λ no. absurd (untaken no.untaken);
         untouched = λ e. absurd (untaken e);
         merged = λ asked asks. absurd (not-both _ _ _ refl refl name (merge-named _ asked asks.asks));
         unmerged = λ asked asks. absurd (not-both _ _ _ refl refl name (merge-named _ asked asks.asks));
@@ -197,9 +197,9 @@ module _ (texts : List Text) (limit : ℕ) (held now : Option Store) (before aft
               cause = subst (λ (x : TimetableTexts). IsTimetableCause limit held x before after e) (same t asks.asks) c;
               ends = subst (λ (x : TimetableTexts). EndsTimetable limit held x old new e) (same t asks.asks) cut;
             }) cause cut;
-        helped = λ e. absurd (untaken e);
-        unhelped = λ e. absurd (untaken e);
-        nothing = λ no. absurd (untaken no.0);
+        answered = λ e. absurd (untaken e);
+        unanswered = λ e. absurd (untaken e);
+        nothing = λ no. absurd (untaken no.untaken);
         untouched = λ e. absurd (untaken e);
         merged = λ asked asks. absurd (not-both _ _ _ refl refl name (merge-named _ asked asks.asks));
         unmerged = λ asked asks. absurd (not-both _ _ _ refl refl name (merge-named _ asked asks.asks));
@@ -225,9 +225,9 @@ module _ (texts : List Text) (limit : ℕ) (held now : Option Store) (before aft
         unlisted = λ asked asks. absurd (not-both _ _ _ refl refl name (board-named _ asked asks.asks));
         tabled = λ asked asks. absurd (not-both _ _ _ refl refl name (timetable-named _ asked asks.asks));
         untabled = λ asked asks. absurd (not-both _ _ _ refl refl name (timetable-named _ asked asks.asks));
-        helped = λ e. absurd (untaken e);
-        unhelped = λ e. absurd (untaken e);
-        nothing = λ no. absurd (untaken no.0);
+        answered = λ e. absurd (untaken e);
+        unanswered = λ e. absurd (untaken e);
+        nothing = λ no. absurd (untaken no.untaken);
         untouched = λ e. absurd (untaken e);
         merged = λ t asks. subst (λ (x : MergeTexts). IfOk ended (λ failed. PrintsMerge limit held x now old new × (failed ≡ false))) (same t asks.asks) printed;
         unmerged = λ t asks. both-err ended _ _ _
@@ -245,10 +245,10 @@ module _ (texts : List Text) (limit : ℕ) (held now : Option Store) (before aft
 
 module _ (texts : List Text) (limit : ℕ) (held : Option Store) (before after : Failures) (old new : Option (List ℕ)) (ended : Result Bool Refusal) where
   pub ends-words : after.folders ≡ before.folders → before.folders ≤ after.folders → before.output ≤ after.output → UnlessGrave ended (after.output ≡ before.output)
-      → IfOk ended (IsHelped texts) → IfErr ended (IsCauseInWords texts before.output after.output) → (AreRefused texts → Keeps old new)
+      → IfOk ended (IsAnswered texts) → IfErr ended (IsCauseInWords texts before.output after.output) → (AreRefused texts → Keeps old new)
       → (takes gtfs_app texts ≡ true → IsErrAnd ended (λ x. x ≡ OutOfMemory)) → (takes gtfs_app texts ≡ true → Keeps old new)
       → EndsCommand texts limit held held before after old new ended
-  ends-words untouched folders_grow output_grows no_failure helped cause nothing memory unsent = record {
+  ends-words untouched folders_grow output_grows no_failure answered cause nothing memory unsent = record {
     refused = IfErr-weaker ended _ _ (λ e c. inl c) cause;
     checked = λ dir asks. unread-checked limit held before after old new ended (memory asks.taken) (unsent asks.taken) dir;
     unchecked = λ dir asks. unread-unchecked limit held before after old new ended (memory asks.taken) (unsent asks.taken) dir;
@@ -256,8 +256,8 @@ module _ (texts : List Text) (limit : ℕ) (held : Option Store) (before after :
     unlisted = λ asked asks. unread-unlisted limit held before after old new ended (memory asks.taken) (unsent asks.taken) asked;
     tabled = λ asked asks. unread-tabled limit held before after old new ended (memory asks.taken) (unsent asks.taken) asked;
     untabled = λ asked asks. unread-untabled limit held before after old new ended (memory asks.taken) (unsent asks.taken) asked;
-    helped = λ _. helped;
-    unhelped = λ _. cause;
+    answered = λ _. answered;
+    unanswered = λ _. cause;
     nothing = nothing;
     untouched = λ _. untouched;
     merged = λ asked asks. unread-merged limit held before after old new ended (memory asks.taken) (unsent asks.taken) asked;

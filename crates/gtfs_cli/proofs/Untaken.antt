@@ -14,7 +14,7 @@ use Rattle.gtfs_cli.specs.Messages.{message}
 use Rattle.gtfs_cli.specs.Refusals.{status_in, IsCauseInWords}
 use Rattle.gtfs_cli.specs.Running.{Failures}
 use Rattle.gtfs_cli.specs.Sending.{Output, Sends}
-use Rattle.gtfs_cli.specs.WordsRun.{IsHelped, IsUntakenRun}
+use Rattle.gtfs_cli.specs.WordsRun.{IsAnswered, IsUntakenRun}
 use Rattle.gtfs_cli.specs.declared.commands.refusal.Refusal.{Refusal}
 use Rattle.gtfs_cli.specs.declared.commands.refusal.Refusal.TheVariants.{OutOfMemory}
 use Rattle.gtfs_cli.proofs.Ended.{at_zero, not_well}
@@ -22,18 +22,18 @@ use Rattle.gtfs_cli.proofs.Endings.{told-up}
 
 module _ (texts : List Text) (before after : Failures) (old new : Option (List ℕ)) (nothing : AreRefused texts → Keeps old new)
     (untouched : after.folders ≡ before.folders) where
-  pub untaken-ended : (ended : Result Bool Refusal) (status : ℕ) (err told : Output) → status ≡ status_in ended → IfOk ended (IsHelped texts)
+  pub untaken-ended : (ended : Result Bool Refusal) (status : ℕ) (err told : Output) → status ≡ status_in ended → IfOk ended (IsAnswered texts)
       → IfErr ended (IsCauseInWords texts before.output after.output) → OnOk ended (Keeps err.told told.told) → IfErr ended (λ r. Sends err told (message r))
       → IsUntakenRun texts before after old new err told status
   untaken-ended (Ok failed) status err told gives ok bad keeps line = record {
-    helped = λ _. ok.1;
+    answered = λ _. ok.1;
     silent = λ _. keeps;
     refused = λ up. absurd (omega (arith, up, at_zero failed status ok.0 gives));
     nothing = nothing;
     untouched = untouched;
   }
   untaken-ended (Err r) status err told gives ok bad keeps line = record {
-    helped = λ z. absurd (not_well r (sym gives ∙ z));
+    answered = λ z. absurd (not_well r (sym gives ∙ z));
     silent = λ z. absurd (not_well r (sym gives ∙ z));
     refused = λ _. record { refusal = r; cause = bad; gives = gives; line = line };
     nothing = nothing;

@@ -11,7 +11,7 @@ use Rattle.gtfs_cli.specs.MergeRun.{AsksNoMerge, IsMerged, IsUnmerged}
 use Rattle.gtfs_cli.specs.Refusals.{IsCauseInWords, IsCauseOf, UnlessGrave}
 use Rattle.gtfs_cli.specs.Running.{FailedNowhere, Failures}
 use Rattle.gtfs_cli.specs.TimetableRun.{IsTabled, IsUntabled}
-use Rattle.gtfs_cli.specs.WordsRun.{IsHelped}
+use Rattle.gtfs_cli.specs.WordsRun.{IsAnswered}
 use Rattle.gtfs_cli.specs.declared.commands.refusal.Refusal.{Refusal}
 
 -- the answer of a command that is no check: no check found an error
@@ -29,8 +29,8 @@ pub record EndsCommand (texts : List Text) (limit : ℕ) (held now : Option Stor
   pub unlisted : (asked : BoardTexts) → AsksBoardOf texts asked → IfErr ended (IsUnlisted limit held asked before after old new)
   pub tabled : (asked : TimetableTexts) → AsksTimetableOf texts asked → IfOk ended (IsTabled limit held asked old new)
   pub untabled : (asked : TimetableTexts) → AsksTimetableOf texts asked → IfErr ended (IsUntabled limit held asked before after old new)
-  pub helped : takes gtfs_app texts ≡ false → IfOk ended (IsHelped texts)
-  pub unhelped : takes gtfs_app texts ≡ false → IfErr ended (IsCauseInWords texts before.output after.output)
+  pub answered : takes gtfs_app texts ≡ false → IfOk ended (IsAnswered texts)
+  pub unanswered : takes gtfs_app texts ≡ false → IfErr ended (IsCauseInWords texts before.output after.output)
   pub nothing : AreRefused texts → Keeps old new
   pub untouched : takes gtfs_app texts ≡ false → after.folders ≡ before.folders
   pub merged : (asked : MergeTexts) → AsksMergeOf texts asked → IfOk ended (IsMerged limit held asked now old new)

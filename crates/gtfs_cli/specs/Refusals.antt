@@ -6,7 +6,7 @@ use Rattle.gtfs_devices.specs.Device.{Rises}
 use Rattle.gtfs_devices.specs.Folder.{Store}
 use Rattle.gtfs_devices.specs.declared.folders.FolderFault.{FolderFault}
 use Rattle.gtfs_devices.specs.declared.folders.FolderFault.TheVariants as faults
-use Rattle.gtfs_words.specs.Words.{AreForHelp, AreRefused, BoardTexts}
+use Rattle.gtfs_words.specs.Words.{AreForHelpOrVersion, AreRefused, BoardTexts}
 use Rattle.gtfs_cli.specs.Running.{first_bad, AsksCheck, AsksFor, AsksMerge, AsksTimetable, EndsBeforeItBegins, Failures, HasValues, HoldsErrors, HoldsFile, HoldsKeptFile, HoldsNoZone, HoldsPassing, LacksFeed, LacksFile, LacksStop, NamesNoFile}
 use Rattle.gtfs_cli.specs.Merges.{IsMergeCause}
 use Rattle.gtfs_cli.specs.Timetables.{IsTimetableCause}
@@ -108,7 +108,8 @@ IsReadingCause limit held dir before after UntilBeforeFrom = ⊥
 IsReadingCause limit held dir before after OutputFailed = ⊥
 IsReadingCause limit held dir before after OutOfMemory = ⊤
 
--- when a refusal comes for words alone, which ask for help or are no usage; the counts are those of the output's failures, before and after
+-- when a refusal comes for words alone, which ask for help or the version, or are no usage; the counts are those of the output's failures,
+-- before and after
 abbrev pub IsCauseInWords : List Text → ℕ → ℕ → Refusal → Type 0
 IsCauseInWords texts before after (Words text) = AreRefused texts
 IsCauseInWords texts before after (BadValue option) = ⊥
@@ -123,7 +124,7 @@ IsCauseInWords texts before after ZonesDiffer = ⊥
 IsCauseInWords texts before after MergeTooLarge = ⊥
 IsCauseInWords texts before after (Unwritable path) = ⊥
 IsCauseInWords texts before after UntilBeforeFrom = ⊥
-IsCauseInWords texts before after OutputFailed = AreForHelp texts × Rises before after
+IsCauseInWords texts before after OutputFailed = AreForHelpOrVersion texts × Rises before after
 IsCauseInWords texts before after OutOfMemory = ⊤
 
 -- when a refusal comes

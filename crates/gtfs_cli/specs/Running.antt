@@ -236,7 +236,7 @@ pub record AsksMerge (texts : List Text) (Fact : MergeTexts → Type 0) : Type 0
   pub asks : IsCommandOf (subcommand_of gtfs_app texts) (Merge words)
   pub fact : Fact (merge_texts_of words)
 
--- `clap` does not take the words, which do not ask for help, or a value is bad, or until lies before from
+-- `clap` does not take the words, which ask for neither help nor the version, or a value is bad, or until lies before from
 abbrev pub IsBadUsage : List Text → ℕ → Option Store → Type 0
 IsBadUsage texts limit held =
     AreRefused texts ⊎ (AsksFor texts (λ asked. HasBadValue asked ⊎ EndsBeforeItBegins limit held asked) ⊎ AsksTimetable texts HasBadTimetableValue)

@@ -1,30 +1,30 @@
--- How the program ends where `clap` does not take the words: they ask for help, or they are refused.
+-- How the program ends where `clap` does not take the words: they ask for help or for the version, or they are refused.
 use Rattle.std.specs.Prelude.{◌≡◌, ◌≤◌, ℕ, Bool, false, List, Option}
 use Rattle.std.specs.Io.KnownBytes.{Keeps}
 use Rattle.clap.specs.Words.{Text}
-use Rattle.gtfs_words.specs.Words.{AreForHelp, AreRefused}
+use Rattle.gtfs_words.specs.Words.{AreForHelpOrVersion, AreRefused}
 use Rattle.gtfs_cli.specs.Messages.{message}
 use Rattle.gtfs_cli.specs.Refusals.{status_of, IsCauseInWords}
 use Rattle.gtfs_cli.specs.Running.{Failures}
 use Rattle.gtfs_cli.specs.Sending.{Output, Sends}
 use Rattle.gtfs_cli.specs.declared.commands.refusal.Refusal.{Refusal}
 
--- the words ask for help, and no check found an error
-abbrev pub IsHelped : List Text → Bool → Type 0
-IsHelped texts failed = (failed ≡ false) × AreForHelp texts
+-- the words ask for help or for the version, and no check found an error
+abbrev pub IsAnswered : List Text → Bool → Type 0
+IsAnswered texts failed = (failed ≡ false) × AreForHelpOrVersion texts
 
--- what kept help from going out, or why the words are refused, gives the status and the line; where the error output failed, a
--- beginning of the line went out
+-- what kept help or the version from going out, or why the words are refused, gives the status and the line; where the error output
+-- failed, a beginning of the line went out
 pub record IsWordsRefused (texts : List Text) (before after : Failures) (err told : Output) (status : ℕ) : Type 0 where
   pub refusal : Refusal
   pub cause : IsCauseInWords texts before.output after.output refusal
   pub gives : status ≡ status_of refusal
   pub line : Sends err told (message refusal)
 
--- the status is 0 only where help was asked for, and the error output is told nothing then; for words that are refused nothing goes to
--- the output; and the folders did not fail
+-- the status is 0 only where help or the version was asked for, and the error output is told nothing then; for words that are refused
+-- nothing goes to the output; and the folders did not fail
 pub record IsUntakenRun (texts : List Text) (before after : Failures) (old new : Option (List ℕ)) (err told : Output) (status : ℕ) : Type 0 where
-  pub helped : status ≡ 0 → AreForHelp texts
+  pub answered : status ≡ 0 → AreForHelpOrVersion texts
   pub silent : status ≡ 0 → Keeps err.told told.told
   pub refused : 1 ≤ status → IsWordsRefused texts before after err told status
   pub nothing : AreRefused texts → Keeps old new

@@ -12,8 +12,8 @@ ghost use Rattle.gtfs_cli.specs.Refusals.{status_in, IsCauseInWords, UnlessGrave
 ghost use Rattle.gtfs_cli.specs.Running.{FailedNowhere, IsBadUsage, IsDeviceFault};
 ghost use Rattle.gtfs_cli.specs.Sending.{Sends};
 ghost use Rattle.gtfs_cli.specs.TimetableRun.{IsTimetableRun};
-ghost use Rattle.gtfs_cli.specs.WordsRun.{IsHelped, IsUntakenRun};
-ghost use Rattle.gtfs_cli.specs.UntakenWords.{help_in, IsRefusedBy};
+ghost use Rattle.gtfs_cli.specs.WordsRun.{IsAnswered, IsUntakenRun};
+ghost use Rattle.gtfs_cli.specs.UntakenWords.{text_for_output, IsRefusedBy};
 ghost use Rattle.gtfs_cli.specs.declared.commands.refusal.Refusal.TheVariants.{OutOfMemory};
 
 mod board;
@@ -41,9 +41,9 @@ use std::hash::RandomState;
 /// Does what the words of a command line ask for, of which the first is the program's name, and answers the status with
 /// which the program is to end.
 ///
-/// What the command prints goes to `out`, as does the help that was asked for. Where the status is not 0, `err` is told
-/// why: by `clap`'s text where it does not take the words, and else by one line that begins `gtfs: `. A failure of `err`
-/// changes nothing.
+/// What the command prints goes to `out`, as does the help or the version that was asked for. Where the status is not 0,
+/// `err` is told why: by `clap`'s text where it does not take the words, and else by one line that begins `gtfs: `. A
+/// failure of `err` changes nothing.
 ///
 /// The words are judged first, then the values of the options in the order of the usage, then the folder, its feed, the
 /// zone file, the stop and the span, or the route. A merge judges its first folder and the feed in it, then the second
@@ -52,7 +52,7 @@ use std::hash::RandomState;
 /// - 0: done.
 /// - 1: the feed, or one of two, has errors, or no stop or route of that id; the zones of two feeds have different names, or
 ///   a file of the merged feed would be longer than 1,073,741,824 bytes.
-/// - 2: `clap` does not take the words, the value of `--from` or `--until` is neither `@` and an instant nor a service day,
+/// - 2: `clap` refuses the words, the value of `--from` or `--until` is neither `@` and an instant nor a service day,
 ///   that of `--limit` is no count, that of `--after` is no key, that of `--date` is no date, that of `--direction` is
 ///   neither 0 nor 1, or the board would end before it begins.
 /// - 3: the folder, the zone file or its folder is not there, cannot be read or holds a file over the limit, the zone file
@@ -188,15 +188,15 @@ fn answer<'w>(printed: Result<(), Refusal<'w>>) -> Result<bool, Refusal<'w>>
     }
 }
 
-// Prints the help that was asked for, and refuses all other words that name no command.
+// Prints the help or the version that was asked for, and refuses all other words that name no command.
 fn answer_fault<'w, O: Out>(fault: WordsFault, out: &mut O) -> Result<bool, Refusal<'w>>
-    ensures helped { (texts : List Text) → IsFaultOf texts fault
-        → IfOk result (IsHelped texts) }
+    ensures answered { (texts : List Text) → IsFaultOf texts fault
+        → IfOk result (IsAnswered texts) }
     ensures refused { (texts : List Text) → IsFaultOf texts fault → IfErr result
         (IsCauseInWords texts (O.failure_count out.old) (O.failure_count out.new)) }
     ensures nothing { (texts : List Text) → IsFaultOf texts fault → AreRefused texts
         → Keeps (O.told out.old) (O.told out.new) }
-    ensures whole { OnOk result (IfSome (help_in fault)
+    ensures whole { OnOk result (IfSome (text_for_output fault)
         (λ text. Appends (O.told out.old) (O.told out.new) text)) }
     ensures said { IsRefusedBy fault result }
     ensures memory { fault ≡ no_memory → IsErrAnd result (λ refusal. refusal ≡ OutOfMemory) }
@@ -206,8 +206,12 @@ fn answer_fault<'w, O: Out>(fault: WordsFault, out: &mut O) -> Result<bool, Refu
         (O.failure_count out.new ≡ O.failure_count out.old) }
 {
     match fault {
-        WordsFault::Help(text) => {
-            write_text(out, text.as_bytes())?;
+        WordsFault::Help(help) => {
+            write_text(out, help.as_bytes())?;
+            Ok(false)
+        }
+        WordsFault::Version(version) => {
+            write_text(out, version.as_bytes())?;
             Ok(false)
         }
         WordsFault::Refused(text) => Err(Refusal::Words(text)),

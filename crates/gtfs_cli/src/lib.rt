@@ -23,6 +23,8 @@
 //! `gtfs merge A B OUT` merges the feeds of two folders into a third, which may be one of the two, and prints which ids changed
 //! and how many are joined.
 //!
+//! `gtfs --version` prints the name and the version of the program, and `--help` how it or a command is called.
+//!
 //! Where a command cannot be done, one line on the error output says why.
 //!
 //! [`close`] then flushes the output. What a program has to say that cannot call `run`, or whose output is not flushed, is a

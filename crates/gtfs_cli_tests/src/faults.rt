@@ -82,7 +82,8 @@ fn an_output_that_takes_nothing_has_failed(rt: HostRuntime) -> Result<(), Fail> 
     assert_shut(&rt, rt.alloc(), &mut folders, &sheets)?;
     assert_shut(&rt, rt.alloc(), &mut folders, &CHECK)?;
     assert_shut(&rt, rt.alloc(), &mut folders, &MERGE)?;
-    assert_shut(&rt, rt.alloc(), &mut folders, &["gtfs", "--help"])
+    assert_shut(&rt, rt.alloc(), &mut folders, &["gtfs", "--help"])?;
+    assert_shut(&rt, rt.alloc(), &mut folders, &["gtfs", "--version"])
 }
 
 // Where nothing is to be printed, no output is asked.
@@ -141,6 +142,8 @@ fn no_status_changes_with_the_error_output(rt: HostRuntime) -> Result<(), Fail> 
     let ended = (2, "gtfs: bad value of --limit\n");
     assert_same_status(&rt, rt.alloc(), folders(rt.alloc())?, &words, ended)?;
     let ended = (3, "gtfs: output failed\n");
+    let version = ["gtfs", "--version"];
+    assert_same_status(&rt, rt.alloc(), folders(rt.alloc())?, &version, ended)?;
     assert_same_status(&rt, rt.alloc(), folders(rt.alloc())?, &CHECK, ended)
 }
 

@@ -3,8 +3,8 @@
 use crate::assertions::{assert_case, assert_is};
 use crate::ended::Ended;
 use crate::fixtures::{
-    CHECK, FIRST_LINE, JOINED, MERGE, OUTPUT_FAILED, ROOM, SHEET, asked, asked_with, fixed,
-    folders, put_feed, start_of, timetable_asked,
+    CHECK, FIRST_LINE, JOINED, MERGE, OUTPUT_FAILED, ROOM, SHEET, VERSION, asked, asked_with,
+    assert_ends, fixed, folders, put_feed, start_of, timetable_asked,
 };
 use gtfs_cli::run;
 use gtfs_table::{MemoryFolders, WriteOut};
@@ -98,6 +98,14 @@ fn help_may_be_cut(rt: HostRuntime) -> Result<(), Fail> {
     Ok(())
 }
 
+#[test]
+fn the_version_may_be_cut_at_each_byte(rt: HostRuntime) -> Result<(), Fail> {
+    let mut folders = folders(rt.alloc())?;
+    let words = ["gtfs", "--version"];
+    assert_cut(&rt, rt.alloc(), &mut folders, &words, VERSION)?;
+    assert_ends(&rt, rt.alloc(), &mut folders, &words, (0, VERSION, ""))
+}
+
 // Takes one byte a call, and after each call the next is interrupted.
 #[derive(Drop)]
 struct Trickle<'t> {
@@ -144,6 +152,7 @@ fn outputs_may_take_a_byte_a_call(rt: HostRuntime) -> Result<(), Fail> {
         (board.as_slice(), (0, FIRST_LINE, "")),
         (sheets.as_slice(), (0, SHEET, "")),
         (MERGE.as_slice(), (0, JOINED, "")),
+        (["gtfs", "-V"].as_slice(), (0, VERSION, "")),
         (refused.as_slice(), (1, "", "gtfs: unknown stop\n")),
     ];
     for (words, wanted) in cases {

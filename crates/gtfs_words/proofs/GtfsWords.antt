@@ -15,12 +15,15 @@ use Rattle.gtfs_words.specs.CommandLine.{board_app, check_app, gtfs_app, merge_a
 use Rattle.gtfs_words.specs.Untaken.{no_memory, IsFaultOf, IsToldOf}
 use Rattle.gtfs_words.specs.declared.fault.WordsFault.{WordsFault}
 use Rattle.gtfs_words.specs.declared.fault.WordsFault.TheVariants as fault
-use Rattle.gtfs_words.proofs.HelpAlone.{alone, built_alone, only_help}
+use Rattle.gtfs_words.proofs.AskedAlone.{alone, built_alone, is_asked, only_asked}
 use Rattle.gtfs_words.proofs.TakenWords.{built_taken}
 use Rattle.gtfs_words.proofs.GivenTexts.{are_filled, given_text, level_command, level_filled, level_given}
 
 help_is_no_memory : kind.DisplayHelp ≡ kind.OutOfMemory → ⊥
 help_is_no_memory e = cc
+
+version_is_no_memory : kind.DisplayVersion ≡ kind.OutOfMemory → ⊥
+version_is_no_memory e = cc
 
 -- words without a fault are taken
 pub taken : (words : List Text) → fault_of gtfs_app words ≡ [] → takes gtfs_app words ≡ true
@@ -164,35 +167,50 @@ module _ (a : App) (words : List Text) (is : a ≡ gtfs_app) where
   pub whole_by : (m : ArgMatches) → HasMatchesOf a words m → (is_simple_and_free a ≡ true → fault_of a words ≡ []) → IsWhole (subcommand_rows_of m)
   whole_by m matches faults = subst IsWhole (sym (read_by m matches)) (whole words (taken_by faults))
 
--- help is the only kind that is named beside no other
-help_alone : (words : List Text) → alone (fault_of gtfs_app words) ≡ true
-help_alone words = built_alone (built gtfs_app) nothing_held (argument_words gtfs_app words) refl refl
+-- the kind of words that ask for help or for the version is named beside no other
+asked_alone : (words : List Text) → alone (fault_of gtfs_app words) ≡ true
+asked_alone words = built_alone (built gtfs_app) nothing_held (argument_words gtfs_app words) refl refl
+
+-- where an error of `clap` has such a kind, the words are not taken, and it is the first that is said of them
+asked_first : (words : List Text) (k asked : ErrorKind) → is_asked asked ≡ true → (asked ≡ kind.OutOfMemory → ⊥)
+    → (takes gtfs_app words ≡ true → k ≡ kind.OutOfMemory) → (k ≡ kind.OutOfMemory) ⊎ IsAmong k (fault_of gtfs_app words) → k ≡ asked
+    → (takes gtfs_app words ≡ false) × (fault_of gtfs_app words ≡ asked ∷ [])
+asked_first words k asked is no_memory passes among same = (
+  false_from_ne_true (takes gtfs_app words) (λ e. no_memory (sym same ∙ passes e)),
+  elim among [
+    | inl no_room ↦ absurd (no_memory (sym same ∙ no_room))
+    | inr found ↦ only_asked asked is (fault_of gtfs_app words) (asked_alone words) (subst (λ x. IsAmong x (fault_of gtfs_app words)) same found)
+  ],
+)
+
+-- an error of another kind than this is not that of words of which this is said alone
+other_said : (words : List Text) (k asked : ErrorKind) → (k ≡ asked → ⊥) → (k ≡ kind.OutOfMemory → ⊥)
+    → (k ≡ kind.OutOfMemory) ⊎ IsAmong k (fault_of gtfs_app words) → fault_of gtfs_app words ≡ asked ∷ [] → ⊥
+other_said words k asked other no_memory among asks =
+    elim among [ inl no_room ↦ no_memory no_room | inr found ↦ other_kind (subst (IsAmong k) asks found) ]
+  where
+    other_kind : IsAmong k (asked ∷ []) → ⊥
+    other_kind (inl same) = other same
+    other_kind (inr none) = none
 
 -- a fault that is told of an error of `clap` is the fault of the words
 pub fault_is : (words : List Text) (k : ErrorKind) (told : WordsFault) → (takes gtfs_app words ≡ true → k ≡ kind.OutOfMemory)
     → (k ≡ kind.OutOfMemory) ⊎ IsAmong k (fault_of gtfs_app words) → IsToldOf k told → IsFaultOf words told
-fault_is words k (fault.Refused text) passes among is = (
-  false_from_ne_true (takes gtfs_app words) (λ e. is.1 (passes e)),
-  λ asks. elim among [ inl no_room ↦ is.1 no_room | inr found ↦ other_kind (subst (IsAmong k) asks found) ],
-)
-  where
-    other_kind : IsAmong k (kind.DisplayHelp ∷ []) → ⊥
-    other_kind (inl same) = is.0 same
-    other_kind (inr none) = none
-fault_is words k (fault.Help text) passes among is = (
-  false_from_ne_true (takes gtfs_app words) (λ e. help_is_no_memory (sym is ∙ passes e)),
-  elim among [
-    | inl no_room ↦ absurd (help_is_no_memory (sym is ∙ no_room))
-    | inr found ↦ only_help (fault_of gtfs_app words) (help_alone words) (subst (λ x. IsAmong x (fault_of gtfs_app words)) is found)
-  ],
-)
+fault_is words k (fault.Refused text) passes among is = record {
+  untaken = false_from_ne_true (takes gtfs_app words) (λ e. is.1.1 (passes e));
+  no_help = other_said words k kind.DisplayHelp is.0 is.1.1 among;
+  no_version = other_said words k kind.DisplayVersion is.1.0 is.1.1 among;
+}
+fault_is words k (fault.Help text) passes among is = asked_first words k kind.DisplayHelp refl help_is_no_memory passes among is
+fault_is words k (fault.Version text) passes among is = asked_first words k kind.DisplayVersion refl version_is_no_memory passes among is
 fault_is words k fault.OutOfMemory passes among is = tt
 
 -- of words that are taken only memory is told
 pub memory_is : (words : List Text) (k : ErrorKind) (told : WordsFault) → (takes gtfs_app words ≡ true → k ≡ kind.OutOfMemory) → IsToldOf k told
     → takes gtfs_app words ≡ true → told ≡ no_memory
-memory_is words k (fault.Refused text) passes is e = absurd (is.1 (passes e))
+memory_is words k (fault.Refused text) passes is e = absurd (is.1.1 (passes e))
 memory_is words k (fault.Help text) passes is e = absurd (help_is_no_memory (sym is ∙ passes e))
+memory_is words k (fault.Version text) passes is e = absurd (version_is_no_memory (sym is ∙ passes e))
 memory_is words k fault.OutOfMemory passes is e = refl
 
 module _ (a : App) (words : List Text) (is : a ≡ gtfs_app) (k : ErrorKind) (told : WordsFault) (told_of : IsToldOf k told)

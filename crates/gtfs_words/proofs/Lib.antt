@@ -1,5 +1,5 @@
 mod TakenWords
 mod GivenTexts
-mod HelpAlone
+mod AskedAlone
 pub mod GtfsWords
 pub mod OneAsked

@@ -42,10 +42,11 @@ timetable_app = with_rule (with_rule (with_rule (with_rule (new_app (codes "time
 abbrev pub merge_app : App
 merge_app = with_rule (with_rule (with_rule (new_app (codes "merge")) (word_rule (codes "A"))) (word_rule (codes "B"))) (word_rule (codes "OUT"))
 
--- `gtfs`, of which one of the commands must be named, and `help` is none of them
+-- `gtfs`, which has a version, and of which one of the commands must be named; `help` is none of them
 abbrev pub gtfs_top : App
 gtfs_top = record (new_app (codes "gtfs")) {
   top = record (new_app (codes "gtfs")).top {
+    has_version = true;
     subcommand_required = true;
     disable_help_subcommand = true;
   };

@@ -6,5 +6,5 @@ pub use Rattle.gtfs_words.specs.CommandLine.{gtfs_app, check_app, board_app, tim
 pub use Rattle.gtfs_words.specs.Asked.{BoardTexts, TimetableTexts, MergeTexts, texts_of, timetable_texts_of, merge_texts_of}
 pub use Rattle.gtfs_words.specs.Asked.{IsCheckOf, IsBoardOf, IsTimetableOf, IsMergeOf, IsCommandOf}
 pub use Rattle.gtfs_words.specs.Asked.{AsksCheckOf, AsksBoardOf, AsksTimetableOf, AsksMergeOf}
--- ---- words that ask for help, words that are refused, and the fault that is told of them
-pub use Rattle.gtfs_words.specs.Untaken.{AreForHelp, AreRefused, IsFaultOf, no_memory}
+-- ---- words that ask for help or the version, words that are refused, and the fault that is told of them
+pub use Rattle.gtfs_words.specs.Untaken.{AreForHelp, AreForVersion, AreForHelpOrVersion, AreRefused, IsFaultOf, no_memory}

@@ -17,6 +17,9 @@ use rules::described;
 use std::alloc::{AllocError, Global};
 use timetable::timetable_command;
 
+// The version of the program.
+const VERSION: &str = "1.0.0";
+
 const ABOUT: &str =
     "Checks of GTFS Schedule feeds, departure boards and timetables from them, and one feed of two";
 
@@ -27,7 +30,7 @@ const COMMANDS: &str = "gtfs check DIR\n       \
     gtfs merge A B OUT";
 
 // The program `gtfs` with all its commands. `--help` and `-h` ask for help, at the top and at each
-// command; there is no command `help`.
+// command, and `--version` and `-V` for the version, at the top alone; there is no command `help`.
 pub(super) fn gtfs<'w>(alloc: Global) -> Result<Command<'w>, AllocError>
     ensures { IfOk result (λ c. app_of c ≡ gtfs_app) }
 {
@@ -41,6 +44,7 @@ fn top<'w>(alloc: Global) -> Command<'w>
     ensures { app_of result ≡ gtfs_top }
 {
     described(alloc, "gtfs", ABOUT, COMMANDS)
+        .version(VERSION)
         .subcommand_required(true)
         .disable_help_subcommand(true)
 }

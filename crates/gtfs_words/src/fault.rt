@@ -13,6 +13,8 @@ pub enum WordsFault {
     Refused(String),
     /// Help was asked for: `clap`'s text, for the output.
     Help(String),
+    /// The version was asked for: `clap`'s text, for the output.
+    Version(String),
     /// Memory ran out.
     OutOfMemory,
 }
@@ -34,6 +36,7 @@ pub(super) fn fault_of(alloc: Global, error: &Error) -> WordsFault
     }
     match format!(in alloc; "{error}") {
         Ok(text) if error.kind() == ErrorKind::DisplayHelp => WordsFault::Help(text),
+        Ok(text) if error.kind() == ErrorKind::DisplayVersion => WordsFault::Version(text),
         Ok(text) => WordsFault::Refused(text),
         Err(_) => WordsFault::OutOfMemory,
     }

@@ -4,7 +4,7 @@ use Rattle.std.proofs.Common.{refl}
 use Rattle.clap.specs.Words.{Text, fault_of, takes}
 use Rattle.clap.specs.declared.error.kind.ErrorKind.TheVariants as kind
 use Rattle.clap.proofs.OnLiterals.{clap_on_literals}
-use Rattle.gtfs_words.specs.Words.{gtfs_app, AreForHelp, AsksBoardOf, AsksCheckOf, AsksMergeOf, AsksTimetableOf, BoardTexts, MergeTexts, TimetableTexts}
+use Rattle.gtfs_words.specs.Words.{gtfs_app, AreForHelp, AreForVersion, AreRefused, AsksBoardOf, AsksCheckOf, AsksMergeOf, AsksTimetableOf, BoardTexts, MergeTexts, TimetableTexts}
 
 -- a check
 abbrev check_words : List Text
@@ -165,3 +165,55 @@ merge_help_is = refl
 merge_help_for_help : AreForHelp merge_help
 unfolding clap_on_literals
 merge_help_for_help = (refl, refl)
+
+-- the version
+abbrev version_asked : List Text
+version_asked = codes "gtfs" ∷ codes "--version" ∷ []
+
+version_asked_is : fault_of gtfs_app version_asked ≡ kind.DisplayVersion ∷ []
+unfolding clap_on_literals
+version_asked_is = refl
+
+version_asked_for_version : AreForVersion version_asked
+unfolding clap_on_literals
+version_asked_for_version = (refl, refl)
+
+-- the version, by a letter that stands before the one for help
+abbrev version_before_help : List Text
+version_before_help = codes "gtfs" ∷ codes "-Vh" ∷ []
+
+version_before_help_for_version : AreForVersion version_before_help
+unfolding clap_on_literals
+version_before_help_for_version = (refl, refl)
+
+-- help, which stands before the version
+abbrev help_before_version : List Text
+help_before_version = codes "gtfs" ∷ codes "--help" ∷ codes "--version" ∷ []
+
+help_before_version_for_help : AreForHelp help_before_version
+unfolding clap_on_literals
+help_before_version_for_help = (refl, refl)
+
+-- the program has a version, and a command has none
+abbrev version_of_check : List Text
+version_of_check = codes "gtfs" ∷ codes "check" ∷ codes "f1" ∷ codes "--version" ∷ []
+
+version_of_check_is : fault_of gtfs_app version_of_check ≡ kind.UnknownArgument ∷ []
+unfolding clap_on_literals
+version_of_check_is = refl
+
+version_of_check_refused : AreRefused version_of_check
+unfolding clap_on_literals
+version_of_check_refused = record { untaken = refl; no_help = λ e. cc; no_version = λ e. cc }
+
+-- the version is asked for without a value
+abbrev version_of_one : List Text
+version_of_one = codes "gtfs" ∷ codes "--version=1" ∷ []
+
+version_of_one_is : fault_of gtfs_app version_of_one ≡ kind.TooManyValues ∷ []
+unfolding clap_on_literals
+version_of_one_is = refl
+
+version_of_one_refused : AreRefused version_of_one
+unfolding clap_on_literals
+version_of_one_refused = record { untaken = refl; no_help = λ e. cc; no_version = λ e. cc }

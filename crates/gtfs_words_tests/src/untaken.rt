@@ -1,4 +1,4 @@
-//! Words that ask for help, and words that are refused.
+//! Words that ask for help or for the version, and words that are refused.
 
 use crate::asserts::assert_equal_at;
 use gtfs_words::{WordsFault, read_words};
@@ -13,6 +13,18 @@ fn helped(alloc: Global, words: &[&str], line: &str) -> Result<(), &'static str>
         Ok(())
     } else {
         Err("the line is not there")
+    }
+}
+
+// The words ask for the version, whose text is this; or what is not so.
+fn versioned(alloc: Global, words: &[&str], wanted: &str) -> Result<(), &'static str> {
+    let Err(WordsFault::Version(text)) = read_words(alloc, words) else {
+        return Err("no version");
+    };
+    if text.as_str() == wanted {
+        Ok(())
+    } else {
+        Err("another text")
     }
 }
 
@@ -60,6 +72,42 @@ fn help_of_a_command_has_examples_of_its_values(rt: HostRuntime) {
     }
 }
 
+// Words that ask for the version, each before anything is wrong with them and before they ask for help.
+const VERSIONS: &[&[&str]] = &[
+    &["gtfs", "--version"],
+    &["gtfs", "-V"],
+    &["bin/gtfs", "--version"],
+    &["gtfs", "-Vh"],
+    &["gtfs", "-Vx"],
+    &["gtfs", "--version", "--help"],
+    &["gtfs", "--version", "check"],
+    &["gtfs", "-V", "--speed=1"],
+];
+
+#[test]
+fn the_version_is_told(rt: HostRuntime) {
+    for &words in VERSIONS {
+        let found = versioned(rt.alloc(), words, "gtfs 1.0.0\n");
+        assert_equal_at(&rt, words, found, Ok(()));
+    }
+}
+
+// Words that ask for help before they ask for the version.
+const HELPS_FIRST: &[&[&str]] = &[
+    &["gtfs", "-hV"],
+    &["gtfs", "--help", "--version"],
+    &["gtfs", "check", "--help", "--version"],
+];
+
+#[test]
+fn help_that_is_asked_for_before_the_version_is_told(rt: HostRuntime) {
+    for &words in HELPS_FIRST {
+        let found = helped(rt.alloc(), words, "gtfs check DIR");
+        assert_equal_at(&rt, words, found, Ok(()));
+    }
+}
+
+// Words that are no command, or that name one and ask for the version, which the program alone has.
 const REFUSED: &[&[&str]] = &[
     &["gtfs"],
     &["gtfs", "help"],
@@ -69,6 +117,14 @@ const REFUSED: &[&[&str]] = &[
     &["gtfs", "merge", "north", "south"],
     &["gtfs", "merge", "north", "south", "both", "more"],
     &["gtfs", "check", "f1", "more", "--help"],
+    &["gtfs", "version"],
+    &["gtfs", "-v"],
+    &["gtfs", "--version=1"],
+    &["gtfs", "--", "--version"],
+    &["gtfs", "--speed=1", "--version"],
+    &["gtfs", "check", "--version"],
+    &["gtfs", "check", "f1", "-V"],
+    &["gtfs", "merge", "north", "south", "both", "--version"],
 ];
 
 #[test]

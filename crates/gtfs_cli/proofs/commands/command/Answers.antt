@@ -83,6 +83,6 @@ returns-in-Err g c =
     let before : Failures = record { folders = g.F.Folders.failure_count c.args.folders.now; output = g.O.Out.failure_count c.args.out.now } in
     let after : Failures = record { folders = g.F.Folders.failure_count c.args.folders.now; output = g.O.Out.failure_count c.answer_fault.new.out } in
     ends-words texts limit held before after (g.O.Out.told c.args.out.now) (g.O.Out.told c.answer_fault.new.out) c.answer_fault.result refl (same before.folders)
-    c.answer_fault.ensures.grows c.answer_fault.ensures.no_failure (c.answer_fault.ensures.helped texts c.in-Err.ensures.fault)
+    c.answer_fault.ensures.grows c.answer_fault.ensures.no_failure (c.answer_fault.ensures.answered texts c.in-Err.ensures.fault)
     (c.answer_fault.ensures.refused texts c.in-Err.ensures.fault) (c.answer_fault.ensures.nothing texts c.in-Err.ensures.fault)
     (λ taken. c.answer_fault.ensures.memory (c.in-Err.ensures.memory taken)) (λ taken. c.answer_fault.ensures.unsent (c.in-Err.ensures.memory taken))

@@ -69,7 +69,7 @@ returns-clause-untaken g c = λ refused.
     let err : Output = record { told = g.E.Out.told c.args.err.now; failures = g.E.Out.failure_count c.args.err.now } in
     let told : Output = record { told = g.E.Out.told c.finish.new.err; failures = g.E.Out.failure_count c.finish.new.err } in
     untaken-ended texts before after (g.O.Out.told c.args.out.now) (g.O.Out.told c.command-ended.new.out) c.command-ended.ensures.nothing (c.command-ended.ensures.untouched refused)
-    c.command-ended.result c.finish.result err told c.finish.ensures.status (c.command-ended.ensures.helped refused) (c.command-ended.ensures.unhelped refused)
+    c.command-ended.result c.finish.result err told c.finish.ensures.status (c.command-ended.ensures.answered refused) (c.command-ended.ensures.unanswered refused)
     c.finish.ensures.silent c.finish.ensures.told
 
 pub returns-clause-merged : goal.returns-clause-merged

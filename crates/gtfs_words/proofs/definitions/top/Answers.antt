@@ -6,4 +6,5 @@ pub returns : goal.returns
 returns c =
     ap app_of_fields c.disable_help_subcommand.ensures
     ∙ ap (on_top (λ (s : Shape). record s { disable_help_subcommand = true })) (ap app_of_fields c.subcommand_required.ensures
-    ∙ ap (on_top (λ (s : Shape). record s { subcommand_required = true })) c.described.ensures)
+    ∙ ap (on_top (λ (s : Shape). record s { subcommand_required = true })) (ap app_of_fields c.version.ensures
+    ∙ ap (on_top (λ (s : Shape). record s { has_version = true })) c.described.ensures))

@@ -1,4 +1,4 @@
--- Where `help` is no command, a fault that asks for help is the only one that `clap` names.
+-- Where `help` is no command, a fault that asks for help or for the version is the only one that `clap` names.
 use Rattle.std.proofs.Common.{◌≡◌, ◌&&◌, ◌||◌, ◌==◌, ℕ, zero, suc, Bool, true, false, not, List, [], ◌∷◌, length, drop, Option, Some, None, is_some, refl, sym, ap, inl, inr, nat_lt}
 use Rattle.std.specs.Prelude.{find, if◌then◌else◌, encode_utf8, slice_get, codes}
 use Rattle.std.specs.List.{list_all, list_any}
@@ -19,32 +19,34 @@ use Rattle.clap.specs.declared.error.kind.ErrorKind.{ErrorKind}
 use Rattle.clap.specs.declared.error.kind.ErrorKind.TheVariants as kind
 use Rattle.gtfs_words.proofs.TakenWords.{first_passes}
 
-abbrev pub is_help : ErrorKind → Bool
-is_help kind.DisplayHelp = true
-is_help _ = false
+-- the kind of words that ask for help or for the version
+abbrev pub is_asked : ErrorKind → Bool
+is_asked kind.DisplayHelp = true
+is_asked kind.DisplayVersion = true
+is_asked _ = false
 
--- at most one kind, or none that asks for help
+-- at most one kind, or none that asks for help or for the version
 abbrev pub alone : Kinds → Bool
 alone [] = true
 alone (k ∷ []) = true
-alone (k ∷ j ∷ ks) = not (list_any is_help (k ∷ j ∷ ks))
+alone (k ∷ j ∷ ks) = not (list_any is_asked (k ∷ j ∷ ks))
 
-among_any : (ks : Kinds) → IsAmong kind.DisplayHelp ks → list_any is_help ks ≡ true
-among_any [] among = absurd among
-among_any (k ∷ ks) (inl same) = rw (← same) refl
-among_any (k ∷ ks) (inr among) = or_true (is_help k) _ (among_any ks among)
+among_any : (asked : ErrorKind) → is_asked asked ≡ true → (ks : Kinds) → IsAmong asked ks → list_any is_asked ks ≡ true
+among_any asked is [] among = absurd among
+among_any asked is (k ∷ ks) (inl same) = rw (← same, is) refl
+among_any asked is (k ∷ ks) (inr among) = or_true (is_asked k) _ (among_any asked is ks among)
   where
     or_true : (a b : Bool) → b ≡ true → (a || b) ≡ true
     or_true true b e = refl
     or_true false b e = e
 
--- help is the only kind of such a list that has it
-pub only_help : (ks : Kinds) → alone ks ≡ true → IsAmong kind.DisplayHelp ks → ks ≡ kind.DisplayHelp ∷ []
-only_help [] e among = absurd among
-only_help (k ∷ []) e (inl same) = ap (λ x. x ∷ []) (sym same)
-only_help (k ∷ []) e (inr none) = absurd none
-only_help (k ∷ j ∷ ks) e among =
-    let has : list_any is_help (k ∷ j ∷ ks) ≡ true = among_any (k ∷ j ∷ ks) among in
+-- such a kind is the only one of such a list that has it
+pub only_asked : (asked : ErrorKind) → is_asked asked ≡ true → (ks : Kinds) → alone ks ≡ true → IsAmong asked ks → ks ≡ asked ∷ []
+only_asked asked is [] e among = absurd among
+only_asked asked is (k ∷ []) e (inl same) = ap (λ x. x ∷ []) (sym same)
+only_asked asked is (k ∷ []) e (inr none) = absurd none
+only_asked asked is (k ∷ j ∷ ks) e among =
+    let has : list_any is_asked (k ∷ j ∷ ks) ≡ true = among_any asked is (k ∷ j ∷ ks) among in
     let bad : not true ≡ true = rw has at e in
     cc
 
