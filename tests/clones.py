@@ -147,8 +147,7 @@ class Clone:
         how = {"stdout": subprocess.PIPE, "stderr": subprocess.PIPE, "text": True}
         if user is not None:
             how.update(user=user, group=user, extra_groups=[])
-        # Ctrl-C is for the whole group, and is not passed over as in a script's background.
-        how.update(start_new_session=True, preexec_fn=lambda: signal.signal(signal.SIGINT, signal.SIG_DFL))
+        how.update(start_new_session=True, preexec_fn=take_signals)
         return subprocess.Popen([command or self.launcher, *words], cwd=self.room, env=env, **how)
 
     def calls(self):
@@ -228,6 +227,12 @@ def touch(path, seconds):
 def wait_a_moment():
     """Waits until the system's clock for files has gone on, which it does some hundred times a second."""
     time.sleep(0.05)
+
+
+def take_signals():
+    """Has no signal passed over that ends a call, as Ctrl-C is in a script's background, and the end of a terminal by nohup."""
+    for number in (signal.SIGINT, signal.SIGTERM, signal.SIGHUP):
+        signal.signal(number, signal.SIG_DFL)
 
 
 def is_running(process):
