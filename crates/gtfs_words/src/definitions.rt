@@ -30,7 +30,7 @@ const COMMANDS: &str = "gtfs check DIR\n       \
     gtfs merge A B OUT";
 
 // The program `gtfs` with all its commands. `--help` and `-h` ask for help, at the top and at each
-// command, and `--version` and `-V` for the version, at the top alone; there is no command `help`.
+// command; `--version` and `-V` ask for the version, at the top alone. There is no command `help`.
 pub(super) fn gtfs<'w>(alloc: Global) -> Result<Command<'w>, AllocError>
     ensures { IfOk result (λ c. app_of c ≡ gtfs_app) }
 {

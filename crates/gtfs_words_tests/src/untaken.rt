@@ -72,7 +72,7 @@ fn help_of_a_command_has_examples_of_its_values(rt: HostRuntime) {
     }
 }
 
-// Words that ask for the version, each before anything is wrong with them and before they ask for help.
+// Words that ask for the version, before anything is wrong with them and before help.
 const VERSIONS: &[&[&str]] = &[
     &["gtfs", "--version"],
     &["gtfs", "-V"],
