@@ -5,6 +5,7 @@ use Rattle.std.specs.List.{enumerate_from, list_any}
 use Rattle.std.specs.Option.{option_or}
 use Rattle.std.proofs.lemmas.Bool.{both_ways, cases_Bool}
 use Rattle.std.proofs.lemmas.List.{get_or-map, length-map, take_more}
+use Rattle.std.proofs.lemmas.List.FromFn.{get_or-enumerate_from, length-enumerate_from}
 use Rattle.gtfs_rows.specs.NamedRows.{stop_row_named}
 use Rattle.gtfs_rows.specs.Rows as content
 use Rattle.gtfs_rows.specs.Runs.{is_timed}
@@ -16,7 +17,7 @@ use Rattle.gtfs_times.specs.TimedRows.{filled_stop_time, filled_stop_times, is_i
 use Rattle.gtfs_times.specs.declared.times.Times.{Times}
 use Rattle.gtfs_times.specs.declared.times.Times.TheVariants as times
 use Rattle.gtfs_times.proofs.FilledFeed.{blank}
-use Rattle.gtfs_times.proofs.Nearest.{IsBetween, found-none-ahead, found-none-back, placed-at, placed-length, time-is}
+use Rattle.gtfs_times.proofs.Nearest.{IsBetween, found-none-ahead, found-none-back, time-is}
 
 abbrev plain : StopRow → content.StopRow
 plain = stop_row_named [] []
@@ -68,18 +69,18 @@ module _ (rs : List StopRow) (k : ℕ) (within : k < length rs) where
   placed : (n : ℕ) → n < length rs → (d : StopRow) → is_some (left_at (get_or rs n d)) ≡ false → is_timed (get_or (enumerate_from 0 (map plain rs)) n (0, blank)).1 ≡ false
   placed n inside d none =
       let far : n < length (map plain rs) = omega (arith, inside, length-map rs plain) in
-      ap (λ (x : Placed). is_timed x.1) (placed-at 0 (map plain rs) n blank far) ∙ ap is_timed (get_or-map plain rs n d blank inside) ∙ none
+      ap (λ (x : Placed). is_timed x.1) (get_or-enumerate_from 0 (map plain rs) n (0, blank) far) ∙ ap is_timed (get_or-map plain rs n d blank inside) ∙ none
 
   open-time : (HaveNone rs 0 (k + 1) ⊎ HaveNone rs (k + 1) (length rs)) → (d : StopRow) → position_time rs k ≡ None
   open-time (inl none) d =
-      let long = placed-length 0 (map plain rs) in
+      let long = length-enumerate_from 0 (map plain rs) in
       let count = length-map rs plain in
       let found : timed_before (map plain rs) k ≡ None =
       found-none-back (λ x. is_timed x.1) (enumerate_from 0 (map plain rs)) k (0, blank) (omega (arith, within, long, count))
       (λ n to. placed n (omega (arith, to, within)) d (none n d (omega arith) (omega (arith, to)))) in
       ap (λ o. time_between o (timed_after (map plain rs) k) k) found
   open-time (inr none) d =
-      let long = placed-length 0 (map plain rs) in
+      let long = length-enumerate_from 0 (map plain rs) in
       let count = length-map rs plain in
       let found : timed_after (map plain rs) k ≡ None =
       found-none-ahead (λ x. is_timed x.1) (enumerate_from 0 (map plain rs)) (k + 1) (0, blank)
@@ -100,17 +101,17 @@ timed-value rs k d timed = rw timed refl
 -- ---- lists
 
 pub filled-length : (rs : List StopRow) → length (filled_stop_times rs) ≡ length rs
-filled-length rs = length-map (enumerate_from 0 rs) (filled_stop_time rs) ∙ placed-length 0 rs
+filled-length rs = length-map (enumerate_from 0 rs) (filled_stop_time rs) ∙ length-enumerate_from 0 rs
 
 pub filled-more : (rs : List StopRow) (k : ℕ) (row : StopRow) (old new : List StopRow) → k < length rs → old ≡ take k (filled_stop_times rs)
     → new ≡ old ++ row ∷ [] → ((d : StopRow) → row ≡ filled_stop_time rs (k, get_or rs k d)) → new ≡ take (k + 1) (filled_stop_times rs)
 filled-more rs k row old new within so_far pushed is =
     let all = enumerate_from 0 rs in
-    let long = placed-length 0 rs in
+    let long = length-enumerate_from 0 rs in
     let size = filled-length rs in
     let at : get_or (filled_stop_times rs) k row ≡ filled_stop_time rs (k, get_or rs k row) =
     get_or-map (filled_stop_time rs) all k (0, row) row (omega (arith, within, long))
-    ∙ ap (filled_stop_time rs) (placed-at 0 rs k row within ∙ (let e : 0 + k ≡ k = omega arith in ap (λ n. (n, get_or rs k row)) e)) in
+    ∙ ap (filled_stop_time rs) (get_or-enumerate_from 0 rs k (0, row) within ∙ (let e : 0 + k ≡ k = omega arith in ap (λ n. (n, get_or rs k row)) e)) in
     let next : take (k + 1) (filled_stop_times rs) ≡ take k (filled_stop_times rs) ++ get_or (filled_stop_times rs) k row ∷ [] =
     take_more (filled_stop_times rs) k row (omega (arith, within, size)) in
     pushed ∙ (λ i. so_far i ++ (is row ∙ sym at) i ∷ []) ∙ sym next

@@ -13,6 +13,7 @@ use Rattle.gtfs_table.proofs.PartFacts.{all_in_part}
 use Rattle.gtfs_table.specs.declared.file.File.{File}
 use Rattle.gtfs_table.specs.declared.file.File.TheVariants as file
 use Rattle.gtfs_columns.specs.Columns.{columns_of, optional, time}
+use Rattle.gtfs_rows.proofs.RowTexts.{all_at}
 use Rattle.gtfs_rows.specs.Cells.{are_cells, is_between, is_cell}
 use Rattle.gtfs_rows.specs.Content.{Content}
 use Rattle.gtfs_rows.specs.RowCells.{cells_in, frequency_cells, held_by, number, stop_time_cells, stop_times_of, trip_cells}
@@ -82,11 +83,6 @@ row-early k id r all =
     let three = and_parts _ _ two.1 in
     reached-early r.arrival_time r.departure_time two.0 three.0
 
-each-of : {X : Type 0} (q : X → Bool) (xs : List X) (k : ℕ) (d : X) → list_all q xs ≡ true → k < length xs → q (get_or xs k d) ≡ true
-each-of q [] k d all within = absurd (omega arith)
-each-of q (x ∷ xs) zero d all within = (and_parts (q x) (list_all q xs) all).0
-each-of q (x ∷ xs) (suc k) d all within = each-of q xs k d (and_parts (q x) (list_all q xs) all).1 (omega arith)
-
 module _ (p : Parts) (sound : IsSoundParts p) where
   abbrev c : Content
   c = content_of_parts p
@@ -102,7 +98,7 @@ module _ (p : Parts) (sound : IsSoundParts p) where
       ∙ held-filled c.trips (λ k within.
       let t = get_or c.trips k no_trip in
       rows-fit c t.stop_rows blank (fine p sound k within) t.trip_id (held k within)
-      (λ n inside. row-early n t.trip_id (get_or t.stop_rows n blank) (each-of (fits t.trip_id) t.stop_rows n blank (held k within) inside)))
+      (λ n inside. row-early n t.trip_id (get_or t.stop_rows n blank) (all_at (fits t.trip_id) t.stop_rows n blank (held k within) inside)))
   filled-cells file.Calendar = sound.content.cells file.Calendar
   filled-cells file.CalendarDates = sound.content.cells file.CalendarDates
   filled-cells file.Frequencies =

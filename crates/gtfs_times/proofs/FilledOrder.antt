@@ -3,19 +3,20 @@ use Rattle.std.proofs.Common.{◌≡◌, ◌∙◌, ◌+◌, ◌-◌, ◌<◌, �
 use Rattle.std.specs.List.{enumerate_from}
 use Rattle.std.proofs.lemmas.Bool.{cases_lt, both_ways}
 use Rattle.std.proofs.lemmas.List.{get_or-map}
+use Rattle.std.proofs.lemmas.List.FromFn.{get_or-enumerate_from, length-enumerate_from}
 use Rattle.gtfs_rows.specs.Rows.{StopRow}
 use Rattle.gtfs_rows.specs.Runs.{is_timed}
 use Rattle.gtfs_times.specs.Filling.{Placed, left, reached, passed_between, filled_row, filled_rows}
-use Rattle.gtfs_times.proofs.Nearest.{IsBetween, placed-at, placed-length, between, time-is}
+use Rattle.gtfs_times.proofs.Nearest.{IsBetween, between, time-is}
 use Rattle.gtfs_times.proofs.EvenPace.{part-rises, part-within}
 
 -- the filled row of an index
 pub filled-at : (rows : List StopRow) (k : ℕ) (d : StopRow) → k < length rows → get_or (filled_rows rows) k d ≡ filled_row rows (k, get_or rows k d)
 filled-at rows k d within =
     let e : 0 + k ≡ k = omega arith in
-    let count = placed-length 0 rows in
+    let count = length-enumerate_from 0 rows in
     get_or-map (filled_row rows) (enumerate_from 0 rows) k (0, d) d (omega (arith, count))
-    ∙ ap (filled_row rows) (placed-at 0 rows k d within ∙ ap (λ n. (n, get_or rows k d)) e)
+    ∙ ap (filled_row rows) (get_or-enumerate_from 0 rows k (0, d) within ∙ ap (λ n. (n, get_or rows k d)) e)
 
 -- what is asked of the timed rows of a trip
 pub record KeepTime (rows : List StopRow) (d : StopRow) : Type 0 where

@@ -10,6 +10,7 @@ use Rattle.gtfs_field.proofs.OrderingFacts.{nat-less}
 use Rattle.gtfs_table.specs.declared.file.File.TheVariants as file
 use Rattle.gtfs_columns.specs.Columns.{columns_of}
 use Rattle.gtfs_columns.specs.Values.{if_both}
+use Rattle.std.proofs.lemmas.List.FromFn.{length-enumerate_from}
 use Rattle.gtfs_rows.proofs.RowTexts.{all_at}
 use Rattle.gtfs_rows.specs.Cells.{are_cells, is_between}
 use Rattle.gtfs_rows.specs.Content.{Content}
@@ -20,7 +21,6 @@ use Rattle.gtfs_rows.specs.Runs.{is_timed}
 use Rattle.gtfs_rows.specs.Sound.{comes, leaves, is_end, is_sound_in, is_sound_stop_row, is_stop_of, keeps_time}
 use Rattle.gtfs_times.specs.Filling.{filled_row, filled_rows, reached, timed}
 use Rattle.gtfs_times.specs.declared.times.Times.TheVariants as times
-use Rattle.gtfs_times.proofs.Nearest.{placed-length}
 use Rattle.gtfs_times.proofs.FilledOrder.{KeepTime, around-time, fill, filled-at, stays, time-kept}
 
 pub all-from : {X : Type 0} (q : X → Bool) (xs : List X) (d : X) → ((k : ℕ) → k < length xs → q (get_or xs k d) ≡ true) → list_all q xs ≡ true
@@ -30,7 +30,7 @@ all-from q (x ∷ xs) d each = rw (each 0 (omega arith)) (all-from q xs d (λ k 
 -- ---- rows
 
 pub filled-length : (rows : List StopRow) → length (filled_rows rows) ≡ length rows
-filled-length rows = length-map (enumerate_from 0 rows) (filled_row rows) ∙ placed-length 0 rows
+filled-length rows = length-map (enumerate_from 0 rows) (filled_row rows) ∙ length-enumerate_from 0 rows
 
 same-sequence : (b : Bool) (r : StopRow) (t : Option ℕ) → (if b then r else record r { arrival_time = t; departure_time = t }).stop_sequence ≡ r.stop_sequence
 same-sequence true r t = refl

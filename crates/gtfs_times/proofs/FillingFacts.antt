@@ -1,7 +1,8 @@
 -- Times of positions are those of the rows' times alone, whatever else rows hold.
-use Rattle.std.proofs.Common.{◌≡◌, ◌∙◌, ◌+◌, ◌-◌, ◌*◌, ◌/◌, ℕ, Bool, true, false, cond, List, [], ◌∷◌, ◌++◌, map, find, reverse, take, drop, Option, Some, None, option_map, refl, sym, ap, is_some, unwrap_or}
+use Rattle.std.proofs.Common.{◌≡◌, ◌∙◌, ◌+◌, ◌-◌, ◌*◌, ◌/◌, ℕ, List, [], ◌∷◌, ◌++◌, map, find, reverse, take, drop, Option, Some, None, option_map, refl, sym, ap, is_some, unwrap_or}
 use Rattle.std.specs.List.{enumerate_from}
 use Rattle.std.proofs.lemmas.List.{drop-map, take-map, map-append, reverse-append}
+use Rattle.gtfs_rows.proofs.KeyedRows.{find_map}
 use Rattle.gtfs_rows.specs.Rows.{StopRow}
 use Rattle.gtfs_rows.specs.Runs.{is_timed}
 use Rattle.gtfs_rows.specs.Sound.{comes, leaves}
@@ -17,10 +18,6 @@ pub reverse-map : {X Y : Type 0} (f : X → Y) (xs : List X) → reverse (map f 
 reverse-map f [] = refl
 reverse-map f (x ∷ xs) = reverse-append (f x ∷ []) (map f xs) ∙ ap (λ ys. ys ++ f x ∷ []) (reverse-map f xs) ∙ sym (map-append f (reverse xs) (x ∷ [])) ∙ sym (ap (map f) (reverse-append (x ∷ []) xs))
 
-pub find-map : {X Y : Type 0} (q : Y → Bool) (f : X → Y) (xs : List X) → find q (map f xs) ≡ option_map f (find (λ x. q (f x)) xs)
-find-map q f [] = refl
-find-map q f (x ∷ xs) = elim (q (f x)) as (λ b. cond b (Some (f x)) (find q (map f xs)) ≡ option_map f (cond b (Some x) (find (λ x. q (f x)) xs))) [ true ↦ refl | false ↦ find-map q f xs ]
-
 -- ---- rows that are made of others
 
 abbrev pub placed_by : {X : Type 0} → (X → StopRow) → ℕ × X → Placed
@@ -32,13 +29,13 @@ module _ {X : Type 0} (f : X → StopRow) (xs : List X) (m : ℕ) where
       ap (λ ys. find (λ x. is_timed x.1) (reverse (take m ys))) (enumerate-map f 0 xs)
       ∙ ap (λ ys. find (λ x. is_timed x.1) (reverse ys)) (take-map (placed_by f) m (enumerate_from 0 xs))
       ∙ ap (find (λ x. is_timed x.1)) (reverse-map (placed_by f) (take m (enumerate_from 0 xs)))
-      ∙ find-map (λ x. is_timed x.1) (placed_by f) (reverse (take m (enumerate_from 0 xs)))
+      ∙ find_map (placed_by f) (λ x. is_timed x.1) (reverse (take m (enumerate_from 0 xs)))
 
   pub after-map : timed_after (map f xs) m ≡ option_map (placed_by f) (find (λ x. is_timed (f x.1)) (drop (m + 1) (enumerate_from 0 xs)))
   after-map =
       ap (λ ys. find (λ x. is_timed x.1) (drop (m + 1) ys)) (enumerate-map f 0 xs)
       ∙ ap (find (λ x. is_timed x.1)) (drop-map (placed_by f) (m + 1) (enumerate_from 0 xs))
-      ∙ find-map (λ x. is_timed x.1) (placed_by f) (drop (m + 1) (enumerate_from 0 xs))
+      ∙ find_map (placed_by f) (λ x. is_timed x.1) (drop (m + 1) (enumerate_from 0 xs))
 
 -- two ways to make rows, of which both have the same times
 module _ {X : Type 0} (f g : X → StopRow) (reach : (x : X) → comes (f x) ≡ comes (g x)) (leave : (x : X) → leaves (f x) ≡ leaves (g x)) where

@@ -3,6 +3,7 @@ use Rattle.std.proofs.Common.{◌≡◌, ◌∙◌, ◌+◌, ◌-◌, ◌<◌, �
 use Rattle.std.specs.List.{enumerate_from}
 use Rattle.std.proofs.lemmas.Bool.{both_ways, cases_Bool, cases_lt}
 use Rattle.std.proofs.lemmas.List.{take_more, reverse-append}
+use Rattle.std.proofs.lemmas.List.FromFn.{get_or-enumerate_from, length-enumerate_from}
 use Rattle.gtfs_rows.specs.Rows.{StopRow}
 use Rattle.gtfs_rows.specs.Runs.{is_timed}
 use Rattle.gtfs_times.specs.Filling.{Placed, timed_before, timed_after, time_between, time_at, passed_between}
@@ -53,15 +54,6 @@ module _ {X : Type 0} (q : X → Bool) where
   found-none-ahead (x ∷ xs) zero d none = rw (none 0 (omega arith) (omega arith)) (found-none-ahead xs zero d (λ k low to. none (suc k) (omega arith) (omega arith)))
   found-none-ahead (x ∷ xs) (suc n) d none = found-none-ahead xs n d (λ k low to. none (suc k) (omega arith) (omega arith))
 
-pub placed-at : {X : Type 0} (a : ℕ) (xs : List X) (k : ℕ) (d : X) → k < length xs → get_or (enumerate_from a xs) k (0, d) ≡ (a + k, get_or xs k d)
-placed-at a [] k d within = absurd (omega arith)
-placed-at a (x ∷ xs) zero d within = let e : a ≡ a + 0 = omega arith in ap (λ n. (n, x)) e
-placed-at a (x ∷ xs) (suc k) d within = let e : a + 1 + k ≡ a + suc k = omega arith in placed-at (a + 1) xs k d (omega arith) ∙ ap (λ n. (n, get_or xs k d)) e
-
-pub placed-length : {X : Type 0} (a : ℕ) (xs : List X) → length (enumerate_from a xs) ≡ length xs
-placed-length a [] = refl
-placed-length a (x ∷ xs) = ap suc (placed-length (a + 1) xs)
-
 -- a position between two timed rows, and no timed row between them
 pub record IsBetween (rows : List StopRow) (d : StopRow) (i m j : ℕ) : Type 0 where
   pub after : i < m
@@ -76,7 +68,7 @@ module _ (rows : List StopRow) (d : StopRow) where
   placed k = (k, get_or rows k d)
 
   at : (k : ℕ) → k < length rows → get_or (enumerate_from 0 rows) k (0, d) ≡ placed k
-  at k within = let e : 0 + k ≡ k = omega arith in placed-at 0 rows k d within ∙ ap (λ n. (n, get_or rows k d)) e
+  at k within = let e : 0 + k ≡ k = omega arith in get_or-enumerate_from 0 rows k (0, d) within ∙ ap (λ n. (n, get_or rows k d)) e
 
   test-at : (k : ℕ) → k < length rows → (b : Bool) → is_timed (get_or rows k d) ≡ b → is_timed (get_or (enumerate_from 0 rows) k (0, d)).1 ≡ b
   test-at k within b is = ap (λ (x : Placed). is_timed x.1) (at k within) ∙ is
@@ -87,7 +79,7 @@ module _ (rows : List StopRow) (d : StopRow) where
         let far = is.within in
         let past = is.before in
         let low = is.after in
-        let count = placed-length 0 rows in
+        let count = length-enumerate_from 0 rows in
         found-back (λ x. is_timed x.1) (enumerate_from 0 rows) i m (0, d) is.after (omega (arith, count)) (test-at i (omega arith) true is.first)
         (λ k from to. test-at k (omega arith) false (is.none k from (omega arith)))
         ∙ ap Some (at i (omega arith))
@@ -97,7 +89,7 @@ module _ (rows : List StopRow) (d : StopRow) where
         let far = is.within in
         let past = is.before in
         let low = is.after in
-        let count = placed-length 0 rows in
+        let count = length-enumerate_from 0 rows in
         found-ahead (λ x. is_timed x.1) (enumerate_from 0 rows) (m + 1) j (0, d) (omega arith) (omega (arith, count)) (test-at j far true is.last)
         (λ k from to. test-at k (omega arith) false (is.none k (omega arith) to))
         ∙ ap Some (at j far)

@@ -5,6 +5,7 @@ use Rattle.std.specs.List.{enumerate_from}
 use Rattle.std.proofs.lemmas.List.{length-map}
 use Rattle.std.proofs.lemmas.Simd.{map-map}
 use Rattle.gtfs_table.specs.Parts.{parts}
+use Rattle.std.proofs.lemmas.List.FromFn.{length-enumerate_from}
 use Rattle.gtfs_rows.specs.NamedRows.{stop_row_named}
 use Rattle.gtfs_rows.specs.Trips.{left_at, stop_rows_by_trip}
 use Rattle.gtfs_rows.specs.Views.{IsSoundParts, content_of_parts, stop_row_of, trip_of, trips_of}
@@ -17,7 +18,6 @@ use Rattle.gtfs_times.specs.TimedRows.{filled_stop_time, filled_stop_times, time
 use Rattle.gtfs_times.specs.declared.times.Times.{Times}
 use Rattle.gtfs_times.specs.declared.times.Times.TheVariants as times
 use Rattle.gtfs_times.proofs.FillingFacts.{enumerate-map, placed_by, time_at-same}
-use Rattle.gtfs_times.proofs.Nearest.{placed-length}
 use Rattle.gtfs_times.proofs.Stretches.{parts-changed}
 
 module _ (p : Parts) where
@@ -50,7 +50,7 @@ module _ (p : Parts) where
 
 pub timed-length : (choice : Times) (rows : List StopRow) → length (timed_stop_times choice rows) ≡ length rows
 timed-length times.Given rows = refl
-timed-length times.Interpolated rows = length-map (enumerate_from 0 rows) (filled_stop_time rows) ∙ placed-length 0 rows
+timed-length times.Interpolated rows = length-map (enumerate_from 0 rows) (filled_stop_time rows) ∙ length-enumerate_from 0 rows
 
 module _ (choice : Times) (p : Parts) (sound : IsSoundParts p) where
   -- the rows of each trip
