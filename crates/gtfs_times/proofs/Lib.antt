@@ -1,0 +1,11 @@
+pub mod WorkedFilling
+pub mod FillingFacts
+pub mod Nearest
+pub mod EvenPace
+pub mod FilledOrder
+pub mod Stretches
+pub mod TimedContent
+pub mod FilledSound
+pub mod FilledFeed
+pub mod FilledContent
+pub mod FillValue

@@ -1,0 +1,4 @@
+pub mod Filling
+pub mod TimedRows
+pub mod Spans
+pub mod Words
