@@ -10,9 +10,7 @@
 //! - [`is_to_fill`] tells whether that changes the stop times of a trip, and [`filled`] makes a
 //!   list of them with their times.
 //!
-//! ```text
-//! 08:00:00, none, none, 08:10:01   gives   08:00:00, 08:03:20, 08:06:40, 08:10:01
-//! ```
+//! So 08:00:00, none, none and 08:10:01 become 08:00:00, 08:03:20, 08:06:40 and 08:10:01.
 //!
 //! The page `specs/Words.antt` names the definitions, in the order in which they are read.
 #![tactic(auto)]
