@@ -9,6 +9,7 @@
 //! - `events` has what passes a stop, by worked cases, and `lanes` walks the lanes of each of them; `seeks` asks a lane
 //!   from positions between its events, and `unions` all lanes of each stop together.
 //! - `large` has more rows of each kind than two bytes can number.
+//! - `times` has stop times between timepoints, filled (`gtfs_times`).
 //! - `patterns` compares the patterns of a route with those that a slow plain search finds.
 //!
 //! The worked examples of runs, events and patterns stand in `proofs/`, as lemmas that compute.
@@ -38,6 +39,8 @@ mod patterns;
 mod rows;
 #[cfg(test)]
 mod seeks;
+#[cfg(test)]
+mod times;
 #[cfg(test)]
 mod unions;
 #[cfg(test)]

@@ -52,3 +52,6 @@ pub mod NumberTables
 pub mod MergedLists
 pub mod ServiceCopies
 pub mod NamesPromised
+pub mod FilledNames
+pub mod TimedIds
+pub mod TimedFeeds

@@ -3,12 +3,16 @@ use Rattle.std.proofs.Common.{◌≡◌, ℕ, Bool, true, false, List, ◌++◌,
 use Rattle.std.specs.Prelude.{◌&&◌, ◌||◌, ◌==◌}
 use Rattle.std.proofs.lemmas.Bool.{and_parts, and_from, or_cases, or_left, or_right}
 use Rattle.std.proofs.Math.Bool.{and_assoc as and_three}
-use Rattle.gtfs_rows.specs.Rows.{Stop}
+use Rattle.gtfs_rows.specs.Rows.{Stop, StopRow}
+use Rattle.gtfs_times.specs.Filling.{timed}
+use Rattle.gtfs_times.specs.declared.times.Times.{Times}
+use Rattle.gtfs_merge.proofs.TimedIds.{ids-timed, keys-timed}
+use Rattle.gtfs_merge.proofs.TimedFeeds.{places-timed}
 use Rattle.gtfs_rows.specs.Content.{Content}
 use Rattle.gtfs_columns.specs.Values.{if_there}
 use Rattle.gtfs_columns.proofs.SiteFacts.{text_is as same_bytes}
 use Rattle.gtfs_rows.specs.Key.{Key}
-use Rattle.gtfs_rows.specs.Departures.{is_above, is_within, Origins, departs_at}
+use Rattle.gtfs_rows.specs.Departures.{is_above, is_within, Origins, departs_at, departs_from}
 use Rattle.gtfs_rows.specs.Places.{is_plain_stop, is_in_place}
 use Rattle.gtfs_merge.specs.Renaming.{Nearness, kept_as_is, has_id, ids, names_a, names_b, stop_with, stop_b, trip_b}
 use Rattle.gtfs_merge.specs.Merged.{merged}
@@ -33,7 +37,7 @@ text-is : (o : Option (List ℕ)) (s : List ℕ) → if_there o (bytes_eq s) ≡
 text-is None s e = absurd (true≢false (sym e))
 text-is (Some x) s e = ap Some (sym (same_bytes s x e))
 
-module _ (near : Nearness) (nearness : IsNearness near) (a b : Content) (keys_a : HasKeys a) (keys_b : HasKeys b)
+module _ (choice : Times) (near : Nearness) (nearness : IsNearness near) (a b : Content) (keys_a : HasKeys a) (keys_b : HasKeys b)
     (few_trips : AreFew kind.Trip a b) (few_services : AreFew kind.Service a b) (named_a : NamesServices a) (named_b : NamesServices b)
     (places_a : HasPlaces a) (places_b : HasPlaces b) (few : AreFew kind.Stop a b) where
   abbrev m : Content
@@ -108,55 +112,59 @@ module _ (near : Nearness) (nearness : IsNearness near) (a b : Content) (keys_a 
 
   -- ---- departures at a place
 
-  at-a : (origin : Origins) (s : List ℕ) (k : Key) → IsImageAt a origin (names_a a b) s k → departs_at m origin s k ≡ true
+  trip-a : (origin : Origins) (test : StopRow → Bool) (k : Key) → departs_from (timed choice a) origin test k ≡ true → has_id (ids kind.Trip a) k.trip ≡ true
+  trip-a origin test k e = sym (ids-timed choice a k.trip) ∙ (departs-has (timed choice a) (keys-timed choice a keys_a).trips origin test k e).2
+
+  trip-b : (origin : Origins) (test : StopRow → Bool) (k : Key) → departs_from (timed choice b) origin test k ≡ true → has_id (ids kind.Trip b) k.trip ≡ true
+  trip-b origin test k e = sym (ids-timed choice b k.trip) ∙ (departs-has (timed choice b) (keys-timed choice b keys_b).trips origin test k e).2
+
+  at-a : (origin : Origins) (s : List ℕ) (k : Key) → IsImageAt (timed choice a) origin (names_a a b) s k → departs_at (timed choice m) origin s k ≡ true
   at-a origin s k w =
       let s0 = w.0 in
       let k0 = w.3 in
-      let t = departs-has a keys_a.trips origin _ k0 w.4 in
-      let r = departs-row a keys_a.trips origin (λ row. is_in_place a s0 row.stop_id) k0 w.4 in
-      let h = places_a.rows_named r.0 r.2 r.1 r.3 in
-      ap (departs_at m origin s) w.5
-      ∙ departs-a near a b keys_a keys_b few_trips few_services named_a named_b origin (λ row. is_in_place m s row.stop_id) k0 t.2
+      let r = departs-row (timed choice a) (keys-timed choice a keys_a).trips origin (λ row. is_in_place a s0 row.stop_id) k0 w.4 in
+      let h = (places-timed choice a places_a).rows_named r.0 r.2 r.1 r.3 in
+      ap (departs_at (timed choice m) origin s) w.5
+      ∙ departs-a near a b keys_a keys_b few_trips few_services choice named_a named_b origin (λ row. is_in_place m s row.stop_id) k0 (trip-a origin (λ row. is_in_place a s0 row.stop_id) k0 w.4)
       ∙ r.5 (λ row. is_in_place m s row.stop_id) (place-a s r.1.stop_id h ∙ ap (λ q. is_in_place a q r.1.stop_id) (sym w.2) ∙ r.4)
 
-  at-b : (origin : Origins) (s : List ℕ) (k : Key) → IsImageAt b origin (names_b near a b) s k → departs_at m origin s k ≡ true
+  at-b : (origin : Origins) (s : List ℕ) (k : Key) → IsImageAt (timed choice b) origin (names_b near a b) s k → departs_at (timed choice m) origin s k ≡ true
   at-b origin s k w =
       let s0 = w.0 in
       let k0 = w.3 in
-      let t = departs-has b keys_b.trips origin _ k0 w.4 in
-      let r = departs-row b keys_b.trips origin (λ row. is_in_place b s0 row.stop_id) k0 w.4 in
-      let h = places_b.rows_named r.0 r.2 r.1 r.3 in
-      ap (departs_at m origin s) w.5
-      ∙ departs-b near a b keys_a keys_b few_trips few_services named_a named_b origin (λ row. is_in_place m s row.stop_id) k0 t.2
+      let r = departs-row (timed choice b) (keys-timed choice b keys_b).trips origin (λ row. is_in_place b s0 row.stop_id) k0 w.4 in
+      let h = (places-timed choice b places_b).rows_named r.0 r.2 r.1 r.3 in
+      ap (departs_at (timed choice m) origin s) w.5
+      ∙ departs-b near a b keys_a keys_b few_trips few_services choice named_a named_b origin (λ row. is_in_place m s row.stop_id) k0 (trip-b origin (λ row. is_in_place b s0 row.stop_id) k0 w.4)
       ∙ r.5 (λ row. is_in_place m s (new row.stop_id)) (ap (λ q. is_in_place m q (new r.1.stop_id)) (sym w.2) ∙ place-b s0 r.1.stop_id h r.4)
 
-  at-both : (origin : Origins) (s : List ℕ) (k : Key) → departs_at m origin s k ≡ true → IsImageAt a origin (names_a a b) s k ⊎ IsImageAt b origin (names_b near a b) s k
-  at-both origin s k e = elim (side-of near a b keys_a keys_b few_trips few_services named_a named_b origin (λ row. is_in_place m s row.stop_id) k e)
-      as (λ w. IsImageAt a origin (names_a a b) s k ⊎ IsImageAt b origin (names_b near a b) s k) [
+  at-both : (origin : Origins) (s : List ℕ) (k : Key) → departs_at (timed choice m) origin s k ≡ true → IsImageAt (timed choice a) origin (names_a a b) s k ⊎ IsImageAt (timed choice b) origin (names_b near a b) s k
+  at-both origin s k e = elim (side-of near a b keys_a keys_b few_trips few_services choice named_a named_b origin (λ row. is_in_place m s row.stop_id) k e)
+      as (λ w. IsImageAt (timed choice a) origin (names_a a b) s k ⊎ IsImageAt (timed choice b) origin (names_b near a b) s k) [
         | inl h ↦
-            let d = sym (departs-a near a b keys_a keys_b few_trips few_services named_a named_b origin (λ row. is_in_place m s row.stop_id) k h) ∙ e in
-            let r = departs-row a keys_a.trips origin (λ row. is_in_place m s row.stop_id) k d in
-            let hr = places_a.rows_named r.0 r.2 r.1 r.3 in
+            let d = sym (departs-a near a b keys_a keys_b few_trips few_services choice named_a named_b origin (λ row. is_in_place m s row.stop_id) k h) ∙ e in
+            let r = departs-row (timed choice a) (keys-timed choice a keys_a).trips origin (λ row. is_in_place m s row.stop_id) k d in
+            let hr = (places-timed choice a places_a).rows_named r.0 r.2 r.1 r.3 in
             let at = sym (place-a s r.1.stop_id hr) ∙ r.4 in
             inl (s, place-named s r.1.stop_id hr at, refl, k, r.5 (λ row. is_in_place a s row.stop_id) at, refl)
         | inr x ↦
             let k0 : Key = record k { trip = x.0 } in
             let p : k ≡ key_with (trip_b near a b) k0 = λ i. record k { trip = sym x.2 i } in
-            let d = sym (departs-b near a b keys_a keys_b few_trips few_services named_a named_b origin (λ row. is_in_place m s row.stop_id) k0 x.1) ∙ ap (departs_at m origin s) (sym p) ∙ e in
-            let r = departs-row b keys_b.trips origin (λ row. is_in_place m s (new row.stop_id)) k0 d in
-            let hr = places_b.rows_named r.0 r.2 r.1 r.3 in
+            let d = sym (departs-b near a b keys_a keys_b few_trips few_services choice named_a named_b origin (λ row. is_in_place m s row.stop_id) k0 x.1) ∙ ap (departs_at (timed choice m) origin s) (sym p) ∙ e in
+            let r = departs-row (timed choice b) (keys-timed choice b keys_b).trips origin (λ row. is_in_place m s (new row.stop_id)) k0 d in
+            let hr = (places-timed choice b places_b).rows_named r.0 r.2 r.1 r.3 in
             let q = place-from-b s r.1.stop_id hr r.4 in
             inr (q.0, q.1, q.2, k0, r.5 (λ row. is_in_place b q.0 row.stop_id) q.3, p)
       ]
 
-  pub has-boards : HasBoards near a b
+  pub has-boards : HasBoards choice near a b
   has-boards origin s from until after k h = (
     λ e.
         let p = and_parts _ (is_above after k) e in
-        let q = and_parts (departs_at m origin s k) (is_within from until k.instant) p.0 in
+        let q = and_parts (departs_at (timed choice m) origin s k) (is_within from until k.instant) p.0 in
         (at-both origin s k q.0, and_from _ _ q.1 p.1),
     λ w.
         let p = and_parts (is_within from until k.instant) (is_above after k) w.1 in
-        let d : departs_at m origin s k ≡ true = elim w.0 as (λ v. departs_at m origin s k ≡ true) [ inl x ↦ at-a origin s k x | inr x ↦ at-b origin s k x ] in
+        let d : departs_at (timed choice m) origin s k ≡ true = elim w.0 as (λ v. departs_at (timed choice m) origin s k ≡ true) [ inl x ↦ at-a origin s k x | inr x ↦ at-b origin s k x ] in
         and_from _ _ (and_from _ _ d p.0) p.1,
   )

@@ -10,6 +10,9 @@ use Rattle.gtfs_merge.specs.Merged.{service_with, merged}
 use Rattle.gtfs_merge.specs.Departures.{key_with, IsImage, HasUnion, SharesJoined}
 use Rattle.gtfs_merge.specs.declared.kind.Kind.TheVariants as kind
 pub use Rattle.gtfs_merge.specs.Law.{AreFew}
+use Rattle.gtfs_times.specs.Filling.{timed}
+use Rattle.gtfs_times.specs.declared.times.Times.{Times}
+use Rattle.gtfs_merge.proofs.TimedIds.{carried-timed, ids-timed, keys-timed, look-back, named-timed}
 use Rattle.gtfs_merge.proofs.Lookups.{keyed-by_id}
 use Rattle.gtfs_merge.proofs.Fresh.{renamed_into_a, joined_stays, renamed_apart}
 use Rattle.gtfs_merge.proofs.Equal.{exact-service, exact-trip}
@@ -73,55 +76,69 @@ module _ (near : Nearness) (a b : Content) (keys_a : HasKeys a) (keys_b : HasKey
         agree_services;
   }
 
-  module _ (named_a : NamesServices a) (named_b : NamesServices b) where
+  module _ (choice : Times) (named_a : NamesServices a) (named_b : NamesServices b) where
+    keys_m : HasKeys (timed choice m)
+    keys_m = keys-timed choice m keys_merged
+
+    keys_ta : HasKeys (timed choice a)
+    keys_ta = keys-timed choice a keys_a
+
+    keys_tb : HasKeys (timed choice b)
+    keys_tb = keys-timed choice b keys_b
+
+    has-a : (origin : Origins) (k : Key) → is_departure (timed choice a) origin k ≡ true → has_id (ids kind.Trip a) k.trip ≡ true
+    has-a origin k e = sym (ids-timed choice a k.trip) ∙ (departs-has (timed choice a) keys_ta.trips origin any_row k e).2
+
+    has-b : (origin : Origins) (k : Key) → is_departure (timed choice b) origin k ≡ true → has_id (ids kind.Trip b) k.trip ≡ true
+    has-b origin k e = sym (ids-timed choice b k.trip) ∙ (departs-has (timed choice b) keys_tb.trips origin any_row k e).2
+
     -- a departure of the merged feed, by the side of its trip
     pub departs-a : (origin : Origins) (test : StopRow → Bool) (k : Key) → has_id (ids kind.Trip a) k.trip ≡ true
-        → departs_from (merged near a b) origin test k ≡ departs_from a origin test k
-    departs-a origin test k h = departs-carried m a na keys_merged keys_a named_a carried-a origin test k h
+        → departs_from (timed choice (merged near a b)) origin test k ≡ departs_from (timed choice a) origin test k
+    departs-a origin test k h = departs-carried (timed choice m) (timed choice a) na keys_m keys_ta (named-timed choice a named_a) (carried-timed choice m a na carried-a) origin test k (ids-timed choice a k.trip ∙ h)
 
     pub departs-b : (origin : Origins) (test : StopRow → Bool) (k : Key) → has_id (ids kind.Trip b) k.trip ≡ true
-        → departs_from (merged near a b) origin test (key_with (trip_b near a b) k) ≡ departs_from b origin (λ r. test (stop_row_with (stop_b near a b) r)) k
-    departs-b origin test k h = departs-carried m b nb keys_merged keys_b named_b carried-b origin test k h
+        → departs_from (timed choice (merged near a b)) origin test (key_with (trip_b near a b) k) ≡ departs_from (timed choice b) origin (λ r. test (stop_row_with (stop_b near a b) r)) k
+    departs-b origin test k h = departs-carried (timed choice m) (timed choice b) nb keys_m keys_tb (named-timed choice b named_b) (carried-timed choice m b nb carried-b) origin test k (ids-timed choice b k.trip ∙ h)
 
     -- whose trip it is
-    pub side-of : (origin : Origins) (test : StopRow → Bool) (k : Key) → departs_from (merged near a b) origin test k ≡ true
+    pub side-of : (origin : Origins) (test : StopRow → Bool) (k : Key) → departs_from (timed choice (merged near a b)) origin test k ≡ true
         → (has_id (ids kind.Trip a) k.trip ≡ true) ⊎ ((x : List ℕ) × (has_id (ids kind.Trip b) x ≡ true) × (trip_b near a b x ≡ k.trip))
     side-of origin test k e =
-        let r = departs-has m keys_merged.trips origin test k e in
+        let d = departs-has (timed choice m) keys_m.trips origin test k e in
+        let r = look-back choice m k.trip d.0 d.1 in
         elim (merged-from trip_id_of (trip_by na) (trip_by nb) nb.trip a.trips b.trips (λ t. refl) (λ t. refl) k.trip r.0 r.1)
         as (λ w. (has_id (ids kind.Trip a) k.trip ≡ true) ⊎ ((x : List ℕ) × (has_id (ids kind.Trip b) x ≡ true) × (trip_b near a b x ≡ k.trip))) [
           | inl h ↦ inl h
           | inr s ↦ inr (s.1.trip_id, has_own trip_id_of b.trips s.1 s.2, s.3)
         ]
 
-    pub has-union : HasUnion near a b
+    pub has-union : HasUnion choice near a b
     has-union origin k = (split, from_a, from_b)
       where
-        split : is_departure (merged near a b) origin k ≡ true → IsImage a origin (names_a a b) k ⊎ IsImage b origin (names_b near a b) k
-        split e = elim (side-of origin any_row k e) as (λ w. IsImage a origin (names_a a b) k ⊎ IsImage b origin (names_b near a b) k) [
+        split : is_departure (timed choice (merged near a b)) origin k ≡ true → IsImage (timed choice a) origin (names_a a b) k ⊎ IsImage (timed choice b) origin (names_b near a b) k
+        split e = elim (side-of origin any_row k e) as (λ w. IsImage (timed choice a) origin (names_a a b) k ⊎ IsImage (timed choice b) origin (names_b near a b) k) [
           | inl h ↦ inl (k, sym (departs-a origin any_row k h) ∙ e, refl)
           | inr s ↦
               let k0 : Key = record k { trip = s.0 } in
               let p : k ≡ key_with (trip_b near a b) k0 = λ i. record k { trip = sym s.2 i } in
-              inr (k0, sym (departs-b origin any_row k0 s.1) ∙ ap (is_departure m origin) (sym p) ∙ e, p)
+              inr (k0, sym (departs-b origin any_row k0 s.1) ∙ ap (is_departure (timed choice m) origin) (sym p) ∙ e, p)
         ]
 
-        from_a : IsImage a origin (names_a a b) k → is_departure (merged near a b) origin k ≡ true
+        from_a : IsImage (timed choice a) origin (names_a a b) k → is_departure (timed choice (merged near a b)) origin k ≡ true
         from_a w =
-            let r = departs-has a keys_a.trips origin any_row w.0 w.1 in
-            ap (is_departure m origin) w.2 ∙ departs-a origin any_row w.0 r.2 ∙ w.1
+            ap (is_departure (timed choice m) origin) w.2 ∙ departs-a origin any_row w.0 (has-a origin w.0 w.1) ∙ w.1
 
-        from_b : IsImage b origin (names_b near a b) k → is_departure (merged near a b) origin k ≡ true
+        from_b : IsImage (timed choice b) origin (names_b near a b) k → is_departure (timed choice (merged near a b)) origin k ≡ true
         from_b w =
-            let r = departs-has b keys_b.trips origin any_row w.0 w.1 in
-            ap (is_departure m origin) w.2 ∙ departs-b origin any_row w.0 r.2 ∙ w.1
+            ap (is_departure (timed choice m) origin) w.2 ∙ departs-b origin any_row w.0 (has-b origin w.0 w.1) ∙ w.1
 
-    pub shares-joined : SharesJoined near a b
+    pub shares-joined : SharesJoined choice near a b
     shares-joined origin k w =
-        let from_a : is_departure a origin k ≡ true = ap (is_departure a origin) w.2 ∙ w.1 in
-        let ha = (departs-has a keys_a.trips origin any_row k from_a).2 in (
+        let from_a : is_departure (timed choice a) origin k ≡ true = ap (is_departure (timed choice a) origin) w.2 ∙ w.1 in
+        let ha = has-a origin k from_a in (
           λ v.
-              let hb = (departs-has b keys_b.trips origin any_row v.0 v.1).2 in
+              let hb = has-b origin v.0 v.1 in
               let e : k.trip ≡ trip_b near a b v.0.trip = ap (λ x. x.trip) v.2 in
               let s = renamed_into_a (ids kind.Trip a) (ids kind.Trip b) (joined_trip near a b) few_trips v.0.trip (subst (λ x. has_id (ids kind.Trip a) x ≡ true) e ha) in
               subst (λ x. joined_trip near a b x ≡ true) (sym (e ∙ s.0)) s.1,
@@ -130,5 +147,5 @@ module _ (near : Nearness) (a b : Content) (keys_a : HasKeys a) (keys_b : HasKey
               let hb = has_found trip_id_of b.trips k.trip r.1 r.3 in
               let stays = joined_stays (ids kind.Trip a) (ids kind.Trip b) (joined_trip near a b) few_trips k.trip j in
               let p : k ≡ key_with (trip_b near a b) k = λ i. record k { trip = sym stays i } in
-              (k, sym (departs-b origin any_row k hb) ∙ ap (is_departure m origin) (sym p) ∙ departs-a origin any_row k ha ∙ from_a, p),
+              (k, sym (departs-b origin any_row k hb) ∙ ap (is_departure (timed choice m) origin) (sym p) ∙ departs-a origin any_row k ha ∙ from_a, p),
         )

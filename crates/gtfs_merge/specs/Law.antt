@@ -4,6 +4,8 @@ use Rattle.gtfs_merge.specs.declared.kind.Kind.{Kind}
 use Rattle.gtfs_rows.specs.Rows.{Stop}
 use Rattle.gtfs_rows.specs.Content.{Content}
 use Rattle.gtfs_rows.specs.Key.{Key}
+use Rattle.gtfs_times.specs.Filling.{timed}
+use Rattle.gtfs_times.specs.declared.times.Times.{Times}
 use Rattle.gtfs_rows.specs.Departures.{Origins, is_departure}
 use Rattle.gtfs_rows.specs.Sound.{IsSound}
 use Rattle.gtfs_merge.specs.Renaming.{Renaming, Nearness, names_a, names_b, ids, joined_trip}
@@ -20,9 +22,9 @@ pub record IsNearness (near : Nearness) : Type 0 where
   pub alike : (r : Renaming) (y x : Stop) → near r y x ≡ true → (x.location_type ≡ y.location_type) × (x.parent_station ≡ option_map r y.parent_station)
 
 -- a departure of the merged feed is one of both feeds exactly where its trip is joined
-abbrev pub SharesExactly : Nearness → Content → Content → Type 0
-SharesExactly near a b = (origin : Origins) (k : Key) → is_departure (merged near a b) origin k ≡ true
-    → ((IsImage a origin (names_a a b) k × IsImage b origin (names_b near a b) k) ↔ (joined_trip near a b k.trip ≡ true))
+abbrev pub SharesExactly : Times → Nearness → Content → Content → Type 0
+SharesExactly times near a b = (origin : Origins) (k : Key) → is_departure (timed times (merged near a b)) origin k ≡ true
+    → ((IsImage (timed times a) origin (names_a a b) k × IsImage (timed times b) origin (names_b near a b) k) ↔ (joined_trip near a b k.trip ≡ true))
 
 -- what holds of each merge of two sound feeds
 abbrev pub ForSound : (Nearness → Content → Content → Type 0) → Type 0

@@ -4,6 +4,7 @@ use Rattle.gtfs_feed.specs.Content.{content_of}
 use Rattle.gtfs_rows.specs.Content.{Content}
 use Rattle.gtfs_merge.specs.Departures.{HasBoards, HasUnion}
 use Rattle.gtfs_merge.specs.Law.{SharesExactly}
+use Rattle.gtfs_times.specs.declared.times.Times.{Times}
 use Rattle.gtfs_merge.specs.Merged.{is_too_large, merged, zones_differ}
 use Rattle.gtfs_merge.specs.Names.{AllNames, AreApart, MeetWhereJoined, in_kind, new_id, of_side}
 use Rattle.gtfs_merge.specs.Renaming.{ids, joined_ids, name_of, names_a, names_b, never_near}
@@ -40,8 +41,8 @@ IsRefusal a b limit fault.ZoneDiffers = zones_differ a b ≡ true
 IsRefusal a b limit fault.TooLarge = (zones_differ a b ≡ false) × (is_too_large limit (merged never_near a b) ≡ true)
 IsRefusal a b limit fault.OutOfMemory = zones_differ a b ≡ false
 
--- what the merged content keeps: every departure of both feeds, and every board
+-- what the merged content keeps, with times as given and with times filled: every departure of both feeds, and every board
 pub record KeepsDepartures (a b : Content) : Type 0 where
-  pub union : HasUnion never_near a b
-  pub shares : SharesExactly never_near a b
-  pub boards : HasBoards never_near a b
+  pub union : (times : Times) → HasUnion times never_near a b
+  pub shares : (times : Times) → SharesExactly times never_near a b
+  pub boards : (times : Times) → HasBoards times never_near a b

@@ -3,13 +3,13 @@ use Rattle.gtfs_merge.proofs.MergeLaws.{merge-union, merge-shares-exactly, merge
 use Rattle.gtfs_merge.proofs.MergedSound.{merged-sound}
 
 pub returns-clause-union : goal.returns-clause-union
-returns-clause-union c near a b nearness sound_a sound_b few = merge-union near nearness a b sound_a sound_b few
+returns-clause-union c times near a b nearness sound_a sound_b few = merge-union times near nearness a b sound_a sound_b few
 
 pub returns-clause-shares : goal.returns-clause-shares
-returns-clause-shares c near a b nearness sound_a sound_b few = merge-shares-exactly near nearness a b sound_a sound_b few
+returns-clause-shares c times near a b nearness sound_a sound_b few = merge-shares-exactly times near nearness a b sound_a sound_b few
 
 pub returns-clause-boards : goal.returns-clause-boards
-returns-clause-boards c near a b nearness sound_a sound_b few = merge-boards near nearness a b sound_a sound_b few
+returns-clause-boards c times near a b nearness sound_a sound_b few = merge-boards times near nearness a b sound_a sound_b few
 
 pub returns-clause-sound : goal.returns-clause-sound
 returns-clause-sound c near a b nearness sound_a sound_b few = merged-sound near nearness a b sound_a sound_b few

@@ -17,7 +17,7 @@ returns-clause-departures c =
     let b = content_of_parts c.args.b.now in
     let few = λ (k : Kind). few-enough k a b (c.are_few.ensures k) in
     record {
-      union = merge-union never_near never-nearness a b c.soundness.ensures.content c.soundness-2.ensures.content few;
-      shares = merge-shares-exactly never_near never-nearness a b c.soundness.ensures.content c.soundness-2.ensures.content few;
-      boards = merge-boards never_near never-nearness a b c.soundness.ensures.content c.soundness-2.ensures.content few;
+      union = λ times. merge-union times never_near never-nearness a b c.soundness.ensures.content c.soundness-2.ensures.content few;
+      shares = λ times. merge-shares-exactly times never_near never-nearness a b c.soundness.ensures.content c.soundness-2.ensures.content few;
+      boards = λ times. merge-boards times never_near never-nearness a b c.soundness.ensures.content c.soundness-2.ensures.content few;
     }
