@@ -11,6 +11,8 @@ use gtfs_field::Day;
 use std::process::Abort;
 use std::test::Fail;
 
+const DAILY: [bool; 7] = [true; 7];
+
 // Holds that these rows stay of the service.
 fn assert_stay<R: Abort + AllocGlobal>(
     rt: &R,
@@ -30,7 +32,7 @@ fn assert_stay<R: Abort + AllocGlobal>(
 // A calendar row of every day from the one to the other.
 fn daily(start: Day, end: Day) -> Week {
     Week {
-        days: [true; 7],
+        days: DAILY,
         start,
         end,
     }
@@ -47,19 +49,28 @@ fn idle(day: Day) -> Week {
 
 #[test]
 fn rows_go_where_nothing_of_them_is_left(rt: HostRuntime) -> Result<(), Fail> {
-    let week = daily(april(1), april(2));
+    let week = Week {
+        days: DAILY,
+        start: april(1),
+        end: april(2),
+    };
     let third = [(april(3), Added)];
     let service = Service::new(rt.alloc(), Some(week), &third)?;
     let first = daily(april(1), april(1));
     assert_stay(&rt, &service, Cut::Before(april(2)), Some(&first), &[])?;
     assert_stay(&rt, &service, Cut::From(april(3)), None, &third)?;
     let never = Day::from_number(FIRST_SERVICE_DAY);
-    assert_stay(&rt, &service, Cut::Before(never), Some(&idle(never)), &[])
+    let no_days = idle(Day::from_number(FIRST_SERVICE_DAY));
+    assert_stay(&rt, &service, Cut::Before(never), Some(&no_days), &[])
 }
 
 #[test]
 fn a_trimmed_service_runs_in_its_part_alone(rt: HostRuntime) -> Result<(), Fail> {
-    let week = daily(april(1), april(2));
+    let week = Week {
+        days: DAILY,
+        start: april(1),
+        end: april(2),
+    };
     let service = Service::new(rt.alloc(), Some(week), &[(april(3), Added)])?;
     let before = service.trim(rt.alloc(), Cut::Before(april(2)))?;
     let from = service.trim(rt.alloc(), Cut::From(april(3)))?;
@@ -80,61 +91,79 @@ fn a_trimmed_service_runs_in_its_part_alone(rt: HostRuntime) -> Result<(), Fail>
     Ok(())
 }
 
-// A cut before a calendar row, at its first day, in it, at its last day and after it; exceptions on the day before the
-// cut, on it and after it, and an added day on each side of the row.
-#[test]
-fn rows_are_cut_at_the_day(rt: HostRuntime) -> Result<(), Fail> {
-    let all = [
+// A calendar row with exceptions before it, in it and after it.
+fn crossed(rt: &impl AllocGlobal) -> Result<Service, Fail> {
+    let week = Week {
+        days: DAILY,
+        start: april(8),
+        end: april(12),
+    };
+    let exceptions = [
         (april(7), Added),
         (april(9), Removed),
         (april(10), Removed),
         (april(11), Removed),
         (april(20), Added),
     ];
-    let whole = daily(april(8), april(12));
-    let service = Service::new(rt.alloc(), Some(whole), &all)?;
+    Ok(Service::new(rt.alloc(), Some(week), &exceptions)?)
+}
+
+// Of the exceptions on the day before the cut, on it and after it, each stays on its side.
+#[test]
+fn rows_are_cut_at_the_day(rt: HostRuntime) -> Result<(), Fail> {
+    let service = crossed(&rt)?;
     let early = daily(april(8), april(9));
-    assert_stay(
-        &rt,
-        &service,
-        Cut::Before(april(10)),
-        Some(&early),
-        &all[..2],
-    )?;
+    let before = [(april(7), Added), (april(9), Removed)];
+    assert_stay(&rt, &service, Cut::Before(april(10)), Some(&early), &before)?;
     let late = daily(april(10), april(12));
-    assert_stay(&rt, &service, Cut::From(april(10)), Some(&late), &all[2..])?;
-    assert_stay(&rt, &service, Cut::Before(april(8)), None, &all[..1])?;
-    assert_stay(&rt, &service, Cut::From(april(13)), None, &all[4..])?;
+    let from = [
+        (april(10), Removed),
+        (april(11), Removed),
+        (april(20), Added),
+    ];
+    assert_stay(&rt, &service, Cut::From(april(10)), Some(&late), &from)
+}
+
+// A calendar row that lies whole on the other side goes, and exceptions alone get none.
+#[test]
+fn exceptions_stay_without_a_calendar_row(rt: HostRuntime) -> Result<(), Fail> {
+    let service = crossed(&rt)?;
+    assert_stay(
+        &rt,
+        &service,
+        Cut::Before(april(8)),
+        None,
+        &[(april(7), Added)],
+    )?;
+    assert_stay(
+        &rt,
+        &service,
+        Cut::From(april(13)),
+        None,
+        &[(april(20), Added)],
+    )?;
     let last = daily(april(12), april(12));
-    assert_stay(&rt, &service, Cut::From(april(12)), Some(&last), &all[4..])?;
-    assert_stay(
-        &rt,
-        &service,
-        Cut::Before(april(13)),
-        Some(&whole),
-        &all[..4],
-    )?;
-    assert_stay(&rt, &service, Cut::From(april(7)), Some(&whole), &all)?;
-    assert_stay(
-        &rt,
-        &service,
-        Cut::Before(april(7)),
-        Some(&idle(april(7))),
-        &[],
-    )?;
-    assert_stay(
-        &rt,
-        &service,
-        Cut::From(april(21)),
-        Some(&idle(april(21))),
-        &[],
-    )
+    let twentieth = [(april(20), Added)];
+    assert_stay(&rt, &service, Cut::From(april(12)), Some(&last), &twentieth)
+}
+
+#[test]
+fn a_service_on_the_other_side_gets_an_idle_row(rt: HostRuntime) -> Result<(), Fail> {
+    let service = crossed(&rt)?;
+    let seventh = idle(april(7));
+    assert_stay(&rt, &service, Cut::Before(april(7)), Some(&seventh), &[])?;
+    let after = idle(april(21));
+    assert_stay(&rt, &service, Cut::From(april(21)), Some(&after), &[])
 }
 
 // An exception that removes a day is a row too, so no other stands for it.
 #[test]
 fn a_removed_day_alone_gets_no_calendar_row(rt: HostRuntime) -> Result<(), Fail> {
-    let week = daily(april(1), april(5));
+    let week = Week {
+        days: DAILY,
+        start: april(1),
+        end: april(5),
+    };
     let removed = [(april(10), Removed)];
     let service = Service::new(rt.alloc(), Some(week), &removed)?;
     assert_stay(&rt, &service, Cut::From(april(6)), None, &removed)
@@ -145,7 +174,11 @@ fn a_cut_at_the_first_and_the_last_service_day(rt: HostRuntime) -> Result<(), Fa
     let first = Day::from_number(FIRST_SERVICE_DAY);
     let last = Day::from_number(LAST_SERVICE_DAY);
     let end = Day::from_number(2_932_896);
-    let week = daily(first, end);
+    let week = Week {
+        days: DAILY,
+        start: first,
+        end,
+    };
     let service = Service::new(rt.alloc(), Some(week), &[(end, Added)])?;
     assert_stay(
         &rt,
@@ -164,19 +197,4 @@ fn a_cut_at_the_first_and_the_last_service_day(rt: HostRuntime) -> Result<(), Fa
         Some(&since),
         &[(end, Added)],
     )
-}
-
-// A service of 70,000 days, cut in the middle.
-#[test]
-fn many_days_are_cut(rt: HostRuntime) -> Result<(), Fail> {
-    let mut added = Vec::new(rt.alloc());
-    for number in 0..70_000 {
-        added.push((Day::from_number(number), Added))?;
-    }
-    let service = Service::new(rt.alloc(), None, added.as_slice())?;
-    let middle = Day::from_number(35_000);
-    let before = &added.as_slice()[..35_000];
-    let from = &added.as_slice()[35_000..];
-    assert_stay(&rt, &service, Cut::Before(middle), None, before)?;
-    assert_stay(&rt, &service, Cut::From(middle), None, from)
 }
