@@ -11,7 +11,7 @@ use gtfs_days::{LAST_SERVICE_DAY, Zone};
 use gtfs_feed::Feed;
 use gtfs_field::read_date;
 use gtfs_merge::{Kind, Options, merge};
-use gtfs_rules::check;
+use gtfs_rules::{Report, check};
 use gtfs_table::{DiskFolders, File, Folders, Tables, WriteOut};
 use std::hash::RandomState;
 use std::{fs, io};
@@ -32,10 +32,7 @@ fn read_feed(rt: &HostRuntime, dir: &str) -> Result<Feed> {
     let tables = Tables::read(alloc, &mut disk, dir).context(format_args!("reading {dir}"))?;
     // Finds every problem of these files. It has no other refusal.
     let report = check(alloc, &tables)?;
-    for problem in report.problems() {
-        let (code, file, row) = (problem.code, problem.file.as_str(), problem.row);
-        println!(rt; "{} {file}:{row} {}", code.name(), code.text())?;
-    }
+    print_problems(rt, &report)?;
     // Hands the files on where no problem is an error. Refused: one is.
     let Ok(passed) = report.passed() else {
         bail!("{dir} has errors");
@@ -43,6 +40,15 @@ fn read_feed(rt: &HostRuntime, dir: &str) -> Result<Feed> {
     // Makes a feed of them. It has no other refusal.
     let feed = Feed::new(alloc, RandomState::new(rt)?, &passed)?;
     Ok(feed)
+}
+
+/// Prints the problems of a report, a line each.
+fn print_problems(rt: &HostRuntime, report: &Report<'_>) -> Result<()> {
+    for problem in report.problems() {
+        let (code, file, row) = (problem.code, problem.file.as_str(), problem.row);
+        println!(rt; "{} {file}:{row} {}", code.name(), code.text())?;
+    }
+    Ok(())
 }
 
 /// The time zone in a file.
