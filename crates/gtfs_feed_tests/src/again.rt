@@ -25,7 +25,7 @@ pub(crate) fn assert_same(
     Ok(())
 }
 
-fn assert_same_file(
+pub(crate) fn assert_same_file(
     rt: &impl Abort,
     alloc: Global,
     feed: &Feed,
@@ -76,10 +76,19 @@ fn assert_reads_back<R: Abort + RandomSource>(
     changes: &[FileText],
 ) -> Result<(), Fail> {
     let feed = feed_with(rt, alloc, changes)?;
+    assert_feed_reads_back(rt, alloc, &feed)
+}
+
+// A feed that is written and read again is the same.
+pub(crate) fn assert_feed_reads_back<R: Abort + RandomSource>(
+    rt: &R,
+    alloc: Global,
+    feed: &Feed,
+) -> Result<(), Fail> {
     let mut folders = MemoryFolders::new(alloc, 10_000, None);
-    write_tables(rt, alloc, &feed, &mut folders)?;
+    write_tables(rt, alloc, feed, &mut folders)?;
     let other = read_feed(alloc, RandomState::new(rt)?, &mut folders, "again")?;
-    assert_same(rt, alloc, &feed, &other)
+    assert_same(rt, alloc, feed, &other)
 }
 
 #[test]
@@ -89,7 +98,11 @@ fn feeds_pass_and_read_back(rt: HostRuntime) -> Result<(), Fail> {
 }
 
 // How many problems the folder has, and whether it passes.
-fn problems(alloc: Global, folders: &mut MemoryFolders, dir: &str) -> Result<(usize, bool), Fail> {
+pub(crate) fn problems(
+    alloc: Global,
+    folders: &mut MemoryFolders,
+    dir: &str,
+) -> Result<(usize, bool), Fail> {
     let tables = Tables::read(alloc, folders, dir)?;
     let report = check(alloc, &tables)?;
     let count = report.problems().len();

@@ -2,16 +2,17 @@
 //!
 //! `rt try` builds with checks that make this take most of an hour; built for the gate it takes seconds.
 
-use crate::again::{assert_same, write_tables};
+use crate::again::{assert_same, assert_same_file, write_tables};
 use crate::assertions::assert_is;
 use crate::lanes::{Wanted, assert_lanes};
 use crate::named::stop_named;
+use crate::trimmed::{Side, assert_others, cut_at};
 use gtfs_feed::Feed;
 use gtfs_field::OutOfMemory;
 use gtfs_fixtures::read_feed;
 use gtfs_rows::{AgencyNo, RouteNo, ServiceNo, StopNo, TripNo};
 use gtfs_runs::{Event, Lane, ListLane, Steps, StopLanes, flat_events, patterns};
-use gtfs_table::MemoryFolders;
+use gtfs_table::{File, MemoryFolders};
 use std::alloc::Global;
 use std::hash::RandomState;
 use std::process::Abort;
@@ -261,6 +262,28 @@ fn assert_searched(rt: &impl Abort, alloc: Global, feed: &Feed) -> Result<(), Fa
     Ok(())
 }
 
+// Each service has a calendar row of 1 April and an exception of 2 April. On each side of the 2nd one of them stays.
+fn assert_trimmed<R: Abort + RandomSource>(
+    rt: &R,
+    alloc: Global,
+    feed: &Feed,
+) -> Result<(), Fail> {
+    for (side, kept, lost, header) in [
+        (Side::Before, File::Calendar, File::CalendarDates, 31),
+        (Side::From, File::CalendarDates, File::Calendar, 88),
+    ] {
+        let cut = cut_at(rt, side, "20240402");
+        let trimmed = feed.trimmed(alloc, RandomState::new(rt)?, cut)?;
+        assert_whole(rt, &trimmed);
+        assert_same_headsigns(rt, feed, &trimmed);
+        assert_others(rt, alloc, feed, &trimmed)?;
+        assert_same_file(rt, alloc, feed, &trimmed, kept)?;
+        let rest = trimmed.file_text(alloc, lost)?;
+        assert_is(rt, rest.len(), header, "bytes of the header");
+    }
+    Ok(())
+}
+
 #[test]
 fn a_large_feed_is_whole(rt: HostRuntime) -> Result<(), Fail> {
     let mut folders = large_folders(rt.alloc())?;
@@ -271,5 +294,6 @@ fn a_large_feed_is_whole(rt: HostRuntime) -> Result<(), Fail> {
         assert_case(&rt, rt.alloc(), &feed, case)?;
     }
     assert_searched(&rt, rt.alloc(), &feed)?;
+    assert_trimmed(&rt, rt.alloc(), &feed)?;
     assert_reads_back(&rt, rt.alloc(), &feed)
 }

@@ -10,6 +10,7 @@
 //!   from positions between its events, and `unions` all lanes of each stop together.
 //! - `large` has more rows of each kind than two bytes can number.
 //! - `times` has stop times between timepoints, filled (`gtfs_times`).
+//! - `trimmed` has feeds on one side of a service day.
 //! - `patterns` compares the patterns of a route with those that a slow plain search finds.
 //!
 //! The worked examples of runs, events and patterns stand in `proofs/`, as lemmas that compute.
@@ -41,6 +42,8 @@ mod rows;
 mod seeks;
 #[cfg(test)]
 mod times;
+#[cfg(test)]
+mod trimmed;
 #[cfg(test)]
 mod unions;
 #[cfg(test)]

@@ -17,6 +17,7 @@ pub mod Rows
 pub mod Runs
 pub mod Sound
 pub mod TransferEnds
+pub mod Trimmed
 pub mod Trips
 pub mod Written
 pub mod WrittenForm

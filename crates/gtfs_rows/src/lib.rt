@@ -6,6 +6,8 @@
 //!   rank of an id among all ids of its kind, by bytes, from 0. A row's own id is a text in the row.
 //! - [`StopRow`] and [`Frequency`] are small and `Copy`. A time that may be missing is an [`OptionalClock`] of four bytes,
 //!   and a headsign an [`OptionalHeadsign`], a number in the feed's list of headsigns.
+//! - [`Agency::under`], [`Stop::under`], [`Route::under`] and [`Trip::under`] copy a row under another id, with the rows
+//!   that it names there. [`ServiceRow::trim`] copies what stays of a service on one side of a service day.
 //! - [`Parts`] are all rows of a feed, each list in the order of its keys; [`stretch`] finds the rows of one trip.
 //!
 //! What a row stands for, with ids as texts, is in `specs/Views.antt`. `specs/Reading.antt` says what the content of a
@@ -15,6 +17,7 @@
 
 mod agency;
 mod choices;
+mod copies;
 mod frequency;
 mod numbers;
 mod optional;

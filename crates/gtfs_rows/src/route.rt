@@ -1,8 +1,10 @@
-ghost use Rattle.std.specs.Prelude.{◌≡◌, true};
+ghost use Rattle.std.specs.Prelude.{◌≡◌, IfOk, true};
 ghost use Rattle.gtfs_rows.specs.RouteTypes.{is_route_type};
 
+use crate::copies::{copied_if_any, own};
 use crate::numbers::AgencyNo;
-use gtfs_field::{Colour, Text};
+use gtfs_field::{Colour, OutOfMemory, Text};
+use std::alloc::Global;
 use std::marker::Model;
 
 /// The kind of transport of a route: a basic type, 0 to 7, 11 or 12, or an extended one, 100 to 1799
@@ -58,4 +60,28 @@ pub struct Route {
     pub route_text_color: Colour,
     /// 0 to 2,147,483,647.
     pub route_sort_order: Option<u32>,
+}
+
+impl Route {
+    /// The route under this id and of this agency, else the same.
+    ///
+    /// # Errors
+    /// `OutOfMemory` where a text cannot be copied.
+    pub fn under(&self, alloc: Global, id: &str, agency: AgencyNo) -> Result<Route, OutOfMemory>
+        ensures { IfOk result (λ other. other
+            ≡ record self.now { route_id = id.now; agency_id = agency }) }
+    {
+        Ok(Route {
+            route_id: own(alloc, id)?,
+            agency_id: agency,
+            route_short_name: copied_if_any(alloc, &self.route_short_name)?,
+            route_long_name: copied_if_any(alloc, &self.route_long_name)?,
+            route_desc: copied_if_any(alloc, &self.route_desc)?,
+            route_type: self.route_type,
+            route_url: copied_if_any(alloc, &self.route_url)?,
+            route_color: self.route_color,
+            route_text_color: self.route_text_color,
+            route_sort_order: self.route_sort_order,
+        })
+    }
 }

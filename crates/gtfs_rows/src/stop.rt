@@ -1,6 +1,10 @@
+ghost use Rattle.std.specs.Prelude.{◌≡◌, IfOk, OnOk};
+
 use crate::choices::{LocationType, WheelchairBoarding};
+use crate::copies::{copy_if_any, own};
 use crate::numbers::StopNo;
-use gtfs_field::{Coord, Text};
+use gtfs_field::{Coord, OutOfMemory, Text};
+use std::alloc::Global;
 
 /// A row of `stops.txt` (GTFS Schedule Reference, `stops.txt`).
 #[derive(Drop)]
@@ -18,4 +22,57 @@ pub struct Stop {
     pub parent_station: Option<StopNo>,
     pub wheelchair_boarding: WheelchairBoarding,
     pub platform_code: Option<Text>,
+}
+
+impl Stop {
+    /// The stop under this id and with this parent, else the same.
+    ///
+    /// # Errors
+    /// `OutOfMemory` where a text cannot be copied.
+    pub fn under(
+        &self,
+        alloc: Global,
+        id: &str,
+        parent: Option<StopNo>,
+    ) -> Result<Stop, OutOfMemory>
+        ensures { IfOk result (λ other. other
+            ≡ record self.now { stop_id = id.now; parent_station = parent }) }
+    {
+        let mut other = Stop {
+            stop_id: own(alloc, id)?,
+            stop_code: None,
+            stop_name: None,
+            tts_stop_name: None,
+            stop_desc: None,
+            stop_lat: self.stop_lat,
+            stop_lon: self.stop_lon,
+            stop_url: None,
+            location_type: self.location_type,
+            parent_station: parent,
+            wheelchair_boarding: self.wheelchair_boarding,
+            platform_code: None,
+        };
+        copy_texts(alloc, self, &mut other)?;
+        Ok(other)
+    }
+}
+
+// Gives a stop all texts of another but its id. It owns nothing that a refusal would let go.
+fn copy_texts(alloc: Global, stop: &Stop, other: &mut Stop) -> Result<(), OutOfMemory>
+    ensures { OnOk result (other.new ≡ record other.old {
+      stop_code = stop.now.stop_code;
+      stop_name = stop.now.stop_name;
+      tts_stop_name = stop.now.tts_stop_name;
+      stop_desc = stop.now.stop_desc;
+      stop_url = stop.now.stop_url;
+      platform_code = stop.now.platform_code;
+    }) }
+{
+    copy_if_any(alloc, &stop.stop_code, &mut other.stop_code)?;
+    copy_if_any(alloc, &stop.stop_name, &mut other.stop_name)?;
+    copy_if_any(alloc, &stop.tts_stop_name, &mut other.tts_stop_name)?;
+    copy_if_any(alloc, &stop.stop_desc, &mut other.stop_desc)?;
+    copy_if_any(alloc, &stop.stop_url, &mut other.stop_url)?;
+    copy_if_any(alloc, &stop.platform_code, &mut other.platform_code)?;
+    Ok(())
 }
