@@ -4,7 +4,7 @@ ghost use Rattle.gtfs_days.specs.Service.{is_service_day};
 ghost use Rattle.gtfs_feed.specs.Content.{content_of};
 ghost use Rattle.gtfs_rows.specs.Trimmed.{trimmed, trimmed_by_number, trimmed_parts};
 
-use crate::copied::copied;
+use crate::copied::copied_rows;
 use crate::feed::Feed;
 use gtfs_days::Cut;
 use gtfs_field::{List, OutOfMemory};
@@ -71,17 +71,17 @@ fn fill(
     requires { is_service_day (cut_day cut.now) ≡ true }
     ensures { OnOk result (trimmed.new ≡ trimmed_parts cut.now parts.now) }
 {
-    trimmed.agencies = copied(alloc, parts.agencies.as_slice())?;
-    trimmed.stops = copied(alloc, parts.stops.as_slice())?;
-    trimmed.routes = copied(alloc, parts.routes.as_slice())?;
+    trimmed.agencies = copied_rows(alloc, parts.agencies.as_slice())?;
+    trimmed.stops = copied_rows(alloc, parts.stops.as_slice())?;
+    trimmed.routes = copied_rows(alloc, parts.routes.as_slice())?;
     trimmed.services = trimmed_services(alloc, parts.services.as_slice(), cut)?;
-    trimmed.trips = copied(alloc, parts.trips.as_slice())?;
+    trimmed.trips = copied_rows(alloc, parts.trips.as_slice())?;
     trimmed.transfers = same(alloc, parts.transfers.as_slice())?;
     trimmed.stop_rows = same(alloc, parts.stop_rows.as_slice())?;
     trimmed.stop_row_starts = same(alloc, parts.stop_row_starts.as_slice())?;
     trimmed.frequencies = same(alloc, parts.frequencies.as_slice())?;
     trimmed.frequency_starts = same(alloc, parts.frequency_starts.as_slice())?;
-    trimmed.headsigns = copied(alloc, parts.headsigns.as_slice())?;
+    trimmed.headsigns = copied_rows(alloc, parts.headsigns.as_slice())?;
     Ok(())
 }
 

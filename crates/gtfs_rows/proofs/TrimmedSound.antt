@@ -1,19 +1,18 @@
 -- A sound feed, trimmed, is sound.
-use Rattle.std.proofs.Common.{◌≡◌, ◌∙◌, ◌<◌, ◌+◌, ℕ, zero, suc, Bool, true, false, not, List, [], ◌∷◌, ◌++◌, Some, None, Option, refl, sym, ap, subst, inl, inr, ◌⊎◌, map, filter, length, cond, bytes_eq, ℤ, pos, negsuc, ◌-ℤ◌, int_lt, int_le, true≢false, ne_eqb, arith}
-use Rattle.std.specs.Prelude.{◌&&◌, ◌||◌, ◌==◌, if◌then◌else◌, is_some, option_and_then, flat_map}
+use Rattle.std.proofs.Common.{◌≡◌, ◌∙◌, ◌+◌, ℕ, suc, Bool, true, false, not, List, [], ◌∷◌, ◌++◌, Some, None, Option, refl, sym, ap, subst, inl, inr, map, length, bytes_eq, ℤ, pos, negsuc, ◌-ℤ◌, int_lt, int_le, true≢false, ne_eqb, arith}
+use Rattle.std.specs.Prelude.{◌&&◌, ◌||◌, ◌==◌, if◌then◌else◌, is_some, option_and_then}
 use Rattle.std.specs.Int.{int_max, int_min}
-use Rattle.std.specs.List.{list_all, list_any}
+use Rattle.std.specs.List.{list_all}
 use Rattle.std.specs.Ordering.{int_cmp, on}
 use Rattle.std.specs.declared.cmp.Ordering.TheVariants.{Less}
 use Rattle.std.proofs.lemmas.Bool.{and_parts, and_from}
 use Rattle.std.proofs.lemmas.Int.{ints}
 use Rattle.std.proofs.lemmas.List.{length-append, length-map}
-use Rattle.std.proofs.lemmas.List.Concat.{flat_map-cons}
 use Rattle.std.proofs.lemmas.List.Kept.{AllPairs-filter}
 use Rattle.gtfs_field.proofs.ListFacts.{any_mapped}
 use Rattle.gtfs_field.specs.TextOrder.{text_cmp}
 use Rattle.gtfs_days.specs.Cut.{cut_day, cut_week, exceptions_in, is_in, no_days, trimmed_service, week_or}
-use Rattle.gtfs_days.specs.Service.{ServiceDates, is_service_day}
+use Rattle.gtfs_days.specs.Service.{is_service_day}
 use Rattle.gtfs_days.specs.declared.cut.Cut.{Cut}
 use Rattle.gtfs_days.specs.declared.cut.Cut.TheVariants.{Before, From}
 use Rattle.gtfs_days.specs.declared.exception.Exception.{Exception}
@@ -25,8 +24,8 @@ use Rattle.gtfs_columns.specs.Values.{amount}
 use Rattle.gtfs_rows.specs.Cells.{Cell, are_cells, is_between, is_cell, is_filled}
 use Rattle.gtfs_rows.specs.Content.{Content}
 use Rattle.gtfs_rows.specs.Order.{Ascends}
-use Rattle.gtfs_rows.specs.RowCells.{cells_in, exception_cells, exceptions_of, flag, held_by, week_cells, week_list, weeks_of}
-use Rattle.gtfs_rows.specs.Rows.{ServiceRow, Trip}
+use Rattle.gtfs_rows.specs.RowCells.{cells_in, exception_cells, exceptions_of, flag, week_cells, week_list, weeks_of}
+use Rattle.gtfs_rows.specs.Rows.{ServiceRow}
 use Rattle.gtfs_rows.specs.Sound.{IsInOrder, IsSound, has_id, if_given, is_sound_in, is_sound_period, is_sound_service, is_sound_trip, is_sound_week}
 use Rattle.gtfs_rows.specs.Trimmed.{trimmed, trimmed_row}
 use Rattle.gtfs_rows.proofs.Members.{In, In-filter, In-held, In-map, all-In, all-cells, all-from, cells-at, held-In, list_all-In, list_all-from}
