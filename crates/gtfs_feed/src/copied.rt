@@ -42,7 +42,10 @@ impl Copied for Text {
 }
 
 // The same rows once more.
-pub(crate) fn copied_rows<R: Copied + Drop>(alloc: Global, rows: &[R]) -> Result<List<R>, OutOfMemory>
+pub(crate) fn copied_rows<R: Copied + Drop>(
+    alloc: Global,
+    rows: &[R],
+) -> Result<List<R>, OutOfMemory>
     ensures { IfOk result (λ list. list ≡ rows.now) }
 {
     let mut list = Vec::with_capacity(alloc, rows.len())?;

@@ -21,12 +21,7 @@ impl Feed {
     ///
     /// # Errors
     /// `OutOfMemory` where memory is refused.
-    pub fn trimmed(
-        &self,
-        alloc: Global,
-        random: RandomState,
-        cut: Cut,
-    ) -> Result<Feed, OutOfMemory>
+    pub fn trimmed(&self, alloc: Global, random: RandomState, cut: Cut) -> Result<Feed, OutOfMemory>
         requires { is_service_day (cut_day cut) ≡ true }
         ensures { IfOk result (λ feed. content_of feed ≡ trimmed cut (content_of self.now)) }
     {
@@ -62,12 +57,7 @@ fn no_rows(alloc: Global) -> Parts {
 }
 
 // Fills the lists, which have one owner whichever of them finds no memory.
-fn fill(
-    alloc: Global,
-    parts: &Parts,
-    cut: &Cut,
-    trimmed: &mut Parts,
-) -> Result<(), OutOfMemory>
+fn fill(alloc: Global, parts: &Parts, cut: &Cut, trimmed: &mut Parts) -> Result<(), OutOfMemory>
     requires { is_service_day (cut_day cut.now) ≡ true }
     ensures { OnOk result (trimmed.new ≡ trimmed_parts cut.now parts.now) }
 {

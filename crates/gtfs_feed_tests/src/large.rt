@@ -263,11 +263,7 @@ fn assert_searched(rt: &impl Abort, alloc: Global, feed: &Feed) -> Result<(), Fa
 }
 
 // Each service has a calendar row of 1 April and an exception of 2 April. On each side of the 2nd one of them stays.
-fn assert_trimmed<R: Abort + RandomSource>(
-    rt: &R,
-    alloc: Global,
-    feed: &Feed,
-) -> Result<(), Fail> {
+fn assert_trimmed<R: Abort + RandomSource>(rt: &R, alloc: Global, feed: &Feed) -> Result<(), Fail> {
     for (side, kept, lost, header) in [
         (Side::Before, File::Calendar, File::CalendarDates, 31),
         (Side::From, File::CalendarDates, File::Calendar, 88),

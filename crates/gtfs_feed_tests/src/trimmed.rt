@@ -54,7 +54,8 @@ struct Case {
     wanted: Rows,
 }
 
-const CALENDAR: &str = "service_id,monday,tuesday,wednesday,thursday,friday,saturday,sunday,start_date,end_date\n";
+const CALENDAR: &str =
+    "service_id,monday,tuesday,wednesday,thursday,friday,saturday,sunday,start_date,end_date\n";
 
 const DATES: &str = "service_id,date,exception_type\n";
 

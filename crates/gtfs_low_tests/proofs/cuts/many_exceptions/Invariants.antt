@@ -1,7 +1,7 @@
-use Rattle.std.specs.Prelude.{All, ◌<ℤ◌}
-use Rattle.gtfs_days.specs.Service.{NamesEachDayOnce}
+use Rattle.std.specs.Prelude.{pos, ◌≤ℤ◌}
+use Rattle.gtfs_low_tests.proofs.ManyDays.{AreBefore}
 use Rattle.gtfs_low_tests.proofs.cuts.many_exceptions.Given as goal
 
--- no two of the exceptions so far are for one day, and all are for days before this one
+-- all exceptions so far are for days before this one, and no two are for one day
 abbrev pub invariant-loop-number : goal.invariant-loop-number
-invariant-loop-number l = NamesEachDayOnce l.exceptions.items × All (λ e. e.0 <ℤ l.number) l.exceptions.items
+invariant-loop-number l = (pos 0 ≤ℤ l.number) × AreBefore l.number l.exceptions.items
