@@ -1,4 +1,3 @@
-pub mod ManyDays
 mod WorkedCounts
 mod WorkedDays
 mod WorkedTables
