@@ -39,45 +39,37 @@ const WRITE: Option<FolderFault> = Some(FolderFault::Write);
 
 const MEMORY: Option<FolderFault> = Some(FolderFault::OutOfMemory);
 
-// A call that is refused, what is told then, how many calls failed, and how often files are opened, read, made and
-// written.
-type Refusal = (Call, Faults, u64, [u64; 4]);
+// What is told where a call is refused for this reason, how many calls failed, and how often files are opened, read,
+// made and written. Nothing is told as absent or as too large: what can be looked at is there. A file is made where
+// none is found, and memory is wanted of listings alone. No call is made again.
+fn wanted(call: Call, kind: ErrorKind) -> (Faults, u64, [u64; 4]) {
+    let all = [1, 6, 1, 1];
+    match (call, kind) {
+        (Call::OpenFolder | Call::List, ErrorKind::OutOfMemory) => ([MEMORY, None, None], 0, all),
+        (Call::OpenFolder | Call::List, _) => ([READ, None, None], 1, all),
+        (Call::Find, ErrorKind::NotFound) => ([None, READ, None], 1, [0, 0, 1, 1]),
+        (Call::Find, _) => ([None, READ, WRITE], 2, [0, 0, 0, 0]),
+        (Call::Look, _) => ([None, None, None], 0, all),
+        (Call::Open, _) => ([None, READ, None], 1, [1, 0, 1, 1]),
+        (Call::Read, _) => ([None, READ, None], 1, all),
+        (Call::Make, _) => ([None, None, WRITE], 1, [1, 6, 1, 0]),
+        (Call::Write, _) => ([None, None, WRITE], 1, all),
+    }
+}
 
-// For most reasons. Nothing is told as absent, as too large or as want of memory, and no call is made again.
-const REFUSED: &[Refusal] = &[
-    (Call::OpenFolder, [READ, None, None], 1, [1, 6, 1, 1]),
-    (Call::List, [READ, None, None], 1, [1, 6, 1, 1]),
-    (Call::Find, [None, READ, WRITE], 2, [0, 0, 0, 0]),
-    (Call::Look, [None, None, None], 0, [1, 6, 1, 1]),
-    (Call::Open, [None, READ, None], 1, [1, 0, 1, 1]),
-    (Call::Read, [None, READ, None], 1, [1, 6, 1, 1]),
-    (Call::Make, [None, None, WRITE], 1, [1, 6, 1, 0]),
-    (Call::Write, [None, None, WRITE], 1, [1, 6, 1, 1]),
-];
-
-// As not found. An entry that can be looked at is there, and cannot be read; a file is made where none is found.
-const NOT_FOUND: &[Refusal] = &[
-    (Call::OpenFolder, [READ, None, None], 1, [1, 6, 1, 1]),
-    (Call::List, [READ, None, None], 1, [1, 6, 1, 1]),
-    (Call::Find, [None, READ, None], 1, [0, 0, 1, 1]),
-    (Call::Open, [None, READ, None], 1, [1, 0, 1, 1]),
-    (Call::Read, [None, READ, None], 1, [1, 6, 1, 1]),
-    (Call::Make, [None, None, WRITE], 1, [1, 6, 1, 0]),
-];
-
-// For want of memory, which is told of a listing alone: a file of the system takes none of ours.
-const NO_MEMORY: &[Refusal] = &[
-    (Call::OpenFolder, [MEMORY, None, None], 0, [1, 6, 1, 1]),
-    (Call::List, [MEMORY, None, None], 0, [1, 6, 1, 1]),
-    (Call::Find, [None, READ, WRITE], 2, [0, 0, 0, 0]),
-    (Call::Open, [None, READ, None], 1, [1, 0, 1, 1]),
-];
-
-fn assert_refusals(rt: &impl Abort, system: HostRuntime, kind: ErrorKind, rows: &[Refusal]) {
-    for (call, faults, failures, counts) in rows {
-        let found = refusals(system, *call, kind);
-        let wanted = (*faults, *failures, *counts);
-        assert_is_at(rt, found, wanted, "refused", (*call, kind));
+fn assert_refusals(rt: &impl Abort, system: HostRuntime, kind: ErrorKind) {
+    for call in [
+        Call::OpenFolder,
+        Call::List,
+        Call::Find,
+        Call::Look,
+        Call::Open,
+        Call::Read,
+        Call::Make,
+        Call::Write,
+    ] {
+        let found = refusals(system, call, kind);
+        assert_is_at(rt, found, wanted(call, kind), "refused", (call, kind));
     }
 }
 
@@ -87,11 +79,11 @@ fn each_call_is_refused_once(rt: HostRuntime) {
         ErrorKind::PermissionDenied,
         ErrorKind::StorageFull,
         ErrorKind::TimedOut,
+        ErrorKind::NotFound,
+        ErrorKind::OutOfMemory,
     ] {
-        assert_refusals(&rt, rt, kind, REFUSED);
+        assert_refusals(&rt, rt, kind);
     }
-    assert_refusals(&rt, rt, ErrorKind::NotFound, NOT_FOUND);
-    assert_refusals(&rt, rt, ErrorKind::OutOfMemory, NO_MEMORY);
 }
 
 // What is neither a file nor a folder nor a device, as a named pipe.
