@@ -4,7 +4,7 @@ use Rattle.std.specs.Result.{IsErrAnd}
 use Rattle.std.proofs.lemmas.List.{take-append-le}
 use Rattle.std.specs.Io.KnownBytes.{Consumes, ReadConsumes, Keeps}
 use Rattle.std.proofs.KnownBytes.{Consumes-nil, Consumes-trans, Consumes-kept, Consumes-whole}
-use Rattle.gtfs_devices.specs.Disk.{RefusesFile}
+use Rattle.gtfs_devices.specs.Disk.{RefusesReading}
 use Rattle.gtfs_devices.specs.declared.folders.FolderFault.{FolderFault}
 use Rattle.gtfs_devices.specs.declared.folders.FolderFault.TheVariants.{Read, TooLarge, OutOfMemory}
 
@@ -38,9 +38,9 @@ not-large (Ok x) Large refused large = absurd refused
 not-large (Err fault) Large refused large = cc
 
 -- want of memory is a reason for which a file is not read
-pub refuses-memory : {A : Type 0} (r : Result A FolderFault) → IsErrAnd r (λ fault. fault ≡ OutOfMemory) → IfErr r RefusesFile
+pub refuses-memory : {A : Type 0} (r : Result A FolderFault) → IsErrAnd r (λ fault. fault ≡ OutOfMemory) → IfErr r RefusesReading
 refuses-memory (Ok x) refused = tt
-refuses-memory (Err fault) refused = subst RefusesFile (sym refused) tt
+refuses-memory (Err fault) refused = subst RefusesReading (sym refused) tt
 
 -- and then nothing was read
 pub none-read : {A : Type 0} (r : Result A FolderFault) (P : A → Type 0) → IsErrAnd r (λ fault. fault ≡ OutOfMemory) → IfOk r P

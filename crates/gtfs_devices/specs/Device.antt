@@ -9,6 +9,11 @@ counted count = min (count + 1) (2 ^ 64 - 1)
 abbrev pub Rises : ℕ → ℕ → Type 0
 Rises before after = counted before ≤ after
 
+-- the last thing that happened to an output was a write that failed; fails holds from the state before such a write to the one after it
+pub record FailsLast {O : Type 0} (fails : O → O → Type 0) (now : O) : Type 0 where
+  pub before : O
+  pub failed : fails before now
+
 -- the calls of a device that counts them: how many there were, at most 2 ^ 64 - 1, and the number of the one that fails, from 1
 pub record Calls : Type 0 where
   pub made : ℕ

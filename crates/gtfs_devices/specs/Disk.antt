@@ -1,8 +1,12 @@
 -- Folders on a disk, which tell nothing of what they hold: what their answers rest on.
-use Rattle.std.specs.Prelude.{ℕ, length, List, Option, None, ◌≡◌, ◌<◌, ◌≤◌, ⊤, IfSome}
+use Rattle.std.specs.Prelude.{ℕ, length, List, [], ◌∷◌, ◌++◌, Option, None, Some, Result, Ok, Err, ◌≡◌, ◌<◌, ◌≤◌, ◌⊎◌, ⊤, IfSome}
 use Rattle.std.specs.Io.KnownBytes.{Appends, Consumes}
 use Rattle.gtfs_devices.specs.Device.{counted, Calls}
 use Rattle.gtfs_devices.specs.Folder.{Store}
+use Rattle.std.specs.declared.io.ErrorKind.{ErrorKind}
+use Rattle.std.specs.declared.io.ErrorKind.TheVariants.{NotFound, OutOfMemory as no_memory}
+use Rattle.gtfs_devices.specs.declared.system.Entry.{Entry}
+use Rattle.gtfs_devices.specs.declared.system.Entry.TheVariants.{File, Folder, Device, Other}
 use Rattle.gtfs_devices.specs.declared.folders.FolderFault.{FolderFault}
 use Rattle.gtfs_devices.specs.declared.folders.FolderFault.TheVariants.{Read, TooLarge, OutOfMemory, NoFolder, Write}
 
@@ -74,6 +78,14 @@ RefusesFile OutOfMemory = ⊤
 RefusesFile NoFolder = ⊤
 RefusesFile Write = ⊥
 
+-- why a file that was opened is not read
+abbrev pub RefusesReading : FolderFault → Type 0
+RefusesReading Read = ⊤
+RefusesReading TooLarge = ⊤
+RefusesReading OutOfMemory = ⊤
+RefusesReading NoFolder = ⊥
+RefusesReading Write = ⊥
+
 -- why a file is not written
 abbrev pub RefusesStore : FolderFault → Type 0
 RefusesStore Read = ⊥
@@ -81,3 +93,85 @@ RefusesStore TooLarge = ⊥
 RefusesStore OutOfMemory = ⊤
 RefusesStore NoFolder = ⊥
 RefusesStore Write = ⊤
+
+-- why the names of a folder that is there are not listed
+abbrev pub RefusesListing : FolderFault → Type 0
+RefusesListing Read = ⊤
+RefusesListing TooLarge = ⊥
+RefusesListing OutOfMemory = ⊤
+RefusesListing NoFolder = ⊥
+RefusesListing Write = ⊥
+
+-- ---- what the system said before a disk told something; each relation is between a path and the answer
+
+-- the path of a folder's file
+abbrev pub path_in : List ℕ → List ℕ → List ℕ
+path_in dir name = dir ++ 47 ∷ name
+
+-- there is no folder of this path: it is empty, or it was not found and no entry has it
+abbrev pub LacksDir : {A : Type 0} → (List ℕ → Result A ErrorKind → Type 0) → (List ℕ → Result Entry ErrorKind → Type 0) → List ℕ → Type 0
+LacksDir asks looks dir = (dir ≡ []) ⊎ (asks dir (Err NotFound) × looks dir (Err NotFound))
+
+-- the folder is there, and has no file of this path: it was not found, and no entry has it
+abbrev pub LacksFile : (List ℕ → Result Entry ErrorKind → Type 0) → (List ℕ → Result Entry ErrorKind → Type 0) → List ℕ → List ℕ → Type 0
+LacksFile finds looks dir path = finds path (Err NotFound) × looks path (Err NotFound) × finds dir (Ok Folder)
+
+-- a file or a device, which alone is opened
+abbrev pub IsOpenable : Entry → Type 0
+IsOpenable File = ⊤
+IsOpenable Folder = ⊥
+IsOpenable Device = ⊤
+IsOpenable Other = ⊥
+
+-- what is written: a file or a device, or what is not there yet
+abbrev pub IsWritable : Result Entry ErrorKind → Type 0
+IsWritable (Ok entry) = IsOpenable entry
+IsWritable (Err kind) = kind ≡ NotFound
+
+-- this file of the path was just opened, when what there is had been found to be a file or a device
+pub record IsOpened {F : Type 0} (finds : List ℕ → Result Entry ErrorKind → Type 0) (opens : List ℕ → Result F ErrorKind → Type 0) (path : List ℕ) (file : F) : Type 0 where
+  pub entry : Entry
+  pub found : finds path (Ok entry)
+  pub openable : IsOpenable entry
+  pub opened : opens path (Ok file)
+
+-- what a folder has under a path is a file that was just opened, or the folder lacks it
+abbrev pub OpensOrLacks : {F : Type 0} → (List ℕ → Result Entry ErrorKind → Type 0) → (List ℕ → Result Entry ErrorKind → Type 0) → (List ℕ → Result F ErrorKind → Type 0) → List ℕ → List ℕ → Option F → Type 0
+OpensOrLacks finds looks opens dir path None = LacksFile finds looks dir path
+OpensOrLacks finds looks opens dir path (Some file) = IsOpened finds opens path file
+
+-- these bytes are all that was left in a file which was just opened
+pub record ReadsOpened {F : Type 0} (finds : List ℕ → Result Entry ErrorKind → Type 0) (opens : List ℕ → Result F ErrorKind → Type 0) (remaining : F → Option (List ℕ)) (path bytes : List ℕ) : Type 0 where
+  pub file : F
+  pub opened : IsOpened finds opens path file
+  pub all : IfSome (remaining file) (λ left. bytes ≡ left)
+
+-- what is read of a folder's path is such bytes, or the folder lacks it
+abbrev pub ReadsOrLacks : {F : Type 0} → (List ℕ → Result Entry ErrorKind → Type 0) → (List ℕ → Result Entry ErrorKind → Type 0) → (List ℕ → Result F ErrorKind → Type 0) → (F → Option (List ℕ)) → List ℕ → List ℕ → Option (List ℕ) → Type 0
+ReadsOrLacks finds looks opens remaining dir path None = LacksFile finds looks dir path
+ReadsOrLacks finds looks opens remaining dir path (Some bytes) = ReadsOpened finds opens remaining path bytes
+
+-- a file that was just opened gave more bytes than the limit
+pub record OverflowsOpened {F : Type 0} (finds : List ℕ → Result Entry ErrorKind → Type 0) (opens : List ℕ → Result F ErrorKind → Type 0) (remaining : F → Option (List ℕ)) (path : List ℕ) (limit : ℕ) : Type 0 where
+  pub before : F
+  pub after : F
+  pub opened : IsOpened finds opens path before
+  pub more : GivesMoreThan limit (remaining before) (remaining after)
+
+-- a file that was just made took all these bytes, where there had been a file, a device or nothing
+pub record FillsMade {F : Type 0} (finds : List ℕ → Result Entry ErrorKind → Type 0) (makes : List ℕ → Result F ErrorKind → Type 0) (contents : F → Option (List ℕ)) (path bytes : List ℕ) : Type 0 where
+  pub answer : Result Entry ErrorKind
+  pub found : finds path answer
+  pub writable : IsWritable answer
+  pub before : F
+  pub after : F
+  pub made : makes path (Ok before)
+  pub taken : Appends (contents before) (contents after) bytes
+
+-- what is told of a folder whose listing was refused for this: absence where it is not found and has no entry, want of memory where that was the reason
+abbrev pub TellsUnlisted : (List ℕ → Result Entry ErrorKind → Type 0) → List ℕ → ErrorKind → FolderFault → Type 0
+TellsUnlisted looks dir kind Read = ⊤
+TellsUnlisted looks dir kind TooLarge = ⊥
+TellsUnlisted looks dir kind OutOfMemory = kind ≡ no_memory
+TellsUnlisted looks dir kind NoFolder = (kind ≡ NotFound) × looks dir (Err NotFound)
+TellsUnlisted looks dir kind Write = ⊥

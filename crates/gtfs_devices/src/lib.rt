@@ -25,7 +25,9 @@
 //! themselves in `specs/Device.antt`.
 #![tactic(auto)]
 
+mod disk_files;
 mod disk_folders;
+mod disk_names;
 mod folders;
 mod memory_files;
 mod memory_folders;
@@ -33,6 +35,7 @@ mod memory_out;
 mod memory_store;
 mod output;
 mod read_within;
+mod system;
 mod write_out;
 mod write_whole;
 

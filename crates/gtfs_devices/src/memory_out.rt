@@ -57,6 +57,9 @@ impl Out for MemoryOut {
 
     ghost failure_count = { λ out. out.failures };
 
+    ghost fails = { λ old new.
+        (old.left ≡ 0) × (new ≡ record old { failures = counted old.failures }) };
+
     /// Takes as many bytes as still fit, at most the whole text. Fails exactly where the text has bytes
     /// and none fits.
     fn write(&mut self, text: &[u8]) -> Result<usize, Failed>
@@ -66,6 +69,10 @@ impl Out for MemoryOut {
         ensures moves { IfOk result (λ n. 0 < length text.now → 0 < n) }
         ensures nothing { OnErr result (Keeps (Some self.old.text) (Some self.new.text)) }
         ensures counted { OnErr result (Rises self.old.failures self.new.failures) }
+        ensures once { OnErr result (self.new.failures ≡ counted self.old.failures) }
+        ensures failed { OnErr result
+            ((self.old.left ≡ 0)
+            × (self.new ≡ record self.old { failures = counted self.old.failures })) }
         ensures grows { self.old.failures ≤ self.new.failures }
         ensures no_failure { OnOk result (self.new.failures ≡ self.old.failures) }
 

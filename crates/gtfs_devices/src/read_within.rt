@@ -1,5 +1,5 @@
 ghost use Rattle.std.specs.Prelude.{◌≡◌, ◌≤◌, ◌<◌, ◌+◌, length, vec_len, IfOk, IfErr, IfSome, IsErrOf};
-ghost use Rattle.gtfs_devices.specs.Disk.{RefusesFile, GivesAtMost, GivesMoreThan};
+ghost use Rattle.gtfs_devices.specs.Disk.{RefusesReading, GivesAtMost, GivesMoreThan};
 
 use crate::folders::FolderFault;
 use std::alloc::Global;
@@ -25,7 +25,7 @@ pub(crate) fn read_within<F: Read>(
     ensures large { IsErrOf result FolderFault.TooLarge
         → GivesMoreThan limit (F.remaining file.old) (F.remaining file.new) }
     ensures takes { GivesAtMost (limit + 1) (F.remaining file.old) (F.remaining file.new) }
-    ensures faults { IfErr result RefusesFile }
+    ensures faults { IfErr result RefusesReading }
 {
     let mut bytes = Vec::with_capacity(alloc, size)?;
     let mut chunk = [0u8; CHUNK];

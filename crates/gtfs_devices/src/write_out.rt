@@ -81,6 +81,8 @@ impl<W: Write> Out for WriteOut<W> {
 
     ghost failure_count = { λ out. out.1 };
 
+    ghost fails = { λ old new. Keeps (W.contents old.0) (W.contents new.0) × (new.1 ≡ counted old.1) };
+
     /// Hands the text to the writer once, and again where a signal interrupted it. A writer that takes
     /// nothing of a text that has bytes fails.
     fn write(&mut self, text: &[u8]) -> Result<usize, Failed>
@@ -90,10 +92,12 @@ impl<W: Write> Out for WriteOut<W> {
         ensures moves { IfOk result (λ n. 0 < length text.now → 0 < n) }
         ensures nothing { OnErr result (Keeps (W.contents self.old.0) (W.contents self.new.0)) }
         ensures counted { OnErr result (Rises self.old.1 self.new.1) }
+        ensures once { OnErr result (self.new.1 ≡ counted self.old.1) }
+        ensures failed { OnErr result
+            (Keeps (W.contents self.old.0) (W.contents self.new.0)
+            × (self.new.1 ≡ counted self.old.1)) }
         ensures grows { self.old.1 ≤ self.new.1 }
         ensures no_failure { OnOk result (self.new.1 ≡ self.old.1) }
-
-        ensures err { OnErr result (self.new.1 ≡ counted self.old.1) }
     {
         match write_some(&mut self.writer, text) {
             Some(count) => Ok(count),

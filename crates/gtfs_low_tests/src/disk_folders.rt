@@ -300,7 +300,9 @@ fn write_where_it_fails(
     assert_unwritable(rt, alloc, folders, below.as_str(), "stops.txt");
     assert_unwritable(rt, alloc, folders, base, "folder");
     assert_unwritable(rt, alloc, folders, "/dev/null", "a");
-    assert_is(rt, folders.failures(), 4, "failures");
+    assert_unwritable(rt, alloc, folders, "/dev", "full");
+    assert_is(rt, folders.failures(), 5, "failures");
+    folders.write(alloc, "/dev", "null", b"lost")?;
     let is_kept = has_file(alloc, folders, base, "file", b"kept")?;
     assert_that(rt, is_kept, "the file is kept");
     Ok(())
@@ -327,7 +329,11 @@ fn assert_limit(
     base: &str,
 ) -> Result<(), Fail> {
     let too_large = Err(FolderFault::TooLarge);
-    for (len, wanted) in [(100_000, Ok(Some(100_000))), (100_001, too_large)] {
+    for (len, wanted) in [
+        (100_000, Ok(Some(100_000))),
+        (100_001, too_large),
+        (1_000_000_000_000, too_large),
+    ] {
         make_sparse(system, base, len)?;
         let found = read_len(system.alloc(), folders, base, "sparse");
         assert_is_at(rt, found, wanted, "read of a file of length", len);
@@ -343,6 +349,81 @@ fn a_file_is_read_up_to_the_limit(rt: HostRuntime) -> Result<(), Fail> {
     let base = make_folder(&rt, "limit")?;
     let mut disk = DiskFolders::with_limits(&rt, 100_000, 1_000_000);
     assert_limit(&rt, &rt, &mut disk, base.as_str())?;
+    fs::remove_dir_all(&rt, base.as_str())?;
+    Ok(())
+}
+
+// More bytes than many a buffer has, all but the last of them sparse.
+fn assert_large(
+    rt: &impl Abort,
+    system: &HostRuntime,
+    folders: &mut impl Folders,
+    base: &str,
+) -> Result<(), Fail> {
+    make_sparse(system, base, 70_000_000)?;
+    let found = read_len(system.alloc(), folders, base, "sparse");
+    assert_is(rt, found, Ok(Some(70_000_000)), "length");
+    assert_is(rt, folders.failures(), 0, "failures");
+    Ok(())
+}
+
+#[test]
+fn a_file_of_seventy_megabytes_is_read_whole(rt: HostRuntime) -> Result<(), Fail> {
+    let base = make_folder(&rt, "large")?;
+    assert_large(&rt, &rt, &mut DiskFolders::new(&rt), base.as_str())?;
+    fs::remove_dir_all(&rt, base.as_str())?;
+    Ok(())
+}
+
+// Beside a folder of files another one, with links to that folder, to a file of it, to a device and to nothing, and a
+// name that begins with a dot.
+fn make_links(rt: &HostRuntime, folders: &mut impl Folders, base: &str) -> Result<(), Fail> {
+    let alloc = rt.alloc();
+    let real = format!(in alloc; "{base}/real")?;
+    let links = format!(in alloc; "{base}/links")?;
+    folders.write(alloc, real.as_str(), "stops.txt", b"stop_id\nS1\n")?;
+    folders.write(alloc, links.as_str(), ".hidden", b"")?;
+    for (name, to) in [
+        ("folder", "../real"),
+        ("stops.txt", "folder/stops.txt"),
+        ("empty", "/dev/null"),
+        ("lost", "nowhere"),
+    ] {
+        let link = format!(in alloc; "{base}/links/{name}")?;
+        std::os::unix::fs::symlink(rt, to, link.as_str())?;
+    }
+    Ok(())
+}
+
+fn assert_links(
+    rt: &impl Abort,
+    system: &HostRuntime,
+    folders: &mut impl Folders,
+    base: &str,
+) -> Result<(), Fail> {
+    let alloc = system.alloc();
+    make_links(system, folders, base)?;
+    let links = format!(in alloc; "{base}/links")?;
+    let names = [".hidden", "empty", "folder", "lost", "stops.txt"];
+    assert_names(rt, alloc, folders, links.as_str(), &names)?;
+    let real = format!(in alloc; "{base}/links/folder")?;
+    assert_names(rt, alloc, folders, real.as_str(), &["stops.txt"])?;
+    for (dir, name, bytes) in [
+        (real.as_str(), "stops.txt", b"stop_id\nS1\n".as_slice()),
+        (links.as_str(), "stops.txt", b"stop_id\nS1\n"),
+        (links.as_str(), "empty", b""),
+    ] {
+        let is_kept = has_file(alloc, folders, dir, name, bytes);
+        assert_is_at(rt, is_kept, Ok(true), "read through a link", name);
+    }
+    assert_is(rt, folders.failures(), 0, "failures");
+    Ok(())
+}
+
+#[test]
+fn links_are_listed_and_followed(rt: HostRuntime) -> Result<(), Fail> {
+    let base = make_folder(&rt, "links")?;
+    assert_links(&rt, &rt, &mut DiskFolders::new(&rt), base.as_str())?;
     fs::remove_dir_all(&rt, base.as_str())?;
     Ok(())
 }

@@ -113,25 +113,45 @@ fn a_writer_may_be_interrupted_often(rt: HostRuntime) {
     assert_is(&rt, writer.text.as_slice(), b"departure", "bytes");
 }
 
-// Takes nothing at its first call, for this fault or for none, and at each later one all that it is handed.
+// Takes nothing at one call, for this fault or for none. At each call before it it takes up to four bytes, and at each
+// one after it all that it is handed.
 #[derive(Drop)]
 struct FailsOnce {
     text: Vec<u8>,
     fault: Option<ErrorKind>,
-    called: bool,
+    // The number of the call that fails, from 1.
+    failing: u32,
+    calls: u32,
+}
+
+impl FailsOnce {
+    fn new(alloc: Global, fault: Option<ErrorKind>, failing: u32) -> FailsOnce {
+        FailsOnce {
+            text: Vec::new(alloc),
+            fault,
+            failing,
+            calls: 0,
+        }
+    }
 }
 
 impl Write for FailsOnce {
     fn write(&mut self, buf: &[u8]) -> io::Result<usize> {
-        if self.called {
-            self.text.extend_from_slice(buf)?;
-            return Ok(buf.len());
+        self.calls = self.calls.saturating_add(1);
+        if self.calls == self.failing {
+            return match self.fault {
+                Some(kind) => Err(Error::from(kind)),
+                None => Ok(0),
+            };
         }
-        self.called = true;
-        match self.fault {
-            Some(kind) => Err(Error::from(kind)),
-            None => Ok(0),
-        }
+        let most = if self.calls < self.failing {
+            4
+        } else {
+            usize::MAX
+        };
+        let count = buf.len().min(most);
+        self.text.extend_from_slice(&buf[..count])?;
+        Ok(count)
     }
 
     fn flush(&mut self) -> io::Result<()> {
@@ -139,13 +159,17 @@ impl Write for FailsOnce {
     }
 }
 
+const FAULTS: &[Option<ErrorKind>] = &[
+    Some(ErrorKind::TimedOut),
+    Some(ErrorKind::WouldBlock),
+    Some(ErrorKind::BrokenPipe),
+    Some(ErrorKind::StorageFull),
+    None,
+];
+
 // A failed write is not tried again: what the next one hands over is all that the writer takes.
 fn assert_fails_once(rt: &impl Abort, alloc: Global, fault: Option<ErrorKind>) {
-    let mut writer = FailsOnce {
-        text: Vec::new(alloc),
-        fault,
-        called: false,
-    };
+    let mut writer = FailsOnce::new(alloc, fault, 1);
     let mut out = WriteOut::new(&mut writer);
     for taken in [Err(Failed), Ok(9)] {
         assert_is_at(rt, out.write(b"departure"), taken, "taken after", fault);
@@ -157,13 +181,29 @@ fn assert_fails_once(rt: &impl Abort, alloc: Global, fault: Option<ErrorKind>) {
 
 #[test]
 fn a_writer_may_fail_once(rt: HostRuntime) {
-    for fault in [
-        Some(ErrorKind::TimedOut),
-        Some(ErrorKind::WouldBlock),
-        Some(ErrorKind::BrokenPipe),
-        None,
-    ] {
-        assert_fails_once(&rt, rt.alloc(), fault);
+    for fault in FAULTS {
+        assert_fails_once(&rt, rt.alloc(), *fault);
+    }
+}
+
+// The text ends at the write that failed, though the writer would take more: nothing is handed over after it.
+fn assert_ends_where_it_failed(rt: &impl Abort, alloc: Global, fault: Option<ErrorKind>) {
+    for (failing, written) in [(1, 0), (2, 4), (3, 8)] {
+        let mut writer = FailsOnce::new(alloc, fault, failing);
+        let mut out = WriteOut::new(&mut writer);
+        let told = write_text(&mut out, b"departure");
+        assert_is_at(rt, told, Err(OutFault { written }), "told after", fault);
+        assert_is_at(rt, out.failures(), 1, "failures after", fault);
+        let text = writer.text.as_slice();
+        assert_is_at(rt, text, &b"departure"[..written], "bytes after", fault);
+        assert_is_at(rt, writer.calls, failing, "calls after", fault);
+    }
+}
+
+#[test]
+fn a_text_ends_at_the_write_that_failed(rt: HostRuntime) {
+    for fault in FAULTS {
+        assert_ends_where_it_failed(&rt, rt.alloc(), *fault);
     }
 }
 

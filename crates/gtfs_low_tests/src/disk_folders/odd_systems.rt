@@ -1,44 +1,131 @@
 //! Folders of a file system that stands in for the real one: what it refuses, lists and gives is up to the test.
 use super::make_folder;
-use super::stand_in::{Drip, StandIn};
+use super::stand_in::{Call, Counts, Drip, StandIn};
 use crate::assertions::{assert_is, assert_is_at};
 use crate::device::{has_file, listed, read_len};
 use gtfs_table::{DiskFolders, FolderFault, Folders};
 use std::alloc::Global;
-use std::cell::Cell;
 use std::fs;
 use std::io::ErrorKind;
 use std::process::Abort;
 use std::test::Fail;
 
-// Why nothing of these folders can be listed, read and written, and how many calls failed.
-fn faults_of(alloc: Global, folders: &mut impl Folders) -> ([Option<FolderFault>; 3], u64) {
+// Why the folder f1 is not listed, and its file is not read and not written.
+type Faults = [Option<FolderFault>; 3];
+
+fn faults_of(alloc: Global, folders: &mut impl Folders) -> (Faults, u64) {
     let faults = [
         listed(alloc, folders, "f1").err(),
         read_len(alloc, folders, "f1", "stops.txt").err(),
-        folders.write(alloc, "f1", "stops.txt", b"").err(),
+        folders.write(alloc, "f1", "stops.txt", b"S1").err(),
     ];
     (faults, folders.failures())
 }
 
-// The faults of a system that refuses for this reason, and how many calls failed.
-fn refusals(rt: HostRuntime, kind: ErrorKind) -> ([Option<FolderFault>; 3], u64) {
-    let system = StandIn::refusing(rt, kind);
-    faults_of(rt.alloc(), &mut DiskFolders::new(&system))
+// Where a call is refused for this reason, the faults, how many calls failed, and the counts of the system.
+fn refusals(rt: HostRuntime, call: Call, kind: ErrorKind) -> (Faults, u64, [u64; 4]) {
+    let counts = Counts::new();
+    let system = StandIn {
+        refusal: Some((call, kind)),
+        ..StandIn::with_file(rt, Drip::new(rt, &counts, b"stops"))
+    };
+    let (faults, failures) = faults_of(rt.alloc(), &mut DiskFolders::new(&system));
+    (faults, failures, counts.get())
 }
 
-#[test]
-fn what_is_refused_is_not_absent(rt: HostRuntime) {
-    let read = Some(FolderFault::Read);
-    for kind in [ErrorKind::PermissionDenied, ErrorKind::TimedOut] {
-        let wanted = ([read, read, Some(FolderFault::Write)], 3);
-        assert_is_at(&rt, refusals(rt, kind), wanted, "refusals for", kind);
+const READ: Option<FolderFault> = Some(FolderFault::Read);
+
+const WRITE: Option<FolderFault> = Some(FolderFault::Write);
+
+const MEMORY: Option<FolderFault> = Some(FolderFault::OutOfMemory);
+
+// What is told where a call is refused for this reason, how many calls failed, and how often files are opened, read,
+// made and written. Nothing is told as absent or as too large: what can be looked at is there. A file is made where
+// none is found, and memory is wanted of listings alone. No call is made again.
+fn wanted(call: Call, kind: ErrorKind) -> (Faults, u64, [u64; 4]) {
+    let all = [1, 6, 1, 1];
+    match (call, kind) {
+        (Call::OpenFolder | Call::List, ErrorKind::OutOfMemory) => ([MEMORY, None, None], 0, all),
+        (Call::OpenFolder | Call::List, _) => ([READ, None, None], 1, all),
+        (Call::Find, ErrorKind::NotFound) => ([None, READ, None], 1, [0, 0, 1, 1]),
+        (Call::Find, _) => ([None, READ, WRITE], 2, [0, 0, 0, 0]),
+        (Call::Look, _) => ([None, None, None], 0, all),
+        (Call::Open, _) => ([None, READ, None], 1, [1, 0, 1, 1]),
+        (Call::Read, _) => ([None, READ, None], 1, all),
+        (Call::Make, _) => ([None, None, WRITE], 1, [1, 6, 1, 0]),
+        (Call::Write, _) => ([None, None, WRITE], 1, all),
     }
 }
 
+fn assert_refusals(rt: &impl Abort, system: HostRuntime, kind: ErrorKind) {
+    for call in [
+        Call::OpenFolder,
+        Call::List,
+        Call::Find,
+        Call::Look,
+        Call::Open,
+        Call::Read,
+        Call::Make,
+        Call::Write,
+    ] {
+        let found = refusals(system, call, kind);
+        assert_is_at(rt, found, wanted(call, kind), "refused", (call, kind));
+    }
+}
+
+#[test]
+fn each_call_is_refused_once(rt: HostRuntime) {
+    for kind in [
+        ErrorKind::PermissionDenied,
+        ErrorKind::StorageFull,
+        ErrorKind::TimedOut,
+        ErrorKind::NotFound,
+        ErrorKind::OutOfMemory,
+    ] {
+        assert_refusals(&rt, rt, kind);
+    }
+}
+
+// What is neither a file nor a folder nor a device, as a named pipe.
+#[test]
+fn a_pipe_is_never_opened(rt: HostRuntime) {
+    let counts = Counts::new();
+    let system = StandIn {
+        is_file: false,
+        ..StandIn::with_file(rt, Drip::new(rt, &counts, b"stops"))
+    };
+    let found = faults_of(rt.alloc(), &mut DiskFolders::new(&system));
+    assert_is(&rt, found, ([None, READ, WRITE], 2), "faults and failures");
+    assert_is(&rt, counts.get(), [0; 4], "opens, reads, makes and writes");
+}
+
+// What is told of a write to a file that takes so many bytes a call, and how often it is made and written.
+fn written_by(rt: HostRuntime, takes: usize) -> (Option<FolderFault>, [u64; 4]) {
+    let counts = Counts::new();
+    let file = Drip {
+        takes,
+        ..Drip::new(rt, &counts, b"")
+    };
+    let system = StandIn::with_file(rt, file);
+    let mut disk = DiskFolders::new(&system);
+    let written = disk.write(rt.alloc(), "f1", "stops.txt", b"stop_id\n");
+    (written.err(), counts.get())
+}
+
+#[test]
+fn a_file_is_made_once_and_written_until_it_takes_nothing(rt: HostRuntime) {
+    assert_is(&rt, written_by(rt, 8), (None, [0, 0, 1, 1]), "all");
+    assert_is(&rt, written_by(rt, 3), (None, [0, 0, 1, 3]), "three bytes");
+    assert_is(&rt, written_by(rt, 0), (WRITE, [0, 0, 1, 1]), "nothing");
+}
+
 fn assert_not_found(rt: &impl Abort, alloc: Global, folders: &mut impl Folders) {
-    let names = listed(alloc, folders, "f1");
-    assert_is(rt, names, Err(FolderFault::NoFolder), "names");
+    for dir in ["f2", "f2/", "f1/f2"] {
+        let names = listed(alloc, folders, dir);
+        assert_is_at(rt, names, Err(FolderFault::NoFolder), "names of", dir);
+        let file = read_len(alloc, folders, dir, "stops.txt");
+        assert_is_at(rt, file, Err(FolderFault::NoFolder), "file of", dir);
+    }
     let file = read_len(alloc, folders, "f1", "stops.txt");
     assert_is(rt, file, Ok(None), "file");
     assert_is(rt, folders.failures(), 0, "failures");
@@ -47,7 +134,8 @@ fn assert_not_found(rt: &impl Abort, alloc: Global, folders: &mut impl Folders) 
 // No entry has the name: the system says so by NotFound alone.
 #[test]
 fn what_is_not_found_is_absent(rt: HostRuntime) {
-    let system = StandIn::refusing(rt, ErrorKind::NotFound);
+    let counts = Counts::new();
+    let system = StandIn::with_names(rt, &counts, b"", 0);
     assert_not_found(&rt, rt.alloc(), &mut DiskFolders::new(&system));
 }
 
@@ -63,7 +151,8 @@ fn listed_of(
     names: &'static [u8],
     times: usize,
 ) -> (Result<usize, FolderFault>, u64) {
-    let system = StandIn::with_names(rt, names, times);
+    let counts = Counts::new();
+    let system = StandIn::with_names(rt, &counts, names, times);
     count_names(rt.alloc(), &mut DiskFolders::new(&system))
 }
 
@@ -88,21 +177,19 @@ fn read_drip(
     rt: HostRuntime,
     limit: u64,
     left: &'static [u8],
-    fault: Option<ErrorKind>,
+    read_fault: Option<ErrorKind>,
     told: &str,
 ) -> (Result<bool, FolderFault>, u64) {
-    let reads = Cell::new(0);
+    let counts = Counts::new();
     let file = Drip {
-        rt,
-        left,
-        fault,
-        reads: &reads,
+        read_fault,
         told,
+        ..Drip::new(rt, &counts, left)
     };
     let system = StandIn::with_file(rt, file);
     let mut disk = DiskFolders::with_limits(&system, limit, 0);
     let is_whole = has_file(rt.alloc(), &mut disk, "f1", "stops.txt", left);
-    (is_whole, reads.get())
+    (is_whole, counts.reads())
 }
 
 fn assert_told(rt: &impl Abort, system: HostRuntime, told: &str) -> Result<(), Fail> {
