@@ -147,7 +147,16 @@ fn open<'a, 'w>(
         from: values.from.instant(alloc, zone)?,
         until: values.until.instant(alloc, zone)?,
     };
-    match Board::open(alloc, feed, zone, words.stop, span, values.after.as_ref()) {
+    let opened = Board::open(
+        alloc,
+        feed,
+        zone,
+        words.stop,
+        span,
+        values.after.as_ref(),
+        values.times,
+    );
+    match opened {
         Ok(board) => Ok(board),
         Err(BoardFault::UnknownStop) => Err(Refusal::UnknownStop),
         Err(BoardFault::BadSpan) => Err(Refusal::UntilBeforeFrom),
