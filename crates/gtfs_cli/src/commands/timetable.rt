@@ -15,7 +15,7 @@ use crate::commands::feed::read_feed;
 use crate::commands::refusal::Refusal;
 use crate::commands::send::send;
 use crate::commands::timetable_values::{TimetableValues, read_timetable_values};
-use gtfs_board::{Feed, Sheet, TableFault, push_sheet, timetable};
+use gtfs_board::{Feed, Sheet, TableFault, Times, push_sheet, timetable};
 use gtfs_table::{Folders, Out};
 use gtfs_words::TimetableWords;
 use std::alloc::Global;
@@ -87,7 +87,7 @@ fn sheets_of<'a, 'w>(
     ensures refused { IfErr result (λ refusal. (before after : ℕ)
         → IsSheetsCause (content_of feed.now) route.now before after refusal) }
 {
-    match timetable(alloc, feed, route, values.direction, values.day) {
+    match timetable(alloc, feed, route, values.direction, values.day, Times::Given) {
         Ok(sheets) => Ok(sheets),
         Err(TableFault::UnknownRoute) => Err(Refusal::UnknownRoute),
         Err(TableFault::OutOfMemory) => Err(Refusal::OutOfMemory),
