@@ -21,7 +21,7 @@ use crate::span::Span;
 use gtfs_days::Zone;
 use gtfs_field::OutOfMemory;
 use gtfs_rows::StopNo;
-use gtfs_runs::{Feed, StopLanes};
+use gtfs_runs::{Feed, StopLanes, Times};
 use std::alloc::Global;
 use std::marker::Model;
 use std::mem::size_of;
@@ -147,7 +147,7 @@ impl<'a> Board<'a> {
             (option_map (λ k. plain_key k.now) after.entry)) }
     {
         feed.soundness();
-        let (lanes, steps) = StopLanes::build(alloc, feed, stop)?;
+        let (lanes, steps) = StopLanes::build(alloc, feed, stop, Times::Given)?;
         let days = Days::new(alloc, feed, zone, lanes, span.until - 1);
         let floor = floor_of(feed, days.count(), span.from, after);
         let departures = Merge::open(alloc, days, floor, steps)?;

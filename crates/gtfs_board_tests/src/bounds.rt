@@ -6,7 +6,7 @@ use gtfs_board::{Key, Span};
 use gtfs_feed::Feed;
 use gtfs_field::OutOfMemory;
 use gtfs_rows::StopNo;
-use gtfs_runs::StopLanes;
+use gtfs_runs::{StopLanes, Times};
 use std::alloc::Global;
 use std::process::Abort;
 
@@ -34,7 +34,7 @@ impl Bounds {
     ) -> Result<Bounds, OutOfMemory>
         requires { stop.0 < length feed.now.stops }
     {
-        let (lanes, _steps) = StopLanes::build(alloc, feed, stop)?;
+        let (lanes, _steps) = StopLanes::build(alloc, feed, stop, Times::Given)?;
         let count = lanes.lists().len() as u64;
         let start = match after {
             Some(key) => span.from.max(key.instant),

@@ -6,7 +6,7 @@ use gtfs_days::Zone;
 use gtfs_feed::Feed;
 use gtfs_field::{Day, Text};
 use gtfs_rows::{ExactTimes, HeadsignNo, RouteNo, ServiceNo, StopNo, StopRow, TripNo};
-use gtfs_runs::{Event, flat_events};
+use gtfs_runs::{Event, Times, flat_events};
 use std::alloc::Global;
 use std::test::Fail;
 
@@ -37,7 +37,7 @@ pub(crate) fn plain_keys(
 ) -> Result<Vec<PlainKey>, Fail>
     requires { stop.0 < length feed.now.stops }
 {
-    let events = flat_events(alloc, feed, stop)?;
+    let events = flat_events(alloc, feed, stop, Times::Given)?;
     let mut keys = Vec::new(alloc);
     for number in 0..feed.service_count() {
         let service = ServiceNo(number);

@@ -2,7 +2,7 @@
 
 use crate::assertions::{assert_holds, assert_is, assert_text};
 use crate::plain_sheets::{Asked, plain_sheets};
-use gtfs_board::{Sheet, TableFault, push_sheet, timetable};
+use gtfs_board::{Sheet, TableFault, Times, push_sheet, timetable};
 use gtfs_feed::Feed;
 use gtfs_field::{Clock, read_date};
 use gtfs_fixtures::{FileText, feed_with, made_feed};
@@ -205,7 +205,7 @@ const LAST: &[Case] = &[
 fn sheets_text(alloc: Global, feed: &Feed, asked: &Asked<'_>) -> Result<String, Fail> {
     let day = read_date(asked.date)?;
     let mut text = String::new(alloc);
-    for sheet in &timetable(alloc, feed, asked.route, asked.direction, day)? {
+    for sheet in &timetable(alloc, feed, asked.route, asked.direction, day, Times::Given)? {
         push_sheet(alloc, &mut text, sheet)?;
     }
     Ok(text)
@@ -321,7 +321,7 @@ fn text_len(alloc: Global, sheet: &Sheet<'_>) -> Result<usize, Fail> {
 #[test]
 fn a_sheet_has_a_run_each_second_of_a_day(rt: HostRuntime) -> Result<(), Fail> {
     let feed = feed_with(&rt, rt.alloc(), EACH_SECOND)?;
-    let sheets = timetable(rt.alloc(), &feed, "R1", None, read_date("20240401")?)?;
+    let sheets = timetable(rt.alloc(), &feed, "R1", None, read_date("20240401")?, Times::Given)?;
     let [sheet] = sheets.as_slice() else {
         panic!(rt; "{} sheets", sheets.len());
     };
@@ -346,7 +346,7 @@ fn assert_each_second(rt: &impl Abort, sheet: &Sheet<'_>) {
 // How a timetable of the small dataset is refused, if it is.
 fn refused(alloc: Global, feed: &Feed, asked: &Asked<'_>) -> Result<Option<TableFault>, Fail> {
     let day = read_date(asked.date)?;
-    match timetable(alloc, feed, asked.route, asked.direction, day) {
+    match timetable(alloc, feed, asked.route, asked.direction, day, Times::Given) {
         Ok(_) => Ok(None),
         Err(fault) => Ok(Some(fault)),
     }

@@ -9,7 +9,7 @@ use crate::{ids, patterns};
 use gtfs_feed::Feed;
 use gtfs_fixtures::{FileText, feed_with, made_feed};
 use gtfs_rows::ServiceNo;
-use gtfs_runs::{Event, flat_events};
+use gtfs_runs::{Event, Times, flat_events};
 use std::alloc::Global;
 use std::process::Abort;
 use std::random::RandomSource;
@@ -416,7 +416,7 @@ fn assert_cases<R: Abort + RandomSource>(
 
 fn assert_case(rt: &impl Abort, alloc: Global, feed: &Feed, case: &Case) -> Result<(), Fail> {
     let stop = stop_named(rt, feed, case.stop);
-    let events = flat_events(alloc, feed, stop)?;
+    let events = flat_events(alloc, feed, stop, Times::Given)?;
     let text = shown(alloc, feed, &events)?;
     assert_is(rt, text.as_str(), case.events, case.what);
     assert_lanes(rt, alloc, feed, stop, case.lanes, case.what)?;
@@ -475,7 +475,7 @@ fn a_run_each_second_of_a_day_is_one_lane(rt: HostRuntime) -> Result<(), Fail> {
 
 fn assert_each_second(rt: &impl Abort, alloc: Global, feed: &Feed) -> Result<(), Fail> {
     let stop = stop_named(rt, feed, "S1");
-    let events = flat_events(alloc, feed, stop)?;
+    let events = flat_events(alloc, feed, stop, Times::Given)?;
     assert_is(rt, events.len(), 86_400, "events");
     let wanted = Wanted {
         lists: 0,

@@ -4,7 +4,7 @@ use crate::assertions::{assert_holds, assert_is};
 use gtfs_feed::Feed;
 use gtfs_field::OutOfMemory;
 use gtfs_rows::{ServiceNo, StopNo, TripNo};
-use gtfs_runs::{Event, Lane, Seek, Steps, StopLanes, flat_events};
+use gtfs_runs::{Event, Lane, Seek, Steps, StopLanes, Times, flat_events};
 use std::alloc::Global;
 use std::process::Abort;
 use std::test::Fail;
@@ -101,7 +101,7 @@ pub(crate) fn assert_lanes(
     what: &str,
 ) -> Result<(), Fail> {
     assert!(rt; stop.0 < feed.stop_count());
-    let (lanes, mut steps) = StopLanes::build(alloc, feed, stop)?;
+    let (lanes, mut steps) = StopLanes::build(alloc, feed, stop, Times::Given)?;
     let found = Wanted {
         lists: lanes.lists().len(),
         periods: lanes.periods().len(),
@@ -110,7 +110,7 @@ pub(crate) fn assert_lanes(
     assert_is(rt, found, wanted, what);
     assert_is(rt, steps.count(), 0, what);
     let events = walk_all(rt, alloc, feed, &lanes, &mut steps)?;
-    assert_holds(rt, events == flat_events(alloc, feed, stop)?, what);
+    assert_holds(rt, events == flat_events(alloc, feed, stop, Times::Given)?, what);
     let calls = events.len().saturating_mul(3);
     let calls = calls
         .saturating_add(wanted.lists)

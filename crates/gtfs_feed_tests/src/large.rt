@@ -10,7 +10,7 @@ use gtfs_feed::Feed;
 use gtfs_field::OutOfMemory;
 use gtfs_fixtures::read_feed;
 use gtfs_rows::{AgencyNo, RouteNo, ServiceNo, StopNo, TripNo};
-use gtfs_runs::{Event, Lane, ListLane, Steps, StopLanes, flat_events, patterns};
+use gtfs_runs::{Event, Lane, ListLane, Steps, StopLanes, Times, flat_events, patterns};
 use gtfs_table::MemoryFolders;
 use std::alloc::Global;
 use std::hash::RandomState;
@@ -249,8 +249,8 @@ fn assert_next(
 // The one lane of the trips V finds what follows an event, however long it is.
 fn assert_searched(rt: &impl Abort, alloc: Global, feed: &Feed) -> Result<(), Fail> {
     let stop = stop_named(rt, feed, "S100002");
-    let events = flat_events(alloc, feed, stop)?;
-    let (lanes, mut steps) = StopLanes::build(alloc, feed, stop)?;
+    let events = flat_events(alloc, feed, stop, Times::Given)?;
+    let (lanes, mut steps) = StopLanes::build(alloc, feed, stop, Times::Given)?;
     let [lane] = lanes.lists() else {
         panic!(rt; "{} lists", lanes.lists().len());
     };

@@ -4,7 +4,7 @@ ghost use Rattle.std.specs.Prelude.{◌<◌, length};
 use crate::assertions::assert_is;
 use gtfs_feed::Feed;
 use gtfs_rows::{ServiceNo, StopNo, TripNo};
-use gtfs_runs::{Event, Lane, Seek, Steps, StopLanes, flat_events};
+use gtfs_runs::{Event, Lane, Seek, Steps, StopLanes, Times, flat_events};
 use std::alloc::Global;
 use std::process::Abort;
 use std::test::Fail;
@@ -107,8 +107,8 @@ fn around(event: &Event) -> [Seek; 9] {
 fn assert_union(rt: &impl Abort, alloc: Global, feed: &Feed, stop: StopNo) -> Result<(), Fail>
     requires { stop.0 < length feed.now.stops }
 {
-    let events = flat_events(alloc, feed, stop)?;
-    let (lanes, mut steps) = StopLanes::build(alloc, feed, stop)?;
+    let events = flat_events(alloc, feed, stop, Times::Given)?;
+    let (lanes, mut steps) = StopLanes::build(alloc, feed, stop, Times::Given)?;
     for (_, event) in &events {
         for seek in around(event) {
             for number in 0..feed.service_count() {
