@@ -11,7 +11,7 @@ pub(super) const DIR: &str = "The folder of the feed";
 
 // What help says of the flag that fills times in.
 pub(super) const INTERPOLATE: &str =
-    "Give stop times without times some, at an even pace between those that have times";
+    "Fill in missing times, at an even pace between the given ones";
 
 // A command that is given no texts yet; help ends with notes.
 pub(super) fn new_command<'w>(
