@@ -13,7 +13,7 @@ use crate::commands::folder::of_folder;
 use crate::commands::paths::cut_path;
 use crate::commands::refusal::Refusal;
 use crate::commands::values::{Values, read_values};
-use gtfs_board::{Board, BoardFault, Feed, PageFault, Span, write_page};
+use gtfs_board::{Board, BoardFault, Feed, PageFault, Span, Times, write_page};
 use gtfs_days::{Zone, ZoneFault};
 use gtfs_table::{Folders, Out};
 use gtfs_words::BoardWords;
@@ -147,7 +147,7 @@ fn open<'a, 'w>(
         from: values.from.instant(alloc, zone)?,
         until: values.until.instant(alloc, zone)?,
     };
-    match Board::open(alloc, feed, zone, words.stop, span, values.after.as_ref()) {
+    match Board::open(alloc, feed, zone, words.stop, span, values.after.as_ref(), Times::Given) {
         Ok(board) => Ok(board),
         Err(BoardFault::UnknownStop) => Err(Refusal::UnknownStop),
         Err(BoardFault::BadSpan) => Err(Refusal::UntilBeforeFrom),
