@@ -38,3 +38,5 @@ mod SheetPatterns
 mod SheetRuns
 mod SheetStarts
 mod Sheets
+mod TimedRows
+mod TimedSheets

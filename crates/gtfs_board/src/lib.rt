@@ -33,8 +33,7 @@ mod span;
 
 pub use board::{Board, BoardFault};
 pub use departure::{Departure, Mark};
-pub use gtfs_runs::Feed;
-pub use gtfs_times::Times;
+pub use gtfs_runs::{Feed, Times};
 pub use key::{Key, push_key, read_key};
 pub use law::boards_are_one;
 pub use line::push_line;

@@ -6,7 +6,7 @@ use crate::assertions::{assert_holds, assert_is};
 use crate::bounds::Bounds;
 use crate::cases::Case;
 use crate::plain::{PlainKey, plain_keys, trip_shown};
-use gtfs_board::{Board, Key, Span, push_line, read_key, write_page};
+use gtfs_board::{Board, Key, Span, Times, push_line, read_key, write_page};
 use gtfs_days::Zone;
 use gtfs_feed::Feed;
 use gtfs_fixtures::{Clocks, FileText, feed_with, made_feed};
@@ -102,7 +102,15 @@ impl<'a> Opening<'a> {
     }
 
     fn board_above(&self, alloc: Global, after: Option<&Key<'_>>) -> Result<Board<'a>, Fail> {
-        Ok(Board::open(alloc, self.feed, self.zone, self.stop, self.span, after)?)
+        Ok(Board::open(
+            alloc,
+            self.feed,
+            self.zone,
+            self.stop,
+            self.span,
+            after,
+            Times::Given,
+        )?)
     }
 
     /// The lines of what is left of a board.

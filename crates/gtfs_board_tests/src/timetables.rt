@@ -321,7 +321,14 @@ fn text_len(alloc: Global, sheet: &Sheet<'_>) -> Result<usize, Fail> {
 #[test]
 fn a_sheet_has_a_run_each_second_of_a_day(rt: HostRuntime) -> Result<(), Fail> {
     let feed = feed_with(&rt, rt.alloc(), EACH_SECOND)?;
-    let sheets = timetable(rt.alloc(), &feed, "R1", None, read_date("20240401")?, Times::Given)?;
+    let sheets = timetable(
+        rt.alloc(),
+        &feed,
+        "R1",
+        None,
+        read_date("20240401")?,
+        Times::Given,
+    )?;
     let [sheet] = sheets.as_slice() else {
         panic!(rt; "{} sheets", sheets.len());
     };

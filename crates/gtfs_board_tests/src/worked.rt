@@ -3,7 +3,7 @@
 use crate::assertions::{assert_holds, assert_is, assert_page, assert_text};
 use crate::cases::{ALL, CHANGING, Case, END_OF_2011, LATE, OTHERS, PLAIN};
 use crate::opening::{Fixture, Opening};
-use gtfs_board::{Board, BoardFault, Span, read_key};
+use gtfs_board::{Board, BoardFault, Span, Times, read_key};
 use gtfs_days::Zone;
 use gtfs_feed::Feed;
 use gtfs_fixtures::{Clocks, feed_with};
@@ -104,7 +104,7 @@ fn what_waits_and_is_asked_is_bounded(rt: HostRuntime) -> Result<(), Fail> {
 
 // How a board of these is refused, if it is.
 fn refused(alloc: Global, feed: &Feed, zone: &Zone, stop: &str, span: Span) -> Option<BoardFault> {
-    match Board::open(alloc, feed, zone, stop, span, None) {
+    match Board::open(alloc, feed, zone, stop, span, None, Times::Given) {
         Ok(_) => None,
         Err(fault) => Some(fault),
     }

@@ -16,8 +16,8 @@ use crate::sheet::times::time_among;
 use crate::sheet::turning::turned;
 use gtfs_field::{Clock, OutOfMemory};
 use gtfs_rows::StopRow;
-use gtfs_runs::Feed;
-use gtfs_times::{Times, filled, is_to_fill};
+use gtfs_runs::{Feed, Times};
+use gtfs_times::{filled, is_to_fill};
 use std::alloc::Global;
 
 // The times of the runs at each of this many stop times, which are filled.

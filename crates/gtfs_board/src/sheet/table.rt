@@ -15,8 +15,7 @@ use crate::sheet::{Sheet, TableFault};
 use crate::showing::{stop_id, trip_id};
 use gtfs_field::{Day, OutOfMemory};
 use gtfs_rows::{RouteNo, StopNo};
-use gtfs_runs::{Feed, Pattern, patterns};
-use gtfs_times::Times;
+use gtfs_runs::{Feed, Pattern, Times, patterns};
 use std::alloc::Global;
 
 /// The timetable of a route on a day: a sheet for each direction and list of stops along which a trip of the route runs on

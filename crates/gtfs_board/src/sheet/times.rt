@@ -16,8 +16,7 @@ use crate::sheet::by_run::filled_times;
 use crate::sheet::columns::{Column, leaves, seconds_left};
 use gtfs_field::{Clock, OutOfMemory};
 use gtfs_rows::StopRow;
-use gtfs_runs::Feed;
-use gtfs_times::Times;
+use gtfs_runs::{Feed, Times};
 use std::alloc::Global;
 
 // The times of the runs at each of this many stop times.

@@ -3,7 +3,7 @@ use Rattle.gtfs_rows.specs.Views.{content_of_parts}
 use Rattle.gtfs_board.specs.SheetSteps.{column_times, time_of_column}
 use Rattle.gtfs_board.proofs.SheetColumns.{shown-upto}
 use Rattle.gtfs_board.proofs.SheetLists.{ranged-more}
-use Rattle.gtfs_board.proofs.sheet.times.times.Goals as goal
+use Rattle.gtfs_board.proofs.sheet.times.given_times.Goals as goal
 
 pub times_at-requires : goal.times_at-requires
 times_at-requires c = λ k d h. shown-upto c.args.feed.now c.args.stop_count c.loop-position.position _ (c.requires k d h) c.loop-position-test.true

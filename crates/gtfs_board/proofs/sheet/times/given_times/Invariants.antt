@@ -1,7 +1,7 @@
 use Rattle.std.proofs.Common.{◌≡◌, map}
 use Rattle.gtfs_rows.specs.Views.{content_of_parts}
 use Rattle.gtfs_board.specs.SheetSteps.{column_times}
-use Rattle.gtfs_board.proofs.sheet.times.times.Given as goal
+use Rattle.gtfs_board.proofs.sheet.times.given_times.Given as goal
 
 -- the times at the positions so far
 abbrev pub invariant-loop-position : goal.invariant-loop-position

@@ -1,0 +1,9 @@
+use Rattle.std.proofs.Common.{get_or, None}
+use Rattle.gtfs_runs.proofs.Pushes.{mapped-all, pushed-more}
+use Rattle.gtfs_board.proofs.sheet.turning.times_across.Goals as goal
+
+pub loop-line-preserved : goal.loop-line-preserved
+loop-line-preserved c = ?
+
+pub returns : goal.returns
+returns c = mapped-all (λ line. get_or line.items c.args.place None) c.args.lines.now c.loop-line.line-index _ c.loop-line-test.false c.loop-line.invariant
