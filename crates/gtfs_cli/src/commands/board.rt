@@ -147,7 +147,15 @@ fn open<'a, 'w>(
         from: values.from.instant(alloc, zone)?,
         until: values.until.instant(alloc, zone)?,
     };
-    match Board::open(alloc, feed, zone, words.stop, span, values.after.as_ref(), Times::Given) {
+    match Board::open(
+        alloc,
+        feed,
+        zone,
+        words.stop,
+        span,
+        values.after.as_ref(),
+        Times::Given,
+    ) {
         Ok(board) => Ok(board),
         Err(BoardFault::UnknownStop) => Err(Refusal::UnknownStop),
         Err(BoardFault::BadSpan) => Err(Refusal::UntilBeforeFrom),

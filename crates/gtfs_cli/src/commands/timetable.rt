@@ -87,7 +87,14 @@ fn sheets_of<'a, 'w>(
     ensures refused { IfErr result (λ refusal. (before after : ℕ)
         → IsSheetsCause (content_of feed.now) route.now before after refusal) }
 {
-    match timetable(alloc, feed, route, values.direction, values.day, Times::Given) {
+    match timetable(
+        alloc,
+        feed,
+        route,
+        values.direction,
+        values.day,
+        Times::Given,
+    ) {
         Ok(sheets) => Ok(sheets),
         Err(TableFault::UnknownRoute) => Err(Refusal::UnknownRoute),
         Err(TableFault::OutOfMemory) => Err(Refusal::OutOfMemory),
