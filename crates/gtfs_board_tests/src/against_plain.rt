@@ -90,12 +90,13 @@ fn boards_above_keys_are_the_ends_of_plain_lists(rt: HostRuntime) -> Result<(), 
         from: 1_325_030_400,
         until: 1_325_462_400,
     };
-    for (number, clocks) in [(6, Clocks::GoesBack), (7, Clocks::SkipsADay)] {
+    for (number, clocks, times) in [
+        (6, Clocks::GoesBack, Times::Given),
+        (7, Clocks::SkipsADay, Times::Interpolated),
+    ] {
         let fixture = Fixture::made(&rt, rt.alloc(), number, clocks)?;
-        let opening = fixture.opening("P", span);
-        for times in [Times::Given, Times::Interpolated] {
-            assert_above_keys(&rt, rt.alloc(), &opening.under(times))?;
-        }
+        let opening = fixture.opening("P", span).under(times);
+        assert_above_keys(&rt, rt.alloc(), &opening)?;
     }
     Ok(())
 }

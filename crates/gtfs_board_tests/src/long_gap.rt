@@ -5,7 +5,8 @@ use crate::opening::Fixture;
 use gtfs_board::{Sheet, Span, Times, timetable};
 use gtfs_feed::Feed;
 use gtfs_field::{Clock, read_date};
-use gtfs_fixtures::{Clocks, folders_of, read_feed};
+use gtfs_fixtures::{Clocks, FEED, read_feed};
+use gtfs_table::MemoryFolders;
 use std::alloc::Global;
 use std::hash::RandomState;
 use std::process::Abort;
@@ -30,7 +31,10 @@ fn rows(alloc: Global) -> Result<String, Fail> {
 
 fn feed_of_rows<R: RandomSource>(rt: &R, alloc: Global) -> Result<Feed, Fail> {
     let text = rows(alloc)?;
-    let mut folders = folders_of(alloc, &[])?;
+    let mut folders = MemoryFolders::new(alloc, 2_000_000, None);
+    for (name, small) in &FEED {
+        folders.put("f1", name, small.as_bytes())?;
+    }
     folders.put("f1", "stop_times.txt", text.as_bytes())?;
     read_feed(alloc, RandomState::new(rt)?, &mut folders, "f1")
 }
