@@ -212,46 +212,6 @@ day_there d h =
     let both = and_parts (int_le first_service_day d) (int_le d last_service_day) h in
     (int_le-true first_service_day d both.0, int_le-true d last_service_day both.1)
 
--- ---- lanes by number
-
-got_left : {X : Type 0} (xs ys : List X) (i : ℕ) (d x : X) → slice_get xs i ≡ Some x → get_or (xs ++ ys) i d ≡ x
-got_left [] ys i d x at = cc
-got_left (z ∷ xs) ys zero d x at = ap (λ o. unwrap_or o z) at
-got_left (z ∷ xs) ys (suc i) d x at = got_left xs ys i d x at
-
-got_right : {X : Type 0} (xs ys : List X) (i : ℕ) (d : X) → length xs ≤ i → get_or (xs ++ ys) i d ≡ get_or ys (i - length xs) d
-got_right [] ys i d past = ap (λ n. get_or ys n d) (omega arith)
-got_right (z ∷ xs) ys zero d past = absurd (omega (arith, past))
-got_right (z ∷ xs) ys (suc i) d past = got_right xs ys i d (omega (arith, past)) ∙ ap (λ n. get_or ys n d) (omega arith)
-
--- first the lists
-pub lane_list : {A : Type 0} (f : A → LaneValue) (xs : List A) (lanes : StopLanesValue) (i : ℕ) (x : A) → map f xs ≡ lanes.lists → slice_get xs i ≡ Some x → lane_at lanes i ≡ f x
-lane_list f xs lanes i x lists at = got_left lanes.lists lanes.periods i no_lane (f x) (subst (λ ls. slice_get ls i ≡ Some (f x)) lists (mapped_at f xs i x at))
-
-pub lane_got : {A : Type 0} (f : A → LaneValue) (xs : List A) (lanes : StopLanesValue) (i : ℕ) (x : A) → map f xs ≡ lanes.lists → i < length xs → x ≡ get_or xs i x → lane_at lanes i ≡ f x
-lane_got f xs lanes i x lists inside is = lane_list f xs lanes i x lists (slice_get-get_or xs i x inside ∙ ap Some (sym is))
-
--- and then the periods
-pub lane_period : {A B : Type 0} (g : B → LaneValue) (f : A → LaneValue) (ys : List B) (xs : List A) (lanes : StopLanesValue) (i : ℕ) (x : A) → map g ys ≡ lanes.lists → map f xs ≡ lanes.periods
-    → length ys ≤ i → slice_get xs (i - length ys) ≡ Some x → lane_at lanes i ≡ f x
-lane_period g f ys xs lanes i x lists periods past at =
-    let count : length lanes.lists ≡ length ys = ap length (sym lists) ∙ length-map ys g in
-    got_right lanes.lists lanes.periods i no_lane (omega (arith, past, count))
-    ∙ ap (λ n. get_or lanes.periods (i - n) no_lane) count
-    ∙ get_or_from_slice_get lanes.periods (i - length ys) (f x) no_lane (subst (λ ls. slice_get ls (i - length ys) ≡ Some (f x)) periods (mapped_at f xs (i - length ys) x at))
-
-length_more : {X : Type 0} (xs ys : List X) → length (xs ++ ys) ≡ length xs + length ys
-length_more [] ys = omega arith
-length_more (x ∷ xs) ys = let rest = length_more xs ys in omega (arith, rest)
-
-pub period_got : {A B : Type 0} (g : B → LaneValue) (f : A → LaneValue) (ys : List B) (xs : List A) (lanes : StopLanesValue) (i : ℕ) (x : A) → map g ys ≡ lanes.lists → map f xs ≡ lanes.periods
-    → length ys ≤ i → i < length (lanes_of lanes) → x ≡ get_or xs (i - length ys) x → lane_at lanes i ≡ f x
-period_got g f ys xs lanes i x lists periods past within is =
-    let count : length lanes.lists ≡ length ys = ap length (sym lists) ∙ length-map ys g in
-    let others : length lanes.periods ≡ length xs = ap length (sym periods) ∙ length-map xs f in
-    let inside : i - length ys < length xs = omega (arith, past, within, count, others, length_more lanes.lists lanes.periods) in
-    lane_period g f ys xs lanes i x lists periods past (slice_get-get_or xs (i - length ys) x inside ∙ ap Some (sym is))
-
 module _ (p : Parts) (origin : Origins) (lanes : StopLanesValue) (end : ℤ) where
   abbrev on : ℕ → ℤ → List Candidate
   on i d = departures_on p origin lanes end i d

@@ -20,6 +20,7 @@ pub mod BoardKeys
 pub mod Pages
 pub mod Seeks
 pub mod LaneDays
+pub mod LanesByNumber
 pub mod ServiceDays
 pub mod EventFacts
 pub mod StopBoards
@@ -40,3 +41,4 @@ mod SheetStarts
 mod Sheets
 mod TimedRows
 mod TimedSheets
+mod TimedBoards

@@ -184,6 +184,7 @@ const CASES: &[Case] = &[
         lanes: Wanted {
             lists: 70_000,
             periods: 0,
+            filled: 0,
             greatest: 28_800,
         },
         route: "R100000",
@@ -194,6 +195,7 @@ const CASES: &[Case] = &[
         lanes: Wanted {
             lists: 0,
             periods: 70_000,
+            filled: 0,
             greatest: 23_400,
         },
         route: "R100001",
@@ -204,6 +206,7 @@ const CASES: &[Case] = &[
         lanes: Wanted {
             lists: 1,
             periods: 0,
+            filled: 0,
             greatest: 32_400,
         },
         route: "R100002",
@@ -214,7 +217,7 @@ const CASES: &[Case] = &[
 // Each event of the stop stands in a lane, and each trip of the route in a pattern.
 fn assert_case(rt: &impl Abort, alloc: Global, feed: &Feed, case: &Case) -> Result<(), Fail> {
     let stop = stop_named(rt, feed, case.stop);
-    assert_lanes(rt, alloc, feed, stop, case.lanes, case.stop)?;
+    assert_lanes(rt, alloc, feed, stop, Times::Given, case.lanes, case.stop)?;
     let Some(route) = feed.route(case.route) else {
         panic!(rt; "no route {}", case.route);
     };

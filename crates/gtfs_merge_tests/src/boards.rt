@@ -140,7 +140,15 @@ impl Fixture {
         stop: &str,
         listed: &mut Vec<(Rank, String)>,
     ) -> Result<(), Fail> {
-        let mut board = Board::open(alloc, self.side(side), &self.zone, stop, ALWAYS, None, Times::Given)?;
+        let mut board = Board::open(
+            alloc,
+            self.side(side),
+            &self.zone,
+            stop,
+            ALWAYS,
+            None,
+            Times::Given,
+        )?;
         for _ in 0..MOST {
             match board.next() {
                 Ok(Some(departure)) => listed.push(self.renamed(alloc, side, &departure)?)?,

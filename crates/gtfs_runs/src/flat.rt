@@ -42,6 +42,7 @@ pub fn flat_events(
     requires { stop.0 < length feed.now.stops }
     ensures { IfOk result (λ events. AreEvents times feed.now stop.0 events.items) }
 {
+    feed.soundness();
     let mut events = gathered(alloc, feed, stop, times)?;
     events.sort_unstable();
     Ok(events)
@@ -110,6 +111,7 @@ fn push_rows(
         ≡ tally (is_served service e) events.old.items
         + cond ((e.trip.0 == trip.0) && is_event_of (timed_parts times feed.now) s service e) 1 0) }
 {
+    feed.soundness();
     for position in 0..rows.len() {
         push_row(alloc, feed, place, trip, rows, position, events)?;
     }

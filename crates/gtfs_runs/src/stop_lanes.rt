@@ -97,9 +97,9 @@ impl StopLanes {
         let listed = sorted(listed);
         let lists = lists(alloc, &listed)?;
         let greatest = latest(&lists, &found.periods);
-        let (lists, filled) = split(alloc, feed, lists, times)?;
+        let (given, filled) = split(alloc, feed, lists, times)?;
         let lanes = StopLanes {
-            lists,
+            lists: given,
             periods: found.periods,
             filled,
             greatest,

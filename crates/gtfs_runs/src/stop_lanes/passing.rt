@@ -105,15 +105,14 @@ fn passings_in(alloc: Global, place: &Place, rows: &[StopRow]) -> Result<Vec<Pas
     Ok(found)
 }
 
-// The stop time of this position, at which a vehicle leaves no earlier than the trip starts.
+// The stop time of this position. No vehicle leaves it before the trip starts.
 fn passed(row: &StopRow, start: u32, position: usize) -> Passing
-    requires from { start ≤ unwrap_or (left_at row.now) 0 }
-    requires to { unwrap_or (left_at row.now) 0 ≤ 3_599_999 }
+    requires { unwrap_or (left_at row.now) 0 ≤ 3_599_999 }
     ensures value { result ≡ passing_at start (position, row.now) }
     ensures after { result.after ≤ 3_599_999 }
 {
     Passing {
-        after: left(row) - start,
+        after: left(row).saturating_sub(start),
         seq: row.stop_sequence,
         row: position,
     }

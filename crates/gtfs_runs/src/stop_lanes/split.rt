@@ -1,9 +1,9 @@
-ghost use Rattle.std.specs.Prelude.{◌≡◌, ◌++◌, All, IfOk, OnOk, cond, false, true, length, map};
+ghost use Rattle.std.specs.Prelude.{◌≡◌, ◌++◌, ◌∷◌, All, IfOk, List, [], OnOk, false, map};
 ghost use Rattle.std.specs.List.{list_any};
-ghost use Rattle.std.specs.List.Sorted.{IsPermutation};
 ghost use Rattle.gtfs_feed.specs.Content.{content_of};
 ghost use Rattle.gtfs_runs.specs.Kinds.{has_untimed, is_untimed_at};
-ghost use Rattle.gtfs_runs.specs.StopLanes.{filled_value, list_value};
+ghost use Rattle.gtfs_runs.specs.StopLanes.{LaneValue, filled_value, list_value};
+ghost use Rattle.gtfs_runs.specs.steps.Lists.{AreApart};
 ghost use Rattle.gtfs_times.specs.TimedRows.{is_interpolated};
 
 use crate::departure_row::departure;
@@ -24,12 +24,9 @@ pub(crate) fn split(
 ) -> Result<(Vec<ListLane>, Vec<FilledLane>), OutOfMemory>
     requires { is_interpolated times ≡ false
         → All (λ lane. has_untimed (content_of feed.now) lane ≡ false) (map list_value lists.items) }
-    ensures same { IfOk result (λ apart. IsPermutation (map list_value lists.entry.items)
-        (map list_value apart.0.items ++ map filled_value apart.1.items)) }
-    ensures given { IfOk result (λ apart. All (λ lane. has_untimed (content_of feed.now) lane
-        ≡ false) (map list_value apart.0.items)) }
-    ensures filled { IfOk result (λ apart. All (λ lane. has_untimed (content_of feed.now) lane
-        ≡ true) (map filled_value apart.1.items)) }
+    ensures { IfOk result (λ apart. AreApart (content_of feed.now)
+        (map list_value lists.entry.items) (map list_value apart.0.items)
+        (map filled_value apart.1.items)) }
 {
     match times {
         Times::Given => Ok((lists, Vec::new(alloc))),
@@ -37,12 +34,16 @@ pub(crate) fn split(
     }
 }
 
-// The same where some event may be at a stop time without a time of its own.
+// The same where an event may be at a stop time without a time of its own.
 fn by_times(
     alloc: Global,
     feed: &Feed,
     lists: Vec<ListLane>,
-) -> Result<(Vec<ListLane>, Vec<FilledLane>), OutOfMemory> {
+) -> Result<(Vec<ListLane>, Vec<FilledLane>), OutOfMemory>
+    ensures { IfOk result (λ apart. AreApart (content_of feed.now)
+        (map list_value lists.entry.items) (map list_value apart.0.items)
+        (map filled_value apart.1.items)) }
+{
     let mut given = Vec::new(alloc);
     let mut filled = Vec::new(alloc);
     for list in lists {
@@ -51,13 +52,18 @@ fn by_times(
     Ok((given, filled))
 }
 
-// Adds a list to those that it belongs to.
+// Adds a list to those among which it belongs.
 fn push_list(
     feed: &Feed,
     list: ListLane,
     given: &mut Vec<ListLane>,
     filled: &mut Vec<FilledLane>,
-) -> Result<(), OutOfMemory> {
+) -> Result<(), OutOfMemory>
+    ensures { OnOk result ((lists : List LaneValue) → AreApart (content_of feed.now) lists
+        (map list_value given.old.items) (map filled_value filled.old.items)
+        → AreApart (content_of feed.now) (lists ++ list_value list ∷ [])
+        (map list_value given.new.items) (map filled_value filled.new.items)) }
+{
     if has_untimed(feed, list.as_slice()) {
         filled.push(FilledLane::new(list))?;
     } else {
