@@ -147,7 +147,7 @@ fn open<'a, 'w>(
         from: values.from.instant(alloc, zone)?,
         until: values.until.instant(alloc, zone)?,
     };
-    let opened = Board::open(
+    match Board::open(
         alloc,
         feed,
         zone,
@@ -155,8 +155,7 @@ fn open<'a, 'w>(
         span,
         values.after.as_ref(),
         values.times,
-    );
-    match opened {
+    ) {
         Ok(board) => Ok(board),
         Err(BoardFault::UnknownStop) => Err(Refusal::UnknownStop),
         Err(BoardFault::BadSpan) => Err(Refusal::UntilBeforeFrom),

@@ -89,15 +89,14 @@ fn sheets_of<'a, 'w>(
     ensures refused { IfErr result (λ refusal. (before after : ℕ)
         → IsSheetsCause (content_of feed.now) route.now before after refusal) }
 {
-    let found = timetable(
+    match timetable(
         alloc,
         feed,
         route,
         values.direction,
         values.day,
         values.times,
-    );
-    match found {
+    ) {
         Ok(sheets) => Ok(sheets),
         Err(TableFault::UnknownRoute) => Err(Refusal::UnknownRoute),
         Err(TableFault::OutOfMemory) => Err(Refusal::OutOfMemory),

@@ -10,8 +10,7 @@ use std::alloc::{AllocError, Global};
 const ABOUT: &str =
     "Print the runs of a route on a date, a sheet for each direction and list of stops";
 
-const TIMETABLE: &str =
-    "gtfs timetable DIR --route ID --date D [--direction 0|1] [--interpolate]";
+const TIMETABLE: &str = "gtfs timetable DIR --route ID --date D [--direction 0|1] [--interpolate]";
 
 const ROUTE: &str = "The route, by its route_id";
 
