@@ -1,5 +1,5 @@
 -- What `clap` tells of where the value of an id came from, by the rows.
-use Rattle.std.proofs.Common.{◌≡◌, ◌∙◌, List, [], ◌∷◌, Option, Some, None, ap, refl, sym}
+use Rattle.std.proofs.Common.{◌≡◌, ◌∙◌, Option, Some, None, ap, refl, sym}
 use Rattle.std.specs.Prelude.{find, option_and_then, option_map}
 use Rattle.std.specs.Str.{bytes_eq}
 use Rattle.clap.specs.Facts.{Entry}
@@ -7,7 +7,6 @@ use Rattle.clap.specs.Walk.{Row, Text, row_of, rows_of}
 use Rattle.clap.specs.Words.{matched_of}
 use Rattle.clap.specs.declared.parser.matches.Found.{Found}
 use Rattle.clap.specs.declared.parser.matches.MatchedArg.{MatchedArg}
-use Rattle.clap.specs.declared.parser.matches.ValueSource.{ValueSource}
 use Rattle.clap.proofs.WalkLemmas.{find_row}
 
 pub source-rows : (f : Found) (id : Text)
