@@ -1,5 +1,5 @@
 -- The timetable of a feed under a choice of times: its patterns and columns are those of the rows as they are given.
-use Rattle.std.proofs.Common.{◌≡◌, ◌∙◌, ◌<◌, ℕ, zero, suc, ℤ, Bool, true, false, List, [], ◌∷◌, map, length, get_or, Option, Some, None, refl, sym, ap, subst, unwrap_or, is_some, arith}
+use Rattle.std.proofs.Common.{◌≡◌, ◌∙◌, ◌+◌, ◌<◌, ℕ, zero, suc, ℤ, Bool, true, false, List, [], ◌∷◌, map, length, get_or, Option, Some, None, refl, sym, ap, subst, unwrap_or, is_some, arith}
 use Rattle.std.specs.Prelude.{◌==◌, ◌&&◌, not, if◌then◌else◌, option_and_then}
 use Rattle.std.specs.List.{All, enumerate_from, filter, flat_map, list_any, range_with_len, slice_get}
 use Rattle.std.specs.List.Sorted.{IsPermutation}

@@ -65,7 +65,8 @@ impl<'a> Days<'a> {
         requires { lane < length (lanes_of self.now.lanes) }
         ensures { any_value result ≡ lane_at self.now.lanes lane }
     {
-        let (lists, periods) = (self.lanes.lists(), self.lanes.periods());
+        let lists = self.lanes.lists();
+        let periods = self.lanes.periods();
         if lane < lists.len() {
             return AnyLane::List(&lists[lane]);
         }

@@ -6,7 +6,7 @@ use crate::lanes::{Wanted, assert_lanes};
 use crate::named::stop_named;
 use crate::unions::assert_unions;
 use gtfs_feed::Feed;
-use gtfs_fixtures::{FileText, feed_with, folders_of, read_feed};
+use gtfs_fixtures::{FEED, FileText, feed_with, read_feed};
 use gtfs_runs::{Times, flat_events};
 use gtfs_table::MemoryFolders;
 use std::alloc::Global;
@@ -327,7 +327,10 @@ T1,00:00:00,00:00:00,S2,0\nT1,999:59:59,999:59:59,S2,2147483647\n",
 }
 
 fn long_folders(alloc: Global) -> Result<MemoryFolders, Fail> {
-    let mut folders = folders_of(alloc, &[])?;
+    let mut folders = MemoryFolders::new(alloc, 10_000_000, None);
+    for (name, text) in FEED {
+        folders.put("f1", name, text.as_bytes())?;
+    }
     folders.put("f1", "stop_times.txt", long_trip(alloc)?.as_bytes())?;
     Ok(folders)
 }

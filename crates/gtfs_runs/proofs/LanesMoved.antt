@@ -15,7 +15,7 @@ use Rattle.gtfs_runs.specs.Counts.{is_same, tally}
 use Rattle.gtfs_runs.specs.Order.{event_cmp}
 use Rattle.gtfs_runs.specs.StopLanes.{AreLanesOf, LaneValue, events_of_service}
 use Rattle.gtfs_runs.specs.declared.event.Event.{Event}
-use Rattle.gtfs_runs.specs.steps.Lists.{AreApart}
+use Rattle.gtfs_runs.specs.steps.Apart.{AreApart}
 use Rattle.gtfs_runs.proofs.Tallies.{tally-append}
 
 abbrev told_by : ℕ → Event → LaneValue → ℕ

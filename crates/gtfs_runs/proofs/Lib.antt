@@ -25,7 +25,7 @@ mod CourseCounts
 mod WholeLanes
 mod Chunks
 mod LatestEvents
-mod GivenLanes
+mod UntimedEvents
 mod LanesMoved
 pub mod TimedTrips
 pub mod Tallies

@@ -3,7 +3,7 @@ ghost use Rattle.std.specs.List.{list_any};
 ghost use Rattle.gtfs_feed.specs.Content.{content_of};
 ghost use Rattle.gtfs_runs.specs.Kinds.{has_untimed, is_untimed_at};
 ghost use Rattle.gtfs_runs.specs.StopLanes.{LaneValue, filled_value, list_value};
-ghost use Rattle.gtfs_runs.specs.steps.Lists.{AreApart};
+ghost use Rattle.gtfs_runs.specs.steps.Apart.{AreApart};
 ghost use Rattle.gtfs_times.specs.TimedRows.{is_interpolated};
 
 use crate::departure_row::departure;

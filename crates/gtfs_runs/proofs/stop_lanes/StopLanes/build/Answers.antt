@@ -20,7 +20,7 @@ use Rattle.gtfs_runs.proofs.Chunks.{all_mapped}
 use Rattle.gtfs_runs.proofs.LatestEvents.{latest_is}
 use Rattle.gtfs_runs.proofs.OneList.{have_one_list}
 use Rattle.gtfs_runs.proofs.WholeLanes.{are_by_kind, are_lanes, strictly}
-use Rattle.gtfs_runs.proofs.GivenLanes.{given_lanes}
+use Rattle.gtfs_runs.proofs.UntimedEvents.{given_lanes}
 use Rattle.gtfs_runs.proofs.LanesMoved.{lanes-moved, lists-apart}
 use Rattle.gtfs_runs.proofs.Pushes.{none-made}
 use Rattle.gtfs_runs.proofs.stop_lanes.StopLanes.build.Goals as goal
