@@ -80,10 +80,10 @@ returns-clause-lanes c =
     let id = text_of_number (stop_ids p) c.args.stop.0 in
     let lists = map list_value c.in_ok-lists.lists.items in
     let periods = map period_value c.in_ok-found.found.periods.items in
-    let given = map list_value c.in_ok-split.given.items in
-    let filled = map filled_value c.in_ok-split.filled.items in
+    let given = map list_value c.in_ok-given.given.items in
+    let filled = map filled_value c.in_ok-given.filled.items in
     lanes-moved (timed c.args.times (content_of_parts p)) id (service_ids p) (lists ++ periods) (given ++ periods ++ filled)
-    (lists-apart lists periods given filled c.in_ok-split.ensures.same)
+    (lists-apart lists periods given filled c.in_ok-given.ensures.same)
     (subst (λ d. AreLanesOf d id (service_ids p) (lists ++ periods)) (content-timed c.args.times p c.soundness.ensures) (whole c))
 
 pub returns-clause-kinds : goal.returns-clause-kinds
@@ -99,12 +99,12 @@ returns-clause-kinds c =
     let same = subst (λ l. IsPermutation l sorted) c.in_ok-listed.ensures.same c.sorted-listed.ensures.same in
     let own : All (λ x. IsListed q (stopping_of x)) c.sorted-listed.result.items =
     all_mapped (IsListed q) stopping_of c.sorted-listed.result.items (All-permutation (IsListed q) listed sorted same found.own) in
-    let apart = c.in_ok-split.ensures in
+    let apart = c.in_ok-given.ensures in
     are_by_kind c.args.times p c.soundness.ensures c.args.stop.0 listed periods found sorted same (map list_value lists)
     (λ k. c.in_ok-lists.ensures.told k ∙ ap (stopping_events k) lent)
     (length-map lists list_value ∙ c.in_ok-lists.ensures.counted ∙ ap (λ l. how_many is_same_course (map (λ x. x.course) l)) lent)
     (c.in_ok-lists.ensures.alike q (subst (λ l. All (λ x. IsListed q (stopping_of x)) l) (sym c.deref.ensures.value) own))
-    c.latest-greatest.result (map list_value c.in_ok-split.given.items) (map filled_value c.in_ok-split.filled.items) apart.same apart.given apart.filled
+    c.latest-greatest.result (map list_value c.in_ok-given.given.items) (map filled_value c.in_ok-given.filled.items) apart.same apart.given apart.filled
 
 pub returns-clause-greatest : goal.returns-clause-greatest
 returns-clause-greatest c =
@@ -140,8 +140,8 @@ returns-in_err-lists c =
     let refused = c.from_residual-in_err-lists.ensures.1 in
     record { lanes = none-made r _ _ refused; kinds = none-made r _ _ refused; greatest = none-made r _ _ refused; steps = none-made r _ _ refused }
 
-pub returns-in_err-split : goal.returns-in_err-split
-returns-in_err-split c =
-    let r = c.from_residual-in_err-split.result in
-    let refused = c.from_residual-in_err-split.ensures.1 in
+pub returns-in_err-given : goal.returns-in_err-given
+returns-in_err-given c =
+    let r = c.from_residual-in_err-given.result in
+    let refused = c.from_residual-in_err-given.ensures.1 in
     record { lanes = none-made r _ _ refused; kinds = none-made r _ _ refused; greatest = none-made r _ _ refused; steps = none-made r _ _ refused }

@@ -5,5 +5,5 @@ use Rattle.gtfs_runs.specs.steps.Apart.{AreApart}
 use Rattle.gtfs_runs.proofs.LanesMoved.{all_given}
 use Rattle.gtfs_runs.proofs.stop_lanes.split.split.Goals as goal
 
-pub returns : goal.returns
-returns c = ?
+pub returns-in-Given : goal.returns-in-Given
+returns-in-Given c = ?
