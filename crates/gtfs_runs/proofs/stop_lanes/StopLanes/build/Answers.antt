@@ -23,6 +23,7 @@ use Rattle.gtfs_runs.proofs.WholeLanes.{are_by_kind, are_lanes, strictly}
 use Rattle.gtfs_runs.proofs.UntimedEvents.{given_lanes}
 use Rattle.gtfs_runs.proofs.LanesMoved.{lanes-moved, lists-apart}
 use Rattle.gtfs_runs.proofs.Pushes.{none-made}
+use Rattle.gtfs_runs.proofs.stop_lanes.StopLanes.build.Goals.{In_ok-lists}
 use Rattle.gtfs_runs.proofs.stop_lanes.StopLanes.build.Goals as goal
 
 pub numbered-requires : goal.numbered-requires
@@ -43,7 +44,7 @@ lists-requires-clause-sorted c =
     (map stopping_of c.sorted-listed.result.items) (subst (λ l. IsPermutation l (map stopping_of c.sorted-listed.result.items)) c.in_ok-listed.ensures.same c.sorted-listed.ensures.same) c.sorted-listed.ensures.in_order)
 
 -- before the lists stand in two
-whole : (c : goal.split-requires.Context) → AreLanesOf (content_of_parts (timed_parts c.args.times c.args.feed.now)) (text_of_number (stop_ids c.args.feed.now) c.args.stop.0) (service_ids c.args.feed.now)
+whole : (c : In_ok-lists) → AreLanesOf (content_of_parts (timed_parts c.args.times c.args.feed.now)) (text_of_number (stop_ids c.args.feed.now) c.args.stop.0) (service_ids c.args.feed.now)
     (map list_value c.in_ok-lists.lists.items ++ map period_value c.in_ok-found.found.periods.items)
 whole c =
     let p = c.args.feed.now in
