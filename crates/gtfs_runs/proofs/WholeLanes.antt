@@ -25,11 +25,13 @@ use Rattle.gtfs_rows.specs.Views.{IsSoundParts, content_of_parts, service_ids, s
 use Rattle.gtfs_rows.specs.Trips.{frequencies_by_trip, stop_rows_by_trip}
 use Rattle.gtfs_runs.specs.Counts.{is_same, tally}
 use Rattle.gtfs_runs.specs.Events.{is_event}
-use Rattle.gtfs_runs.specs.Kinds.{AreByKind, IsListLane, IsPeriodLane, has_untimed}
+use Rattle.gtfs_runs.specs.Kinds.{AreByKind, IsListLane}
 use Rattle.gtfs_runs.specs.Lanes.{Course, course_cmp, courses_of, departure_rows, has_periods, list_count, period_count}
 use Rattle.gtfs_runs.specs.Order.{event_cmp}
 use Rattle.gtfs_runs.specs.StopLanes.{AreLanesOf, LaneValue, events_of_service}
 use Rattle.gtfs_runs.specs.declared.event.Event.{Event}
+use Rattle.gtfs_runs.specs.steps.Apart.{AreApart}
+use Rattle.gtfs_runs.specs.steps.Whole.{AreWhole}
 use Rattle.gtfs_runs.specs.steps.Courses.{IsCourse, Stopping, course_of, how_many, is_same_course, stopping_cmp, stopping_events}
 use Rattle.gtfs_runs.specs.steps.Finds.{AreFound, times_found, times_told}
 use Rattle.gtfs_times.proofs.FilledContent.{sound-timed}
@@ -151,24 +153,34 @@ module _ (p : Parts) (s : ℕ) (listed : List Stopping) (periods : List LaneValu
           counted = length-append lists periods ∙ (λ i. sym (listed_count count) i + sym periodic i);
         }
 
--- ---- the kinds of lanes, where the lists stand in two
+-- ---- the same under a choice of times
 
-pub are_by_kind : (choice : Times) (p : Parts) (sound : IsSoundParts p) (s : ℕ) (listed : List Stopping) (periods : List LaneValue)
-    (found : AreFound (timed_parts choice p) s (length p.trips) listed periods) (sorted : List Stopping) → IsPermutation listed sorted → (lists : List LaneValue)
-    → ((k : ℕ) → events_of_service k lists ≡ stopping_events k sorted) → length lists ≡ how_many is_same_course (map (λ x. x.course) sorted)
-    → All (IsListLane (content_of_parts (timed_parts choice p))) lists → (greatest : ℕ) (given filled : List LaneValue) → IsPermutation lists (given ++ filled)
-    → All (λ lane. has_untimed (content_of_parts p) lane ≡ false) given → All (λ lane. has_untimed (content_of_parts p) lane ≡ true) filled
-    → AreByKind choice (content_of_parts p) (text_of_number (stop_ids p) s) (record { lists = given; periods = periods; filled = filled; greatest = greatest })
-are_by_kind choice p sound s listed periods found sorted same lists told count alike greatest given filled apart in_given in_filled =
-    let id = text_of_number (stop_ids p) s in
-    let is = content-timed choice p sound in
-    let all = sound-timed p sound choice in
-    record {
-      lists = sym (length-append given filled) ∙ length_permutation lists (given ++ filled) apart
-          ∙ sym (listed_count (timed_parts choice p) s listed periods found all sorted same lists told count) ∙ ap (λ c. list_count c id) is;
-      periods = sym (periodic (timed_parts choice p) s listed periods found all sorted same lists told) ∙ ap (λ c. period_count c id) is;
-      listed = All-permutation (IsListLane (timed choice (content_of_parts p))) lists (given ++ filled) apart (subst (λ c. All (IsListLane c) lists) is alike);
-      runs = subst (λ c. All (IsPeriodLane c) periods) is found.runs;
-      given = in_given;
-      filled = in_filled;
-    }
+module _ (choice : Times) (p : Parts) (sound : IsSoundParts p) (s : ℕ) (listed : List Stopping) (periods : List LaneValue)
+    (found : AreFound (timed_parts choice p) s (length p.trips) listed periods) (sorted : List Stopping) (same : IsPermutation listed sorted) (lists : List LaneValue)
+    (told : (k : ℕ) → events_of_service k lists ≡ stopping_events k sorted) (count : length lists ≡ how_many is_same_course (map (λ x. x.course) sorted)) where
+  pub are_whole : All (λ lane. lane.service < length p.services) lists → All (λ lane. Ascends event_cmp lane.events) lists → All (λ lane. Ascends event_cmp lane.events) periods
+      → All (IsListLane (content_of_parts (timed_parts choice p))) lists
+      → AreWhole (timed choice (content_of_parts p)) (text_of_number (stop_ids p) s) (service_ids p) lists periods
+  are_whole within up_lists up_periods alike =
+      let q = timed_parts choice p in
+      let all = sound-timed p sound choice in
+      subst (λ c. AreWhole c (text_of_number (stop_ids p) s) (service_ids p) lists periods) (content-timed choice p sound) (record {
+        lanes = are_lanes q s listed periods found all sorted same lists told count within up_lists up_periods;
+        listed = sym (listed_count q s listed periods found all sorted same lists told count);
+        periodic = sym (periodic q s listed periods found all sorted same lists told);
+        kind = alike;
+        runs = found.runs;
+      })
+
+-- and where the lists stand in two
+pub are_by_kind : (choice : Times) (c : Content) (s : List ℕ) (ids : List (List ℕ)) (lists periods given filled : List LaneValue) (greatest : ℕ)
+    → AreWhole (timed choice c) s ids lists periods → AreApart c lists given filled
+    → AreByKind choice c s (record { lists = given; periods = periods; filled = filled; greatest = greatest })
+are_by_kind choice c s ids lists periods given filled greatest whole apart = record {
+  lists = sym (length-append given filled) ∙ length_permutation lists (given ++ filled) apart.same ∙ whole.listed;
+  periods = whole.periodic;
+  listed = All-permutation (IsListLane (timed choice c)) lists (given ++ filled) apart.same whole.kind;
+  runs = whole.runs;
+  given = apart.given;
+  filled = apart.filled;
+}

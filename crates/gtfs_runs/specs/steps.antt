@@ -3,4 +3,5 @@ pub mod Courses
 pub mod Finds
 pub mod Lists
 pub mod Apart
+pub mod Whole
 pub mod Numbers

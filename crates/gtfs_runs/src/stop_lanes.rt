@@ -13,18 +13,15 @@ mod lists;
 mod numbered;
 mod passing;
 mod split;
+mod whole;
 
 use crate::filled_lane::FilledLane;
 use crate::list_lane::ListLane;
-use crate::place::Place;
 use crate::step_lane::StepLane;
 use crate::steps::Steps;
-use crate::stop_lanes::found::Found;
 use crate::stop_lanes::latest::latest;
-use crate::stop_lanes::listed::sorted;
-use crate::stop_lanes::lists::lists;
-use crate::stop_lanes::numbered::numbered;
 use crate::stop_lanes::split::split;
+use crate::stop_lanes::whole::whole;
 use gtfs_feed::Feed;
 use gtfs_field::OutOfMemory;
 use gtfs_rows::StopNo;
@@ -91,16 +88,12 @@ impl StopLanes {
         ensures steps { IfOk result (λ built. built.1 ≡ 0) }
     {
         feed.soundness();
-        let place = Place::of_stop(alloc, feed, stop)?;
-        let found = Found::at_place(alloc, feed, &place, times)?;
-        let listed = numbered(alloc, found.listed)?;
-        let listed = sorted(listed);
-        let lists = lists(alloc, &listed)?;
-        let greatest = latest(&lists, &found.periods);
+        let (lists, periods) = whole(alloc, feed, stop, times)?;
+        let greatest = latest(&lists, &periods);
         let (given, filled) = split(alloc, feed, lists, times)?;
         let lanes = StopLanes {
             lists: given,
-            periods: found.periods,
+            periods,
             filled,
             greatest,
         };

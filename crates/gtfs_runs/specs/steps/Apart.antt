@@ -6,7 +6,7 @@ use Rattle.gtfs_runs.specs.Kinds.{has_untimed}
 use Rattle.gtfs_runs.specs.StopLanes.{LaneValue}
 
 -- these lists in two: those of which each event is at a stop time with a time of its own, and the others
-pub record AreApart (c : Content) (lists given filled : List LaneValue) : Type 0 where
-  pub same : IsPermutation lists (given ++ filled)
-  pub given : All (λ lane. has_untimed c lane ≡ false) given
-  pub filled : All (λ lane. has_untimed c lane ≡ true) filled
+pub record AreApart (c : Content) (lists ones others : List LaneValue) : Type 0 where
+  pub same : IsPermutation lists (ones ++ others)
+  pub given : All (λ lane. has_untimed c lane ≡ false) ones
+  pub filled : All (λ lane. has_untimed c lane ≡ true) others

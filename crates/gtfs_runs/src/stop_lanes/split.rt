@@ -4,7 +4,7 @@ ghost use Rattle.gtfs_feed.specs.Content.{content_of};
 ghost use Rattle.gtfs_runs.specs.Kinds.{has_untimed, is_untimed_at};
 ghost use Rattle.gtfs_runs.specs.StopLanes.{LaneValue, filled_value, list_value};
 ghost use Rattle.gtfs_runs.specs.steps.Apart.{AreApart};
-ghost use Rattle.gtfs_times.specs.TimedRows.{is_interpolated};
+ghost use Rattle.gtfs_times.specs.TimedRows.{is_interpolated, lacks_time};
 
 use crate::departure_row::departure;
 use crate::event::Event;
@@ -12,6 +12,7 @@ use crate::filled_lane::FilledLane;
 use crate::list_lane::ListLane;
 use gtfs_feed::Feed;
 use gtfs_field::OutOfMemory;
+use gtfs_rows::StopRow;
 use gtfs_times::Times;
 use std::alloc::Global;
 
@@ -25,7 +26,7 @@ pub(crate) fn split(
     requires { is_interpolated times ≡ false
         → All (λ lane. has_untimed (content_of feed.now) lane ≡ false) (map list_value lists.items) }
     ensures { IfOk result (λ apart. AreApart (content_of feed.now)
-        (map list_value lists.entry.items) (map list_value apart.0.items)
+        (map list_value lists.items) (map list_value apart.0.items)
         (map filled_value apart.1.items)) }
 {
     match times {
@@ -41,7 +42,7 @@ fn by_times(
     lists: Vec<ListLane>,
 ) -> Result<(Vec<ListLane>, Vec<FilledLane>), OutOfMemory>
     ensures { IfOk result (λ apart. AreApart (content_of feed.now)
-        (map list_value lists.entry.items) (map list_value apart.0.items)
+        (map list_value lists.items) (map list_value apart.0.items)
         (map filled_value apart.1.items)) }
 {
     let mut given = Vec::new(alloc);
@@ -83,10 +84,17 @@ fn has_untimed(feed: &Feed, events: &[Event]) -> bool
 fn is_untimed_at(feed: &Feed, event: &Event) -> bool
     ensures { result ≡ is_untimed_at (content_of feed.now) event.now }
 {
+    feed.soundness();
     if event.trip.0 >= feed.trip_count() {
         return false;
     }
-    feed.trip_rows(event.trip)
-        .get(event.row)
-        .is_some_and(|row| departure(row).is_none())
+    let rows = feed.trip_rows(event.trip);
+    event.row < rows.len() && lacks_time(&rows[event.row])
+}
+
+// Whether a stop time has neither an arrival nor a departure.
+fn lacks_time(row: &StopRow) -> bool
+    ensures { result ≡ lacks_time row.now }
+{
+    departure(row).is_none()
 }

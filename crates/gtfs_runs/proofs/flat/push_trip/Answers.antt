@@ -9,8 +9,8 @@ push_rows-requires-clause-times c =
     times_of c.args.times c.args.feed.now c.soundness.ensures c.args.trip.0 _ c.trip_rows-rows.result.now _ c.trip_rows-rows.ensures
     (c.deref.ensures.value ∙ c.in_ok-filled.ensures ∙ filled_under c.args.times c.trip_rows-rows.result.now (sym c.is_to_fill.ensures.value ∙ c.if-is_to_fill.true)) c.requires.place
 
-pub push_rows-2-requires-clause-times : goal.push_rows-2-requires-clause-times
-push_rows-2-requires-clause-times c =
+pub push_rows-requires-2-clause-times : goal.push_rows-requires-2-clause-times
+push_rows-requires-2-clause-times c =
     times_of c.args.times c.args.feed.now c.soundness.ensures c.args.trip.0 _ c.trip_rows-rows.result.now _ c.trip_rows-rows.ensures
     (sym (c.is_to_fill.ensures.kept c.if-is_to_fill.false)) c.requires.place
 

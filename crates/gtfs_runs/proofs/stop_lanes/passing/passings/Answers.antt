@@ -10,8 +10,8 @@ passings_in-requires c =
     times_of c.args.times c.args.feed.now c.soundness.ensures c.args.trip.0 _ c.trip_rows-rows.result.now _ c.trip_rows-rows.ensures
     (c.deref.ensures.value ∙ c.in_ok-filled.ensures ∙ filled_under c.args.times c.trip_rows-rows.result.now (sym c.is_to_fill.ensures.value ∙ c.if-is_to_fill.true)) c.requires.stops
 
-pub passings_in-2-requires : goal.passings_in-2-requires
-passings_in-2-requires c =
+pub passings_in-requires-2 : goal.passings_in-requires-2
+passings_in-requires-2 c =
     times_of c.args.times c.args.feed.now c.soundness.ensures c.args.trip.0 _ c.trip_rows-rows.result.now _ c.trip_rows-rows.ensures
     (sym (c.is_to_fill.ensures.kept c.if-is_to_fill.false)) c.requires.stops
 
