@@ -115,6 +115,11 @@ module _ {L C : Type 0} (g : L → List (Option ℕ)) (h : C → List (Option �
   pub across : (i : ℕ) → map (λ line. get_or (g line) i None) lines ≡ map (λ c. get_or (h c) i None) cs
   across i = sym (map-map (λ l. get_or l i None) g lines) ∙ ap (map (λ l. get_or l i None)) same ∙ map-map (λ l. get_or l i None) h cs
 
+-- a place within each line is within one of them
+pub line-within : {L : Type 0} (g : L → List (Option ℕ)) (lines : List L) (n place : ℕ) (line : L) → All (λ l. place < length (g l)) lines → n < length lines → line ≡ get_or lines n line
+    → place < length (g line)
+line-within g lines n place line each within is = subst (λ l. place < length (g l)) (sym is) (each n line within)
+
 pub turned-times : {L : Type 0} (g : L → List (Option ℕ)) (lines : List L) (f : Content) (n : ℕ) (cs : List Column) → map g lines ≡ map (times_of_column f n) cs
     → map (λ i. map (λ line. get_or (g line) i None) lines) (range_with_len 0 n) ≡ column_times f n cs
 turned-times g lines f n cs same =
