@@ -1,4 +1,4 @@
-use Rattle.std.proofs.Common.{◌≡◌, ◌≤◌, ◌+◌, ◌==◌, ◌∙◌, List, length, cond, ap, arith}
+use Rattle.std.proofs.Common.{◌≤◌, ◌+◌, ◌==◌, ◌∙◌, List, length, cond, ap, arith}
 use Rattle.gtfs_rows.specs.declared.stop_row.StopRow.{StopRow}
 use Rattle.gtfs_times.proofs.FilledContent.{sound-timed}
 use Rattle.gtfs_times.specs.TimedRows.{timed_parts}

@@ -1,6 +1,5 @@
-use Rattle.std.proofs.Common.{◌≡◌, ◌∙◌, length, sym, ap}
+use Rattle.std.proofs.Common.{◌∙◌, sym}
 use Rattle.std.proofs.lemmas.Result.{on_ok_weaker}
-use Rattle.gtfs_runs.proofs.Pushes.{none-done}
 use Rattle.gtfs_runs.proofs.TimedTrips.{filled_under, rows_timed, times_of}
 use Rattle.gtfs_runs.proofs.flat.push_trip.Goals as goal
 

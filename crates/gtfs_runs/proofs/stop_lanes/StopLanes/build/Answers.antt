@@ -1,4 +1,4 @@
-use Rattle.std.proofs.Common.{◌≡◌, ◌++◌, ◌∙◌, map, sym, ap, subst}
+use Rattle.std.proofs.Common.{◌++◌, ◌∙◌, map, sym, ap, subst}
 use Rattle.std.specs.List.{flat_map}
 use Rattle.gtfs_rows.specs.Views.{content_of_parts, service_ids, stop_ids, text_of_number}
 use Rattle.gtfs_times.proofs.FilledContent.{sound-timed}

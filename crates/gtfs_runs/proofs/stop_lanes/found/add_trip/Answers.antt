@@ -6,9 +6,8 @@ use Rattle.gtfs_times.proofs.FilledContent.{sound-timed}
 use Rattle.gtfs_times.specs.TimedRows.{timed_parts, timed_stop_times}
 use Rattle.gtfs_runs.specs.Kinds.{IsPeriodLane}
 use Rattle.gtfs_runs.specs.StopLanes.{period_value}
-use Rattle.gtfs_runs.specs.steps.Courses.{stopping_of, stops_in}
+use Rattle.gtfs_runs.specs.steps.Courses.{stopping_of}
 use Rattle.gtfs_runs.specs.steps.Finds.{AreFound, stopping_at, times_passed_in, times_told}
-use Rattle.gtfs_runs.specs.steps.Passings.{first_left}
 use Rattle.gtfs_runs.proofs.TripFinds.{listed_found, periods_found}
 use Rattle.gtfs_runs.proofs.TimedTrips.{first_timed, rows_timed, stops_timed}
 use Rattle.gtfs_runs.proofs.TripTimes.{none_left, periods_run, rows_at, some_left}

@@ -1,6 +1,5 @@
-use Rattle.std.proofs.Common.{◌∙◌, refl, sym, subst}
+use Rattle.std.proofs.Common.{◌∙◌, sym}
 use Rattle.std.proofs.lemmas.Result.{IfOk-weaker}
-use Rattle.gtfs_runs.specs.steps.Passings.{AreTripTimes}
 use Rattle.gtfs_runs.proofs.Pushes.{none-made}
 use Rattle.gtfs_runs.proofs.TimedTrips.{filled_under, passed, times_of}
 use Rattle.gtfs_runs.proofs.stop_lanes.passing.passings.Goals as goal
