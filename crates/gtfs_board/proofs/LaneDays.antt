@@ -1,12 +1,11 @@
 -- The departures of lanes on days: where they stand, and in which order.
 use Rattle.std.proofs.Common.{◌≡◌, ◌+◌, ◌≤◌, ◌<◌, ℕ, zero, suc, ℤ, Bool, true, false, cond, List, [], ◌∷◌, ◌++◌, ◌⊎◌, inl, inr, map, length, get_or, Option, Some, None, refl, sym, ap, subst, ◌∙◌, arith, find, unwrap_or, w64, SFits}
-use Rattle.std.specs.Prelude.{◌-◌, ◌^◌, negsuc, option_map, pos, ◌+ℤ◌, ◌-ℤ◌, ◌*ℤ◌, ◌<ℤ◌, ◌≤ℤ◌, int_le, slice_get, All}
+use Rattle.std.specs.Prelude.{◌^◌, negsuc, option_map, pos, ◌+ℤ◌, ◌-ℤ◌, ◌*ℤ◌, ◌<ℤ◌, ◌≤ℤ◌, int_le, slice_get, All}
 use Rattle.std.specs.Int.{int_max, int_min}
 use Rattle.std.specs.List.{filter, flat_map, range_with_len}
 use Rattle.std.proofs.lemmas.Int.{ints, clamps}
 use Rattle.std.proofs.lemmas.Bool.{cases_Bool, cases_lt, true≢false, and_parts}
-use Rattle.std.proofs.lemmas.List.{get_or_past, length-map}
-use Rattle.std.proofs.lemmas.Option.{get_or_from_slice_get, slice_get-get_or}
+use Rattle.std.proofs.lemmas.List.{get_or_past}
 use Rattle.std.proofs.lemmas.List.Elements.{All-tail}
 use Rattle.jiff_core.specs.Calendar.{IsWithin}
 use Rattle.gtfs_columns.specs.Values.{if_there}
@@ -25,11 +24,10 @@ use Rattle.std.specs.Cmp.{int_cmp_is, nat_cmp_is, tied_itself}
 use Rattle.std.proofs.lemmas.Bool.{cases_order}
 use Rattle.std.proofs.lemmas.Cmp.{int_cmp_total, nat_cmp_total}
 use Rattle.gtfs_field.proofs.NumberFacts.{cases_int, int_le-true, le-int_le}
-use Rattle.gtfs_field.proofs.ListFacts.{mapped_at}
 use Rattle.gtfs_days.proofs.ActiveDays.{before_service as day_too_early}
 use Rattle.gtfs_runs.specs.Order.{event_cmp, is_above, is_later}
 use Rattle.gtfs_runs.specs.declared.seek.Seek.{Seek}
-use Rattle.gtfs_runs.specs.StopLanes.{LaneValue, StopLanesValue, lanes_of}
+use Rattle.gtfs_runs.specs.StopLanes.{StopLanesValue, lanes_of}
 use Rattle.gtfs_runs.specs.declared.event.Event.{Event}
 use Rattle.gtfs_rows.specs.Departures.{Origins}
 use Rattle.gtfs_board.specs.LaneDays.{departing, event_of, serves_on, no_lane, lane_at, ends_by, departures_on, departures_of_day, all_departures, AreAscending, AreTimely}

@@ -1,6 +1,6 @@
 -- A board that was opened: what is left of it, what is shown, and its bounds.
 use Rattle.std.proofs.Common.{◌≡◌, ◌+◌, ◌*◌, ◌≤◌, ◌<◌, ℕ, zero, suc, ℤ, ◌&&◌, Bool, true, false, List, [], ◌∷◌, map, length, Option, Some, None, refl, sym, ap, subst, ◌∙◌, inl, inr, arith, find, unwrap_or, w64, SFits}
-use Rattle.std.specs.Prelude.{◌==◌, ◌^◌, negsuc, pos, ◌+ℤ◌, ◌-ℤ◌, ◌<ℤ◌, ◌≤ℤ◌, All, bytes_eq, count_by, int_le, int_lt, slice_get}
+use Rattle.std.specs.Prelude.{◌==◌, ◌^◌, negsuc, pos, ◌+ℤ◌, ◌-ℤ◌, ◌<ℤ◌, ◌≤ℤ◌, bytes_eq, count_by, int_le, int_lt, slice_get}
 use Rattle.std.specs.Ordering.{is_lt, nat_cmp, on, ordering_then}
 use Rattle.std.specs.declared.cmp.Ordering.{Ordering}
 use Rattle.std.specs.declared.cmp.Ordering.TheVariants.{Less, Equal, Greater}
@@ -11,7 +11,7 @@ use Rattle.std.proofs.lemmas.List.{length-map}
 use Rattle.std.proofs.lemmas.List.Elements.{All-from_recursion}
 use Rattle.std.proofs.lemmas.Option.{get_or_from_slice_get, same_Some as some_is, slice_get_within}
 use Rattle.std.specs.Cmp.{tied_itself}
-use Rattle.std.specs.List.{AllByRecursion, filter, list_any, position}
+use Rattle.std.specs.List.{AllByRecursion, list_any, position}
 use Rattle.gtfs_field.proofs.NumberFacts.{int_lt-false, int_lt-true, le-int_le}
 use Rattle.gtfs_rows.specs.declared.stop.Stop.{Stop as StopRowOf}
 use Rattle.gtfs_board.proofs.Floors.{position_at, position_none, turned}
@@ -28,7 +28,6 @@ use Rattle.gtfs_rows.specs.Order.{Ascends}
 use Rattle.gtfs_rows.specs.Rows.{Stop, StopRow, Trip}
 use Rattle.gtfs_rows.specs.Views.{IsSoundParts, content_of_parts, service_ids, stop_ids, stop_of, stop_row_of, text_of_number, trip_ids}
 use Rattle.gtfs_rows.specs.declared.parts.Parts.{Parts}
-use Rattle.gtfs_runs.specs.Lanes.{latest}
 use Rattle.gtfs_runs.specs.StopLanes.{AreLanesOf, StopLanesValue, lanes_of}
 use Rattle.gtfs_field.specs.TextOrder.{text_cmp}
 use Rattle.gtfs_board.specs.Board as board
@@ -38,7 +37,7 @@ use Rattle.gtfs_rows.specs.Departures.{IsBoard, departs_at, is_above, is_member}
 use Rattle.gtfs_board.specs.Floors.{IsNumbered, is_from}
 use Rattle.gtfs_rows.specs.Key.{Key, key_cmp}
 use Rattle.gtfs_board.specs.LaneDays.{all_departures, lane_at}
-use Rattle.gtfs_board.specs.Opening.{IsOpen, IsOpened, board_value}
+use Rattle.gtfs_board.specs.Opening.{IsOpen, board_value}
 use Rattle.gtfs_board.specs.Span.{is_span, is_writable}
 use Rattle.gtfs_board.specs.declared.span.Span.{Span}
 use Rattle.gtfs_board.specs.Showing.{IsOfFeed, key_in, listed_in, times_of, trip_in}
@@ -50,16 +49,13 @@ use Rattle.gtfs_board.specs.merge.Lanes.{is_reached}
 use Rattle.gtfs_board.specs.merge.Order.{Each, In, IsAscending, tally}
 use Rattle.gtfs_board.proofs.BoardKeys.{board-of, in-member}
 use Rattle.gtfs_board.proofs.CandidateKeys.{compares}
-use Rattle.gtfs_board.proofs.Candidates.{candidates_strict}
 use Rattle.gtfs_board.proofs.EventFacts.{any_at, text_at, lane_there, map_at, trip_back}
 use Rattle.gtfs_board.proofs.Merges.{tally_sum}
 use Rattle.gtfs_board.proofs.KeyOrder.{key_cmp_total}
 use Rattle.gtfs_board.proofs.LaneDays.{day_there, serves_within}
 use Rattle.gtfs_board.proofs.Orders.{Each-in}
-use Rattle.gtfs_board.proofs.Rests.{ascending-in_order, filter-in, in_order-in}
-use Rattle.gtfs_board.proofs.StopBoards.{ids_ascend, numbered, stand_for, traced, trip_numbered}
+use Rattle.gtfs_board.proofs.StopBoards.{ids_ascend, numbered, stand_for, traced}
 use Rattle.gtfs_board.proofs.Timely.{event_small, instant_there}
-use Rattle.gtfs_board.proofs.Window.{each_in}
 
 -- ---- what is shown
 

@@ -1,5 +1,5 @@
 -- A board of a feed under a choice of times, by the lemmas of any feed. What it shows is that of the rows as they are given.
-use Rattle.std.proofs.Common.{◌≡◌, ◌∙◌, ◌+◌, ◌*◌, ◌≤◌, ◌<◌, ℕ, zero, suc, ℤ, Bool, true, false, List, [], ◌∷◌, inl, inr, map, length, Option, Some, None, refl, sym, ap, subst, unwrap_or, arith}
+use Rattle.std.proofs.Common.{◌≡◌, ◌∙◌, ◌+◌, ◌*◌, ◌≤◌, ◌<◌, ℕ, zero, suc, ℤ, Bool, true, false, List, [], ◌∷◌, inl, inr, map, length, Option, Some, refl, sym, ap, subst, arith}
 use Rattle.std.specs.Prelude.{pos, ◌+ℤ◌, ◌-ℤ◌, All, if◌then◌else◌, slice_get}
 use Rattle.std.specs.List.{AllByRecursion, enumerate_from, filter}
 use Rattle.std.proofs.lemmas.Int.{ints}
@@ -28,7 +28,7 @@ use Rattle.gtfs_board.specs.CandidateKeys.{key_among}
 use Rattle.gtfs_board.specs.Floors.{IsNumbered, is_from}
 use Rattle.gtfs_board.specs.LaneDays.{AreTimely, all_departures, departures_on}
 use Rattle.gtfs_board.specs.Opening.{IsOpen, IsOpened, board_value}
-use Rattle.gtfs_board.specs.Showing.{IsOfFeed, key_in, listed_in, times_of, trip_in}
+use Rattle.gtfs_board.specs.Showing.{IsOfFeed, key_in, listed_in, times_of}
 use Rattle.gtfs_board.specs.Shown.{IsShown}
 use Rattle.gtfs_board.specs.declared.merge.candidate.Candidate.{Candidate}
 use Rattle.gtfs_board.specs.declared.span.Span.{Span}

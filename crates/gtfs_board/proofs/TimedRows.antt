@@ -6,7 +6,7 @@ use Rattle.gtfs_field.proofs.ListFacts.{mapped_at}
 use Rattle.gtfs_rows.proofs.TripFacts.{stop_times}
 use Rattle.gtfs_rows.specs.Content.{Content}
 use Rattle.gtfs_rows.specs.Trips.{stop_rows_by_trip}
-use Rattle.gtfs_rows.specs.Views.{IsSoundParts, content_of_parts}
+use Rattle.gtfs_rows.specs.Views.{IsSoundParts}
 use Rattle.gtfs_rows.specs.declared.parts.Parts.{Parts}
 use Rattle.gtfs_rows.specs.declared.stop_row.StopRow.{StopRow}
 use Rattle.gtfs_runs.specs.Patterns.{rows_of}
@@ -16,7 +16,7 @@ use Rattle.gtfs_times.specs.TimedRows.{timed_parts, timed_stop_times}
 use Rattle.gtfs_times.specs.declared.times.Times.{Times}
 use Rattle.gtfs_times.specs.declared.times.Times.TheVariants as times
 use Rattle.gtfs_times.proofs.FilledContent.{sound-timed}
-use Rattle.gtfs_times.proofs.TimedContent.{by_trip, content-timed, timed-length}
+use Rattle.gtfs_times.proofs.TimedContent.{by_trip, timed-length}
 use Rattle.gtfs_board.specs.SheetSteps.{KeepTimes}
 use Rattle.gtfs_board.proofs.SheetColumns.{late-rows}
 

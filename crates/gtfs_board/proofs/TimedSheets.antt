@@ -5,7 +5,7 @@ use Rattle.std.specs.List.{All, enumerate_from, filter, flat_map, list_any, rang
 use Rattle.std.specs.List.Sorted.{IsPermutation}
 use Rattle.std.proofs.lemmas.List.{get_or-map, length-map}
 use Rattle.std.proofs.lemmas.List.FromFn.{get_or-map-range_with_len, length-map-range_with_len}
-use Rattle.std.proofs.lemmas.Option.{slice_get-get_or, slice_get_within}
+use Rattle.std.proofs.lemmas.Option.{slice_get_within}
 use Rattle.std.proofs.lemmas.Simd.{map-map}
 use Rattle.gtfs_columns.specs.Values.{if_there}
 use Rattle.gtfs_field.proofs.ListFacts.{some_of}
@@ -16,7 +16,7 @@ use Rattle.gtfs_rows.specs.NamedRows.{stop_row_named}
 use Rattle.gtfs_rows.specs.Rows.{StopRow, Trip}
 use Rattle.gtfs_rows.specs.Runs.{first_leaves, is_run, is_timed, starts_run, trip_start}
 use Rattle.gtfs_rows.specs.Sound.{leaves}
-use Rattle.gtfs_rows.specs.Trips.{frequencies_by_trip, left_at, stop_rows_by_trip}
+use Rattle.gtfs_rows.specs.Trips.{left_at, stop_rows_by_trip}
 use Rattle.gtfs_rows.specs.Views.{IsSoundParts, content_of_parts, route_ids, text_of_number, trip_of}
 use Rattle.gtfs_rows.specs.declared.frequency.Frequency.{Frequency}
 use Rattle.gtfs_rows.specs.declared.numbers.TripNo.{TripNo}
@@ -33,7 +33,7 @@ use Rattle.gtfs_times.specs.declared.times.Times.TheVariants as times
 use Rattle.gtfs_times.proofs.FilledContent.{sound-timed}
 use Rattle.gtfs_times.proofs.FilledSound.{filled-length}
 use Rattle.gtfs_times.proofs.TimedContent.{content-timed}
-use Rattle.gtfs_board.specs.SheetSteps.{IsPattern, column_times, goes, is_column_of, is_run_on, sheets_along, time_of_column, times_of_column}
+use Rattle.gtfs_board.specs.SheetSteps.{IsPattern, column_times, goes, is_column_of, sheets_along, time_of_column, times_of_column}
 use Rattle.gtfs_board.specs.Timetable.{Sheet, row_at, sheets}
 use Rattle.gtfs_board.specs.Timetable as table
 use Rattle.gtfs_board.specs.declared.sheet.columns.Column.{Column}

@@ -16,7 +16,7 @@ pub(super) enum AnyLane<'a> {
 impl AnyLane<'_> {
     // The service of its trips.
     pub(super) fn service(self) -> ServiceNo
-        ensures { result.0 ≡ (any_value self).service }
+        ensures { result.0 ≡ (any_value self.entry).service }
     {
         match self {
             AnyLane::List(lane) => lane.service(),
@@ -27,7 +27,7 @@ impl AnyLane<'_> {
 
     // Its first event above a position.
     pub(super) fn first_after(self, feed: &Feed, seek: &Seek, steps: &mut Steps) -> Option<Event>
-        ensures first { result ≡ find (is_above seek.now) (any_value self).events }
+        ensures first { result ≡ find (is_above seek.now) (any_value self.entry).events }
         ensures steps { steps.new ≤ steps.old + 1 }
     {
         match self {
@@ -39,7 +39,7 @@ impl AnyLane<'_> {
 
     // Its first event above another.
     pub(super) fn next(self, feed: &Feed, event: &Event, steps: &mut Steps) -> Option<Event>
-        ensures next { result ≡ find (is_later event.now) (any_value self).events }
+        ensures next { result ≡ find (is_later event.now) (any_value self.entry).events }
         ensures steps { steps.new ≤ steps.old + 1 }
     {
         match self {

@@ -1,6 +1,7 @@
-use Rattle.std.proofs.Common.{rules, ◌≡◌, ◌≤◌, ◌∙◌, ◌+◌, ◌*◌, Option, length, sym, ap, subst, inl, inr, w64, SFits, to_z, of_z, pos}
+use Rattle.std.proofs.Common.{rules, arith, ◌≡◌, ◌≤◌, ◌∙◌, ◌+◌, ◌*◌, Option, length, sym, ap, subst, inl, inr, w64, SFits, to_z, of_z, pos}
 use Rattle.std.specs.Prelude.{◌-ℤ◌, option_map}
 use Rattle.std.proofs.lemmas.Int.{to_z-of_z}
+use Rattle.std.proofs.lemmas.List.{length-map}
 use Rattle.gtfs_days.specs.Zone.{zone_origin}
 use Rattle.gtfs_rows.specs.Views.{stop_ids, text_of_number}
 use Rattle.gtfs_runs.specs.StopLanes.{StopLanesValue, lanes_of}
@@ -14,6 +15,9 @@ use Rattle.gtfs_board.specs.merge.Candidates.{HasSettings, candidate_lt, reach, 
 use Rattle.gtfs_board.proofs.Opened.{from_none, start_low, until_less}
 use Rattle.gtfs_board.proofs.TimedBoards.{opened_board, timely-timed}
 use Rattle.gtfs_board.proofs.board.Board.of_stop.Goals as goal
+
+pub new-days-requires-clause-served : goal.new-days-requires-clause-served
+new-days-requires-clause-served c = λ k d within. omega (arith, c.in_ok-lanes.ensures.lanes.within k d within, length-map c.args.feed.now.services (λ s. s.service_id))
 
 pub new-days-requires-clause-timely : goal.new-days-requires-clause-timely
 new-days-requires-clause-timely c =
