@@ -4,8 +4,8 @@
 _gtfs_expect() {
     case $1 in
         check) folders=1 ;;
-        board) folders=1 options+=([--zone]=FILE [--stop]=ID [--from]=T [--until]=T [--limit]=N [--after]=KEY) ;;
-        timetable) folders=1 options+=([--route]=ID [--date]=D [--direction]='0|1') ;;
+        board) folders=1 options+=([--zone]=FILE [--stop]=ID [--from]=T [--until]=T [--limit]=N [--after]=KEY [--interpolate]='') ;;
+        timetable) folders=1 options+=([--route]=ID [--date]=D [--direction]='0|1' [--interpolate]='') ;;
         merge) folders=3 ;;
         *) return 1 ;;
     esac

@@ -25,7 +25,7 @@ function __gtfs_wants_folder -a command most
             set behind_option no
         else if not string match -q -- '-*' $word
             set named (math $named + 1)
-        else if not contains -- $word -h --help; and not string match -q -- '*=*' $word
+        else if not contains -- $word -h --help --interpolate; and not string match -q -- '*=*' $word
             set behind_option yes
         end
     end
@@ -48,6 +48,8 @@ complete -c gtfs -n '__gtfs_takes board from' -l from -x -d 'The first instant o
 complete -c gtfs -n '__gtfs_takes board until' -l until -x -d 'The instant before which the board ends'
 complete -c gtfs -n '__gtfs_takes board limit' -l limit -x -d 'Print at most N lines; all lines without it'
 complete -c gtfs -n '__gtfs_takes board after' -l after -x -d 'Begin after the departure of this key'
+complete -c gtfs -n '__gtfs_takes board interpolate' -l interpolate \
+    -d 'Fill in missing times, at an even pace between the given ones'
 complete -c gtfs -n '__gtfs_wants_folder board 1' -a '(__fish_complete_directories)'
 
 complete -c gtfs -n __gtfs_begins -a timetable \
@@ -57,6 +59,8 @@ complete -c gtfs -n '__gtfs_takes timetable route' -l route -x -d 'The route, by
 complete -c gtfs -n '__gtfs_takes timetable date' -l date -x -d 'The service date of the runs'
 complete -c gtfs -n '__gtfs_takes timetable direction' -l direction -x -a '0 1' \
     -d 'Only trips of this direction_id; all trips without it'
+complete -c gtfs -n '__gtfs_takes timetable interpolate' -l interpolate \
+    -d 'Fill in missing times, at an even pace between the given ones'
 complete -c gtfs -n '__gtfs_wants_folder timetable 1' -a '(__fish_complete_directories)'
 
 complete -c gtfs -n __gtfs_begins -a merge -d 'Make one feed of two'

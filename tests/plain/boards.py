@@ -48,7 +48,12 @@ def departures(feed, zone, stop, begin, end):
                 for row in rows:
                     key = Key(origins[date] + trip.passes_at(run, row), id, run, row["stop_sequence"], date)
                     if begin <= key.instant < end:
-                        yield key, trip, row, "f" if by_headway else "s"
+                        yield key, trip, row, mark(row, by_headway)
+
+
+def mark(row, by_headway):
+    """How exact a departure is: by the clock or by headway, and behind it whether its time was filled in."""
+    return ("f" if by_headway else "s") + ("i" if row.get("is_filled") else "")
 
 
 def line(feed, zone, departure):

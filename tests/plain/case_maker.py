@@ -6,6 +6,7 @@ from random import Random
 from boards import Key, departures
 from commands import Ended, feed, moment_of, zone_of
 from feed_maker import BASES, file_bytes, make_feed
+from filling import interpolated
 from hostile import change_case
 from oddities import DIFFERENCES, ODDITIES, change
 from values import LAST_SERVICE_DAY, Form, Range, date_text
@@ -83,10 +84,10 @@ def odd_key(random):
 
 
 def key_near(random, zone, stop, begin):
-    """The key of a departure of the board, or one beside it."""
+    """The key of a departure of the board with its times filled in, or one beside it."""
     try:
         start = start_of(begin)
-        keys = [found[0] for found in departures(feed("f"), zone_of(zone), stop, start - DAY, start + 3 * DAY)]
+        keys = [found[0] for found in departures(interpolated(feed("f")), zone_of(zone), stop, start - DAY, start + 3 * DAY)]
     except (Ended, Form, Odd, Range):
         keys = []
     if random.random() < 0.1:
@@ -130,6 +131,8 @@ def given_board(random):
         given["limit"] = random.choice(limits)
     if random.random() < 0.4:
         given["after"] = key_near(random, zone, stop, begin)
+    if random.random() < 0.5:
+        given["interpolate"] = ""
     return given
 
 
@@ -144,6 +147,8 @@ def given_timetable(random):
     given = {"DIR": folder_word(random), "route": route, "date": date}
     if random.random() < 0.4:
         given["direction"] = random.choice("01" if random.random() < 0.8 else ["2", "00", "", "+1", "01"])
+    if random.random() < 0.5:
+        given["interpolate"] = ""
     return given
 
 
@@ -169,14 +174,15 @@ GIVEN = {"check": given_check, "board": given_board, "timetable": given_timetabl
 
 def words_of(random, command, given):
     """Words that give these texts, the options in any order and place."""
-    positions = COMMANDS[command][0]
+    positions, _, _, flags = COMMANDS[command]
     options = [name for name in given if name not in positions]
     random.shuffle(options)
     groups = [[given[name]] for name in positions if name in given]
     for name in options:
         text = given[name]
         joined = text.startswith("-") or (text and random.random() < 0.3)
-        groups.insert(random.randint(0, len(groups)), [f"--{name}={text}"] if joined else [f"--{name}", text])
+        group = [f"--{name}"] if name in flags else [f"--{name}={text}"] if joined else [f"--{name}", text]
+        groups.insert(random.randint(0, len(groups)), group)
     return [command, *(word for group in groups for word in group)]
 
 
@@ -190,7 +196,8 @@ def odd_words(random, command, given):
     version = random.choice([["--version"], ["-V"], ["--version", *words], ["-V", "--help"]])
     refused = random.choice([
         [], ["help"], ["Check", "f"], [command, "--version"], [*words, "-V"], [*words, "--foo"], [*words, "more"],
-        [*words, "--foo", "--help"], [*words, "--zone"], ["--foo"], ["-x", *words], [*words, "--"], [*words, "--", "--help"], ["check", "--", "-d"], less, less,
+        [*words, "--foo", "--help"], [*words, "--zone"], [*words, "--interpolate"], [*words, "--interpolate=true"], ["--foo"],
+        ["-x", *words], [*words, "--"], [*words, "--", "--help"], ["check", "--", "-d"], less, less,
     ])
     return random.choice([not_utf8, asking, version, refused, refused, refused])
 

@@ -7,6 +7,7 @@ import boards
 import merging
 import timetables
 from content import content_of
+from filling import interpolated
 from problems import passes, problems, report
 from tables import NotThere, Unreadable, read_tables
 from values import FIRST_SERVICE_DAY, LAST_SERVICE_DAY, Form, Range, plain, read_count, read_date, shaped
@@ -125,6 +126,12 @@ def feed(folder, name="DIR"):
     return content_of(tables)
 
 
+def timed_feed(given):
+    """The feed, with its times filled in where the words ask for that."""
+    content = feed(given["DIR"])
+    return interpolated(content) if "interpolate" in given else content
+
+
 def zone_of(path):
     try:
         with open(path, "rb") as file:
@@ -161,7 +168,7 @@ def check(given):
 def board(given):
     begin, end = value(given, "from", moment_of), value(given, "until", moment_of)
     limit, after = value(given, "limit", read_count), value(given, "after", key_of)
-    content = feed(given["DIR"])
+    content = timed_feed(given)
     zone = zone_of(given["zone"])
     if given["stop"] not in content.stops:
         raise Ended(1, "unknown stop")
@@ -173,7 +180,7 @@ def board(given):
 
 def timetable(given):
     date, direction = value(given, "date", read_date), value(given, "direction", direction_of)
-    content = feed(given["DIR"])
+    content = timed_feed(given)
     if given["route"] not in content.routes:
         raise Ended(1, "unknown route")
     return Outcome(0, timetables.timetable(content, given["route"], direction, date))

@@ -74,6 +74,15 @@ def leaves(stop_time):
     return stop_time["arrival_time"] if departure is None else departure
 
 
+def reaches(stop_time):
+    arrival = stop_time["arrival_time"]
+    return stop_time["departure_time"] if arrival is None else arrival
+
+
+def is_timed(stop_time):
+    return leaves(stop_time) is not None
+
+
 @dataclass
 class Content:
     """A feed. Transfers are by the six parts of their key."""

@@ -135,13 +135,14 @@ def make_trip(random, feed, id):
         "bikes_allowed": some(random, ["0", "1", "2"], 0.7),
     })
     platforms = [row["stop_id"] for row in feed.sheets["stops.txt"] if row["location_type"] in ("", "0")]
-    count = random.choice([0, 1, 2, 3, 3, 4, 4, 5, 5])
+    count = random.choice([0, 1, 2, 3, 3, 4, 4, 5, 5, 9])
+    untimed_part = random.choice([0.2, 0.2, 0.8])
     time = random.choice([0, 300, 5400, 28800, 43200, 82800, 86400, 91000, 200_000])
     sequence = random.randint(0, 3)
     rows = []
     for place in range(count):
         arrival, departure = time, time + random.choice([0, 0, 60])
-        untimed = 0 < place < count - 1 and random.random() < 0.2
+        untimed = 0 < place < count - 1 and random.random() < untimed_part
         alone = random.random()
         rows.append({
             "trip_id": id,

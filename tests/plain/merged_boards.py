@@ -2,6 +2,7 @@
 from dataclasses import replace
 
 from boards import departures, line
+from filling import interpolated
 from zone_maker import make_zone
 from zones import DAY, EPOCH, midnight, read_zone
 
@@ -57,8 +58,13 @@ def union(merged, zone, stop, begin, end):
 
 def make_board(random, merged, out):
     """The bytes of a zone file, the words for a board of the folder `out` but for that file, and the board's text."""
+    a, b, names = merged
+    flags = random.choice([[], ["--interpolate"]])
+    if flags:
+        # (which trips are joined, and all names, are told by the rows as they are given)
+        merged = interpolated(a), interpolated(b), names
     stop, at = some_passing(random, merged)
     held = make_zone(random, at)
     begin, end = at - random.randint(0, DAY), at + random.randint(1, 3 * DAY)
-    words = ["board", f"--stop={stop}", f"--from=@{begin}", f"--until=@{end}", "--", out]
+    words = ["board", f"--stop={stop}", f"--from=@{begin}", f"--until=@{end}", *flags, "--", out]
     return held, words, union(merged, read_zone(held), stop, begin, end)

@@ -1,11 +1,11 @@
 """The words of the command line: what they ask for, what they are refused for, and when they ask for help or for the version."""
 
-# Of each command the words by position, the options that it needs and those that it may have.
+# Of each command the words by position, the options that it needs, those that it may have, and its flags, which have no text.
 COMMANDS = {
-    "check": (["DIR"], [], []),
-    "board": (["DIR"], ["zone", "stop", "from", "until"], ["limit", "after"]),
-    "timetable": (["DIR"], ["route", "date"], ["direction"]),
-    "merge": (["A", "B", "OUT"], [], []),
+    "check": (["DIR"], [], [], []),
+    "board": (["DIR"], ["zone", "stop", "from", "until"], ["limit", "after"], ["interpolate"]),
+    "timetable": (["DIR"], ["route", "date"], ["direction"], ["interpolate"]),
+    "merge": (["A", "B", "OUT"], [], [], []),
 }
 
 
@@ -40,7 +40,7 @@ def looks_like_option(word):
 
 
 def read_words(words):
-    """The command and the text of each position and option. The words stand behind the program's name."""
+    """The command and the text of each position, option and flag. The words stand behind the program's name."""
     if any("\udc80" <= char <= "\udcff" for word in words for char in word):
         raise NotUtf8
     if not words:
@@ -51,7 +51,7 @@ def read_words(words):
         raise Version
     if words[0] not in COMMANDS:
         raise Refused
-    positions, needed, free = COMMANDS[words[0]]
+    positions, needed, free, flags = COMMANDS[words[0]]
     given, options_end = {}, False
     rest = list(words[1:])
     while rest:
@@ -63,9 +63,9 @@ def read_words(words):
             continue
         if word.startswith("--") and not options_end:
             name, equals, text = word[2:].partition("=")
-            if name not in needed + free or name in given:
+            if name not in needed + free + flags or name in given or (name in flags and equals):
                 raise Refused
-            if not equals:
+            if name not in flags and not equals:
                 if not rest or looks_like_option(rest[0]):
                     raise Refused
                 text = rest.pop(0)

@@ -6,7 +6,7 @@
 #![tactic(auto)]
 
 use anyhow::{Context, Result, bail, ensure};
-use gtfs_board::{Board, Span, write_page};
+use gtfs_board::{Board, Span, Times, write_page};
 use gtfs_days::{LAST_SERVICE_DAY, Zone};
 use gtfs_feed::Feed;
 use gtfs_field::read_date;
@@ -70,7 +70,7 @@ fn print_departures(rt: &HostRuntime, feed: &Feed, zone: &Zone, stop: &str) -> R
     let until = from + 24 * 3_600;
     let span = Span { from, until };
     // Opens the board of a stop. Refused: there is no such stop, or the span is none.
-    let mut board = Board::open(alloc, feed, zone, stop, span, None)?;
+    let mut board = Board::open(alloc, feed, zone, stop, span, None, Times::Given)?;
     let out = &mut WriteOut::new(io::writer(rt));
     // Prints the next lines of a board, at most three. Refused: the output failed.
     write_page(alloc, &mut board, 3, out)?;

@@ -1,7 +1,7 @@
 use crate::feed::{busiest, read_feed};
 use crate::speed::{TURNS, time_loop};
 use anyhow::{Context, Result, anyhow, ensure};
-use gtfs_board::{Board, Span, write_page};
+use gtfs_board::{Board, Span, Times, write_page};
 use gtfs_days::Zone;
 use gtfs_feed::Feed;
 use gtfs_table::{Failed, Out};
@@ -119,7 +119,7 @@ fn time_board<R: AllocGlobal + Clock>(
 
 /// Takes all departures from a board, and answers how many they are and how many steps that took.
 fn take_board(alloc: Global, feed: &Feed, zone: &Zone, id: &str) -> Result<(u64, u64)> {
-    let mut board = Board::open(alloc, feed, zone, id, ALWAYS, None)?;
+    let mut board = Board::open(alloc, feed, zone, id, ALWAYS, None, Times::Given)?;
     let taken = take_all(&mut board)?;
     Ok((taken, board.steps()))
 }
@@ -137,7 +137,7 @@ fn take_all(board: &mut Board<'_>) -> Result<u64> {
 }
 
 fn write_all(alloc: Global, feed: &Feed, zone: &Zone, id: &str) -> Result<u64> {
-    let mut board = Board::open(alloc, feed, zone, id, ALWAYS, None)?;
+    let mut board = Board::open(alloc, feed, zone, id, ALWAYS, None, Times::Given)?;
     match write_page(alloc, &mut board, u64::MAX, &mut Sink) {
         Ok(lines) => Ok(lines),
         Err(_) => Err(anyhow!("the page was not written")),

@@ -4,7 +4,7 @@ use anyhow::{Result, bail, ensure};
 use gtfs_feed::Feed;
 use gtfs_rows::{StopNo, TripNo};
 use gtfs_rules::{Passed, check};
-use gtfs_runs::StopLanes;
+use gtfs_runs::{StopLanes, Times};
 use gtfs_table::Tables;
 use std::alloc::Global;
 use std::hash::RandomState;
@@ -91,7 +91,7 @@ fn time_lanes<R: AllocGlobal + Clock>(rt: &R, feed: &Feed, least: &mut Measured)
     let stop = busiest(rt.alloc(), feed)?;
     ensure!(stop.0 < feed.stop_count(), "the feed has no stop");
     let start = Instant::now(rt)?;
-    let (lanes, _steps) = StopLanes::build(rt.alloc(), feed, stop)?;
+    let (lanes, _steps) = StopLanes::build(rt.alloc(), feed, stop, Times::Given)?;
     least.lanes = least.lanes.min(start.elapsed(rt)?);
     least.count = lanes.lists().len().saturating_add(lanes.periods().len());
     Ok(())

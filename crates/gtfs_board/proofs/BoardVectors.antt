@@ -10,7 +10,7 @@ use Rattle.gtfs_board.specs.Board.{width}
 use Rattle.gtfs_rows.specs.Departures.{is_departure, is_listed}
 use Rattle.gtfs_rows.specs.Key.{Key}
 use Rattle.gtfs_board.specs.Lines.{Listed}
-use Rattle.gtfs_board.specs.Shown.{shown}
+use Rattle.gtfs_board.specs.Shown.{mark_of, shown}
 
 abbrev stop : List ℕ → Stop
 stop id = record {
@@ -146,6 +146,18 @@ shown-inexact = refl
 
 shown-exact : shown (feed half_hours) (key (pos 1711958400) 25200 1) ≡ Some (listed 25200 mark.Scheduled)
 shown-exact = refl
+
+abbrev untimed : StopRow
+untimed = record (stop_row (codes "S1") 0 2) { arrival_time = None; departure_time = None }
+
+mark-untimed : mark_of (trip []) 28800 untimed ≡ mark.ScheduledFilled
+mark-untimed = refl
+
+mark-untimed-inexact : mark_of (trip half_hours) 23400 untimed ≡ mark.FrequencyFilled
+mark-untimed-inexact = refl
+
+mark-untimed-exact : mark_of (trip half_hours) 25200 untimed ≡ mark.ScheduledFilled
+mark-untimed-exact = refl
 
 -- ---- how many days wait at most
 

@@ -1,12 +1,11 @@
 -- The departures of lanes on days: where they stand, and in which order.
 use Rattle.std.proofs.Common.{◌≡◌, ◌+◌, ◌≤◌, ◌<◌, ℕ, zero, suc, ℤ, Bool, true, false, cond, List, [], ◌∷◌, ◌++◌, ◌⊎◌, inl, inr, map, length, get_or, Option, Some, None, refl, sym, ap, subst, ◌∙◌, arith, find, unwrap_or, w64, SFits}
-use Rattle.std.specs.Prelude.{◌-◌, ◌^◌, negsuc, option_map, pos, ◌+ℤ◌, ◌-ℤ◌, ◌*ℤ◌, ◌<ℤ◌, ◌≤ℤ◌, int_le, slice_get, All}
+use Rattle.std.specs.Prelude.{◌^◌, negsuc, option_map, pos, ◌+ℤ◌, ◌-ℤ◌, ◌*ℤ◌, ◌<ℤ◌, ◌≤ℤ◌, int_le, slice_get, All}
 use Rattle.std.specs.Int.{int_max, int_min}
 use Rattle.std.specs.List.{filter, flat_map, range_with_len}
 use Rattle.std.proofs.lemmas.Int.{ints, clamps}
 use Rattle.std.proofs.lemmas.Bool.{cases_Bool, cases_lt, true≢false, and_parts}
-use Rattle.std.proofs.lemmas.List.{get_or_past, length-map}
-use Rattle.std.proofs.lemmas.Option.{get_or_from_slice_get, slice_get-get_or}
+use Rattle.std.proofs.lemmas.List.{get_or_past}
 use Rattle.std.proofs.lemmas.List.Elements.{All-tail}
 use Rattle.jiff_core.specs.Calendar.{IsWithin}
 use Rattle.gtfs_columns.specs.Values.{if_there}
@@ -25,11 +24,10 @@ use Rattle.std.specs.Cmp.{int_cmp_is, nat_cmp_is, tied_itself}
 use Rattle.std.proofs.lemmas.Bool.{cases_order}
 use Rattle.std.proofs.lemmas.Cmp.{int_cmp_total, nat_cmp_total}
 use Rattle.gtfs_field.proofs.NumberFacts.{cases_int, int_le-true, le-int_le}
-use Rattle.gtfs_field.proofs.ListFacts.{mapped_at}
 use Rattle.gtfs_days.proofs.ActiveDays.{before_service as day_too_early}
 use Rattle.gtfs_runs.specs.Order.{event_cmp, is_above, is_later}
 use Rattle.gtfs_runs.specs.declared.seek.Seek.{Seek}
-use Rattle.gtfs_runs.specs.StopLanes.{LaneValue, StopLanesValue, lanes_of}
+use Rattle.gtfs_runs.specs.StopLanes.{StopLanesValue, lanes_of}
 use Rattle.gtfs_runs.specs.declared.event.Event.{Event}
 use Rattle.gtfs_rows.specs.Departures.{Origins}
 use Rattle.gtfs_board.specs.LaneDays.{departing, event_of, serves_on, no_lane, lane_at, ends_by, departures_on, departures_of_day, all_departures, AreAscending, AreTimely}
@@ -211,46 +209,6 @@ pub day_there : (d : ℤ) → is_service_day d ≡ true → (first_service_day �
 day_there d h =
     let both = and_parts (int_le first_service_day d) (int_le d last_service_day) h in
     (int_le-true first_service_day d both.0, int_le-true d last_service_day both.1)
-
--- ---- lanes by number
-
-got_left : {X : Type 0} (xs ys : List X) (i : ℕ) (d x : X) → slice_get xs i ≡ Some x → get_or (xs ++ ys) i d ≡ x
-got_left [] ys i d x at = cc
-got_left (z ∷ xs) ys zero d x at = ap (λ o. unwrap_or o z) at
-got_left (z ∷ xs) ys (suc i) d x at = got_left xs ys i d x at
-
-got_right : {X : Type 0} (xs ys : List X) (i : ℕ) (d : X) → length xs ≤ i → get_or (xs ++ ys) i d ≡ get_or ys (i - length xs) d
-got_right [] ys i d past = ap (λ n. get_or ys n d) (omega arith)
-got_right (z ∷ xs) ys zero d past = absurd (omega (arith, past))
-got_right (z ∷ xs) ys (suc i) d past = got_right xs ys i d (omega (arith, past)) ∙ ap (λ n. get_or ys n d) (omega arith)
-
--- first the lists
-pub lane_list : {A : Type 0} (f : A → LaneValue) (xs : List A) (lanes : StopLanesValue) (i : ℕ) (x : A) → map f xs ≡ lanes.lists → slice_get xs i ≡ Some x → lane_at lanes i ≡ f x
-lane_list f xs lanes i x lists at = got_left lanes.lists lanes.periods i no_lane (f x) (subst (λ ls. slice_get ls i ≡ Some (f x)) lists (mapped_at f xs i x at))
-
-pub lane_got : {A : Type 0} (f : A → LaneValue) (xs : List A) (lanes : StopLanesValue) (i : ℕ) (x : A) → map f xs ≡ lanes.lists → i < length xs → x ≡ get_or xs i x → lane_at lanes i ≡ f x
-lane_got f xs lanes i x lists inside is = lane_list f xs lanes i x lists (slice_get-get_or xs i x inside ∙ ap Some (sym is))
-
--- and then the periods
-pub lane_period : {A B : Type 0} (g : B → LaneValue) (f : A → LaneValue) (ys : List B) (xs : List A) (lanes : StopLanesValue) (i : ℕ) (x : A) → map g ys ≡ lanes.lists → map f xs ≡ lanes.periods
-    → length ys ≤ i → slice_get xs (i - length ys) ≡ Some x → lane_at lanes i ≡ f x
-lane_period g f ys xs lanes i x lists periods past at =
-    let count : length lanes.lists ≡ length ys = ap length (sym lists) ∙ length-map ys g in
-    got_right lanes.lists lanes.periods i no_lane (omega (arith, past, count))
-    ∙ ap (λ n. get_or lanes.periods (i - n) no_lane) count
-    ∙ get_or_from_slice_get lanes.periods (i - length ys) (f x) no_lane (subst (λ ls. slice_get ls (i - length ys) ≡ Some (f x)) periods (mapped_at f xs (i - length ys) x at))
-
-length_more : {X : Type 0} (xs ys : List X) → length (xs ++ ys) ≡ length xs + length ys
-length_more [] ys = omega arith
-length_more (x ∷ xs) ys = let rest = length_more xs ys in omega (arith, rest)
-
-pub period_got : {A B : Type 0} (g : B → LaneValue) (f : A → LaneValue) (ys : List B) (xs : List A) (lanes : StopLanesValue) (i : ℕ) (x : A) → map g ys ≡ lanes.lists → map f xs ≡ lanes.periods
-    → length ys ≤ i → i < length (lanes_of lanes) → x ≡ get_or xs (i - length ys) x → lane_at lanes i ≡ f x
-period_got g f ys xs lanes i x lists periods past within is =
-    let count : length lanes.lists ≡ length ys = ap length (sym lists) ∙ length-map ys g in
-    let others : length lanes.periods ≡ length xs = ap length (sym periods) ∙ length-map xs f in
-    let inside : i - length ys < length xs = omega (arith, past, within, count, others, length_more lanes.lists lanes.periods) in
-    lane_period g f ys xs lanes i x lists periods past (slice_get-get_or xs (i - length ys) x inside ∙ ap Some (sym is))
 
 module _ (p : Parts) (origin : Origins) (lanes : StopLanesValue) (end : ℤ) where
   abbrev on : ℕ → ℤ → List Candidate

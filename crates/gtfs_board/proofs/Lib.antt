@@ -20,6 +20,7 @@ pub mod BoardKeys
 pub mod Pages
 pub mod Seeks
 pub mod LaneDays
+pub mod LanesByNumber
 pub mod ServiceDays
 pub mod EventFacts
 pub mod StopBoards
@@ -38,3 +39,6 @@ mod SheetPatterns
 mod SheetRuns
 mod SheetStarts
 mod Sheets
+mod TimedRows
+mod TimedSheets
+mod TimedBoards

@@ -1,6 +1,6 @@
 -- A board that was opened: what is left of it, what is shown, and its bounds.
 use Rattle.std.proofs.Common.{◌≡◌, ◌+◌, ◌*◌, ◌≤◌, ◌<◌, ℕ, zero, suc, ℤ, ◌&&◌, Bool, true, false, List, [], ◌∷◌, map, length, Option, Some, None, refl, sym, ap, subst, ◌∙◌, inl, inr, arith, find, unwrap_or, w64, SFits}
-use Rattle.std.specs.Prelude.{◌==◌, ◌^◌, negsuc, pos, ◌+ℤ◌, ◌-ℤ◌, ◌<ℤ◌, ◌≤ℤ◌, All, bytes_eq, count_by, int_le, int_lt, slice_get}
+use Rattle.std.specs.Prelude.{◌==◌, ◌^◌, negsuc, pos, ◌+ℤ◌, ◌-ℤ◌, ◌<ℤ◌, ◌≤ℤ◌, bytes_eq, count_by, int_le, int_lt, slice_get}
 use Rattle.std.specs.Ordering.{is_lt, nat_cmp, on, ordering_then}
 use Rattle.std.specs.declared.cmp.Ordering.{Ordering}
 use Rattle.std.specs.declared.cmp.Ordering.TheVariants.{Less, Equal, Greater}
@@ -11,7 +11,7 @@ use Rattle.std.proofs.lemmas.List.{length-map}
 use Rattle.std.proofs.lemmas.List.Elements.{All-from_recursion}
 use Rattle.std.proofs.lemmas.Option.{get_or_from_slice_get, same_Some as some_is, slice_get_within}
 use Rattle.std.specs.Cmp.{tied_itself}
-use Rattle.std.specs.List.{AllByRecursion, filter, list_any, position}
+use Rattle.std.specs.List.{AllByRecursion, list_any, position}
 use Rattle.gtfs_field.proofs.NumberFacts.{int_lt-false, int_lt-true, le-int_le}
 use Rattle.gtfs_rows.specs.declared.stop.Stop.{Stop as StopRowOf}
 use Rattle.gtfs_board.proofs.Floors.{position_at, position_none, turned}
@@ -28,7 +28,6 @@ use Rattle.gtfs_rows.specs.Order.{Ascends}
 use Rattle.gtfs_rows.specs.Rows.{Stop, StopRow, Trip}
 use Rattle.gtfs_rows.specs.Views.{IsSoundParts, content_of_parts, service_ids, stop_ids, stop_of, stop_row_of, text_of_number, trip_ids}
 use Rattle.gtfs_rows.specs.declared.parts.Parts.{Parts}
-use Rattle.gtfs_runs.specs.Lanes.{latest}
 use Rattle.gtfs_runs.specs.StopLanes.{AreLanesOf, StopLanesValue, lanes_of}
 use Rattle.gtfs_field.specs.TextOrder.{text_cmp}
 use Rattle.gtfs_board.specs.Board as board
@@ -38,7 +37,7 @@ use Rattle.gtfs_rows.specs.Departures.{IsBoard, departs_at, is_above, is_member}
 use Rattle.gtfs_board.specs.Floors.{IsNumbered, is_from}
 use Rattle.gtfs_rows.specs.Key.{Key, key_cmp}
 use Rattle.gtfs_board.specs.LaneDays.{all_departures, lane_at}
-use Rattle.gtfs_board.specs.Opening.{IsOpen, IsOpened, board_value}
+use Rattle.gtfs_board.specs.Opening.{IsOpen, board_value}
 use Rattle.gtfs_board.specs.Span.{is_span, is_writable}
 use Rattle.gtfs_board.specs.declared.span.Span.{Span}
 use Rattle.gtfs_board.specs.Showing.{IsOfFeed, key_in, listed_in, times_of, trip_in}
@@ -50,16 +49,13 @@ use Rattle.gtfs_board.specs.merge.Lanes.{is_reached}
 use Rattle.gtfs_board.specs.merge.Order.{Each, In, IsAscending, tally}
 use Rattle.gtfs_board.proofs.BoardKeys.{board-of, in-member}
 use Rattle.gtfs_board.proofs.CandidateKeys.{compares}
-use Rattle.gtfs_board.proofs.Candidates.{candidates_strict}
 use Rattle.gtfs_board.proofs.EventFacts.{any_at, text_at, lane_there, map_at, trip_back}
 use Rattle.gtfs_board.proofs.Merges.{tally_sum}
 use Rattle.gtfs_board.proofs.KeyOrder.{key_cmp_total}
 use Rattle.gtfs_board.proofs.LaneDays.{day_there, serves_within}
 use Rattle.gtfs_board.proofs.Orders.{Each-in}
-use Rattle.gtfs_board.proofs.Rests.{ascending-in_order, filter-in, in_order-in}
-use Rattle.gtfs_board.proofs.StopBoards.{ids_ascend, numbered, stand_for, traced, trip_numbered}
+use Rattle.gtfs_board.proofs.StopBoards.{ids_ascend, numbered, stand_for, traced}
 use Rattle.gtfs_board.proofs.Timely.{event_small, instant_there}
-use Rattle.gtfs_board.proofs.Window.{each_in}
 
 -- ---- what is shown
 
@@ -95,26 +91,21 @@ shown_of f k t r trip row = rw (trip, row) refl
 pub listed_at : (p : Parts) (c : Candidate) (t : Trip) (r : StopRow) → trip_in p c ≡ Some t → slice_get t.stop_rows c.row ≡ Some r → listed_in p c ≡ shown_at (content_of_parts p) (key_in p c) t r
 listed_at p c t r trip row = rw (trip, row) refl
 
-module _ (p : Parts) (sound : IsSoundParts p) (s : List ℕ) (lanes : StopLanesValue) (are : AreLanesOf (content_of_parts p) s (service_ids p) (lanes_of lanes)) (zone : Zone) (end : ℤ) where
-  pub shown_is : (c : Candidate) → In c (all_departures p (zone_origin zone) lanes end) → IsShown (content_of_parts p) (listed_in p c)
-  shown_is c there =
-      let f = content_of_parts p in
-      let t = traced p sound s lanes are (zone_origin zone) end c there in
-      let e = t.event in
-      let number : c.trip ≡ e.trip.0 = ap (λ (x : Candidate). x.trip) t.is in
-      let row_is : c.row ≡ e.row = ap (λ (x : Candidate). x.row) t.is in
-      let sequence : c.sequence ≡ t.passes.row.stop_sequence = ap (λ (x : Candidate). x.sequence) t.is ∙ sym t.passes.sequence in
-      let trip : trip_in p c ≡ Some t.passes.trip = ap (slice_get f.trips) number ∙ t.passes.trip_at in
-      let row : slice_get t.passes.trip.stop_rows c.row ≡ Some t.passes.row = ap (slice_get t.passes.trip.stop_rows) row_is ∙ t.passes.row_at in
-      let id : (key_in p c).trip ≡ t.passes.trip.trip_id = ap (text_of_number (trip_ids p)) number ∙ (trip_numbered p sound s lanes are (zone_origin zone) end e.trip.0 t.passes.trip t.passes.trip_at).1 in
-      let named : trip_named f (key_in p c).trip ≡ Some t.passes.trip = ap (trip_named f) id ∙ found_id (λ x. x.trip_id) f.trips e.trip.0 t.passes.trip sound.content.in_order.trips t.passes.trip_at in
-      let up : Ascends (on (λ x. x.stop_sequence) nat_cmp) t.passes.trip.stop_rows =
-      subst (λ (x : Trip). Ascends (on (λ y. y.stop_sequence) nat_cmp) x.stop_rows) (get_or_from_slice_get f.trips e.trip.0 t.passes.trip t.passes.trip t.passes.trip_at)
-      (sound.content.in_order.stop_rows e.trip.0 t.passes.trip (slice_get_within f.trips e.trip.0 t.passes.trip t.passes.trip_at)) in
-      let found : row_numbered t.passes.trip (key_in p c).sequence ≡ Some t.passes.row = ap (row_numbered t.passes.trip) sequence ∙ found_row t.passes.trip.stop_rows e.row t.passes.row up t.passes.row_at in
-      let same = listed_at p c t.passes.trip t.passes.row trip row in
-      shown_of f (key_in p c) t.passes.trip t.passes.row named found ∙ ap Some (sym same)
+-- what is shown of a candidate whose numbers name a trip and a row of it
+pub shown-at : (p : Parts) → IsSoundParts p → (c : Candidate) (t : Trip) (r : StopRow) → trip_in p c ≡ Some t → slice_get t.stop_rows c.row ≡ Some r → c.sequence ≡ r.stop_sequence
+    → IsShown (content_of_parts p) (listed_in p c)
+shown-at p sound c t r trip row sequence =
+    let f = content_of_parts p in
+    let b = trip_back p p.trips (stop_rows_by_trip p) (frequencies_by_trip p) c.trip t trip in
+    let id : (key_in p c).trip ≡ t.trip_id = text_at (λ x. x.trip_id) p.trips c.trip b.0 b.3.0 ∙ ap (λ (x : Trip). x.trip_id) b.3.1.1.1 in
+    let named : trip_named f (key_in p c).trip ≡ Some t = ap (trip_named f) id ∙ found_id (λ x. x.trip_id) f.trips c.trip t sound.content.in_order.trips trip in
+    let up : Ascends (on (λ x. x.stop_sequence) nat_cmp) t.stop_rows =
+    subst (λ (x : Trip). Ascends (on (λ y. y.stop_sequence) nat_cmp) x.stop_rows) (get_or_from_slice_get f.trips c.trip t t trip)
+    (sound.content.in_order.stop_rows c.trip t (slice_get_within f.trips c.trip t trip)) in
+    let found : row_numbered t (key_in p c).sequence ≡ Some r = ap (row_numbered t) sequence ∙ found_row t.stop_rows c.row r up row in
+    shown_of f (key_in p c) t r named found ∙ ap Some (sym (listed_at p c t r trip row))
 
+module _ (p : Parts) (sound : IsSoundParts p) (s : List ℕ) (lanes : StopLanesValue) (are : AreLanesOf (content_of_parts p) s (service_ids p) (lanes_of lanes)) (zone : Zone) (end : ℤ) where
   pub of_feed : (c : Candidate) → In c (all_departures p (zone_origin zone) lanes end) → IsOfFeed p c
   of_feed c there =
       let t = traced p sound s lanes are (zone_origin zone) end c there in
@@ -175,27 +166,6 @@ module _ (p : Parts) (sound : IsSoundParts p) (s : List ℕ) (lanes : StopLanesV
       ∙ regroup (departs_at f (zone_origin zone) s k) (int_le from k.instant) (int_le k.instant end) (is_above after k))
       (ids_ascend p sound s lanes are (zone_origin zone) end) (stand_for p sound s lanes are (zone_origin zone) end)
       (λ c there. above c (numbered_in c there))
-
-  in_all : (floor c : Candidate) → In c (rest_above (all_departures p (zone_origin zone) lanes end) floor) → In c (all_departures p (zone_origin zone) lanes end)
-  in_all floor c there =
-      (filter-in (candidate_lt floor) (all_departures p (zone_origin zone) lanes end) c
-      (in_order-in candidates_strict (filter (candidate_lt floor) (all_departures p (zone_origin zone) lanes end)) c there)).0
-
-  pub all_of_feed : (floor : Candidate) → Each (IsOfFeed p) (rest_above (all_departures p (zone_origin zone) lanes end) floor)
-  all_of_feed floor = each_in (IsOfFeed p) (rest_above (all_departures p (zone_origin zone) lanes end) floor) (λ c there. of_feed c (in_all floor c there))
-
-  pub all_ascending : (floor : Candidate) → IsAscending candidate_lt (rest_above (all_departures p (zone_origin zone) lanes end) floor)
-  all_ascending floor = ascending-in_order candidates_strict (filter (candidate_lt floor) (all_departures p (zone_origin zone) lanes end))
-
-  pub all_shown : (floor : Candidate) → All (IsShown (content_of_parts p)) (map (listed_in p) (rest_above (all_departures p (zone_origin zone) lanes end) floor))
-  all_shown floor = mapped (rest_above (all_departures p (zone_origin zone) lanes end) floor) (λ c there. shown_is c (in_all floor c there))
-    where
-      each_mapped : (cs : List Candidate) → ((c : Candidate) → In c cs → IsShown (content_of_parts p) (listed_in p c)) → AllByRecursion (IsShown (content_of_parts p)) (map (listed_in p) cs)
-      each_mapped [] h = tt
-      each_mapped (c ∷ cs) h = (h c (inl refl), each_mapped cs (λ d there. h d (inr there)))
-
-      mapped : (cs : List Candidate) → ((c : Candidate) → In c cs → IsShown (content_of_parts p) (listed_in p c)) → All (IsShown (content_of_parts p)) (map (listed_in p) cs)
-      mapped cs h = All-from_recursion (IsShown (content_of_parts p)) (map (listed_in p) cs) (each_mapped cs h)
 
 pub keys_listed : (p : Parts) (cs : List Candidate) → keys_of (map (listed_in p) cs) ≡ map (key_in p) cs
 keys_listed p [] = refl
@@ -318,42 +288,6 @@ fits_less x low fits = omega (arith, ints, low, fits)
 pub until_less : (span : Span) → is_span span ≡ true → SFits w64 span.until → SFits w64 (span.until -ℤ pos 1)
 until_less span valid fits =
     fits_less span.until (writable_low span.until (and_parts (int_le span.from span.until && is_writable span.from) (is_writable span.until) valid).1) fits
-
--- ---- the board as it was opened
-
-pub opened_board : (p : Parts) (sound : IsSoundParts p) (s : List ℕ) (lanes : StopLanesValue) (are : AreLanesOf (content_of_parts p) s (service_ids p) (lanes_of lanes)) (zone : Zone)
-    (span : Span) (after : Option Key) (end : ℤ) (floor : Candidate) (v : MergeValue) → end ≡ span.until -ℤ pos 1
-    → v.rest ≡ rest_above (all_departures p (zone_origin zone) lanes end) floor
-    → ((c : Candidate) → IsNumbered p (length (lanes_of lanes)) c → candidate_lt floor c ≡ is_from p span.from after c)
-    → lanes.greatest ≡ latest (content_of_parts p) s → floor.instant ≡ start_of span.from after
-    → merge.HasSettings (length (lanes_of lanes)) lanes.greatest floor.instant end service_days v → merge.IsQueued v → v.steps ≤ v.lanes * merge.reach v
-    → IsOpen p v × IsOpened (content_of_parts p) zone s span after (board_value p zone v)
-opened_board p sound s lanes are zone span after end floor v ends rest above greatest start settings queued steps =
-    let f = content_of_parts p in
-    let kept : IsOpen p v = record {
-      of_feed = subst (Each (IsOfFeed p)) (sym rest) (all_of_feed p sound s lanes are zone end floor);
-      ascending = subst (IsAscending candidate_lt) (sym rest) (all_ascending p sound s lanes are zone end floor);
-      days = settings.4;
-    } in
-    let keys : keys_of (map (listed_in p) v.rest) ≡ map (key_in p) (rest_above (all_departures p (zone_origin zone) lanes end) floor) = keys_listed p v.rest ∙ ap (map (key_in p)) rest in (
-      kept,
-      record {
-        board = subst (IsBoard f (zone_origin zone) s span.from span.until after) (sym keys) (board_left p sound s lanes are zone end span.from span.until after floor ends above);
-        shown = subst (λ cs. All (IsShown f) (map (listed_in p) cs)) (sym rest) (all_shown p sound s lanes are zone end floor);
-        queued = queued_is p zone v (ids_ascend p sound s lanes are (zone_origin zone) end) kept queued;
-        settings = record {
-          lanes = settings.0 ∙ are.counted;
-          latest = settings.1 ∙ greatest;
-          start = settings.2 ∙ start;
-          until = last_of v.end end span.until settings.3 ends;
-          zone = refl;
-        };
-        steps = subst (λ n. v.steps ≤ v.lanes * n) (sym (reach_is p zone v settings.4)) steps;
-      },
-    )
-  where
-    last_of : (x end until : ℤ) → x ≡ end → end ≡ until -ℤ pos 1 → (x +ℤ pos 1) ≡ until
-    last_of x end until is ends = omega (arith, ints, is, ends)
 
 -- ---- the stop of an id
 

@@ -168,6 +168,9 @@ pub ranged-more : {Y Z : Type 0} (g : Y → Z) (f : ℕ → Z) (n : ℕ) (old ne
 ranged-more g f n old new y so_far pushed is =
     ap (map g) pushed ∙ map-append g old (y ∷ []) ∙ (λ i. so_far i ++ is i ∷ []) ∙ sym (map-range_with_len_more f 0 n n (omega arith))
 
+pub ranged-pushed : {Z : Type 0} (f : ℕ → Z) (n : ℕ) (old new : List Z) (z : Z) → old ≡ map f (range_with_len 0 n) → new ≡ old ++ z ∷ [] → z ≡ f n → new ≡ map f (range_with_len 0 (n + 1))
+ranged-pushed f n old new z so_far pushed is = pushed ∙ (λ i. so_far i ++ is i ∷ []) ∙ sym (map-range_with_len_more f 0 n n (omega arith))
+
 -- the element at an index, whatever the default
 pub item-at : {X : Type 0} (xs : List X) (n : ℕ) (d : X) → n < length xs → get_or xs n d ≡ get_or xs n (get_or xs n d)
 item-at xs n d within = sym (get_or_from_slice_get xs n (get_or xs n d) (get_or xs n d) (slice_get-get_or xs n d within))

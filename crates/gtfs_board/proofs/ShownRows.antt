@@ -1,13 +1,13 @@
 -- What the code shows of a candidate's rows.
 use Rattle.std.proofs.Common.{◌≡◌, ◌<◌, ℕ, ◌&&◌, List, [], length, Some, sym, ap, subst, ◌∙◌, unwrap_or}
-use Rattle.std.specs.Prelude.{◌==◌, All, IfSome, option_map, option_and_then, slice_get}
+use Rattle.std.specs.Prelude.{◌==◌, not, All, IfSome, is_some, option_map, option_and_then, slice_get}
 use Rattle.std.specs.List.{list_any}
 use Rattle.std.specs.Option.{option_or}
 use Rattle.std.proofs.lemmas.Option.{get_or_from_slice_get, slice_get_within}
 use Rattle.gtfs_field.proofs.ListFacts.{any_mapped, mapped_at as at_map}
 use Rattle.gtfs_rows.proofs.TripFacts.{stop_times}
 use Rattle.gtfs_rows.proofs.TripsAt.{content_trip}
-use Rattle.gtfs_rows.specs.Trips.{frequencies_by_trip, stop_rows_by_trip}
+use Rattle.gtfs_rows.specs.Trips.{frequencies_by_trip, left_at, stop_rows_by_trip}
 use Rattle.gtfs_rows.specs.Rows.{Frequency, Route}
 use Rattle.gtfs_rows.specs.Views.{IsSoundParts, content_of_parts, frequency_of, route_ids, route_of, stop_ids, stop_row_of, text_of_number, trip_of}
 use Rattle.gtfs_rows.specs.declared.frequency.Frequency.{Frequency as PeriodRow}
@@ -52,7 +52,7 @@ module _ (p : Parts) (sound : IsSoundParts p) where
       → slice_get rs c.row ≡ Some r → slice_get p.routes row.route_id.0 ≡ Some way
       → d.key ≡ key_in p c → d.stop ≡ text_of_number (stop_ids p) r.stop_id.0 → d.route ≡ unwrap_or (option_or way.route_short_name way.route_long_name) []
       → d.headsign ≡ unwrap_or (option_or (option_map (text_of_number p.headsigns) r.stop_headsign) row.trip_headsign) []
-      → d.mark ≡ mark_if (list_any (λ q. starts_run (frequency_of q) c.run && ((frequency_of q).exact_times == 0)) fs)
+      → d.mark ≡ mark_if (list_any (λ q. starts_run (frequency_of q) c.run && ((frequency_of q).exact_times == 0)) fs) (not (is_some (left_at r)))
       → d ≡ listed_in p c
   shown_rows c row rs fs r way d at_trip at_rows at_periods at at_route key stop route sign mark =
       let t = trip_of p row rs fs in
@@ -60,6 +60,6 @@ module _ (p : Parts) (sound : IsSoundParts p) where
       let trip : trip_in p c ≡ Some t = content_trip p c.trip row rs fs at_trip at_rows at_periods in
       let time : slice_get t.stop_rows c.row ≡ Some x = at_map (stop_row_of p) rs c.row r at in
       let name = route ∙ sym (route_found row.route_id.0 way at_route) in
-      let marks = mark ∙ ap mark_if (sym (any_mapped (λ (q : Frequency). starts_run q c.run && (q.exact_times == 0)) frequency_of fs)) in
+      let marks = mark ∙ ap (λ b. mark_if b (not (is_some (left_at r)))) (sym (any_mapped (λ (q : Frequency). starts_run q c.run && (q.exact_times == 0)) frequency_of fs)) in
       let is : d ≡ shown_at (content_of_parts p) (key_in p c) t x = λ i. record { key = key i; stop = stop i; route = name i; headsign = sign i; mark = marks i } in
       is ∙ sym (listed_at p c t x trip time)

@@ -6,10 +6,12 @@ use Rattle.gtfs_days.specs.Service.{is_active, service_days}
 use Rattle.gtfs_rows.specs.Order.{Ascends}
 use Rattle.gtfs_rows.specs.declared.parts.Parts.{Parts}
 use Rattle.gtfs_runs.specs.Order.{event_cmp}
-use Rattle.gtfs_runs.specs.StopLanes.{LaneValue, StopLanesValue, lanes_of}
+use Rattle.gtfs_runs.specs.StopLanes.{LaneValue, StopLanesValue, filled_value, lanes_of, list_value, period_value}
 use Rattle.gtfs_runs.specs.declared.event.Event.{Event}
 use Rattle.gtfs_rows.specs.Departures.{Origins}
 use Rattle.gtfs_board.specs.declared.merge.candidate.Candidate.{Candidate}
+use Rattle.gtfs_board.specs.declared.service_days.any_lane.AnyLane.{AnyLane}
+use Rattle.gtfs_board.specs.declared.service_days.any_lane.AnyLane.TheVariants as kind
 
 -- the departure that an event of a lane is on a day with this origin
 abbrev pub departing : ℤ → ℤ → ℕ → Event → Candidate
@@ -31,6 +33,12 @@ event_of c = record { at = c.at; trip = record { 0 = c.trip }; run = c.run; seq 
 -- the service of a number runs on the day
 abbrev pub serves_on : Parts → ℕ → ℤ → Bool
 serves_on p n d = if_there (slice_get p.services n) (λ s. is_active s.service d)
+
+-- a lane of one of the kinds
+abbrev pub any_value : AnyLane → LaneValue
+any_value (kind.List lane) = list_value lane.now
+any_value (kind.Period lane) = period_value lane.now
+any_value (kind.Filled lane) = filled_value lane.now
 
 abbrev pub no_lane : LaneValue
 no_lane = record { service = 0; events = [] }

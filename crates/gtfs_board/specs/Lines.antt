@@ -44,6 +44,8 @@ clock_text c = year_text c.year ++ codes "-" ++ wide 2 c.month ++ codes "-" ++ w
 abbrev pub mark_text : Mark → List ℕ
 mark_text mark.Scheduled = codes "s"
 mark_text mark.Frequency = codes "f"
+mark_text mark.ScheduledFilled = codes "si"
+mark_text mark.FrequencyFilled = codes "fi"
 
 -- key, clock, stop, route, headsign and mark, one tab between two of them, and a line feed
 abbrev pub line_text : Civil → Listed → List ℕ

@@ -14,6 +14,8 @@ use Rattle.gtfs_board.specs.Shown.{IsShown}
 use Rattle.gtfs_board.specs.declared.span.Span.{Span}
 use Rattle.gtfs_board.specs.merge.Candidates.{MergeValue, candidate_lt}
 use Rattle.gtfs_board.specs.merge.Order.{Each, IsAscending}
+use Rattle.gtfs_times.specs.Filling.{timed}
+use Rattle.gtfs_times.specs.declared.times.Times.{Times}
 
 -- what contracts see of a board, from the candidates that are left
 abbrev pub board_value : Parts → Zone → MergeValue → BoardValue
@@ -42,10 +44,10 @@ pub record HasSettings (f : Content) (z : Zone) (s : List ℕ) (span : Span) (af
   pub until : b.until ≡ span.until
   pub zone : b.zone ≡ z
 
--- the board of a stop, as it was opened
-pub record IsOpened (f : Content) (z : Zone) (s : List ℕ) (span : Span) (after : Option Key) (b : BoardValue) : Type 0 where
-  pub board : IsBoard f (zone_origin z) s span.from span.until after (keys_of b.rest)
+-- the board of a stop, as it was opened: of the content under these times. What it shows is that of the rows as they are given
+pub record IsOpened (times : Times) (f : Content) (z : Zone) (s : List ℕ) (span : Span) (after : Option Key) (b : BoardValue) : Type 0 where
+  pub board : IsBoard (timed times f) (zone_origin z) s span.from span.until after (keys_of b.rest)
   pub shown : All (IsShown f) b.rest
   pub queued : IsQueued b
-  pub settings : HasSettings f z s span after b
+  pub settings : HasSettings (timed times f) z s span after b
   pub steps : b.steps ≤ steps_for_days b

@@ -1,14 +1,16 @@
 -- What the code makes on the way to a timetable: columns, which are runs of trips by their numbers, and the sheet of a pattern.
-use Rattle.std.specs.Prelude.{◌≡◌, ℕ, ◌<◌, ◌≤◌, ◌+◌, ◌==◌, ◌&&◌, Bool, true, cond, List, [], ◌∷◌, All, length, map, filter, slice_get, Option, Some, None, option_and_then, ℤ}
+use Rattle.std.specs.Prelude.{◌≡◌, ℕ, ◌<◌, ◌≤◌, ◌+◌, ◌==◌, ◌&&◌, Bool, true, cond, List, [], ◌∷◌, All, is_some, length, map, filter, slice_get, slice_index_or, Option, Some, None, option_and_then, unwrap_or, ℤ}
 use Rattle.std.specs.List.{filter_map, range_with_len}
 use Rattle.std.specs.declared.cmp.Ordering.{Ordering}
 use Rattle.std.specs.Ordering.{is_lt, nat_cmp, on, then_cmp}
 use Rattle.gtfs_columns.specs.Values.{if_there}
 use Rattle.gtfs_rows.specs.Content.{Content}
 use Rattle.gtfs_rows.specs.Rows.{Trip}
+use Rattle.gtfs_rows.specs.Trips.{left_at}
 use Rattle.gtfs_rows.specs.Views.{content_of_parts, stop_ids, text_of_number, trip_ids}
 use Rattle.gtfs_rows.specs.declared.numbers.TripNo.{TripNo}
 use Rattle.gtfs_rows.specs.declared.parts.Parts.{Parts}
+use Rattle.gtfs_rows.specs.declared.stop_row.StopRow.{StopRow as StopTime}
 use Rattle.gtfs_runs.specs.Counts.{tally}
 use Rattle.gtfs_runs.specs.Patterns.{rows_of}
 use Rattle.gtfs_rows.specs.Runs.{is_run}
@@ -50,6 +52,16 @@ pub record IsShownAlong (p : Parts) (stop_count : ℕ) (c : Column) : Type 0 whe
 -- when the run passes the row at a position, none where the row is untimed
 abbrev pub time_of_column : Content → ℕ → Column → Option ℕ
 time_of_column f i c = option_and_then (λ t. option_and_then (time_at t c.start) (row_at t i)) (slice_get f.trips c.trip.0)
+
+-- when it passes each of this many rows
+abbrev pub times_of_column : Content → ℕ → Column → List (Option ℕ)
+times_of_column f stop_count c = map (λ i. time_of_column f i c) (range_with_len 0 stop_count)
+
+-- what the times of a trip's stop times keep: none is left after 999:59:59, and none with a time before the first
+pub record KeepTimes (rows : List StopTime) : Type 0 where
+  pub late : (k : ℕ) (d : StopTime) → k < length rows → unwrap_or (left_at (slice_index_or rows k d)) 0 ≤ 3_599_999
+  pub later : (k : ℕ) (d : StopTime) → k < length rows → is_some (left_at (slice_index_or rows k d)) ≡ true
+      → unwrap_or (left_at (slice_index_or rows 0 d)) 0 ≤ unwrap_or (left_at (slice_index_or rows k d)) 0
 
 abbrev pub named_column : Parts → Column → Run
 named_column p c = (c.start, text_of_number (trip_ids p) c.trip.0)

@@ -30,7 +30,7 @@ listed_in p c = record {
   stop = unwrap_or (option_map (λ r. r.stop_id) (row_in p c)) [];
   route = unwrap_or (option_map (λ t. route_name (content_of_parts p) t.route_id) (trip_in p c)) [];
   headsign = unwrap_or (option_and_then (λ t. option_map (headsign t) (slice_get t.stop_rows c.row)) (trip_in p c)) [];
-  mark = unwrap_or (option_map (λ t. mark_of t c.run) (trip_in p c)) mark.Scheduled;
+  mark = unwrap_or (option_and_then (λ t. option_map (mark_of t c.run) (slice_get t.stop_rows c.row)) (trip_in p c)) mark.Scheduled;
 }
 
 -- the stop times of a trip

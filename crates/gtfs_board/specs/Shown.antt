@@ -1,11 +1,11 @@
 -- What a board shows of a departure.
 -- GTFS Schedule Reference, routes.txt (names), trips.txt and stop_times.txt (headsigns), frequencies.txt (`exact_times`).
-use Rattle.std.specs.Prelude.{◌≡◌, ℕ, ◌==◌, ◌&&◌, Bool, true, false, List, [], bytes_eq, find, Option, Some, option_map, option_and_then, unwrap_or}
+use Rattle.std.specs.Prelude.{◌≡◌, ℕ, ◌==◌, ◌&&◌, not, Bool, true, false, List, [], bytes_eq, find, Option, Some, option_map, option_and_then, unwrap_or}
 use Rattle.std.specs.List.{list_any}
 use Rattle.std.specs.Option.{option_or}
 use Rattle.gtfs_rows.specs.Content.{Content}
 use Rattle.gtfs_rows.specs.Rows.{Route, StopRow, Trip}
-use Rattle.gtfs_rows.specs.Runs.{starts_run}
+use Rattle.gtfs_rows.specs.Runs.{is_timed, starts_run}
 use Rattle.gtfs_board.specs.declared.departure.Mark.{Mark}
 use Rattle.gtfs_board.specs.declared.departure.Mark.TheVariants as mark
 use Rattle.gtfs_rows.specs.Key.{Key}
@@ -23,13 +23,16 @@ route_name f id = unwrap_or (option_and_then name_of (find (λ r. bytes_eq r.rou
 abbrev pub headsign : Trip → StopRow → List ℕ
 headsign t row = unwrap_or (option_or row.stop_headsign t.trip_headsign) []
 
-abbrev pub mark_if : Bool → Mark
-mark_if true = mark.Frequency
-mark_if false = mark.Scheduled
+-- whether the times of the run are not exact, and whether the row has no time of its own
+abbrev pub mark_if : Bool → Bool → Mark
+mark_if false false = mark.Scheduled
+mark_if true false = mark.Frequency
+mark_if false true = mark.ScheduledFilled
+mark_if true true = mark.FrequencyFilled
 
--- a run of a frequency row whose `exact_times` is 0 is marked
-abbrev pub mark_of : Trip → ℕ → Mark
-mark_of t run = mark_if (list_any (λ p. starts_run p run && (p.exact_times == 0)) t.frequencies)
+-- a run of a frequency row whose `exact_times` is 0 is marked, and so is a row without a time of its own
+abbrev pub mark_of : Trip → ℕ → StopRow → Mark
+mark_of t run row = mark_if (list_any (λ p. starts_run p run && (p.exact_times == 0)) t.frequencies) (not (is_timed row))
 
 -- the trip of an id, and its row of a sequence
 abbrev pub trip_named : Content → List ℕ → Option Trip
@@ -40,7 +43,7 @@ row_numbered t sequence = find (λ row. row.stop_sequence == sequence) t.stop_ro
 
 -- what is shown of a run of a trip that departs from a row
 abbrev pub shown_at : Content → Key → Trip → StopRow → Listed
-shown_at f k t row = record { key = k; stop = row.stop_id; route = route_name f t.route_id; headsign = headsign t row; mark = mark_of t k.run }
+shown_at f k t row = record { key = k; stop = row.stop_id; route = route_name f t.route_id; headsign = headsign t row; mark = mark_of t k.run row }
 
 -- what is shown of the departure with this key
 abbrev pub shown : Content → Key → Option Listed

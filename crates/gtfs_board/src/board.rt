@@ -10,6 +10,7 @@ ghost use Rattle.gtfs_board.specs.Opening.{HasSettings, IsOpened};
 ghost use Rattle.gtfs_board.specs.Shown.{IsShown};
 ghost use Rattle.gtfs_board.specs.Span.{is_span};
 ghost use Rattle.gtfs_board.specs.merge.Candidates.{taken};
+ghost use Rattle.gtfs_times.specs.Filling.{timed};
 
 use crate::departure::Departure;
 use crate::floor::floor_of;
@@ -21,7 +22,7 @@ use crate::span::Span;
 use gtfs_days::Zone;
 use gtfs_field::OutOfMemory;
 use gtfs_rows::StopNo;
-use gtfs_runs::{Feed, StopLanes};
+use gtfs_runs::{Feed, StopLanes, Times};
 use std::alloc::Global;
 use std::marker::Model;
 use std::mem::size_of;
@@ -53,11 +54,11 @@ pub struct Board<'a> {
 }
 
 // A board is small itself: beside what it is lent it has the lanes and the queue, and no other collection.
-const _: () = prove!(size_of::<Board<'static>>() == 248);
+const _: () = prove!(size_of::<Board<'static>>() == 272);
 
-const _: () = prove!(size_of::<Merge<Days<'static>>>() == 232);
+const _: () = prove!(size_of::<Merge<Days<'static>>>() == 256);
 
-const _: () = prove!(size_of::<Days<'static>>() == 80);
+const _: () = prove!(size_of::<Days<'static>>() == 104);
 
 impl<'a> Model for Board<'a> {
     ghost use Rattle.gtfs_board.specs.Board.{BoardValue};
@@ -74,7 +75,9 @@ impl<'a> Board<'a> {
     /// The board of a stop over a span, or of what lies above a key there. The key need not be that of a departure.
     ///
     /// The departures of a station are also those of its stops and platforms. A run that starts on one service day may
-    /// depart on the next, and is listed by its instant (GTFS Schedule Reference, `stop_times.txt`).
+    /// depart on the next, and is listed by its instant (GTFS Schedule Reference, `stop_times.txt`). A stop time without a
+    /// time has no departure under [`Times::Given`]; under [`Times::Interpolated`] it has one at the time of an even pace, and
+    /// the mark of its line says so.
     ///
     /// # Errors
     /// `UnknownStop` where the feed has no stop of this id. Else `BadSpan` where the span is not valid, as
@@ -86,22 +89,23 @@ impl<'a> Board<'a> {
         stop: &str,
         span: Span,
         after: Option<&Key<'_>>,
+        times: Times,
     ) -> Result<Board<'a>, BoardFault>
         ensures unknown { IsErrOf result BoardFault.UnknownStop
             ↔ (is_stop (content_of feed.now) stop.now ≡ false) }
         ensures bad { IsErrOf result BoardFault.BadSpan
             ↔ ((is_stop (content_of feed.now) stop.now ≡ true) × (is_span span ≡ false)) }
-        ensures board { IfOk result (λ b. IsBoard (content_of feed.now)
+        ensures board { IfOk result (λ b. IsBoard (timed times (content_of feed.now))
             (zone_origin zone.now) stop.now
             span.from span.until (option_map (λ k. plain_key k.now) after.entry) (keys_of b.rest)) }
         ensures shown { IfOk result (λ b. All (IsShown (content_of feed.now)) b.rest) }
         ensures queued { IfOk result IsQueued }
-        ensures settings { IfOk result (HasSettings (content_of feed.now) zone.now stop.now span
-            (option_map (λ k. plain_key k.now) after.entry)) }
+        ensures settings { IfOk result (HasSettings (timed times (content_of feed.now)) zone.now
+            stop.now span (option_map (λ k. plain_key k.now) after.entry)) }
         ensures steps { IfOk result (λ b. b.steps ≤ steps_for_days b) }
     {
         match feed.stop(stop) {
-            Some(number) => Board::over(alloc, feed, zone, number, span, after),
+            Some(number) => Board::over(alloc, feed, zone, number, span, after, times),
             None => Err(BoardFault::UnknownStop),
         }
     }
@@ -114,18 +118,19 @@ impl<'a> Board<'a> {
         stop: StopNo,
         span: Span,
         after: Option<&Key<'_>>,
+        times: Times,
     ) -> Result<Board<'a>, BoardFault>
         requires { stop.0 < length feed.now.stops }
         ensures known { IfErr result (λ e. e ≢ BoardFault.UnknownStop) }
         ensures bad { IsErrOf result BoardFault.BadSpan ↔ (is_span span ≡ false) }
-        ensures opened { IfOk result (IsOpened (content_of feed.now) zone.now
+        ensures opened { IfOk result (IsOpened times (content_of feed.now) zone.now
             (text_of_number (stop_ids feed.now) stop.0) span
             (option_map (λ k. plain_key k.now) after.entry)) }
     {
         if !span.is_valid() {
             return Err(BoardFault::BadSpan);
         }
-        match Board::of_stop(alloc, feed, zone, stop, span, after) {
+        match Board::of_stop(alloc, feed, zone, stop, span, after, times) {
             Ok(board) => Ok(board),
             Err(_) => Err(BoardFault::OutOfMemory),
         }
@@ -139,15 +144,16 @@ impl<'a> Board<'a> {
         stop: StopNo,
         span: Span,
         after: Option<&Key<'_>>,
+        times: Times,
     ) -> Result<Board<'a>, OutOfMemory>
         requires stop { stop.0 < length feed.now.stops }
         requires span { is_span span ≡ true }
-        ensures { IfOk result (IsOpened (content_of feed.now) zone.now
+        ensures { IfOk result (IsOpened times (content_of feed.now) zone.now
             (text_of_number (stop_ids feed.now) stop.0) span
             (option_map (λ k. plain_key k.now) after.entry)) }
     {
         feed.soundness();
-        let (lanes, steps) = StopLanes::build(alloc, feed, stop)?;
+        let (lanes, steps) = StopLanes::build(alloc, feed, stop, times)?;
         let days = Days::new(alloc, feed, zone, lanes, span.until - 1);
         let floor = floor_of(feed, days.count(), span.from, after);
         let departures = Merge::open(alloc, days, floor, steps)?;

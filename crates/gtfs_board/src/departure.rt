@@ -1,5 +1,6 @@
-ghost use Rattle.std.specs.Prelude.{◌≡◌, length};
+ghost use Rattle.std.specs.Prelude.{◌≡◌, ◌≤◌, length};
 ghost use Rattle.gtfs_board.specs.Lines.{mark_text};
+ghost use Rattle.gtfs_board.specs.Shown.{mark_if};
 
 use crate::key::Key;
 
@@ -10,17 +11,36 @@ pub enum Mark {
     Scheduled,
     /// `f`: the run is one of a row of frequencies.txt whose `exact_times` is 0, so its times are not exact.
     Frequency,
+    /// `si`: as `s`, and the stop time has neither an arrival nor a departure of its own, so its time is one of an even
+    /// pace.
+    ScheduledFilled,
+    /// `fi`: as `f`, and the stop time has neither.
+    FrequencyFilled,
 }
 
 impl Mark {
-    // The mark's letter.
+    // The mark of a run, whose times are exact or not, at a stop time, which has no time of its own or one.
+    pub(crate) fn new(is_inexact: bool, is_untimed: bool) -> Mark
+        ensures { result ≡ mark_if is_inexact is_untimed }
+    {
+        match (is_inexact, is_untimed) {
+            (false, false) => Mark::Scheduled,
+            (false, true) => Mark::ScheduledFilled,
+            (true, false) => Mark::Frequency,
+            (true, true) => Mark::FrequencyFilled,
+        }
+    }
+
+    // The mark's letters.
     pub(crate) fn text(self) -> &'static str
         ensures value { result.now ≡ mark_text self }
-        ensures len { length result.now ≡ 1 }
+        ensures len { length result.now ≤ 2 }
     {
         match self {
             Mark::Scheduled => "s",
             Mark::Frequency => "f",
+            Mark::ScheduledFilled => "si",
+            Mark::FrequencyFilled => "fi",
         }
     }
 }
@@ -36,6 +56,6 @@ pub struct Departure<'a> {
     pub route: &'a str,
     /// `stop_headsign`, or where that is empty `trip_headsign`; empty where both are.
     pub headsign: &'a str,
-    /// Whether the times of its run are exact.
+    /// Whether the times of its run are exact, and whether its stop time has a time of its own.
     pub mark: Mark,
 }

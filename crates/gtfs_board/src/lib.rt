@@ -9,11 +9,12 @@
 //!   that day can hold a departure before all those that wait, so a board may span years.
 //!
 //! ```text
-//! let mut board = Board::open(alloc, feed, zone, stop, span, None)?;
+//! let mut board = Board::open(alloc, feed, zone, stop, span, None, Times::Given)?;
 //! write_page(alloc, &mut board, 3, out)?;
 //! ```
 //!
-//! What keys, lines and boards are stands in `specs/`. [`Feed`] is handed on from `gtfs_feed`.
+//! What keys, lines and boards are stands in `specs/`. [`Feed`] is handed on from `gtfs_feed`, and [`Times`], by which stop
+//! times without a time have none or that of an even pace, from `gtfs_times`.
 #![tactic(auto)]
 
 mod board;
@@ -32,7 +33,7 @@ mod span;
 
 pub use board::{Board, BoardFault};
 pub use departure::{Departure, Mark};
-pub use gtfs_runs::Feed;
+pub use gtfs_runs::{Feed, Times};
 pub use key::{Key, push_key, read_key};
 pub use law::boards_are_one;
 pub use line::push_line;

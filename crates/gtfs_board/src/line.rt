@@ -16,11 +16,11 @@ use gtfs_field::OutOfMemory;
 use std::alloc::Global;
 
 // How many bytes of a line are neither the trip's id nor the text of a column, at most: those of the key, 29 of the
-// clock, five tabs, the mark and the line feed.
-const LINE_ROOM: usize = KEY_ROOM + 36;
+// clock, five tabs, two of the mark and the line feed.
+const LINE_ROOM: usize = KEY_ROOM + 37;
 
 /// Appends the line of a departure: the text of its key, the clock of the zone at its instant, the stop, the route's name,
-/// the headsign and `s` or `f` by the mark, one tab between two of them, and a line feed.
+/// the headsign and the mark, one tab between two of them, and a line feed.
 ///
 /// The clock is `YYYY-MM-DD HH:MM:SS` and how far it is ahead of UTC, `+HH:MM` or `-HH:MM`, with `:SS` where its
 /// seconds are not zero. The instant is one of `jiff`, from -377,705,023,201 to 253,402,207,200, as that of each departure
@@ -49,7 +49,7 @@ pub fn push_line(
 
 // How many bytes the line of a departure has, at most.
 fn room_for(departure: &Departure<'_>) -> usize
-    ensures { result ≡ min (89 + texts_len (listed departure.now)) (2 ^ 64 - 1) }
+    ensures { result ≡ min (90 + texts_len (listed departure.now)) (2 ^ 64 - 1) }
 {
     LINE_ROOM
         .saturating_add(departure.key.trip.len())
@@ -60,7 +60,7 @@ fn room_for(departure: &Departure<'_>) -> usize
 
 // Appends the line of a departure, for which there is room.
 fn write_line(text: &mut String, civil: Civil, departure: &Departure<'_>)
-    requires { string_len text.old + (89 + texts_len (listed departure.now))
+    requires { string_len text.old + (90 + texts_len (listed departure.now))
         ≤ string_capacity text.old }
     ensures { string_bytes text.new
         ≡ string_bytes text.old ++ line_text civil (listed departure.now) }

@@ -4,16 +4,18 @@ ghost use Rattle.gtfs_days.specs.Service.{first_service_day, is_service_day, las
 ghost use Rattle.gtfs_days.specs.Zone.{zone_origin};
 ghost use Rattle.gtfs_runs.specs.Order.{is_above, is_later};
 ghost use Rattle.gtfs_runs.specs.StopLanes.{lanes_of};
-ghost use Rattle.gtfs_board.specs.LaneDays.{AreAscending, AreTimely, HaveServices, departing, departures_on, all_departures, ends_by, event_of, lane_at, serves_on};
+ghost use Rattle.gtfs_board.specs.LaneDays.{AreAscending, AreTimely, HaveServices, any_value, departing, departures_on, all_departures, ends_by, event_of, lane_at, serves_on};
 ghost use Rattle.gtfs_board.specs.merge.Candidates.{IsAside, first_above};
 
+mod any_lane;
 mod seeking;
 
 use crate::merge::{Candidate, Source};
+use crate::service_days::any_lane::AnyLane;
 use gtfs_days::{FIRST_SERVICE_DAY, LAST_SERVICE_DAY, Service, Zone};
 use gtfs_field::Day;
-use gtfs_rows::{ServiceNo, TripNo};
-use gtfs_runs::{Event, Feed, Lane, Seek, Steps, StopLanes};
+use gtfs_rows::TripNo;
+use gtfs_runs::{Event, Feed, Seek, Steps, StopLanes};
 use seeking::seek_from;
 use std::alloc::{AllocError, Global};
 
@@ -23,7 +25,7 @@ pub(crate) struct Days<'a> {
     alloc: Global,
     feed: &'a Feed,
     zone: &'a Zone,
-    // First the lanes of lists, then those of periods.
+    // First the lanes of lists, then those of periods, and then those with a time that was filled.
     lanes: StopLanes,
     // The last instant.
     end: i64,
@@ -58,16 +60,21 @@ impl<'a> Days<'a> {
         }
     }
 
-    // The number of the service of a lane.
-    fn service_no(&self, lane: usize) -> ServiceNo
+    // A lane by its index.
+    fn lane(&self, lane: usize) -> AnyLane<'_>
         requires { lane < length (lanes_of self.now.lanes) }
-        ensures { result.0 ≡ (lane_at self.now.lanes lane).service }
+        ensures { any_value result ≡ lane_at self.now.lanes lane }
     {
         let lists = self.lanes.lists();
-        match lists.get(lane) {
-            Some(list) => list.service(),
-            None => self.lanes.periods()[lane - lists.len()].service(),
+        let periods = self.lanes.periods();
+        if lane < lists.len() {
+            return AnyLane::List(&lists[lane]);
         }
+        let past = lane - lists.len();
+        if past < periods.len() {
+            return AnyLane::Period(&periods[past]);
+        }
+        AnyLane::Filled(&self.lanes.filled()[past - periods.len()])
     }
 
     // The service of a lane.
@@ -77,7 +84,7 @@ impl<'a> Days<'a> {
             (slice_get self.now.feed.now.services (lane_at self.now.lanes lane).service)
             ≡ Some result.now }
     {
-        self.feed.service_by_number(self.service_no(lane))
+        self.feed.service_by_number(self.lane(lane).service())
     }
 
     // The first event of a lane above a position.
@@ -86,14 +93,7 @@ impl<'a> Days<'a> {
         ensures first { result ≡ find (is_above seek.now) (lane_at self.now.lanes lane).events }
         ensures steps { steps.new ≤ steps.old + 1 }
     {
-        let lists = self.lanes.lists();
-        match lists.get(lane) {
-            Some(list) => list.first_after(self.feed, seek, steps),
-            None => {
-                let period = &self.lanes.periods()[lane - lists.len()];
-                period.first_after(self.feed, seek, steps)
-            }
-        }
+        self.lane(lane).first_after(self.feed, seek, steps)
     }
 
     // The first event of a lane above another.
@@ -102,14 +102,7 @@ impl<'a> Days<'a> {
         ensures next { result ≡ find (is_later event.now) (lane_at self.now.lanes lane).events }
         ensures steps { steps.new ≤ steps.old + 1 }
     {
-        let lists = self.lanes.lists();
-        match lists.get(lane) {
-            Some(list) => list.next(self.feed, event, steps),
-            None => {
-                let period = &self.lanes.periods()[lane - lists.len()];
-                period.next(self.feed, event, steps)
-            }
-        }
+        self.lane(lane).next(self.feed, event, steps)
     }
 
     // The origin of a day, if the service of a lane runs on it.
@@ -238,7 +231,7 @@ impl Source for Days<'_> {
     ghost all = { λ s. all_departures s.feed.now (zone_origin s.zone.now) s.lanes s.end };
 
     fn count(&self) -> usize {
-        self.lanes.lists().len() + self.lanes.periods().len()
+        self.lanes.lists().len() + self.lanes.periods().len() + self.lanes.filled().len()
     }
 
     fn latest(&self) -> u32 {

@@ -1,8 +1,10 @@
 //! The timetable of a route on a day.
+mod by_run;
 mod columns;
 mod table;
 mod text;
 mod times;
+mod turning;
 
 use gtfs_field::{Clock, Day, OutOfMemory};
 pub use table::timetable;
@@ -45,6 +47,7 @@ pub struct Sheet<'a> {
     /// The runs, each the second of the service day at which it starts and the `trip_id` of its trip: by their start, and
     /// runs of one start by the bytes of the id.
     pub runs: Vec<(u32, &'a str)>,
-    /// For each stop the time of each run, None where the stop time has neither an arrival nor a departure.
+    /// For each stop the time of each run, None where the stop time has neither an arrival nor a departure and gets no time
+    /// between.
     pub times: Vec<Vec<Option<Clock>>>,
 }

@@ -1,13 +1,12 @@
 //! What a board shows of a candidate.
-ghost use Rattle.std.specs.Prelude.{◌≡◌, ◌<◌, ◌==◌, ◌&&◌, All, Some, [], IfSome, length, option_map, unwrap_or};
+ghost use Rattle.std.specs.Prelude.{◌≡◌, ◌<◌, ◌==◌, ◌&&◌, not, All, Some, [], IfSome, is_some, length, option_map, unwrap_or};
 ghost use Rattle.std.specs.List.{list_any};
 ghost use Rattle.std.specs.Option.{option_or};
-ghost use Rattle.gtfs_rows.specs.Trips.{ArePeriods};
+ghost use Rattle.gtfs_rows.specs.Trips.{ArePeriods, left_at};
 ghost use Rattle.gtfs_rows.specs.Views.{frequency_of, stop_ids, text_of_number, trip_ids};
 ghost use Rattle.gtfs_rows.specs.Runs.{starts_run};
 ghost use Rattle.gtfs_board.specs.Lent.{listed, plain_key};
 ghost use Rattle.gtfs_board.specs.Showing.{IsOfFeed, key_in, listed_in};
-ghost use Rattle.gtfs_board.specs.Shown.{mark_if};
 
 use crate::departure::{Departure, Mark};
 use crate::key::Key;
@@ -31,7 +30,10 @@ pub(crate) fn departure_of<'a>(feed: &'a Feed, candidate: &Candidate) -> Departu
         stop: stop_id(feed, row.stop_id),
         route: name_of(feed.route_by_number(trip.route_id)),
         headsign: headsign_of(feed, trip, row),
-        mark: mark_of(feed.trip_frequencies(number), candidate.run),
+        mark: Mark::new(
+            has_inexact(feed.trip_frequencies(number), candidate.run),
+            is_untimed(row),
+        ),
     }
 }
 
@@ -100,19 +102,23 @@ fn text_or_empty(text: &Option<Text>) -> &str
     }
 }
 
-// The mark of a run of a trip with these frequencies. None begins before the one before it ends, so that only the last one
-// that has begun can start the run.
-fn mark_of(periods: &[Frequency], run: u32) -> Mark
+// Whether a stop time has no time of its own.
+fn is_untimed(row: &StopRow) -> bool
+    ensures { result ≡ not (is_some (left_at row.now)) }
+{
+    row.departure_time.get().is_none() && row.arrival_time.get().is_none()
+}
+
+// Whether one of the periods of a trip starts this run and its times are not exact. None begins before the one before it
+// ends, so that only the last one that has begun can start the run.
+fn has_inexact(periods: &[Frequency], run: u32) -> bool
     requires moves { All (λ f. 0 < f.headway_secs) periods.now }
     requires apart { ArePeriods periods.now }
-    ensures { result ≡ mark_if (list_any (λ p. starts_run (frequency_of p) run
-        && ((frequency_of p).exact_times == 0)) periods.now) }
+    ensures { result ≡ list_any (λ p. starts_run (frequency_of p) run
+        && ((frequency_of p).exact_times == 0)) periods.now }
 {
     let begun = periods.partition_point(|period| period.start_time.seconds() <= run);
-    if begun > 0 && is_inexact(&periods[begun - 1], run) {
-        return Mark::Frequency;
-    }
-    Mark::Scheduled
+    begun > 0 && is_inexact(&periods[begun - 1], run)
 }
 
 // Whether a period starts this run and its times are not exact.

@@ -3,7 +3,7 @@
 use crate::assertions::assert_holds;
 use crate::opening::{Fixture, Opening};
 use crate::plain::PlainKey;
-use gtfs_board::{Key, Span};
+use gtfs_board::{Key, Span, Times};
 use gtfs_fixtures::{Clocks, STOPS};
 use std::alloc::Global;
 use std::process::Abort;
@@ -34,7 +34,9 @@ const SPANS: [Span; 4] = [
 fn assert_boards(rt: &impl Abort, alloc: Global, fixture: &Fixture) -> Result<(), Fail> {
     for stop in STOPS {
         for span in SPANS {
-            fixture.opening(stop, span).assert_plain(rt, alloc)?;
+            let opening = fixture.opening(stop, span);
+            opening.assert_plain(rt, alloc)?;
+            opening.under(Times::Interpolated).assert_plain(rt, alloc)?;
         }
     }
     Ok(())
@@ -88,9 +90,13 @@ fn boards_above_keys_are_the_ends_of_plain_lists(rt: HostRuntime) -> Result<(), 
         from: 1_325_030_400,
         until: 1_325_462_400,
     };
-    for (number, clocks) in [(6, Clocks::GoesBack), (7, Clocks::SkipsADay)] {
+    for (number, clocks, times) in [
+        (6, Clocks::GoesBack, Times::Given),
+        (7, Clocks::SkipsADay, Times::Interpolated),
+    ] {
         let fixture = Fixture::made(&rt, rt.alloc(), number, clocks)?;
-        assert_above_keys(&rt, rt.alloc(), &fixture.opening("P", span))?;
+        let opening = fixture.opening("P", span).under(times);
+        assert_above_keys(&rt, rt.alloc(), &opening)?;
     }
     Ok(())
 }

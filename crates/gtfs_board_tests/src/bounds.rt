@@ -6,7 +6,7 @@ use gtfs_board::{Key, Span};
 use gtfs_feed::Feed;
 use gtfs_field::OutOfMemory;
 use gtfs_rows::StopNo;
-use gtfs_runs::StopLanes;
+use gtfs_runs::{StopLanes, Times};
 use std::alloc::Global;
 use std::process::Abort;
 
@@ -31,17 +31,21 @@ impl Bounds {
         stop: StopNo,
         span: Span,
         after: Option<&Key<'_>>,
+        times: Times,
     ) -> Result<Bounds, OutOfMemory>
         requires { stop.0 < length feed.now.stops }
     {
-        let (lanes, _steps) = StopLanes::build(alloc, feed, stop)?;
-        let count = lanes.lists().len() as u64;
+        let (lanes, _steps) = StopLanes::build(alloc, feed, stop, times)?;
+        let lists = lanes.lists().len() as u64;
+        let filled = lanes.filled().len() as u64;
         let start = match after {
             Some(key) => span.from.max(key.instant),
             None => span.from,
         };
         Ok(Bounds {
-            lanes: count.saturating_add(lanes.periods().len() as u64),
+            lanes: lists
+                .saturating_add(lanes.periods().len() as u64)
+                .saturating_add(filled),
             greatest: lanes.greatest(),
             start,
         })

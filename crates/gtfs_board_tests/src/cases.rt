@@ -1,6 +1,7 @@
 //! Worked boards of the small dataset and of changes to it.
 
-use gtfs_board::Span;
+use crate::between::BETWEEN;
+use gtfs_board::{Span, Times};
 use gtfs_fixtures::{Clocks, FileText};
 
 /// A change to the small dataset, and a board of it.
@@ -11,6 +12,7 @@ pub(crate) struct Case {
     pub(crate) clocks: Clocks,
     pub(crate) stop: &'static str,
     pub(crate) span: Span,
+    pub(crate) times: Times,
     /// The text of the key above which the board is opened, or nothing.
     pub(crate) after: &'static str,
     pub(crate) lines: &'static str,
@@ -41,6 +43,7 @@ pub(crate) const SMALL: Case = Case {
     clocks: Clocks::Utc,
     stop: "S1",
     span: FIRST_OF_APRIL,
+    times: Times::Given,
     after: "",
     lines: ONE_LINE,
     lanes: 1,
@@ -48,7 +51,9 @@ pub(crate) const SMALL: Case = Case {
     held: 3,
 };
 
-const ONE_LINE: &str = "@1711958400/T1/28800/1/20240401\t2024-04-01 08:00:00+00:00\tS1\t10\t\ts\n";
+/// Its line.
+pub(crate) const ONE_LINE: &str =
+    "@1711958400/T1/28800/1/20240401\t2024-04-01 08:00:00+00:00\tS1\t10\t\ts\n";
 
 /// Of the small dataset itself.
 pub(crate) const PLAIN: &[Case] = &[
@@ -361,4 +366,4 @@ T1,08:00:00,08:00:00,S1,1,\nT1,08:05:00,08:05:00,S1,2,Hill\nT1,08:10:00,08:10:00
 ];
 
 /// All of them.
-pub(crate) const ALL: [&[Case]; 4] = [PLAIN, CHANGING, LATE, OTHERS];
+pub(crate) const ALL: [&[Case]; 5] = [PLAIN, CHANGING, LATE, OTHERS, BETWEEN];

@@ -4,7 +4,8 @@
 //! - `plain` lists a board the slow way: it unfolds every event on every day and sorts. `bounds` has what bounds a
 //!   board, and `opening` opens boards and holds them to both.
 //! - `cases` has worked boards, and `worked` compares them; `hostile` has boards of all service days and long ones, and
-//!   `against_plain` those of made feeds.
+//!   `against_plain` those of made feeds. `between` has worked boards with times between timepoints, and `long_gap` a trip
+//!   with 70,000 stop times without a time.
 //! - `keys` has the texts and the order of keys, `lines` lines and sheets, `pages` pages, `outputs` outputs that fail,
 //!   and `refused` a departure for which there is no memory.
 //! - `timetables` has the timetables of routes, and `plain_sheets` lists them the slow way.
@@ -18,6 +19,8 @@ mod against_plain;
 #[cfg(test)]
 mod assertions;
 #[cfg(test)]
+mod between;
+#[cfg(test)]
 mod bounds;
 #[cfg(test)]
 mod cases;
@@ -27,6 +30,8 @@ mod hostile;
 mod keys;
 #[cfg(test)]
 mod lines;
+#[cfg(test)]
+mod long_gap;
 #[cfg(test)]
 mod opening;
 #[cfg(test)]

@@ -6,7 +6,7 @@ use crate::assertions::{assert_holds, assert_is};
 use crate::bounds::Bounds;
 use crate::cases::Case;
 use crate::plain::{PlainKey, plain_keys, trip_shown};
-use gtfs_board::{Board, Key, Span, push_line, read_key, write_page};
+use gtfs_board::{Board, Key, Span, Times, push_line, read_key, write_page};
 use gtfs_days::Zone;
 use gtfs_feed::Feed;
 use gtfs_fixtures::{Clocks, FileText, feed_with, made_feed};
@@ -38,7 +38,11 @@ impl Fixture {
         files: &[FileText],
         clocks: Clocks,
     ) -> Result<Fixture, Fail> {
-        let feed = feed_with(rt, alloc, files)?;
+        Fixture::of_feed(alloc, feed_with(rt, alloc, files)?, clocks)
+    }
+
+    /// A feed in a zone.
+    pub(crate) fn of_feed(alloc: Global, feed: Feed, clocks: Clocks) -> Result<Fixture, Fail> {
         let zone = clocks.zone(alloc)?;
         Ok(Fixture { feed, zone })
     }
@@ -59,9 +63,7 @@ impl Fixture {
         number: u64,
         clocks: Clocks,
     ) -> Result<Fixture, Fail> {
-        let feed = made_feed(rt, alloc, number)?;
-        let zone = clocks.zone(alloc)?;
-        Ok(Fixture { feed, zone })
+        Fixture::of_feed(alloc, made_feed(rt, alloc, number)?, clocks)
     }
 
     /// Boards of a stop over a span.
@@ -71,20 +73,32 @@ impl Fixture {
             zone: &self.zone,
             stop,
             span,
+            times: Times::Given,
         }
+    }
+
+    /// Those of a worked board, which is one of the fixture.
+    pub(crate) fn opening_of<'a>(&'a self, case: &Case) -> Opening<'a> {
+        self.opening(case.stop, case.span).under(case.times)
     }
 }
 
-/// A stop of a feed, a zone and a span.
+/// A stop of a feed, a zone and a span, and the times of rows without any.
 #[derive(Clone, Copy)]
 pub(crate) struct Opening<'a> {
     feed: &'a Feed,
     zone: &'a Zone,
     stop: &'a str,
     span: Span,
+    times: Times,
 }
 
 impl<'a> Opening<'a> {
+    /// The same under other times.
+    pub(crate) fn under(self, times: Times) -> Opening<'a> {
+        Opening { times, ..self }
+    }
+
     /// The board above the key of a text, or the whole board where the text is empty.
     pub(crate) fn board(
         &self,
@@ -102,7 +116,9 @@ impl<'a> Opening<'a> {
     }
 
     fn board_above(&self, alloc: Global, after: Option<&Key<'_>>) -> Result<Board<'a>, Fail> {
-        Ok(Board::open(alloc, self.feed, self.zone, self.stop, self.span, after)?)
+        Ok(Board::open(
+            alloc, self.feed, self.zone, self.stop, self.span, after, self.times,
+        )?)
     }
 
     /// The lines of what is left of a board.
@@ -160,7 +176,7 @@ impl<'a> Opening<'a> {
     /// The plain list.
     pub(crate) fn plain_keys(&self, rt: &impl Abort, alloc: Global) -> Result<Vec<PlainKey>, Fail> {
         let stop = stop_named(rt, self.feed, self.stop);
-        plain_keys(alloc, self.feed, self.zone, stop, self.span)
+        plain_keys(alloc, self.feed, self.zone, stop, self.span, self.times)
     }
 
     /// The id of the trip of a departure.
@@ -176,7 +192,7 @@ impl<'a> Opening<'a> {
         after: Option<&Key<'_>>,
     ) -> Result<Bounds, Fail> {
         let stop = stop_named(rt, self.feed, self.stop);
-        Ok(Bounds::new(alloc, self.feed, stop, self.span, after)?)
+        Ok(Bounds::new(alloc, self.feed, stop, self.span, after, self.times)?)
     }
 
     /// The departures of the whole board are those of the plain list, and within its bounds.

@@ -67,7 +67,7 @@ fn pages_of_worked_boards_join(rt: HostRuntime) -> Result<(), Fail> {
     for cases in ALL {
         for case in cases {
             let fixture = Fixture::of_case(&rt, rt.alloc(), case)?;
-            let opening = fixture.opening(case.stop, case.span);
+            let opening = fixture.opening_of(case);
             assert_joined(&rt, rt.alloc(), &opening, case)?;
         }
     }

@@ -6,7 +6,7 @@ use gtfs_days::Zone;
 use gtfs_feed::Feed;
 use gtfs_field::{Day, Text};
 use gtfs_rows::{ExactTimes, HeadsignNo, RouteNo, ServiceNo, StopNo, StopRow, TripNo};
-use gtfs_runs::{Event, flat_events};
+use gtfs_runs::{Event, Times, flat_events};
 use std::alloc::Global;
 use std::test::Fail;
 
@@ -34,10 +34,11 @@ pub(crate) fn plain_keys(
     zone: &Zone,
     stop: StopNo,
     span: Span,
+    times: Times,
 ) -> Result<Vec<PlainKey>, Fail>
     requires { stop.0 < length feed.now.stops }
 {
-    let events = flat_events(alloc, feed, stop)?;
+    let events = flat_events(alloc, feed, stop, times)?;
     let mut keys = Vec::new(alloc);
     for number in 0..feed.service_count() {
         let service = ServiceNo(number);
@@ -152,7 +153,7 @@ impl PlainKey {
         departure.stop == stop_shown(feed, row.stop_id)
             && departure.route == route_shown(feed, trip.route_id)
             && departure.headsign == headsign
-            && departure.mark == mark_of(feed, self.trip, self.run)
+            && departure.mark == mark_of(feed, self.trip, self.run, row)
     }
 }
 
@@ -211,16 +212,27 @@ fn headsign_shown(feed: &Feed, headsign: HeadsignNo) -> &str {
     }
 }
 
+// The mark of a run at a row, which may have no time.
+fn mark_of(feed: &Feed, trip: TripNo, run: u32, row: &StopRow) -> Mark {
+    let is_timed = row.arrival_time.get().is_some() || row.departure_time.get().is_some();
+    match (is_inexact(feed, trip, run), is_timed) {
+        (false, true) => Mark::Scheduled,
+        (false, false) => Mark::ScheduledFilled,
+        (true, true) => Mark::Frequency,
+        (true, false) => Mark::FrequencyFilled,
+    }
+}
+
 // Whether the run starts in a period whose times are not exact.
-fn mark_of(feed: &Feed, trip: TripNo, run: u32) -> Mark {
+fn is_inexact(feed: &Feed, trip: TripNo, run: u32) -> bool {
     if trip.0 >= feed.trip_count() {
-        return Mark::Scheduled;
+        return false;
     }
     for period in feed.trip_frequencies(trip) {
         let is_within = period.start_time.seconds() <= run && run < period.end_time.seconds();
         if is_within && period.exact_times == ExactTimes::Frequency {
-            return Mark::Frequency;
+            return true;
         }
     }
-    Mark::Scheduled
+    false
 }

@@ -4,15 +4,17 @@ use crate::plain::{stop_shown, trip_shown};
 use gtfs_feed::Feed;
 use gtfs_field::read_date;
 use gtfs_rows::{Frequency, ServiceNo, StopNo, StopRow, TripNo};
+use gtfs_runs::Times;
 use std::alloc::Global;
 use std::test::Fail;
 
-/// A route, a direction where one is asked for, and a date.
+/// A route, a direction where one is asked for, a date, and the times of rows without any.
 #[derive(Clone, Copy)]
 pub(crate) struct Asked<'a> {
     pub(crate) route: &'a str,
     pub(crate) direction: Option<u8>,
     pub(crate) date: &'a str,
+    pub(crate) times: Times,
 }
 
 // No period of a test has more runs.
@@ -133,7 +135,7 @@ fn push_sheet_of(
         return Ok(());
     };
     for position in 0..rows_of(feed, *first).len() {
-        push_stop(alloc, feed, &runs, position, text)?;
+        push_stop(alloc, feed, &runs, position, asked.times, text)?;
     }
     Ok(())
 }
@@ -198,23 +200,62 @@ fn push_stop(
     feed: &Feed,
     runs: &[(u32, TripNo)],
     position: usize,
+    times: Times,
     text: &mut String,
 ) -> Result<(), Fail> {
     for (column, (start, trip)) in runs.iter().enumerate() {
         if column == 0 {
             text.push_str(stop_shown(feed, stop_at(feed, *trip, position)))?;
         }
-        let shown = time_shown(alloc, run_time(feed, *trip, *start, position))?;
+        let shown = time_shown(alloc, run_time(feed, *trip, *start, position, times))?;
         text.push_str(&shown)?;
     }
     Ok(text.push_str("\n")?)
 }
 
 // When a run that starts at a second passes a position.
-fn run_time(feed: &Feed, trip: TripNo, start: u32, position: usize) -> Option<u32> {
+fn run_time(feed: &Feed, trip: TripNo, start: u32, position: usize, times: Times) -> Option<u32> {
     let first = time_at(feed, trip, 0)?;
-    let time = time_at(feed, trip, position)?;
+    let time = match time_at(feed, trip, position) {
+        None if times == Times::Interpolated => between(feed, trip, position)?,
+        time => time?,
+    };
     Some(start.saturating_add(time).saturating_sub(first))
+}
+
+// When a trip passes a position at an even pace, between the last stop before it and the first after it that have a time.
+fn between(feed: &Feed, trip: TripNo, position: usize) -> Option<u32> {
+    let (from, left) = last_before(feed, trip, position)?;
+    let (to, reached) = first_after(feed, trip, position)?;
+    let seconds = u64::from(reached.saturating_sub(left));
+    let gone = position.saturating_sub(from) as u64;
+    let part = seconds
+        .saturating_mul(gone)
+        .checked_div(to.saturating_sub(from) as u64)?;
+    Some(left.saturating_add(u32::try_from(part).ok()?))
+}
+
+// The last position before one at which a trip has a time, and when it leaves there.
+fn last_before(feed: &Feed, trip: TripNo, position: usize) -> Option<(usize, u32)> {
+    let mut last = None;
+    for place in 0..position {
+        if let Some(time) = time_at(feed, trip, place) {
+            last = Some((place, time));
+        }
+    }
+    last
+}
+
+// The first position after one at which a trip has a time, and when it arrives there, or else leaves.
+fn first_after(feed: &Feed, trip: TripNo, position: usize) -> Option<(usize, u32)> {
+    for (place, row) in rows_of(feed, trip).iter().enumerate() {
+        if position < place {
+            if let Some(time) = row.arrival_time.get().or(row.departure_time.get()) {
+                return Some((place, time.seconds()));
+            }
+        }
+    }
+    None
 }
 
 fn time_shown(alloc: Global, time: Option<u32>) -> Result<String, Fail> {

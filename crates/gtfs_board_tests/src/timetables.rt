@@ -1,8 +1,9 @@
 //! Timetables: worked ones, and those of made feeds beside plain ones.
 
 use crate::assertions::{assert_holds, assert_is, assert_text};
+use crate::between::{CROSSING, FARTHEST_OF_A_RUN, GAP, GAP_OF_A_RUN, WITHOUT_PICK_UP};
 use crate::plain_sheets::{Asked, plain_sheets};
-use gtfs_board::{Sheet, TableFault, push_sheet, timetable};
+use gtfs_board::{Sheet, TableFault, Times, push_sheet, timetable};
 use gtfs_feed::Feed;
 use gtfs_field::{Clock, read_date};
 use gtfs_fixtures::{FileText, feed_with, made_feed};
@@ -12,6 +13,7 @@ use std::random::RandomSource;
 use std::test::Fail;
 
 // A change to the small dataset, what is asked for, and the text of the sheets.
+#[derive(Clone, Copy)]
 struct Case {
     what: &'static str,
     files: &'static [FileText],
@@ -23,6 +25,7 @@ const FIRST_OF_APRIL: Asked<'static> = Asked {
     route: "R1",
     direction: None,
     date: "20240401",
+    times: Times::Given,
 };
 
 const SMALL: &[Case] = &[
@@ -201,11 +204,57 @@ const LAST: &[Case] = &[
     },
 ];
 
+// The same under times at an even pace.
+const FILLED: Asked<'static> = Asked {
+    times: Times::Interpolated,
+    ..FIRST_OF_APRIL
+};
+
+const BETWEEN: &[Case] = &[
+    Case {
+        what: "two stop times between timepoints, under the times of the file",
+        files: GAP,
+        asked: FIRST_OF_APRIL,
+        text: "== R1 - 20240401\ntrip\tT1\nS1\t08:00:00\nS3\t-\nS1\t-\nS2\t08:10:01\n",
+    },
+    Case {
+        what: "two stop times between timepoints",
+        files: GAP,
+        asked: FILLED,
+        text: "== R1 - 20240401\ntrip\tT1\nS1\t08:00:00\nS3\t08:03:20\nS1\t08:06:40\nS2\t08:10:01\n",
+    },
+    Case {
+        what: "the same of a run of a period",
+        files: GAP_OF_A_RUN,
+        asked: FILLED,
+        text: "== R1 - 20240401\ntrip\tT1\nS1\t06:00:00\nS3\t06:03:20\nS1\t06:06:40\nS2\t06:10:01\n",
+    },
+    Case {
+        what: "a trip that overtakes another between timepoints",
+        files: CROSSING,
+        asked: FILLED,
+        text: "== R1 - 20240401\ntrip\tT1\tT2\nS2\t08:00:00\t08:10:00\nS1\t08:30:00\t08:12:00\nS3\t09:00:00\t08:20:00\n",
+    },
+    Case {
+        what: "stop times without pick-up have a time",
+        files: WITHOUT_PICK_UP,
+        asked: FILLED,
+        text: "== R1 - 20240401\ntrip\tT1\nS1\t08:00:00\nS1\t08:03:00\nS1\t08:06:00\nS2\t08:09:00\n",
+    },
+    // 3,599,999 seconds in two equal parts, of which the first is cut to 1,799,999.
+    Case {
+        what: "a run at the last second at which one may start",
+        files: FARTHEST_OF_A_RUN,
+        asked: FILLED,
+        text: "== R1 - 20240401\ntrip\tT1\nS2\t999:59:58\nS1\t1499:59:57\nS2\t1999:59:57\n",
+    },
+];
+
 // The text of all sheets.
 fn sheets_text(alloc: Global, feed: &Feed, asked: &Asked<'_>) -> Result<String, Fail> {
     let day = read_date(asked.date)?;
     let mut text = String::new(alloc);
-    for sheet in &timetable(alloc, feed, asked.route, asked.direction, day)? {
+    for sheet in &timetable(alloc, feed, asked.route, asked.direction, day, asked.times)? {
         push_sheet(alloc, &mut text, sheet)?;
     }
     Ok(text)
@@ -227,7 +276,7 @@ fn assert_case<R: Abort + RandomSource>(rt: &R, alloc: Global, case: &Case) -> R
 
 #[test]
 fn sheets_are_those_that_were_worked_out(rt: HostRuntime) -> Result<(), Fail> {
-    for cases in [SMALL, DIRECTED, LAST] {
+    for cases in [SMALL, DIRECTED, LAST, BETWEEN] {
         for case in cases {
             assert_case(&rt, rt.alloc(), case)?;
         }
@@ -238,7 +287,7 @@ fn sheets_are_those_that_were_worked_out(rt: HostRuntime) -> Result<(), Fail> {
 const DATES: [&str; 5] = ["20111224", "20111228", "20111230", "20111231", "20120104"];
 
 // The sheets of a made feed are the plain ones. How many texts are not empty.
-fn assert_plain(rt: &impl Abort, alloc: Global, feed: &Feed) -> Result<usize, Fail> {
+fn assert_plain(rt: &impl Abort, alloc: Global, feed: &Feed, times: Times) -> Result<usize, Fail> {
     let mut count = 0usize;
     for route in ["R1", "R2"] {
         for direction in [None, Some(0), Some(1)] {
@@ -247,6 +296,7 @@ fn assert_plain(rt: &impl Abort, alloc: Global, feed: &Feed) -> Result<usize, Fa
                     route,
                     direction,
                     date,
+                    times,
                 };
                 let is_empty = assert_plain_text(rt, alloc, feed, &asked)?;
                 count = count.saturating_add(usize::from(!is_empty));
@@ -274,8 +324,10 @@ fn assert_plain_text(
 fn sheets_of_made_feeds_are_the_plain_ones(rt: HostRuntime) -> Result<(), Fail> {
     for number in 0..3 {
         let feed = made_feed(&rt, rt.alloc(), number)?;
-        let count = assert_plain(&rt, rt.alloc(), &feed)?;
-        assert_holds(&rt, count > 5, format_args!("{count} texts"));
+        for times in [Times::Given, Times::Interpolated] {
+            let count = assert_plain(&rt, rt.alloc(), &feed, times)?;
+            assert_holds(&rt, count > 5, format_args!("{count} texts"));
+        }
     }
     Ok(())
 }
@@ -321,7 +373,14 @@ fn text_len(alloc: Global, sheet: &Sheet<'_>) -> Result<usize, Fail> {
 #[test]
 fn a_sheet_has_a_run_each_second_of_a_day(rt: HostRuntime) -> Result<(), Fail> {
     let feed = feed_with(&rt, rt.alloc(), EACH_SECOND)?;
-    let sheets = timetable(rt.alloc(), &feed, "R1", None, read_date("20240401")?)?;
+    let sheets = timetable(
+        rt.alloc(),
+        &feed,
+        "R1",
+        None,
+        read_date("20240401")?,
+        Times::Given,
+    )?;
     let [sheet] = sheets.as_slice() else {
         panic!(rt; "{} sheets", sheets.len());
     };
@@ -346,7 +405,7 @@ fn assert_each_second(rt: &impl Abort, sheet: &Sheet<'_>) {
 // How a timetable of the small dataset is refused, if it is.
 fn refused(alloc: Global, feed: &Feed, asked: &Asked<'_>) -> Result<Option<TableFault>, Fail> {
     let day = read_date(asked.date)?;
-    match timetable(alloc, feed, asked.route, asked.direction, day) {
+    match timetable(alloc, feed, asked.route, asked.direction, day, asked.times) {
         Ok(_) => Ok(None),
         Err(fault) => Ok(Some(fault)),
     }
@@ -367,6 +426,7 @@ fn a_route_that_is_not_there_is_unknown(rt: HostRuntime) -> Result<(), Fail> {
                 route,
                 direction: Some(0),
                 date,
+                times: Times::Interpolated,
             };
             let found = refused(rt.alloc(), &feed, &asked)?;
             assert_is(&rt, found, fault, format_args!("{route} {date}"));

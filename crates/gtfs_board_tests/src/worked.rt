@@ -1,9 +1,10 @@
 //! Worked boards, listed and written, with what bounds them.
 
 use crate::assertions::{assert_holds, assert_is, assert_page, assert_text};
+use crate::between::BETWEEN;
 use crate::cases::{ALL, CHANGING, Case, END_OF_2011, LATE, OTHERS, PLAIN};
 use crate::opening::{Fixture, Opening};
-use gtfs_board::{Board, BoardFault, Span, read_key};
+use gtfs_board::{Board, BoardFault, Span, Times, read_key};
 use gtfs_days::Zone;
 use gtfs_feed::Feed;
 use gtfs_fixtures::{Clocks, feed_with};
@@ -31,7 +32,7 @@ fn assert_cases<R: Abort + RandomSource>(
 ) -> Result<(), Fail> {
     for case in cases {
         let fixture = Fixture::of_case(rt, alloc, case)?;
-        assert_case(rt, alloc, &fixture.opening(case.stop, case.span), case)?;
+        assert_case(rt, alloc, &fixture.opening_of(case), case)?;
     }
     Ok(())
 }
@@ -54,6 +55,11 @@ fn trips_run_past_midnight(rt: HostRuntime) -> Result<(), Fail> {
 #[test]
 fn frequencies_stop_times_and_stations_are_listed(rt: HostRuntime) -> Result<(), Fail> {
     assert_cases(&rt, rt.alloc(), OTHERS)
+}
+
+#[test]
+fn stop_times_between_timepoints_are_listed(rt: HostRuntime) -> Result<(), Fail> {
+    assert_cases(&rt, rt.alloc(), BETWEEN)
 }
 
 // The lanes, the latest second and the bound are those that the case tells, and what waits and is asked stays within.
@@ -94,7 +100,7 @@ fn what_waits_and_is_asked_is_bounded(rt: HostRuntime) -> Result<(), Fail> {
         for case in cases {
             if case.span.from >= 0 {
                 let fixture = Fixture::of_case(&rt, rt.alloc(), case)?;
-                let opening = fixture.opening(case.stop, case.span);
+                let opening = fixture.opening_of(case);
                 assert_bounds(&rt, rt.alloc(), &opening, case)?;
             }
         }
@@ -104,7 +110,7 @@ fn what_waits_and_is_asked_is_bounded(rt: HostRuntime) -> Result<(), Fail> {
 
 // How a board of these is refused, if it is.
 fn refused(alloc: Global, feed: &Feed, zone: &Zone, stop: &str, span: Span) -> Option<BoardFault> {
-    match Board::open(alloc, feed, zone, stop, span, None) {
+    match Board::open(alloc, feed, zone, stop, span, None, Times::Given) {
         Ok(_) => None,
         Err(fault) => Some(fault),
     }

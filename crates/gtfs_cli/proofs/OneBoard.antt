@@ -12,6 +12,7 @@ use Rattle.gtfs_rows.specs.Reading.{content_of}
 use Rattle.gtfs_board.specs.Board.{is_stop, keys_of}
 use Rattle.gtfs_rows.specs.Departures.{IsBoard, Origins}
 use Rattle.gtfs_rows.specs.Key.{Key}
+use Rattle.gtfs_times.specs.Filling.{timed}
 use Rattle.gtfs_board.specs.Page.{IsPage}
 use Rattle.gtfs_board.proofs.OneBoard.{one-board as one-list-of-keys}
 use Rattle.gtfs_words.specs.Words.{BoardTexts}
@@ -39,7 +40,8 @@ one_request asked p q a b =
     let until : p.until ≡ q.until = same_Some p.until q.until (sym a.until ∙ b.until) in
     let limit : p.limit ≡ q.limit = same_Some p.limit q.limit (sym a.limit ∙ b.limit) in
     let after : p.after ≡ q.after = same_Some p.after q.after (sym a.after ∙ b.after) in
-    λ i. record { from = from i; until = until i; limit = limit i; after = after i }
+    let times : p.times ≡ q.times = sym a.times ∙ b.times in
+    λ i. record { from = from i; until = until i; limit = limit i; after = after i; times = times i }
 
 -- ---- the page of a board, in zones that say the same
 
@@ -58,7 +60,7 @@ module _ (y z : Zone) (same : SaysSame y z) where
 
   one_text : (f : Content) (stop : List ℕ) (r : Request) (t u : List ℕ) → OfBoard IsPage f y stop r (Some []) (Some t) → OfBoard IsPage f z stop r (Some []) (Some u) → t ≡ u
   one_text f stop r t u a b =
-      let keys = one_keys f stop r (keys_of a.departures) (keys_of b.departures) a.lists.board b.lists.board in
+      let keys = one_keys (timed r.times f) stop r (keys_of a.departures) (keys_of b.departures) a.lists.board b.lists.board in
       let listed = one_list f a.departures b.departures keys a.lists.shown b.lists.shown in
       one_page y z r.limit b.departures a.left b.left t u a.lines b.lines same
       (subst (λ ds. IsPage y r.limit ds a.left (Some []) (Some t) a.lines) listed a.out) b.out

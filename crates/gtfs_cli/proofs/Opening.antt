@@ -9,6 +9,7 @@ use Rattle.gtfs_rows.specs.Content.{Content}
 use Rattle.gtfs_board.specs.Board.{is_stop, keys_of}
 use Rattle.gtfs_rows.specs.Departures.{IsBoard}
 use Rattle.gtfs_rows.specs.Key.{Key}
+use Rattle.gtfs_times.specs.Filling.{timed}
 use Rattle.gtfs_board.specs.Lent.{plain_key}
 use Rattle.gtfs_board.specs.Lines.{Listed}
 use Rattle.gtfs_board.specs.Shown.{IsShown}
@@ -30,7 +31,7 @@ after-lent (Some k) s is = ap (option_map plain_key) is
 -- a board over the instants of the values, that was not refused
 pub lists-board : (f : Content) (z : Zone) (stop : List ℕ) (r : Request) (s : Span) (x y : ℤ) (after : Option Key) (ds : List Listed) → s.from ≡ x → s.until ≡ y
     → x ≡ instant_at (zone_origin z) r.from → y ≡ instant_at (zone_origin z) r.until → after ≡ r.after → (is_stop f stop ≡ false → ⊥)
-    → ((is_stop f stop ≡ true) × (is_span s ≡ false) → ⊥) → IsBoard f (zone_origin z) stop s.from s.until after (keys_of ds) → All (IsShown f) ds
+    → ((is_stop f stop ≡ true) × (is_span s ≡ false) → ⊥) → IsBoard (timed r.times f) (zone_origin z) stop s.from s.until after (keys_of ds) → All (IsShown f) ds
     → ListsBoard f z stop r ds
 lists-board f z stop r s x y after ds from_x until_y x_from y_until same_after never forward board shown =
     let known = true_from_ne_false (is_stop f stop) never in
@@ -45,9 +46,9 @@ lists-board f z stop r s x y after ds from_x until_y x_from y_until same_after n
         backward s
             (subst (λ (u : ℤ). u <ℤ s.from) (sym until_is) (subst (λ (u : ℤ). until <ℤ u) (sym from_is) before)),
       );
-      board = subst (λ (k : Option Key). IsBoard f (zone_origin z) stop from until k (keys_of ds)) same_after
-          (subst (λ (u : ℤ). IsBoard f (zone_origin z) stop from u after (keys_of ds)) until_is
-          (subst (λ (u : ℤ). IsBoard f (zone_origin z) stop u s.until after (keys_of ds)) from_is board));
+      board = subst (λ (k : Option Key). IsBoard (timed r.times f) (zone_origin z) stop from until k (keys_of ds)) same_after
+          (subst (λ (u : ℤ). IsBoard (timed r.times f) (zone_origin z) stop from u after (keys_of ds)) until_is
+          (subst (λ (u : ℤ). IsBoard (timed r.times f) (zone_origin z) stop u s.until after (keys_of ds)) from_is board));
       shown = shown;
     }
 

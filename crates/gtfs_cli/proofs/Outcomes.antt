@@ -142,7 +142,8 @@ one_request : (asked : TimetableTexts) (p q : TimetableRequest) → IsTimetableR
 one_request asked p q a b =
     let day : p.day ≡ q.day = ap (λ (r : Result ℤ FieldFault). unwrap_or (result_ok r) p.day) (sym a.day ∙ b.day) in
     let direction : p.direction ≡ q.direction = ap (λ (o : Option (Option ℕ)). unwrap_or o p.direction) (sym a.direction ∙ b.direction) in
-    λ i. record { day = day i; direction = direction i }
+    let times : p.times ≡ q.times = sym a.times ∙ b.times in
+    λ i. record { day = day i; direction = direction i; times = times i }
 
 module _ (limit : ℕ) (store : Store) (asked : TimetableTexts) where
   abbrev dir : List ℕ

@@ -11,6 +11,7 @@ use Rattle.gtfs_rows.specs.Content.{Content}
 use Rattle.gtfs_rows.specs.Reading.{content_of}
 use Rattle.gtfs_rows.specs.Views.{content_of_parts as content_of_feed}
 use Rattle.gtfs_rows.specs.declared.parts.Parts.{Parts as Feed}
+use Rattle.gtfs_times.specs.Filling.{timed}
 use Rattle.gtfs_board.specs.Board.{is_stop, keys_of}
 use Rattle.gtfs_rows.specs.Departures.{IsBoard}
 use Rattle.gtfs_board.specs.Lent.{plain_key}
@@ -26,12 +27,13 @@ use Rattle.gtfs_cli.specs.declared.commands.values.Values.{Values}
 
 -- ---- of a feed, a zone and the values of the options
 
--- the departures are the board of the stop in the zone, over the span that is asked for and after its key, as boards show them; the
--- span does not end before it begins
+-- the departures are the board of the stop in the zone, over the span that is asked for and after its key, of the feed with the times
+-- that are asked for; each is as boards show it, and its mark tells a time that the feed does not give. The span does not end before
+-- it begins
 pub record ListsBoard (f : Content) (z : Zone) (stop : List ℕ) (r : Request) (ds : List Listed) : Type 0 where
   pub known : is_stop f stop ≡ true
   pub forward : LiesBefore z r → ⊥
-  pub board : IsBoard f (zone_origin z) stop (instant_at (zone_origin z) r.from) (instant_at (zone_origin z) r.until) r.after (keys_of ds)
+  pub board : IsBoard (timed r.times f) (zone_origin z) stop (instant_at (zone_origin z) r.from) (instant_at (zone_origin z) r.until) r.after (keys_of ds)
   pub shown : All (IsShown f) ds
 
 -- how lines of a board go out: of a list of departures these are left, and so many lines went out whole
@@ -161,7 +163,7 @@ IsFeedCause d dir OutOfMemory = ⊤
 
 -- the request that values are
 abbrev pub request_of : Values → Request
-request_of v = record { from = v.from; until = v.until; limit = v.limit; after = option_map plain_key v.after }
+request_of v = record { from = v.from; until = v.until; limit = v.limit; after = option_map plain_key v.after; times = v.times }
 
 -- each value is that of its text, and each instant or service day one that a board can have
 pub record AreValues (asked : BoardTexts) (v : Values) : Type 0 where

@@ -22,7 +22,8 @@ use Rattle.gtfs_board.specs.Board.{is_stop}
 use Rattle.gtfs_rows.specs.Departures.{Origins}
 use Rattle.gtfs_rows.specs.Key.{Key}
 use Rattle.gtfs_board.specs.KeyTexts.{key_of}
-use Rattle.gtfs_cli.specs.Options.{first_of_bad}
+use Rattle.gtfs_times.specs.declared.times.Times.{Times}
+use Rattle.gtfs_cli.specs.Options.{first_of_bad, times_of}
 use Rattle.gtfs_cli.specs.TimetableOptions.{HasBadTimetableValue}
 use Rattle.gtfs_words.specs.Words.{gtfs_app, texts_of, timetable_texts_of, AreRefused, BoardTexts, IsCommandOf, MergeTexts, TimetableTexts, merge_texts_of}
 use Rattle.gtfs_cli.specs.declared.commands.moments.Moment.{Moment}
@@ -90,13 +91,15 @@ pub record Request : Type 0 where
   pub until : Moment
   pub limit : ℕ
   pub after : Option Key
+  pub times : Times
 
--- each is the value of its text
+-- each is the value of its text, and the times are those of the flag
 pub record IsRequest (asked : BoardTexts) (r : Request) : Type 0 where
   pub from : moment_of asked.from ≡ Some r.from
   pub until : moment_of asked.until ≡ Some r.until
   pub limit : limit_of asked.limit ≡ Some r.limit
   pub after : after_of asked.after ≡ Some r.after
+  pub times : times_of asked.interpolate ≡ r.times
 
 -- ---- the file that a path names
 

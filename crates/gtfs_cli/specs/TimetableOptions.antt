@@ -3,8 +3,9 @@ use Rattle.std.specs.Prelude.{◌≡◌, ℕ, ℤ, Bool, bytes_eq, codes, if◌t
 use Rattle.std.specs.Result.{result_ok}
 use Rattle.clap.specs.Words.{Text}
 use Rattle.gtfs_field.specs.Kinds.{date_of}
+use Rattle.gtfs_times.specs.declared.times.Times.{Times}
 use Rattle.gtfs_words.specs.Words.{TimetableTexts}
-use Rattle.gtfs_cli.specs.Options.{first_of_bad}
+use Rattle.gtfs_cli.specs.Options.{first_of_bad, times_of}
 
 -- the direction of the trips, if one is given; its text has to be 0 or 1
 abbrev pub direction_of : Option Text → Option (Option ℕ)
@@ -23,11 +24,13 @@ first_bad_timetable asked = first_of_bad (judged_timetable asked)
 pub record TimetableRequest : Type 0 where
   pub day : ℤ
   pub direction : Option ℕ
+  pub times : Times
 
--- each is the value of its text
+-- each is the value of its text, and the times are those of the flag
 pub record IsTimetableRequest (asked : TimetableTexts) (r : TimetableRequest) : Type 0 where
   pub day : date_of asked.date ≡ Ok r.day
   pub direction : direction_of asked.direction ≡ Some r.direction
+  pub times : times_of asked.interpolate ≡ r.times
 
 -- each option has its value
 abbrev pub HasTimetableValues : TimetableTexts → Type 0

@@ -8,6 +8,7 @@ use Rattle.gtfs_table.specs.Tables.{Dataset}
 use Rattle.gtfs_columns.specs.Problems.{Passes}
 use Rattle.gtfs_rows.specs.Content.{Content}
 use Rattle.gtfs_rows.specs.Reading.{content_of}
+use Rattle.gtfs_times.specs.Filling.{timed}
 use Rattle.gtfs_board.specs.Timetable.{is_route, sheet_text, sheets}
 use Rattle.gtfs_words.specs.Words.{TimetableTexts}
 use Rattle.gtfs_cli.specs.Running.{Failures, HoldsErrors, HoldsKeptFile, HoldsTables, LacksFeed}
@@ -21,13 +22,13 @@ use Rattle.gtfs_cli.specs.declared.commands.timetable_values.TimetableValues.{Ti
 
 -- the request that values are
 abbrev pub timetable_request_of : TimetableValues → TimetableRequest
-timetable_request_of v = record { day = v.day; direction = v.direction }
+timetable_request_of v = record { day = v.day; direction = v.direction; times = v.times }
 
 -- ---- the text of a timetable
 
--- the texts of the sheets of a route, one after another
+-- the texts of the sheets of a route, one after another, of the feed with the times that are asked for
 abbrev pub timetable_text : Content → List ℕ → TimetableRequest → List ℕ
-timetable_text f route r = flat_map sheet_text (sheets f route r.direction r.day)
+timetable_text f route r = flat_map sheet_text (sheets (timed r.times f) route r.direction r.day)
 
 -- ---- a folder
 

@@ -27,6 +27,7 @@ mod names;
 mod paths;
 mod refusal;
 mod send;
+mod times;
 mod timetable;
 mod timetable_values;
 mod values;

@@ -12,13 +12,16 @@
 //!
 //! `gtfs check DIR` prints what is wrong with the feed in a folder.
 //!
-//! `gtfs board DIR --zone FILE --stop ID --from T --until T [--limit N] [--after KEY]` prints the departures at a stop, in the
-//! order of their keys, a line each: at most N, and only those above the key. T is `@` and an instant in seconds since
+//! `gtfs board DIR --zone FILE --stop ID --from T --until T [--limit N] [--after KEY] [--interpolate]` prints the departures at
+//! a stop, in the order of their keys, a line each: at most N, and only those above the key. T is `@` and an instant in seconds since
 //! 1970-01-01T00:00:00Z, or a service day YYYYMMDD, which stands for its origin in the zone: noon less twelve hours. A feed
 //! with errors has no boards.
 //!
-//! `gtfs timetable DIR --route ID --date D [--direction 0|1]` prints the runs of a route on a date, a sheet for each direction and
-//! list of stops. D is a date YYYYMMDD, one without service included.
+//! `gtfs timetable DIR --route ID --date D [--direction 0|1] [--interpolate]` prints the runs of a route on a date, a sheet for
+//! each direction and list of stops. D is a date YYYYMMDD, one without service included.
+//!
+//! With `--interpolate` a stop time with neither an arrival nor a departure has the time of an even pace between its nearest
+//! neighbours that have one. A board lists its departures too, and marks them by an `i`; a timetable prints its times.
 //!
 //! `gtfs merge A B OUT` merges the feeds of two folders into a third, which may be one of the two, and prints which ids changed
 //! and how many are joined.

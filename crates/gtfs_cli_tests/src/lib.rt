@@ -14,6 +14,8 @@ mod ended;
 #[cfg(test)]
 mod faults;
 #[cfg(test)]
+mod filled_times;
+#[cfg(test)]
 mod fixtures;
 #[cfg(test)]
 mod folders;

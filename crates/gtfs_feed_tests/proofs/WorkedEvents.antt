@@ -19,8 +19,9 @@ use Rattle.gtfs_rows.specs.declared.service.ServiceRow.{ServiceRow}
 use Rattle.gtfs_rows.specs.declared.stop.Stop.{Stop}
 use Rattle.gtfs_rows.specs.declared.stop_row.StopRow.{StopRow}
 use Rattle.gtfs_rows.specs.declared.trip.Trip.{Trip}
-use Rattle.gtfs_runs.specs.FlatEvents.{Served, is_event_of, is_served, served_cmp}
+use Rattle.gtfs_runs.specs.FlatEvents.{Served, is_event_under, is_served, served_cmp}
 use Rattle.gtfs_runs.specs.declared.event.Event.{Event}
+use Rattle.gtfs_times.specs.declared.times.Times.TheVariants as times
 
 -- ---- a station with a platform and an entrance, and another stop; two services; a trip of each
 
@@ -95,56 +96,90 @@ event at t run seq n = record { at = at; trip = record { 0 = t }; run = run; seq
 -- ---- events at the station
 
 -- two departures of a run at one stop and one second are two events
-first-row : is_event_of small 2 0 (event 28800 0 28800 1 0) ≡ true
+first-row : is_event_under times.Given small 2 0 (event 28800 0 28800 1 0) ≡ true
 unfolding table.parts
 first-row = refl
 
-second-row : is_event_of small 2 0 (event 28800 0 28800 2 1) ≡ true
+second-row : is_event_under times.Given small 2 0 (event 28800 0 28800 2 1) ≡ true
 unfolding table.parts
 second-row = refl
 
-without_pickup : is_event_of small 2 0 (event 30600 0 28800 3 2) ≡ false
+without_pickup : is_event_under times.Given small 2 0 (event 30600 0 28800 3 2) ≡ false
 unfolding table.parts
 without_pickup = refl
 
-last-row : is_event_of small 2 0 (event 31000 0 28800 4 3) ≡ false
+last-row : is_event_under times.Given small 2 0 (event 31000 0 28800 4 3) ≡ false
 unfolding table.parts
 last-row = refl
 
 -- the runs of both periods, none at the end of the last, which is the trip's own time
-first-run : is_event_of small 2 1 (event 21600 1 21600 7 0) ≡ true
+first-run : is_event_under times.Given small 2 1 (event 21600 1 21600 7 0) ≡ true
 unfolding table.parts
 first-run = refl
 
-last-run : is_event_of small 2 1 (event 27000 1 27000 7 0) ≡ true
+last-run : is_event_under times.Given small 2 1 (event 27000 1 27000 7 0) ≡ true
 unfolding table.parts
 last-run = refl
 
-own-time : is_event_of small 2 1 (event 28800 1 28800 7 0) ≡ false
+own-time : is_event_under times.Given small 2 1 (event 28800 1 28800 7 0) ≡ false
 unfolding table.parts
 own-time = refl
 
 -- the number of another service, and one that no service has
-other-service : is_event_of small 2 0 (event 21600 1 21600 7 0) ≡ false
+other-service : is_event_under times.Given small 2 0 (event 21600 1 21600 7 0) ≡ false
 unfolding table.parts
 other-service = refl
 
-no-service : is_event_of small 2 2 (event 21600 1 21600 7 0) ≡ false
+no-service : is_event_under times.Given small 2 2 (event 21600 1 21600 7 0) ≡ false
 unfolding table.parts
 no-service = refl
 
 -- and at other stops: the platform's own, the entrance, the end of a trip
-platform : is_event_of small 1 1 (event 21600 1 21600 7 0) ≡ true
+platform : is_event_under times.Given small 1 1 (event 21600 1 21600 7 0) ≡ true
 unfolding table.parts
 platform = refl
 
-entrance : is_event_of small 0 1 (event 21600 1 21600 7 0) ≡ false
+entrance : is_event_under times.Given small 0 1 (event 21600 1 21600 7 0) ≡ false
 unfolding table.parts
 entrance = refl
 
-end : is_event_of small 3 1 (event 22200 1 21600 9 1) ≡ false
+end : is_event_under times.Given small 3 1 (event 22200 1 21600 9 1) ≡ false
 unfolding table.parts
 end = refl
+
+-- ---- a trip from 08:00:00 to 08:10:01 with two stop times between that have no time
+
+abbrev untimed : ℕ → ℕ → StopRow
+untimed s sequence = record (row s 0 sequence pickup.Regular) { arrival_time = None; departure_time = None }
+
+abbrev between : Parts
+between = record small {
+  stop_rows = row 3 28800 1 pickup.Regular ∷ untimed 1 2 ∷ untimed 1 5 ∷ row 3 29401 9 pickup.Regular
+      ∷ row 1 28800 7 pickup.Regular ∷ row 3 29400 9 pickup.Regular ∷ [];
+}
+
+-- filled, they are events at 08:03:20 and 08:06:40, and at no other second
+filled-first : is_event_under times.Interpolated between 2 0 (event 29000 0 28800 2 1) ≡ true
+unfolding table.parts
+filled-first = refl
+
+filled-second : is_event_under times.Interpolated between 2 0 (event 29200 0 28800 5 2) ≡ true
+unfolding table.parts
+filled-second = refl
+
+filled-later : is_event_under times.Interpolated between 2 0 (event 29201 0 28800 5 2) ≡ false
+unfolding table.parts
+filled-later = refl
+
+-- given, they are none
+given-first : is_event_under times.Given between 2 0 (event 29000 0 28800 2 1) ≡ false
+unfolding table.parts
+given-first = refl
+
+-- a time that is given is that event's under both
+kept-run : is_event_under times.Interpolated between 2 1 (event 21600 1 21600 7 0) ≡ true
+unfolding table.parts
+kept-run = refl
 
 -- ---- order
 

@@ -9,7 +9,7 @@ use crate::{ids, patterns};
 use gtfs_feed::Feed;
 use gtfs_fixtures::{FileText, feed_with, made_feed};
 use gtfs_rows::ServiceNo;
-use gtfs_runs::{Event, flat_events};
+use gtfs_runs::{Event, Times, flat_events};
 use std::alloc::Global;
 use std::process::Abort;
 use std::random::RandomSource;
@@ -35,6 +35,7 @@ const LISTED: &[Case] = &[
         lanes: Wanted {
             lists: 1,
             periods: 0,
+            filled: 0,
             greatest: 28_800,
         },
     },
@@ -87,6 +88,7 @@ A1,25:10:00,25:10:00,S1,1\nA1,25:20:00,25:20:00,S2,2\nA2,01:10:00,01:10:00,S1,1\
         lanes: Wanted {
             lists: 1,
             periods: 0,
+            filled: 0,
             greatest: 90_600,
         },
     },
@@ -108,6 +110,7 @@ T2,25:10:00,25:10:00,S1,1\nT2,25:20:00,25:20:00,S2,2\nT10,25:10:00,25:10:00,S1,3
         lanes: Wanted {
             lists: 1,
             periods: 0,
+            filled: 0,
             greatest: 90_600,
         },
     },
@@ -130,6 +133,7 @@ T1,08:00:00,08:00:00,S1,1\nT1,08:10:00,08:10:00,S2,2\nT2,09:00:00,09:00:00,S1,1\
         lanes: Wanted {
             lists: 2,
             periods: 0,
+            filled: 0,
             greatest: 32_400,
         },
     },
@@ -152,6 +156,7 @@ T2,09:00:00,09:00:00,S1,1\nT2,09:10:00,09:10:00,S2,2\nT2,09:20:00,09:20:00,S3,3\
         lanes: Wanted {
             lists: 2,
             periods: 0,
+            filled: 0,
             greatest: 32_400,
         },
     },
@@ -177,6 +182,7 @@ T1,08:00:00,08:00:00,S1,1,\nT1,08:10:00,08:10:00,S2,2,\nT1,08:20:00,08:20:00,S1,
         lanes: Wanted {
             lists: 1,
             periods: 0,
+            filled: 0,
             greatest: 28_800,
         },
     },
@@ -192,6 +198,7 @@ T1,08:00:00,08:00:00,S1,1,2,0\nT1,08:10:00,08:10:00,S1,2,3,1\nT1,08:20:00,08:20:
         lanes: Wanted {
             lists: 2,
             periods: 0,
+            filled: 0,
             greatest: 29_400,
         },
     },
@@ -207,6 +214,7 @@ T1,08:20:00,08:20:00,S2,10\nT1,08:05:00,08:06:00,S1,9\nT1,08:00:00,08:01:00,S1,0
         lanes: Wanted {
             lists: 2,
             periods: 0,
+            filled: 0,
             greatest: 29_160,
         },
     },
@@ -222,6 +230,7 @@ T1,08:00:00,,S1,1\nT1,,,S1,2\nT1,08:05:00,,S1,3\nT1,08:10:00,08:10:00,S2,4\n",
         lanes: Wanted {
             lists: 2,
             periods: 0,
+            filled: 0,
             greatest: 29_100,
         },
     },
@@ -237,6 +246,7 @@ T1,08:00:00,08:00:00,S1,1\nT1,08:00:00,08:00:00,S1,2\nT1,08:00:00,08:00:00,S2,3\
         lanes: Wanted {
             lists: 2,
             periods: 0,
+            filled: 0,
             greatest: 28_800,
         },
     },
@@ -261,6 +271,7 @@ const STATIONS: &[Case] = &[
         lanes: Wanted {
             lists: 2,
             periods: 0,
+            filled: 0,
             greatest: 30_000,
         },
     },
@@ -275,6 +286,7 @@ const STATIONS: &[Case] = &[
         lanes: Wanted {
             lists: 1,
             periods: 0,
+            filled: 0,
             greatest: 30_000,
         },
     },
@@ -304,6 +316,7 @@ T1,06:00:00,07:00:00,1800,0\nT1,07:00:00,08:00:00,1800,1\n",
         lanes: Wanted {
             lists: 0,
             periods: 2,
+            filled: 0,
             greatest: 27_000,
         },
     },
@@ -318,6 +331,7 @@ T1,06:00:00,07:00:00,1800,0\nT1,07:00:00,08:00:00,1800,1\n",
         lanes: Wanted {
             lists: 0,
             periods: 1,
+            filled: 0,
             greatest: 23_400,
         },
     },
@@ -332,6 +346,7 @@ T1,06:00:00,07:00:00,1800,0\nT1,07:00:00,08:00:00,1800,1\n",
         lanes: Wanted {
             lists: 0,
             periods: 1,
+            filled: 0,
             greatest: 0,
         },
     },
@@ -353,6 +368,7 @@ T1,00:00:00,00:00:00,S1,1\nT1,999:59:59,999:59:59,S1,2\nT1,999:59:59,999:59:59,S
         lanes: Wanted {
             lists: 0,
             periods: 2,
+            filled: 0,
             greatest: 7_199_997,
         },
     },
@@ -380,12 +396,18 @@ C1 22800 T1 22200 2 1\n",
         lanes: Wanted {
             lists: 1,
             periods: 2,
+            filled: 0,
             greatest: 22_800,
         },
     },
 ];
 
-fn shown(alloc: Global, feed: &Feed, events: &[(ServiceNo, Event)]) -> Result<String, Fail> {
+/// For each event its service, second, trip, run, sequence and row.
+pub(crate) fn shown(
+    alloc: Global,
+    feed: &Feed,
+    events: &[(ServiceNo, Event)],
+) -> Result<String, Fail> {
     let mut text = String::new(alloc);
     for (service, event) in events {
         let line = format!(in alloc;
@@ -416,10 +438,10 @@ fn assert_cases<R: Abort + RandomSource>(
 
 fn assert_case(rt: &impl Abort, alloc: Global, feed: &Feed, case: &Case) -> Result<(), Fail> {
     let stop = stop_named(rt, feed, case.stop);
-    let events = flat_events(alloc, feed, stop)?;
+    let events = flat_events(alloc, feed, stop, Times::Given)?;
     let text = shown(alloc, feed, &events)?;
     assert_is(rt, text.as_str(), case.events, case.what);
-    assert_lanes(rt, alloc, feed, stop, case.lanes, case.what)?;
+    assert_lanes(rt, alloc, feed, stop, Times::Given, case.lanes, case.what)?;
     assert_unions(rt, alloc, feed)
 }
 
@@ -475,12 +497,13 @@ fn a_run_each_second_of_a_day_is_one_lane(rt: HostRuntime) -> Result<(), Fail> {
 
 fn assert_each_second(rt: &impl Abort, alloc: Global, feed: &Feed) -> Result<(), Fail> {
     let stop = stop_named(rt, feed, "S1");
-    let events = flat_events(alloc, feed, stop)?;
+    let events = flat_events(alloc, feed, stop, Times::Given)?;
     assert_is(rt, events.len(), 86_400, "events");
     let wanted = Wanted {
         lists: 0,
         periods: 1,
+        filled: 0,
         greatest: 86_399,
     };
-    assert_lanes(rt, alloc, feed, stop, wanted, "each second")
+    assert_lanes(rt, alloc, feed, stop, Times::Given, wanted, "each second")
 }

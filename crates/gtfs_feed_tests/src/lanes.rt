@@ -4,7 +4,7 @@ use crate::assertions::{assert_holds, assert_is};
 use gtfs_feed::Feed;
 use gtfs_field::OutOfMemory;
 use gtfs_rows::{ServiceNo, StopNo, TripNo};
-use gtfs_runs::{Event, Lane, Seek, Steps, StopLanes, flat_events};
+use gtfs_runs::{Event, Lane, Seek, Steps, StopLanes, Times, flat_events};
 use std::alloc::Global;
 use std::process::Abort;
 use std::test::Fail;
@@ -14,6 +14,7 @@ use std::test::Fail;
 pub(crate) struct Wanted {
     pub(crate) lists: usize,
     pub(crate) periods: usize,
+    pub(crate) filled: usize,
     pub(crate) greatest: u32,
 }
 
@@ -22,6 +23,7 @@ impl Wanted {
     pub(crate) const NONE: Wanted = Wanted {
         lists: 0,
         periods: 0,
+        filled: 0,
         greatest: 0,
     };
 }
@@ -87,6 +89,9 @@ fn walk_all(
     for lane in lanes.periods() {
         walk(rt, feed, lane, steps, &mut events)?;
     }
+    for lane in lanes.filled() {
+        walk(rt, feed, lane, steps, &mut events)?;
+    }
     events.sort_unstable();
     Ok(events)
 }
@@ -97,24 +102,27 @@ pub(crate) fn assert_lanes(
     alloc: Global,
     feed: &Feed,
     stop: StopNo,
+    times: Times,
     wanted: Wanted,
     what: &str,
 ) -> Result<(), Fail> {
     assert!(rt; stop.0 < feed.stop_count());
-    let (lanes, mut steps) = StopLanes::build(alloc, feed, stop)?;
+    let (lanes, mut steps) = StopLanes::build(alloc, feed, stop, times)?;
     let found = Wanted {
         lists: lanes.lists().len(),
         periods: lanes.periods().len(),
+        filled: lanes.filled().len(),
         greatest: lanes.greatest(),
     };
     assert_is(rt, found, wanted, what);
     assert_is(rt, steps.count(), 0, what);
     let events = walk_all(rt, alloc, feed, &lanes, &mut steps)?;
-    assert_holds(rt, events == flat_events(alloc, feed, stop)?, what);
+    assert_holds(rt, events == flat_events(alloc, feed, stop, times)?, what);
     let calls = events.len().saturating_mul(3);
     let calls = calls
         .saturating_add(wanted.lists)
-        .saturating_add(wanted.periods);
+        .saturating_add(wanted.periods)
+        .saturating_add(wanted.filled);
     assert_is(rt, steps.count(), calls as u64, what);
     Ok(())
 }

@@ -11,7 +11,7 @@ use gtfs_feed::Feed;
 use gtfs_field::OutOfMemory;
 use gtfs_fixtures::read_feed;
 use gtfs_rows::{AgencyNo, RouteNo, ServiceNo, StopNo, TripNo};
-use gtfs_runs::{Event, Lane, ListLane, Steps, StopLanes, flat_events, patterns};
+use gtfs_runs::{Event, Lane, ListLane, Steps, StopLanes, Times, flat_events, patterns};
 use gtfs_table::{File, MemoryFolders};
 use std::alloc::Global;
 use std::hash::RandomState;
@@ -185,6 +185,7 @@ const CASES: &[Case] = &[
         lanes: Wanted {
             lists: 70_000,
             periods: 0,
+            filled: 0,
             greatest: 28_800,
         },
         route: "R100000",
@@ -195,6 +196,7 @@ const CASES: &[Case] = &[
         lanes: Wanted {
             lists: 0,
             periods: 70_000,
+            filled: 0,
             greatest: 23_400,
         },
         route: "R100001",
@@ -205,6 +207,7 @@ const CASES: &[Case] = &[
         lanes: Wanted {
             lists: 1,
             periods: 0,
+            filled: 0,
             greatest: 32_400,
         },
         route: "R100002",
@@ -215,7 +218,7 @@ const CASES: &[Case] = &[
 // Each event of the stop stands in a lane, and each trip of the route in a pattern.
 fn assert_case(rt: &impl Abort, alloc: Global, feed: &Feed, case: &Case) -> Result<(), Fail> {
     let stop = stop_named(rt, feed, case.stop);
-    assert_lanes(rt, alloc, feed, stop, case.lanes, case.stop)?;
+    assert_lanes(rt, alloc, feed, stop, Times::Given, case.lanes, case.stop)?;
     let Some(route) = feed.route(case.route) else {
         panic!(rt; "no route {}", case.route);
     };
@@ -250,8 +253,8 @@ fn assert_next(
 // The one lane of the trips V finds what follows an event, however long it is.
 fn assert_searched(rt: &impl Abort, alloc: Global, feed: &Feed) -> Result<(), Fail> {
     let stop = stop_named(rt, feed, "S100002");
-    let events = flat_events(alloc, feed, stop)?;
-    let (lanes, mut steps) = StopLanes::build(alloc, feed, stop)?;
+    let events = flat_events(alloc, feed, stop, Times::Given)?;
+    let (lanes, mut steps) = StopLanes::build(alloc, feed, stop, Times::Given)?;
     let [lane] = lanes.lists() else {
         panic!(rt; "{} lists", lanes.lists().len());
     };

@@ -5,7 +5,7 @@ use crate::named::stop_named;
 use gtfs_feed::Feed;
 use gtfs_fixtures::feed_with;
 use gtfs_rows::TripNo;
-use gtfs_runs::{Lane, Seek, StepLane, Steps, StopLanes};
+use gtfs_runs::{Lane, Seek, StepLane, Steps, StopLanes, Times};
 use std::mem::size_of;
 use std::process::Abort;
 use std::test::Fail;
@@ -54,7 +54,7 @@ fn a_period_is_asked_from_any_position(rt: HostRuntime) -> Result<(), Fail> {
     let frequencies = "trip_id,start_time,end_time,headway_secs\nT1,06:00:00,07:00:00,1800\n";
     let feed = feed_with(&rt, rt.alloc(), &[("frequencies.txt", frequencies)])?;
     let stop = stop_named(&rt, &feed, "S1");
-    let (lanes, mut steps) = StopLanes::build(rt.alloc(), &feed, stop)?;
+    let (lanes, mut steps) = StopLanes::build(rt.alloc(), &feed, stop, Times::Given)?;
     let [lane] = lanes.periods() else {
         panic!(rt; "{} periods", lanes.periods().len());
     };
@@ -81,7 +81,7 @@ T2,25:10:00,25:10:00,S1,1\nT2,25:20:00,25:20:00,S2,2\nT10,25:10:00,25:10:00,S1,1
     let files = [("trips.txt", trips), ("stop_times.txt", stop_times)];
     let feed = feed_with(&rt, rt.alloc(), &files)?;
     let stop = stop_named(&rt, &feed, "S1");
-    let (lanes, mut steps) = StopLanes::build(rt.alloc(), &feed, stop)?;
+    let (lanes, mut steps) = StopLanes::build(rt.alloc(), &feed, stop, Times::Given)?;
     let [lane] = lanes.lists() else {
         panic!(rt; "{} lists", lanes.lists().len());
     };
@@ -106,7 +106,7 @@ fn a_trip_of_3_599_999_runs_is_one_small_lane(rt: HostRuntime) -> Result<(), Fai
     let frequencies = "trip_id,start_time,end_time,headway_secs\nT1,00:00:00,999:59:59,1\n";
     let feed = feed_with(&rt, rt.alloc(), &[("frequencies.txt", frequencies)])?;
     let stop = stop_named(&rt, &feed, "S1");
-    let (lanes, mut steps) = StopLanes::build(rt.alloc(), &feed, stop)?;
+    let (lanes, mut steps) = StopLanes::build(rt.alloc(), &feed, stop, Times::Given)?;
     let [lane] = lanes.periods() else {
         panic!(rt; "{} periods", lanes.periods().len());
     };

@@ -4,7 +4,7 @@ ghost use Rattle.std.specs.Prelude.{◌<◌, length};
 use crate::assertions::assert_is;
 use gtfs_feed::Feed;
 use gtfs_rows::{ServiceNo, StopNo, TripNo};
-use gtfs_runs::{Event, Lane, Seek, Steps, StopLanes, flat_events};
+use gtfs_runs::{Event, Lane, Seek, Steps, StopLanes, Times, flat_events};
 use std::alloc::Global;
 use std::process::Abort;
 use std::test::Fail;
@@ -104,11 +104,17 @@ fn around(event: &Event) -> [Seek; 9] {
 
 // For every service and every position around an event of the stop, the least event that a lane of the service has above the
 // position is the first that the plain list has.
-fn assert_union(rt: &impl Abort, alloc: Global, feed: &Feed, stop: StopNo) -> Result<(), Fail>
+fn assert_union(
+    rt: &impl Abort,
+    alloc: Global,
+    feed: &Feed,
+    stop: StopNo,
+    times: Times,
+) -> Result<(), Fail>
     requires { stop.0 < length feed.now.stops }
 {
-    let events = flat_events(alloc, feed, stop)?;
-    let (lanes, mut steps) = StopLanes::build(alloc, feed, stop)?;
+    let events = flat_events(alloc, feed, stop, times)?;
+    let (lanes, mut steps) = StopLanes::build(alloc, feed, stop, times)?;
     for (_, event) in &events {
         for seek in around(event) {
             for number in 0..feed.service_count() {
@@ -116,7 +122,8 @@ fn assert_union(rt: &impl Abort, alloc: Global, feed: &Feed, stop: StopNo) -> Re
                 let lists = least(feed, lanes.lists(), service, &seek, &mut steps);
                 let periods = least(feed, lanes.periods(), service, &seek, &mut steps);
                 let wanted = first_listed(&events, service, &seek);
-                let found = lesser(lists, periods);
+                let filled = least(feed, lanes.filled(), service, &seek, &mut steps);
+                let found = lesser(lesser(lists, periods), filled);
                 assert_is(rt, found, wanted, format_args!("{seek:?}"));
             }
         }
@@ -124,10 +131,11 @@ fn assert_union(rt: &impl Abort, alloc: Global, feed: &Feed, stop: StopNo) -> Re
     Ok(())
 }
 
-/// The lanes of each stop of a feed have what the plain list has, wherever they are asked.
+/// The lanes of each stop of a feed have what the plain list has, wherever they are asked, under all times.
 pub(crate) fn assert_unions(rt: &impl Abort, alloc: Global, feed: &Feed) -> Result<(), Fail> {
     for number in 0..feed.stop_count() {
-        assert_union(rt, alloc, feed, StopNo(number))?;
+        assert_union(rt, alloc, feed, StopNo(number), Times::Given)?;
+        assert_union(rt, alloc, feed, StopNo(number), Times::Interpolated)?;
     }
     Ok(())
 }

@@ -4,7 +4,7 @@ use crate::assertions::assert_is;
 use crate::cases::{AT_TEN, merged_of};
 use crate::report::{count_of, id_of};
 use crate::worked::{RAIL, WITH_SECOND};
-use gtfs_board::{Board, Departure, Key, Span, push_line};
+use gtfs_board::{Board, Departure, Key, Span, Times, push_line};
 use gtfs_days::Zone;
 use gtfs_feed::Feed;
 use gtfs_field::Day;
@@ -140,7 +140,15 @@ impl Fixture {
         stop: &str,
         listed: &mut Vec<(Rank, String)>,
     ) -> Result<(), Fail> {
-        let mut board = Board::open(alloc, self.side(side), &self.zone, stop, ALWAYS, None)?;
+        let mut board = Board::open(
+            alloc,
+            self.side(side),
+            &self.zone,
+            stop,
+            ALWAYS,
+            None,
+            Times::Given,
+        )?;
         for _ in 0..MOST {
             match board.next() {
                 Ok(Some(departure)) => listed.push(self.renamed(alloc, side, &departure)?)?,
@@ -217,7 +225,7 @@ fn joined_lines(alloc: Global, listed: &[(Rank, String)]) -> Result<String, Fail
 
 // The lines of the whole board of a stop.
 fn lines(alloc: Global, feed: &Feed, zone: &Zone, stop: &str) -> Result<String, Fail> {
-    let mut board = Board::open(alloc, feed, zone, stop, ALWAYS, None)?;
+    let mut board = Board::open(alloc, feed, zone, stop, ALWAYS, None, Times::Given)?;
     let mut text = String::new(alloc);
     for _ in 0..MOST {
         match board.next() {

@@ -27,7 +27,7 @@ row_at f P q r (x ∷ xs) zero all same = same x (All-head P x xs all)
 row_at f P q r (x ∷ xs) (suc n) all same = row_at f P q r xs n (All-tail P x xs all) same
 
 -- past the trips there is none
-past_trips : (p : Parts) (ts : List Trip) (rs : List (List StopRow)) (fs : List (List Frequency)) (t : ℕ) → length ts ≤ t → slice_get (trips_of p ts rs fs) t ≡ None
+pub past_trips : (p : Parts) (ts : List Trip) (rs : List (List StopRow)) (fs : List (List Frequency)) (t : ℕ) → length ts ≤ t → slice_get (trips_of p ts rs fs) t ≡ None
 past_trips p [] rs fs t past = refl
 past_trips p (u ∷ ts) [] fs t past = refl
 past_trips p (u ∷ ts) (r ∷ rs) [] t past = refl

@@ -1,5 +1,5 @@
 -- A sorted list in which no event stands twice ascends.
-use Rattle.std.proofs.Common.{◌≡◌, ◌≤◌, ◌∙◌, ◌==◌, ℕ, Bool, true, false, cond, List, get_or, refl, sym, ap, arith, rules}
+use Rattle.std.proofs.Common.{◌≡◌, ◌≤◌, ◌∙◌, ◌&&◌, ◌==◌, ℕ, Bool, true, false, cond, List, length, nat_lt, get_or, refl, sym, ap, arith, rules}
 use Rattle.std.specs.List.Sorted.{IsPermutation, IsSorted}
 use Rattle.std.specs.Cmp.{IsTotalOrder, ranked}
 use Rattle.std.specs.Cmp.Derive.{both_true}
@@ -12,6 +12,11 @@ use Rattle.gtfs_field.proofs.NumberFacts.{number_itself as itself}
 use Rattle.gtfs_field.proofs.OrderingFacts.{tied_first as first_tie, tied_second as second_tie}
 use Rattle.gtfs_rows.specs.Order.{Ascends}
 use Rattle.gtfs_rows.specs.declared.parts.Parts.{Parts}
+use Rattle.gtfs_rows.specs.Views.{IsSoundParts, service_ids, stop_ids, text_of_number}
+use Rattle.gtfs_times.proofs.TimedContent.{content-timed}
+use Rattle.gtfs_times.specs.TimedRows.{timed_parts}
+use Rattle.gtfs_times.specs.declared.times.Times.{Times}
+use Rattle.gtfs_runs.specs.Events.{is_event}
 use Rattle.gtfs_runs.specs.Counts.{tally}
 use Rattle.gtfs_runs.specs.FlatEvents.{AreEvents, Served, is_event_of, is_served, served_cmp}
 use Rattle.gtfs_runs.specs.declared.event.Event.{Event}
@@ -48,13 +53,16 @@ ascends xs up once i j d before within =
 
 -- ---- all together
 
-pub are-events : (p : Parts) (s : ℕ) (found sorted : List Served) → ((k : ℕ) (e : Event) → tally (is_served k e) found ≡ cond (is_event_of p s k e) 1 0)
-    → IsPermutation found sorted → IsSorted served_cmp sorted → AreEvents p s sorted
-are-events p s found sorted told same up =
-    let every : (k : ℕ) (e : Event) → tally (is_served k e) sorted ≡ cond (is_event_of p s k e) 1 0 = λ k e. tally-permutation (is_served k e) found sorted same ∙ told k e in
+pub are-events : (choice : Times) (p : Parts) → IsSoundParts p → (s : ℕ) (found sorted : List Served)
+    → ((k : ℕ) (e : Event) → tally (is_served k e) found ≡ cond (is_event_of (timed_parts choice p) s k e) 1 0)
+    → IsPermutation found sorted → IsSorted served_cmp sorted → AreEvents choice p s sorted
+are-events choice p sound s found sorted told same up =
+    let q = timed_parts choice p in
+    let every : (k : ℕ) (e : Event) → tally (is_served k e) sorted ≡ cond (is_event_of q s k e) 1 0 = λ k e. tally-permutation (is_served k e) found sorted same ∙ told k e in
     record {
-      in_order = ascends sorted up (λ k e. most (is_event_of p s k e) (tally (is_served k e) sorted) (every k e));
-      all = λ k e. any-tally (is_served k e) sorted (is_event_of p s k e) (every k e);
+      in_order = ascends sorted up (λ k e. most (is_event_of q s k e) (tally (is_served k e) sorted) (every k e));
+      all = λ k e. any-tally (is_served k e) sorted (is_event_of q s k e) (every k e)
+          ∙ ap (λ c. nat_lt k (length p.services) && is_event c (text_of_number (stop_ids p) s) (text_of_number (service_ids p) k) e) (content-timed choice p sound);
     }
   where
     most : (b : Bool) (n : ℕ) → n ≡ cond b 1 0 → n ≤ 1

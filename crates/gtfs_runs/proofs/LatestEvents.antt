@@ -57,7 +57,7 @@ fold-least n a (x ∷ xs) start all =
 
 -- ---- what holds of all of a list of lists
 
-left-all : {X : Type 0} (P : X → Type 0) (xs ys : List X) → All P (xs ++ ys) → All P xs
+pub left-all : {X : Type 0} (P : X → Type 0) (xs ys : List X) → All P (xs ++ ys) → All P xs
 left-all P xs ys all k d within =
     subst P (get_or_append_left xs ys d k within) (all k d (let size = length-append xs ys in omega (arith, size, within)))
 
@@ -196,7 +196,7 @@ told-holds P e (x ∷ xs) all told = elim (cases_Bool (is_same e x)) [
   | inr isnt ↦ told-holds P e xs (All-tail P x xs all) (subst (λ n. 1 ≤ n) (ap (λ b. cond b 1 0 + tally (is_same e) xs) isnt ∙ zero-add (tally (is_same e) xs)) told)
 ]
 
-lane-tells : (q : Event → Bool) (k : ℕ) (lanes : List LaneValue) (i : ℕ) (lane : LaneValue) → slice_get lanes i ≡ Some lane → (lane.service == k) ≡ true → tally q lane.events ≤ tally q (events_of_service k lanes)
+pub lane-tells : (q : Event → Bool) (k : ℕ) (lanes : List LaneValue) (i : ℕ) (lane : LaneValue) → slice_get lanes i ≡ Some lane → (lane.service == k) ≡ true → tally q lane.events ≤ tally q (events_of_service k lanes)
 lane-tells q k [] i lane at is = cc
 lane-tells q k (y ∷ ys) zero lane at is =
     let same : y ≡ lane = one y lane at in
@@ -214,7 +214,7 @@ lane-tells q k (y ∷ ys) (suc i) lane at is =
     longer true = let all = tally-append q y.events (events_of_service k ys) in omega (arith, all)
     longer false = omega arith
 
-told : (b : Bool) (n : ℕ) → n ≡ cond b 1 0 → 1 ≤ n → b ≡ true
+pub told : (b : Bool) (n : ℕ) → n ≡ cond b 1 0 → 1 ≤ n → b ≡ true
 told true n is some = refl
 told false n is some = absurd (omega (arith, is, some))
 

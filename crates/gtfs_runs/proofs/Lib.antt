@@ -25,4 +25,7 @@ mod CourseCounts
 mod WholeLanes
 mod Chunks
 mod LatestEvents
+mod UntimedEvents
+mod LanesMoved
+pub mod TimedTrips
 pub mod Tallies

@@ -11,7 +11,7 @@ use Rattle.std.specs.Ordering.{eq_by_cmp, is_eq, is_lt, ordering_reverse}
 use Rattle.std.proofs.lemmas.Bool.{cases_Bool, ltb-false, true≢false}
 use Rattle.std.proofs.lemmas.List.{length-append, length-map, take_all as all_taken}
 use Rattle.std.proofs.lemmas.List.Elements.{All-append, All-map}
-use Rattle.std.proofs.lemmas.List.Sorted.{All-permutation, IsPermutation-map, ranks_by, sorted_far}
+use Rattle.std.proofs.lemmas.List.Sorted.{All-permutation, IsPermutation-map, length_permutation, ranks_by, sorted_far}
 use Rattle.std.proofs.lemmas.Simd.{map-map}
 use Rattle.gtfs_field.proofs.NumberFacts.{number_itself as itself}
 use Rattle.gtfs_field.proofs.OrderingFacts.{tied as both_equal}
@@ -30,8 +30,15 @@ use Rattle.gtfs_runs.specs.Lanes.{Course, course_cmp, courses_of, departure_rows
 use Rattle.gtfs_runs.specs.Order.{event_cmp}
 use Rattle.gtfs_runs.specs.StopLanes.{AreLanesOf, LaneValue, events_of_service}
 use Rattle.gtfs_runs.specs.declared.event.Event.{Event}
+use Rattle.gtfs_runs.specs.steps.Apart.{AreApart}
+use Rattle.gtfs_runs.specs.steps.Whole.{AreWhole}
 use Rattle.gtfs_runs.specs.steps.Courses.{IsCourse, Stopping, course_of, how_many, is_same_course, stopping_cmp, stopping_events}
 use Rattle.gtfs_runs.specs.steps.Finds.{AreFound, times_found, times_told}
+use Rattle.gtfs_times.proofs.FilledContent.{sound-timed}
+use Rattle.gtfs_times.proofs.TimedContent.{content-timed}
+use Rattle.gtfs_times.specs.Filling.{timed}
+use Rattle.gtfs_times.specs.TimedRows.{timed_parts}
+use Rattle.gtfs_times.specs.declared.times.Times.{Times}
 use Rattle.gtfs_runs.proofs.ContentEvents.{no_event}
 use Rattle.gtfs_runs.proofs.Counting.{same-self}
 use Rattle.gtfs_runs.proofs.CourseCounts.{as_many, set_permuted}
@@ -112,7 +119,7 @@ module _ (p : Parts) (s : ℕ) (listed : List Stopping) (periods : List LaneValu
     every : take (length p.trips) (content_of_parts p).trips ≡ (content_of_parts p).trips
     every = all_taken (length p.trips) c.trips (trips_within p p.trips (stop_rows_by_trip p) (frequencies_by_trip p))
 
-    listed_count : length lists ≡ how_many is_same_course (map (λ x. x.course) sorted) → list_count (content_of_parts p) (text_of_number (stop_ids p) s) ≡ length lists
+    pub listed_count : length lists ≡ how_many is_same_course (map (λ x. x.course) sorted) → list_count (content_of_parts p) (text_of_number (stop_ids p) s) ≡ length lists
     listed_count count =
         let f : Stopping → Course = λ x. course_of p x.course in
         let known : All (λ a. IsCourse p a.course) sorted = All-permutation (λ a. IsCourse p a.course) listed sorted same found.known in
@@ -124,7 +131,7 @@ module _ (p : Parts) (s : ℕ) (listed : List Stopping) (periods : List LaneValu
         ∙ as_many p sound (map (λ x. x.course) sorted) (All-map (IsCourse p) (λ x. x.course) sorted known)
         ∙ sym count
 
-    periodic : period_count (content_of_parts p) (text_of_number (stop_ids p) s) ≡ length periods
+    pub periodic : period_count (content_of_parts p) (text_of_number (stop_ids p) s) ≡ length periods
     periodic = sym (found.counted ∙ ap (λ l. length (flat_map (λ t. flat_map (λ period. departure_rows c id t) t.frequencies) (filter has_periods l))) every)
 
     exact_lanes : (k : ℕ) (e : Event) → k < length p.services → times_told k e (lists ++ periods) ≡ cond (ev k e) 1 0
@@ -132,10 +139,6 @@ module _ (p : Parts) (s : ℕ) (listed : List Stopping) (periods : List LaneValu
         let moved : times_told k e lists ≡ tally (is_same e) (stopping_events k listed) =
         ap (tally (is_same e)) (told k) ∙ events_tally k e sorted ∙ tally-permutation (λ x. (x.course.service == k) && is_same e x.event) listed sorted same ∙ sym (events_tally k e listed) in
         told-append k e lists periods ∙ ap (λ n. n + times_told k e periods) moved ∙ told_once k e within
-
-    pub are_by_kind : (greatest : ℕ) → length lists ≡ how_many is_same_course (map (λ x. x.course) sorted) → All (IsListLane (content_of_parts p)) lists
-        → AreByKind (content_of_parts p) (text_of_number (stop_ids p) s) (record { lists = lists; periods = periods; greatest = greatest })
-    are_by_kind greatest count alike = record { lists = sym (listed_count count); periods = sym periodic; listed = alike; runs = found.runs }
 
     pub are_lanes : length lists ≡ how_many is_same_course (map (λ x. x.course) sorted) → All (λ lane. lane.service < length p.services) lists
         → All (λ lane. Ascends event_cmp lane.events) lists → All (λ lane. Ascends event_cmp lane.events) periods
@@ -149,3 +152,35 @@ module _ (p : Parts) (s : ℕ) (listed : List Stopping) (periods : List LaneValu
           exact = λ k e below. exact_lanes k e (subst (λ n. k < n) services below);
           counted = length-append lists periods ∙ (λ i. sym (listed_count count) i + sym periodic i);
         }
+
+-- ---- the same under a choice of times
+
+module _ (choice : Times) (p : Parts) (sound : IsSoundParts p) (s : ℕ) (listed : List Stopping) (periods : List LaneValue)
+    (found : AreFound (timed_parts choice p) s (length p.trips) listed periods) (sorted : List Stopping) (same : IsPermutation listed sorted) (lists : List LaneValue)
+    (told : (k : ℕ) → events_of_service k lists ≡ stopping_events k sorted) (count : length lists ≡ how_many is_same_course (map (λ x. x.course) sorted)) where
+  pub are_whole : All (λ lane. lane.service < length p.services) lists → All (λ lane. Ascends event_cmp lane.events) lists → All (λ lane. Ascends event_cmp lane.events) periods
+      → All (IsListLane (content_of_parts (timed_parts choice p))) lists
+      → AreWhole (timed choice (content_of_parts p)) (text_of_number (stop_ids p) s) (service_ids p) lists periods
+  are_whole within up_lists up_periods alike =
+      let q = timed_parts choice p in
+      let all = sound-timed p sound choice in
+      subst (λ c. AreWhole c (text_of_number (stop_ids p) s) (service_ids p) lists periods) (content-timed choice p sound) (record {
+        lanes = are_lanes q s listed periods found all sorted same lists told count within up_lists up_periods;
+        listed = sym (listed_count q s listed periods found all sorted same lists told count);
+        periodic = sym (periodic q s listed periods found all sorted same lists told);
+        kind = alike;
+        runs = found.runs;
+      })
+
+-- and where the lists stand in two
+pub are_by_kind : (choice : Times) (c : Content) (s : List ℕ) (ids : List (List ℕ)) (lists periods given filled : List LaneValue) (greatest : ℕ)
+    → AreWhole (timed choice c) s ids lists periods → AreApart c lists given filled
+    → AreByKind choice c s (record { lists = given; periods = periods; filled = filled; greatest = greatest })
+are_by_kind choice c s ids lists periods given filled greatest whole apart = record {
+  lists = sym (length-append given filled) ∙ length_permutation lists (given ++ filled) apart.same ∙ whole.listed;
+  periods = whole.periodic;
+  listed = All-permutation (IsListLane (timed choice c)) lists (given ++ filled) apart.same whole.kind;
+  runs = whole.runs;
+  given = apart.given;
+  filled = apart.filled;
+}

@@ -1,9 +1,14 @@
 -- The kinds of lanes of a stop: lists have the events of trips without rows of frequencies.txt, periods those of these rows.
+-- The lists stand in two: those of which each event is at a stop time with a time of its own, and the others.
 -- GTFS Schedule Reference, stop_times.txt, frequencies.txt and trips.txt.
-use Rattle.std.specs.Prelude.{◌≡◌, ℕ, All, AllPairs, Bool, true, not, cond, List, length, slice_get, Option, Some, option_map}
+use Rattle.std.specs.Prelude.{◌≡◌, ◌+◌, ◌++◌, ℕ, All, AllPairs, Bool, true, false, not, cond, List, length, slice_get, Option, Some, option_map}
+use Rattle.std.specs.List.{list_any}
 use Rattle.gtfs_columns.specs.Values.{if_there}
 use Rattle.gtfs_rows.specs.Content.{Content}
 use Rattle.gtfs_rows.specs.Rows.{Frequency, Trip}
+use Rattle.gtfs_rows.specs.Runs.{is_timed}
+use Rattle.gtfs_times.specs.Filling.{timed}
+use Rattle.gtfs_times.specs.declared.times.Times.{Times}
 use Rattle.gtfs_runs.specs.Counts.{is_same, tally}
 use Rattle.gtfs_runs.specs.Lanes.{Course, has_periods, list_count, period_count, stops_of}
 use Rattle.gtfs_runs.specs.Periods.{is_of_period}
@@ -36,9 +41,20 @@ pub record IsPeriodLane (c : Content) (lane : LaneValue) : Type 0 where
   pub begins : first.run ≡ period.start_time
   pub runs : (e : Event) → tally (is_same e) lane.events ≡ cond (is_of_period first period e) 1 0
 
--- as many lists and as many periods as defined; no run of a period stands in a list, and no other run in a period
-pub record AreByKind (c : Content) (s : List ℕ) (lanes : StopLanesValue) : Type 0 where
-  pub lists : length lanes.lists ≡ list_count c s
-  pub periods : length lanes.periods ≡ period_count c s
-  pub listed : All (IsListLane c) lanes.lists
-  pub runs : All (IsPeriodLane c) lanes.periods
+-- the event is at a stop time that has no time of its own
+abbrev pub is_untimed_at : Content → Event → Bool
+is_untimed_at c e = if_there (slice_get c.trips e.trip.0) (λ t. if_there (slice_get t.stop_rows e.row) (λ row. not (is_timed row)))
+
+-- an event of the lane is at a stop time that has no time of its own
+abbrev pub has_untimed : Content → LaneValue → Bool
+has_untimed c lane = list_any (is_untimed_at c) lane.events
+
+-- as many lists and as many periods as defined; no run of a period stands in a list, and no other run in a period. A list
+-- with an event at a stop time without a time of its own stands among the filled ones, and no other does
+pub record AreByKind (times : Times) (c : Content) (s : List ℕ) (lanes : StopLanesValue) : Type 0 where
+  pub lists : length lanes.lists + length lanes.filled ≡ list_count (timed times c) s
+  pub periods : length lanes.periods ≡ period_count (timed times c) s
+  pub listed : All (IsListLane (timed times c)) (lanes.lists ++ lanes.filled)
+  pub runs : All (IsPeriodLane (timed times c)) lanes.periods
+  pub given : All (λ lane. has_untimed c lane ≡ false) lanes.lists
+  pub filled : All (λ lane. has_untimed c lane ≡ true) lanes.filled

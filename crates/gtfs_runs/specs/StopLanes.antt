@@ -11,6 +11,7 @@ use Rattle.gtfs_runs.specs.Lanes.{lane_count}
 use Rattle.gtfs_runs.specs.Order.{event_cmp}
 use Rattle.gtfs_runs.specs.Periods.{run_events}
 use Rattle.gtfs_runs.specs.declared.event.Event.{Event}
+use Rattle.gtfs_runs.specs.declared.filled_lane.FilledLane.{FilledLane}
 use Rattle.gtfs_runs.specs.declared.list_lane.ListLane.{ListLane}
 use Rattle.gtfs_runs.specs.declared.step_lane.StepLane.{StepLane}
 
@@ -22,6 +23,9 @@ pub record LaneValue : Type 0 where
 abbrev pub list_value : ListLane → LaneValue
 list_value lane = record { service = lane.service.0; events = lane.events.items }
 
+abbrev pub filled_value : FilledLane → LaneValue
+filled_value lane = list_value lane.list
+
 abbrev pub period_value : StepLane → LaneValue
 period_value lane = record { service = lane.service.0; events = run_events lane.first lane.headway lane.count }
 
@@ -29,11 +33,12 @@ period_value lane = record { service = lane.service.0; events = run_events lane.
 pub record StopLanesValue : Type 0 where
   pub lists : List LaneValue
   pub periods : List LaneValue
+  pub filled : List LaneValue
   pub greatest : ℕ
 
--- first the lists and then the periods
+-- first the lists, then the periods, and then the lists with a time that was filled
 abbrev pub lanes_of : StopLanesValue → List LaneValue
-lanes_of lanes = lanes.lists ++ lanes.periods
+lanes_of lanes = lanes.lists ++ lanes.periods ++ lanes.filled
 
 -- the events of all lanes of one service
 abbrev pub events_of_service : ℕ → List LaneValue → List Event

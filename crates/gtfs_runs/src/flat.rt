@@ -11,6 +11,9 @@ ghost use Rattle.gtfs_runs.specs.FlatEvents.{AreEvents, is_event_of, is_served, 
 ghost use Rattle.gtfs_rows.specs.Places.{members};
 ghost use Rattle.gtfs_rows.specs.Runs.{is_run, passes_at, starts_run};
 ghost use Rattle.gtfs_runs.specs.declared.event.Event.{Event as EventValue};
+ghost use Rattle.gtfs_runs.specs.steps.Passings.{AreTripTimes};
+ghost use Rattle.gtfs_times.specs.TimedRows.{timed_parts};
+ghost use Rattle.gtfs_times.specs.declared.times.Times.{Times as TimesValue};
 
 use crate::departure_row::{departure, leaves_place};
 use crate::event::Event;
@@ -18,12 +21,13 @@ use crate::place::Place;
 use gtfs_feed::Feed;
 use gtfs_field::OutOfMemory;
 use gtfs_rows::{Frequency, ServiceNo, StopNo, StopRow, TripNo};
+use gtfs_times::{Times, filled, is_to_fill};
 use std::alloc::Global;
 
 /// All events at the place of a stop, each once: by the service of their trips, and those of a service in their order.
 ///
-/// This is the plain counterpart of lanes, for tests that compare with them. It unfolds every run, so one row of
-/// `frequencies.txt` can make millions of events. The stop's number is below [`Feed::stop_count`].
+/// This is the plain counterpart of lanes, for tests that compare with them, under the same [`Times`]. It unfolds every
+/// run, so one row of `frequencies.txt` can make millions of events. The stop's number is below [`Feed::stop_count`].
 ///
 /// GTFS Schedule Reference, `stop_times.txt`, `frequencies.txt`, and `parent_station` of `stops.txt`.
 ///
@@ -33,11 +37,13 @@ pub fn flat_events(
     alloc: Global,
     feed: &Feed,
     stop: StopNo,
+    times: Times,
 ) -> Result<Vec<(ServiceNo, Event)>, OutOfMemory>
     requires { stop.0 < length feed.now.stops }
-    ensures { IfOk result (λ events. AreEvents feed.now stop.0 events.items) }
+    ensures { IfOk result (λ events. AreEvents times feed.now stop.0 events.items) }
 {
-    let mut events = gathered(alloc, feed, stop)?;
+    feed.soundness();
+    let mut events = gathered(alloc, feed, stop, times)?;
     events.sort_unstable();
     Ok(events)
 }
@@ -47,16 +53,17 @@ fn gathered(
     alloc: Global,
     feed: &Feed,
     stop: StopNo,
+    times: Times,
 ) -> Result<Vec<(ServiceNo, Event)>, OutOfMemory>
     requires { stop.0 < length feed.now.stops }
     ensures { IfOk result (λ events. (service : ℕ) (e : EventValue)
         → tally (is_served service e) events.items
-        ≡ cond (is_event_of feed.now stop.0 service e) 1 0) }
+        ≡ cond (is_event_of (timed_parts times feed.now) stop.0 service e) 1 0) }
 {
     let place = Place::of_stop(alloc, feed, stop)?;
     let mut events = Vec::new(alloc);
     for number in 0..feed.trip_count() {
-        push_trip(alloc, feed, &place, TripNo(number), &mut events)?;
+        push_trip(alloc, feed, &place, TripNo(number), times, &mut events)?;
     }
     Ok(events)
 }
@@ -67,6 +74,7 @@ fn push_trip(
     feed: &Feed,
     place: &Place,
     trip: TripNo,
+    times: Times,
     events: &mut Vec<(ServiceNo, Event)>,
 ) -> Result<(), OutOfMemory>
     requires trip { trip.0 < length feed.now.trips }
@@ -75,12 +83,37 @@ fn push_trip(
         → place.now ≡ members (content_of feed.now) (text_of_number (stop_ids feed.now) s)
         → tally (is_served service e) events.new.items
         ≡ tally (is_served service e) events.old.items
-        + cond ((e.trip.0 == trip.0) && is_event_of feed.now s service e) 1 0) }
+        + cond ((e.trip.0 == trip.0) && is_event_of (timed_parts times feed.now) s service e) 1 0) }
 {
     feed.soundness();
     let rows = feed.trip_rows(trip);
+    if is_to_fill(rows, times) {
+        return push_rows(alloc, feed, place, trip, &filled(alloc, rows)?, events);
+    }
+    push_rows(alloc, feed, place, trip, rows, events)
+}
+
+// Adds the events of a trip at these stop times, which are the trip's or these with their times filled.
+fn push_rows(
+    alloc: Global,
+    feed: &Feed,
+    place: &Place,
+    trip: TripNo,
+    rows: &[StopRow],
+    events: &mut Vec<(ServiceNo, Event)>,
+) -> Result<(), OutOfMemory>
+    requires trip { trip.0 < length feed.now.trips }
+    requires times { AreTripTimes (length place.now) rows.now }
+    ensures { OnOk result ((times : TimesValue) (s service : ℕ) (e : EventValue)
+        → place.now ≡ members (content_of feed.now) (text_of_number (stop_ids feed.now) s)
+        → slice_get (stop_rows_by_trip (timed_parts times feed.now)) trip.0 ≡ Some rows.now
+        → tally (is_served service e) events.new.items
+        ≡ tally (is_served service e) events.old.items
+        + cond ((e.trip.0 == trip.0) && is_event_of (timed_parts times feed.now) s service e) 1 0) }
+{
+    feed.soundness();
     for position in 0..rows.len() {
-        push_row(alloc, feed, place, trip, position, events)?;
+        push_row(alloc, feed, place, trip, rows, position, events)?;
     }
     Ok(())
 }
@@ -91,23 +124,23 @@ fn push_row(
     feed: &Feed,
     place: &Place,
     trip: TripNo,
+    rows: &[StopRow],
     position: usize,
     events: &mut Vec<(ServiceNo, Event)>,
 ) -> Result<(), OutOfMemory>
     requires trip { trip.0 < length feed.now.trips }
-    requires place { length place.now ≡ length feed.now.stops }
-    requires within { (rows : List StopTime)
-        → slice_get (stop_rows_by_trip feed.now) trip.0 ≡ Some rows → position < length rows }
-    ensures { OnOk result ((s service : ℕ) (e : EventValue)
+    requires times { AreTripTimes (length place.now) rows.now }
+    requires within { position < length rows.now }
+    ensures { OnOk result ((times : TimesValue) (s service : ℕ) (e : EventValue)
         → place.now ≡ members (content_of feed.now) (text_of_number (stop_ids feed.now) s)
+        → slice_get (stop_rows_by_trip (timed_parts times feed.now)) trip.0 ≡ Some rows.now
         → tally (is_served service e) events.new.items
         ≡ tally (is_served service e) events.old.items
         + cond ((e.trip.0 == trip.0) && (e.row == position)
-        && is_event_of feed.now s service e) 1 0) }
+        && is_event_of (timed_parts times feed.now) s service e) 1 0) }
 {
     feed.soundness();
     let row = feed.trip_by_number(trip);
-    let rows = feed.trip_rows(trip);
     let periods = feed.trip_frequencies(trip);
     if !leaves_place(place, rows, position) {
         return Ok(());

@@ -2,17 +2,21 @@
 //!
 //! - An [`Event`] is a run of a trip that passes a row at which riders can leave a stop: when, after the origin of
 //!   whichever service day. Events have an order, and a [`Seek`] is a position between them.
-//! - A [`Lane`] tells events of one service, each after the one before: a [`ListLane`] those of a list, a [`StepLane`]
-//!   those of a row of `frequencies.txt`, which it does not list.
+//! - A [`Lane`] tells events of one service, each after the one before: a [`ListLane`] those of a list, a [`FilledLane`]
+//!   those of a list with times that the file does not give, a [`StepLane`] those of a row of `frequencies.txt`, which it
+//!   does not list.
 //! - A [`Pattern`] has the trips of a route that go in one direction along one list of stops; [`patterns`] has them all.
 //! - [`StopLanes`] are the lanes of a stop. [`flat_events`] lists all of its events one by one, for tests.
 //! - [`Steps`] counts how often a lane was asked.
 //!
-//! [`Feed`], which these are made of, is handed on from `gtfs_feed`.
+//! Each is made under a choice of [`Times`]: those of the file alone, or others where the file has none.
+//!
+//! [`Feed`], which these are made of, is handed on from `gtfs_feed`, and [`Times`] from `gtfs_times`.
 #![tactic(auto)]
 
 mod departure_row;
 mod event;
+mod filled_lane;
 mod flat;
 mod lane;
 mod list_lane;
@@ -24,8 +28,10 @@ mod steps;
 mod stop_lanes;
 
 pub use event::Event;
+pub use filled_lane::FilledLane;
 pub use flat::flat_events;
 pub use gtfs_feed::Feed;
+pub use gtfs_times::Times;
 pub use lane::Lane;
 pub use list_lane::ListLane;
 pub use pattern::{Pattern, patterns};

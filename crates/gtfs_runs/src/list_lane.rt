@@ -63,6 +63,13 @@ impl ListLane {
         }
     }
 
+    // The events of the list.
+    pub(crate) fn as_slice(&self) -> &[Event]
+        ensures { result.now ≡ self.now.events.items }
+    {
+        &self.events
+    }
+
     // The event at an index of the list, if there is one.
     fn event(&self, index: usize) -> Option<Event>
         ensures { result ≡ slice_get self.now.events.items index }

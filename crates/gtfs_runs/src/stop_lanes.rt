@@ -3,7 +3,8 @@ ghost use Rattle.gtfs_feed.specs.Content.{content_of};
 ghost use Rattle.gtfs_rows.specs.Views.{service_ids, stop_ids, text_of_number};
 ghost use Rattle.gtfs_runs.specs.Kinds.{AreByKind};
 ghost use Rattle.gtfs_runs.specs.Lanes.{latest};
-ghost use Rattle.gtfs_runs.specs.StopLanes.{AreLanesOf, lanes_of, list_value, period_value};
+ghost use Rattle.gtfs_runs.specs.StopLanes.{AreLanesOf, filled_value, lanes_of, list_value, period_value};
+ghost use Rattle.gtfs_times.specs.Filling.{timed};
 
 mod found;
 mod latest;
@@ -11,19 +12,20 @@ mod listed;
 mod lists;
 mod numbered;
 mod passing;
+mod split;
+mod whole;
 
+use crate::filled_lane::FilledLane;
 use crate::list_lane::ListLane;
-use crate::place::Place;
 use crate::step_lane::StepLane;
 use crate::steps::Steps;
-use crate::stop_lanes::found::Found;
 use crate::stop_lanes::latest::latest;
-use crate::stop_lanes::listed::sorted;
-use crate::stop_lanes::lists::lists;
-use crate::stop_lanes::numbered::numbered;
+use crate::stop_lanes::split::split;
+use crate::stop_lanes::whole::whole;
 use gtfs_feed::Feed;
 use gtfs_field::OutOfMemory;
 use gtfs_rows::StopNo;
+use gtfs_times::Times;
 use std::alloc::Global;
 use std::marker::Model;
 
@@ -32,22 +34,27 @@ use std::marker::Model;
 /// Each run of a trip that passes a stop time there at which riders can leave is an event of one lane of the trip's
 /// service. Trips without frequencies that have one list of stops and one service share a lane for each position in that
 /// list; a row of `frequencies.txt` has one for each such stop time of its trip.
+///
+/// Times are those of the file, or under [`Times::Interpolated`] also those that `gtfs_times` gives to stop times without any.
+/// A lane shared by trips stands apart where one of its times is such a one.
 #[derive(Drop)]
 pub struct StopLanes {
     lists: Vec<ListLane>,
     periods: Vec<StepLane>,
+    filled: Vec<FilledLane>,
     greatest: u32,
 }
 
 impl Model for StopLanes {
     ghost use Rattle.std.specs.Prelude.{map};
-    ghost use Rattle.gtfs_runs.specs.StopLanes.{StopLanesValue, list_value, period_value};
+    ghost use Rattle.gtfs_runs.specs.StopLanes.{StopLanesValue, filled_value, list_value, period_value};
 
     ghost Value = { StopLanesValue };
 
     ghost view = { λ s. record {
       lists = map list_value s.lists.items;
       periods = map period_value s.periods.items;
+      filled = map filled_value s.filled.items;
       greatest = s.greatest;
     } };
 }
@@ -58,7 +65,7 @@ impl StopLanes {
     ///
     /// It looks at each stop time of the feed once, and sorts the trips without frequencies that pass the place by their
     /// stops, and then their events there by numbers. A row of `frequencies.txt` takes the same memory however many runs it
-    /// has.
+    /// has. A trip with times to fill is copied for as long as it is looked at.
     ///
     /// GTFS Schedule Reference, `stop_times.txt`, `frequencies.txt`, and `parent_station` of `stops.txt`.
     ///
@@ -68,32 +75,33 @@ impl StopLanes {
         alloc: Global,
         feed: &Feed,
         stop: StopNo,
+        times: Times,
     ) -> Result<(StopLanes, Steps), OutOfMemory>
         requires { stop.0 < length feed.now.stops }
-        ensures lanes { IfOk result (λ built. AreLanesOf (content_of feed.now)
+        ensures lanes { IfOk result (λ built. AreLanesOf (timed times (content_of feed.now))
             (text_of_number (stop_ids feed.now) stop.0) (service_ids feed.now) (lanes_of built.0)) }
-        ensures kinds { IfOk result (λ built. AreByKind (content_of feed.now)
+        ensures kinds { IfOk result (λ built. AreByKind times (content_of feed.now)
             (text_of_number (stop_ids feed.now) stop.0) built.0) }
         ensures greatest { IfOk result (λ built. built.0.greatest
-            ≡ latest (content_of feed.now) (text_of_number (stop_ids feed.now) stop.0)) }
+            ≡ latest (timed times (content_of feed.now))
+            (text_of_number (stop_ids feed.now) stop.0)) }
         ensures steps { IfOk result (λ built. built.1 ≡ 0) }
     {
         feed.soundness();
-        let place = Place::of_stop(alloc, feed, stop)?;
-        let found = Found::at_place(alloc, feed, &place)?;
-        let listed = numbered(alloc, found.listed)?;
-        let listed = sorted(listed);
-        let lists = lists(alloc, &listed)?;
-        let greatest = latest(&lists, &found.periods);
+        let (lists, periods) = whole(alloc, feed, stop, times)?;
+        let greatest = latest(&lists, &periods);
+        let (given, filled) = split(alloc, feed, lists, times)?;
         let lanes = StopLanes {
-            lists,
-            periods: found.periods,
+            lists: given,
+            periods,
+            filled,
             greatest,
         };
         Ok((lanes, Steps::new()))
     }
 
-    /// The lanes of trips without frequencies: one for each list of stops, position in it and service.
+    /// The lanes of trips without frequencies: one for each list of stops, position in it and service, but those in
+    /// [`StopLanes::filled`].
     pub fn lists(&self) -> &[ListLane]
         ensures { map list_value result.now ≡ self.now.lists }
     {
@@ -105,6 +113,14 @@ impl StopLanes {
         ensures { map period_value result.now ≡ self.now.periods }
     {
         &self.periods
+    }
+
+    /// Those lanes of trips without frequencies of which an event is at a stop time without a time of its own. There are none
+    /// under [`Times::Given`].
+    pub fn filled(&self) -> &[FilledLane]
+        ensures { map filled_value result.now ≡ self.now.filled }
+    {
+        &self.filled
     }
 
     /// The latest second from the origin of a service day at which a run passes one of these stop times, 0 to 7,199,997, and

@@ -58,11 +58,11 @@ filled_with id how s v vs rows e = filled_at id (more_values s (v ∷ vs))
 
 -- ---- one use of an argument
 
--- a use of the argument takes a text, or asks for help or the version
+-- a use of the argument takes a text, or there is one that stands for it, or it asks for help or the version
 abbrev pub asks_by : ArgAction → Rule → Bool
 asks_by action.Set a = nat_lt 0 (unwrap_or_range a.range).start_inclusive
 asks_by action.Append a = false
-asks_by action.SetTrue a = false
+asks_by action.SetTrue a = has_text a.missing
 asks_by action.SetFalse a = false
 asks_by action.Count a = false
 asks_by action.Help a = true
@@ -82,12 +82,20 @@ used_filled again a values rows ask passes filled =
     go (action_of a) values ask (and_parts (nat_le (unwrap_or_range a.range).start_inclusive (length values))
     (nat_le (length values) (most_values a) && take.action_passes (action_of a) again a (values_or_missing a values) rows) passes).0
   where
+    new : List Text → List Row
+    new values = with_values a.id (reading_by a) CommandLine values (without a.id rows)
+
+    some : (missing : List Text) → has_text missing ≡ true → are_filled (new missing) ≡ true
+    some [] e = cc
+    some (v ∷ vs) e = filled_with a.id (reading_by a) CommandLine v vs (without a.id rows) (filled_without a.id rows filled)
+
     go : (x : ArgAction) (values : List Text) → asks_by x a ≡ true → nat_le (unwrap_or_range a.range).start_inclusive (length values) ≡ true
         → are_filled (used_as x a.id (reading_by a) (values_or_missing a values) rows) ≡ true
     go action.Set [] ask least = absurd (no_text (unwrap_or_range a.range).start_inclusive ask least)
-    go action.Set (v ∷ vs) ask least = filled_with a.id (reading_by a) CommandLine v vs (without a.id rows) (filled_without a.id rows filled)
+    go action.Set (v ∷ vs) ask least = some (v ∷ vs) refl
     go action.Append values ask least = cc
-    go action.SetTrue values ask least = cc
+    go action.SetTrue [] ask least = some a.missing ask
+    go action.SetTrue (v ∷ vs) ask least = some (v ∷ vs) refl
     go action.SetFalse values ask least = cc
     go action.Count values ask least = cc
     go action.Help values ask least = filled

@@ -21,7 +21,17 @@ same_board (Some found) a b is_a is_b =
     let until : a.until ≡ b.until = same _ a.until b.until is_a.1.until is_b.1.until in
     let limit : a.limit ≡ b.limit = sym is_a.1.limit ∙ is_b.1.limit in
     let after : a.after ≡ b.after = sym is_a.1.after ∙ is_b.1.after in
-    λ i. record { dir = dir i; zone = zone i; stop = stop i; from = from i; until = until i; limit = limit i; after = after i }
+    let interpolate : a.interpolate ≡ b.interpolate = sym is_a.1.interpolate ∙ is_b.1.interpolate in
+    λ i. record {
+      dir = dir i;
+      zone = zone i;
+      stop = stop i;
+      from = from i;
+      until = until i;
+      limit = limit i;
+      after = after i;
+      interpolate = interpolate i;
+    }
 
 pub same_timetable : (found : Option (Text × List Row)) (a b : TimetableTexts) → ForTimetable found a → ForTimetable found b → a ≡ b
 same_timetable None a b is_a is_b = absurd is_a
@@ -30,7 +40,8 @@ same_timetable (Some found) a b is_a is_b =
     let route : a.route ≡ b.route = same _ a.route b.route is_a.1.route is_b.1.route in
     let date : a.date ≡ b.date = same _ a.date b.date is_a.1.date is_b.1.date in
     let direction : a.direction ≡ b.direction = sym is_a.1.direction ∙ is_b.1.direction in
-    λ i. record { dir = dir i; route = route i; date = date i; direction = direction i }
+    let interpolate : a.interpolate ≡ b.interpolate = sym is_a.1.interpolate ∙ is_b.1.interpolate in
+    λ i. record { dir = dir i; route = route i; date = date i; direction = direction i; interpolate = interpolate i }
 
 pub same_merge : (found : Option (Text × List Row)) (a b : MergeTexts) → ForMerge found a → ForMerge found b → a ≡ b
 same_merge None a b is_a is_b = absurd is_a

@@ -1,6 +1,9 @@
 -- What words ask for: the command, and the texts that are given to it.
-use Rattle.std.specs.Prelude.{◌≡◌, ◌⊎◌, List, Option, Some, None, IsSome, option_map, codes, true}
+use Rattle.std.specs.Prelude.{◌≡◌, ◌⊎◌, Bool, List, Option, Some, None, IsSome, find, option_and_then, option_map, codes, true, false}
+use Rattle.std.specs.Str.{bytes_eq}
 use Rattle.clap.specs.Words.{Row, Text, first_of, subcommand_of, takes}
+use Rattle.clap.specs.declared.parser.matches.ValueSource.{ValueSource}
+use Rattle.clap.specs.declared.parser.matches.ValueSource.TheVariants as source
 use Rattle.gtfs_words.specs.CommandLine.{gtfs_app}
 use Rattle.gtfs_words.specs.declared.command.BoardWords.{BoardWords}
 use Rattle.gtfs_words.specs.declared.command.Command.{Command}
@@ -10,7 +13,7 @@ use Rattle.gtfs_words.specs.declared.command.TimetableWords.{TimetableWords}
 
 -- ---- the texts of each command, as they stand in the words
 
--- what is given to `board`; the last two may be missing
+-- what is given to `board`; a limit and a key may be missing, and the last says whether its flag is given
 pub record BoardTexts : Type 0 where
   pub dir : Text
   pub zone : Text
@@ -19,13 +22,15 @@ pub record BoardTexts : Type 0 where
   pub until : Text
   pub limit : Option Text
   pub after : Option Text
+  pub interpolate : Bool
 
--- what is given to `timetable`; the last may be missing
+-- what is given to `timetable`; a direction may be missing, and the last says whether its flag is given
 pub record TimetableTexts : Type 0 where
   pub dir : Text
   pub route : Text
   pub date : Text
   pub direction : Option Text
+  pub interpolate : Bool
 
 -- what is given to `merge`
 pub record MergeTexts : Type 0 where
@@ -42,6 +47,7 @@ texts_of words = record {
   until = words.until.now;
   limit = option_map (λ text. text.now) words.limit;
   after = option_map (λ text. text.now) words.after;
+  interpolate = words.interpolate;
 }
 
 abbrev pub timetable_texts_of : TimetableWords → TimetableTexts
@@ -50,6 +56,7 @@ timetable_texts_of words = record {
   route = words.route.now;
   date = words.date.now;
   direction = option_map (λ text. text.now) words.direction;
+  interpolate = words.interpolate;
 }
 
 abbrev pub merge_texts_of : MergeWords → MergeTexts
@@ -57,11 +64,20 @@ merge_texts_of words = record { a = words.a.now; b = words.b.now; out = words.ou
 
 -- ---- what was given for each id
 
+-- it was found among the words, and is no default
+abbrev pub is_from_words : Option ValueSource → Bool
+is_from_words (Some source.CommandLine) = true
+is_from_words _ = false
+
+-- the flag of this id stands among the words
+abbrev pub is_flagged : Text → List Row → Bool
+is_flagged id given = is_from_words (option_and_then (λ r. r.source) (find (λ r. bytes_eq r.id id) given))
+
 -- this is the text that was given for the folder
 abbrev pub IsCheckOf : List Row → Text → Type 0
 IsCheckOf given dir = first_of (codes "DIR") given ≡ Some dir
 
--- each is the text that was given for it, and None where none was given
+-- each is the text that was given for it, and None where none was given; the flag is told as it was given
 pub record IsBoardOf (given : List Row) (asked : BoardTexts) : Type 0 where
   pub dir : first_of (codes "DIR") given ≡ Some asked.dir
   pub zone : first_of (codes "zone") given ≡ Some asked.zone
@@ -70,13 +86,15 @@ pub record IsBoardOf (given : List Row) (asked : BoardTexts) : Type 0 where
   pub until : first_of (codes "until") given ≡ Some asked.until
   pub limit : first_of (codes "limit") given ≡ asked.limit
   pub after : first_of (codes "after") given ≡ asked.after
+  pub interpolate : is_flagged (codes "interpolate") given ≡ asked.interpolate
 
--- each is the text that was given for it, and None where none was given
+-- each is the text that was given for it, and None where none was given; the flag is told as it was given
 pub record IsTimetableOf (given : List Row) (asked : TimetableTexts) : Type 0 where
   pub dir : first_of (codes "DIR") given ≡ Some asked.dir
   pub route : first_of (codes "route") given ≡ Some asked.route
   pub date : first_of (codes "date") given ≡ Some asked.date
   pub direction : first_of (codes "direction") given ≡ asked.direction
+  pub interpolate : is_flagged (codes "interpolate") given ≡ asked.interpolate
 
 -- each is the text that was given for it
 pub record IsMergeOf (given : List Row) (asked : MergeTexts) : Type 0 where

@@ -1,7 +1,7 @@
 -- The command line of the program `gtfs`, as `clap` sees it.
 use Rattle.std.specs.Prelude.{Some, codes, true}
 use Rattle.clap.specs.Words.{App, Rule, Text, new_app, new_rule, with_rule, with_subcommand}
-use Rattle.clap.specs.declared.builder.ArgAction.TheVariants.{Set}
+use Rattle.clap.specs.declared.builder.ArgAction.TheVariants.{Set, SetTrue}
 
 -- a plain text that is set once
 abbrev pub text_rule : Text → Rule
@@ -19,6 +19,10 @@ option_rule id = record (word_rule id) { long = Some id; value_names = 1 }
 abbrev pub choice_rule : Text → Rule
 choice_rule id = record (text_rule id) { long = Some id; value_names = 1 }
 
+-- a flag `--id`, which has no text and may be given once
+abbrev pub flag_rule : Text → Rule
+flag_rule id = record (new_rule id) { long = Some id; action = Some SetTrue }
+
 -- `check DIR`
 abbrev pub check_app : App
 check_app = with_rule (new_app (codes "check")) (word_rule (codes "DIR"))
@@ -29,14 +33,16 @@ needed_board_app = with_rule (with_rule (with_rule (with_rule (with_rule (new_ap
     (word_rule (codes "DIR"))) (option_rule (codes "zone"))) (option_rule (codes "stop")))
     (option_rule (codes "from"))) (option_rule (codes "until"))
 
--- `board DIR --zone FILE --stop ID --from T --until T [--limit N] [--after KEY]`
+-- `board DIR --zone FILE --stop ID --from T --until T [--limit N] [--after KEY] [--interpolate]`
 abbrev pub board_app : App
-board_app = with_rule (with_rule needed_board_app (choice_rule (codes "limit"))) (choice_rule (codes "after"))
+board_app = with_rule (with_rule (with_rule needed_board_app (choice_rule (codes "limit"))) (choice_rule (codes "after")))
+    (flag_rule (codes "interpolate"))
 
--- `timetable DIR --route ID --date D [--direction 0|1]`
+-- `timetable DIR --route ID --date D [--direction 0|1] [--interpolate]`
 abbrev pub timetable_app : App
-timetable_app = with_rule (with_rule (with_rule (with_rule (new_app (codes "timetable"))
-    (word_rule (codes "DIR"))) (option_rule (codes "route"))) (option_rule (codes "date"))) (choice_rule (codes "direction"))
+timetable_app = with_rule (with_rule (with_rule (with_rule (with_rule (new_app (codes "timetable"))
+    (word_rule (codes "DIR"))) (option_rule (codes "route"))) (option_rule (codes "date"))) (choice_rule (codes "direction")))
+    (flag_rule (codes "interpolate"))
 
 -- `merge A B OUT`
 abbrev pub merge_app : App

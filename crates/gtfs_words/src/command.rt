@@ -13,7 +13,7 @@ pub enum Command<'w> {
     Merge(MergeWords<'w>),
 }
 
-/// What was given to `gtfs board`, each a text as it stands in the words.
+/// What was given to `gtfs board`: each text as it stands in the words, and whether the flag stands there.
 #[derive(Clone, Copy)]
 pub struct BoardWords<'w> {
     /// The folder of the feed.
@@ -30,9 +30,11 @@ pub struct BoardWords<'w> {
     pub limit: Option<&'w str>,
     /// The key after which the board begins, if one was given.
     pub after: Option<&'w str>,
+    /// Whether stop times without times of their own get times between those that have them.
+    pub interpolate: bool,
 }
 
-/// What was given to `gtfs timetable`, each a text as it stands in the words.
+/// What was given to `gtfs timetable`: each text as it stands in the words, and whether the flag stands there.
 #[derive(Clone, Copy)]
 pub struct TimetableWords<'w> {
     /// The folder of the feed.
@@ -43,6 +45,8 @@ pub struct TimetableWords<'w> {
     pub date: &'w str,
     /// The `direction_id` of the trips, if only one direction is wanted.
     pub direction: Option<&'w str>,
+    /// Whether stop times without times of their own get times between those that have them.
+    pub interpolate: bool,
 }
 
 /// What was given to `gtfs merge`, each a text as it stands in the words.

@@ -25,8 +25,8 @@ const ABOUT: &str =
 
 // How all are called, a line each. Help has `Usage: ` before the first, and the others stand below it.
 const COMMANDS: &str = "gtfs check DIR\n       \
-    gtfs board DIR --zone FILE --stop ID --from T --until T [--limit N] [--after KEY]\n       \
-    gtfs timetable DIR --route ID --date D [--direction 0|1]\n       \
+    gtfs board DIR --zone FILE --stop ID --from T --until T [--limit N] [--after KEY] [--interpolate]\n       \
+    gtfs timetable DIR --route ID --date D [--direction 0|1] [--interpolate]\n       \
     gtfs merge A B OUT";
 
 // The program `gtfs` with all its commands. `--help` and `-h` ask for help, at the top and at each

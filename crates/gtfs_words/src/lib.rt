@@ -2,8 +2,8 @@
 //!
 //! ```text
 //! gtfs check DIR
-//! gtfs board DIR --zone FILE --stop ID --from T --until T [--limit N] [--after KEY]
-//! gtfs timetable DIR --route ID --date D [--direction 0|1]
+//! gtfs board DIR --zone FILE --stop ID --from T --until T [--limit N] [--after KEY] [--interpolate]
+//! gtfs timetable DIR --route ID --date D [--direction 0|1] [--interpolate]
 //! gtfs merge A B OUT
 //! ```
 //!

@@ -1,7 +1,7 @@
 //! From the words to the command.
 ghost use Rattle.std.specs.Prelude.{◌≡◌, map, Some, option_map, true, IfOk, IfErr, IfSome, IsSome};
 ghost use Rattle.clap.specs.Words.{first_of, found_of, rows_of, subcommand_of, subcommand_rows_of, takes};
-ghost use Rattle.gtfs_words.specs.Asked.{merge_texts_of, texts_of, timetable_texts_of, HasBoard, HasMerge, HasTimetable, IsBoardOf, IsCommandOf, IsMergeOf, IsTimetableOf, IsWhole};
+ghost use Rattle.gtfs_words.specs.Asked.{is_flagged, is_from_words, merge_texts_of, texts_of, timetable_texts_of, HasBoard, HasMerge, HasTimetable, IsBoardOf, IsCommandOf, IsMergeOf, IsTimetableOf, IsWhole};
 ghost use Rattle.gtfs_words.specs.CommandLine.{gtfs_app};
 ghost use Rattle.gtfs_words.specs.Untaken.{no_memory, IsFaultOf};
 
@@ -9,6 +9,7 @@ use crate::command::{BoardWords, Command, MergeWords, TimetableWords};
 use crate::definitions::gtfs;
 use crate::fault::{WordsFault, fault_of};
 use clap::ArgMatches;
+use clap::parser::ValueSource;
 use std::alloc::Global;
 use std::convert::AsStr;
 
@@ -66,6 +67,7 @@ fn board_words<'w>(given: &ArgMatches<'w>) -> Option<BoardWords<'w>>
         until: given_text(given, "until")?,
         limit: given_text(given, "limit"),
         after: given_text(given, "after"),
+        interpolate: is_flagged(given, "interpolate"),
     })
 }
 
@@ -79,6 +81,7 @@ fn timetable_words<'w>(given: &ArgMatches<'w>) -> Option<TimetableWords<'w>>
         route: given_text(given, "route")?,
         date: given_text(given, "date")?,
         direction: given_text(given, "direction"),
+        interpolate: is_flagged(given, "interpolate"),
     })
 }
 
@@ -100,4 +103,21 @@ fn given_text<'w>(given: &ArgMatches<'w>, id: &str) -> Option<&'w str>
         ≡ first_of id.now (rows_of (found_of given.now)) }
 {
     given.get_str(id)
+}
+
+// Whether a flag stands among the words.
+fn is_flagged(given: &ArgMatches<'_>, id: &str) -> bool
+    ensures { result ≡ is_flagged id.now (rows_of (found_of given.now)) }
+{
+    is_from_words(given.value_source(id))
+}
+
+// Whether what was found for an id was found among the words, and is no default.
+fn is_from_words(source: Option<ValueSource>) -> bool
+    ensures { result ≡ is_from_words source }
+{
+    match source {
+        Some(ValueSource::CommandLine) => true,
+        Some(ValueSource::DefaultValue) | None => false,
+    }
 }

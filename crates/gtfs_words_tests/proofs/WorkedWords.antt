@@ -1,5 +1,5 @@
 -- Worked words: what they ask for, what is the matter with them, computed.
-use Rattle.std.specs.Prelude.{◌≡◌, List, [], ◌∷◌, Some, None, codes, false}
+use Rattle.std.specs.Prelude.{◌≡◌, List, [], ◌∷◌, Some, None, codes, true, false}
 use Rattle.std.proofs.Common.{refl}
 use Rattle.clap.specs.Words.{Text, fault_of, takes}
 use Rattle.clap.specs.declared.error.kind.ErrorKind.TheVariants as kind
@@ -14,7 +14,7 @@ check_asked : AsksCheckOf check_words (codes "f1")
 unfolding clap_on_literals
 check_asked = record { taken = refl; asks = (refl, refl) }
 
--- a board with all its options
+-- a board with all its options, but for the flag
 abbrev board_words : List Text
 board_words = codes "gtfs" ∷ codes "board" ∷ codes "feed" ∷ codes "--zone" ∷ codes "Z" ∷ codes "--stop=S1" ∷ codes "--from" ∷ codes "20240401" ∷ codes "--until" ∷ codes "@5" ∷ codes "--limit" ∷ codes "3" ∷ codes "--after=@0/T/0/1/20240401" ∷ []
 
@@ -27,13 +27,25 @@ board_texts = record {
   until = codes "@5";
   limit = Some (codes "3");
   after = Some (codes "@0/T/0/1/20240401");
+  interpolate = false;
 }
 
 board_asked : AsksBoardOf board_words board_texts
 unfolding clap_on_literals
 board_asked = record {
   taken = refl;
-  asks = (refl, record { dir = refl; zone = refl; stop = refl; from = refl; until = refl; limit = refl; after = refl });
+  asks = (refl, record { dir = refl; zone = refl; stop = refl; from = refl; until = refl; limit = refl; after = refl; interpolate = refl });
+}
+
+-- the same with the flag, in the midst of the words
+abbrev flagged_board : List Text
+flagged_board = codes "gtfs" ∷ codes "board" ∷ codes "--stop=S1" ∷ codes "--interpolate" ∷ codes "feed" ∷ codes "--zone=Z" ∷ codes "--from=20240401" ∷ codes "--until=@5" ∷ codes "--limit=3" ∷ codes "--after=@0/T/0/1/20240401" ∷ []
+
+flagged_board_asked : AsksBoardOf flagged_board (record board_texts { interpolate = true })
+unfolding clap_on_literals
+flagged_board_asked = record {
+  taken = refl;
+  asks = (refl, record { dir = refl; zone = refl; stop = refl; from = refl; until = refl; limit = refl; after = refl; interpolate = refl });
 }
 
 -- a timetable of both directions
@@ -41,11 +53,19 @@ abbrev timetable_words : List Text
 timetable_words = codes "gtfs" ∷ codes "timetable" ∷ codes "feed" ∷ codes "--date" ∷ codes "20240401" ∷ codes "--route" ∷ codes "R1" ∷ []
 
 abbrev timetable_texts : TimetableTexts
-timetable_texts = record { dir = codes "feed"; route = codes "R1"; date = codes "20240401"; direction = None }
+timetable_texts = record { dir = codes "feed"; route = codes "R1"; date = codes "20240401"; direction = None; interpolate = false }
 
 timetable_asked : AsksTimetableOf timetable_words timetable_texts
 unfolding clap_on_literals
-timetable_asked = record { taken = refl; asks = (refl, record { dir = refl; route = refl; date = refl; direction = refl }) }
+timetable_asked = record { taken = refl; asks = (refl, record { dir = refl; route = refl; date = refl; direction = refl; interpolate = refl }) }
+
+-- the same with the flag
+abbrev flagged_timetable : List Text
+flagged_timetable = codes "gtfs" ∷ codes "timetable" ∷ codes "feed" ∷ codes "--date" ∷ codes "20240401" ∷ codes "--route" ∷ codes "R1" ∷ codes "--interpolate" ∷ []
+
+flagged_timetable_asked : AsksTimetableOf flagged_timetable (record timetable_texts { interpolate = true })
+unfolding clap_on_literals
+flagged_timetable_asked = record { taken = refl; asks = (refl, record { dir = refl; route = refl; date = refl; direction = refl; interpolate = refl }) }
 
 -- a merge
 abbrev merge_words : List Text
@@ -129,6 +149,42 @@ limit_twice_is = refl
 limit_twice_not_taken : takes gtfs_app limit_twice ≡ false
 unfolding clap_on_literals
 limit_twice_not_taken = refl
+
+-- a flag that stands twice
+abbrev flag_twice : List Text
+flag_twice = codes "gtfs" ∷ codes "timetable" ∷ codes "feed" ∷ codes "--route=R1" ∷ codes "--date=20240401" ∷ codes "--interpolate" ∷ codes "--interpolate" ∷ []
+
+flag_twice_is : fault_of gtfs_app flag_twice ≡ kind.ArgumentConflict ∷ []
+unfolding clap_on_literals
+flag_twice_is = refl
+
+flag_twice_not_taken : takes gtfs_app flag_twice ≡ false
+unfolding clap_on_literals
+flag_twice_not_taken = refl
+
+-- a flag with a value
+abbrev flag_of_one : List Text
+flag_of_one = codes "gtfs" ∷ codes "timetable" ∷ codes "feed" ∷ codes "--route=R1" ∷ codes "--date=20240401" ∷ codes "--interpolate=true" ∷ []
+
+flag_of_one_is : fault_of gtfs_app flag_of_one ≡ kind.TooManyValues ∷ []
+unfolding clap_on_literals
+flag_of_one_is = refl
+
+flag_of_one_not_taken : takes gtfs_app flag_of_one ≡ false
+unfolding clap_on_literals
+flag_of_one_not_taken = refl
+
+-- the flag of a board and a timetable is none of a check
+abbrev flag_of_check : List Text
+flag_of_check = codes "gtfs" ∷ codes "check" ∷ codes "feed" ∷ codes "--interpolate" ∷ []
+
+flag_of_check_is : fault_of gtfs_app flag_of_check ≡ kind.UnknownArgument ∷ []
+unfolding clap_on_literals
+flag_of_check_is = refl
+
+flag_of_check_not_taken : takes gtfs_app flag_of_check ≡ false
+unfolding clap_on_literals
+flag_of_check_not_taken = refl
 
 -- what is wrong first is told, and not the help after it
 abbrev wrong_before_help : List Text

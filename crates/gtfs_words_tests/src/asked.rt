@@ -15,7 +15,7 @@ fn check_has_its_folder(rt: HostRuntime) -> Result<(), Fail> {
 }
 
 #[test]
-fn board_has_all_its_texts(rt: HostRuntime) -> Result<(), Fail> {
+fn board_has_all_that_is_given(rt: HostRuntime) -> Result<(), Fail> {
     let words = [
         "gtfs",
         "board",
@@ -28,6 +28,7 @@ fn board_has_all_its_texts(rt: HostRuntime) -> Result<(), Fail> {
         "--stop=-x",
         "--zone",
         "z1",
+        "--interpolate",
         "--limit",
         "",
     ];
@@ -41,11 +42,12 @@ fn board_has_all_its_texts(rt: HostRuntime) -> Result<(), Fail> {
     assert_equal(&rt, board.until, "@5");
     assert_equal(&rt, board.limit, Some(""));
     assert_equal(&rt, board.after, Some("@0/T/0/1/20240401"));
+    assert_equal(&rt, board.interpolate, true);
     Ok(())
 }
 
 #[test]
-fn timetable_may_lack_the_direction(rt: HostRuntime) -> Result<(), Fail> {
+fn timetable_may_lack_the_direction_and_the_flag(rt: HostRuntime) -> Result<(), Fail> {
     let words = [
         "gtfs",
         "timetable",
@@ -62,11 +64,12 @@ fn timetable_may_lack_the_direction(rt: HostRuntime) -> Result<(), Fail> {
     assert_equal(&rt, timetable.route, "R1");
     assert_equal(&rt, timetable.date, "20240401");
     assert_equal(&rt, timetable.direction, None);
+    assert_equal(&rt, timetable.interpolate, false);
     Ok(())
 }
 
 #[test]
-fn timetable_has_its_direction(rt: HostRuntime) -> Result<(), Fail> {
+fn timetable_has_its_direction_and_its_flag(rt: HostRuntime) -> Result<(), Fail> {
     let words = [
         "gtfs",
         "timetable",
@@ -77,11 +80,13 @@ fn timetable_has_its_direction(rt: HostRuntime) -> Result<(), Fail> {
         "R1",
         "--date",
         "20240401",
+        "--interpolate",
     ];
     let Ok(Command::Timetable(timetable)) = read_words(rt.alloc(), &words) else {
         return Err("no timetable".into());
     };
     assert_equal(&rt, timetable.direction, Some("00"));
+    assert_equal(&rt, timetable.interpolate, true);
     Ok(())
 }
 

@@ -41,9 +41,10 @@ fn refused(alloc: Global, words: &[&str]) -> Result<(), &'static str> {
 }
 
 const BOARD: &str =
-    "gtfs board DIR --zone FILE --stop ID --from T --until T [--limit N] [--after KEY]";
+    "gtfs board DIR --zone FILE --stop ID --from T --until T [--limit N] [--after KEY] [--interpolate]\n";
 
-const TIMETABLE: &str = "gtfs timetable DIR --route ID --date D [--direction 0|1]";
+const TIMETABLE: &str =
+    "gtfs timetable DIR --route ID --date D [--direction 0|1] [--interpolate]\n";
 
 #[test]
 fn help_of_the_program_has_the_line_of_each_command(rt: HostRuntime) {
@@ -114,6 +115,24 @@ const REFUSED: &[&[&str]] = &[
     &["gtfs", "check"],
     &["gtfs", "board", "f1", "--stop", "S1"],
     &["gtfs", "timetable", "f1", "--route", "R1"],
+    &["gtfs", "check", "f1", "--interpolate"],
+    &[
+        "gtfs",
+        "timetable",
+        "f1",
+        "--route=R1",
+        "--date=20240401",
+        "--interpolate",
+        "--interpolate",
+    ],
+    &[
+        "gtfs",
+        "timetable",
+        "f1",
+        "--route=R1",
+        "--date=20240401",
+        "--interpolate=true",
+    ],
     &["gtfs", "merge", "north", "south"],
     &["gtfs", "merge", "north", "south", "both", "more"],
     &["gtfs", "check", "f1", "more", "--help"],

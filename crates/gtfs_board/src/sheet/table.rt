@@ -6,19 +6,22 @@ ghost use Rattle.gtfs_rows.specs.Views.{route_ids, stop_ids, text_of_number};
 ghost use Rattle.gtfs_board.specs.LentSheets.{plain_sheet};
 ghost use Rattle.gtfs_board.specs.SheetSteps.{IsPattern, IsShownAlong, goes, named_column, sheet_of_columns, sheets_along};
 ghost use Rattle.gtfs_board.specs.Timetable.{is_route, sheets};
+ghost use Rattle.gtfs_times.specs.Filling.{timed};
+ghost use Rattle.gtfs_times.specs.TimedRows.{timed_parts};
 
 use crate::sheet::columns::{Column, columns};
-use crate::sheet::times::times;
+use crate::sheet::times::sheet_times;
 use crate::sheet::{Sheet, TableFault};
 use crate::showing::{stop_id, trip_id};
 use gtfs_field::{Day, OutOfMemory};
 use gtfs_rows::{RouteNo, StopNo};
-use gtfs_runs::{Feed, Pattern, patterns};
+use gtfs_runs::{Feed, Pattern, Times, patterns};
 use std::alloc::Global;
 
 /// The timetable of a route on a day: a sheet for each direction and list of stops along which a trip of the route runs on
 /// that day, by direction, none before 0 and 0 before 1, and then by the ids of the stops. With a direction given only the
-/// trips count that have this one.
+/// trips count that have this one. Under [`Times::Interpolated`] the times are those of trips whose stop times are filled at
+/// an even pace; which runs there are, and when they start, is the same under both.
 ///
 /// GTFS Schedule Reference, `trips.txt`, `stop_times.txt`, `frequencies.txt`, `calendar.txt` and `calendar_dates.txt`.
 ///
@@ -30,14 +33,15 @@ pub fn timetable<'a>(
     route: &str,
     direction: Option<u8>,
     day: Day,
+    times: Times,
 ) -> Result<Vec<Sheet<'a>>, TableFault>
     ensures unknown { IsErrOf result TableFault.UnknownRoute
         ↔ (is_route (content_of feed.now) route.now ≡ false) }
     ensures sheets { IfOk result (λ found. map plain_sheet found.items
-        ≡ sheets (content_of feed.now) route.now direction day) }
+        ≡ sheets (timed times (content_of feed.now)) route.now direction day) }
 {
     match feed.route(route) {
-        Some(number) => sheets_of_route(alloc, feed, number, direction, day),
+        Some(number) => sheets_of_route(alloc, feed, number, direction, day, times),
         None => Err(TableFault::UnknownRoute),
     }
 }
@@ -49,17 +53,18 @@ fn sheets_of_route<'a>(
     route: RouteNo,
     direction: Option<u8>,
     day: Day,
+    times: Times,
 ) -> Result<Vec<Sheet<'a>>, TableFault>
     requires { route.0 < length feed.now.routes }
     ensures known { IfErr result (λ e. e ≢ TableFault.UnknownRoute) }
     ensures sheets { IfOk result (λ found. map plain_sheet found.items
-        ≡ sheets (content_of feed.now)
+        ≡ sheets (timed times (content_of feed.now))
         (text_of_number (route_ids feed.now) route.0) direction day) }
 {
     feed.soundness();
     let id = feed.route_by_number(route).route_id.as_str();
     let patterns = patterns(alloc, feed, route)?;
-    let found = sheets_of(alloc, feed, id, direction, day, patterns.as_slice())?;
+    let found = sheets_of(alloc, feed, id, direction, day, patterns.as_slice(), times)?;
     Ok(found)
 }
 
@@ -71,15 +76,17 @@ fn sheets_of<'a>(
     direction: Option<u8>,
     day: Day,
     patterns: &[Pattern],
+    times: Times,
 ) -> Result<Vec<Sheet<'a>>, OutOfMemory>
     requires { All (IsPattern feed.now) patterns.now }
     ensures { IfOk result (λ found. map plain_sheet found.items
-        ≡ flat_map (sheets_along feed.now route.now day) (filter (goes direction) patterns.now)) }
+        ≡ flat_map (sheets_along (timed_parts times feed.now) route.now day)
+        (filter (goes direction) patterns.now)) }
 {
     let mut found = Vec::new(alloc);
     for pattern in patterns {
         if goes(pattern, direction) {
-            push_pattern(alloc, feed, route, day, pattern, &mut found)?;
+            push_pattern(alloc, feed, route, day, pattern, times, &mut found)?;
         }
     }
     Ok(found)
@@ -102,11 +109,13 @@ fn push_pattern<'a>(
     route: &'a str,
     day: Day,
     pattern: &Pattern,
+    times: Times,
     found: &mut Vec<Sheet<'a>>,
 ) -> Result<(), OutOfMemory>
     requires { IsPattern feed.now pattern.now }
     ensures { OnOk result (map plain_sheet found.new.items
-        ≡ map plain_sheet found.old.items ++ sheets_along feed.now route.now day pattern.now) }
+        ≡ map plain_sheet found.old.items
+        ++ sheets_along (timed_parts times feed.now) route.now day pattern.now) }
 {
     feed.soundness();
     let trips = pattern.trips.as_slice();
@@ -115,7 +124,7 @@ fn push_pattern<'a>(
     if shown.is_empty() {
         return Ok(());
     }
-    let sheet = sheet_of(alloc, feed, route, day, pattern, shown)?;
+    let sheet = sheet_of(alloc, feed, route, day, pattern, shown, times)?;
     found.push(sheet)?;
     Ok(())
 }
@@ -128,15 +137,16 @@ fn sheet_of<'a>(
     day: Day,
     pattern: &Pattern,
     columns: &[Column],
+    times: Times,
 ) -> Result<Sheet<'a>, OutOfMemory>
     requires stops { All (λ s. s.0 < length feed.now.stops) pattern.now.stops.items }
     requires shown { All (IsShownAlong feed.now (length pattern.now.stops.items)) columns.now }
     ensures { IfOk result (λ sheet. plain_sheet sheet
-        ≡ sheet_of_columns feed.now route.now day pattern.now columns.now) }
+        ≡ sheet_of_columns (timed_parts times feed.now) route.now day pattern.now columns.now) }
 {
     let stops = stop_texts(alloc, feed, pattern.stops.as_slice())?;
     let runs = named(alloc, feed, columns)?;
-    let times = times(alloc, feed, pattern.stops.len(), columns)?;
+    let times = sheet_times(alloc, feed, pattern.stops.len(), columns, times)?;
     Ok(Sheet {
         route,
         direction: pattern.direction,

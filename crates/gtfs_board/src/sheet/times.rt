@@ -10,15 +10,36 @@ ghost use Rattle.gtfs_rows.specs.declared.trip.Trip.{Trip};
 ghost use Rattle.gtfs_rows.specs.Runs.{passes_at};
 ghost use Rattle.gtfs_board.specs.SheetSteps.{IsShownAlong, column_times, time_of_column};
 ghost use Rattle.gtfs_board.specs.Timetable.{row_at, time_at};
+ghost use Rattle.gtfs_times.specs.TimedRows.{timed_parts};
 
+use crate::sheet::by_run::filled_times;
 use crate::sheet::columns::{Column, leaves, seconds_left};
 use gtfs_field::{Clock, OutOfMemory};
 use gtfs_rows::StopRow;
-use gtfs_runs::Feed;
+use gtfs_runs::{Feed, Times};
 use std::alloc::Global;
 
 // The times of the runs at each of this many stop times.
-pub(super) fn times(
+pub(super) fn sheet_times(
+    alloc: Global,
+    feed: &Feed,
+    stop_count: usize,
+    columns: &[Column],
+    times: Times,
+) -> Result<Vec<Vec<Option<Clock>>>, OutOfMemory>
+    requires { All (IsShownAlong feed.now stop_count) columns.now }
+    ensures { IfOk result (λ lines. map (λ line. line.items) lines.items
+        ≡ column_times (content_of (timed_parts times feed.now)) stop_count columns.now) }
+{
+    feed.soundness();
+    match times {
+        Times::Given => given_times(alloc, feed, stop_count, columns),
+        Times::Interpolated => filled_times(alloc, feed, stop_count, columns),
+    }
+}
+
+// The same by the stop times as they are given.
+fn given_times(
     alloc: Global,
     feed: &Feed,
     stop_count: usize,
@@ -64,7 +85,7 @@ fn time_at(feed: &Feed, column: Column, position: usize) -> Option<Clock>
 }
 
 // The same by the stop times of the trip.
-fn time_among(rows: &[StopRow], start: u32, position: usize) -> Option<Clock>
+pub(super) fn time_among(rows: &[StopRow], start: u32, position: usize) -> Option<Clock>
     requires within { position < length rows.now }
     requires early { start < 3_600_000 }
     requires late { (d : StopTime)

@@ -147,7 +147,15 @@ fn open<'a, 'w>(
         from: values.from.instant(alloc, zone)?,
         until: values.until.instant(alloc, zone)?,
     };
-    match Board::open(alloc, feed, zone, words.stop, span, values.after.as_ref()) {
+    match Board::open(
+        alloc,
+        feed,
+        zone,
+        words.stop,
+        span,
+        values.after.as_ref(),
+        values.times,
+    ) {
         Ok(board) => Ok(board),
         Err(BoardFault::UnknownStop) => Err(Refusal::UnknownStop),
         Err(BoardFault::BadSpan) => Err(Refusal::UntilBeforeFrom),

@@ -2,6 +2,7 @@ ghost use Rattle.std.specs.Prelude.{◌≡◌, ◌≤◌, ℕ, map, true, IfOk, 
 ghost use Rattle.std.specs.List.{flat_map};
 ghost use Rattle.std.specs.Io.KnownBytes.{Appends};
 ghost use Rattle.gtfs_rows.specs.Views.{content_of_parts as content_of};
+ghost use Rattle.gtfs_times.specs.Filling.{timed};
 ghost use Rattle.gtfs_board.specs.LentSheets.{plain_sheet};
 ghost use Rattle.gtfs_board.specs.Timetable.{is_route, sheet_text, sheets};
 ghost use Rattle.gtfs_words.specs.Words.{timetable_texts_of};
@@ -83,11 +84,19 @@ fn sheets_of<'a, 'w>(
 ) -> Result<Vec<Sheet<'a>>, Refusal<'w>>
     ensures known { OnOk result (is_route (content_of feed.now) route.now ≡ true) }
     ensures sheets { IfOk result (λ found. map plain_sheet found.items
-        ≡ sheets (content_of feed.now) route.now values.now.direction values.now.day) }
+        ≡ sheets (timed values.now.times (content_of feed.now)) route.now
+        values.now.direction values.now.day) }
     ensures refused { IfErr result (λ refusal. (before after : ℕ)
         → IsSheetsCause (content_of feed.now) route.now before after refusal) }
 {
-    match timetable(alloc, feed, route, values.direction, values.day) {
+    match timetable(
+        alloc,
+        feed,
+        route,
+        values.direction,
+        values.day,
+        values.times,
+    ) {
         Ok(sheets) => Ok(sheets),
         Err(TableFault::UnknownRoute) => Err(Refusal::UnknownRoute),
         Err(TableFault::OutOfMemory) => Err(Refusal::OutOfMemory),

@@ -4,6 +4,8 @@ ghost use Rattle.gtfs_cli.specs.TimetableOptions.{direction_of, IsTimetableReque
 ghost use Rattle.gtfs_cli.specs.Timetables.{timetable_request_of, IsFirstBadTimetable};
 
 use crate::commands::refusal::Refusal;
+use crate::commands::times::read_times;
+use gtfs_board::Times;
 use gtfs_field::{Day, read_date};
 use gtfs_words::TimetableWords;
 
@@ -14,6 +16,8 @@ pub(super) struct TimetableValues {
     pub(super) day: Day,
     // The direction of the trips, 0 or 1, if only one is wanted.
     pub(super) direction: Option<u8>,
+    // The times of the feed's rows.
+    pub(super) times: Times,
 }
 
 // Reads the values in the order of the usage.
@@ -31,7 +35,11 @@ pub(super) fn read_timetable_values<'w>(
     let Some(direction) = read_direction(words.direction) else {
         return Err(Refusal::BadValue("--direction"));
     };
-    Ok(TimetableValues { day, direction })
+    Ok(TimetableValues {
+        day,
+        direction,
+        times: read_times(words.interpolate),
+    })
 }
 
 // Reads the value of `--direction`, exactly 0 or 1. None where it is neither.

@@ -7,7 +7,8 @@ ghost use Rattle.gtfs_cli.specs.Running.{after_of, limit_of};
 
 use crate::commands::moments::{Moment, read_moment};
 use crate::commands::refusal::Refusal;
-use gtfs_board::{Key, read_key};
+use crate::commands::times::read_times;
+use gtfs_board::{Key, Times, read_key};
 use gtfs_field::read_count;
 use gtfs_words::BoardWords;
 
@@ -25,6 +26,8 @@ pub(super) struct Values<'w> {
     pub(super) limit: u64,
     // The key after which the lines begin, if any.
     pub(super) after: Option<Key<'w>>,
+    // The times of the feed's rows.
+    pub(super) times: Times,
 }
 
 // Reads the values in the order of the usage.
@@ -50,6 +53,7 @@ pub(super) fn read_values<'w>(words: &BoardWords<'w>) -> Result<Values<'w>, Refu
         until,
         limit,
         after,
+        times: read_times(words.interpolate),
     })
 }
 

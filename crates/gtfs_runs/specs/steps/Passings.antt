@@ -1,5 +1,5 @@
 -- When a trip passes the stop times at which riders can leave a place: so many seconds after each of its runs starts.
-use Rattle.std.specs.Prelude.{ℕ, ◌+◌, ◌-◌, ◌&&◌, Bool, false, List, [], ◌∷◌, filter, map, slice_index_or, unwrap_or}
+use Rattle.std.specs.Prelude.{◌≡◌, ◌≤◌, ◌<◌, ℕ, ◌+◌, ◌-◌, ◌&&◌, All, AllPairs, Bool, true, false, List, [], ◌∷◌, filter, is_some, map, slice_index_or, unwrap_or}
 use Rattle.std.specs.List.{enumerate_from}
 use Rattle.gtfs_rows.specs.Trips.{left_at}
 use Rattle.gtfs_rows.specs.Views.{content_of_parts, stop_ids, stop_row_of, text_of_number, trip_of}
@@ -16,6 +16,13 @@ use Rattle.gtfs_runs.specs.declared.stop_lanes.passing.Passing.{Passing}
 abbrev pub first_left : List StopRow → ℕ
 first_left [] = 0
 first_left (row ∷ rows) = unwrap_or (left_at row) 0
+
+-- stop times of a trip, of stops with numbers below this one: no vehicle leaves before the trip starts, or after 999:59:59
+pub record AreTripTimes (n : ℕ) (rows : List StopRow) : Type 0 where
+  pub stops : All (λ r. r.stop_id.0 < n) rows
+  pub ascend : AllPairs (λ r s. r.stop_sequence < s.stop_sequence) rows
+  pub from : All (λ r. is_some (left_at r) ≡ true → first_left rows ≤ unwrap_or (left_at r) 0) rows
+  pub to : All (λ r. unwrap_or (left_at r) 0 ≤ 3_599_999) rows
 
 -- the stop time of this position, where the trip starts at a second
 abbrev pub passing_at : ℕ → ℕ × StopRow → Passing

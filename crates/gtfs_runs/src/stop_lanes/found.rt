@@ -10,6 +10,7 @@ ghost use Rattle.gtfs_runs.specs.declared.event.Event.{Event as EventValue};
 ghost use Rattle.gtfs_runs.specs.steps.Courses.{stopping_of, stops_in};
 ghost use Rattle.gtfs_runs.specs.steps.Finds.{AreFound, HasRuns, stopping_at, times_passed, times_passed_in, times_told};
 ghost use Rattle.gtfs_runs.specs.steps.Passings.{first_left};
+ghost use Rattle.gtfs_times.specs.TimedRows.{timed_parts};
 
 use crate::place::Place;
 use crate::step_lane::StepLane;
@@ -18,6 +19,7 @@ use crate::stop_lanes::passing::{Passing, passings, trip_start};
 use gtfs_feed::Feed;
 use gtfs_field::OutOfMemory;
 use gtfs_rows::{Frequency, ServiceNo, StopRow, TripNo};
+use gtfs_times::Times;
 use std::alloc::Global;
 
 // What leaves the place of a stop.
@@ -35,12 +37,13 @@ impl<'a> Found<'a> {
         alloc: Global,
         feed: &'a Feed,
         place: &Place,
+        times: Times,
     ) -> Result<Found<'a>, OutOfMemory>
         requires { length place.now ≡ length feed.now.stops }
         ensures { IfOk result (λ found. (s : ℕ)
             → place.now ≡ members (content_of feed.now) (text_of_number (stop_ids feed.now) s)
-            → AreFound feed.now s (length feed.now.trips) (map stopping_of found.listed.items)
-            (map period_value found.periods.items)) }
+            → AreFound (timed_parts times feed.now) s (length feed.now.trips)
+            (map stopping_of found.listed.items) (map period_value found.periods.items)) }
     {
         let mut listed = Vec::new(alloc);
         let mut periods = Vec::new(alloc);
@@ -50,6 +53,7 @@ impl<'a> Found<'a> {
                 feed,
                 place,
                 TripNo(number),
+                times,
                 &mut listed,
                 &mut periods,
             )?;
@@ -64,6 +68,7 @@ fn add_trip<'a>(
     feed: &'a Feed,
     place: &Place,
     trip: TripNo,
+    times: Times,
     listed: &mut Vec<Listed<'a>>,
     periods: &mut Vec<StepLane>,
 ) -> Result<(), OutOfMemory>
@@ -71,15 +76,15 @@ fn add_trip<'a>(
     requires stops { length place.now ≡ length feed.now.stops }
     ensures { OnOk result ((s : ℕ)
         → place.now ≡ members (content_of feed.now) (text_of_number (stop_ids feed.now) s)
-        → AreFound feed.now s trip.0 (map stopping_of listed.old.items)
+        → AreFound (timed_parts times feed.now) s trip.0 (map stopping_of listed.old.items)
         (map period_value periods.old.items)
-        → AreFound feed.now s (trip.0 + 1) (map stopping_of listed.new.items)
+        → AreFound (timed_parts times feed.now) s (trip.0 + 1) (map stopping_of listed.new.items)
         (map period_value periods.new.items)) }
 {
     feed.soundness();
     let service = feed.trip_by_number(trip).service_id;
     let frequencies = feed.trip_frequencies(trip);
-    let passings = passings(alloc, feed, place, trip)?;
+    let passings = passings(alloc, feed, place, trip, times)?;
     if frequencies.is_empty() {
         add_listed(service, trip, feed.trip_rows(trip), &passings, listed)?;
     } else {

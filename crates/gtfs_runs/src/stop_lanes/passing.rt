@@ -1,12 +1,14 @@
 ghost use Rattle.std.specs.Prelude.{◌≡◌, ◌≤◌, ◌<◌, ◌-◌, ℕ, All, IfOk, List, Some, length, slice_get, unwrap_or};
 ghost use Rattle.gtfs_feed.specs.Content.{content_of};
 ghost use Rattle.gtfs_rows.specs.Trips.{left_at, stop_rows_by_trip};
-ghost use Rattle.gtfs_rows.specs.Views.{stop_ids, text_of_number};
+ghost use Rattle.gtfs_rows.specs.Views.{content_of_parts, stop_ids, text_of_number};
 ghost use Rattle.gtfs_rows.specs.declared.frequency.Frequency.{Frequency};
+ghost use Rattle.gtfs_rows.specs.declared.parts.Parts.{Parts};
 ghost use Rattle.gtfs_rows.specs.declared.stop_row.StopRow.{StopRow as StopTime};
 ghost use Rattle.gtfs_rows.specs.declared.trip.Trip.{Trip};
 ghost use Rattle.gtfs_rows.specs.Places.{members};
-ghost use Rattle.gtfs_runs.specs.steps.Passings.{first_left, passing_at, passing_event, passings_of};
+ghost use Rattle.gtfs_runs.specs.steps.Passings.{AreTripTimes, first_left, passing_at, passing_event, passings_of};
+ghost use Rattle.gtfs_times.specs.TimedRows.{timed_parts};
 
 use crate::departure_row::{departure, leaves_place};
 use crate::event::Event;
@@ -14,6 +16,7 @@ use crate::place::Place;
 use gtfs_feed::Feed;
 use gtfs_field::OutOfMemory;
 use gtfs_rows::{StopRow, TripNo};
+use gtfs_times::{Times, filled, is_to_fill};
 use std::alloc::Global;
 
 // A stop time at which riders can leave the place of a stop, and how many seconds after its start a run passes it.
@@ -65,18 +68,33 @@ pub(crate) fn passings(
     feed: &Feed,
     place: &Place,
     trip: TripNo,
+    times: Times,
 ) -> Result<Vec<Passing>, OutOfMemory>
     requires trip { trip.0 < length feed.now.trips }
     requires stops { length place.now ≡ length feed.now.stops }
     ensures passings { IfOk result (λ found. (s : ℕ) (t : Trip) (rows : List StopTime)
         (fs : List Frequency)
         → place.now ≡ members (content_of feed.now) (text_of_number (stop_ids feed.now) s)
-        → slice_get (stop_rows_by_trip feed.now) trip.0 ≡ Some rows
-        → found.items ≡ passings_of feed.now s t rows fs) }
+        → slice_get (stop_rows_by_trip (timed_parts times feed.now)) trip.0 ≡ Some rows
+        → found.items ≡ passings_of (timed_parts times feed.now) s t rows fs) }
     ensures after { IfOk result (λ found. All (λ x. x.after ≤ 3_599_999) found.items) }
 {
     feed.soundness();
     let rows = feed.trip_rows(trip);
+    if is_to_fill(rows, times) {
+        return passings_in(alloc, place, &filled(alloc, rows)?);
+    }
+    passings_in(alloc, place, rows)
+}
+
+// Those of these stop times at which riders can leave the place of a stop, by position.
+fn passings_in(alloc: Global, place: &Place, rows: &[StopRow]) -> Result<Vec<Passing>, OutOfMemory>
+    requires { AreTripTimes (length place.now) rows.now }
+    ensures passings { IfOk result (λ found. (p : Parts) (s : ℕ) (t : Trip) (fs : List Frequency)
+        → place.now ≡ members (content_of_parts p) (text_of_number (stop_ids p) s)
+        → found.items ≡ passings_of p s t rows.now fs) }
+    ensures after { IfOk result (λ found. All (λ x. x.after ≤ 3_599_999) found.items) }
+{
     let start = trip_start(rows);
     let mut found = Vec::new(alloc);
     for position in 0..rows.len() {
@@ -87,15 +105,14 @@ pub(crate) fn passings(
     Ok(found)
 }
 
-// The stop time of this position, at which a vehicle leaves no earlier than the trip starts.
+// The stop time of this position. No vehicle leaves it before the trip starts.
 fn passed(row: &StopRow, start: u32, position: usize) -> Passing
-    requires from { start ≤ unwrap_or (left_at row.now) 0 }
-    requires to { unwrap_or (left_at row.now) 0 ≤ 3_599_999 }
+    requires { unwrap_or (left_at row.now) 0 ≤ 3_599_999 }
     ensures value { result ≡ passing_at start (position, row.now) }
     ensures after { result.after ≤ 3_599_999 }
 {
     Passing {
-        after: left(row) - start,
+        after: left(row).saturating_sub(start),
         seq: row.stop_sequence,
         row: position,
     }

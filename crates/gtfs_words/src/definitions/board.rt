@@ -3,14 +3,14 @@ ghost use Rattle.std.specs.Prelude.{◌≡◌, IfOk};
 ghost use Rattle.clap.specs.Words.{app_of};
 ghost use Rattle.gtfs_words.specs.CommandLine.{board_app, needed_board_app};
 
-use super::rules::{DIR, new_command, with_choice, with_option, with_word};
+use super::rules::{DIR, INTERPOLATE, new_command, with_choice, with_flag, with_option, with_word};
 use clap::Command;
 use std::alloc::{AllocError, Global};
 
 const ABOUT: &str = "Print the departures at a stop, in the order of their times";
 
 const BOARD: &str =
-    "gtfs board DIR --zone FILE --stop ID --from T --until T [--limit N] [--after KEY]";
+    "gtfs board DIR --zone FILE --stop ID --from T --until T [--limit N] [--after KEY] [--interpolate]";
 
 const ZONE: &str = "The zone file (TZif) of the time zone";
 
@@ -36,7 +36,8 @@ pub(super) fn board_command<'w>(alloc: Global) -> Result<Command<'w>, AllocError
     ensures { IfOk result (λ c. app_of c ≡ board_app) }
 {
     let limit = with_choice(needed_board(alloc), alloc, "limit", "N", LIMIT);
-    with_choice(limit, alloc, "after", "KEY", AFTER)
+    let after = with_choice(limit, alloc, "after", "KEY", AFTER);
+    with_flag(after, alloc, "interpolate", INTERPOLATE)
 }
 
 // The command with the texts that it needs.

@@ -1,13 +1,17 @@
-//! A command and the texts that it is given, as `clap` is told of them: plain texts, each set once.
+//! A command and what it is given, as `clap` is told of it: plain texts, each set once, and flags.
 ghost use Rattle.std.specs.Prelude.{◌≡◌, IfOk, false};
 ghost use Rattle.clap.specs.Words.{App, app_of, new_app, rule_of, with_rule};
-ghost use Rattle.gtfs_words.specs.CommandLine.{choice_rule, option_rule, text_rule, word_rule};
+ghost use Rattle.gtfs_words.specs.CommandLine.{choice_rule, flag_rule, option_rule, text_rule, word_rule};
 
 use clap::{Arg, ArgAction, Command};
 use std::alloc::{AllocError, Global};
 
 // What help says of the folder of a feed.
 pub(super) const DIR: &str = "The folder of the feed";
+
+// What help says of the flag that fills times in.
+pub(super) const INTERPOLATE: &str =
+    "Fill in missing times, at an even pace between the given ones";
 
 // A command that is given no texts yet; help ends with notes.
 pub(super) fn new_command<'w>(
@@ -75,6 +79,19 @@ pub(super) fn with_choice<'w>(
     command?.arg(free_option(alloc, id, value, help))
 }
 
+// The command, if it was made, with one more flag `--id`, which has no text and may be given once.
+pub(super) fn with_flag<'w>(
+    command: Result<Command<'w>, AllocError>,
+    alloc: Global,
+    id: &'w str,
+    help: &'w str,
+) -> Result<Command<'w>, AllocError>
+    ensures { (app : App) → IfOk command.entry (λ c. app_of c ≡ app)
+        → IfOk result (λ c. app_of c ≡ with_rule app (flag_rule id.entry.now)) }
+{
+    command?.arg(flag(alloc, id, help))
+}
+
 fn needed_word<'w>(alloc: Global, id: &'w str, help: &'w str) -> Arg<'w>
     ensures rule { rule_of result ≡ word_rule id.entry.now }
     ensures local { result.global ≡ false }
@@ -101,4 +118,14 @@ fn text<'w>(alloc: Global, id: &'w str, help: &'w str) -> Arg<'w>
     ensures local { result.global ≡ false }
 {
     Arg::new(alloc, id).action(ArgAction::Set).help(help)
+}
+
+fn flag<'w>(alloc: Global, id: &'w str, help: &'w str) -> Arg<'w>
+    ensures rule { rule_of result ≡ flag_rule id.entry.now }
+    ensures local { result.global ≡ false }
+{
+    Arg::new(alloc, id)
+        .long(id)
+        .action(ArgAction::SetTrue)
+        .help(help)
 }

@@ -3,14 +3,14 @@ ghost use Rattle.std.specs.Prelude.{◌≡◌, IfOk};
 ghost use Rattle.clap.specs.Words.{app_of};
 ghost use Rattle.gtfs_words.specs.CommandLine.{timetable_app};
 
-use super::rules::{DIR, new_command, with_choice, with_option, with_word};
+use super::rules::{DIR, INTERPOLATE, new_command, with_choice, with_flag, with_option, with_word};
 use clap::Command;
 use std::alloc::{AllocError, Global};
 
 const ABOUT: &str =
     "Print the runs of a route on a date, a sheet for each direction and list of stops";
 
-const TIMETABLE: &str = "gtfs timetable DIR --route ID --date D [--direction 0|1]";
+const TIMETABLE: &str = "gtfs timetable DIR --route ID --date D [--direction 0|1] [--interpolate]";
 
 const ROUTE: &str = "The route, by its route_id";
 
@@ -29,5 +29,6 @@ pub(super) fn timetable_command<'w>(alloc: Global) -> Result<Command<'w>, AllocE
     let dir = with_word(Ok(timetable), alloc, "DIR", DIR);
     let route = with_option(dir, alloc, "route", "ID", ROUTE);
     let date = with_option(route, alloc, "date", "D", DATE);
-    with_choice(date, alloc, "direction", "0|1", DIRECTION)
+    let direction = with_choice(date, alloc, "direction", "0|1", DIRECTION);
+    with_flag(direction, alloc, "interpolate", INTERPOLATE)
 }

@@ -3,6 +3,7 @@ use Rattle.std.specs.Prelude.{slice_get}
 use Rattle.std.proofs.lemmas.Option.{slice_get-get_or}
 use Rattle.gtfs_rows.proofs.NumberFacts.{trip_route}
 use Rattle.gtfs_rows.proofs.TripFacts.{periods}
+use Rattle.gtfs_board.specs.Shown.{mark_if}
 use Rattle.gtfs_board.proofs.ShownRows.{periods_move, shown_rows, stop_within}
 use Rattle.gtfs_board.proofs.showing.departure_of.Goals as goal
 
@@ -31,11 +32,11 @@ headsign_of-requires c =
     let at : slice_get rs k ≡ Some r = slice_get-get_or rs k r inside ∙ ap Some (sym c.index-trip_rows-candidate.is) in
     (stop_within p c.soundness.ensures n rs k r c.trip_rows.ensures at).1
 
-pub mark_of-requires-clause-apart : goal.mark_of-requires-clause-apart
-mark_of-requires-clause-apart c = periods c.args.feed.now c.soundness.ensures c.args.candidate.now.trip c.trip_frequencies.result.now c.trip_frequencies.ensures
+pub has_inexact-requires-clause-apart : goal.has_inexact-requires-clause-apart
+has_inexact-requires-clause-apart c = periods c.args.feed.now c.soundness.ensures c.args.candidate.now.trip c.trip_frequencies.result.now c.trip_frequencies.ensures
 
-pub mark_of-requires-clause-moves : goal.mark_of-requires-clause-moves
-mark_of-requires-clause-moves c =
+pub has_inexact-requires-clause-moves : goal.has_inexact-requires-clause-moves
+has_inexact-requires-clause-moves c =
     periods_move c.args.feed.now c.soundness.ensures c.args.candidate.now.trip c.trip_by_number-trip.result.now c.trip_rows.result.now c.trip_frequencies.result.now
     c.trip_by_number-trip.ensures c.trip_rows.ensures c.trip_frequencies.ensures
 
@@ -49,4 +50,5 @@ returns-clause-listed c =
     let at : slice_get rs k ≡ Some r = slice_get-get_or rs k r inside ∙ ap Some (sym c.index-trip_rows-candidate.is) in
     shown_rows p c.soundness.ensures c.args.candidate.now c.trip_by_number-trip.result.now rs c.trip_frequencies.result.now r c.route_by_number.result.now _
     c.trip_by_number-trip.ensures c.trip_rows.ensures c.trip_frequencies.ensures at c.route_by_number.ensures
-    c.key_of.ensures.key c.stop_id.ensures c.name_of.ensures c.headsign_of.ensures c.mark_of.ensures
+    c.key_of.ensures.key c.stop_id.ensures c.name_of.ensures c.headsign_of.ensures
+    (c.new.ensures ∙ (λ i. mark_if (c.has_inexact.ensures i) (c.is_untimed.ensures i)))

@@ -1,6 +1,7 @@
-use Rattle.std.proofs.Common.{rules, ◌≡◌, ◌≤◌, ◌∙◌, ◌+◌, ◌*◌, Option, length, sym, ap, subst, inl, inr, w64, SFits, to_z, of_z, pos}
+use Rattle.std.proofs.Common.{rules, arith, ◌≡◌, ◌≤◌, ◌∙◌, ◌+◌, ◌*◌, Option, length, sym, ap, subst, inl, inr, w64, SFits, to_z, of_z, pos}
 use Rattle.std.specs.Prelude.{◌-ℤ◌, option_map}
 use Rattle.std.proofs.lemmas.Int.{to_z-of_z}
+use Rattle.std.proofs.lemmas.List.{length-map}
 use Rattle.gtfs_days.specs.Zone.{zone_origin}
 use Rattle.gtfs_rows.specs.Views.{stop_ids, text_of_number}
 use Rattle.gtfs_runs.specs.StopLanes.{StopLanesValue, lanes_of}
@@ -11,13 +12,16 @@ use Rattle.gtfs_board.specs.LaneDays.{all_departures}
 use Rattle.gtfs_board.specs.Lent.{plain_key}
 use Rattle.gtfs_board.specs.declared.merge.candidate.Candidate.{Candidate}
 use Rattle.gtfs_board.specs.merge.Candidates.{HasSettings, candidate_lt, reach, rest_above}
-use Rattle.gtfs_board.proofs.Opened.{from_none, opened_board, start_low, until_less}
-use Rattle.gtfs_board.proofs.Timely.{timely}
+use Rattle.gtfs_board.proofs.Opened.{from_none, start_low, until_less}
+use Rattle.gtfs_board.proofs.TimedBoards.{opened_board, timely-timed}
 use Rattle.gtfs_board.proofs.board.Board.of_stop.Goals as goal
+
+pub new-days-requires-clause-served : goal.new-days-requires-clause-served
+new-days-requires-clause-served c = λ k d within. omega (arith, c.in_ok-lanes.ensures.lanes.within k d within, length-map c.args.feed.now.services (λ s. s.service_id))
 
 pub new-days-requires-clause-timely : goal.new-days-requires-clause-timely
 new-days-requires-clause-timely c =
-    timely c.args.feed.now c.soundness.ensures (text_of_number (stop_ids c.args.feed.now) c.args.stop.0) c.in_ok-lanes.lanes c.in_ok-lanes.ensures.lanes c.in_ok-lanes.ensures.greatest
+    timely-timed c.args.times c.args.feed.now c.soundness.ensures (text_of_number (stop_ids c.args.feed.now) c.args.stop.0) c.in_ok-lanes.lanes c.in_ok-lanes.ensures.lanes c.in_ok-lanes.ensures.greatest
 
 pub open-requires-clause-instant : goal.open-requires-clause-instant
 open-requires-clause-instant c =
@@ -61,7 +65,7 @@ invariant_of-result c =
     λ x known. c.floor_of-floor.ensures.value x (subst (λ n. IsNumbered p n x) (sym count) known) ∙ ap (λ y. is_from p y after x) from_is in
     let settings : HasSettings (length (lanes_of lanes)) lanes.greatest floor.instant end _ v = subst (λ (l : StopLanesValue). HasSettings (length (lanes_of l)) l.greatest floor.instant end _ v) lanes_is c.in_ok-departures.ensures.settings in
     let steps : v.steps ≤ v.lanes * reach v = from_none v.steps (v.lanes * reach v) (subst (λ n. v.steps ≤ n + v.lanes * reach v) c.in_ok-lanes.ensures.steps c.in_ok-departures.ensures.steps) in
-    (opened_board p c.soundness.ensures s lanes c.in_ok-lanes.ensures.lanes c.args.zone.now span after end floor v ends rest above c.in_ok-lanes.ensures.greatest start settings c.in_ok-departures.ensures.queued steps).0
+    (opened_board c.args.times p c.soundness.ensures s lanes c.in_ok-lanes.ensures.lanes c.args.zone.now end span after floor v ends rest above c.in_ok-lanes.ensures.greatest start settings c.in_ok-departures.ensures.queued steps).0
 
 pub returns : goal.returns
 returns c =
@@ -92,4 +96,4 @@ returns c =
     λ x known. c.floor_of-floor.ensures.value x (subst (λ n. IsNumbered p n x) (sym count) known) ∙ ap (λ y. is_from p y after x) from_is in
     let settings : HasSettings (length (lanes_of lanes)) lanes.greatest floor.instant end _ v = subst (λ (l : StopLanesValue). HasSettings (length (lanes_of l)) l.greatest floor.instant end _ v) lanes_is c.in_ok-departures.ensures.settings in
     let steps : v.steps ≤ v.lanes * reach v = from_none v.steps (v.lanes * reach v) (subst (λ n. v.steps ≤ n + v.lanes * reach v) c.in_ok-lanes.ensures.steps c.in_ok-departures.ensures.steps) in
-    (opened_board p c.soundness.ensures s lanes c.in_ok-lanes.ensures.lanes c.args.zone.now span after end floor v ends rest above c.in_ok-lanes.ensures.greatest start settings c.in_ok-departures.ensures.queued steps).1
+    (opened_board c.args.times p c.soundness.ensures s lanes c.in_ok-lanes.ensures.lanes c.args.zone.now end span after floor v ends rest above c.in_ok-lanes.ensures.greatest start settings c.in_ok-departures.ensures.queued steps).1

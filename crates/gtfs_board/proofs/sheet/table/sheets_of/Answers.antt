@@ -3,6 +3,7 @@ use Rattle.std.specs.List.{filter, flat_map}
 use Rattle.std.proofs.lemmas.List.{take_all}
 use Rattle.gtfs_board.specs.LentSheets.{plain_sheet}
 use Rattle.gtfs_board.specs.SheetSteps.{IsPattern, goes, sheets_along}
+use Rattle.gtfs_times.specs.TimedRows.{timed_parts}
 use Rattle.gtfs_board.proofs.SheetLists.{left-out, taken-in}
 use Rattle.gtfs_board.proofs.sheet.table.sheets_of.Goals.{then-goes+in_ok-push_pattern, else-goes}
 use Rattle.gtfs_board.proofs.sheet.table.sheets_of.Goals as goal
@@ -12,7 +13,7 @@ push_pattern-requires c = subst (IsPattern c.args.feed.now) (sym c.pattern-item.
 
 pub loop-pattern-preserved : goal.loop-pattern-preserved
 loop-pattern-preserved c =
-    let along = sheets_along c.args.feed.now c.args.route.now c.args.day in
+    let along = sheets_along (timed_parts c.args.times c.args.feed.now) c.args.route.now c.args.day in
     let n = c.loop-pattern.pattern-index in
     elim c.if-goes.branch [
       | then-goes+in_ok-push_pattern w ↦
@@ -28,5 +29,5 @@ loop-pattern-preserved c =
 pub returns : goal.returns
 returns c =
     c.loop-pattern.invariant
-    ∙ ap (λ ps. flat_map (sheets_along c.args.feed.now c.args.route.now c.args.day) (filter (goes c.args.direction) ps))
+    ∙ ap (λ ps. flat_map (sheets_along (timed_parts c.args.times c.args.feed.now) c.args.route.now c.args.day) (filter (goes c.args.direction) ps))
     (take_all c.loop-pattern.pattern-index c.args.patterns.now c.loop-pattern-test.false)

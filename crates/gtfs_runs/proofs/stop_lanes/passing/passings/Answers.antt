@@ -1,106 +1,41 @@
-use Rattle.std.proofs.Common.{◌≡◌, ◌<◌, ◌≤◌, ◌∙◌, ◌&&◌, ℕ, Bool, true, false, List, [], length, map, filter, get_or, sym, ap, subst, arith}
-use Rattle.std.specs.Prelude.{is_some, unwrap_or}
-use Rattle.std.specs.List.{All, enumerate_from}
-use Rattle.std.proofs.lemmas.Bool.{and_parts}
-use Rattle.std.proofs.lemmas.List.{get_or_default, take_all}
-use Rattle.std.proofs.lemmas.List.Elements.{All-push}
-use Rattle.std.proofs.lemmas.Option.{get_or_from_slice_get}
-use Rattle.gtfs_field.proofs.ListFacts.{some_of}
-use Rattle.gtfs_rows.specs.declared.stop_row.StopRow.{StopRow}
-use Rattle.gtfs_rows.specs.declared.frequency.Frequency.{Frequency}
-use Rattle.gtfs_rows.specs.declared.parts.Parts.{Parts}
-use Rattle.gtfs_rows.specs.declared.trip.Trip.{Trip}
-use Rattle.gtfs_rows.specs.Views.{content_of_parts, stop_ids, stop_row_of, text_of_number, trip_of}
-use Rattle.gtfs_rows.specs.Trips.{left_at, stop_rows_by_trip}
-use Rattle.gtfs_rows.proofs.TripFacts.{stop_times}
-use Rattle.gtfs_rows.specs.Runs.{allows_boarding, is_departure_row, is_not_last, is_timed}
-use Rattle.gtfs_rows.specs.Places.{members}
-use Rattle.gtfs_runs.specs.steps.Passings.{first_left, leaves, passing_at, passings_of}
-use Rattle.gtfs_runs.proofs.TripTimes.{left_within, picked_fails, picked_passes, starts_before}
-use Rattle.gtfs_runs.proofs.stop_lanes.passing.passings.Goals.{then-leaves_place+in_ok-push, else-leaves_place}
+use Rattle.std.proofs.Common.{◌∙◌, sym}
+use Rattle.std.proofs.lemmas.Result.{IfOk-weaker}
+use Rattle.gtfs_runs.proofs.Pushes.{none-made}
+use Rattle.gtfs_runs.proofs.TimedTrips.{filled_under, passed, times_of}
 use Rattle.gtfs_runs.proofs.stop_lanes.passing.passings.Goals as goal
 
--- the place has the stops that its content says
-here : (p : Parts) (s : ℕ) (t : Trip) (rows : List StopRow) (fs : List Frequency) (n : ℕ) (d : StopRow) (place : List Bool) → place ≡ members (content_of_parts p) (text_of_number (stop_ids p) s)
-    → (is_departure_row (trip_of p t rows fs) (stop_row_of p (get_or rows n d)) && get_or place (get_or rows n d).stop_id.0 false) ≡ leaves p s t rows fs (n, get_or rows n d)
-here p s t rows fs n d place is =
-    ap (λ m. is_departure_row (trip_of p t rows fs) (stop_row_of p (get_or rows n d)) && get_or m (get_or rows n d).stop_id.0 false) is
+pub passings_in-requires : goal.passings_in-requires
+passings_in-requires c =
+    times_of c.args.times c.args.feed.now c.soundness.ensures c.args.trip.0 _ c.trip_rows-rows.result.now _ c.trip_rows-rows.ensures
+    (c.deref.ensures.value ∙ c.in_ok-filled.ensures ∙ filled_under c.args.times c.trip_rows-rows.result.now (sym c.is_to_fill.ensures.value ∙ c.if-is_to_fill.true)) c.requires.stops
 
-pub leaves_place-requires-clause-stops : goal.leaves_place-requires-clause-stops
-leaves_place-requires-clause-stops c = λ k d within.
-    let are = stop_times c.args.feed.now c.soundness.ensures c.args.trip.0 c.trip_rows-rows.result.now c.trip_rows-rows.ensures in
-    subst (λ n. (get_or c.trip_rows-rows.result.now k d).stop_id.0 < n) (sym c.requires.stops) (are.stops k d within)
+pub passings_in-requires-2 : goal.passings_in-requires-2
+passings_in-requires-2 c =
+    times_of c.args.times c.args.feed.now c.soundness.ensures c.args.trip.0 _ c.trip_rows-rows.result.now _ c.trip_rows-rows.ensures
+    (sym (c.is_to_fill.ensures.kept c.if-is_to_fill.false)) c.requires.stops
 
-pub leaves_place-requires-clause-ascend : goal.leaves_place-requires-clause-ascend
-leaves_place-requires-clause-ascend c =
-    (stop_times c.args.feed.now c.soundness.ensures c.args.trip.0 c.trip_rows-rows.result.now c.trip_rows-rows.ensures).ascend
-
-pub passed-requires-clause-from : goal.passed-requires-clause-from
-passed-requires-clause-from c =
-    let p = c.args.feed.now in
+pub returns-then-is_to_fill : goal.returns-then-is_to_fill
+returns-then-is_to_fill c =
     let rows = c.trip_rows-rows.result.now in
-    let n = c.loop-position.position in
-    let within = c.loop-position-test.true in
-    let d : StopRow = some_of rows n within in
-    let row = get_or rows n d in
-    let same : c.index-rows-position.result ≡ row = c.index-rows-position.is ∙ get_or_default rows n c.index-rows-position.result d within in
-    let t = some_of p.trips c.args.trip.0 c.requires.trip in
-    let r = stop_row_of p row in
-    let u = trip_of p t rows [] in
-    let holds = and_parts (is_timed r && is_not_last u r && allows_boarding r) _ (sym (c.leaves_place.ensures p t [] d) ∙ c.if-leaves_place.true) in
-    let timed : is_some (left_at row) ≡ true = (and_parts (is_timed r) (is_not_last u r) (and_parts (is_timed r && is_not_last u r) (allows_boarding r) holds.0).0).0 in
-    let are = stop_times p c.soundness.ensures c.args.trip.0 rows c.trip_rows-rows.ensures in
-    let from : first_left rows ≤ unwrap_or (left_at row) 0 = starts_before p rows are n d within timed in
-    subst (λ x. c.trip_start-start.result ≤ unwrap_or (left_at x) 0) (sym same) (subst (λ s. s ≤ unwrap_or (left_at row) 0) (sym c.trip_start-start.ensures.value) from)
-
-pub passed-requires-clause-to : goal.passed-requires-clause-to
-passed-requires-clause-to c =
-    let p = c.args.feed.now in
-    let rows = c.trip_rows-rows.result.now in
-    let n = c.loop-position.position in
-    let within = c.loop-position-test.true in
-    let d : StopRow = some_of rows n within in
-    let same : c.index-rows-position.result ≡ get_or rows n d = c.index-rows-position.is ∙ get_or_default rows n c.index-rows-position.result d within in
-    subst (λ x. unwrap_or (left_at x) 0 ≤ 3_599_999) (sym same) (left_within p c.soundness.ensures c.args.trip.0 rows c.trip_rows-rows.ensures n d within)
-
-pub loop-position-preserved : goal.loop-position-preserved
-loop-position-preserved c =
-    let p = c.args.feed.now in
-    let rows = c.trip_rows-rows.result.now in
-    let n = c.loop-position.position in
-    let within = c.loop-position-test.true in
-    let d : StopRow = some_of rows n within in
-    elim c.if-leaves_place.branch [
-      | then-leaves_place+in_ok-push w ↦
-          let same = w.index-rows-position.is ∙ get_or_default rows n w.index-rows-position.result d within in
-          let made = w.passed.ensures.value ∙ (λ i. passing_at (c.trip_start-start.ensures.value i) (n, same i)) in
-          let pushed = ap (λ v. v.items) w.found-is ∙ w.in_ok-push.ensures.items in
-          record {
-            passings = λ s t fs place.
-                picked_passes (passing_at (first_left rows)) (leaves p s t rows fs) rows n d c.loop-position.found.items c.if-leaves_place.found.items c.leaves_place.result w.passed.result within
-                (c.leaves_place.ensures p t fs d ∙ here p s t rows fs n d c.args.place.now place) w.if-leaves_place.true made (c.loop-position.invariant.passings s t fs place) pushed;
-            after = subst (λ xs. All (λ x. x.after ≤ 3_599_999) xs) (sym pushed) (All-push (λ x. x.after ≤ 3_599_999) c.loop-position.found.items w.passed.result c.loop-position.invariant.after w.passed.ensures.after);
-          }
-      | else-leaves_place w ↦
-          let kept = ap (λ v. v.items) w.found-is in
-          record {
-            passings = λ s t fs place.
-                picked_fails (passing_at (first_left rows)) (leaves p s t rows fs) rows n d c.loop-position.found.items c.if-leaves_place.found.items c.leaves_place.result within
-                (c.leaves_place.ensures p t fs d ∙ here p s t rows fs n d c.args.place.now place) w.if-leaves_place.false (c.loop-position.invariant.passings s t fs place) kept;
-            after = subst (λ xs. All (λ x. x.after ≤ 3_599_999) xs) (sym kept) c.loop-position.invariant.after;
-          }
-    ]
+    let is = c.deref.ensures.value ∙ c.in_ok-filled.ensures ∙ filled_under c.args.times rows (sym c.is_to_fill.ensures.value ∙ c.if-is_to_fill.true) in
+    record {
+      passings = IfOk-weaker c.passings_in.result _ _ (λ found told. passed c.args.times c.args.feed.now c.soundness.ensures c.args.trip.0 rows _ c.args.place.now found.items c.trip_rows-rows.ensures is told)
+          c.passings_in.ensures.passings;
+      after = c.passings_in.ensures.after;
+    }
 
 pub returns : goal.returns
-returns c = record {
-  passings = λ s t rows fs place at.
-      let p = c.args.feed.now in
-      let own = c.trip_rows-rows.result.now in
-      let trips = stop_rows_by_trip p in
-      let same : own ≡ rows = sym (get_or_from_slice_get trips c.args.trip.0 own [] c.trip_rows-rows.ensures) ∙ get_or_from_slice_get trips c.args.trip.0 rows [] at in
-      let past : length own ≤ c.loop-position.position = omega (arith, c.loop-position-test.false) in
-      c.loop-position.invariant.passings s t fs place
-      ∙ ap (λ l. map (passing_at (first_left own)) (filter (leaves p s t own fs) (enumerate_from 0 l))) (take_all c.loop-position.position own past)
-      ∙ ap (λ r. passings_of p s t r fs) same;
-  after = c.loop-position.invariant.after;
-}
+returns c =
+    let rows = c.trip_rows-rows.result.now in
+    let is = sym (c.is_to_fill.ensures.kept c.if-is_to_fill.false) in
+    record {
+      passings = IfOk-weaker c.passings_in-2.result _ _ (λ found told. passed c.args.times c.args.feed.now c.soundness.ensures c.args.trip.0 rows _ c.args.place.now found.items c.trip_rows-rows.ensures is told)
+          c.passings_in-2.ensures.passings;
+      after = c.passings_in-2.ensures.after;
+    }
+
+pub returns-in_err-filled : goal.returns-in_err-filled
+returns-in_err-filled c =
+    let r = c.from_residual.result in
+    let refused = c.from_residual.ensures.1 in
+    record { passings = none-made r _ _ refused; after = none-made r _ _ refused }

@@ -1,8 +1,0 @@
-use Rattle.std.proofs.Common.{◌≡◌, map}
-use Rattle.gtfs_rows.specs.Views.{content_of_parts}
-use Rattle.gtfs_board.specs.SheetSteps.{column_times}
-use Rattle.gtfs_board.proofs.sheet.times.times.Given as goal
-
--- the times at the positions so far
-abbrev pub invariant-loop-position : goal.invariant-loop-position
-invariant-loop-position l = map (λ line. line.items) l.lines.items ≡ column_times (content_of_parts l.feed) l.position l.columns
