@@ -1,10 +1,11 @@
 -- Which rows of two feeds are joined, by their numbers.
 use Rattle.std.specs.Prelude.{ℕ, Bool, true, false, nat_eq, if◌then◌else◌, List, bytes_eq, map, position, Option, Some, None, option_and_then}
 use Rattle.std.specs.Option.{option_eq}
-use Rattle.gtfs_rows.specs.Views.{content_of_parts, stop_ids, text_of_number}
+use Rattle.gtfs_rows.specs.Views.{stop_ids, text_of_number}
 use Rattle.gtfs_rows.specs.declared.stop.Stop.{Stop}
 use Rattle.gtfs_merge.specs.Numbered.{known_ids}
-use Rattle.gtfs_merge.specs.Renaming.{Renaming, is_joined, never_near}
+use Rattle.gtfs_merge.specs.Renaming.{Renaming}
+use Rattle.gtfs_merge.specs.Sides.{is_joined_id}
 use Rattle.gtfs_merge.specs.declared.kind.Kind.{Kind}
 use Rattle.gtfs_merge.specs.declared.kind.Kind.TheVariants as kind
 use Rattle.gtfs_merge.specs.declared.sides.Sides.{Sides}

@@ -9,7 +9,7 @@ use Rattle.gtfs_merge.specs.Merged.{agency_with, service_with}
 use Rattle.gtfs_merge.specs.Numbered.{known_ids}
 use Rattle.gtfs_merge.specs.Order.{Entry, rows_of_a, rows_of_b}
 use Rattle.gtfs_merge.specs.Renaming.{Names, route_with, stop_with, trip_with}
-use Rattle.gtfs_merge.specs.Sides.{merged_ids, merged_parts, side_content, side_names, side_parts}
+use Rattle.gtfs_merge.specs.Sides.{side_parts, side_content, side_names, merged_parts, merged_ids}
 use Rattle.gtfs_merge.specs.declared.kind.Kind.{Kind}
 use Rattle.gtfs_merge.specs.declared.kind.Kind.TheVariants as kind
 use Rattle.gtfs_merge.specs.declared.sides.Sides.{Sides}

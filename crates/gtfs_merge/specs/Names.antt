@@ -1,8 +1,8 @@
 -- What ids became.
 use Rattle.std.specs.Prelude.{◌≡◌, ℕ, ◌==◌, Bool, true, false, List, ◌∷◌, ◌++◌, [], length, map, bytes_eq, position, slice_get, Option, Some, option_and_then}
-use Rattle.gtfs_rows.specs.Views.{content_of_parts}
 use Rattle.gtfs_merge.specs.Numbered.{known_ids}
-use Rattle.gtfs_merge.specs.Renaming.{Renaming, has_id, joined_ids, names_a, names_b, never_near, renaming}
+use Rattle.gtfs_merge.specs.Renaming.{Renaming, has_id, joined_ids, renaming}
+use Rattle.gtfs_merge.specs.Sides.{content_a, content_b, nearness_of, side_names}
 use Rattle.gtfs_merge.specs.declared.kind.Kind.{Kind}
 use Rattle.gtfs_merge.specs.declared.kind.Kind.TheVariants as kind
 use Rattle.gtfs_merge.specs.declared.kind.Side.{Side}

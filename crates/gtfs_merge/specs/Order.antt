@@ -1,10 +1,10 @@
 -- The rows of a merged feed of one kind under their new ids, and the order in which they stand.
 use Rattle.std.specs.Prelude.{ℕ, Bool, not, List, length, map, filter, string_bytes}
 use Rattle.std.specs.List.{range_with_len}
-use Rattle.gtfs_rows.specs.Views.{content_of_parts, text_of_number}
+use Rattle.gtfs_rows.specs.Views.{text_of_number}
 use Rattle.gtfs_merge.specs.Numbered.{known_ids}
-use Rattle.gtfs_merge.specs.Renaming.{is_joined, never_near, renaming}
-use Rattle.gtfs_merge.specs.Sides.{side_names, side_parts}
+use Rattle.gtfs_merge.specs.Renaming.{renaming}
+use Rattle.gtfs_merge.specs.Sides.{side_parts, side_names, is_joined_id}
 use Rattle.gtfs_merge.specs.declared.kind.Kind.{Kind}
 use Rattle.gtfs_merge.specs.declared.kind.Side.{Side}
 use Rattle.gtfs_merge.specs.declared.kind.Side.TheVariants as side

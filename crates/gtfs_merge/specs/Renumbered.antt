@@ -4,7 +4,7 @@ use Rattle.gtfs_rows.specs.Views.{text_of_number}
 use Rattle.gtfs_merge.specs.Numbered.{known_ids}
 use Rattle.gtfs_merge.specs.Order.{Entry}
 use Rattle.gtfs_merge.specs.Renaming.{Renaming, renaming}
-use Rattle.gtfs_merge.specs.Sides.{merged_ids, side_names, side_parts}
+use Rattle.gtfs_merge.specs.Sides.{side_parts, side_names, merged_ids}
 use Rattle.gtfs_merge.specs.declared.kind.Kind.{Kind}
 use Rattle.gtfs_merge.specs.declared.kind.Side.{Side}
 use Rattle.gtfs_merge.specs.declared.kind.Side.TheVariants as side

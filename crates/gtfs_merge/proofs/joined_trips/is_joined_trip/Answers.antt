@@ -69,7 +69,7 @@ returns-then-not-is_same_trip c s t at_s at_t =
     let told = c.is_same_trip.ensures sides.a.now sides.b.now routes services stops xs ys us vs route service in
     trip-same sides fine_a fine_b m k x y xs ys us vs s t c.trip_by_number-first.ensures c.trip_rows-rows_a.ensures c.trip_frequencies-periods_a.ensures
     c.trip_by_number-second.ensures c.trip_rows-rows_b.ensures c.trip_frequencies-periods_b.ensures at_s at_t routes services stops _
-    (told ∙ ap (λ r. r && same_stop_rows_in sides stops xs ys && same_frequencies_in us vs) c.if-not-is_same_trip.true)
+    (told ∙ ap (λ r. r && same_stop_rows_in sides.a.now sides.b.now stops xs ys && same_frequencies_in us vs) c.if-not-is_same_trip.true)
 
 pub returns-then-not-are_same_frequencies : goal.returns-then-not-are_same_frequencies
 returns-then-not-are_same_frequencies c s t at_s at_t =
@@ -94,7 +94,7 @@ returns-then-not-are_same_frequencies c s t at_s at_t =
     let told = c.is_same_trip.ensures sides.a.now sides.b.now routes services stops xs ys us vs route service in
     trip-same sides fine_a fine_b m k x y xs ys us vs s t c.trip_by_number-first.ensures c.trip_rows-rows_a.ensures c.trip_frequencies-periods_a.ensures
     c.trip_by_number-second.ensures c.trip_rows-rows_b.ensures c.trip_frequencies-periods_b.ensures at_s at_t routes services stops _
-    (told ∙ (λ i. c.if-not-is_same_trip.false i && same_stop_rows_in sides stops xs ys && (sym c.are_same_frequencies.ensures ∙ c.if-not-are_same_frequencies.true) i) ∙ and-none _)
+    (told ∙ (λ i. c.if-not-is_same_trip.false i && same_stop_rows_in sides.a.now sides.b.now stops xs ys && (sym c.are_same_frequencies.ensures ∙ c.if-not-are_same_frequencies.true) i) ∙ and-none _)
 
 pub returns : goal.returns
 returns c s t at_s at_t =

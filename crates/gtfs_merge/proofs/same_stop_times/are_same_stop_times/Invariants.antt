@@ -11,4 +11,4 @@ use Rattle.gtfs_merge.proofs.same_stop_times.are_same_stop_times.Given as goal
 abbrev pub invariant-loop-number : goal.invariant-loop-number
 invariant-loop-number l =
     let rename = stop_b (nearness_of l.sides) (content_a l.sides) (content_b l.sides) in
-    same_stop_rows_in l.sides rename l.rows_a l.rows_b ≡ same_from same_stop_row (stop_row_of l.sides.a.now) (λ r. stop_row_with rename (stop_row_of l.sides.b.now r)) l.rows_a l.rows_b l.number
+    same_stop_rows_in l.sides.a.now l.sides.b.now rename l.rows_a l.rows_b ≡ same_from same_stop_row (stop_row_of l.sides.a.now) (λ r. stop_row_with rename (stop_row_of l.sides.b.now r)) l.rows_a l.rows_b l.number
