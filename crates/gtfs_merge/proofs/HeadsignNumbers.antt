@@ -4,13 +4,13 @@ use Rattle.std.specs.Prelude.{if◌then◌else◌, option_and_then, option_map}
 use Rattle.std.specs.List.{slice_get}
 use Rattle.std.proofs.Math.Seq.{take-suc}
 use Rattle.std.proofs.lemmas.List.{map-append}
-use Rattle.gtfs_rows.specs.declared.parts.Parts.{Parts}
 use Rattle.gtfs_rows.specs.Headsigns.{AreDistinct, KeepsHeadsigns}
 use Rattle.gtfs_rows.proofs.HeadsignFacts.{kept-append as kept-longer}
 use Rattle.gtfs_merge.specs.Headsigns.{AreHeadsigns, AreNumbersOf, numbers_on}
 use Rattle.gtfs_merge.specs.Sides.{side_parts}
 use Rattle.gtfs_merge.specs.declared.kind.Side.{Side}
 use Rattle.gtfs_merge.specs.declared.kind.Side.TheVariants as side
+use Rattle.gtfs_merge.specs.declared.sides.Sides.{Sides}
 
 pub kept-insert : {S : Type 0} (bytes : S → List ℕ) (there : Bool) (keys after : List S) (key : S) (old : List (List ℕ)) → map bytes keys ≡ old → after ≡ (if there then keys else keys ++ key ∷ [])
     → KeepsHeadsigns old (map bytes after)
@@ -55,13 +55,13 @@ pub kept-twice : (a b c : List (List ℕ)) → KeepsHeadsigns a b → KeepsHeads
 kept-twice a b c first second k t e = second k t (first k t e)
 
 -- the headsigns of both feeds
-pub both-sides : (p q : Parts) (first all texts of_a of_b : List (List ℕ)) (a b : List (Option ℕ)) → of_a ≡ p.headsigns → of_b ≡ q.headsigns → AreNumbersOf first of_a a → KeepsHeadsigns first all
-    → AreNumbersOf all of_b b → texts ≡ all → AreDistinct all → AreHeadsigns p q (record { texts = texts; a = a; b = b })
-both-sides p q first all texts of_a of_b a b own_a own_b numbers_a kept numbers_b are distinct = record {
+pub both-sides : (sides : Sides) (first all texts of_a of_b : List (List ℕ)) (a b : List (Option ℕ)) → of_a ≡ sides.a.now.headsigns → of_b ≡ sides.b.now.headsigns → AreNumbersOf first of_a a → KeepsHeadsigns first all
+    → AreNumbersOf all of_b b → texts ≡ all → AreDistinct all → AreHeadsigns sides (record { texts = texts; a = a; b = b })
+both-sides sides first all texts of_a of_b a b own_a own_b numbers_a kept numbers_b are distinct = record {
   numbers = λ s. on s;
   distinct = subst AreDistinct (sym are) distinct;
 }
   where
-    on : (s : Side) → AreNumbersOf texts (side_parts s p q).headsigns (numbers_on (record { texts = texts; a = a; b = b }) s)
-    on side.A = subst (λ ts. AreNumbersOf ts p.headsigns a) (sym are) (subst (λ hs. AreNumbersOf all hs a) own_a (numbers-later first all kept of_a a numbers_a))
-    on side.B = subst (λ ts. AreNumbersOf ts q.headsigns b) (sym are) (subst (λ hs. AreNumbersOf all hs b) own_b numbers_b)
+    on : (s : Side) → AreNumbersOf texts (side_parts s sides).headsigns (numbers_on (record { texts = texts; a = a; b = b }) s)
+    on side.A = subst (λ ts. AreNumbersOf ts sides.a.now.headsigns a) (sym are) (subst (λ hs. AreNumbersOf all hs a) own_a (numbers-later first all kept of_a a numbers_a))
+    on side.B = subst (λ ts. AreNumbersOf ts sides.b.now.headsigns b) (sym are) (subst (λ hs. AreNumbersOf all hs b) own_b numbers_b)

@@ -9,13 +9,14 @@ use Rattle.gtfs_field.proofs.ListFacts.{position_any as before-any}
 use Rattle.gtfs_field.proofs.OptionFacts.{is_some-cond}
 use Rattle.gtfs_columns.proofs.SiteFacts.{text_is as same_bytes}
 use Rattle.gtfs_rows.specs.Content.{Content}
-use Rattle.gtfs_rows.specs.declared.parts.Parts.{Parts}
 use Rattle.gtfs_rows.specs.Views.{IsSoundParts, content_of_parts}
 use Rattle.gtfs_merge.specs.Joined.{joined_number, joined_numbers, joined_rows, number_if, of_kind}
 use Rattle.gtfs_merge.specs.Numbered.{known_ids}
-use Rattle.gtfs_merge.specs.Renaming.{Nearness, has_id, ids, is_joined, joined_by, never_near}
+use Rattle.gtfs_merge.specs.Renaming.{Nearness, has_id, ids, is_joined, joined_by}
+use Rattle.gtfs_merge.specs.Sides.{nearness_of}
 use Rattle.gtfs_merge.specs.declared.kind.Kind.{Kind}
 use Rattle.gtfs_merge.specs.declared.kind.Kind.TheVariants as kind
+use Rattle.gtfs_merge.specs.declared.sides.Sides.{Sides}
 use Rattle.gtfs_merge.proofs.JoinedKinds.{ids-known}
 use Rattle.gtfs_merge.proofs.Lookups.{list_any-In}
 use Rattle.gtfs_merge.proofs.MergedRows.{has_own}
@@ -46,37 +47,37 @@ pub number-tells : (j : Bool) (xs : List (List ℕ)) (x : List ℕ) → (j ≡ t
 number-tells true xs x has = has-number xs x ∙ has refl
 number-tells false xs x has = refl
 
-pub of-kind : (p q : Parts) (k : Kind) → of_kind (joined_rows p q) k ≡ joined_numbers k p q
-of-kind p q kind.Agency = refl
-of-kind p q kind.Stop = refl
-of-kind p q kind.Route = refl
-of-kind p q kind.Service = refl
-of-kind p q kind.Trip = refl
+pub of-kind : (sides : Sides) (k : Kind) → of_kind (joined_rows sides) k ≡ joined_numbers k sides
+of-kind sides kind.Agency = refl
+of-kind sides kind.Stop = refl
+of-kind sides kind.Route = refl
+of-kind sides kind.Service = refl
+of-kind sides kind.Trip = refl
 
-pub of-kind-length : (p q : Parts) (k : Kind) → length (of_kind (joined_rows p q) k) ≡ length (known_ids k q)
-of-kind-length p q k = ap length (of-kind p q k) ∙ length-map (known_ids k q) (joined_number k p q)
+pub of-kind-length : (sides : Sides) (k : Kind) → length (of_kind (joined_rows sides) k) ≡ length (known_ids k sides.b.now)
+of-kind-length sides k = ap length (of-kind sides k) ∙ length-map (known_ids k sides.b.now) (joined_number k sides)
 
 -- what is told of a row of B
-pub told-at : (p q : Parts) → IsSoundParts p → (k : Kind) (n : ℕ) → n < length (known_ids k q) → (result : Bool) → result ≡ is_some (get_or (of_kind (joined_rows p q) k) n None)
-    → result ≡ is_joined never_near k (content_of_parts p) (content_of_parts q) (get_or (known_ids k q) n [])
-told-at p q sound_p k n within result is =
-    let x = get_or (known_ids k q) n [] in
-    let joined = is_joined never_near k (content_of_parts p) (content_of_parts q) x in
-    is ∙ ap (λ xs. is_some (get_or xs n None)) (of-kind p q k) ∙ ap is_some (get_or-map (joined_number k p q) (known_ids k q) n [] None within)
-    ∙ number-tells joined (known_ids k p) x (λ j. subst (λ xs. has_id xs x ≡ true) (ids-known k p sound_p) (joined-has never_near k (content_of_parts p) (content_of_parts q) x j).0)
+pub told-at : (sides : Sides) → IsSoundParts sides.a.now → (k : Kind) (n : ℕ) → n < length (known_ids k sides.b.now) → (result : Bool) → result ≡ is_some (get_or (of_kind (joined_rows sides) k) n None)
+    → result ≡ is_joined (nearness_of sides) k (content_of_parts sides.a.now) (content_of_parts sides.b.now) (get_or (known_ids k sides.b.now) n [])
+told-at sides sound_a k n within result is =
+    let x = get_or (known_ids k sides.b.now) n [] in
+    let joined = is_joined (nearness_of sides) k (content_of_parts sides.a.now) (content_of_parts sides.b.now) x in
+    is ∙ ap (λ xs. is_some (get_or xs n None)) (of-kind sides k) ∙ ap is_some (get_or-map (joined_number k sides) (known_ids k sides.b.now) n [] None within)
+    ∙ number-tells joined (known_ids k sides.a.now) x (λ j. subst (λ xs. has_id xs x ≡ true) (ids-known k sides.a.now sound_a) (joined-has (nearness_of sides) k (content_of_parts sides.a.now) (content_of_parts sides.b.now) x j).0)
 
 -- the id of a number
 pub own-index : (xs : List (List ℕ)) (x : List ℕ) (n : ℕ) → position (bytes_eq x) xs ≡ Some n → (n < length xs) × (x ≡ get_or xs n [])
 own-index xs x n numbered = let there = position-Some (bytes_eq x) xs n [] numbered in (there.0, same_bytes x _ there.1)
 
-module _ (p q : Parts) (sound_p : IsSoundParts p) (sound_q : IsSoundParts q) (k : Kind) (x : List ℕ) where
+module _ (sides : Sides) (sound_a : IsSoundParts sides.a.now) (sound_b : IsSoundParts sides.b.now) (k : Kind) (x : List ℕ) where
   abbrev a : Content
-  a = content_of_parts p
+  a = content_of_parts sides.a.now
 
   abbrev b : Content
-  b = content_of_parts q
+  b = content_of_parts sides.b.now
 
-  pub told-not-there : position (bytes_eq x) (known_ids k q) ≡ None → false ≡ is_joined never_near k a b x
+  pub told-not-there : position (bytes_eq x) (known_ids k sides.b.now) ≡ None → false ≡ is_joined (nearness_of sides) k a b x
   told-not-there numbered = sym (false_from_ne_true _ (λ j.
-      let has : has_id (known_ids k q) x ≡ true = subst (λ xs. has_id xs x ≡ true) (ids-known k q sound_q) (joined-has never_near k a b x j).1 in
-      true≢false (sym has ∙ sym (has-number (known_ids k q) x) ∙ ap is_some numbered)))
+      let has : has_id (known_ids k sides.b.now) x ≡ true = subst (λ xs. has_id xs x ≡ true) (ids-known k sides.b.now sound_b) (joined-has (nearness_of sides) k a b x j).1 in
+      true≢false (sym has ∙ sym (has-number (known_ids k sides.b.now) x) ∙ ap is_some numbered)))

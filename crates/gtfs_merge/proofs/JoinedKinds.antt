@@ -11,7 +11,6 @@ use Rattle.gtfs_table.proofs.PartFacts.{length-parts}
 use Rattle.gtfs_days.specs.Service.{ServiceDates}
 use Rattle.gtfs_rows.specs.declared.agency.Agency.{Agency}
 use Rattle.gtfs_rows.specs.declared.parts.Parts.{Parts}
-use Rattle.gtfs_rows.specs.declared.trip.Trip.{Trip}
 use Rattle.gtfs_rows.specs.Views.{IsSoundParts, content_of_parts, agency_of, route_of, service_of, stop_of, agency_ids, service_ids}
 use Rattle.gtfs_rows.proofs.SoundOrder.{trip_ids-kept}
 use Rattle.gtfs_merge.specs.Joined.{joined_number}
@@ -20,6 +19,7 @@ use Rattle.gtfs_merge.specs.Renaming.{ids}
 use Rattle.gtfs_merge.specs.Same.{same_agency, same_service}
 use Rattle.gtfs_merge.specs.declared.kind.Kind.{Kind}
 use Rattle.gtfs_merge.specs.declared.kind.Kind.TheVariants as kind
+use Rattle.gtfs_merge.specs.declared.sides.Sides.{Sides}
 use Rattle.gtfs_merge.proofs.JoinedRows.{number-same}
 
 -- the id of a row by its number
@@ -36,36 +36,36 @@ ids-known kind.Service p sound = map-map (λ s. s.service_id) service_of p.servi
 ids-known kind.Trip p sound = trip_ids-kept p p.trips (parts p.stop_row_starts p.stop_rows) (parts p.frequency_starts p.frequencies)
     (length-parts p.stop_row_starts p.stop_rows ∙ sound.stop_rows.0) (length-parts p.frequency_starts p.frequencies ∙ sound.frequencies.0)
 
-pub few-known : (k : Kind) (p q : Parts) → IsSoundParts p → IsSoundParts q → length (known_ids k p) < 2 ^ 64 → length (known_ids k q) < 2 ^ 64 → length (ids k (content_of_parts p)) + length (ids k (content_of_parts q)) < 2 ^ 65
-few-known k p q sound_p sound_q small_p small_q =
-    let e : length (ids k (content_of_parts p)) ≡ length (known_ids k p) = ap length (ids-known k p sound_p) in
-    let f : length (ids k (content_of_parts q)) ≡ length (known_ids k q) = ap length (ids-known k q sound_q) in
+pub few-known : (k : Kind) (sides : Sides) → IsSoundParts sides.a.now → IsSoundParts sides.b.now → length (known_ids k sides.a.now) < 2 ^ 64 → length (known_ids k sides.b.now) < 2 ^ 64 → length (ids k (content_of_parts sides.a.now)) + length (ids k (content_of_parts sides.b.now)) < 2 ^ 65
+few-known k sides sound_a sound_b small_p small_q =
+    let e : length (ids k (content_of_parts sides.a.now)) ≡ length (known_ids k sides.a.now) = ap length (ids-known k sides.a.now sound_a) in
+    let f : length (ids k (content_of_parts sides.b.now)) ≡ length (known_ids k sides.b.now) = ap length (ids-known k sides.b.now sound_b) in
     omega arith
 
 -- ---- rows
 
-module _ (p q : Parts) (sound_p : IsSoundParts p) (sound_q : IsSoundParts q) where
-  pub agency-joined : (k n : ℕ) (y x : Agency) (same : Bool) → slice_get q.agencies k ≡ Some y → Some n ≡ position (bytes_eq y.agency_id) (agency_ids p) → slice_get p.agencies n ≡ Some x
-      → same ≡ same_agency (agency_of x) (agency_of y) → joined_number kind.Agency p q (get_or (agency_ids q) k []) ≡ (if same then Some n else None)
+module _ (sides : Sides) (sound_a : IsSoundParts sides.a.now) (sound_b : IsSoundParts sides.b.now) where
+  pub agency-joined : (k n : ℕ) (y x : Agency) (same : Bool) → slice_get sides.b.now.agencies k ≡ Some y → Some n ≡ position (bytes_eq y.agency_id) (agency_ids sides.a.now) → slice_get sides.a.now.agencies n ≡ Some x
+      → same ≡ same_agency (agency_of x) (agency_of y) → joined_number kind.Agency sides (get_or (agency_ids sides.b.now) k []) ≡ (if same then Some n else None)
   agency-joined k n y x same at numbered found is =
-      ap (joined_number kind.Agency p q) (id-at (λ a. a.agency_id) q.agencies k y at)
-      ∙ number-same (λ a. a.agency_id) same_agency (content_of_parts p).agencies (content_of_parts q).agencies sound_p.content.in_order.agencies sound_q.content.in_order.agencies
-      k (agency_of y) (row-map agency_of q.agencies k y at) (agency_ids p) (ids-known kind.Agency p sound_p) n (agency_of x) (sym numbered) (row-map agency_of p.agencies n x found)
+      ap (joined_number kind.Agency sides) (id-at (λ a. a.agency_id) sides.b.now.agencies k y at)
+      ∙ number-same (λ a. a.agency_id) same_agency (content_of_parts sides.a.now).agencies (content_of_parts sides.b.now).agencies sound_a.content.in_order.agencies sound_b.content.in_order.agencies
+      k (agency_of y) (row-map agency_of sides.b.now.agencies k y at) (agency_ids sides.a.now) (ids-known kind.Agency sides.a.now sound_a) n (agency_of x) (sym numbered) (row-map agency_of sides.a.now.agencies n x found)
       ∙ ap (λ b. if b then Some n else None) (sym is)
 
   held : {X Y : Type 0} (f : X → Y) (o : Option X) (v : Y) → option_map f o ≡ Some v → (x : X) × (o ≡ Some x) × (f x ≡ v)
   held f None v e = cc
   held f (Some x) v e = (x, refl, cc)
 
-  pub service-joined : (k n : ℕ) (t : List ℕ) (v u : ServiceDates) (same : Bool) → option_map (λ s. s.service) (slice_get q.services k) ≡ Some v → get_or (service_ids q) k [] ≡ t
-      → Some n ≡ position (bytes_eq t) (service_ids p) → option_map (λ s. s.service) (slice_get p.services n) ≡ Some u
-      → same ≡ same_service u v → joined_number kind.Service p q (get_or (service_ids q) k []) ≡ (if same then Some n else None)
+  pub service-joined : (k n : ℕ) (t : List ℕ) (v u : ServiceDates) (same : Bool) → option_map (λ s. s.service) (slice_get sides.b.now.services k) ≡ Some v → get_or (service_ids sides.b.now) k [] ≡ t
+      → Some n ≡ position (bytes_eq t) (service_ids sides.a.now) → option_map (λ s. s.service) (slice_get sides.a.now.services n) ≡ Some u
+      → same ≡ same_service u v → joined_number kind.Service sides (get_or (service_ids sides.b.now) k []) ≡ (if same then Some n else None)
   service-joined k n t v u same at named numbered found is =
-      let y = held (λ s. s.service) (slice_get q.services k) v at in
-      let x = held (λ s. s.service) (slice_get p.services n) u found in
-      let named_y : y.0.service_id ≡ t = sym (id-at (λ s. s.service_id) q.services k y.0 y.1) ∙ named in
-      ap (joined_number kind.Service p q) (named ∙ sym named_y)
-      ∙ number-same (λ s. s.service_id) (λ row other. same_service row.service other.service) (content_of_parts p).services (content_of_parts q).services sound_p.content.in_order.services sound_q.content.in_order.services
-      k (service_of y.0) (row-map service_of q.services k y.0 y.1) (service_ids p) (ids-known kind.Service p sound_p) n (service_of x.0)
-      (ap (λ w. position (bytes_eq w) (service_ids p)) named_y ∙ sym numbered) (row-map service_of p.services n x.0 x.1)
+      let y = held (λ s. s.service) (slice_get sides.b.now.services k) v at in
+      let x = held (λ s. s.service) (slice_get sides.a.now.services n) u found in
+      let named_y : y.0.service_id ≡ t = sym (id-at (λ s. s.service_id) sides.b.now.services k y.0 y.1) ∙ named in
+      ap (joined_number kind.Service sides) (named ∙ sym named_y)
+      ∙ number-same (λ s. s.service_id) (λ row other. same_service row.service other.service) (content_of_parts sides.a.now).services (content_of_parts sides.b.now).services sound_a.content.in_order.services sound_b.content.in_order.services
+      k (service_of y.0) (row-map service_of sides.b.now.services k y.0 y.1) (service_ids sides.a.now) (ids-known kind.Service sides.a.now sound_a) n (service_of x.0)
+      (ap (λ w. position (bytes_eq w) (service_ids sides.a.now)) named_y ∙ sym numbered) (row-map service_of sides.a.now.services n x.0 x.1)
       ∙ ap (λ b. if b then Some n else None) ((λ i. same_service (x.2 i) (y.2 i)) ∙ sym is)

@@ -27,7 +27,9 @@ use Rattle.gtfs_merge.specs.Numbered.{same_parent_in, same_stop_in}
 use Rattle.gtfs_merge.specs.Same.{same_stop, same_text}
 use Rattle.gtfs_merge.specs.Law.{AreFew}
 use Rattle.gtfs_merge.specs.Renaming.{Renaming, ids, has_id, renamed_b, never_near, near_stop_under, joined_stop, joined_stop_under, stop_b, stop_under, stop_with, stop_within}
+use Rattle.gtfs_merge.specs.Sides.{nearness_of}
 use Rattle.gtfs_merge.specs.declared.kind.Kind.TheVariants as kind
+use Rattle.gtfs_merge.specs.declared.sides.Sides.{Sides}
 use Rattle.gtfs_merge.proofs.Fresh.{joined_stays, renamed_into_a}
 use Rattle.gtfs_merge.proofs.JoinedKinds.{id-at, ids-known}
 use Rattle.gtfs_merge.proofs.JoinedRows.{number-same}
@@ -109,64 +111,64 @@ stop-number rename a b few x = ap (λ q. position (bytes_eq q) (ids kind.Stop a)
 
 -- ---- one stop of B and its parent
 
-module _ (p q : Parts) (sound_p : IsSoundParts p) (sound_q : IsSoundParts q) where
+module _ (sides : Sides) (sound_a : IsSoundParts sides.a.now) (sound_b : IsSoundParts sides.b.now) where
   abbrev a : Content
-  a = content_of_parts p
+  a = content_of_parts sides.a.now
 
   abbrev b : Content
-  b = content_of_parts q
+  b = content_of_parts sides.b.now
 
-  same-parent : (rename : Renaming) (n : ℕ) (x y : StopByNumber) (parent : Option ℕ) → slice_get p.stops n ≡ Some x → parent ≡ parent_became p q rename y
-      → same_parent_in p q rename x y ≡ is_same_parent (option_map (λ m. m.0) x.parent_station) (option_map (λ m. m.0) y.parent_station) parent
-  same-parent rename n x y parent at = by x.parent_station y.parent_station (stop_parent p sound_p n x at)
+  same-parent : (rename : Renaming) (n : ℕ) (x y : StopByNumber) (parent : Option ℕ) → slice_get sides.a.now.stops n ≡ Some x → parent ≡ parent_became sides rename y
+      → same_parent_in sides.a.now sides.b.now rename x y ≡ is_same_parent (option_map (λ m. m.0) x.parent_station) (option_map (λ m. m.0) y.parent_station) parent
+  same-parent rename n x y parent at = by x.parent_station y.parent_station (stop_parent sides.a.now sound_a n x at)
     where
-      by : (o u : Option StopNo) → IfSome (option_map (λ m. m.0) o) (λ m. m < length p.stops) → parent ≡ option_and_then (λ m. became (stop_ids p) rename (text_of_number (stop_ids q) m.0)) u
-          → same_text (option_map (λ m. text_of_number (stop_ids p) m.0) o) (option_map rename (option_map (λ m. text_of_number (stop_ids q) m.0) u)) ≡ is_same_parent (option_map (λ m. m.0) o) (option_map (λ m. m.0) u) parent
+      by : (o u : Option StopNo) → IfSome (option_map (λ m. m.0) o) (λ m. m < length sides.a.now.stops) → parent ≡ option_and_then (λ m. became (stop_ids sides.a.now) rename (text_of_number (stop_ids sides.b.now) m.0)) u
+          → same_text (option_map (λ m. text_of_number (stop_ids sides.a.now) m.0) o) (option_map rename (option_map (λ m. text_of_number (stop_ids sides.b.now) m.0) u)) ≡ is_same_parent (option_map (λ m. m.0) o) (option_map (λ m. m.0) u) parent
       by None None within is = refl
       by None (Some j) within is = refl
       by (Some m) None within is = refl
       by (Some m) (Some j) within is =
-          by-number (λ s. s.stop_id) p.stops (in_order p sound_p).stops m.0 within (rename (text_of_number (stop_ids q) j.0)) ∙ ap (option_eq nat_eq (Some m.0)) (sym is)
+          by-number (λ s. s.stop_id) sides.a.now.stops (in_order sides.a.now sound_a).stops m.0 within (rename (text_of_number (stop_ids sides.b.now) j.0)) ∙ ap (option_eq nat_eq (Some m.0)) (sym is)
 
   -- the number of the row of A that is the same, once parents are renamed so
-  stop-number-same : (rename : Renaming) (k n : ℕ) (y x : StopByNumber) (parent : Option ℕ) (alike parents : Bool) → slice_get q.stops k ≡ Some y → parent ≡ parent_became p q rename y
-      → position (bytes_eq y.stop_id) (stop_ids p) ≡ Some n → slice_get p.stops n ≡ Some x
-      → same_stop_in p q rename x y ≡ (alike && same_parent_in p q rename x y) → is_same_parent (option_map (λ m. m.0) x.parent_station) (option_map (λ m. m.0) y.parent_station) parent ≡ parents
-      → number_if (joined_stop_under rename a b y.stop_id) (stop_ids p) y.stop_id ≡ (if alike && parents then Some n else None)
+  stop-number-same : (rename : Renaming) (k n : ℕ) (y x : StopByNumber) (parent : Option ℕ) (alike parents : Bool) → slice_get sides.b.now.stops k ≡ Some y → parent ≡ parent_became sides rename y
+      → position (bytes_eq y.stop_id) (stop_ids sides.a.now) ≡ Some n → slice_get sides.a.now.stops n ≡ Some x
+      → same_stop_in sides.a.now sides.b.now rename x y ≡ (alike && same_parent_in sides.a.now sides.b.now rename x y) → is_same_parent (option_map (λ m. m.0) x.parent_station) (option_map (λ m. m.0) y.parent_station) parent ≡ parents
+      → number_if (joined_stop_under rename a b y.stop_id) (stop_ids sides.a.now) y.stop_id ≡ (if alike && parents then Some n else None)
   stop-number-same rename k n y x parent alike parents at became_so numbered found alike_is parents_is =
-      number-same (λ s. s.stop_id) (λ row other. same_stop row (stop_with rename other)) a.stops b.stops sound_p.content.in_order.stops sound_q.content.in_order.stops
-      k (stop_of q y) (row-map (stop_of q) q.stops k y at) (stop_ids p) (ids-known kind.Stop p sound_p) n (stop_of p x) numbered (row-map (stop_of p) p.stops n x found)
+      number-same (λ s. s.stop_id) (λ row other. same_stop row (stop_with rename other)) a.stops b.stops sound_a.content.in_order.stops sound_b.content.in_order.stops
+      k (stop_of sides.b.now y) (row-map (stop_of sides.b.now) sides.b.now.stops k y at) (stop_ids sides.a.now) (ids-known kind.Stop sides.a.now sound_a) n (stop_of sides.a.now x) numbered (row-map (stop_of sides.a.now) sides.a.now.stops n x found)
       ∙ ap (λ c. if c then Some n else None) (alike_is ∙ ap (λ c. alike && c) (same-parent rename n x y parent found became_so ∙ parents_is))
 
-  pub stop-joined : (rename : Renaming) (k n : ℕ) (y row x : StopByNumber) (parent : Option ℕ) (alike parents : Bool) → slice_get q.stops k ≡ Some y → slice_get q.stops k ≡ Some row
-      → parent ≡ parent_became p q rename row → position (bytes_eq y.stop_id) (stop_ids p) ≡ Some n → slice_get p.stops n ≡ Some x
-      → same_stop_in p q rename x y ≡ (alike && same_parent_in p q rename x y) → is_same_parent (option_map (λ m. m.0) x.parent_station) (option_map (λ m. m.0) y.parent_station) parent ≡ parents
-      → number_if (joined_stop_under rename a b row.stop_id) (stop_ids p) row.stop_id ≡ (if alike && parents then Some n else None)
+  pub stop-joined : (rename : Renaming) (k n : ℕ) (y row x : StopByNumber) (parent : Option ℕ) (alike parents : Bool) → slice_get sides.b.now.stops k ≡ Some y → slice_get sides.b.now.stops k ≡ Some row
+      → parent ≡ parent_became sides rename row → position (bytes_eq y.stop_id) (stop_ids sides.a.now) ≡ Some n → slice_get sides.a.now.stops n ≡ Some x
+      → same_stop_in sides.a.now sides.b.now rename x y ≡ (alike && same_parent_in sides.a.now sides.b.now rename x y) → is_same_parent (option_map (λ m. m.0) x.parent_station) (option_map (λ m. m.0) y.parent_station) parent ≡ parents
+      → number_if (joined_stop_under rename a b row.stop_id) (stop_ids sides.a.now) row.stop_id ≡ (if alike && parents then Some n else None)
   stop-joined rename k n y row x parent alike parents at at_row became_so numbered found alike_is parents_is =
       let e : y ≡ row = cc in
-      subst (λ r. parent ≡ parent_became p q rename r → number_if (joined_stop_under rename a b r.stop_id) (stop_ids p) r.stop_id ≡ (if alike && parents then Some n else None)) e
+      subst (λ r. parent ≡ parent_became sides rename r → number_if (joined_stop_under rename a b r.stop_id) (stop_ids sides.a.now) r.stop_id ≡ (if alike && parents then Some n else None)) e
       (λ rel. stop-number-same rename k n y x parent alike parents at rel numbered found alike_is parents_is) became_so
 
-  pub own-generation : (k g : ℕ) (y : StopByNumber) (o : Option ℕ) → slice_get q.stops k ≡ Some y → g ≡ 0 → o ≡ position (bytes_eq y.stop_id) (stop_ids p)
-      → o ≡ became (stop_ids p) (stop_within never_near g a b) (get_or (stop_ids q) k [])
+  pub own-generation : (k g : ℕ) (y : StopByNumber) (o : Option ℕ) → slice_get sides.b.now.stops k ≡ Some y → g ≡ 0 → o ≡ position (bytes_eq y.stop_id) (stop_ids sides.a.now)
+      → o ≡ became (stop_ids sides.a.now) (stop_within (nearness_of sides) g a b) (get_or (stop_ids sides.b.now) k [])
   own-generation k g y o at none is =
-      is ∙ (λ i. position (bytes_eq (sym (id-at (λ s. s.stop_id) q.stops k y at) i)) (stop_ids p)) ∙ ap (λ n. became (stop_ids p) (stop_within never_near n a b) (get_or (stop_ids q) k [])) (sym none)
+      is ∙ (λ i. position (bytes_eq (sym (id-at (λ s. s.stop_id) sides.b.now.stops k y at) i)) (stop_ids sides.a.now)) ∙ ap (λ n. became (stop_ids sides.a.now) (stop_within (nearness_of sides) n a b) (get_or (stop_ids sides.b.now) k [])) (sym none)
 
   -- one generation more
-  pub next-generation : AreFew kind.Stop a b → (k g h : ℕ) (y : StopByNumber) (o : Option ℕ) → slice_get q.stops k ≡ Some y → g ≡ suc h
-      → o ≡ number_if (joined_stop_under (stop_within never_near h a b) a b y.stop_id) (stop_ids p) y.stop_id
-      → o ≡ became (stop_ids p) (stop_within never_near g a b) (get_or (stop_ids q) k [])
+  pub next-generation : AreFew kind.Stop a b → (k g h : ℕ) (y : StopByNumber) (o : Option ℕ) → slice_get sides.b.now.stops k ≡ Some y → g ≡ suc h
+      → o ≡ number_if (joined_stop_under (stop_within (nearness_of sides) h a b) a b y.stop_id) (stop_ids sides.a.now) y.stop_id
+      → o ≡ became (stop_ids sides.a.now) (stop_within (nearness_of sides) g a b) (get_or (stop_ids sides.b.now) k [])
   next-generation few k g h y o at more is =
-      let known = ids-known kind.Stop p sound_p in
-      is ∙ ap (λ ids. number_if (joined_stop_under (stop_within never_near h a b) a b y.stop_id) ids y.stop_id) (sym known)
-      ∙ sym (stop-number (stop_within never_near h a b) a b few y.stop_id)
-      ∙ ap (λ ids. became ids (stop_within never_near (suc h) a b) y.stop_id) known
-      ∙ (λ i. became (stop_ids p) (stop_within never_near (sym more i) a b) (sym (id-at (λ s. s.stop_id) q.stops k y at) i))
+      let known = ids-known kind.Stop sides.a.now sound_a in
+      is ∙ ap (λ ids. number_if (joined_stop_under (stop_within (nearness_of sides) h a b) a b y.stop_id) ids y.stop_id) (sym known)
+      ∙ sym (stop-number (stop_within (nearness_of sides) h a b) a b few y.stop_id)
+      ∙ ap (λ ids. became ids (stop_within (nearness_of sides) (suc h) a b) y.stop_id) known
+      ∙ (λ i. became (stop_ids sides.a.now) (stop_within (nearness_of sides) (sym more i) a b) (sym (id-at (λ s. s.stop_id) sides.b.now.stops k y at) i))
 
-  pub last-generation : AreFew kind.Stop a b → (x : List ℕ) → became (stop_ids p) (stop_within never_near 4 a b) x ≡ joined_number kind.Stop p q x
+  pub last-generation : AreFew kind.Stop a b → (x : List ℕ) → became (stop_ids sides.a.now) (stop_within (nearness_of sides) 4 a b) x ≡ joined_number kind.Stop sides x
   last-generation few x =
-      let known = ids-known kind.Stop p sound_p in
-      ap (λ ids. became ids (stop_within never_near 4 a b) x) (sym known) ∙ stop-number (stop_b never_near a b) a b few x ∙ ap (λ ids. number_if (joined_stop never_near a b x) ids x) known
+      let known = ids-known kind.Stop sides.a.now sound_a in
+      ap (λ ids. became ids (stop_within (nearness_of sides) 4 a b) x) (sym known) ∙ stop-number (stop_b (nearness_of sides) a b) a b few x ∙ ap (λ ids. number_if (joined_stop (nearness_of sides) a b x) ids x) known
 
 pub parent-within : (q : Parts) → IsSoundParts q → (k : ℕ) (y : StopByNumber) (parent : StopNo) → slice_get q.stops k ≡ Some y → y.parent_station ≡ Some parent → parent.0 < length q.stops
 parent-within q sound k y parent at is = subst (λ o. IfSome (option_map (λ s. s.0) o) (λ s. s < length q.stops)) is (stop_parent q sound k y at)

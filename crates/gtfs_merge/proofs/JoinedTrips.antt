@@ -21,9 +21,11 @@ use Rattle.gtfs_rows.proofs.SoundOrder.{in_order}
 use Rattle.gtfs_rows.proofs.TripsAt.{content_trip}
 use Rattle.gtfs_merge.specs.Joined.{joined_number, joined_numbers}
 use Rattle.gtfs_merge.specs.Numbered.{same_route_id_in, same_service_id_in, same_trip_in}
-use Rattle.gtfs_merge.specs.Renaming.{Renaming, ids, kept_as_is, never_near, joined_route, joined_service, route_b, service_b, stop_b, trip_with}
+use Rattle.gtfs_merge.specs.Renaming.{Renaming, ids, kept_as_is, joined_route, joined_service, route_b, service_b, stop_b, trip_with}
 use Rattle.gtfs_merge.specs.Same.{same_trip}
+use Rattle.gtfs_merge.specs.Sides.{nearness_of}
 use Rattle.gtfs_merge.specs.declared.kind.Kind.TheVariants as kind
+use Rattle.gtfs_merge.specs.declared.sides.Sides.{Sides}
 use Rattle.gtfs_merge.proofs.JoinedKinds.{id-at, ids-known}
 use Rattle.gtfs_merge.proofs.JoinedNames.{joined-at-index, rule-meets}
 use Rattle.gtfs_merge.proofs.JoinedRows.{number-same}
@@ -60,51 +62,51 @@ module _ (q : Parts) (sound_q : IsSoundParts q) where
       let row : In (stop_row_of q r) t.stop_rows = in-at (map (stop_row_of q) ys) i (stop_row_of q r) (row-map (stop_row_of q) ys i r (slice_get-get_or ys i d within)) in
       (and_parts (is_stop_of b (0 ∷ []) (stop_row_of q r).stop_id) _ (sound-row b sound_q.content t there (stop_row_of q r) row)).0
 
-module _ (p q : Parts) (sound_p : IsSoundParts p) (sound_q : IsSoundParts q) where
+module _ (sides : Sides) (sound_a : IsSoundParts sides.a.now) (sound_b : IsSoundParts sides.b.now) where
   abbrev a : Content
-  a = content_of_parts p
+  a = content_of_parts sides.a.now
 
   abbrev c : Content
-  c = content_of_parts q
+  c = content_of_parts sides.b.now
 
   -- a route of A and one of B have one new id exactly where they are joined
-  pub route-meets : {T : Type 0} (number : T → ℕ) (routes : List (Option T)) → map (option_map number) routes ≡ joined_numbers kind.Route p q → length (ids kind.Route a) + length (ids kind.Route c) < 2 ^ 65
-      → (x y : TripRow) → x.route_id.0 < length p.routes → y.route_id.0 < length q.routes → (same : Bool) → same ≡ option_eq nat_eq (Some x.route_id.0) (get_or (map (option_map number) routes) y.route_id.0 None)
-      → same_route_id_in p q (route_b a c) x y ≡ same
+  pub route-meets : {T : Type 0} (number : T → ℕ) (routes : List (Option T)) → map (option_map number) routes ≡ joined_numbers kind.Route sides → length (ids kind.Route a) + length (ids kind.Route c) < 2 ^ 65
+      → (x y : TripRow) → x.route_id.0 < length sides.a.now.routes → y.route_id.0 < length sides.b.now.routes → (same : Bool) → same ≡ option_eq nat_eq (Some x.route_id.0) (get_or (map (option_map number) routes) y.route_id.0 None)
+      → same_route_id_in sides.a.now sides.b.now (route_b a c) x y ≡ same
   route-meets number routes known few x y within_p within_q same is =
-      let t = text_of_number (route_ids q) y.route_id.0 in
-      rule-meets (λ r. r.route_id) p.routes (in_order p sound_p).routes (ids kind.Route a) (ids kind.Route c) (ids-known kind.Route p sound_p) (joined_route a c) (omega arith) x.route_id.0 within_p t
-      ∙ ap (option_eq nat_eq (Some x.route_id.0)) (sym (joined-at-index number kind.Route p q routes y.route_id.0 known (omega (arith, length-map q.routes (λ r. r.route_id)))))
+      let t = text_of_number (route_ids sides.b.now) y.route_id.0 in
+      rule-meets (λ r. r.route_id) sides.a.now.routes (in_order sides.a.now sound_a).routes (ids kind.Route a) (ids kind.Route c) (ids-known kind.Route sides.a.now sound_a) (joined_route a c) (omega arith) x.route_id.0 within_p t
+      ∙ ap (option_eq nat_eq (Some x.route_id.0)) (sym (joined-at-index number kind.Route sides routes y.route_id.0 known (omega (arith, length-map sides.b.now.routes (λ r. r.route_id)))))
       ∙ sym is
 
-  pub service-meets : {T : Type 0} (number : T → ℕ) (services : List (Option T)) → map (option_map number) services ≡ joined_numbers kind.Service p q → length (ids kind.Service a) + length (ids kind.Service c) < 2 ^ 65
-      → (x y : TripRow) → x.service_id.0 < length p.services → y.service_id.0 < length q.services → (same : Bool) → same ≡ option_eq nat_eq (Some x.service_id.0) (get_or (map (option_map number) services) y.service_id.0 None)
-      → same_service_id_in p q (service_b a c) x y ≡ same
+  pub service-meets : {T : Type 0} (number : T → ℕ) (services : List (Option T)) → map (option_map number) services ≡ joined_numbers kind.Service sides → length (ids kind.Service a) + length (ids kind.Service c) < 2 ^ 65
+      → (x y : TripRow) → x.service_id.0 < length sides.a.now.services → y.service_id.0 < length sides.b.now.services → (same : Bool) → same ≡ option_eq nat_eq (Some x.service_id.0) (get_or (map (option_map number) services) y.service_id.0 None)
+      → same_service_id_in sides.a.now sides.b.now (service_b a c) x y ≡ same
   service-meets number services known few x y within_p within_q same is =
-      let t = text_of_number (service_ids q) y.service_id.0 in
-      rule-meets (λ r. r.service_id) p.services (in_order p sound_p).services (ids kind.Service a) (ids kind.Service c) (ids-known kind.Service p sound_p) (joined_service a c) (omega arith) x.service_id.0 within_p t
-      ∙ ap (option_eq nat_eq (Some x.service_id.0)) (sym (joined-at-index number kind.Service p q services y.service_id.0 known (omega (arith, length-map q.services (λ r. r.service_id)))))
+      let t = text_of_number (service_ids sides.b.now) y.service_id.0 in
+      rule-meets (λ r. r.service_id) sides.a.now.services (in_order sides.a.now sound_a).services (ids kind.Service a) (ids kind.Service c) (ids-known kind.Service sides.a.now sound_a) (joined_service a c) (omega arith) x.service_id.0 within_p t
+      ∙ ap (option_eq nat_eq (Some x.service_id.0)) (sym (joined-at-index number kind.Service sides services y.service_id.0 known (omega (arith, length-map sides.b.now.services (λ r. r.service_id)))))
       ∙ sym is
 
   -- a trip of the content is its row with its stop times and frequencies
-  pub trip-same : (m k : ℕ) (x y : TripRow) (xs ys : List StopRow) (us vs : List Frequency) (s t : Trip) → slice_get p.trips m ≡ Some x → slice_get (stop_rows_by_trip p) m ≡ Some xs → slice_get (frequencies_by_trip p) m ≡ Some us
-      → slice_get q.trips k ≡ Some y → slice_get (stop_rows_by_trip q) k ≡ Some ys → slice_get (frequencies_by_trip q) k ≡ Some vs
-      → slice_get a.trips m ≡ Some s → slice_get c.trips k ≡ Some t → (route service stop : Renaming) (result : Bool) → same_trip_in p q route service stop x xs us y ys vs ≡ result
+  pub trip-same : (m k : ℕ) (x y : TripRow) (xs ys : List StopRow) (us vs : List Frequency) (s t : Trip) → slice_get sides.a.now.trips m ≡ Some x → slice_get (stop_rows_by_trip sides.a.now) m ≡ Some xs → slice_get (frequencies_by_trip sides.a.now) m ≡ Some us
+      → slice_get sides.b.now.trips k ≡ Some y → slice_get (stop_rows_by_trip sides.b.now) k ≡ Some ys → slice_get (frequencies_by_trip sides.b.now) k ≡ Some vs
+      → slice_get a.trips m ≡ Some s → slice_get c.trips k ≡ Some t → (route service stop : Renaming) (result : Bool) → same_trip_in sides.a.now sides.b.now route service stop x xs us y ys vs ≡ result
       → result ≡ same_trip s (trip_with kept_as_is route service stop t)
   trip-same m k x y xs ys us vs s t at_x at_xs at_us at_y at_ys at_vs at_s at_t route service stop result is =
-      let e : trip_of p x xs us ≡ s = cc (content_trip p m x xs us at_x at_xs at_us) in
-      let f : trip_of q y ys vs ≡ t = cc (content_trip q k y ys vs at_y at_ys at_vs) in
+      let e : trip_of sides.a.now x xs us ≡ s = cc (content_trip sides.a.now m x xs us at_x at_xs at_us) in
+      let f : trip_of sides.b.now y ys vs ≡ t = cc (content_trip sides.b.now k y ys vs at_y at_ys at_vs) in
       sym is ∙ (λ i. same_trip (e i) (trip_with kept_as_is route service stop (f i)))
 
-  pub trip-joined : (n k : ℕ) (id : List ℕ) (s t : Trip) (same : Bool) → slice_get a.trips n ≡ Some s → slice_get c.trips k ≡ Some t → get_or (trip_ids q) k [] ≡ id → position (bytes_eq id) (trip_ids p) ≡ Some n
-      → same ≡ same_trip s (trip_with kept_as_is (route_b a c) (service_b a c) (stop_b never_near a c) t)
-      → joined_number kind.Trip p q (get_or (trip_ids q) k []) ≡ (if same then Some n else None)
+  pub trip-joined : (n k : ℕ) (id : List ℕ) (s t : Trip) (same : Bool) → slice_get a.trips n ≡ Some s → slice_get c.trips k ≡ Some t → get_or (trip_ids sides.b.now) k [] ≡ id → position (bytes_eq id) (trip_ids sides.a.now) ≡ Some n
+      → same ≡ same_trip s (trip_with kept_as_is (route_b a c) (service_b a c) (stop_b (nearness_of sides) a c) t)
+      → joined_number kind.Trip sides (get_or (trip_ids sides.b.now) k []) ≡ (if same then Some n else None)
   trip-joined n k id s t same at_s at_t named numbered is =
-      let own = content-id q sound_q k t at_t in
-      ap (joined_number kind.Trip p q) own
-      ∙ number-same (λ t. t.trip_id) (λ row other. same_trip row (trip_with kept_as_is (route_b a c) (service_b a c) (stop_b never_near a c) other)) a.trips c.trips
-      sound_p.content.in_order.trips sound_q.content.in_order.trips k t at_t (trip_ids p) (ids-known kind.Trip p sound_p) n s
-      (ap (λ x. position (bytes_eq x) (trip_ids p)) (sym own ∙ named) ∙ numbered) at_s
+      let own = content-id sides.b.now sound_b k t at_t in
+      ap (joined_number kind.Trip sides) own
+      ∙ number-same (λ t. t.trip_id) (λ row other. same_trip row (trip_with kept_as_is (route_b a c) (service_b a c) (stop_b (nearness_of sides) a c) other)) a.trips c.trips
+      sound_a.content.in_order.trips sound_b.content.in_order.trips k t at_t (trip_ids sides.a.now) (ids-known kind.Trip sides.a.now sound_a) n s
+      (ap (λ x. position (bytes_eq x) (trip_ids sides.a.now)) (sym own ∙ named) ∙ numbered) at_s
       ∙ ap (λ z. if z then Some n else None) (sym is)
 
 -- the number of a text that was found is that of a row

@@ -26,8 +26,7 @@ use Rattle.gtfs_merge.specs.KindRows.{AllEntries, AreMergedKinds}
 use Rattle.gtfs_merge.specs.Law.{AreFew}
 use Rattle.gtfs_merge.specs.Merged.{zones_differ}
 use Rattle.gtfs_merge.specs.MergedLists.{parts_with}
-use Rattle.gtfs_merge.specs.Renaming.{never_near}
-use Rattle.gtfs_merge.specs.Sides.{merged_ids, merged_parts}
+use Rattle.gtfs_merge.specs.Sides.{nearness_of, merged_parts, merged_ids}
 use Rattle.gtfs_merge.specs.Transfers.{merged_transfers}
 use Rattle.gtfs_merge.specs.TripRows.{StandInTurn, frequencies_from, stop_rows_from}
 use Rattle.gtfs_merge.specs.declared.id_rows.IdRows.{IdRows}
@@ -35,6 +34,7 @@ use Rattle.gtfs_merge.specs.declared.kind.Kind.{Kind}
 use Rattle.gtfs_merge.specs.declared.kind.Kind.TheVariants as kind
 use Rattle.gtfs_merge.specs.declared.merged_frequencies.Frequencies.{Frequencies}
 use Rattle.gtfs_merge.specs.declared.merged_stop_times.StopTimes.{StopTimes}
+use Rattle.gtfs_merge.specs.declared.sides.Sides.{Sides}
 use Rattle.gtfs_merge.proofs.InTurn.{starts-in_turn}
 use Rattle.gtfs_merge.proofs.MergedSound.{merged-sound}
 use Rattle.gtfs_merge.proofs.MergedStopTimes.{merged-periods, merged-rows, merged-within}
@@ -77,83 +77,83 @@ module _ (p : Parts) where
 
 -- ---- the merged feed
 
-module _ (p q : Parts) (sound_p : IsSoundParts p) (sound_q : IsSoundParts q) (few : (c : Kind) → AreFew c (content_of_parts p) (content_of_parts q))
-    (zone : zones_differ (content_of_parts p) (content_of_parts q) ≡ false) (k : AllEntries) (are : AreMergedKinds p q k) (hs : HeadsignTable) (are_h : AreHeadsigns p q hs)
-    (r : IdRows) (are_r : AreIdRows p q r) (st : StopTimes) (are_st : StandInTurn (map (stop_rows_from p q k.stops.numbers hs) k.trips.rows) st.starts.items st.rows.items)
-    (fr : Frequencies) (are_fr : StandInTurn (map (frequencies_from p q) k.trips.rows) fr.starts.items fr.rows.items)
-    (ts : List TransferRow) (are_ts : ts ≡ merged_transfers p q k) where
+module _ (sides : Sides) (sound_a : IsSoundParts sides.a.now) (sound_b : IsSoundParts sides.b.now) (few : (c : Kind) → AreFew c (content_of_parts sides.a.now) (content_of_parts sides.b.now))
+    (zone : zones_differ (content_of_parts sides.a.now) (content_of_parts sides.b.now) ≡ false) (k : AllEntries) (are : AreMergedKinds sides k) (hs : HeadsignTable) (are_h : AreHeadsigns sides hs)
+    (r : IdRows) (are_r : AreIdRows sides r) (st : StopTimes) (are_st : StandInTurn (map (stop_rows_from sides k.stops.numbers hs) k.trips.rows) st.starts.items st.rows.items)
+    (fr : Frequencies) (are_fr : StandInTurn (map (frequencies_from sides) k.trips.rows) fr.starts.items fr.rows.items)
+    (ts : List TransferRow) (are_ts : ts ≡ merged_transfers sides k) where
   abbrev m : Parts
   m = parts_with r ts st fr hs.texts
 
-  content-sound : IsSound (merged_parts p q)
-  content-sound = merged-sound never_near never-nearness (content_of_parts p) (content_of_parts q) sound_p.content sound_q.content few zone
+  content-sound : IsSound (merged_parts sides)
+  content-sound = merged-sound (nearness_of sides) never-nearness (content_of_parts sides.a.now) (content_of_parts sides.b.now) sound_a.content sound_b.content few zone
 
   -- ---- ids
 
-  agencies-are : agency_ids m ≡ merged_ids kind.Agency p q
+  agencies-are : agency_ids m ≡ merged_ids kind.Agency sides
   agencies-are = read-alike agency_of (λ a. a.agency_id) (λ a. a.agency_id) (λ a. refl) r.agencies ∙ ap (map (λ a. a.agency_id)) are_r.agencies
 
-  stops-are : stop_ids m ≡ merged_ids kind.Stop p q
-  stops-are = read-alike (stop_named (merged_ids kind.Stop p q)) (λ s. s.stop_id) (λ s. s.stop_id) (λ s. refl) r.stops ∙ ap (map (λ s. s.stop_id)) are_r.stops
+  stops-are : stop_ids m ≡ merged_ids kind.Stop sides
+  stops-are = read-alike (stop_named (merged_ids kind.Stop sides)) (λ s. s.stop_id) (λ s. s.stop_id) (λ s. refl) r.stops ∙ ap (map (λ s. s.stop_id)) are_r.stops
 
-  routes-are : route_ids m ≡ merged_ids kind.Route p q
-  routes-are = read-alike (route_named (merged_ids kind.Agency p q)) (λ x. x.route_id) (λ x. x.route_id) (λ x. refl) r.routes ∙ ap (map (λ x. x.route_id)) are_r.routes
+  routes-are : route_ids m ≡ merged_ids kind.Route sides
+  routes-are = read-alike (route_named (merged_ids kind.Agency sides)) (λ x. x.route_id) (λ x. x.route_id) (λ x. refl) r.routes ∙ ap (map (λ x. x.route_id)) are_r.routes
 
-  services-are : service_ids m ≡ merged_ids kind.Service p q
+  services-are : service_ids m ≡ merged_ids kind.Service sides
   services-are = read-alike service_of (λ s. s.service_id) (λ s. s.service_id) (λ s. refl) r.services ∙ ap (map (λ s. s.service_id)) are_r.services
 
-  trips-are : trip_ids m ≡ merged_ids kind.Trip p q
+  trips-are : trip_ids m ≡ merged_ids kind.Trip sides
   trips-are =
-      read-alike (trip_named (merged_ids kind.Route p q) (merged_ids kind.Service p q)) (λ t. t.trip_id) (λ t. t.trip_id) (λ t. refl) r.trips
-      ∙ ap (map (λ t. t.trip_id)) are_r.trips ∙ sym (read-alike without_rows (λ t. t.trip_id) (λ t. t.trip_id) (λ t. refl) (merged_parts p q).trips)
+      read-alike (trip_named (merged_ids kind.Route sides) (merged_ids kind.Service sides)) (λ t. t.trip_id) (λ t. t.trip_id) (λ t. refl) r.trips
+      ∙ ap (map (λ t. t.trip_id)) are_r.trips ∙ sym (read-alike without_rows (λ t. t.trip_id) (λ t. t.trip_id) (λ t. refl) (merged_parts sides).trips)
 
   -- ---- as many rows as ids
 
-  agency-count : length (merged_ids kind.Agency p q) ≡ length r.agencies
+  agency-count : length (merged_ids kind.Agency sides) ≡ length r.agencies
   agency-count = sym (ap length agencies-are) ∙ length-map r.agencies (λ a. a.agency_id)
 
-  stop-count : length (merged_ids kind.Stop p q) ≡ length r.stops
+  stop-count : length (merged_ids kind.Stop sides) ≡ length r.stops
   stop-count = sym (ap length stops-are) ∙ length-map r.stops (λ s. s.stop_id)
 
-  route-count : length (merged_ids kind.Route p q) ≡ length r.routes
+  route-count : length (merged_ids kind.Route sides) ≡ length r.routes
   route-count = sym (ap length routes-are) ∙ length-map r.routes (λ x. x.route_id)
 
-  service-count : length (merged_ids kind.Service p q) ≡ length r.services
+  service-count : length (merged_ids kind.Service sides) ≡ length r.services
   service-count = sym (ap length services-are) ∙ length-map r.services (λ s. s.service_id)
 
-  trip-count : length (merged_ids kind.Trip p q) ≡ length r.trips
+  trip-count : length (merged_ids kind.Trip sides) ≡ length r.trips
   trip-count = sym (ap length trips-are) ∙ length-map r.trips (λ t. t.trip_id)
 
   -- ---- trips
 
-  trips-own : map (as_named m) r.trips ≡ map without_rows (merged_parts p q).trips
+  trips-own : map (as_named m) r.trips ≡ map without_rows (merged_parts sides).trips
   trips-own = (λ i. map (trip_named (routes-are i) (services-are i)) r.trips) ∙ are_r.trips
 
-  trips-rows : map (map (stop_row_of m)) (parts m.stop_row_starts m.stop_rows) ≡ map (λ u. u.stop_rows) (merged_parts p q).trips
-  trips-rows = (λ i. map (map (stop_row_named (stops-are i) hs.texts)) (are_st.stretches i)) ∙ merged-rows p q sound_p sound_q k are hs are_h
+  trips-rows : map (map (stop_row_of m)) (parts m.stop_row_starts m.stop_rows) ≡ map (λ u. u.stop_rows) (merged_parts sides).trips
+  trips-rows = (λ i. map (map (stop_row_named (stops-are i) hs.texts)) (are_st.stretches i)) ∙ merged-rows sides sound_a sound_b k are hs are_h
 
-  trips-periods : map (map frequency_of) (parts m.frequency_starts m.frequencies) ≡ map (λ u. u.frequencies) (merged_parts p q).trips
-  trips-periods = ap (map (map frequency_of)) are_fr.stretches ∙ merged-periods p q sound_p sound_q k are hs are_h
+  trips-periods : map (map frequency_of) (parts m.frequency_starts m.frequencies) ≡ map (λ u. u.frequencies) (merged_parts sides).trips
+  trips-periods = ap (map (map frequency_of)) are_fr.stretches ∙ merged-periods sides sound_a sound_b k are hs are_h
 
   -- ---- transfers
 
-  stops-up : Ascends text_cmp (merged_ids kind.Stop p q)
-  stops-up = pairs-map (λ s. s.stop_id) (λ s t. text_cmp s t ≡ Less) (merged_parts p q).stops content-sound.in_order.stops
+  stops-up : Ascends text_cmp (merged_ids kind.Stop sides)
+  stops-up = pairs-map (λ s. s.stop_id) (λ s t. text_cmp s t ≡ Less) (merged_parts sides).stops content-sound.in_order.stops
 
-  routes-up : Ascends text_cmp (merged_ids kind.Route p q)
-  routes-up = pairs-map (λ s. s.route_id) (λ s t. text_cmp s t ≡ Less) (merged_parts p q).routes content-sound.in_order.routes
+  routes-up : Ascends text_cmp (merged_ids kind.Route sides)
+  routes-up = pairs-map (λ s. s.route_id) (λ s t. text_cmp s t ≡ Less) (merged_parts sides).routes content-sound.in_order.routes
 
-  trips-up : Ascends text_cmp (merged_ids kind.Trip p q)
-  trips-up = pairs-map (λ s. s.trip_id) (λ s t. text_cmp s t ≡ Less) (merged_parts p q).trips content-sound.in_order.trips
+  trips-up : Ascends text_cmp (merged_ids kind.Trip sides)
+  trips-up = pairs-map (λ s. s.trip_id) (λ s t. text_cmp s t ≡ Less) (merged_parts sides).trips content-sound.in_order.trips
 
-  pub content-is : content_of_parts m ≡ merged_parts p q
+  pub content-is : content_of_parts m ≡ merged_parts sides
   content-is = λ i. record {
     agencies = are_r.agencies i;
     stops = ((λ j. map (stop_named (stops-are j)) r.stops) ∙ are_r.stops) i;
     routes = ((λ j. map (route_named (agencies-are j)) r.routes) ∙ are_r.routes) i;
     services = are_r.services i;
-    trips = trips-made m r.trips (parts m.stop_row_starts m.stop_rows) (parts m.frequency_starts m.frequencies) (merged_parts p q).trips trips-own trips-rows trips-periods i;
-    transfers = ((λ j. map (transfer_named (stops-are j) (routes-are j) (trips-are j)) (are_ts j)) ∙ transfers-named p q sound_p sound_q k are stops-up routes-up trips-up) i;
+    trips = trips-made m r.trips (parts m.stop_row_starts m.stop_rows) (parts m.frequency_starts m.frequencies) (merged_parts sides).trips trips-own trips-rows trips-periods i;
+    transfers = ((λ j. map (transfer_named (stops-are j) (routes-are j) (trips-are j)) (are_ts j)) ∙ transfers-named sides sound_a sound_b k are stops-up routes-up trips-up) i;
   }
 
   -- ---- a feed
@@ -162,10 +162,10 @@ module _ (p q : Parts) (sound_p : IsSoundParts p) (sound_q : IsSoundParts q) (fe
   entry-count = sym (length-map k.trips.rows (λ e. e.id)) ∙ ap length (are kind.Trip).rows.ids ∙ trip-count
 
   row-cut : IsCut m st.starts.items st.rows.items
-  row-cut = (starts-in_turn _ _ _ are_st ∙ length-map k.trips.rows (stop_rows_from p q k.stops.numbers hs) ∙ entry-count, are_st.rising, are_st.from_first)
+  row-cut = (starts-in_turn _ _ _ are_st ∙ length-map k.trips.rows (stop_rows_from sides k.stops.numbers hs) ∙ entry-count, are_st.rising, are_st.from_first)
 
   period-cut : IsCut m fr.starts.items fr.rows.items
-  period-cut = (starts-in_turn _ _ _ are_fr ∙ length-map k.trips.rows (frequencies_from p q) ∙ entry-count, are_fr.rising, are_fr.from_first)
+  period-cut = (starts-in_turn _ _ _ are_fr ∙ length-map k.trips.rows (frequencies_from sides) ∙ entry-count, are_fr.rising, are_fr.from_first)
 
   pub make-a-feed : IsSoundParts m
   make-a-feed = record {
@@ -173,12 +173,12 @@ module _ (p q : Parts) (sound_p : IsSoundParts p) (sound_q : IsSoundParts q) (fe
       stops = subst (λ n. list_all (λ s. is_within n (option_map (λ x. x.0) s.parent_station)) r.stops ≡ true) stop-count are_r.parents;
       routes = subst (λ n. list_all (λ x. nat_lt x.agency_id.0 n) r.routes ≡ true) agency-count are_r.route_agencies;
       trips = subst (λ n. list_all (λ t. nat_lt t.route_id.0 n && nat_lt t.service_id.0 (length r.services)) r.trips ≡ true) route-count
-          (subst (λ n. list_all (λ t. nat_lt t.route_id.0 (length (merged_ids kind.Route p q)) && nat_lt t.service_id.0 n) r.trips ≡ true) service-count are_r.trip_references);
-      stop_rows = (λ i. list_all (has_numbers_below (sym stop-count i) (length hs.texts)) (are_st.whole i)) ∙ merged-within p q sound_p sound_q k are hs are_h;
+          (subst (λ n. list_all (λ t. nat_lt t.route_id.0 (length (merged_ids kind.Route sides)) && nat_lt t.service_id.0 n) r.trips ≡ true) service-count are_r.trip_references);
+      stop_rows = (λ i. list_all (has_numbers_below (sym stop-count i) (length hs.texts)) (are_st.whole i)) ∙ merged-within sides sound_a sound_b k are hs are_h;
       transfers = (λ i. list_all (λ t. is_within (sym stop-count i) (option_map (λ n. n.0) t.from_stop_id) && is_within (sym stop-count i) (option_map (λ n. n.0) t.to_stop_id)
           && is_within (sym route-count i) (option_map (λ n. n.0) t.from_route_id) && is_within (sym route-count i) (option_map (λ n. n.0) t.to_route_id)
           && is_within (sym trip-count i) (option_map (λ n. n.0) t.from_trip_id) && is_within (sym trip-count i) (option_map (λ n. n.0) t.to_trip_id)) (are_ts i))
-          ∙ transfers-within p q sound_p sound_q k are;
+          ∙ transfers-within sides sound_a sound_b k are;
     };
     stop_rows = row-cut;
     frequencies = period-cut;

@@ -38,6 +38,7 @@ use Rattle.gtfs_merge.specs.declared.kind.Side.{Side}
 use Rattle.gtfs_merge.specs.declared.kind.Side.TheVariants as side
 use Rattle.gtfs_merge.specs.declared.order.MergedRow.{MergedRow}
 use Rattle.gtfs_rows.proofs.NumberFacts.{route_agency, stop_parent, trip_route, trip_service}
+use Rattle.gtfs_merge.specs.declared.sides.Sides.{Sides}
 use Rattle.gtfs_merge.proofs.JoinedKinds.{id-at}
 use Rattle.gtfs_merge.proofs.NewNumbers.{own-entry}
 
@@ -103,9 +104,9 @@ module _ (merged : List (List ℕ)) (rename : Renaming) (olds : List (List ℕ))
 
 -- ---- what the rows of a side name is there
 
-pub side-sound : (s : Side) (p q : Parts) → IsSoundParts p → IsSoundParts q → IsSoundParts (side_parts s p q)
-side-sound side.A p q sound_p sound_q = sound_p
-side-sound side.B p q sound_p sound_q = sound_q
+pub side-sound : (s : Side) (sides : Sides) → IsSoundParts sides.a.now → IsSoundParts sides.b.now → IsSoundParts (side_parts s sides)
+side-sound side.A sides sound_a sound_b = sound_a
+side-sound side.B sides sound_a sound_b = sound_b
 
 pub parent-inside : (f : Parts) → IsSoundParts f → (n : ℕ) (y : Stop) → slice_get f.stops n ≡ Some y → IfSome y.parent_station (λ m. m.0 < length (stop_ids f))
 parent-inside f sound n y at = by y.parent_station (stop_parent f sound n y at)
@@ -125,91 +126,91 @@ service-inside f sound n y at = subst (λ c. y.service_id.0 < c) (sym (length-ma
 
 -- ---- the row of an entry
 
-module _ (k : Kind) (p q : Parts) (rows : List MergedRow) (are : AreMergedRows k p q (map entry_value rows)) (index : ℕ) (within : index < length rows) (row : MergedRow) (own : row ≡ get_or rows index row) where
+module _ (k : Kind) (sides : Sides) (rows : List MergedRow) (are : AreMergedRows k sides (map entry_value rows)) (index : ℕ) (within : index < length rows) (row : MergedRow) (own : row ≡ get_or rows index row) where
   at-row : get_or (map entry_value rows) index (entry_value row) ≡ entry_value row
   at-row = get_or-map entry_value rows index row (entry_value row) within ∙ ap entry_value (sym own)
 
-  pub row-within : row.number < length (known_ids k (side_parts row.side p q))
-  row-within = subst (λ (e : Entry). e.number < length (known_ids k (side_parts e.side p q))) at-row (are.within index (entry_value row) (omega (arith, within, length-map rows entry_value)))
+  pub row-within : row.number < length (known_ids k (side_parts row.side sides))
+  row-within = subst (λ (e : Entry). e.number < length (known_ids k (side_parts e.side sides))) at-row (are.within index (entry_value row) (omega (arith, within, length-map rows entry_value)))
 
-  pub row-named : (entry_value row).id ≡ renaming (side_names row.side p q) k (text_of_number (known_ids k (side_parts row.side p q)) row.number)
+  pub row-named : (entry_value row).id ≡ renaming (side_names row.side sides) k (text_of_number (known_ids k (side_parts row.side sides)) row.number)
   row-named =
       let inside : index < length (map entry_value rows) = omega (arith, within, length-map rows entry_value) in
-      ap (λ (e : Entry). e.id) (subst (λ (e : Entry). e ≡ entry_of e.side k p q e.number) at-row
-      (own-entry k p q (map entry_value rows) are (get_or (map entry_value rows) index (entry_value row)) (Contains-get_or (map entry_value rows) index (entry_value row) inside)))
+      ap (λ (e : Entry). e.id) (subst (λ (e : Entry). e ≡ entry_of e.side k sides e.number) at-row
+      (own-entry k sides (map entry_value rows) are (get_or (map entry_value rows) index (entry_value row)) (Contains-get_or (map entry_value rows) index (entry_value row) inside)))
 
-module _ (p q : Parts) (s : Side) (n : ℕ) (name : List ℕ) where
+module _ (sides : Sides) (s : Side) (n : ℕ) (name : List ℕ) where
   abbrev here : Entry
   here = record { id = name; side = s; number = n }
 
   abbrev Named : Kind → Type 0
-  Named k = name ≡ renaming (side_names s p q) k (text_of_number (known_ids k (side_parts s p q)) n)
+  Named k = name ≡ renaming (side_names s sides) k (text_of_number (known_ids k (side_parts s sides)) n)
 
-  pub agency-row : (source x : Agency) → slice_get (side_parts s p q).agencies n ≡ Some source → Named kind.Agency → x ≡ record source { agency_id = name } → Some (agency_of x) ≡ agency_from p q (record { id = name; side = s; number = n })
+  pub agency-row : (source x : Agency) → slice_get (side_parts s sides).agencies n ≡ Some source → Named kind.Agency → x ≡ record source { agency_id = name } → Some (agency_of x) ≡ agency_from sides (record { id = name; side = s; number = n })
   agency-row source x at named is =
-      let own : name ≡ (side_names s p q).agency source.agency_id = named ∙ ap (side_names s p q).agency (id-at (λ a. a.agency_id) (side_parts s p q).agencies n source at) in
+      let own : name ≡ (side_names s sides).agency source.agency_id = named ∙ ap (side_names s sides).agency (id-at (λ a. a.agency_id) (side_parts s sides).agencies n source at) in
       ap (λ y. Some (agency_of y)) is ∙ (λ i. Some (record (agency_of source) { agency_id = own i }))
-      ∙ sym (ap (option_map _) (row-map agency_of (side_parts s p q).agencies n source at))
+      ∙ sym (ap (option_map _) (row-map agency_of (side_parts s sides).agencies n source at))
 
   held : {A B : Type 0} (f : A → B) (o : Option A) (v : B) → option_map f o ≡ Some v → (x : A) × (o ≡ Some x) × (f x ≡ v)
   held f None v e = cc
   held f (Some x) v e = (x, refl, cc)
 
-  pub service-row : (v : ServiceDates) (x : ServiceRow) → option_map (λ s. s.service) (slice_get (side_parts s p q).services n) ≡ Some v → Named kind.Service → x ≡ record { service_id = name; service = v }
-      → Some (service_of x) ≡ service_from p q (record { id = name; side = s; number = n })
+  pub service-row : (v : ServiceDates) (x : ServiceRow) → option_map (λ s. s.service) (slice_get (side_parts s sides).services n) ≡ Some v → Named kind.Service → x ≡ record { service_id = name; service = v }
+      → Some (service_of x) ≡ service_from sides (record { id = name; side = s; number = n })
   service-row v x at named is =
-      let source = held (λ s. s.service) (slice_get (side_parts s p q).services n) v at in
-      let own : name ≡ (side_names s p q).service source.0.service_id = named ∙ ap (side_names s p q).service (id-at (λ a. a.service_id) (side_parts s p q).services n source.0 source.1) in
+      let source = held (λ s. s.service) (slice_get (side_parts s sides).services n) v at in
+      let own : name ≡ (side_names s sides).service source.0.service_id = named ∙ ap (side_names s sides).service (id-at (λ a. a.service_id) (side_parts s sides).services n source.0 source.1) in
       ap (λ y. Some (service_of y)) is ∙ (λ i. Some (record { service_id = own i; service = sym source.2 i }))
-      ∙ sym (ap (option_map _) (row-map service_of (side_parts s p q).services n source.0 source.1))
+      ∙ sym (ap (option_map _) (row-map service_of (side_parts s sides).services n source.0 source.1))
 
   abbrev New : Kind → List ℕ → Type 0
-  New k numbers = AreNewNumbers (merged_ids k p q) (renaming (side_names s p q) k) (known_ids k (side_parts s p q)) numbers
+  New k numbers = AreNewNumbers (merged_ids k sides) (renaming (side_names s sides) k) (known_ids k (side_parts s sides)) numbers
 
   -- ---- stops and their parents
 
-  parent-renamed : (numbers : List ℕ) → New kind.Stop numbers → (o parent : Option StopNo) → option_map (λ n. n.0) parent ≡ option_map (λ n. get_or numbers n.0 0) o → IfSome o (λ n. n.0 < length (stop_ids (side_parts s p q)))
-      → (option_map (λ n. text_of_number (merged_ids kind.Stop p q) n.0) parent ≡ option_map (side_names s p q).stop (option_map (λ n. text_of_number (stop_ids (side_parts s p q)) n.0) o))
-      × (is_within (length (merged_ids kind.Stop p q)) (option_map (λ n. n.0) parent) ≡ true)
+  parent-renamed : (numbers : List ℕ) → New kind.Stop numbers → (o parent : Option StopNo) → option_map (λ n. n.0) parent ≡ option_map (λ n. get_or numbers n.0 0) o → IfSome o (λ n. n.0 < length (stop_ids (side_parts s sides)))
+      → (option_map (λ n. text_of_number (merged_ids kind.Stop sides) n.0) parent ≡ option_map (side_names s sides).stop (option_map (λ n. text_of_number (stop_ids (side_parts s sides)) n.0) o))
+      × (is_within (length (merged_ids kind.Stop sides)) (option_map (λ n. n.0) parent) ≡ true)
   parent-renamed numbers new None None e within = (refl, refl)
   parent-renamed numbers new None (Some x) e within = cc
   parent-renamed numbers new (Some x) None e within = cc
   parent-renamed numbers new (Some x) (Some y) e within =
-      let olds = stop_ids (side_parts s p q) in
-      let merged = merged_ids kind.Stop p q in
+      let olds = stop_ids (side_parts s sides) in
+      let merged = merged_ids kind.Stop sides in
       let is : y.0 ≡ get_or numbers x.0 0 = some-same y.0 (get_or numbers x.0 0) e in (
-        ap Some (ap (text_of_number merged) is ∙ renamed-at merged (side_names s p q).stop olds numbers new x.0 within),
-        lt-ltb y.0 (length merged) (subst (λ m. m < length merged) (sym is) (within-at merged (side_names s p q).stop olds numbers new x.0 within)),
+        ap Some (ap (text_of_number merged) is ∙ renamed-at merged (side_names s sides).stop olds numbers new x.0 within),
+        lt-ltb y.0 (length merged) (subst (λ m. m < length merged) (sym is) (within-at merged (side_names s sides).stop olds numbers new x.0 within)),
       )
     where
       some-same : (u v : ℕ) → Some u ≡ Some v → u ≡ v
       some-same u v e = cc
 
-  pub stop-row : (numbers : List ℕ) → New kind.Stop numbers → (source x : Stop) (parent : Option StopNo) → slice_get (side_parts s p q).stops n ≡ Some source → Named kind.Stop
-      → option_map (λ n. n.0) parent ≡ option_map (λ n. get_or numbers n.0 0) source.parent_station → IfSome source.parent_station (λ n. n.0 < length (stop_ids (side_parts s p q)))
-      → x ≡ record source { stop_id = name; parent_station = parent } → (Some (stop_named (merged_ids kind.Stop p q) x) ≡ stop_from p q (record { id = name; side = s; number = n })) × (names_parent (merged_ids kind.Stop p q) x ≡ true)
+  pub stop-row : (numbers : List ℕ) → New kind.Stop numbers → (source x : Stop) (parent : Option StopNo) → slice_get (side_parts s sides).stops n ≡ Some source → Named kind.Stop
+      → option_map (λ n. n.0) parent ≡ option_map (λ n. get_or numbers n.0 0) source.parent_station → IfSome source.parent_station (λ n. n.0 < length (stop_ids (side_parts s sides)))
+      → x ≡ record source { stop_id = name; parent_station = parent } → (Some (stop_named (merged_ids kind.Stop sides) x) ≡ stop_from sides (record { id = name; side = s; number = n })) × (names_parent (merged_ids kind.Stop sides) x ≡ true)
   stop-row numbers new source x parent at named of_parent within is =
-      let own : name ≡ (side_names s p q).stop source.stop_id = named ∙ ap (side_names s p q).stop (id-at (λ a. a.stop_id) (side_parts s p q).stops n source at) in
+      let own : name ≡ (side_names s sides).stop source.stop_id = named ∙ ap (side_names s sides).stop (id-at (λ a. a.stop_id) (side_parts s sides).stops n source at) in
       let both = parent-renamed numbers new source.parent_station parent of_parent within in (
-        ap (λ y. Some (stop_named (merged_ids kind.Stop p q) y)) is ∙ (λ i. Some (record (stop_of (side_parts s p q) source) { stop_id = own i; parent_station = both.0 i }))
-            ∙ sym (ap (option_map _) (row-map (stop_of (side_parts s p q)) (side_parts s p q).stops n source at)),
-        ap (names_parent (merged_ids kind.Stop p q)) is ∙ both.1,
+        ap (λ y. Some (stop_named (merged_ids kind.Stop sides) y)) is ∙ (λ i. Some (record (stop_of (side_parts s sides) source) { stop_id = own i; parent_station = both.0 i }))
+            ∙ sym (ap (option_map _) (row-map (stop_of (side_parts s sides)) (side_parts s sides).stops n source at)),
+        ap (names_parent (merged_ids kind.Stop sides)) is ∙ both.1,
       )
 
   -- ---- routes and trips
 
-  pub route-row : (numbers : List ℕ) → New kind.Agency numbers → (source x : Route) (agency : AgencyNo) → slice_get (side_parts s p q).routes n ≡ Some source → Named kind.Route
-      → agency.0 ≡ get_or numbers source.agency_id.0 0 → source.agency_id.0 < length (agency_ids (side_parts s p q))
-      → x ≡ record source { route_id = name; agency_id = agency } → (Some (route_named (merged_ids kind.Agency p q) x) ≡ route_from p q (record { id = name; side = s; number = n })) × (names_agency (merged_ids kind.Agency p q) x ≡ true)
+  pub route-row : (numbers : List ℕ) → New kind.Agency numbers → (source x : Route) (agency : AgencyNo) → slice_get (side_parts s sides).routes n ≡ Some source → Named kind.Route
+      → agency.0 ≡ get_or numbers source.agency_id.0 0 → source.agency_id.0 < length (agency_ids (side_parts s sides))
+      → x ≡ record source { route_id = name; agency_id = agency } → (Some (route_named (merged_ids kind.Agency sides) x) ≡ route_from sides (record { id = name; side = s; number = n })) × (names_agency (merged_ids kind.Agency sides) x ≡ true)
   route-row numbers new source x agency at named of_agency within is =
-      let own : name ≡ (side_names s p q).route source.route_id = named ∙ ap (side_names s p q).route (id-at (λ a. a.route_id) (side_parts s p q).routes n source at) in
-      let merged = merged_ids kind.Agency p q in
-      let olds = agency_ids (side_parts s p q) in
-      let renamed : text_of_number merged agency.0 ≡ (side_names s p q).agency (text_of_number olds source.agency_id.0) =
-      ap (text_of_number merged) of_agency ∙ renamed-at merged (side_names s p q).agency olds numbers new source.agency_id.0 within in (
-        ap (λ y. Some (route_named (merged_ids kind.Agency p q) y)) is ∙ (λ i. Some (record (route_of (side_parts s p q) source) { route_id = own i; agency_id = renamed i }))
-            ∙ sym (ap (option_map _) (row-map (route_of (side_parts s p q)) (side_parts s p q).routes n source at)),
-        ap (names_agency (merged_ids kind.Agency p q)) is ∙ lt-ltb agency.0 (length merged) (subst (λ m. m < length merged) (sym of_agency) (within-at merged (side_names s p q).agency olds numbers new source.agency_id.0 within)),
+      let own : name ≡ (side_names s sides).route source.route_id = named ∙ ap (side_names s sides).route (id-at (λ a. a.route_id) (side_parts s sides).routes n source at) in
+      let merged = merged_ids kind.Agency sides in
+      let olds = agency_ids (side_parts s sides) in
+      let renamed : text_of_number merged agency.0 ≡ (side_names s sides).agency (text_of_number olds source.agency_id.0) =
+      ap (text_of_number merged) of_agency ∙ renamed-at merged (side_names s sides).agency olds numbers new source.agency_id.0 within in (
+        ap (λ y. Some (route_named (merged_ids kind.Agency sides) y)) is ∙ (λ i. Some (record (route_of (side_parts s sides) source) { route_id = own i; agency_id = renamed i }))
+            ∙ sym (ap (option_map _) (row-map (route_of (side_parts s sides)) (side_parts s sides).routes n source at)),
+        ap (names_agency (merged_ids kind.Agency sides)) is ∙ lt-ltb agency.0 (length merged) (subst (λ m. m < length merged) (sym of_agency) (within-at merged (side_names s sides).agency olds numbers new source.agency_id.0 within)),
       )
 
   plain-under : (m : Names) (o : Option ContentTrip) → option_map without_rows (option_map (trip_under m) o) ≡ option_map (trip_under m) (option_map without_rows o)
@@ -226,19 +227,19 @@ module _ (p q : Parts) (s : Side) (n : ℕ) (name : List ℕ) where
 
   -- a trip without its stop times and frequencies
   abbrev pub plain_from : Option ContentTrip
-  plain_from = option_map without_rows (trip_from p q (record { id = name; side = s; number = n }))
+  plain_from = option_map without_rows (trip_from sides (record { id = name; side = s; number = n }))
 
-  pub trip-row : IsSoundParts (side_parts s p q) → (routes services : List ℕ) → New kind.Route routes → New kind.Service services → (source x : Trip) (route : RouteNo) (service : ServiceNo)
-      → slice_get (side_parts s p q).trips n ≡ Some source → Named kind.Trip
-      → route.0 ≡ get_or routes source.route_id.0 0 → source.route_id.0 < length (route_ids (side_parts s p q)) → service.0 ≡ get_or services source.service_id.0 0 → source.service_id.0 < length (service_ids (side_parts s p q))
+  pub trip-row : IsSoundParts (side_parts s sides) → (routes services : List ℕ) → New kind.Route routes → New kind.Service services → (source x : Trip) (route : RouteNo) (service : ServiceNo)
+      → slice_get (side_parts s sides).trips n ≡ Some source → Named kind.Trip
+      → route.0 ≡ get_or routes source.route_id.0 0 → source.route_id.0 < length (route_ids (side_parts s sides)) → service.0 ≡ get_or services source.service_id.0 0 → source.service_id.0 < length (service_ids (side_parts s sides))
       → x ≡ record source { trip_id = name; route_id = route; service_id = service }
-      → (Some (trip_named (merged_ids kind.Route p q) (merged_ids kind.Service p q) x) ≡ plain_from) × (names_route_and_service (merged_ids kind.Route p q) (merged_ids kind.Service p q) x ≡ true)
+      → (Some (trip_named (merged_ids kind.Route sides) (merged_ids kind.Service sides) x) ≡ plain_from) × (names_route_and_service (merged_ids kind.Route sides) (merged_ids kind.Service sides) x ≡ true)
   trip-row sound routes services new_routes new_services source x route service at named of_route within_route of_service within_service is =
-      let f = side_parts s p q in
-      let m = side_names s p q in
+      let f = side_parts s sides in
+      let m = side_names s sides in
       let own : name ≡ m.trip source.trip_id = named ∙ ap m.trip (id-at (λ a. a.trip_id) f.trips n source at) in
-      let merged_r = merged_ids kind.Route p q in
-      let merged_s = merged_ids kind.Service p q in
+      let merged_r = merged_ids kind.Route sides in
+      let merged_s = merged_ids kind.Service sides in
       let renamed_r : text_of_number merged_r route.0 ≡ m.route (text_of_number (route_ids f) source.route_id.0) =
       ap (text_of_number merged_r) of_route ∙ renamed-at merged_r m.route (route_ids f) routes new_routes source.route_id.0 within_route in
       let renamed_s : text_of_number merged_s service.0 ≡ m.service (text_of_number (service_ids f) source.service_id.0) =
@@ -254,5 +255,5 @@ module _ (p q : Parts) (s : Side) (n : ℕ) (name : List ℕ) where
       )
 
 -- what the trips are, without their stop times and frequencies
-pub plain-rows : (p q : Parts) (es : List Entry) → map Some (merged_parts p q).trips ≡ map (trip_from p q) es → map Some (map without_rows (merged_parts p q).trips) ≡ map (λ e. option_map without_rows (trip_from p q e)) es
-plain-rows p q es is = map-map Some without_rows (merged_parts p q).trips ∙ sym (map-map (option_map without_rows) Some (merged_parts p q).trips) ∙ ap (map (option_map without_rows)) is ∙ map-map (option_map without_rows) (trip_from p q) es
+pub plain-rows : (sides : Sides) (es : List Entry) → map Some (merged_parts sides).trips ≡ map (trip_from sides) es → map Some (map without_rows (merged_parts sides).trips) ≡ map (λ e. option_map without_rows (trip_from sides e)) es
+plain-rows sides es is = map-map Some without_rows (merged_parts sides).trips ∙ sym (map-map (option_map without_rows) Some (merged_parts sides).trips) ∙ ap (map (option_map without_rows)) is ∙ map-map (option_map without_rows) (trip_from sides) es

@@ -27,7 +27,7 @@ use Rattle.gtfs_merge.specs.Renumbered.{AreNewNumbers}
 use Rattle.gtfs_merge.specs.Sides.{merged_ids, merged_parts, side_names, side_parts}
 use Rattle.gtfs_merge.specs.TripRows.{frequencies_from, renumbered_row, stop_rows_from}
 use Rattle.gtfs_merge.specs.declared.kind.Kind.TheVariants as kind
-use Rattle.gtfs_merge.specs.declared.kind.Side.TheVariants as side
+use Rattle.gtfs_merge.specs.declared.sides.Sides.{Sides}
 use Rattle.gtfs_merge.proofs.ReferenceNumbers.{headsign-named, headsign-within, number-named, number-within}
 use Rattle.gtfs_merge.proofs.MergedLists.{side-sound}
 
@@ -91,67 +91,67 @@ has-trip p sound n within =
 
 -- ---- both sides
 
-module _ (p q : Parts) (sound_p : IsSoundParts p) (sound_q : IsSoundParts q) (k : AllEntries) (are : AreMergedKinds p q k) (hs : HeadsignTable) (are_h : AreHeadsigns p q hs) where
+module _ (sides : Sides) (sound_a : IsSoundParts sides.a.now) (sound_b : IsSoundParts sides.b.now) (k : AllEntries) (are : AreMergedKinds sides k) (hs : HeadsignTable) (are_h : AreHeadsigns sides hs) where
   abbrev named_rows : List RowByNumber → List StopRow
-  named_rows = map (stop_row_named (merged_ids kind.Stop p q) hs.texts)
+  named_rows = map (stop_row_named (merged_ids kind.Stop sides) hs.texts)
 
   abbrev rows_at : Entry → List RowByNumber
-  rows_at = stop_rows_from p q k.stops.numbers hs
+  rows_at = stop_rows_from sides k.stops.numbers hs
 
   abbrev IsThere : Entry → Type 0
-  IsThere e = e.number < length (known_ids kind.Trip (side_parts e.side p q))
+  IsThere e = e.number < length (known_ids kind.Trip (side_parts e.side sides))
 
   -- the trip of an entry has these stop times and these frequencies
   record IsMergedTrip (e : Entry) (u : Trip) : Type 0 where
     pub rows : named_rows (rows_at e) ≡ u.stop_rows
-    pub periods : map frequency_of (frequencies_from p q e) ≡ u.frequencies
-    pub within : list_all (has_numbers_below (length (merged_ids kind.Stop p q)) (length hs.texts)) (rows_at e) ≡ true
+    pub periods : map frequency_of (frequencies_from sides e) ≡ u.frequencies
+    pub within : list_all (has_numbers_below (length (merged_ids kind.Stop sides)) (length hs.texts)) (rows_at e) ≡ true
 
-  merged-trip : (e : Entry) (u : Trip) → IsThere e → Some u ≡ trip_from p q e → IsMergedTrip e u
+  merged-trip : (e : Entry) (u : Trip) → IsThere e → Some u ≡ trip_from sides e → IsMergedTrip e u
   merged-trip e u there from =
-      let side = side_parts e.side p q in
-      let sound = side-sound e.side p q sound_p sound_q in
+      let side = side_parts e.side sides in
+      let sound = side-sound e.side sides sound_a sound_b in
       let own = has-trip side sound e.number (omega (arith, there, length-map side.trips (λ t. t.trip_id))) in
       let rs = get_or (stop_rows_by_trip side) e.number [] in
       let stand = stop_times side sound e.number rs own.rows in
-      let is : u ≡ trip_under (side_names e.side p q) (trip_of side own.row rs (get_or (frequencies_by_trip side) e.number [])) = cc (from ∙ ap (option_map (trip_under (side_names e.side p q))) own.there) in
+      let is : u ≡ trip_under (side_names e.side sides) (trip_of side own.row rs (get_or (frequencies_by_trip side) e.number [])) = cc (from ∙ ap (option_map (trip_under (side_names e.side sides))) own.there) in
       let stops : All (λ r. r.stop_id.0 < length (stop_ids side)) rs = λ i d h. let below = stand.stops i d h in omega (arith, below, length-map side.stops (λ s. s.stop_id)) in
       record {
-        rows = rows-named side (merged_ids kind.Stop p q) _ _ ((are kind.Stop).numbers e.side) hs.texts _ (are_h.numbers e.side) rs stops stand.headsigns ∙ sym (ap (λ t. t.stop_rows) is);
+        rows = rows-named side (merged_ids kind.Stop sides) _ _ ((are kind.Stop).numbers e.side) hs.texts _ (are_h.numbers e.side) rs stops stand.headsigns ∙ sym (ap (λ t. t.stop_rows) is);
         periods = sym (ap (λ t. t.frequencies) is);
-        within = rows-within side (merged_ids kind.Stop p q) _ _ ((are kind.Stop).numbers e.side) hs.texts _ (are_h.numbers e.side) rs stops stand.headsigns;
+        within = rows-within side (merged_ids kind.Stop sides) _ _ ((are kind.Stop).numbers e.side) hs.texts _ (are_h.numbers e.side) rs stops stand.headsigns;
       }
 
-  trips-rows : (es : List Entry) (us : List Trip) → All IsThere es → map Some us ≡ map (trip_from p q) es → map named_rows (map rows_at es) ≡ map (λ u. u.stop_rows) us
+  trips-rows : (es : List Entry) (us : List Trip) → All IsThere es → map Some us ≡ map (trip_from sides) es → map named_rows (map rows_at es) ≡ map (λ u. u.stop_rows) us
   trips-rows [] [] there from = refl
   trips-rows [] (u ∷ us) there from = cc from
   trips-rows (e ∷ es) [] there from = cc from
   trips-rows (e ∷ es) (u ∷ us) there from = λ i. (merged-trip e u (All-head IsThere e es there) (cc from)).rows i ∷ trips-rows es us (All-tail IsThere e es there) (cc from) i
 
-  trips-periods : (es : List Entry) (us : List Trip) → All IsThere es → map Some us ≡ map (trip_from p q) es → map (map frequency_of) (map (frequencies_from p q) es) ≡ map (λ u. u.frequencies) us
+  trips-periods : (es : List Entry) (us : List Trip) → All IsThere es → map Some us ≡ map (trip_from sides) es → map (map frequency_of) (map (frequencies_from sides) es) ≡ map (λ u. u.frequencies) us
   trips-periods [] [] there from = refl
   trips-periods [] (u ∷ us) there from = cc from
   trips-periods (e ∷ es) [] there from = cc from
   trips-periods (e ∷ es) (u ∷ us) there from = λ i. (merged-trip e u (All-head IsThere e es there) (cc from)).periods i ∷ trips-periods es us (All-tail IsThere e es there) (cc from) i
 
-  trips-within : (es : List Entry) (us : List Trip) → All IsThere es → map Some us ≡ map (trip_from p q) es
-      → list_all (has_numbers_below (length (merged_ids kind.Stop p q)) (length hs.texts)) (flat_map (λ xs. xs) (map rows_at es)) ≡ true
+  trips-within : (es : List Entry) (us : List Trip) → All IsThere es → map Some us ≡ map (trip_from sides) es
+      → list_all (has_numbers_below (length (merged_ids kind.Stop sides)) (length hs.texts)) (flat_map (λ xs. xs) (map rows_at es)) ≡ true
   trips-within [] us there from = refl
   trips-within (e ∷ es) [] there from = cc from
   trips-within (e ∷ es) (u ∷ us) there from = all-both (rows_at e) (flat_map (λ xs. xs) (map rows_at es)) (merged-trip e u (All-head IsThere e es there) (cc from)).within (trips-within es us (All-tail IsThere e es there) (cc from))
     where
-      all-both : (xs ys : List RowByNumber) → list_all (has_numbers_below (length (merged_ids kind.Stop p q)) (length hs.texts)) xs ≡ true → list_all (has_numbers_below (length (merged_ids kind.Stop p q)) (length hs.texts)) ys ≡ true
-          → list_all (has_numbers_below (length (merged_ids kind.Stop p q)) (length hs.texts)) (xs ++ ys) ≡ true
+      all-both : (xs ys : List RowByNumber) → list_all (has_numbers_below (length (merged_ids kind.Stop sides)) (length hs.texts)) xs ≡ true → list_all (has_numbers_below (length (merged_ids kind.Stop sides)) (length hs.texts)) ys ≡ true
+          → list_all (has_numbers_below (length (merged_ids kind.Stop sides)) (length hs.texts)) (xs ++ ys) ≡ true
       all-both [] ys g h = h
-      all-both (x ∷ xs) ys g h = let both = and_parts (has_numbers_below (length (merged_ids kind.Stop p q)) (length hs.texts) x) (list_all (has_numbers_below (length (merged_ids kind.Stop p q)) (length hs.texts)) xs) g in and_from _ _ both.0 (all-both xs ys both.1 h)
+      all-both (x ∷ xs) ys g h = let both = and_parts (has_numbers_below (length (merged_ids kind.Stop sides)) (length hs.texts) x) (list_all (has_numbers_below (length (merged_ids kind.Stop sides)) (length hs.texts)) xs) g in and_from _ _ both.0 (all-both xs ys both.1 h)
 
   -- ---- what the merged feed cites
 
-  pub merged-rows : map named_rows (map rows_at k.trips.rows) ≡ map (λ u. u.stop_rows) (merged_parts p q).trips
-  merged-rows = trips-rows k.trips.rows (merged_parts p q).trips (are kind.Trip).rows.within (are kind.Trip).rows.rows
+  pub merged-rows : map named_rows (map rows_at k.trips.rows) ≡ map (λ u. u.stop_rows) (merged_parts sides).trips
+  merged-rows = trips-rows k.trips.rows (merged_parts sides).trips (are kind.Trip).rows.within (are kind.Trip).rows.rows
 
-  pub merged-periods : map (map frequency_of) (map (frequencies_from p q) k.trips.rows) ≡ map (λ u. u.frequencies) (merged_parts p q).trips
-  merged-periods = trips-periods k.trips.rows (merged_parts p q).trips (are kind.Trip).rows.within (are kind.Trip).rows.rows
+  pub merged-periods : map (map frequency_of) (map (frequencies_from sides) k.trips.rows) ≡ map (λ u. u.frequencies) (merged_parts sides).trips
+  merged-periods = trips-periods k.trips.rows (merged_parts sides).trips (are kind.Trip).rows.within (are kind.Trip).rows.rows
 
-  pub merged-within : list_all (has_numbers_below (length (merged_ids kind.Stop p q)) (length hs.texts)) (flat_map (λ xs. xs) (map rows_at k.trips.rows)) ≡ true
-  merged-within = trips-within k.trips.rows (merged_parts p q).trips (are kind.Trip).rows.within (are kind.Trip).rows.rows
+  pub merged-within : list_all (has_numbers_below (length (merged_ids kind.Stop sides)) (length hs.texts)) (flat_map (λ xs. xs) (map rows_at k.trips.rows)) ≡ true
+  merged-within = trips-within k.trips.rows (merged_parts sides).trips (are kind.Trip).rows.within (are kind.Trip).rows.rows

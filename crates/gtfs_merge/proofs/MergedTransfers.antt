@@ -23,6 +23,7 @@ use Rattle.gtfs_merge.specs.Transfers.{IsWithin, ends_cmp, merged_transfers, tra
 use Rattle.gtfs_merge.specs.declared.kind.Kind.TheVariants as kind
 use Rattle.gtfs_merge.specs.declared.kind.Side.{Side}
 use Rattle.gtfs_merge.specs.declared.kind.Side.TheVariants as side
+use Rattle.gtfs_merge.specs.declared.sides.Sides.{Sides}
 use Rattle.gtfs_merge.proofs.Kept.{In-append, In-by_key, In-map, list_all-from}
 use Rattle.gtfs_merge.proofs.KeyedOrders.{by_key-carried}
 use Rattle.gtfs_merge.proofs.Lookups.{In, list_all-In}
@@ -84,25 +85,25 @@ names-rows p t h =
 as_many : {N : Type 0} (number : N → ℕ) (o : Option N) (m n : ℕ) → m ≡ n → IfSome o (λ x. number x < m) → IfSome o (λ x. number x < n)
 as_many number o m n same h = subst (λ k. IfSome o (λ x. number x < k)) same h
 
-module _ (p q : Parts) (sound_p : IsSoundParts p) (sound_q : IsSoundParts q) (k : AllEntries) (are : AreMergedKinds p q k) where
+module _ (sides : Sides) (sound_a : IsSoundParts sides.a.now) (sound_b : IsSoundParts sides.b.now) (k : AllEntries) (are : AreMergedKinds sides k) where
   abbrev stops : List (List ℕ)
-  stops = merged_ids kind.Stop p q
+  stops = merged_ids kind.Stop sides
 
   abbrev routes : List (List ℕ)
-  routes = merged_ids kind.Route p q
+  routes = merged_ids kind.Route sides
 
   abbrev trips : List (List ℕ)
-  trips = merged_ids kind.Trip p q
+  trips = merged_ids kind.Trip sides
 
   abbrev named : ByNumber → Transfer
   named = transfer_named stops routes trips
 
   module _ (s : Side) where
     abbrev own : Parts
-    own = side_parts s p q
+    own = side_parts s sides
 
     names : (t : ByNumber) → In t own.transfers → NamesRowsOf own t
-    names t i = names-rows own t (list_all-In (transfer_names_rows own) own.transfers (side-sound s p q sound_p sound_q).names_rows.transfers t i)
+    names t i = names-rows own t (list_all-In (transfer_names_rows own) own.transfers (side-sound s sides sound_a sound_b).names_rows.transfers t i)
 
     stop_count : length own.stops ≡ length (stop_ids own)
     stop_count = sym (length-map own.stops (λ x. x.stop_id))
@@ -138,7 +139,7 @@ module _ (p q : Parts) (sound_p : IsSoundParts p) (sound_q : IsSoundParts q) (k 
     within-index ts are_own n d within = within-side (get_or ts n d) (subst (λ (us : List ByNumber). In (get_or ts n d) us) are_own (In-get ts n d within))
 
     -- a transfer with new numbers is the transfer with new ids
-    transfer-is : (t : ByNumber) → In t own.transfers → named (transfer_on k s t) ≡ transfer_with (side_names s p q) (transfer_of own t)
+    transfer-is : (t : ByNumber) → In t own.transfers → named (transfer_on k s t) ≡ transfer_with (side_names s sides) (transfer_of own t)
     transfer-is t i =
         let n = names t i in
         λ j. record (transfer_of own t) {
@@ -162,33 +163,33 @@ module _ (p q : Parts) (sound_p : IsSoundParts p) (sound_q : IsSoundParts q) (k 
         let f = option-within trips _ (trip_ids own) _ ((are kind.Trip).numbers s) trip_number trip_no t.to_trip_id (λ n. refl) (as_many (λ n. n.0) t.to_trip_id _ _ trip_count n.to_trip) in
         and_from _ _ (and_from _ _ (and_from _ _ (and_from _ _ (and_from _ _ a b) c) d) e) f
 
-    pub all-ends : (t : ByNumber) → In t (transfers_on p q k s) → names_ends stops routes trips t ≡ true
+    pub all-ends : (t : ByNumber) → In t (transfers_on sides k s) → names_ends stops routes trips t ≡ true
     all-ends t i = let from = In-map (transfer_on k s) own.transfers t i in ap (names_ends stops routes trips) (sym from.2) ∙ ends-within from.0 from.1
 
-    mapped : (ts : List ByNumber) → ((t : ByNumber) → In t ts → In t own.transfers) → map named (map (transfer_on k s) ts) ≡ map (transfer_with (side_names s p q)) (map (transfer_of own) ts)
+    mapped : (ts : List ByNumber) → ((t : ByNumber) → In t ts → In t own.transfers) → map named (map (transfer_on k s) ts) ≡ map (transfer_with (side_names s sides)) (map (transfer_of own) ts)
     mapped [] inside = refl
     mapped (t ∷ ts) inside = λ j. transfer-is t (inside t (inl refl)) j ∷ mapped ts (λ u i. inside u (inr i)) j
 
-    pub side-named : map named (transfers_on p q k s) ≡ map (transfer_with (side_names s p q)) (map (transfer_of own) own.transfers)
+    pub side-named : map named (transfers_on sides k s) ≡ map (transfer_with (side_names s sides)) (map (transfer_of own) own.transfers)
     side-named = mapped own.transfers (λ t i. i)
 
   abbrev both : List ByNumber
-  both = transfers_on p q k side.A ++ transfers_on p q k side.B
+  both = transfers_on sides k side.A ++ transfers_on sides k side.B
 
   both-end : (t : ByNumber) → In t both → names_ends stops routes trips t ≡ true
-  both-end t i = elim (In-append (transfers_on p q k side.A) (transfers_on p q k side.B) t i) as (λ w. names_ends stops routes trips t ≡ true) [
+  both-end t i = elim (In-append (transfers_on sides k side.A) (transfers_on sides k side.B) t i) as (λ w. names_ends stops routes trips t ≡ true) [
     | inl a ↦ all-ends side.A t a
     | inr b ↦ all-ends side.B t b
   ]
 
   -- ---- what the merged feed cites
 
-  pub transfers-within : list_all (names_ends stops routes trips) (merged_transfers p q k) ≡ true
-  transfers-within = list_all-from (names_ends stops routes trips) (merged_transfers p q k) (λ t i. both-end t (In-by_key ends_cmp ends_total transfer_numbers both t i))
+  pub transfers-within : list_all (names_ends stops routes trips) (merged_transfers sides k) ≡ true
+  transfers-within = list_all-from (names_ends stops routes trips) (merged_transfers sides k) (λ t i. both-end t (In-by_key ends_cmp ends_total transfer_numbers both t i))
 
   module _ (stops_up : Ascends text_cmp stops) (routes_up : Ascends text_cmp routes) (trips_up : Ascends text_cmp trips) where
-    pub transfers-named : map named (merged_transfers p q k) ≡ (merged_parts p q).transfers
+    pub transfers-named : map named (merged_transfers sides k) ≡ (merged_parts sides).transfers
     transfers-named =
         sym (by_key-carried ends_cmp ends_total transfer_key_cmp transfer_total ends_antisymmetric text_key_antisymmetric transfer_numbers transfer_key named both
         (λ t u i j. key-order stops routes trips stops_up routes_up trips_up t u (both-end t i) (both-end u j)))
-        ∙ ap by_transfer (map-append named (transfers_on p q k side.A) (transfers_on p q k side.B) ∙ (λ i. side-named side.A i ++ side-named side.B i))
+        ∙ ap by_transfer (map-append named (transfers_on sides k side.A) (transfers_on sides k side.B) ∙ (λ i. side-named side.A i ++ side-named side.B i))

@@ -19,6 +19,7 @@ use Rattle.gtfs_merge.specs.Sides.{side_names, side_parts}
 use Rattle.gtfs_merge.specs.declared.kind.Kind.{Kind}
 use Rattle.gtfs_merge.specs.declared.kind.Side.{Side}
 use Rattle.gtfs_merge.specs.declared.kind.Side.TheVariants as side
+use Rattle.gtfs_merge.specs.declared.sides.Sides.{Sides}
 use Rattle.gtfs_merge.proofs.JoinedIds.{has-number}
 use Rattle.gtfs_merge.proofs.JoinedKinds.{ids-known}
 
@@ -39,13 +40,13 @@ pub named : (n : Names) (k : Kind) (p : Parts) → IsSoundParts p → (x : List 
 named n k p sound x = looked-up (renaming n k) (known_ids k p) x ∙ ap (λ xs. if has_id xs x then Some (renaming n k x) else None) (sym (ids-known k p sound))
 
 -- a name by its number
-pub name-at : (k : Kind) (p q : Parts) (s : Side) (n : ℕ) → n < length (known_ids k (side_parts s p q)) → get_or (of_side (kind_names k p q) s).names n [] ≡ renaming (side_names s p q) k (get_or (known_ids k (side_parts s p q)) n [])
-name-at k p q side.A n within = get_or-map (renaming (side_names side.A p q) k) (known_ids k p) n [] [] within
-name-at k p q side.B n within = get_or-map (renaming (side_names side.B p q) k) (known_ids k q) n [] [] within
+pub name-at : (k : Kind) (sides : Sides) (s : Side) (n : ℕ) → n < length (known_ids k (side_parts s sides)) → get_or (of_side (kind_names k sides) s).names n [] ≡ renaming (side_names s sides) k (get_or (known_ids k (side_parts s sides)) n [])
+name-at k sides side.A n within = get_or-map (renaming (side_names side.A sides) k) (known_ids k sides.a.now) n [] [] within
+name-at k sides side.B n within = get_or-map (renaming (side_names side.B sides) k) (known_ids k sides.b.now) n [] [] within
 
-pub names-count : (k : Kind) (p q : Parts) (s : Side) → length (of_side (kind_names k p q) s).names ≡ length (known_ids k (side_parts s p q))
-names-count k p q side.A = length-map (known_ids k p) (renaming (side_names side.A p q) k)
-names-count k p q side.B = length-map (known_ids k q) (renaming (side_names side.B p q) k)
+pub names-count : (k : Kind) (sides : Sides) (s : Side) → length (of_side (kind_names k sides) s).names ≡ length (known_ids k (side_parts s sides))
+names-count k sides side.A = length-map (known_ids k sides.a.now) (renaming (side_names side.A sides) k)
+names-count k sides side.B = length-map (known_ids k sides.b.now) (renaming (side_names side.B sides) k)
 
 pub joined-further : (p : List ℕ → Bool) (xs : List (List ℕ)) (n : ℕ) (before after : List (List ℕ)) (x : List ℕ) → n < length xs → before ≡ filter p (take n xs) → after ≡ before ++ filter p (x ∷ []) → x ≡ get_or xs n []
     → after ≡ filter p (take (n + 1) xs)

@@ -2,49 +2,50 @@
 use Rattle.std.proofs.Common.{◌≡◌, ◌<◌, ◌+◌, ◌^◌, ◌∙◌, ℕ, List, ap, arith, length, sym}
 use Rattle.gtfs_rows.specs.Content.{Content}
 use Rattle.gtfs_rows.specs.Views.{IsSoundParts, content_of_parts}
-use Rattle.gtfs_rows.specs.declared.parts.Parts.{Parts}
 use Rattle.gtfs_merge.specs.Law.{AreFew}
 use Rattle.gtfs_merge.specs.Names.{AllNames, AreApart, AreKindNames, MeetWhereJoined, in_kind, new_id, of_side}
-use Rattle.gtfs_merge.specs.Renaming.{ids, joined_ids, name_of, names_a, names_b, never_near}
+use Rattle.gtfs_merge.specs.Renaming.{ids, joined_ids, name_of, names_a, names_b}
+use Rattle.gtfs_merge.specs.Sides.{nearness_of}
 use Rattle.gtfs_merge.specs.declared.kind.Kind.{Kind}
 use Rattle.gtfs_merge.specs.declared.kind.Side.{Side}
 use Rattle.gtfs_merge.specs.declared.kind.Side.TheVariants as side
+use Rattle.gtfs_merge.specs.declared.sides.Sides.{Sides}
 use Rattle.gtfs_merge.proofs.Apart.{apart-a, apart-b}
 use Rattle.gtfs_merge.proofs.JoinedKinds.{ids-known}
 use Rattle.gtfs_merge.proofs.NamesAcross.{names-meet}
 use Rattle.gtfs_merge.proofs.NamesFacts.{apart-names, named}
 
-module _ (p q : Parts) (sound_p : IsSoundParts p) (sound_q : IsSoundParts q)
-    (few : (k : Kind) → length (ids k (content_of_parts p)) + length (ids k (content_of_parts q)) < 2 ^ 65) (names : AllNames) (are : AreKindNames p q names) where
+module _ (sides : Sides) (sound_a : IsSoundParts sides.a.now) (sound_b : IsSoundParts sides.b.now)
+    (few : (k : Kind) → length (ids k (content_of_parts sides.a.now)) + length (ids k (content_of_parts sides.b.now)) < 2 ^ 65) (names : AllNames) (are : AreKindNames sides names) where
   abbrev a : Content
-  a = content_of_parts p
+  a = content_of_parts sides.a.now
 
   abbrev b : Content
-  b = content_of_parts q
+  b = content_of_parts sides.b.now
 
   pub ids-a : (k : Kind) → (in_kind names k).a.ids ≡ ids k a
-  ids-a k = ap (λ t. t.a.ids) (are k) ∙ sym (ids-known k p sound_p)
+  ids-a k = ap (λ t. t.a.ids) (are k) ∙ sym (ids-known k sides.a.now sound_a)
 
   pub ids-b : (k : Kind) → (in_kind names k).b.ids ≡ ids k b
-  ids-b k = ap (λ t. t.b.ids) (are k) ∙ sym (ids-known k q sound_q)
+  ids-b k = ap (λ t. t.b.ids) (are k) ∙ sym (ids-known k sides.b.now sound_b)
 
   pub named-a : (k : Kind) (x : List ℕ) → new_id (in_kind names k).a x ≡ name_of (names_a a b) k a x
-  named-a k x = ap (λ t. new_id t.a x) (are k) ∙ named (names_a a b) k p sound_p x
+  named-a k x = ap (λ t. new_id t.a x) (are k) ∙ named (names_a a b) k sides.a.now sound_a x
 
-  pub named-b : (k : Kind) (x : List ℕ) → new_id (in_kind names k).b x ≡ name_of (names_b never_near a b) k b x
-  named-b k x = ap (λ t. new_id t.b x) (are k) ∙ named (names_b never_near a b) k q sound_q x
+  pub named-b : (k : Kind) (x : List ℕ) → new_id (in_kind names k).b x ≡ name_of (names_b (nearness_of sides) a b) k b x
+  named-b k x = ap (λ t. new_id t.b x) (are k) ∙ named (names_b (nearness_of sides) a b) k sides.b.now sound_b x
 
   are-few : (k : Kind) → AreFew k a b
   are-few k = let below = few k in omega (arith, below)
 
   pub apart : (k : Kind) (s : Side) → AreApart (of_side (in_kind names k) s)
   apart k side.A x y name first second =
-      apart-names (names_a a b) k a (apart-a a b sound_p.content sound_q.content k) x y name (sym (named-a k x) ∙ first) (sym (named-a k y) ∙ second)
+      apart-names (names_a a b) k a (apart-a a b sound_a.content sound_b.content k) x y name (sym (named-a k x) ∙ first) (sym (named-a k y) ∙ second)
   apart k side.B x y name first second =
-      apart-names (names_b never_near a b) k b (apart-b a b sound_p.content sound_q.content k (are-few k)) x y name (sym (named-b k x) ∙ first) (sym (named-b k y) ∙ second)
+      apart-names (names_b (nearness_of sides) a b) k b (apart-b a b sound_a.content sound_b.content k (are-few k)) x y name (sym (named-b k x) ∙ first) (sym (named-b k y) ∙ second)
 
   pub meet : (k : Kind) → MeetWhereJoined (in_kind names k)
-  meet k = names-meet p q sound_p sound_q few k (in_kind names k) (are k)
+  meet k = names-meet sides sound_a sound_b few k (in_kind names k) (are k)
 
-  pub joined : (k : Kind) → (in_kind names k).joined ≡ joined_ids never_near k a b
+  pub joined : (k : Kind) → (in_kind names k).joined ≡ joined_ids (nearness_of sides) k a b
   joined k = ap (λ t. t.joined) (are k)

@@ -15,6 +15,7 @@ use Rattle.gtfs_merge.specs.Numbered.{known_ids}
 use Rattle.gtfs_merge.specs.Renaming.{has_id, ids, is_joined, free_id, merged_id, renamed_b, renaming, names_a, names_b, never_near, agency_a, agency_b, joined_agency, joined_stop, stop_b, stop_within}
 use Rattle.gtfs_merge.specs.declared.kind.Kind.{Kind}
 use Rattle.gtfs_merge.specs.declared.kind.Kind.TheVariants as kind
+use Rattle.gtfs_merge.specs.declared.sides.Sides.{Sides}
 use Rattle.gtfs_merge.proofs.JoinedKinds.{ids-known}
 use Rattle.gtfs_merge.proofs.JoinedStops.{stop-ruled}
 use Rattle.gtfs_merge.proofs.Fresh.{merged_id-number}
@@ -25,14 +26,14 @@ use Rattle.gtfs_merge.proofs.Stops.{joined-same, never-nearness, stop_id_of, und
 
 -- ---- the ids that are taken
 
-pub taken-known : (k : Kind) (p q : Parts) → IsSoundParts p → IsSoundParts q → (base : List ℕ) → free_id (known_ids k p ++ known_ids k q) base ≡ free_id (ids k (content_of_parts p) ++ ids k (content_of_parts q)) base
-taken-known k p q sound_p sound_q base = sym (λ i. free_id (ids-known k p sound_p i ++ ids-known k q sound_q i) base)
+pub taken-known : (k : Kind) (sides : Sides) → IsSoundParts sides.a.now → IsSoundParts sides.b.now → (base : List ℕ) → free_id (known_ids k sides.a.now ++ known_ids k sides.b.now) base ≡ free_id (ids k (content_of_parts sides.a.now) ++ ids k (content_of_parts sides.b.now)) base
+taken-known k sides sound_a sound_b base = sym (λ i. free_id (ids-known k sides.a.now sound_a i ++ ids-known k sides.b.now sound_b i) base)
 
-pub few-taken : (k : Kind) (p q : Parts) → IsSoundParts p → IsSoundParts q → length (ids k (content_of_parts p)) + length (ids k (content_of_parts q)) < 2 ^ 65 → length (known_ids k p ++ known_ids k q) + 2 < 2 ^ 128
-few-taken k p q sound_p sound_q few =
-    let e : length (ids k (content_of_parts p)) ≡ length (known_ids k p) = ap length (ids-known k p sound_p) in
-    let f : length (ids k (content_of_parts q)) ≡ length (known_ids k q) = ap length (ids-known k q sound_q) in
-    let g = length-append (known_ids k p) (known_ids k q) in
+pub few-taken : (k : Kind) (sides : Sides) → IsSoundParts sides.a.now → IsSoundParts sides.b.now → length (ids k (content_of_parts sides.a.now)) + length (ids k (content_of_parts sides.b.now)) < 2 ^ 65 → length (known_ids k sides.a.now ++ known_ids k sides.b.now) + 2 < 2 ^ 128
+few-taken k sides sound_a sound_b few =
+    let e : length (ids k (content_of_parts sides.a.now)) ≡ length (known_ids k sides.a.now) = ap length (ids-known k sides.a.now sound_a) in
+    let f : length (ids k (content_of_parts sides.b.now)) ≡ length (known_ids k sides.b.now) = ap length (ids-known k sides.b.now sound_b) in
+    let g = length-append (known_ids k sides.a.now) (known_ids k sides.b.now) in
     omega arith
 
 pub has-known : (k : Kind) (p : Parts) → IsSoundParts p → (x : List ℕ) (b : Bool) → has_id (known_ids k p) x ≡ b → has_id (ids k (content_of_parts p)) x ≡ b

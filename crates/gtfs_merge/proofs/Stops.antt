@@ -10,7 +10,7 @@ use Rattle.gtfs_rows.specs.Places.{is_plain_stop}
 use Rattle.gtfs_merge.specs.Same.{same_stop}
 use Rattle.gtfs_merge.specs.Renaming.{Renaming, Nearness, never_near, kept_as_is, has_id, ids, free_id, stop_with, joined_stop_under, near_stop_under, stop_under, stop_within, stop_b, renamed_b}
 use Rattle.gtfs_merge.specs.Merged.{merged}
-use Rattle.gtfs_merge.specs.Near.{near_by, are_close, same_given_name}
+use Rattle.gtfs_merge.specs.Near.{near_by, are_close, nearness, same_given_name}
 use Rattle.gtfs_merge.specs.declared.kind.Kind.TheVariants as kind
 pub use Rattle.gtfs_merge.specs.Law.{IsNearness}
 use Rattle.gtfs_merge.proofs.Lookups.{bytes_same, In, In-list_any, find-In, holds_at, look, IsKeyed}
@@ -36,6 +36,10 @@ near-nearness n = record {
       let v = and_parts _ _ u.0 in
       (sym (exact-nat y.location_type x.location_type v.0), sym (exact-text (option_map r y.parent_station) x.parent_station p.1));
 }
+
+pub is-nearness : (o : Option ℕ) → IsNearness (nearness o)
+is-nearness None = never-nearness
+is-nearness (Some n) = near-nearness n
 
 -- what is known of the stops of a feed
 pub record HasPlaces (f : Content) : Type 0 where

@@ -1,10 +1,10 @@
 -- The headsigns of the stop times of a merged feed: those of both feeds, each once.
 use Rattle.std.specs.Prelude.{◌≡◌, ℕ, List, map, Option, Some, option_and_then, slice_get}
-use Rattle.gtfs_rows.specs.declared.parts.Parts.{Parts}
 use Rattle.gtfs_rows.specs.Headsigns.{AreDistinct}
 use Rattle.gtfs_merge.specs.Sides.{side_parts}
 use Rattle.gtfs_merge.specs.declared.kind.Side.{Side}
 use Rattle.gtfs_merge.specs.declared.kind.Side.TheVariants as side
+use Rattle.gtfs_merge.specs.declared.sides.Sides.{Sides}
 
 -- the texts by their new numbers, and at the number of a side's headsign its new number
 pub record HeadsignTable : Type 0 where
@@ -21,7 +21,7 @@ abbrev pub AreNumbersOf : List (List ℕ) → List (List ℕ) → List (Option �
 AreNumbersOf texts olds numbers = map (option_and_then (slice_get texts)) numbers ≡ map Some olds
 
 -- the headsigns of both feeds
-pub record AreHeadsigns (p q : Parts) (t : HeadsignTable) : Type 0 where
-  pub numbers : (s : Side) → AreNumbersOf t.texts (side_parts s p q).headsigns (numbers_on t s)
+pub record AreHeadsigns (sides : Sides) (t : HeadsignTable) : Type 0 where
+  pub numbers : (s : Side) → AreNumbersOf t.texts (side_parts s sides).headsigns (numbers_on t s)
   -- no text stands there twice
   pub distinct : AreDistinct t.texts

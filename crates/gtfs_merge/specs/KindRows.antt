@@ -1,19 +1,19 @@
 -- The merged rows of each kind with the new numbers of both sides.
 use Rattle.std.specs.Prelude.{List}
-use Rattle.gtfs_rows.specs.declared.parts.Parts.{Parts}
 use Rattle.gtfs_merge.specs.MergedKinds.{AreMergedRows}
 use Rattle.gtfs_merge.specs.Order.{Entry}
 use Rattle.gtfs_merge.specs.Renumbered.{AreRenumbered, NewNumbers}
 use Rattle.gtfs_merge.specs.declared.kind.Kind.{Kind}
 use Rattle.gtfs_merge.specs.declared.kind.Kind.TheVariants as kind
+use Rattle.gtfs_merge.specs.declared.sides.Sides.{Sides}
 
 pub record KindEntries : Type 0 where
   pub rows : List Entry
   pub numbers : NewNumbers
 
-pub record AreKindRows (k : Kind) (p q : Parts) (r : KindEntries) : Type 0 where
-  pub rows : AreMergedRows k p q r.rows
-  pub numbers : AreRenumbered k p q r.numbers
+pub record AreKindRows (k : Kind) (sides : Sides) (r : KindEntries) : Type 0 where
+  pub rows : AreMergedRows k sides r.rows
+  pub numbers : AreRenumbered k sides r.numbers
 
 pub record AllEntries : Type 0 where
   pub agencies : KindEntries
@@ -29,5 +29,5 @@ entries_in m kind.Route = m.routes
 entries_in m kind.Service = m.services
 entries_in m kind.Trip = m.trips
 
-abbrev pub AreMergedKinds : Parts → Parts → AllEntries → Type 0
-AreMergedKinds p q m = (k : Kind) → AreKindRows k p q (entries_in m k)
+abbrev pub AreMergedKinds : Sides → AllEntries → Type 0
+AreMergedKinds sides m = (k : Kind) → AreKindRows k sides (entries_in m k)

@@ -1,13 +1,13 @@
 -- What ids became.
 use Rattle.std.specs.Prelude.{◌≡◌, ℕ, ◌==◌, Bool, true, false, List, ◌∷◌, ◌++◌, [], length, map, bytes_eq, position, slice_get, Option, Some, option_and_then}
-use Rattle.gtfs_rows.specs.declared.parts.Parts.{Parts}
-use Rattle.gtfs_rows.specs.Views.{content_of_parts}
 use Rattle.gtfs_merge.specs.Numbered.{known_ids}
-use Rattle.gtfs_merge.specs.Renaming.{Renaming, has_id, joined_ids, names_a, names_b, never_near, renaming}
+use Rattle.gtfs_merge.specs.Renaming.{Renaming, has_id, joined_ids, renaming}
+use Rattle.gtfs_merge.specs.Sides.{content_a, content_b, nearness_of, side_names}
 use Rattle.gtfs_merge.specs.declared.kind.Kind.{Kind}
 use Rattle.gtfs_merge.specs.declared.kind.Kind.TheVariants as kind
 use Rattle.gtfs_merge.specs.declared.kind.Side.{Side}
 use Rattle.gtfs_merge.specs.declared.kind.Side.TheVariants as side
+use Rattle.gtfs_merge.specs.declared.sides.Sides.{Sides}
 
 -- an agency may have an empty id
 abbrev pub is_nameless : Kind → List ℕ → Bool
@@ -65,13 +65,13 @@ of_side n side.B = n.b
 abbrev pub MeetWhereJoined : NamesOfKind → Type 0
 MeetWhereJoined n = (x y name : List ℕ) → new_id n.a x ≡ Some name → new_id n.b y ≡ Some name → (x ≡ name) × (y ≡ name) × (has_id n.joined name ≡ true)
 
-abbrev pub kind_names : Kind → Parts → Parts → NamesOfKind
-kind_names k p q = record {
-  a = new_ids (renaming (names_a (content_of_parts p) (content_of_parts q)) k) (known_ids k p);
-  b = new_ids (renaming (names_b never_near (content_of_parts p) (content_of_parts q)) k) (known_ids k q);
-  joined = joined_ids never_near k (content_of_parts p) (content_of_parts q);
+abbrev pub kind_names : Kind → Sides → NamesOfKind
+kind_names k sides = record {
+  a = new_ids (renaming (side_names side.A sides) k) (known_ids k sides.a.now);
+  b = new_ids (renaming (side_names side.B sides) k) (known_ids k sides.b.now);
+  joined = joined_ids (nearness_of sides) k (content_a sides) (content_b sides);
 }
 
 -- the names of two feeds, of each kind
-abbrev pub AreKindNames : Parts → Parts → AllNames → Type 0
-AreKindNames p q n = (k : Kind) → in_kind n k ≡ kind_names k p q
+abbrev pub AreKindNames : Sides → AllNames → Type 0
+AreKindNames sides n = (k : Kind) → in_kind n k ≡ kind_names k sides

@@ -1,10 +1,10 @@
 -- Stops of two feeds that lie close together become one.
 -- The rule is this project's.
-use Rattle.std.specs.Prelude.{ℕ, ◌*◌, ◌==◌, ◌&&◌, Bool, true, false, nat_le, List, ◌++◌, length, filter_map, bytes_eq, codes, decimal, option_map, unsigned_abs, ◌-ℤ◌, ℤ, Option, Some, None, is_some}
+use Rattle.std.specs.Prelude.{ℕ, ◌*◌, ◌==◌, ◌&&◌, Bool, false, if◌then◌else◌, nat_le, List, [], ◌++◌, length, filter_map, bytes_eq, codes, decimal, option_map, unsigned_abs, ◌-ℤ◌, ℤ, Option, Some, None, is_some}
 use Rattle.std.specs.Option.{option_eq}
 use Rattle.gtfs_rows.specs.Content.{Content}
 use Rattle.gtfs_rows.specs.Rows.{Stop}
-use Rattle.gtfs_merge.specs.Renaming.{Nearness, joined_stop, near_stop_under, stop_b}
+use Rattle.gtfs_merge.specs.Renaming.{Nearness, joined_stop, near_stop_under, never_near, stop_b}
 use Rattle.gtfs_merge.specs.Report.{merge_report}
 
 -- both coordinates are there and differ by at most n millionths of a degree, which are a thousand units each
@@ -24,17 +24,26 @@ near_by n rename y x = (y.location_type == x.location_type)
     && are_close n y.stop_lon x.stop_lon
     && option_eq bytes_eq (option_map rename y.parent_station) x.parent_station
 
--- the near stops of B, none of them joined, with those of A that they became, by the ids of B
-abbrev pub near_pair : ℕ → Content → Content → Stop → Option (List ℕ × List ℕ)
-near_pair n a b y = unless_joined (joined_stop (near_by n) a b y.stop_id)
-  where
-    unless_joined : Bool → Option (List ℕ × List ℕ)
-    unless_joined true = None
-    unless_joined false = option_map (λ x. (y.stop_id, x)) (near_stop_under (near_by n) (stop_b (near_by n) a b) a b y.stop_id)
+-- up to how many millionths of a degree stops are near, if any are
+abbrev pub nearness : Option ℕ → Nearness
+nearness None = never_near
+nearness (Some n) = near_by n
 
-abbrev pub near_pairs : ℕ → Content → Content → List (List ℕ × List ℕ)
-near_pairs n a b = filter_map (near_pair n a b) b.stops
+-- a stop of B that is not joined, with the stop of A that it is near, if any
+abbrev pub near_pair : Nearness → Content → Content → Stop → Option (List ℕ × List ℕ)
+near_pair near a b y =
+    if joined_stop near a b y.stop_id then None
+    else option_map (λ x. (y.stop_id, x)) (near_stop_under near (stop_b near a b) a b y.stop_id)
 
--- the report with its last line
-abbrev pub near_report : ℕ → Content → Content → List ℕ
-near_report n a b = merge_report (near_by n) a b ++ codes "near stop " ++ decimal (length (near_pairs n a b)) ++ codes "\n"
+-- all of them, by the ids of B
+abbrev pub near_pairs : Nearness → Content → Content → List (List ℕ × List ℕ)
+near_pairs near a b = filter_map (near_pair near a b) b.stops
+
+-- the last line of the report, only with the option
+abbrev pub near_line : Option ℕ → ℕ → List ℕ
+near_line None count = []
+near_line (Some n) count = codes "near stop " ++ decimal count ++ codes "\n"
+
+-- the report of a merge
+abbrev pub report : Option ℕ → Content → Content → List ℕ
+report o a b = merge_report (nearness o) a b ++ near_line o (length (near_pairs (nearness o) a b))

@@ -1,14 +1,14 @@
 -- The numbers that the rows of both sides have in the merged feed.
 use Rattle.std.specs.Prelude.{◌≡◌, ◌<◌, ℕ, List, All, length, map, slice_index_or, slice_set, Option, None, Some}
 use Rattle.gtfs_rows.specs.Views.{text_of_number}
-use Rattle.gtfs_rows.specs.declared.parts.Parts.{Parts}
 use Rattle.gtfs_merge.specs.Numbered.{known_ids}
 use Rattle.gtfs_merge.specs.Order.{Entry}
 use Rattle.gtfs_merge.specs.Renaming.{Renaming, renaming}
-use Rattle.gtfs_merge.specs.Sides.{merged_ids, side_names, side_parts}
+use Rattle.gtfs_merge.specs.Sides.{side_parts, side_names, merged_ids}
 use Rattle.gtfs_merge.specs.declared.kind.Kind.{Kind}
 use Rattle.gtfs_merge.specs.declared.kind.Side.{Side}
 use Rattle.gtfs_merge.specs.declared.kind.Side.TheVariants as side
+use Rattle.gtfs_merge.specs.declared.sides.Sides.{Sides}
 
 -- the new numbers of one kind: at a row's number that in the merged feed
 pub record NewNumbers : Type 0 where
@@ -24,8 +24,8 @@ pub record AreNewNumbers (merged : List (List ℕ)) (rename : Renaming) (olds : 
   pub within : All (λ n. n < length merged) numbers
   pub named : map (text_of_number merged) numbers ≡ map rename olds
 
-abbrev pub AreRenumbered : Kind → Parts → Parts → NewNumbers → Type 0
-AreRenumbered k p q n = (s : Side) → AreNewNumbers (merged_ids k p q) (renaming (side_names s p q) k) (known_ids k (side_parts s p q)) (numbers_of n s)
+abbrev pub AreRenumbered : Kind → Sides → NewNumbers → Type 0
+AreRenumbered k sides n = (s : Side) → AreNewNumbers (merged_ids k sides) (renaming (side_names s sides) k) (known_ids k (side_parts s sides)) (numbers_of n s)
 
 -- ---- how they are found
 

@@ -1,29 +1,43 @@
 -- Both feeds of a merge as their parts keep them, and the content that they make.
-use Rattle.std.specs.Prelude.{ℕ, List}
+use Rattle.std.specs.Prelude.{ℕ, Bool, List}
 use Rattle.gtfs_rows.specs.Content.{Content}
 use Rattle.gtfs_rows.specs.Views.{content_of_parts}
 use Rattle.gtfs_rows.specs.declared.parts.Parts.{Parts}
 use Rattle.gtfs_merge.specs.Merged.{merged}
-use Rattle.gtfs_merge.specs.Renaming.{Names, ids, names_a, names_b, never_near}
+use Rattle.gtfs_merge.specs.Renaming.{Names, Nearness, ids, is_joined, names_a, names_b, never_near}
 use Rattle.gtfs_merge.specs.declared.kind.Kind.{Kind}
 use Rattle.gtfs_merge.specs.declared.kind.Side.{Side}
 use Rattle.gtfs_merge.specs.declared.kind.Side.TheVariants as side
+use Rattle.gtfs_merge.specs.declared.sides.Sides.{Sides}
 
-abbrev pub side_parts : Side → Parts → Parts → Parts
-side_parts side.A p q = p
-side_parts side.B p q = q
+abbrev pub side_parts : Side → Sides → Parts
+side_parts side.A sides = sides.a.now
+side_parts side.B sides = sides.b.now
 
-abbrev pub side_content : Side → Parts → Parts → Content
-side_content s p q = content_of_parts (side_parts s p q)
+abbrev pub side_content : Side → Sides → Content
+side_content s sides = content_of_parts (side_parts s sides)
+
+abbrev pub content_a : Sides → Content
+content_a sides = content_of_parts sides.a.now
+
+abbrev pub content_b : Sides → Content
+content_b sides = content_of_parts sides.b.now
+
+-- which stops are near
+abbrev pub nearness_of : Sides → Nearness
+nearness_of sides = never_near
 
 -- what the ids of a side become
-abbrev pub side_names : Side → Parts → Parts → Names
-side_names side.A p q = names_a (content_of_parts p) (content_of_parts q)
-side_names side.B p q = names_b never_near (content_of_parts p) (content_of_parts q)
+abbrev pub side_names : Side → Sides → Names
+side_names side.A sides = names_a (content_a sides) (content_b sides)
+side_names side.B sides = names_b (nearness_of sides) (content_a sides) (content_b sides)
 
-abbrev pub merged_parts : Parts → Parts → Content
-merged_parts p q = merged never_near (content_of_parts p) (content_of_parts q)
+abbrev pub is_joined_id : Kind → Sides → List ℕ → Bool
+is_joined_id k sides = is_joined (nearness_of sides) k (content_a sides) (content_b sides)
+
+abbrev pub merged_parts : Sides → Content
+merged_parts sides = merged (nearness_of sides) (content_a sides) (content_b sides)
 
 -- the ids of the merged feed, by number
-abbrev pub merged_ids : Kind → Parts → Parts → List (List ℕ)
-merged_ids k p q = ids k (merged_parts p q)
+abbrev pub merged_ids : Kind → Sides → List (List ℕ)
+merged_ids k sides = ids k (merged_parts sides)

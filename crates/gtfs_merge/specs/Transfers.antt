@@ -7,13 +7,13 @@ use Rattle.std.specs.Ordering.{nat_cmp}
 use Rattle.std.specs.declared.cmp.Ordering.{Ordering}
 use Rattle.gtfs_rows.specs.TransferEnds.{transfer_numbers}
 use Rattle.gtfs_rows.specs.Order.{by_key}
-use Rattle.gtfs_rows.specs.declared.parts.Parts.{Parts}
 use Rattle.gtfs_rows.specs.declared.transfer.Transfer.{Transfer}
 use Rattle.gtfs_merge.specs.KindRows.{AllEntries}
 use Rattle.gtfs_merge.specs.Renumbered.{numbers_of}
 use Rattle.gtfs_merge.specs.Sides.{side_parts}
 use Rattle.gtfs_merge.specs.declared.kind.Side.{Side}
 use Rattle.gtfs_merge.specs.declared.kind.Side.TheVariants as side
+use Rattle.gtfs_merge.specs.declared.sides.Sides.{Sides}
 
 -- a transfer whose stops, routes and trips have their new numbers
 abbrev pub renumbered_transfer : List ℕ → List ℕ → List ℕ → Transfer → Transfer
@@ -29,16 +29,16 @@ renumbered_transfer stops routes trips t = record t {
 abbrev pub transfer_on : AllEntries → Side → Transfer → Transfer
 transfer_on k s = renumbered_transfer (numbers_of k.stops.numbers s) (numbers_of k.routes.numbers s) (numbers_of k.trips.numbers s)
 
-abbrev pub transfers_on : Parts → Parts → AllEntries → Side → List Transfer
-transfers_on p q k s = map (transfer_on k s) (side_parts s p q).transfers
+abbrev pub transfers_on : Sides → AllEntries → Side → List Transfer
+transfers_on sides k s = map (transfer_on k s) (side_parts s sides).transfers
 
 -- by the numbers of what a transfer names, part by part; a part that is not there is the least
 abbrev pub ends_cmp : List (Option ℕ) → List (Option ℕ) → Ordering
 ends_cmp = slice_cmp (option_cmp nat_cmp)
 
 -- those of A and then those of B, ascending by their keys, the first of each key staying
-abbrev pub merged_transfers : Parts → Parts → AllEntries → List Transfer
-merged_transfers p q k = by_key ends_cmp transfer_numbers (transfers_on p q k side.A ++ transfers_on p q k side.B)
+abbrev pub merged_transfers : Sides → AllEntries → List Transfer
+merged_transfers sides k = by_key ends_cmp transfer_numbers (transfers_on sides k side.A ++ transfers_on sides k side.B)
 
 -- ---- in code
 

@@ -3,7 +3,7 @@ ghost use Rattle.gtfs_rows.specs.Headsigns.{AreDistinct, KeepsHeadsigns};
 ghost use Rattle.gtfs_merge.specs.Headsigns.{AreHeadsigns, AreNumbersOf, numbers_on};
 
 use crate::kind::Side;
-use gtfs_feed::Feed;
+use crate::sides::Sides;
 use gtfs_field::{List, OutOfMemory, Text};
 use gtfs_rows::{HeadsignNo, OptionalHeadsign};
 use indexmap::IndexSet;
@@ -42,14 +42,13 @@ impl Headsigns {
     pub(crate) fn of_feeds(
         alloc: Global,
         random: RandomState,
-        a: &Feed,
-        b: &Feed,
+        sides: &Sides,
     ) -> Result<Headsigns, OutOfMemory>
-        ensures { IfOk result (AreHeadsigns a.now b.now) }
+        ensures { IfOk result (AreHeadsigns sides.now) }
     {
         let mut found = Found::new(alloc, random);
-        let of_a = found.numbers(a.parts().headsigns.as_slice())?;
-        let of_b = found.numbers(b.parts().headsigns.as_slice())?;
+        let of_a = found.numbers(sides.a.parts().headsigns.as_slice())?;
+        let of_b = found.numbers(sides.b.parts().headsigns.as_slice())?;
         let texts = found.into_list()?;
         Ok(Headsigns {
             texts,

@@ -11,7 +11,7 @@ use crate::merged_services::merged_services;
 use crate::merged_stop_times::StopTimes;
 use crate::merged_stops::merged_stops;
 use crate::merged_trips::merged_trips;
-use gtfs_feed::Feed;
+use crate::sides::Sides;
 use gtfs_field::{List, OutOfMemory, Text};
 use gtfs_rows::{Agency, Parts, Route, ServiceRow, Stop, Transfer, Trip};
 use std::alloc::Global;
@@ -42,18 +42,17 @@ impl IdRows {
     // The rows of each kind, where these are the merged rows of all kinds.
     pub(crate) fn of_kinds(
         alloc: Global,
-        a: &Feed,
-        b: &Feed,
+        sides: &Sides,
         kinds: &MergedKinds,
     ) -> Result<IdRows, OutOfMemory>
-        requires { AreMergedKinds a.now b.now kinds.now }
-        ensures { IfOk result (AreIdRows a.now b.now) }
+        requires { AreMergedKinds sides.now kinds.now }
+        ensures { IfOk result (AreIdRows sides.now) }
     {
-        let agencies = merged_agencies(alloc, a, b, &kinds.agencies)?;
-        let stops = merged_stops(alloc, a, b, &kinds.stops)?;
-        let routes = merged_routes(alloc, a, b, &kinds.routes, &kinds.agencies)?;
-        let services = merged_services(alloc, a, b, &kinds.services)?;
-        let trips = merged_trips(alloc, a, b, &kinds.trips, &kinds.routes, &kinds.services)?;
+        let agencies = merged_agencies(alloc, sides, &kinds.agencies)?;
+        let stops = merged_stops(alloc, sides, &kinds.stops)?;
+        let routes = merged_routes(alloc, sides, &kinds.routes, &kinds.agencies)?;
+        let services = merged_services(alloc, sides, &kinds.services)?;
+        let trips = merged_trips(alloc, sides, &kinds.trips, &kinds.routes, &kinds.services)?;
         Ok(IdRows {
             agencies,
             stops,

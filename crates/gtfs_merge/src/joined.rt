@@ -5,7 +5,7 @@ ghost use Rattle.gtfs_merge.specs.declared.kind.Kind.TheVariants as kind;
 
 use crate::same_rows::is_same_agency;
 use crate::same_services::is_same_service;
-use gtfs_feed::Feed;
+use crate::sides::Sides;
 use gtfs_field::OutOfMemory;
 use gtfs_rows::{AgencyNo, ServiceNo};
 use std::alloc::Global;
@@ -13,30 +13,28 @@ use std::alloc::Global;
 // For each agency of B the agency of A that it is joined with.
 pub(crate) fn joined_agencies(
     alloc: Global,
-    a: &Feed,
-    b: &Feed,
+    sides: &Sides,
 ) -> Result<Vec<Option<AgencyNo>>, OutOfMemory>
     ensures { IfOk result (λ joined. map (option_map (λ n. n.0)) joined.items
-        ≡ joined_numbers kind.Agency a.now b.now) }
+        ≡ joined_numbers kind.Agency sides.now) }
 {
-    let mut joined = Vec::with_capacity(alloc, b.agency_count())?;
-    for number in 0..b.agency_count() {
-        joined.push(joined_agency(a, b, AgencyNo(number)))?;
+    let mut joined = Vec::with_capacity(alloc, sides.b.agency_count())?;
+    for number in 0..sides.b.agency_count() {
+        joined.push(joined_agency(sides, AgencyNo(number)))?;
     }
     Ok(joined)
 }
 
 // The agency of A that an agency of B is joined with.
-fn joined_agency(a: &Feed, b: &Feed, agency: AgencyNo) -> Option<AgencyNo>
-    requires { agency.0 < length b.now.agencies }
+fn joined_agency(sides: &Sides, agency: AgencyNo) -> Option<AgencyNo>
+    requires { agency.0 < length sides.now.b.now.agencies }
     ensures { option_map (λ n. n.0) result
-        ≡ joined_number kind.Agency a.now b.now (slice_index_or (agency_ids b.now) agency.0 []) }
+        ≡ joined_number kind.Agency sides.now (slice_index_or (agency_ids sides.now.b.now) agency.0 []) }
 {
-    a.soundness();
-    b.soundness();
-    let row = b.agency_by_number(agency);
-    let other = a.agency(row.agency_id.as_str())?;
-    if is_same_agency(a.agency_by_number(other), row) {
+    sides.soundness();
+    let row = sides.b.agency_by_number(agency);
+    let other = sides.a.agency(row.agency_id.as_str())?;
+    if is_same_agency(sides.a.agency_by_number(other), row) {
         Some(other)
     } else {
         None
@@ -46,29 +44,30 @@ fn joined_agency(a: &Feed, b: &Feed, agency: AgencyNo) -> Option<AgencyNo>
 // For each service of B the service of A that it is joined with.
 pub(crate) fn joined_services(
     alloc: Global,
-    a: &Feed,
-    b: &Feed,
+    sides: &Sides,
 ) -> Result<Vec<Option<ServiceNo>>, OutOfMemory>
     ensures { IfOk result (λ joined. map (option_map (λ n. n.0)) joined.items
-        ≡ joined_numbers kind.Service a.now b.now) }
+        ≡ joined_numbers kind.Service sides.now) }
 {
-    let mut joined = Vec::with_capacity(alloc, b.service_count())?;
-    for number in 0..b.service_count() {
-        joined.push(joined_service(a, b, ServiceNo(number)))?;
+    let mut joined = Vec::with_capacity(alloc, sides.b.service_count())?;
+    for number in 0..sides.b.service_count() {
+        joined.push(joined_service(sides, ServiceNo(number)))?;
     }
     Ok(joined)
 }
 
 // The service of A that a service of B is joined with.
-fn joined_service(a: &Feed, b: &Feed, service: ServiceNo) -> Option<ServiceNo>
-    requires { service.0 < length b.now.services }
+fn joined_service(sides: &Sides, service: ServiceNo) -> Option<ServiceNo>
+    requires { service.0 < length sides.now.b.now.services }
     ensures { option_map (λ n. n.0) result
-        ≡ joined_number kind.Service a.now b.now (slice_index_or (service_ids b.now) service.0 []) }
+        ≡ joined_number kind.Service sides.now (slice_index_or (service_ids sides.now.b.now) service.0 []) }
 {
-    a.soundness();
-    b.soundness();
-    let other = a.service(b.service_id(service))?;
-    if is_same_service(a.service_by_number(other), b.service_by_number(service)) {
+    sides.soundness();
+    let other = sides.a.service(sides.b.service_id(service))?;
+    if is_same_service(
+        sides.a.service_by_number(other),
+        sides.b.service_by_number(service),
+    ) {
         Some(other)
     } else {
         None

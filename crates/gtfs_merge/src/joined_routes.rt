@@ -4,9 +4,8 @@ ghost use Rattle.gtfs_rows.specs.Views.{route_ids};
 ghost use Rattle.gtfs_merge.specs.Joined.{joined_number, joined_numbers};
 ghost use Rattle.gtfs_merge.specs.declared.kind.Kind.TheVariants as kind;
 
-use crate::few::are_few;
 use crate::same_rows::is_same_route;
-use gtfs_feed::Feed;
+use crate::sides::Sides;
 use gtfs_field::OutOfMemory;
 use gtfs_rows::{AgencyNo, RouteNo};
 use std::alloc::Global;
@@ -14,40 +13,32 @@ use std::alloc::Global;
 // For each route of B the route of A that it is joined with.
 pub(crate) fn joined_routes(
     alloc: Global,
-    a: &Feed,
-    b: &Feed,
+    sides: &Sides,
     agencies: &[Option<AgencyNo>],
 ) -> Result<Vec<Option<RouteNo>>, OutOfMemory>
-    requires { map (option_map (λ n. n.0)) agencies.now ≡ joined_numbers kind.Agency a.now b.now }
+    requires { map (option_map (λ n. n.0)) agencies.now ≡ joined_numbers kind.Agency sides.now }
     ensures { IfOk result (λ joined. map (option_map (λ n. n.0)) joined.items
-        ≡ joined_numbers kind.Route a.now b.now) }
+        ≡ joined_numbers kind.Route sides.now) }
 {
-    let mut joined = Vec::with_capacity(alloc, b.route_count())?;
-    for number in 0..b.route_count() {
-        joined.push(joined_route(a, b, agencies, RouteNo(number)))?;
+    let mut joined = Vec::with_capacity(alloc, sides.b.route_count())?;
+    for number in 0..sides.b.route_count() {
+        joined.push(joined_route(sides, agencies, RouteNo(number)))?;
     }
     Ok(joined)
 }
 
 // The route of A that a route of B is joined with.
-fn joined_route(
-    a: &Feed,
-    b: &Feed,
-    agencies: &[Option<AgencyNo>],
-    route: RouteNo,
-) -> Option<RouteNo>
+fn joined_route(sides: &Sides, agencies: &[Option<AgencyNo>], route: RouteNo) -> Option<RouteNo>
     requires agencies { map (option_map (λ n. n.0)) agencies.now
-        ≡ joined_numbers kind.Agency a.now b.now }
-    requires route { route.0 < length b.now.routes }
+        ≡ joined_numbers kind.Agency sides.now }
+    requires route { route.0 < length sides.now.b.now.routes }
     ensures { option_map (λ n. n.0) result
-        ≡ joined_number kind.Route a.now b.now (slice_index_or (route_ids b.now) route.0 []) }
+        ≡ joined_number kind.Route sides.now (slice_index_or (route_ids sides.now.b.now) route.0 []) }
 {
-    a.soundness();
-    b.soundness();
-    are_few(a, b);
-    let row = b.route_by_number(route);
-    let other = a.route(row.route_id.as_str())?;
-    let same = a.route_by_number(other);
+    sides.soundness();
+    let row = sides.b.route_by_number(route);
+    let other = sides.a.route(row.route_id.as_str())?;
+    let same = sides.a.route_by_number(other);
     let agency = is_joined_with(agencies, row.agency_id, same.agency_id);
     if is_same_route(same, row, agency) {
         Some(other)

@@ -1,14 +1,13 @@
-ghost use Rattle.std.specs.Prelude.{◌≡◌, ◌<◌, [], ℕ, Bool, IfOk, Some, length, map, option_map, slice_get, slice_index_or};
-ghost use Rattle.gtfs_feed.specs.Content.{content_of};
+ghost use Rattle.std.specs.Prelude.{◌≡◌, ◌<◌, [], IfOk, Some, length, map, option_map, slice_get, slice_index_or};
 ghost use Rattle.gtfs_rows.specs.Views.{stop_ids};
 ghost use Rattle.gtfs_rows.specs.declared.stop.Stop.{Stop as StopRowOf};
 ghost use Rattle.gtfs_merge.specs.Joined.{became, is_same_parent, joined_numbers, number_if, parent_became};
-ghost use Rattle.gtfs_merge.specs.Renaming.{Renaming, joined_stop_under, never_near, stop_within};
+ghost use Rattle.gtfs_merge.specs.Renaming.{Renaming, joined_stop_under, stop_within};
+ghost use Rattle.gtfs_merge.specs.Sides.{content_a, content_b, nearness_of};
 ghost use Rattle.gtfs_merge.specs.declared.kind.Kind.TheVariants as kind;
 
-use crate::few::are_few;
 use crate::same_rows::is_alike_stop;
-use gtfs_feed::Feed;
+use crate::sides::Sides;
 use gtfs_field::OutOfMemory;
 use gtfs_rows::StopNo;
 use std::alloc::Global;
@@ -17,59 +16,50 @@ use std::alloc::Global;
 const GENERATIONS: u8 = 4;
 
 // For each stop of B the stop of A that it is joined with.
-pub(crate) fn joined_stops(
-    alloc: Global,
-    a: &Feed,
-    b: &Feed,
-) -> Result<Vec<Option<StopNo>>, OutOfMemory>
+pub(crate) fn joined_stops(alloc: Global, sides: &Sides) -> Result<Vec<Option<StopNo>>, OutOfMemory>
     ensures { IfOk result (λ joined. map (option_map (λ n. n.0)) joined.items
-        ≡ joined_numbers kind.Stop a.now b.now) }
+        ≡ joined_numbers kind.Stop sides.now) }
 {
-    a.soundness();
-    b.soundness();
-    are_few(a, b);
-    let mut joined = Vec::with_capacity(alloc, b.stop_count())?;
-    for number in 0..b.stop_count() {
-        joined.push(stop_within(a, b, StopNo(number), GENERATIONS))?;
+    sides.soundness();
+    let mut joined = Vec::with_capacity(alloc, sides.b.stop_count())?;
+    for number in 0..sides.b.stop_count() {
+        joined.push(stop_within(sides, StopNo(number), GENERATIONS))?;
     }
     Ok(joined)
 }
 
 // The stop of A that a stop of B becomes where this many generations of stops are compared, the stop's own first.
-fn stop_within(a: &Feed, b: &Feed, stop: StopNo, generations: u8) -> Option<StopNo>
-    requires { stop.0 < length b.now.stops }
-    ensures { option_map (λ n. n.0) result ≡ became (stop_ids a.now)
-        (stop_within never_near generations (content_of a.now) (content_of b.now))
-        (slice_index_or (stop_ids b.now) stop.0 []) }
+fn stop_within(sides: &Sides, stop: StopNo, generations: u8) -> Option<StopNo>
+    requires { stop.0 < length sides.now.b.now.stops }
+    ensures { option_map (λ n. n.0) result ≡ became (stop_ids sides.now.a.now)
+        (stop_within (nearness_of sides.now) generations (content_a sides.now) (content_b sides.now))
+        (slice_index_or (stop_ids sides.now.b.now) stop.0 []) }
 {
-    a.soundness();
-    b.soundness();
-    are_few(a, b);
-    let row = b.stop_by_number(stop);
+    sides.soundness();
+    let row = sides.b.stop_by_number(stop);
     if generations == 0 {
-        return a.stop(row.stop_id.as_str());
+        return sides.a.stop(row.stop_id.as_str());
     }
     let Some(parent) = row.parent_station else {
-        return joined_stop(a, b, stop, None);
+        return joined_stop(sides, stop, None);
     };
-    let became = stop_within(a, b, parent, generations - 1);
-    joined_stop(a, b, stop, became)
+    let became = stop_within(sides, parent, generations - 1);
+    joined_stop(sides, stop, became)
 }
 
 // The stop of A that a stop of B is joined with, where the parent of that stop of B became this one of A.
-fn joined_stop(a: &Feed, b: &Feed, stop: StopNo, parent: Option<StopNo>) -> Option<StopNo>
-    requires { stop.0 < length b.now.stops }
-    ensures { (rename : Renaming) (row : StopRowOf) → slice_get b.now.stops stop.0 ≡ Some row
-        → option_map (λ n. n.0) parent ≡ parent_became a.now b.now rename row
+fn joined_stop(sides: &Sides, stop: StopNo, parent: Option<StopNo>) -> Option<StopNo>
+    requires { stop.0 < length sides.now.b.now.stops }
+    ensures { (rename : Renaming) (row : StopRowOf) → slice_get sides.now.b.now.stops stop.0 ≡ Some row
+        → option_map (λ n. n.0) parent ≡ parent_became sides.now rename row
         → option_map (λ n. n.0) result ≡ number_if
-        (joined_stop_under rename (content_of a.now) (content_of b.now) row.stop_id)
-        (stop_ids a.now) row.stop_id }
+        (joined_stop_under rename (content_a sides.now) (content_b sides.now) row.stop_id)
+        (stop_ids sides.now.a.now) row.stop_id }
 {
-    a.soundness();
-    b.soundness();
-    let row = b.stop_by_number(stop);
-    let other = a.stop(row.stop_id.as_str())?;
-    let same = a.stop_by_number(other);
+    sides.soundness();
+    let row = sides.b.stop_by_number(stop);
+    let other = sides.a.stop(row.stop_id.as_str())?;
+    let same = sides.a.stop_by_number(other);
     if is_alike_stop(same, row) && is_same_parent(same.parent_station, row.parent_station, parent) {
         Some(other)
     } else {

@@ -7,7 +7,7 @@ use crate::joined_stops::joined_stops;
 use crate::joined_trips::joined_trips;
 use crate::kind::Kind;
 use crate::numbers::{agency_number, route_number, service_number, stop_number, trip_number};
-use gtfs_feed::Feed;
+use crate::sides::Sides;
 use gtfs_field::OutOfMemory;
 use gtfs_rows::{AgencyNo, RouteNo, ServiceNo, StopNo, TripNo};
 use std::alloc::Global;
@@ -52,17 +52,16 @@ impl Drop for Joined {
 
 impl Joined {
     // The joined rows of two feeds.
-    pub(crate) fn of_feeds(alloc: Global, a: &Feed, b: &Feed) -> Result<Joined, OutOfMemory>
-        ensures { IfOk result (λ joined. joined ≡ joined_rows a.now b.now) }
+    pub(crate) fn of_feeds(alloc: Global, sides: &Sides) -> Result<Joined, OutOfMemory>
+        ensures { IfOk result (λ joined. joined ≡ joined_rows sides.now) }
     {
-        let agencies = joined_agencies(alloc, a, b)?;
-        let services = joined_services(alloc, a, b)?;
-        let stops = joined_stops(alloc, a, b)?;
-        let routes = joined_routes(alloc, a, b, agencies.as_slice())?;
+        let agencies = joined_agencies(alloc, sides)?;
+        let services = joined_services(alloc, sides)?;
+        let stops = joined_stops(alloc, sides)?;
+        let routes = joined_routes(alloc, sides, agencies.as_slice())?;
         let trips = joined_trips(
             alloc,
-            a,
-            b,
+            sides,
             routes.as_slice(),
             services.as_slice(),
             stops.as_slice(),

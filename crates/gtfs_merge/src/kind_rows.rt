@@ -10,7 +10,7 @@ use crate::kind::{Kind, Side};
 use crate::names::Names;
 use crate::order::{MergedRow, merged_rows};
 use crate::renumbered::Numbers;
-use gtfs_feed::Feed;
+use crate::sides::Sides;
 use gtfs_field::OutOfMemory;
 use std::alloc::Global;
 use std::marker::Model;
@@ -45,18 +45,17 @@ impl KindRows {
     // The merged rows of a kind.
     pub(crate) fn of_feeds(
         alloc: Global,
-        a: &Feed,
-        b: &Feed,
+        sides: &Sides,
         joined: &Joined,
         names: &Names,
         kind: Kind,
     ) -> Result<KindRows, OutOfMemory>
-        requires joined { joined.now ≡ joined_rows a.now b.now }
-        requires names { AreKindNames a.now b.now names.now }
-        ensures { IfOk result (AreKindRows kind a.now b.now) }
+        requires joined { joined.now ≡ joined_rows sides.now }
+        requires names { AreKindNames sides.now names.now }
+        ensures { IfOk result (AreKindRows kind sides.now) }
     {
-        let rows = merged_rows(alloc, a, b, joined, names, kind)?;
-        let numbers = Numbers::of_rows(alloc, a, b, joined, kind, rows.as_slice())?;
+        let rows = merged_rows(alloc, sides, joined, names, kind)?;
+        let numbers = Numbers::of_rows(alloc, sides, joined, kind, rows.as_slice())?;
         Ok(KindRows { rows, numbers })
     }
 

@@ -13,7 +13,6 @@
 #![tactic(auto)]
 
 mod copies;
-mod few;
 mod headsigns;
 mod id_rows;
 mod joined;

@@ -6,8 +6,7 @@ ghost use Rattle.gtfs_merge.specs.declared.kind.Kind.TheVariants as kind;
 
 use crate::copies::{copied, copied_if_any, own};
 use crate::kind_rows::KindRows;
-use crate::sides::side_of;
-use gtfs_feed::Feed;
+use crate::sides::Sides;
 use gtfs_field::{List, OutOfMemory};
 use gtfs_rows::{Agency, AgencyNo};
 use std::alloc::Global;
@@ -15,17 +14,16 @@ use std::alloc::Global;
 // The agencies of the merged feed.
 pub(crate) fn merged_agencies(
     alloc: Global,
-    a: &Feed,
-    b: &Feed,
+    sides: &Sides,
     agencies: &KindRows,
 ) -> Result<List<Agency>, OutOfMemory>
-    requires { AreKindRows kind.Agency a.now b.now agencies.now }
-    ensures { IfOk result (λ list. map agency_of list ≡ (merged_parts a.now b.now).agencies) }
+    requires { AreKindRows kind.Agency sides.now agencies.now }
+    ensures { IfOk result (λ list. map agency_of list ≡ (merged_parts sides.now).agencies) }
 {
     let rows = agencies.rows();
     let mut list = Vec::with_capacity(alloc, rows.len())?;
     for row in rows {
-        let source = side_of(a, b, row.side).agency_by_number(AgencyNo(row.number));
+        let source = sides.of(row.side).agency_by_number(AgencyNo(row.number));
         list.push(with_id(alloc, source, row.id.as_str())?)?;
     }
     Ok(List::new(list))

@@ -3,8 +3,7 @@ ghost use Rattle.gtfs_merge.specs.KindRows.{AreMergedKinds};
 ghost use Rattle.gtfs_merge.specs.TripRows.{StandInTurn, frequencies_from};
 
 use crate::merged_kinds::MergedKinds;
-use crate::sides::side_of;
-use gtfs_feed::Feed;
+use crate::sides::Sides;
 use gtfs_field::OutOfMemory;
 use gtfs_rows::{Frequency, TripNo};
 use std::alloc::Global;
@@ -20,20 +19,19 @@ pub(crate) struct Frequencies {
 // The frequencies of the merged trips.
 pub(crate) fn merged_frequencies(
     alloc: Global,
-    a: &Feed,
-    b: &Feed,
+    sides: &Sides,
     kinds: &MergedKinds,
 ) -> Result<Frequencies, OutOfMemory>
-    requires { AreMergedKinds a.now b.now kinds.now }
+    requires { AreMergedKinds sides.now kinds.now }
     ensures { IfOk result (λ r. StandInTurn
-        (map (frequencies_from a.now b.now) kinds.now.trips.rows) r.starts.items r.rows.items) }
+        (map (frequencies_from sides.now) kinds.now.trips.rows) r.starts.items r.rows.items) }
 {
     let trips = kinds.trips.rows();
     let mut rows = Vec::new(alloc);
     let mut starts = Vec::with_capacity(alloc, trips.len())?;
     for trip in trips {
         starts.push(rows.len())?;
-        let of_trip = side_of(a, b, trip.side).trip_frequencies(TripNo(trip.number));
+        let of_trip = sides.of(trip.side).trip_frequencies(TripNo(trip.number));
         rows.extend_from_slice(of_trip)?;
     }
     Ok(Frequencies { rows, starts })

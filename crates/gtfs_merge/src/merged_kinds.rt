@@ -7,7 +7,7 @@ use crate::joins::Joined;
 use crate::kind::Kind;
 use crate::kind_rows::KindRows;
 use crate::names::Names;
-use gtfs_feed::Feed;
+use crate::sides::Sides;
 use gtfs_field::OutOfMemory;
 use std::alloc::Global;
 use std::marker::Model;
@@ -52,20 +52,19 @@ impl MergedKinds {
     // The merged rows of two feeds.
     pub(crate) fn of_feeds(
         alloc: Global,
-        a: &Feed,
-        b: &Feed,
+        sides: &Sides,
         joined: &Joined,
         names: &Names,
     ) -> Result<MergedKinds, OutOfMemory>
-        requires joined { joined.now ≡ joined_rows a.now b.now }
-        requires names { AreKindNames a.now b.now names.now }
-        ensures { IfOk result (AreMergedKinds a.now b.now) }
+        requires joined { joined.now ≡ joined_rows sides.now }
+        requires names { AreKindNames sides.now names.now }
+        ensures { IfOk result (AreMergedKinds sides.now) }
     {
-        let agencies = KindRows::of_feeds(alloc, a, b, joined, names, Kind::Agency)?;
-        let stops = KindRows::of_feeds(alloc, a, b, joined, names, Kind::Stop)?;
-        let routes = KindRows::of_feeds(alloc, a, b, joined, names, Kind::Route)?;
-        let services = KindRows::of_feeds(alloc, a, b, joined, names, Kind::Service)?;
-        let trips = KindRows::of_feeds(alloc, a, b, joined, names, Kind::Trip)?;
+        let agencies = KindRows::of_feeds(alloc, sides, joined, names, Kind::Agency)?;
+        let stops = KindRows::of_feeds(alloc, sides, joined, names, Kind::Stop)?;
+        let routes = KindRows::of_feeds(alloc, sides, joined, names, Kind::Route)?;
+        let services = KindRows::of_feeds(alloc, sides, joined, names, Kind::Service)?;
+        let trips = KindRows::of_feeds(alloc, sides, joined, names, Kind::Trip)?;
         Ok(MergedKinds {
             agencies,
             stops,

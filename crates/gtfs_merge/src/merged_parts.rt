@@ -1,13 +1,11 @@
 ghost use Rattle.std.specs.Prelude.{◌≡◌, IfOk, false};
-ghost use Rattle.gtfs_feed.specs.Content.{content_of};
 ghost use Rattle.gtfs_rows.specs.Views.{IsSoundParts, content_of_parts};
 ghost use Rattle.gtfs_merge.specs.Joined.{joined_rows};
 ghost use Rattle.gtfs_merge.specs.KindRows.{AreMergedKinds};
 ghost use Rattle.gtfs_merge.specs.Merged.{zones_differ};
 ghost use Rattle.gtfs_merge.specs.Names.{AreKindNames};
-ghost use Rattle.gtfs_merge.specs.Sides.{merged_parts};
+ghost use Rattle.gtfs_merge.specs.Sides.{content_a, content_b, merged_parts};
 
-use crate::few::are_few;
 use crate::headsigns::Headsigns;
 use crate::id_rows::IdRows;
 use crate::joins::Joined;
@@ -16,7 +14,7 @@ use crate::merged_kinds::MergedKinds;
 use crate::merged_stop_times::merged_stop_times;
 use crate::merged_transfers::merged_transfers;
 use crate::names::Names;
-use gtfs_feed::Feed;
+use crate::sides::Sides;
 use gtfs_field::OutOfMemory;
 use gtfs_rows::Parts;
 use std::alloc::Global;
@@ -26,41 +24,37 @@ use std::hash::RandomState;
 pub(crate) fn merged_parts(
     alloc: Global,
     random: RandomState,
-    a: &Feed,
-    b: &Feed,
+    sides: &Sides,
     joined: &Joined,
     names: &Names,
 ) -> Result<Parts, OutOfMemory>
-    requires joined { joined.now ≡ joined_rows a.now b.now }
-    requires names { AreKindNames a.now b.now names.now }
-    requires zone { zones_differ (content_of a.now) (content_of b.now) ≡ false }
+    requires joined { joined.now ≡ joined_rows sides.now }
+    requires names { AreKindNames sides.now names.now }
+    requires zone { zones_differ (content_a sides.now) (content_b sides.now) ≡ false }
     ensures sound { IfOk result IsSoundParts }
-    ensures content { IfOk result (λ parts. content_of_parts parts ≡ merged_parts a.now b.now) }
+    ensures content { IfOk result (λ parts. content_of_parts parts ≡ merged_parts sides.now) }
 {
-    let kinds = MergedKinds::of_feeds(alloc, a, b, joined, names)?;
-    parts_of_kinds(alloc, random, a, b, &kinds)
+    let kinds = MergedKinds::of_feeds(alloc, sides, joined, names)?;
+    parts_of_kinds(alloc, random, sides, &kinds)
 }
 
 // All rows of the merged feed, where these are the merged rows of all kinds.
 fn parts_of_kinds(
     alloc: Global,
     random: RandomState,
-    a: &Feed,
-    b: &Feed,
+    sides: &Sides,
     kinds: &MergedKinds,
 ) -> Result<Parts, OutOfMemory>
-    requires kinds { AreMergedKinds a.now b.now kinds.now }
-    requires zone { zones_differ (content_of a.now) (content_of b.now) ≡ false }
+    requires kinds { AreMergedKinds sides.now kinds.now }
+    requires zone { zones_differ (content_a sides.now) (content_b sides.now) ≡ false }
     ensures sound { IfOk result IsSoundParts }
-    ensures content { IfOk result (λ parts. content_of_parts parts ≡ merged_parts a.now b.now) }
+    ensures content { IfOk result (λ parts. content_of_parts parts ≡ merged_parts sides.now) }
 {
-    a.soundness();
-    b.soundness();
-    are_few(a, b);
-    let headsigns = Headsigns::of_feeds(alloc, random, a, b)?;
-    let stop_times = merged_stop_times(alloc, a, b, kinds, &headsigns)?;
-    let frequencies = merged_frequencies(alloc, a, b, kinds)?;
-    let transfers = merged_transfers(alloc, a, b, kinds)?;
-    let rows = IdRows::of_kinds(alloc, a, b, kinds)?;
+    sides.soundness();
+    let headsigns = Headsigns::of_feeds(alloc, random, sides)?;
+    let stop_times = merged_stop_times(alloc, sides, kinds, &headsigns)?;
+    let frequencies = merged_frequencies(alloc, sides, kinds)?;
+    let transfers = merged_transfers(alloc, sides, kinds)?;
+    let rows = IdRows::of_kinds(alloc, sides, kinds)?;
     Ok(rows.with_lists(transfers, stop_times, frequencies, headsigns.into_texts()))
 }

@@ -2,13 +2,12 @@ ghost use Rattle.std.specs.Prelude.{◌≡◌, ◌<◌, IfOk, length, map, slice
 ghost use Rattle.std.specs.List.{list_all};
 ghost use Rattle.gtfs_rows.specs.NamedRows.{names_agency, route_named};
 ghost use Rattle.gtfs_merge.specs.KindRows.{AreKindRows};
-ghost use Rattle.gtfs_merge.specs.Sides.{merged_ids, merged_parts};
+ghost use Rattle.gtfs_merge.specs.Sides.{merged_parts, merged_ids};
 ghost use Rattle.gtfs_merge.specs.declared.kind.Kind.TheVariants as kind;
 
 use crate::copies::{copied_if_any, own};
 use crate::kind_rows::KindRows;
-use crate::sides::side_of;
-use gtfs_feed::Feed;
+use crate::sides::Sides;
 use gtfs_field::{List, OutOfMemory};
 use gtfs_rows::{AgencyNo, Route, RouteNo};
 use std::alloc::Global;
@@ -16,24 +15,22 @@ use std::alloc::Global;
 // The routes of the merged feed.
 pub(crate) fn merged_routes(
     alloc: Global,
-    a: &Feed,
-    b: &Feed,
+    sides: &Sides,
     routes: &KindRows,
     agencies: &KindRows,
 ) -> Result<List<Route>, OutOfMemory>
-    requires routes { AreKindRows kind.Route a.now b.now routes.now }
-    requires agencies { AreKindRows kind.Agency a.now b.now agencies.now }
-    ensures rows { IfOk result (λ list. map (route_named (merged_ids kind.Agency a.now b.now)) list
-        ≡ (merged_parts a.now b.now).routes) }
+    requires routes { AreKindRows kind.Route sides.now routes.now }
+    requires agencies { AreKindRows kind.Agency sides.now agencies.now }
+    ensures rows { IfOk result (λ list. map (route_named (merged_ids kind.Agency sides.now)) list
+        ≡ (merged_parts sides.now).routes) }
     ensures agencies { IfOk result (λ list.
-        list_all (names_agency (merged_ids kind.Agency a.now b.now)) list ≡ true) }
+        list_all (names_agency (merged_ids kind.Agency sides.now)) list ≡ true) }
 {
-    a.soundness();
-    b.soundness();
+    sides.soundness();
     let rows = routes.rows();
     let mut list = Vec::with_capacity(alloc, rows.len())?;
     for row in rows {
-        let source = side_of(a, b, row.side).route_by_number(RouteNo(row.number));
+        let source = sides.of(row.side).route_by_number(RouteNo(row.number));
         let agency = renumbered(source.agency_id, agencies.numbers(row.side));
         list.push(with_id(alloc, source, row.id.as_str(), agency)?)?;
     }

@@ -6,9 +6,8 @@ ghost use Rattle.gtfs_merge.specs.declared.kind.Kind.TheVariants as kind;
 
 use crate::copies::own;
 use crate::kind_rows::KindRows;
-use crate::sides::side_of;
+use crate::sides::Sides;
 use gtfs_days::Service;
-use gtfs_feed::Feed;
 use gtfs_field::{List, OutOfMemory};
 use gtfs_rows::{ServiceNo, ServiceRow};
 use std::alloc::Global;
@@ -16,17 +15,16 @@ use std::alloc::Global;
 // The services of the merged feed.
 pub(crate) fn merged_services(
     alloc: Global,
-    a: &Feed,
-    b: &Feed,
+    sides: &Sides,
     services: &KindRows,
 ) -> Result<List<ServiceRow>, OutOfMemory>
-    requires { AreKindRows kind.Service a.now b.now services.now }
-    ensures { IfOk result (λ list. map service_of list ≡ (merged_parts a.now b.now).services) }
+    requires { AreKindRows kind.Service sides.now services.now }
+    ensures { IfOk result (λ list. map service_of list ≡ (merged_parts sides.now).services) }
 {
     let rows = services.rows();
     let mut list = Vec::with_capacity(alloc, rows.len())?;
     for row in rows {
-        let source = side_of(a, b, row.side).service_by_number(ServiceNo(row.number));
+        let source = sides.of(row.side).service_by_number(ServiceNo(row.number));
         list.push(with_id(alloc, source, row.id.as_str())?)?;
     }
     Ok(List::new(list))

@@ -10,8 +10,7 @@ ghost use Rattle.gtfs_merge.specs.declared.kind.Kind.TheVariants as kind;
 use crate::headsigns::Headsigns;
 use crate::merged_kinds::MergedKinds;
 use crate::order::MergedRow;
-use crate::sides::side_of;
-use gtfs_feed::Feed;
+use crate::sides::Sides;
 use gtfs_field::OutOfMemory;
 use gtfs_rows::{OptionalHeadsign, StopNo, StopRow, TripNo};
 use std::alloc::Global;
@@ -27,34 +26,33 @@ pub(crate) struct StopTimes {
 // The stop times of the merged trips, each with the new numbers of its stop and its headsign.
 pub(crate) fn merged_stop_times(
     alloc: Global,
-    a: &Feed,
-    b: &Feed,
+    sides: &Sides,
     kinds: &MergedKinds,
     headsigns: &Headsigns,
 ) -> Result<StopTimes, OutOfMemory>
-    requires kinds { AreMergedKinds a.now b.now kinds.now }
-    requires headsigns { AreHeadsigns a.now b.now headsigns.now }
-    ensures { IfOk result (λ r. StandInTurn (map (stop_rows_from a.now b.now kinds.now.stops.numbers
+    requires kinds { AreMergedKinds sides.now kinds.now }
+    requires headsigns { AreHeadsigns sides.now headsigns.now }
+    ensures { IfOk result (λ r. StandInTurn (map (stop_rows_from sides.now kinds.now.stops.numbers
         headsigns.now) kinds.now.trips.rows) r.starts.items r.rows.items) }
 {
     let trips = kinds.trips.rows();
-    let mut rows = Vec::with_capacity(alloc, stop_time_count(a, b, kinds))?;
+    let mut rows = Vec::with_capacity(alloc, stop_time_count(sides, kinds))?;
     let mut starts = Vec::with_capacity(alloc, trips.len())?;
     for trip in trips {
         starts.push(rows.len())?;
-        push_trip(a, b, kinds, headsigns, trip, &mut rows)?;
+        push_trip(sides, kinds, headsigns, trip, &mut rows)?;
     }
     Ok(StopTimes { rows, starts })
 }
 
 // How many stop times the merged trips have, so that their list is made at once.
-fn stop_time_count(a: &Feed, b: &Feed, kinds: &MergedKinds) -> usize
-    requires { AreMergedKinds a.now b.now kinds.now }
+fn stop_time_count(sides: &Sides, kinds: &MergedKinds) -> usize
+    requires { AreMergedKinds sides.now kinds.now }
 {
     let trips = kinds.trips.rows();
     let mut count: usize = 0;
     for trip in trips {
-        let rows = side_of(a, b, trip.side).trip_rows(TripNo(trip.number));
+        let rows = sides.of(trip.side).trip_rows(TripNo(trip.number));
         count = count.saturating_add(rows.len());
     }
     count
@@ -62,22 +60,21 @@ fn stop_time_count(a: &Feed, b: &Feed, kinds: &MergedKinds) -> usize
 
 // Adds the stop times of a trip.
 fn push_trip(
-    a: &Feed,
-    b: &Feed,
+    sides: &Sides,
     kinds: &MergedKinds,
     headsigns: &Headsigns,
     trip: &MergedRow,
     rows: &mut Vec<StopRow>,
 ) -> Result<(), OutOfMemory>
-    requires kinds { AreMergedKinds a.now b.now kinds.now }
-    requires headsigns { AreHeadsigns a.now b.now headsigns.now }
+    requires kinds { AreMergedKinds sides.now kinds.now }
+    requires headsigns { AreHeadsigns sides.now headsigns.now }
     requires trip { trip.now.number
-        < length (known_ids kind.Trip (side_parts trip.now.side a.now b.now)) }
+        < length (known_ids kind.Trip (side_parts trip.now.side sides.now)) }
     ensures { OnOk result (rows.new.items ≡ rows.old.items
-        ++ stop_rows_from a.now b.now kinds.now.stops.numbers headsigns.now
+        ++ stop_rows_from sides.now kinds.now.stops.numbers headsigns.now
         (entry_value trip.now)) }
 {
-    let feed = side_of(a, b, trip.side);
+    let feed = sides.of(trip.side);
     feed.soundness();
     let stops = kinds.stops.numbers(trip.side);
     let of_trip = feed.trip_rows(TripNo(trip.number));

@@ -2,13 +2,12 @@ ghost use Rattle.std.specs.Prelude.{◌≡◌, ◌<◌, IfOk, IfSome, OnOk, leng
 ghost use Rattle.std.specs.List.{list_all};
 ghost use Rattle.gtfs_rows.specs.NamedRows.{names_parent, stop_named};
 ghost use Rattle.gtfs_merge.specs.KindRows.{AreKindRows};
-ghost use Rattle.gtfs_merge.specs.Sides.{merged_ids, merged_parts};
+ghost use Rattle.gtfs_merge.specs.Sides.{merged_parts, merged_ids};
 ghost use Rattle.gtfs_merge.specs.declared.kind.Kind.TheVariants as kind;
 
 use crate::copies::{copy_if_any, own};
 use crate::kind_rows::KindRows;
-use crate::sides::side_of;
-use gtfs_feed::Feed;
+use crate::sides::Sides;
 use gtfs_field::{List, OutOfMemory};
 use gtfs_rows::{Stop, StopNo};
 use std::alloc::Global;
@@ -16,22 +15,20 @@ use std::alloc::Global;
 // The stops of the merged feed.
 pub(crate) fn merged_stops(
     alloc: Global,
-    a: &Feed,
-    b: &Feed,
+    sides: &Sides,
     stops: &KindRows,
 ) -> Result<List<Stop>, OutOfMemory>
-    requires { AreKindRows kind.Stop a.now b.now stops.now }
-    ensures rows { IfOk result (λ list. map (stop_named (merged_ids kind.Stop a.now b.now)) list
-        ≡ (merged_parts a.now b.now).stops) }
+    requires { AreKindRows kind.Stop sides.now stops.now }
+    ensures rows { IfOk result (λ list. map (stop_named (merged_ids kind.Stop sides.now)) list
+        ≡ (merged_parts sides.now).stops) }
     ensures parents { IfOk result (λ list.
-        list_all (names_parent (merged_ids kind.Stop a.now b.now)) list ≡ true) }
+        list_all (names_parent (merged_ids kind.Stop sides.now)) list ≡ true) }
 {
-    a.soundness();
-    b.soundness();
+    sides.soundness();
     let rows = stops.rows();
     let mut list = Vec::with_capacity(alloc, rows.len())?;
     for row in rows {
-        let source = side_of(a, b, row.side).stop_by_number(StopNo(row.number));
+        let source = sides.of(row.side).stop_by_number(StopNo(row.number));
         let parent = renumbered(source.parent_station, stops.numbers(row.side));
         list.push(with_id(alloc, source, row.id.as_str(), parent)?)?;
     }

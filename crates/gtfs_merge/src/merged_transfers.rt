@@ -1,17 +1,14 @@
 ghost use Rattle.std.specs.FinMap as table;
-ghost use Rattle.std.specs.List.{list_all};
-ghost use Rattle.std.specs.Prelude.{◌≡◌, ◌<◌, ◌++◌, IfOk, IfSome, List, OnOk, length, map, option_map, slice_index_or, true};
+ghost use Rattle.std.specs.Prelude.{◌≡◌, ◌<◌, ◌++◌, IfOk, IfSome, List, OnOk, length, option_map, slice_index_or};
 ghost use Rattle.gtfs_rows.specs.TransferEnds.{transfer_numbers};
 ghost use Rattle.gtfs_rows.specs.declared.transfer.Transfer.{Transfer as TransferOf};
 ghost use Rattle.gtfs_merge.specs.KindRows.{AreMergedKinds};
-ghost use Rattle.gtfs_merge.specs.Renumbered.{numbers_of};
-ghost use Rattle.gtfs_merge.specs.Transfers.{AreEntriesOf, IsWithin, ends_cmp, merged_transfers, transfer_on, transfers_on};
+ghost use Rattle.gtfs_merge.specs.Transfers.{AreEntriesOf, IsWithin, merged_transfers, transfer_on, transfers_on};
 
 use crate::kind::Side;
 use crate::merged_kinds::MergedKinds;
 use crate::numbers::{route_number, stop_number, trip_number};
-use crate::sides::side_of;
-use gtfs_feed::Feed;
+use crate::sides::Sides;
 use gtfs_field::{List as Listed, OutOfMemory};
 use gtfs_rows::{RouteNo, StopNo, Transfer, TripNo};
 use std::alloc::Global;
@@ -20,16 +17,15 @@ use std::collections::BTreeMap;
 // The transfers of both feeds by the new numbers of what they name. Where both feeds have a key, that of A stays.
 pub(crate) fn merged_transfers(
     alloc: Global,
-    a: &Feed,
-    b: &Feed,
+    sides: &Sides,
     kinds: &MergedKinds,
 ) -> Result<Listed<Transfer>, OutOfMemory>
-    requires { AreMergedKinds a.now b.now kinds.now }
-    ensures { IfOk result (λ list. list ≡ merged_transfers a.now b.now kinds.now) }
+    requires { AreMergedKinds sides.now kinds.now }
+    ensures { IfOk result (λ list. list ≡ merged_transfers sides.now kinds.now) }
 {
     let mut by_key = BTreeMap::new(alloc);
-    add_new(&mut by_key, a, b, kinds, Side::A)?;
-    add_new(&mut by_key, a, b, kinds, Side::B)?;
+    add_new(&mut by_key, sides, kinds, Side::A)?;
+    add_new(&mut by_key, sides, kinds, Side::B)?;
     let transfers = by_key.into_values().collect(alloc)?;
     Ok(Listed::new(transfers))
 }
@@ -37,19 +33,17 @@ pub(crate) fn merged_transfers(
 // Adds the transfers of a side whose keys are not there.
 fn add_new(
     by_key: &mut BTreeMap<[Option<usize>; 6], Transfer>,
-    a: &Feed,
-    b: &Feed,
+    sides: &Sides,
     kinds: &MergedKinds,
     side: Side,
 ) -> Result<(), OutOfMemory>
-    requires { AreMergedKinds a.now b.now kinds.now }
+    requires { AreMergedKinds sides.now kinds.now }
     ensures { (xs : List TransferOf) → AreEntriesOf xs by_key.old.entries
-        → OnOk result (AreEntriesOf (xs ++ transfers_on a.now b.now kinds.now side)
+        → OnOk result (AreEntriesOf (xs ++ transfers_on sides.now kinds.now side)
         by_key.new.entries) }
 {
-    a.soundness();
-    b.soundness();
-    let transfers = side_of(a, b, side).transfers();
+    sides.soundness();
+    let transfers = sides.of(side).transfers();
     for own in transfers {
         let transfer = renumbered(own, kinds, side);
         let key = ends(&transfer);

@@ -2,13 +2,12 @@ ghost use Rattle.std.specs.Prelude.{◌≡◌, ◌<◌, IfOk, length, map, slice
 ghost use Rattle.std.specs.List.{list_all};
 ghost use Rattle.gtfs_rows.specs.NamedRows.{names_route_and_service, trip_named, without_rows};
 ghost use Rattle.gtfs_merge.specs.KindRows.{AreKindRows};
-ghost use Rattle.gtfs_merge.specs.Sides.{merged_ids, merged_parts};
+ghost use Rattle.gtfs_merge.specs.Sides.{merged_parts, merged_ids};
 ghost use Rattle.gtfs_merge.specs.declared.kind.Kind.TheVariants as kind;
 
 use crate::copies::{copied_if_any, own};
 use crate::kind_rows::KindRows;
-use crate::sides::side_of;
-use gtfs_feed::Feed;
+use crate::sides::Sides;
 use gtfs_field::{List, OutOfMemory};
 use gtfs_rows::{RouteNo, ServiceNo, Trip, TripNo};
 use std::alloc::Global;
@@ -16,27 +15,25 @@ use std::alloc::Global;
 // The trips of the merged feed.
 pub(crate) fn merged_trips(
     alloc: Global,
-    a: &Feed,
-    b: &Feed,
+    sides: &Sides,
     trips: &KindRows,
     routes: &KindRows,
     services: &KindRows,
 ) -> Result<List<Trip>, OutOfMemory>
-    requires trips { AreKindRows kind.Trip a.now b.now trips.now }
-    requires routes { AreKindRows kind.Route a.now b.now routes.now }
-    requires services { AreKindRows kind.Service a.now b.now services.now }
-    ensures rows { IfOk result (λ list. map (trip_named (merged_ids kind.Route a.now b.now)
-        (merged_ids kind.Service a.now b.now)) list
-        ≡ map without_rows (merged_parts a.now b.now).trips) }
+    requires trips { AreKindRows kind.Trip sides.now trips.now }
+    requires routes { AreKindRows kind.Route sides.now routes.now }
+    requires services { AreKindRows kind.Service sides.now services.now }
+    ensures rows { IfOk result (λ list. map (trip_named (merged_ids kind.Route sides.now)
+        (merged_ids kind.Service sides.now)) list
+        ≡ map without_rows (merged_parts sides.now).trips) }
     ensures references { IfOk result (λ list. list_all (names_route_and_service
-        (merged_ids kind.Route a.now b.now) (merged_ids kind.Service a.now b.now)) list ≡ true) }
+        (merged_ids kind.Route sides.now) (merged_ids kind.Service sides.now)) list ≡ true) }
 {
-    a.soundness();
-    b.soundness();
+    sides.soundness();
     let rows = trips.rows();
     let mut list = Vec::with_capacity(alloc, rows.len())?;
     for row in rows {
-        let source = side_of(a, b, row.side).trip_by_number(TripNo(row.number));
+        let source = sides.of(row.side).trip_by_number(TripNo(row.number));
         let route_numbers = routes.numbers(row.side);
         let route = renumbered_route(source.route_id, route_numbers);
         let service_numbers = services.numbers(row.side);

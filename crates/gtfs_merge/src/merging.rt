@@ -2,12 +2,12 @@ ghost use Rattle.std.specs.Prelude.{◌≡◌, IfErr, IfOk, false};
 ghost use Rattle.gtfs_feed.specs.Content.{content_of};
 ghost use Rattle.gtfs_merge.specs.Merged.{zones_differ};
 ghost use Rattle.gtfs_merge.specs.Merging.{AreNamesOf, IsMergeOf, IsRefusal, KeepsDepartures};
-ghost use Rattle.gtfs_merge.specs.Sides.{merged_parts};
+ghost use Rattle.gtfs_merge.specs.Sides.{content_a, content_b, merged_parts};
 
-use crate::few::are_few;
 use crate::joins::Joined;
 use crate::merged_parts::merged_parts;
 use crate::names::Names;
+use crate::sides::Sides;
 use crate::zones::zones_differ;
 use gtfs_feed::Feed;
 use gtfs_field::OutOfMemory;
@@ -101,29 +101,27 @@ pub fn merge(
         (IsRefusal (content_of a.now) (content_of b.now) options.now.file_limit) }
     ensures departures { KeepsDepartures (content_of a.now) (content_of b.now) }
 {
-    a.soundness();
-    b.soundness();
-    are_few(a, b);
-    judged(alloc, random, a, b, options)
+    let sides = Sides { a, b };
+    sides.soundness();
+    judged(alloc, random, &sides, options)
 }
 
 // The merged feed, or why there is none.
 fn judged(
     alloc: Global,
     random: RandomState,
-    a: &Feed,
-    b: &Feed,
+    sides: &Sides,
     options: &Options,
 ) -> Result<Merged, MergeFault>
     ensures merged { IfOk result
-        (IsMergeOf (content_of a.now) (content_of b.now) options.now.file_limit) }
+        (IsMergeOf (content_a sides.now) (content_b sides.now) options.now.file_limit) }
     ensures refused { IfErr result
-        (IsRefusal (content_of a.now) (content_of b.now) options.now.file_limit) }
+        (IsRefusal (content_a sides.now) (content_b sides.now) options.now.file_limit) }
 {
-    if zones_differ(a, b) {
+    if zones_differ(sides.a, sides.b) {
         return Err(MergeFault::ZoneDiffers);
     }
-    let merged = merged_feed(alloc, random, a, b)?;
+    let merged = merged_feed(alloc, random, sides)?;
     let is_too_large = merged.feed.has_longer_file(alloc, options.file_limit)?;
     if is_too_large {
         return Err(MergeFault::TooLarge);
@@ -132,19 +130,14 @@ fn judged(
 }
 
 // The merged feed of two feeds with one zone.
-fn merged_feed(
-    alloc: Global,
-    random: RandomState,
-    a: &Feed,
-    b: &Feed,
-) -> Result<Merged, OutOfMemory>
-    requires { zones_differ (content_of a.now) (content_of b.now) ≡ false }
-    ensures content { IfOk result (λ m. content_of m.feed ≡ merged_parts a.now b.now) }
-    ensures names { IfOk result (λ m. AreNamesOf (content_of a.now) (content_of b.now) m.names) }
+fn merged_feed(alloc: Global, random: RandomState, sides: &Sides) -> Result<Merged, OutOfMemory>
+    requires { zones_differ (content_a sides.now) (content_b sides.now) ≡ false }
+    ensures content { IfOk result (λ m. content_of m.feed ≡ merged_parts sides.now) }
+    ensures names { IfOk result (λ m. AreNamesOf (content_a sides.now) (content_b sides.now) m.names) }
 {
-    let joined = Joined::of_feeds(alloc, a, b)?;
-    let names = Names::of_joined(alloc, random, a, b, &joined)?;
-    let parts = merged_parts(alloc, random, a, b, &joined, &names)?;
+    let joined = Joined::of_feeds(alloc, sides)?;
+    let names = Names::of_joined(alloc, random, sides, &joined)?;
+    let parts = merged_parts(alloc, random, sides, &joined, &names)?;
     let feed = Feed::assemble(alloc, random, parts)?;
     Ok(Merged { feed, names })
 }

@@ -1,19 +1,19 @@
 ghost use Rattle.std.specs.Prelude.{◌≡◌, ◌<◌, ◌∷◌, ◌++◌, [], ℕ, List, IfOk, OnOk, filter, length, map, option_map, slice_index_or, string_bytes};
-ghost use Rattle.gtfs_feed.specs.Content.{content_of};
 ghost use Rattle.gtfs_merge.specs.Joined.{joined_rows};
 ghost use Rattle.gtfs_merge.specs.Names.{AreApart, AreKindNames, MeetWhereJoined, in_kind, kind_names, new_id, of_side};
-ghost use Rattle.gtfs_merge.specs.Renaming.{ids, is_joined, joined_ids, name_of, names_a, names_b, never_near};
+ghost use Rattle.gtfs_merge.specs.Renaming.{ids, joined_ids, name_of, names_a, names_b};
+ghost use Rattle.gtfs_merge.specs.Sides.{content_a, content_b, nearness_of, side_names, is_joined_id};
 ghost use Rattle.gtfs_merge.specs.declared.kind.Kind.{Kind as KindOf};
 ghost use Rattle.gtfs_merge.specs.declared.kind.Side.{Side as SideOf};
 ghost use Rattle.gtfs_merge.specs.declared.kind.Kind.TheVariants as kind;
+ghost use Rattle.gtfs_merge.specs.declared.kind.Side.TheVariants as side;
 
-use crate::few::are_few;
 use crate::joins::Joined;
 use crate::kind::{Kind, Side};
 use crate::kinds::{count_of, id_of};
 use crate::new_names::is_joined_id;
 use crate::renamed::Renamed;
-use gtfs_feed::Feed;
+use crate::sides::Sides;
 use gtfs_field::OutOfMemory;
 use std::alloc::Global;
 use std::hash::RandomState;
@@ -61,86 +61,53 @@ impl Drop for Names {
 }
 
 impl Names {
-    /// What the ids of two feeds become: two ids of a feed never become one, and an id of each feed become one only where
-    /// they are one joined id. No answer depends on the random state.
-    pub fn of_feeds(
-        alloc: Global,
-        random: RandomState,
-        a: &Feed,
-        b: &Feed,
-    ) -> Result<Names, OutOfMemory>
-        ensures ids_a { IfOk result (λ names. (kind : KindOf) → (in_kind names kind).a.ids
-            ≡ ids kind (content_of a.now)) }
-        ensures ids_b { IfOk result (λ names. (kind : KindOf) → (in_kind names kind).b.ids
-            ≡ ids kind (content_of b.now)) }
-        ensures a { IfOk result (λ names. (kind : KindOf) (id : List ℕ)
-            → new_id (in_kind names kind).a id
-            ≡ name_of (names_a (content_of a.now) (content_of b.now)) kind (content_of a.now) id) }
-        ensures b { IfOk result (λ names. (kind : KindOf) (id : List ℕ)
-            → new_id (in_kind names kind).b id
-            ≡ name_of (names_b never_near (content_of a.now) (content_of b.now)) kind
-            (content_of b.now) id) }
-        ensures apart { IfOk result (λ names. (kind : KindOf) (side : SideOf)
-            → AreApart (of_side (in_kind names kind) side)) }
-        ensures across { IfOk result (λ names. (kind : KindOf)
-            → MeetWhereJoined (in_kind names kind)) }
-        ensures joined { IfOk result (λ names. (kind : KindOf) → (in_kind names kind).joined
-            ≡ joined_ids never_near kind (content_of a.now) (content_of b.now)) }
-    {
-        let joined = Joined::of_feeds(alloc, a, b)?;
-        Names::of_joined(alloc, random, a, b, &joined)
-    }
-
-    // What the ids become where these rows are joined.
+    // What the ids of two feeds become where these rows are joined: two ids of a feed never become one, and an id of each
+    // feed become one only where they are one joined id. No answer depends on the random state.
     pub(crate) fn of_joined(
         alloc: Global,
         random: RandomState,
-        a: &Feed,
-        b: &Feed,
+        sides: &Sides,
         joined: &Joined,
     ) -> Result<Names, OutOfMemory>
-        requires { joined.now ≡ joined_rows a.now b.now }
-        ensures kinds { IfOk result (AreKindNames a.now b.now) }
+        requires { joined.now ≡ joined_rows sides.now }
+        ensures kinds { IfOk result (AreKindNames sides.now) }
         ensures ids_a { IfOk result (λ names. (kind : KindOf) → (in_kind names kind).a.ids
-            ≡ ids kind (content_of a.now)) }
+            ≡ ids kind (content_a sides.now)) }
         ensures ids_b { IfOk result (λ names. (kind : KindOf) → (in_kind names kind).b.ids
-            ≡ ids kind (content_of b.now)) }
+            ≡ ids kind (content_b sides.now)) }
         ensures a { IfOk result (λ names. (kind : KindOf) (id : List ℕ)
             → new_id (in_kind names kind).a id
-            ≡ name_of (names_a (content_of a.now) (content_of b.now)) kind (content_of a.now) id) }
+            ≡ name_of (side_names side.A sides.now) kind (content_a sides.now) id) }
         ensures b { IfOk result (λ names. (kind : KindOf) (id : List ℕ)
             → new_id (in_kind names kind).b id
-            ≡ name_of (names_b never_near (content_of a.now) (content_of b.now)) kind
-            (content_of b.now) id) }
+            ≡ name_of (side_names side.B sides.now) kind
+            (content_b sides.now) id) }
         ensures apart { IfOk result (λ names. (kind : KindOf) (side : SideOf)
             → AreApart (of_side (in_kind names kind) side)) }
         ensures across { IfOk result (λ names. (kind : KindOf)
             → MeetWhereJoined (in_kind names kind)) }
         ensures joined { IfOk result (λ names. (kind : KindOf) → (in_kind names kind).joined
-            ≡ joined_ids never_near kind (content_of a.now) (content_of b.now)) }
+            ≡ joined_ids (nearness_of sides.now) kind (content_a sides.now) (content_b sides.now)) }
     {
-        a.soundness();
-        b.soundness();
-        are_few(a, b);
-        Names::of_kinds(alloc, random, a, b, joined)
+        sides.soundness();
+        Names::of_kinds(alloc, random, sides, joined)
     }
 
     // The names of each kind.
     fn of_kinds(
         alloc: Global,
         random: RandomState,
-        a: &Feed,
-        b: &Feed,
+        sides: &Sides,
         joined: &Joined,
     ) -> Result<Names, OutOfMemory>
-        requires { joined.now ≡ joined_rows a.now b.now }
-        ensures { IfOk result (AreKindNames a.now b.now) }
+        requires { joined.now ≡ joined_rows sides.now }
+        ensures { IfOk result (AreKindNames sides.now) }
     {
-        let agencies = KindNames::of_feeds(alloc, random, a, b, joined, Kind::Agency)?;
-        let stops = KindNames::of_feeds(alloc, random, a, b, joined, Kind::Stop)?;
-        let routes = KindNames::of_feeds(alloc, random, a, b, joined, Kind::Route)?;
-        let services = KindNames::of_feeds(alloc, random, a, b, joined, Kind::Service)?;
-        let trips = KindNames::of_feeds(alloc, random, a, b, joined, Kind::Trip)?;
+        let agencies = KindNames::of_feeds(alloc, random, sides, joined, Kind::Agency)?;
+        let stops = KindNames::of_feeds(alloc, random, sides, joined, Kind::Stop)?;
+        let routes = KindNames::of_feeds(alloc, random, sides, joined, Kind::Route)?;
+        let services = KindNames::of_feeds(alloc, random, sides, joined, Kind::Service)?;
+        let trips = KindNames::of_feeds(alloc, random, sides, joined, Kind::Trip)?;
         Ok(Names {
             agencies,
             stops,
@@ -242,17 +209,16 @@ impl KindNames {
     fn of_feeds(
         alloc: Global,
         random: RandomState,
-        a: &Feed,
-        b: &Feed,
+        sides: &Sides,
         joined: &Joined,
         kind: Kind,
     ) -> Result<KindNames, OutOfMemory>
-        requires { joined.now ≡ joined_rows a.now b.now }
-        ensures { IfOk result (λ names. names ≡ kind_names kind a.now b.now) }
+        requires { joined.now ≡ joined_rows sides.now }
+        ensures { IfOk result (λ names. names ≡ kind_names kind sides.now) }
     {
-        let names_a = Renamed::of_a(alloc, random, a, b, joined, kind)?;
-        let names_b = Renamed::of_b(alloc, random, a, b, joined, kind)?;
-        let joined = joined_ids(alloc, a, b, joined, kind)?;
+        let names_a = Renamed::of_a(alloc, random, sides, joined, kind)?;
+        let names_b = Renamed::of_b(alloc, random, sides, joined, kind)?;
+        let joined = joined_ids(alloc, sides, joined, kind)?;
         Ok(KindNames {
             a: names_a,
             b: names_b,
@@ -264,25 +230,23 @@ impl KindNames {
 // The joined ids of a kind.
 fn joined_ids(
     alloc: Global,
-    a: &Feed,
-    b: &Feed,
+    sides: &Sides,
     joined: &Joined,
     kind: Kind,
 ) -> Result<Vec<String>, OutOfMemory>
-    requires { joined.now ≡ joined_rows a.now b.now }
+    requires { joined.now ≡ joined_rows sides.now }
     ensures { IfOk result (λ found. map string_bytes found.items
-        ≡ joined_ids never_near kind (content_of a.now) (content_of b.now)) }
+        ≡ joined_ids (nearness_of sides.now) kind (content_a sides.now) (content_b sides.now)) }
 {
-    a.soundness();
+    sides.soundness();
     let mut found = Vec::new(alloc);
-    for number in 0..count_of(a, kind) {
+    for number in 0..count_of(sides.a, kind) {
         push_if_joined(
             alloc,
-            a,
-            b,
+            sides,
             joined,
             kind,
-            id_of(a, kind, number),
+            id_of(sides.a, kind, number),
             &mut found,
         )?;
     }
@@ -292,18 +256,17 @@ fn joined_ids(
 // Adds an id if it is joined.
 fn push_if_joined(
     alloc: Global,
-    a: &Feed,
-    b: &Feed,
+    sides: &Sides,
     joined: &Joined,
     kind: Kind,
     id: &str,
     found: &mut Vec<String>,
 ) -> Result<(), OutOfMemory>
-    requires { joined.now ≡ joined_rows a.now b.now }
+    requires { joined.now ≡ joined_rows sides.now }
     ensures { OnOk result (map string_bytes found.new.items ≡ map string_bytes found.old.items
-        ++ filter (is_joined never_near kind (content_of a.now) (content_of b.now)) (id.now ∷ [])) }
+        ++ filter (is_joined_id kind sides.now) (id.now ∷ [])) }
 {
-    if is_joined_id(a, b, joined, kind, id) {
+    if is_joined_id(sides, joined, kind, id) {
         found.push(String::from_str(alloc, id)?)?;
     }
     Ok(())

@@ -4,6 +4,7 @@ ghost use Rattle.gtfs_merge.specs.Renaming.{free_id, has_id, merged_id};
 
 use crate::kind::Kind;
 use crate::kinds::number_of;
+use crate::sides::Sides;
 use gtfs_feed::Feed;
 use gtfs_field::OutOfMemory;
 use itoa::Buffer;
@@ -29,19 +30,18 @@ pub(crate) fn has_this_id(feed: &Feed, kind: Kind, id: &str) -> bool
 // The first new id that neither feed has.
 pub(crate) fn free_id(
     alloc: Global,
-    a: &Feed,
-    b: &Feed,
+    sides: &Sides,
     kind: Kind,
     base: &str,
 ) -> Result<String, OutOfMemory>
-    requires { length (known_ids kind a.now ++ known_ids kind b.now) + 2 < 2 ^ 128 }
+    requires { length (known_ids kind sides.now.a.now ++ known_ids kind sides.now.b.now) + 2 < 2 ^ 128 }
     ensures { IfOk result (λ id. string_bytes id
-        ≡ free_id (known_ids kind a.now ++ known_ids kind b.now) base.now) }
+        ≡ free_id (known_ids kind sides.now.a.now ++ known_ids kind sides.now.b.now) base.now) }
 {
     let mut number: u128 = 1;
     loop {
         let id = numbered_id(alloc, base, number)?;
-        if !is_taken(a, b, kind, id.as_str()) {
+        if !is_taken(sides, kind, id.as_str()) {
             return Ok(id);
         }
         number += 1;
@@ -50,8 +50,8 @@ pub(crate) fn free_id(
 
 // Whether one of the feeds has this id of a kind.
 #[tactic(auto, using(crate::proofs::FreeSearch::has_both))]
-fn is_taken(a: &Feed, b: &Feed, kind: Kind, id: &str) -> bool
-    ensures { result ≡ has_id (known_ids kind a.now ++ known_ids kind b.now) id.now }
+fn is_taken(sides: &Sides, kind: Kind, id: &str) -> bool
+    ensures { result ≡ has_id (known_ids kind sides.now.a.now ++ known_ids kind sides.now.b.now) id.now }
 {
-    has_this_id(a, kind, id) || has_this_id(b, kind, id)
+    has_this_id(sides.a, kind, id) || has_this_id(sides.b, kind, id)
 }

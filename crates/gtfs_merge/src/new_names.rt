@@ -1,17 +1,17 @@
 ghost use Rattle.std.specs.Prelude.{◌≡◌, ◌<◌, ◌&&◌, [], IfOk, false, length, not, slice_index_or, string_bytes, true};
-ghost use Rattle.gtfs_feed.specs.Content.{content_of};
 ghost use Rattle.gtfs_merge.specs.Joined.{joined_rows};
 ghost use Rattle.gtfs_merge.specs.Names.{is_nameless};
 ghost use Rattle.gtfs_merge.specs.Numbered.{known_ids};
-ghost use Rattle.gtfs_merge.specs.Renaming.{agency_b, has_id, is_joined, joined_agency, names_a, names_b, never_near, renaming};
+ghost use Rattle.gtfs_merge.specs.Renaming.{agency_b, has_id, joined_agency, renaming};
+ghost use Rattle.gtfs_merge.specs.Sides.{content_a, content_b, side_names, is_joined_id};
 ghost use Rattle.gtfs_merge.specs.declared.kind.Kind.TheVariants as kind;
+ghost use Rattle.gtfs_merge.specs.declared.kind.Side.TheVariants as side;
 
-use crate::few::are_few;
 use crate::joins::Joined;
 use crate::kind::Kind;
 use crate::kinds::number_of;
 use crate::new_ids::{free_id, has_this_id, numbered_id};
-use gtfs_feed::Feed;
+use crate::sides::Sides;
 use gtfs_field::OutOfMemory;
 use std::alloc::Global;
 
@@ -19,37 +19,35 @@ use std::alloc::Global;
 const AGENCY: &str = "agency";
 
 // Whether the id of a number of B is joined.
-pub(crate) fn is_joined_row(a: &Feed, b: &Feed, joined: &Joined, kind: Kind, number: usize) -> bool
-    requires joined { joined.now ≡ joined_rows a.now b.now }
-    requires within { number < length (known_ids kind b.now) }
-    ensures { result ≡ is_joined never_near kind (content_of a.now) (content_of b.now)
-        (slice_index_or (known_ids kind b.now) number []) }
+pub(crate) fn is_joined_row(sides: &Sides, joined: &Joined, kind: Kind, number: usize) -> bool
+    requires joined { joined.now ≡ joined_rows sides.now }
+    requires within { number < length (known_ids kind sides.now.b.now) }
+    ensures { result ≡ is_joined_id kind sides.now
+        (slice_index_or (known_ids kind sides.now.b.now) number []) }
 {
-    a.soundness();
-    b.soundness();
+    sides.soundness();
     joined.has(kind, number)
 }
 
 // Whether an id is joined.
-pub(crate) fn is_joined_id(a: &Feed, b: &Feed, joined: &Joined, kind: Kind, id: &str) -> bool
-    requires { joined.now ≡ joined_rows a.now b.now }
-    ensures { result ≡ is_joined never_near kind (content_of a.now) (content_of b.now) id.now }
+pub(crate) fn is_joined_id(sides: &Sides, joined: &Joined, kind: Kind, id: &str) -> bool
+    requires { joined.now ≡ joined_rows sides.now }
+    ensures { result ≡ is_joined_id kind sides.now id.now }
 {
-    a.soundness();
-    b.soundness();
-    match number_of(b, kind, id) {
-        Some(number) => is_joined_row(a, b, joined, kind, number),
+    sides.soundness();
+    match number_of(sides.b, kind, id) {
+        Some(number) => is_joined_row(sides, joined, kind, number),
         None => false,
     }
 }
 
 // Whether it is the empty id of an agency that is not joined.
-fn is_left_nameless(a: &Feed, b: &Feed, joined: &Joined, kind: Kind, id: &str) -> bool
-    requires { joined.now ≡ joined_rows a.now b.now }
+fn is_left_nameless(sides: &Sides, joined: &Joined, kind: Kind, id: &str) -> bool
+    requires { joined.now ≡ joined_rows sides.now }
     ensures { result ≡ (is_nameless kind id.now
-        && not (is_joined never_near kind (content_of a.now) (content_of b.now) id.now)) }
+        && not (is_joined_id kind sides.now id.now)) }
 {
-    is_nameless(kind, id) && !is_joined_id(a, b, joined, kind, id)
+    is_nameless(kind, id) && !is_joined_id(sides, joined, kind, id)
 }
 
 // Whether it is the id of an agency that has none.
@@ -65,21 +63,18 @@ fn is_nameless(kind: Kind, id: &str) -> bool
 // What an id of A becomes: only an agency's empty id that is not joined gets another.
 pub(crate) fn new_id_of_a(
     alloc: Global,
-    a: &Feed,
-    b: &Feed,
+    sides: &Sides,
     joined: &Joined,
     kind: Kind,
     id: &str,
 ) -> Result<String, OutOfMemory>
-    requires { joined.now ≡ joined_rows a.now b.now }
+    requires { joined.now ≡ joined_rows sides.now }
     ensures { IfOk result (λ new. string_bytes new
-        ≡ renaming (names_a (content_of a.now) (content_of b.now)) kind id.now) }
+        ≡ renaming (side_names side.A sides.now) kind id.now) }
 {
-    a.soundness();
-    b.soundness();
-    are_few(a, b);
-    if is_left_nameless(a, b, joined, kind, id) {
-        return free_id(alloc, a, b, Kind::Agency, AGENCY);
+    sides.soundness();
+    if is_left_nameless(sides, joined, kind, id) {
+        return free_id(alloc, sides, Kind::Agency, AGENCY);
     }
     Ok(String::from_str(alloc, id)?)
 }
@@ -87,46 +82,41 @@ pub(crate) fn new_id_of_a(
 // What an id of B becomes: it stays where it is joined or A lacks it.
 pub(crate) fn new_id_of_b(
     alloc: Global,
-    a: &Feed,
-    b: &Feed,
+    sides: &Sides,
     kind: Kind,
     id: &str,
     joined: bool,
 ) -> Result<String, OutOfMemory>
-    requires there { has_id (known_ids kind b.now) id.now ≡ true }
+    requires there { has_id (known_ids kind sides.now.b.now) id.now ≡ true }
     requires joined { joined
-        ≡ is_joined never_near kind (content_of a.now) (content_of b.now) id.now }
+        ≡ is_joined_id kind sides.now id.now }
     ensures { IfOk result (λ new. string_bytes new
-        ≡ renaming (names_b never_near (content_of a.now) (content_of b.now)) kind id.now) }
+        ≡ renaming (side_names side.B sides.now) kind id.now) }
 {
-    a.soundness();
-    b.soundness();
-    are_few(a, b);
+    sides.soundness();
     if joined {
         return Ok(String::from_str(alloc, id)?);
     }
     if is_nameless(kind, id) {
-        return new_agency_id_of_b(alloc, a, b);
+        return new_agency_id_of_b(alloc, sides);
     }
-    if !has_this_id(a, kind, id) {
+    if !has_this_id(sides.a, kind, id) {
         return Ok(String::from_str(alloc, id)?);
     }
-    free_id(alloc, a, b, kind, id)
+    free_id(alloc, sides, kind, id)
 }
 
 // What the empty id of B's agency becomes where it is not joined.
-fn new_agency_id_of_b(alloc: Global, a: &Feed, b: &Feed) -> Result<String, OutOfMemory>
-    requires there { has_id (known_ids kind.Agency b.now) [] ≡ true }
-    requires apart { joined_agency (content_of a.now) (content_of b.now) [] ≡ false }
+fn new_agency_id_of_b(alloc: Global, sides: &Sides) -> Result<String, OutOfMemory>
+    requires there { has_id (known_ids kind.Agency sides.now.b.now) [] ≡ true }
+    requires apart { joined_agency (content_a sides.now) (content_b sides.now) [] ≡ false }
     ensures { IfOk result (λ new. string_bytes new
-        ≡ agency_b (content_of a.now) (content_of b.now) []) }
+        ≡ agency_b (content_a sides.now) (content_b sides.now) []) }
 {
-    a.soundness();
-    b.soundness();
-    are_few(a, b);
+    sides.soundness();
     // An agency without an id is alone in its feed: where A has one, too, that one took the first number.
-    if has_this_id(a, Kind::Agency, "") {
+    if has_this_id(sides.a, Kind::Agency, "") {
         return numbered_id(alloc, AGENCY, 2);
     }
-    free_id(alloc, a, b, Kind::Agency, AGENCY)
+    free_id(alloc, sides, Kind::Agency, AGENCY)
 }

@@ -10,13 +10,12 @@ ghost use Rattle.gtfs_merge.specs.Order.{entry_of, entry_value, is_apart, rows_o
 ghost use Rattle.gtfs_merge.specs.Sides.{side_parts};
 ghost use Rattle.gtfs_merge.specs.declared.kind.Side.TheVariants as side;
 
-use crate::few::are_few;
 use crate::joins::Joined;
 use crate::kind::{Kind, Side};
 use crate::kinds::count_of;
 use crate::names::Names;
 use crate::new_names::is_joined_row;
-use gtfs_feed::Feed;
+use crate::sides::Sides;
 use gtfs_field::OutOfMemory;
 use std::alloc::Global;
 use std::cmp::Ordering;
@@ -32,38 +31,34 @@ pub(crate) struct MergedRow {
 // The rows of a kind of the merged feed, by their new ids: all of A's and those of B's that are not joined.
 pub(crate) fn merged_rows(
     alloc: Global,
-    a: &Feed,
-    b: &Feed,
+    sides: &Sides,
     joined: &Joined,
     names: &Names,
     kind: Kind,
 ) -> Result<Vec<MergedRow>, OutOfMemory>
-    requires joined { joined.now ≡ joined_rows a.now b.now }
-    requires names { AreKindNames a.now b.now names.now }
-    ensures { IfOk result (λ rows. AreMergedRows kind a.now b.now (map entry_value rows.items)) }
+    requires joined { joined.now ≡ joined_rows sides.now }
+    requires names { AreKindNames sides.now names.now }
+    ensures { IfOk result (λ rows. AreMergedRows kind sides.now (map entry_value rows.items)) }
 {
-    a.soundness();
-    b.soundness();
-    are_few(a, b);
-    let mut rows = of_a(alloc, a, b, names, kind)?;
-    add_of_b(alloc, a, b, joined, names, kind, &mut rows)?;
+    sides.soundness();
+    let mut rows = of_a(alloc, sides, names, kind)?;
+    add_of_b(alloc, sides, joined, names, kind, &mut rows)?;
     Ok(sorted(rows)?)
 }
 
 // The rows of A under their new ids.
 fn of_a(
     alloc: Global,
-    a: &Feed,
-    b: &Feed,
+    sides: &Sides,
     names: &Names,
     kind: Kind,
 ) -> Result<Vec<MergedRow>, OutOfMemory>
-    requires { AreKindNames a.now b.now names.now }
-    ensures { IfOk result (λ rows. map entry_value rows.items ≡ rows_of_a kind a.now b.now) }
+    requires { AreKindNames sides.now names.now }
+    ensures { IfOk result (λ rows. map entry_value rows.items ≡ rows_of_a kind sides.now) }
 {
     let mut rows = Vec::new(alloc);
-    for number in 0..count_of(a, kind) {
-        rows.push(row_of(alloc, a, b, names, Side::A, kind, number)?)?;
+    for number in 0..count_of(sides.a, kind) {
+        rows.push(row_of(alloc, sides, names, Side::A, kind, number)?)?;
     }
     Ok(rows)
 }
@@ -71,16 +66,15 @@ fn of_a(
 // A row of a side under its new id.
 fn row_of(
     alloc: Global,
-    a: &Feed,
-    b: &Feed,
+    sides: &Sides,
     names: &Names,
     side: Side,
     kind: Kind,
     number: usize,
 ) -> Result<MergedRow, OutOfMemory>
-    requires names { AreKindNames a.now b.now names.now }
-    requires within { number < length (known_ids kind (side_parts side a.now b.now)) }
-    ensures { IfOk result (λ row. entry_value row ≡ entry_of side kind a.now b.now number) }
+    requires names { AreKindNames sides.now names.now }
+    requires within { number < length (known_ids kind (side_parts side sides.now)) }
+    ensures { IfOk result (λ row. entry_value row ≡ entry_of side kind sides.now number) }
 {
     let id = String::from_str(alloc, names.by_number(side, kind, number))?;
     Ok(MergedRow { id, side, number })
@@ -89,20 +83,19 @@ fn row_of(
 // Adds the rows of B that are not joined.
 fn add_of_b(
     alloc: Global,
-    a: &Feed,
-    b: &Feed,
+    sides: &Sides,
     joined: &Joined,
     names: &Names,
     kind: Kind,
     rows: &mut Vec<MergedRow>,
 ) -> Result<(), OutOfMemory>
-    requires joined { joined.now ≡ joined_rows a.now b.now }
-    requires names { AreKindNames a.now b.now names.now }
+    requires joined { joined.now ≡ joined_rows sides.now }
+    requires names { AreKindNames sides.now names.now }
     ensures { OnOk result (map entry_value rows.new.items
-        ≡ map entry_value rows.old.items ++ rows_of_b kind a.now b.now) }
+        ≡ map entry_value rows.old.items ++ rows_of_b kind sides.now) }
 {
-    for number in 0..count_of(b, kind) {
-        add_if_apart(alloc, a, b, joined, names, kind, number, rows)?;
+    for number in 0..count_of(sides.b, kind) {
+        add_if_apart(alloc, sides, joined, names, kind, number, rows)?;
     }
     Ok(())
 }
@@ -110,23 +103,22 @@ fn add_of_b(
 // Adds a row of B that is not joined.
 fn add_if_apart(
     alloc: Global,
-    a: &Feed,
-    b: &Feed,
+    sides: &Sides,
     joined: &Joined,
     names: &Names,
     kind: Kind,
     number: usize,
     rows: &mut Vec<MergedRow>,
 ) -> Result<(), OutOfMemory>
-    requires joined { joined.now ≡ joined_rows a.now b.now }
-    requires names { AreKindNames a.now b.now names.now }
-    requires within { number < length (known_ids kind b.now) }
+    requires joined { joined.now ≡ joined_rows sides.now }
+    requires names { AreKindNames sides.now names.now }
+    requires within { number < length (known_ids kind sides.now.b.now) }
     ensures { OnOk result (map entry_value rows.new.items ≡ map entry_value rows.old.items
-        ++ map (entry_of side.B kind a.now b.now)
-        (filter (is_apart kind a.now b.now) (number ∷ []))) }
+        ++ map (entry_of side.B kind sides.now)
+        (filter (is_apart kind sides.now) (number ∷ []))) }
 {
-    if !is_joined_row(a, b, joined, kind, number) {
-        rows.push(row_of(alloc, a, b, names, Side::B, kind, number)?)?;
+    if !is_joined_row(sides, joined, kind, number) {
+        rows.push(row_of(alloc, sides, names, Side::B, kind, number)?)?;
     }
     Ok(())
 }

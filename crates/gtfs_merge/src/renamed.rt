@@ -1,16 +1,17 @@
 ghost use Rattle.std.specs.Prelude.{◌≡◌, ◌<◌, [], ◌∷◌, ◌++◌, IfOk, OnOk, bytes_eq, false, length, map, option_map, slice_index_or, string_bytes};
 ghost use Rattle.std.specs.List.{list_any};
-ghost use Rattle.gtfs_feed.specs.Content.{content_of};
 ghost use Rattle.gtfs_merge.specs.Joined.{joined_rows};
 ghost use Rattle.gtfs_merge.specs.Names.{new_id, new_ids, with_id};
 ghost use Rattle.gtfs_merge.specs.Numbered.{known_ids};
-ghost use Rattle.gtfs_merge.specs.Renaming.{names_a, names_b, never_near, renaming};
+ghost use Rattle.gtfs_merge.specs.Renaming.{renaming};
+ghost use Rattle.gtfs_merge.specs.Sides.{side_names};
+ghost use Rattle.gtfs_merge.specs.declared.kind.Side.TheVariants as side;
 
 use crate::joins::Joined;
 use crate::kind::Kind;
 use crate::kinds::{count_of, id_of};
 use crate::new_names::{is_joined_row, new_id_of_a, new_id_of_b};
-use gtfs_feed::Feed;
+use crate::sides::Sides;
 use gtfs_field::OutOfMemory;
 use indexmap::IndexSet;
 use std::alloc::Global;
@@ -47,21 +48,20 @@ impl Renamed {
     pub(crate) fn of_a(
         alloc: Global,
         random: RandomState,
-        a: &Feed,
-        b: &Feed,
+        sides: &Sides,
         joined: &Joined,
         kind: Kind,
     ) -> Result<Renamed, OutOfMemory>
-        requires { joined.now ≡ joined_rows a.now b.now }
+        requires { joined.now ≡ joined_rows sides.now }
         ensures { IfOk result (λ ids. ids ≡ new_ids
-            (renaming (names_a (content_of a.now) (content_of b.now)) kind)
-            (known_ids kind a.now)) }
+            (renaming (side_names side.A sides.now) kind)
+            (known_ids kind sides.now.a.now)) }
     {
-        a.soundness();
-        let mut ids = Renamed::with_room(alloc, random, count_of(a, kind))?;
-        for number in 0..count_of(a, kind) {
-            let id = id_of(a, kind, number);
-            let name = new_id_of_a(alloc, a, b, joined, kind, id)?;
+        sides.soundness();
+        let mut ids = Renamed::with_room(alloc, random, count_of(sides.a, kind))?;
+        for number in 0..count_of(sides.a, kind) {
+            let id = id_of(sides.a, kind, number);
+            let name = new_id_of_a(alloc, sides, joined, kind, id)?;
             ids.push(alloc, id, name)?;
         }
         Ok(ids)
@@ -71,22 +71,21 @@ impl Renamed {
     pub(crate) fn of_b(
         alloc: Global,
         random: RandomState,
-        a: &Feed,
-        b: &Feed,
+        sides: &Sides,
         joined: &Joined,
         kind: Kind,
     ) -> Result<Renamed, OutOfMemory>
-        requires { joined.now ≡ joined_rows a.now b.now }
+        requires { joined.now ≡ joined_rows sides.now }
         ensures { IfOk result (λ ids. ids ≡ new_ids
-            (renaming (names_b never_near (content_of a.now) (content_of b.now)) kind)
-            (known_ids kind b.now)) }
+            (renaming (side_names side.B sides.now) kind)
+            (known_ids kind sides.now.b.now)) }
     {
-        b.soundness();
-        let mut ids = Renamed::with_room(alloc, random, count_of(b, kind))?;
-        for number in 0..count_of(b, kind) {
-            let id = id_of(b, kind, number);
-            let is_joined = is_joined_row(a, b, joined, kind, number);
-            let name = new_id_of_b(alloc, a, b, kind, id, is_joined)?;
+        sides.soundness();
+        let mut ids = Renamed::with_room(alloc, random, count_of(sides.b, kind))?;
+        for number in 0..count_of(sides.b, kind) {
+            let id = id_of(sides.b, kind, number);
+            let is_joined = is_joined_row(sides, joined, kind, number);
+            let name = new_id_of_b(alloc, sides, kind, id, is_joined)?;
             ids.push(alloc, id, name)?;
         }
         Ok(ids)

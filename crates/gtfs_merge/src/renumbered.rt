@@ -1,17 +1,15 @@
 ghost use Rattle.std.specs.Prelude.{◌≡◌, ◌<◌, ℕ, All, IfOk, IfSome, None, length, map, slice_index_or};
 ghost use Rattle.gtfs_merge.specs.Joined.{joined_rows, of_kind};
 ghost use Rattle.gtfs_merge.specs.MergedKinds.{AreMergedRows};
-ghost use Rattle.gtfs_merge.specs.Numbered.{known_ids};
 ghost use Rattle.gtfs_merge.specs.Order.{entry_value};
 ghost use Rattle.gtfs_merge.specs.Renumbered.{AreNumbered, AreRenumbered, number_or, numbers_of, with_number};
 ghost use Rattle.gtfs_merge.specs.declared.kind.Side.{Side as SideOf};
 
-use crate::few::are_few;
 use crate::joins::Joined;
 use crate::kind::{Kind, Side};
 use crate::kinds::count_of;
 use crate::order::MergedRow;
-use gtfs_feed::Feed;
+use crate::sides::Sides;
 use gtfs_field::OutOfMemory;
 use std::alloc::Global;
 use std::marker::Model;
@@ -41,20 +39,21 @@ impl Numbers {
     // The numbers that rows get where these are the merged rows of the kind.
     pub(crate) fn of_rows(
         alloc: Global,
-        a: &Feed,
-        b: &Feed,
+        sides: &Sides,
         joined: &Joined,
         kind: Kind,
         rows: &[MergedRow],
     ) -> Result<Numbers, OutOfMemory>
-        requires joined { joined.now ≡ joined_rows a.now b.now }
-        requires rows { AreMergedRows kind a.now b.now (map entry_value rows.now) }
-        ensures { IfOk result (AreRenumbered kind a.now b.now) }
+        requires joined { joined.now ≡ joined_rows sides.now }
+        requires rows { AreMergedRows kind sides.now (map entry_value rows.now) }
+        ensures { IfOk result (AreRenumbered kind sides.now) }
     {
-        a.soundness();
-        b.soundness();
-        are_few(a, b);
-        let mut numbers = Numbers::with_zeros(alloc, count_of(a, kind), count_of(b, kind))?;
+        sides.soundness();
+        let mut numbers = Numbers::with_zeros(
+            alloc,
+            count_of(sides.a, kind),
+            count_of(sides.b, kind),
+        )?;
         numbers.set_rows(rows);
         numbers.set_joined(joined, kind);
         Ok(numbers)

@@ -1,42 +1,40 @@
 ghost use Rattle.std.specs.Option.{option_eq};
 ghost use Rattle.std.specs.Prelude.{◌≡◌, ◌<◌, ◌∷◌, [], All, IfSome, None, Some, length, map, nat_eq, option_map, slice_index_or, true};
-ghost use Rattle.gtfs_feed.specs.Content.{content_of};
 ghost use Rattle.gtfs_rows.specs.Trips.{AreStopTimes};
 ghost use Rattle.gtfs_rows.specs.Sound.{is_stop_of};
 ghost use Rattle.gtfs_rows.specs.Views.{stop_ids, text_of_number};
 ghost use Rattle.gtfs_merge.specs.Joined.{joined_numbers};
 ghost use Rattle.gtfs_merge.specs.Numbered.{same_stop_row_in, same_stop_rows_in};
-ghost use Rattle.gtfs_merge.specs.Renaming.{never_near, stop_b};
+ghost use Rattle.gtfs_merge.specs.Renaming.{stop_b};
 ghost use Rattle.gtfs_merge.specs.Same.{same_text};
+ghost use Rattle.gtfs_merge.specs.Sides.{content_a, content_b, nearness_of};
 ghost use Rattle.gtfs_merge.specs.declared.kind.Kind.TheVariants as kind;
 
-use crate::few::are_few;
 use crate::same_rows::is_same_stop_row;
-use gtfs_feed::Feed;
+use crate::sides::Sides;
 use gtfs_rows::{OptionalHeadsign, StopNo, StopRow};
 
 // Whether stop times of A and of B are the same, one by one, where `stops` has the stop of A that each stop of B is
 // joined with.
 pub(crate) fn are_same_stop_times(
-    a: &Feed,
-    b: &Feed,
+    sides: &Sides,
     stops: &[Option<StopNo>],
     rows_a: &[StopRow],
     rows_b: &[StopRow],
 ) -> bool
-    requires stops { map (option_map (λ n. n.0)) stops.now ≡ joined_numbers kind.Stop a.now b.now }
-    requires rows_a { AreStopTimes a.now rows_a.now }
-    requires rows_b { AreStopTimes b.now rows_b.now }
-    requires plain { All (λ r. is_stop_of (content_of b.now) (0 ∷ [])
-        (text_of_number (stop_ids b.now) r.stop_id.0) ≡ true) rows_b.now }
-    ensures { result ≡ same_stop_rows_in a.now b.now
-        (stop_b never_near (content_of a.now) (content_of b.now)) rows_a.now rows_b.now }
+    requires stops { map (option_map (λ n. n.0)) stops.now ≡ joined_numbers kind.Stop sides.now }
+    requires rows_a { AreStopTimes sides.now.a.now rows_a.now }
+    requires rows_b { AreStopTimes sides.now.b.now rows_b.now }
+    requires plain { All (λ r. is_stop_of (content_b sides.now) (0 ∷ [])
+        (text_of_number (stop_ids sides.now.b.now) r.stop_id.0) ≡ true) rows_b.now }
+    ensures { result ≡ same_stop_rows_in sides.now.a.now sides.now.b.now
+        (stop_b (nearness_of sides.now) (content_a sides.now) (content_b sides.now)) rows_a.now rows_b.now }
 {
     if rows_a.len() != rows_b.len() {
         return false;
     }
     for number in 0..rows_a.len() {
-        if !is_same_stop_time(a, b, stops, rows_a[number], rows_b[number]) {
+        if !is_same_stop_time(sides, stops, rows_a[number], rows_b[number]) {
             return false;
         }
     }
@@ -45,27 +43,24 @@ pub(crate) fn are_same_stop_times(
 
 // Whether a stop time of A and one of B are the same.
 fn is_same_stop_time(
-    a: &Feed,
-    b: &Feed,
+    sides: &Sides,
     stops: &[Option<StopNo>],
     row_a: StopRow,
     row_b: StopRow,
 ) -> bool
-    requires stops { map (option_map (λ n. n.0)) stops.now ≡ joined_numbers kind.Stop a.now b.now }
-    requires stop_a { row_a.stop_id.0 < length a.now.stops }
-    requires stop_b { row_b.stop_id.0 < length b.now.stops }
-    requires headsign_a { IfSome row_a.stop_headsign (λ n. n < length a.now.headsigns) }
-    requires headsign_b { IfSome row_b.stop_headsign (λ n. n < length b.now.headsigns) }
-    requires plain { is_stop_of (content_of b.now) (0 ∷ [])
-        (text_of_number (stop_ids b.now) row_b.stop_id.0) ≡ true }
-    ensures { result ≡ same_stop_row_in a.now b.now
-        (stop_b never_near (content_of a.now) (content_of b.now)) row_a row_b }
+    requires stops { map (option_map (λ n. n.0)) stops.now ≡ joined_numbers kind.Stop sides.now }
+    requires stop_a { row_a.stop_id.0 < length sides.now.a.now.stops }
+    requires stop_b { row_b.stop_id.0 < length sides.now.b.now.stops }
+    requires headsign_a { IfSome row_a.stop_headsign (λ n. n < length sides.now.a.now.headsigns) }
+    requires headsign_b { IfSome row_b.stop_headsign (λ n. n < length sides.now.b.now.headsigns) }
+    requires plain { is_stop_of (content_b sides.now) (0 ∷ [])
+        (text_of_number (stop_ids sides.now.b.now) row_b.stop_id.0) ≡ true }
+    ensures { result ≡ same_stop_row_in sides.now.a.now sides.now.b.now
+        (stop_b (nearness_of sides.now) (content_a sides.now) (content_b sides.now)) row_a row_b }
 {
-    a.soundness();
-    b.soundness();
-    are_few(a, b);
+    sides.soundness();
     let stop = is_joined_with(stops, row_b.stop_id, row_a.stop_id);
-    let headsign = is_same_headsign(a, b, row_a.stop_headsign, row_b.stop_headsign);
+    let headsign = is_same_headsign(sides, row_a.stop_headsign, row_b.stop_headsign);
     is_same_stop_row(row_a, row_b, stop, headsign)
 }
 
@@ -79,14 +74,14 @@ fn is_joined_with(stops: &[Option<StopNo>], stop: StopNo, other: StopNo) -> bool
 }
 
 // Whether neither of two stop times has a headsign, or both have the same text.
-fn is_same_headsign(a: &Feed, b: &Feed, of_a: OptionalHeadsign, of_b: OptionalHeadsign) -> bool
-    requires of_a { IfSome of_a (λ n. n < length a.now.headsigns) }
-    requires of_b { IfSome of_b (λ n. n < length b.now.headsigns) }
-    ensures { result ≡ same_text (option_map (text_of_number a.now.headsigns) of_a)
-        (option_map (text_of_number b.now.headsigns) of_b) }
+fn is_same_headsign(sides: &Sides, of_a: OptionalHeadsign, of_b: OptionalHeadsign) -> bool
+    requires of_a { IfSome of_a (λ n. n < length sides.now.a.now.headsigns) }
+    requires of_b { IfSome of_b (λ n. n < length sides.now.b.now.headsigns) }
+    ensures { result ≡ same_text (option_map (text_of_number sides.now.a.now.headsigns) of_a)
+        (option_map (text_of_number sides.now.b.now.headsigns) of_b) }
 {
     match (of_a.get(), of_b.get()) {
-        (Some(first), Some(second)) => a.headsign(first) == b.headsign(second),
+        (Some(first), Some(second)) => sides.a.headsign(first) == sides.b.headsign(second),
         (None, None) => true,
         _ => false,
     }

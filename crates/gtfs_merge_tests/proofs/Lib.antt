@@ -1,1 +1,2 @@
 mod WorkedMerges
+mod WorkedNear

@@ -23,7 +23,7 @@ agency name = record {
 }
 
 -- a stop of a type, without a parent
-abbrev stop : List ℕ → List ℕ → ℕ → Stop
+abbrev pub stop : List ℕ → List ℕ → ℕ → Stop
 stop id name type = record {
   stop_id = id;
   stop_code = None;
@@ -62,7 +62,7 @@ daily = record {
   exceptions = [];
 }
 
-abbrev stop_row : List ℕ → ℕ → ℕ → StopRow
+abbrev pub stop_row : List ℕ → ℕ → ℕ → StopRow
 stop_row id seconds sequence = record {
   arrival_time = Some seconds;
   departure_time = Some seconds;
@@ -75,7 +75,7 @@ stop_row id seconds sequence = record {
 }
 
 -- a trip from the first stop to the second in ten minutes
-abbrev trip : List ℕ → ℕ → Trip
+abbrev pub trip : List ℕ → ℕ → Trip
 trip id seconds = record {
   route_id = codes "R1";
   service_id = codes "C1";
@@ -92,7 +92,7 @@ trip id seconds = record {
 abbrev stops : List Stop
 stops = stop (codes "S1") (codes "Mill") 0 ∷ stop (codes "S2") (codes "Lake") 0 ∷ stop (codes "S3") (codes "Hill") 0 ∷ []
 
-abbrev feed : List ℕ → List Stop → List Trip → Content
+abbrev pub feed : List ℕ → List Stop → List Trip → Content
 feed name stops trips = record {
   agencies = agency name ∷ [];
   stops = stops;
@@ -102,10 +102,10 @@ feed name stops trips = record {
   transfers = [];
 }
 
-abbrev small : Content
+abbrev pub small : Content
 small = feed (codes "Metro") stops (trip (codes "T1") 28800 ∷ [])
 
-abbrev lines : List Literal → List ℕ
+abbrev pub lines : List Literal → List ℕ
 lines ls = flat_map (λ l. codes l ++ codes "\n") ls
 
 itself : merge_report never_near small small

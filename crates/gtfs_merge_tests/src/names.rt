@@ -2,7 +2,6 @@
 
 use crate::assertions::assert_is;
 use crate::cases::merged_of;
-use crate::refusals::BERLIN;
 use crate::report::{KINDS, report};
 use crate::worked::RAIL;
 use gtfs_feed::Feed;
@@ -10,7 +9,6 @@ use gtfs_fixtures::{FileText, feed_with, made_feed};
 use gtfs_merge::{Kind, Names, Side};
 use gtfs_table::File;
 use std::alloc::Global;
-use std::hash::RandomState;
 use std::process::Abort;
 use std::random::RandomSource;
 use std::test::Fail;
@@ -60,21 +58,14 @@ fn assert_names<R: Abort + RandomSource>(
 ) -> Result<(), Fail> {
     let a = feed_with(rt, alloc, a)?;
     let b = feed_with(rt, alloc, b)?;
-    let names = Names::of_feeds(alloc, RandomState::new(rt)?, &a, &b)?;
-    assert_wanted(rt, &names);
-    assert_joined(rt, alloc, &names, JOINED)
+    let merged = merged_of(rt, alloc, &a, &b)?;
+    assert_wanted(rt, &merged.names);
+    assert_joined(rt, alloc, &merged.names, JOINED)
 }
 
 #[test]
 fn an_id_has_a_name_on_each_side(rt: HostRuntime) -> Result<(), Fail> {
     assert_names(&rt, rt.alloc(), &[], &[RAIL])
-}
-
-// Feeds of two zones are not merged, but have names: their agencies differ as by any other column.
-#[test]
-fn an_id_has_a_name_where_zones_differ(rt: HostRuntime) -> Result<(), Fail> {
-    assert_names(&rt, rt.alloc(), &[], &[BERLIN])?;
-    assert_names(&rt, rt.alloc(), &[BERLIN], &[])
 }
 
 // The joined ids of each kind on a line.

@@ -11,13 +11,13 @@ loop-number-init c = ap (map (option_map (λ n. n.0))) c.in_ok-joined.ensures.it
 
 pub loop-number-preserved : goal.loop-number-preserved
 loop-number-preserved c =
-    let ids = agency_ids c.args.b.now in
-    let within : c.loop-number.number < length ids = omega (arith, c.agency_count-number-end.ensures, length-map c.args.b.now.agencies (λ x. x.agency_id)) in
-    numbered_more (λ n. n.0) (joined_number kind.Agency c.args.a.now c.args.b.now) ids [] c.loop-number.number _ _ c.joined_agency.result within
+    let ids = agency_ids c.args.sides.now.b.now in
+    let within : c.loop-number.number < length ids = omega (arith, c.agency_count-number-end.ensures, length-map c.args.sides.now.b.now.agencies (λ x. x.agency_id)) in
+    numbered_more (λ n. n.0) (joined_number kind.Agency c.args.sides.now) ids [] c.loop-number.number _ _ c.joined_agency.result within
     c.loop-number.invariant c.in_ok-push.ensures.items c.joined_agency.ensures
 
 pub returns : goal.returns
 returns c =
-    let ids = agency_ids c.args.b.now in
-    let past : length ids ≤ c.loop-number.number = omega (arith, c.agency_count-number-end.ensures, length-map c.args.b.now.agencies (λ x. x.agency_id)) in
-    c.loop-number.invariant ∙ ap (map (joined_number kind.Agency c.args.a.now c.args.b.now)) (take_all c.loop-number.number ids past)
+    let ids = agency_ids c.args.sides.now.b.now in
+    let past : length ids ≤ c.loop-number.number = omega (arith, c.agency_count-number-end.ensures, length-map c.args.sides.now.b.now.agencies (λ x. x.agency_id)) in
+    c.loop-number.invariant ∙ ap (map (joined_number kind.Agency c.args.sides.now)) (take_all c.loop-number.number ids past)

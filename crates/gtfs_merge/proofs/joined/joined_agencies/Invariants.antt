@@ -6,4 +6,4 @@ use Rattle.gtfs_merge.proofs.joined.joined_agencies.Given as goal
 
 -- the agencies so far
 abbrev pub invariant-loop-number : goal.invariant-loop-number
-invariant-loop-number l = map (option_map (λ n. n.0)) l.joined.items ≡ map (joined_number kind.Agency l.a l.b) (take l.number (agency_ids l.b))
+invariant-loop-number l = map (option_map (λ n. n.0)) l.joined.items ≡ map (joined_number kind.Agency l.sides) (take l.number (agency_ids l.sides.b.now))

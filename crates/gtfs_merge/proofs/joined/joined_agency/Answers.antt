@@ -6,12 +6,12 @@ use Rattle.gtfs_merge.proofs.joined.joined_agency.Goals as goal
 
 pub returns-then-is_same_agency : goal.returns-then-is_same_agency
 returns-then-is_same_agency c =
-    sym (agency-joined c.args.a.now c.args.b.now c.soundness.ensures c.soundness-2.ensures c.args.agency.0 c.in_ok-other.other.0 _ _ _
-    c.agency_by_number-row.ensures (c.in_ok-other.ensures ∙ ap (λ t. position (bytes_eq t) (agency_ids c.args.a.now)) c.as_str.ensures) c.agency_by_number.ensures c.is_same_agency.ensures
+    sym (agency-joined c.args.sides.now c.soundness.ensures.a c.soundness.ensures.b c.args.agency.0 c.in_ok-other.other.0 _ _ _
+    c.agency_by_number-row.ensures (c.in_ok-other.ensures ∙ ap (λ t. position (bytes_eq t) (agency_ids c.args.sides.now.a.now)) c.as_str.ensures) c.agency_by_number.ensures c.is_same_agency.ensures
     ∙ ap (λ b. if b then Some c.in_ok-other.other.0 else None) c.if-is_same_agency.true)
 
 pub returns-else-is_same_agency : goal.returns-else-is_same_agency
 returns-else-is_same_agency c =
-    sym (agency-joined c.args.a.now c.args.b.now c.soundness.ensures c.soundness-2.ensures c.args.agency.0 c.in_ok-other.other.0 _ _ _
-    c.agency_by_number-row.ensures (c.in_ok-other.ensures ∙ ap (λ t. position (bytes_eq t) (agency_ids c.args.a.now)) c.as_str.ensures) c.agency_by_number.ensures c.is_same_agency.ensures
+    sym (agency-joined c.args.sides.now c.soundness.ensures.a c.soundness.ensures.b c.args.agency.0 c.in_ok-other.other.0 _ _ _
+    c.agency_by_number-row.ensures (c.in_ok-other.ensures ∙ ap (λ t. position (bytes_eq t) (agency_ids c.args.sides.now.a.now)) c.as_str.ensures) c.agency_by_number.ensures c.is_same_agency.ensures
     ∙ ap (λ b. if b then Some c.in_ok-other.other.0 else None) c.if-is_same_agency.false)

@@ -11,13 +11,13 @@ loop-number-init c = ap (map (option_map (λ n. n.0))) c.in_ok-joined.ensures.it
 
 pub loop-number-preserved : goal.loop-number-preserved
 loop-number-preserved c =
-    let ids = service_ids c.args.b.now in
-    let within : c.loop-number.number < length ids = omega (arith, c.service_count-number-end.ensures, length-map c.args.b.now.services (λ x. x.service_id)) in
-    numbered_more (λ n. n.0) (joined_number kind.Service c.args.a.now c.args.b.now) ids [] c.loop-number.number _ _ c.joined_service.result within
+    let ids = service_ids c.args.sides.now.b.now in
+    let within : c.loop-number.number < length ids = omega (arith, c.service_count-number-end.ensures, length-map c.args.sides.now.b.now.services (λ x. x.service_id)) in
+    numbered_more (λ n. n.0) (joined_number kind.Service c.args.sides.now) ids [] c.loop-number.number _ _ c.joined_service.result within
     c.loop-number.invariant c.in_ok-push.ensures.items c.joined_service.ensures
 
 pub returns : goal.returns
 returns c =
-    let ids = service_ids c.args.b.now in
-    let past : length ids ≤ c.loop-number.number = omega (arith, c.service_count-number-end.ensures, length-map c.args.b.now.services (λ x. x.service_id)) in
-    c.loop-number.invariant ∙ ap (map (joined_number kind.Service c.args.a.now c.args.b.now)) (take_all c.loop-number.number ids past)
+    let ids = service_ids c.args.sides.now.b.now in
+    let past : length ids ≤ c.loop-number.number = omega (arith, c.service_count-number-end.ensures, length-map c.args.sides.now.b.now.services (λ x. x.service_id)) in
+    c.loop-number.invariant ∙ ap (map (joined_number kind.Service c.args.sides.now)) (take_all c.loop-number.number ids past)

@@ -6,4 +6,4 @@ use Rattle.gtfs_merge.proofs.joined.joined_services.Given as goal
 
 -- the services so far
 abbrev pub invariant-loop-number : goal.invariant-loop-number
-invariant-loop-number l = map (option_map (λ n. n.0)) l.joined.items ≡ map (joined_number kind.Service l.a l.b) (take l.number (service_ids l.b))
+invariant-loop-number l = map (option_map (λ n. n.0)) l.joined.items ≡ map (joined_number kind.Service l.sides) (take l.number (service_ids l.sides.b.now))

@@ -6,4 +6,4 @@ use Rattle.gtfs_merge.proofs.joined_routes.joined_routes.Given as goal
 
 -- the routes so far
 abbrev pub invariant-loop-number : goal.invariant-loop-number
-invariant-loop-number l = map (option_map (λ n. n.0)) l.joined.items ≡ map (joined_number kind.Route l.a l.b) (take l.number (route_ids l.b))
+invariant-loop-number l = map (option_map (λ n. n.0)) l.joined.items ≡ map (joined_number kind.Route l.sides) (take l.number (route_ids l.sides.b.now))

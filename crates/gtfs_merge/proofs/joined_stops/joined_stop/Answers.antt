@@ -8,28 +8,26 @@ use Rattle.gtfs_merge.proofs.joined_stops.joined_stop.Goals.{else-is_alike_stop-
 
 pub returns-then-is_same_parent : goal.returns-then-is_same_parent
 returns-then-is_same_parent c rename row at rel =
-    let p = c.args.a.now in
-    let q = c.args.b.now in
+    let sides = c.args.sides.now in
     let y = c.stop_by_number-row.result.now in
     let x = c.stop_by_number-same.result.now in
-    sym (stop-joined p q c.soundness.ensures c.soundness-2.ensures rename c.args.stop.0 c.in_ok-other.other.0 y row x _ true true
-    c.stop_by_number-row.ensures at rel (ap (λ t. position (bytes_eq t) (stop_ids p)) (sym c.as_str.ensures) ∙ sym c.in_ok-other.ensures) c.stop_by_number-same.ensures
-    (c.is_alike_stop.ensures p q rename ∙ ap (λ b. b && same_parent_in p q rename x y) c.if-is_alike_stop.true) (sym c.is_same_parent.ensures ∙ c.if-is_same_parent.true))
+    sym (stop-joined sides c.soundness.ensures.a c.soundness.ensures.b rename c.args.stop.0 c.in_ok-other.other.0 y row x _ true true
+    c.stop_by_number-row.ensures at rel (ap (λ t. position (bytes_eq t) (stop_ids sides.a.now)) (sym c.as_str.ensures) ∙ sym c.in_ok-other.ensures) c.stop_by_number-same.ensures
+    (c.is_alike_stop.ensures sides.a.now sides.b.now rename ∙ ap (λ b. b && same_parent_in sides.a.now sides.b.now rename x y) c.if-is_alike_stop.true) (sym c.is_same_parent.ensures ∙ c.if-is_same_parent.true))
 
 pub returns-else-is_alike_stop : goal.returns-else-is_alike_stop
 returns-else-is_alike_stop c rename row at rel =
-    let p = c.args.a.now in
-    let q = c.args.b.now in
+    let sides = c.args.sides.now in
     let y = c.stop_by_number-row.result.now in
     let x = c.stop_by_number-same.result.now in
-    let numbered = ap (λ t. position (bytes_eq t) (stop_ids p)) (sym c.as_str.ensures) ∙ sym c.in_ok-other.ensures in
+    let numbered = ap (λ t. position (bytes_eq t) (stop_ids sides.a.now)) (sym c.as_str.ensures) ∙ sym c.in_ok-other.ensures in
     elim c.else-is_alike_stop.branch [
       | else-is_alike_stop-via-then-is_alike_stop+else-is_same_parent w ↦
-          sym (stop-joined p q c.soundness.ensures c.soundness-2.ensures rename c.args.stop.0 c.in_ok-other.other.0 y row x _ true false
+          sym (stop-joined sides c.soundness.ensures.a c.soundness.ensures.b rename c.args.stop.0 c.in_ok-other.other.0 y row x _ true false
           c.stop_by_number-row.ensures at rel numbered c.stop_by_number-same.ensures
-          (c.is_alike_stop.ensures p q rename ∙ ap (λ b. b && same_parent_in p q rename x y) w.if-is_alike_stop.true) (sym w.is_same_parent.ensures ∙ w.if-is_same_parent.false))
+          (c.is_alike_stop.ensures sides.a.now sides.b.now rename ∙ ap (λ b. b && same_parent_in sides.a.now sides.b.now rename x y) w.if-is_alike_stop.true) (sym w.is_same_parent.ensures ∙ w.if-is_same_parent.false))
       | else-is_alike_stop-via-else-is_alike_stop w ↦
-          sym (stop-joined p q c.soundness.ensures c.soundness-2.ensures rename c.args.stop.0 c.in_ok-other.other.0 y row x _ false _
+          sym (stop-joined sides c.soundness.ensures.a c.soundness.ensures.b rename c.args.stop.0 c.in_ok-other.other.0 y row x _ false _
           c.stop_by_number-row.ensures at rel numbered c.stop_by_number-same.ensures
-          (c.is_alike_stop.ensures p q rename ∙ ap (λ b. b && same_parent_in p q rename x y) w.if-is_alike_stop.false) refl)
+          (c.is_alike_stop.ensures sides.a.now sides.b.now rename ∙ ap (λ b. b && same_parent_in sides.a.now sides.b.now rename x y) w.if-is_alike_stop.false) refl)
     ]

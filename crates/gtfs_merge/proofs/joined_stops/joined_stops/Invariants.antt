@@ -6,4 +6,4 @@ use Rattle.gtfs_merge.proofs.joined_stops.joined_stops.Given as goal
 
 -- the stops so far
 abbrev pub invariant-loop-number : goal.invariant-loop-number
-invariant-loop-number l = map (option_map (λ n. n.0)) l.joined.items ≡ map (joined_number kind.Stop l.a l.b) (take l.number (stop_ids l.b))
+invariant-loop-number l = map (option_map (λ n. n.0)) l.joined.items ≡ map (joined_number kind.Stop l.sides) (take l.number (stop_ids l.sides.b.now))

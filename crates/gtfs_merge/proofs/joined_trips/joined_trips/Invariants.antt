@@ -6,4 +6,4 @@ use Rattle.gtfs_merge.proofs.joined_trips.joined_trips.Given as goal
 
 -- the trips so far
 abbrev pub invariant-loop-number : goal.invariant-loop-number
-invariant-loop-number l = map (option_map (λ n. n.0)) l.joined.items ≡ map (joined_number kind.Trip l.a l.b) (take l.number (trip_ids l.b))
+invariant-loop-number l = map (option_map (λ n. n.0)) l.joined.items ≡ map (joined_number kind.Trip l.sides) (take l.number (trip_ids l.sides.b.now))

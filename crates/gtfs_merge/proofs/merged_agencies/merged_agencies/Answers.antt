@@ -10,27 +10,24 @@ use Rattle.gtfs_merge.proofs.merged_agencies.merged_agencies.Goals as goal
 
 pub agency_by_number-source-requires : goal.agency_by_number-source-requires
 agency_by_number-source-requires c =
-    let p = c.args.a.now in
-    let q = c.args.b.now in
+    let sides = c.args.sides.now in
     let row = c.row-item.result in
-    let within = row-within kind.Agency p q c.rows-rows.result.now (subst (AreMergedRows kind.Agency c.args.a.now c.args.b.now) (sym c.rows-rows.ensures) c.requires.rows) c.loop-row.row-index c.loop-row-test.true row c.row-item.is in
-    subst (λ (f : Parts). row.number < length f.agencies) (sym c.side_of.ensures) (omega (arith, within, length-map (side_parts row.side p q).agencies (λ a. a.agency_id)))
+    let within = row-within kind.Agency sides c.rows-rows.result.now (subst (AreMergedRows kind.Agency c.args.sides.now) (sym c.rows-rows.ensures) c.requires.rows) c.loop-row.row-index c.loop-row-test.true row c.row-item.is in
+    subst (λ (f : Parts). row.number < length f.agencies) (sym c.of.ensures) (omega (arith, within, length-map (side_parts row.side sides).agencies (λ a. a.agency_id)))
 
 pub loop-row-preserved : goal.loop-row-preserved
 loop-row-preserved c =
-    let p = c.args.a.now in
-    let q = c.args.b.now in
+    let sides = c.args.sides.now in
     let rows = c.rows-rows.result.now in
     let index = c.loop-row.row-index in
     let row = c.row-item.result in
-    let at = subst (λ (f : Parts). slice_get f.agencies row.number ≡ Some c.agency_by_number-source.result.now) c.side_of.ensures c.agency_by_number-source.ensures in
-    let named = row-named kind.Agency p q rows (subst (AreMergedRows kind.Agency c.args.a.now c.args.b.now) (sym c.rows-rows.ensures) c.requires.rows) index c.loop-row-test.true row c.row-item.is in
-    rows-more agency_of (agency_from p q) rows index c.loop-row.list.items _ c.in_ok-with_id.field-0 row c.loop-row-test.true c.loop-row.invariant c.in_ok-push.ensures.items c.row-item.is
-    (agency-row p q row.side row.number c.as_str.result.now c.agency_by_number-source.result.now c.in_ok-with_id.field-0 at (c.as_str.ensures.value ∙ named) c.in_ok-with_id.ensures)
+    let at = subst (λ (f : Parts). slice_get f.agencies row.number ≡ Some c.agency_by_number-source.result.now) c.of.ensures c.agency_by_number-source.ensures in
+    let named = row-named kind.Agency sides rows (subst (AreMergedRows kind.Agency c.args.sides.now) (sym c.rows-rows.ensures) c.requires.rows) index c.loop-row-test.true row c.row-item.is in
+    rows-more agency_of (agency_from sides) rows index c.loop-row.list.items _ c.in_ok-with_id.field-0 row c.loop-row-test.true c.loop-row.invariant c.in_ok-push.ensures.items c.row-item.is
+    (agency-row sides row.side row.number c.as_str.result.now c.agency_by_number-source.result.now c.in_ok-with_id.field-0 at (c.as_str.ensures.value ∙ named) c.in_ok-with_id.ensures)
 
 pub returns : goal.returns
 returns c =
-    let p = c.args.a.now in
-    let q = c.args.b.now in
+    let sides = c.args.sides.now in
     let past : length c.rows-rows.result.now ≤ c.loop-row.row-index = omega (arith, c.loop-row-test.false) in
-    ap (map agency_of) c.new.ensures ∙ rows-all agency_of (agency_from p q) c.rows-rows.result.now c.loop-row.row-index c.loop-row.list.items (merged_parts p q).agencies past c.loop-row.invariant (subst (AreMergedRows kind.Agency c.args.a.now c.args.b.now) (sym c.rows-rows.ensures) c.requires.rows).rows
+    ap (map agency_of) c.new.ensures ∙ rows-all agency_of (agency_from sides) c.rows-rows.result.now c.loop-row.row-index c.loop-row.list.items (merged_parts sides).agencies past c.loop-row.invariant (subst (AreMergedRows kind.Agency c.args.sides.now) (sym c.rows-rows.ensures) c.requires.rows).rows

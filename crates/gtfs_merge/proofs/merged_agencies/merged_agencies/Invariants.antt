@@ -6,4 +6,4 @@ use Rattle.gtfs_merge.proofs.merged_agencies.merged_agencies.Given as goal
 
 -- the agencies so far
 abbrev pub invariant-loop-row : goal.invariant-loop-row
-invariant-loop-row l = map (λ r. Some (agency_of r)) l.list.items ≡ map (agency_from l.a l.b) (take l.row-index (map entry_value l.rows))
+invariant-loop-row l = map (λ r. Some (agency_of r)) l.list.items ≡ map (agency_from l.sides) (take l.row-index (map entry_value l.rows))

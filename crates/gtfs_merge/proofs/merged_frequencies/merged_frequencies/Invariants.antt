@@ -5,4 +5,4 @@ use Rattle.gtfs_merge.proofs.merged_frequencies.merged_frequencies.Given as goal
 
 -- the frequencies of the trips so far
 abbrev pub invariant-loop-trip : goal.invariant-loop-trip
-invariant-loop-trip l = StandInTurn (map (frequencies_from l.a l.b) (take l.trip-index (map entry_value l.trips))) l.starts.items l.rows.items
+invariant-loop-trip l = StandInTurn (map (frequencies_from l.sides) (take l.trip-index (map entry_value l.trips))) l.starts.items l.rows.items

@@ -13,57 +13,53 @@ use Rattle.gtfs_merge.proofs.merged_routes.merged_routes.Goals as goal
 
 pub route_by_number-source-requires : goal.route_by_number-source-requires
 route_by_number-source-requires c =
-    let p = c.args.a.now in
-    let q = c.args.b.now in
+    let sides = c.args.sides.now in
     let row = c.row-item.result in
-    let are = subst (AreMergedRows kind.Route p q) (sym c.rows-rows.ensures) c.requires.routes.rows in
-    let within = row-within kind.Route p q c.rows-rows.result.now are c.loop-row.row-index c.loop-row-test.true row c.row-item.is in
-    subst (λ (f : Parts). row.number < length f.routes) (sym c.side_of.ensures) (omega (arith, within, length-map (side_parts row.side p q).routes (λ s. s.route_id)))
+    let are = subst (AreMergedRows kind.Route sides) (sym c.rows-rows.ensures) c.requires.routes.rows in
+    let within = row-within kind.Route sides c.rows-rows.result.now are c.loop-row.row-index c.loop-row-test.true row c.row-item.is in
+    subst (λ (f : Parts). row.number < length f.routes) (sym c.of.ensures) (omega (arith, within, length-map (side_parts row.side sides).routes (λ s. s.route_id)))
 
 pub renumbered-agency-requires : goal.renumbered-agency-requires
 renumbered-agency-requires c =
-    let p = c.args.a.now in
-    let q = c.args.b.now in
+    let sides = c.args.sides.now in
     let row = c.row-item.result in
     let source = c.route_by_number-source.result.now in
-    let f = side_parts row.side p q in
-    let at = subst (λ (f : Parts). slice_get f.routes row.number ≡ Some source) c.side_of.ensures c.route_by_number-source.ensures in
-    let inside = agency-inside f (side-sound row.side p q c.soundness.ensures c.soundness-2.ensures) row.number source at in
-    let long = ap length c.numbers.ensures ∙ numbers-long (merged_ids kind.Agency p q) (side_names row.side p q).agency (agency_ids f) (numbers_of c.args.agencies.now.numbers row.side) (c.requires.agencies.numbers row.side) in
+    let f = side_parts row.side sides in
+    let at = subst (λ (f : Parts). slice_get f.routes row.number ≡ Some source) c.of.ensures c.route_by_number-source.ensures in
+    let inside = agency-inside f (side-sound row.side sides c.soundness.ensures.a c.soundness.ensures.b) row.number source at in
+    let long = ap length c.numbers.ensures ∙ numbers-long (merged_ids kind.Agency sides) (side_names row.side sides).agency (agency_ids f) (numbers_of c.args.agencies.now.numbers row.side) (c.requires.agencies.numbers row.side) in
     subst (λ (m : ℕ). source.agency_id.0 < m) (sym long) inside
 
 pub loop-row-preserved : goal.loop-row-preserved
 loop-row-preserved c =
-    let p = c.args.a.now in
-    let q = c.args.b.now in
+    let sides = c.args.sides.now in
     let rows = c.rows-rows.result.now in
     let index = c.loop-row.row-index in
     let row = c.row-item.result in
     let items = c.loop-row.list.items in
     let source = c.route_by_number-source.result.now in
     let made = c.in_ok-with_id.field-0 in
-    let are = subst (AreMergedRows kind.Route p q) (sym c.rows-rows.ensures) c.requires.routes.rows in
+    let are = subst (AreMergedRows kind.Route sides) (sym c.rows-rows.ensures) c.requires.routes.rows in
     let numbers = numbers_of c.args.agencies.now.numbers row.side in
-    let f = side_parts row.side p q in
-    let at = subst (λ (f : Parts). slice_get f.routes row.number ≡ Some source) c.side_of.ensures c.route_by_number-source.ensures in
-    let inside = agency-inside f (side-sound row.side p q c.soundness.ensures c.soundness-2.ensures) row.number source at in
-    let named = row-named kind.Route p q rows are index c.loop-row-test.true row c.row-item.is in
+    let f = side_parts row.side sides in
+    let at = subst (λ (f : Parts). slice_get f.routes row.number ≡ Some source) c.of.ensures c.route_by_number-source.ensures in
+    let inside = agency-inside f (side-sound row.side sides c.soundness.ensures.a c.soundness.ensures.b) row.number source at in
+    let named = row-named kind.Route sides rows are index c.loop-row-test.true row c.row-item.is in
     let agency = c.renumbered-agency.ensures ∙ ap (λ (ns : List ℕ). get_or ns source.agency_id.0 0) c.numbers.ensures in
-    let both = route-row p q row.side row.number c.as_str.result.now numbers (c.requires.agencies.numbers row.side) source made c.renumbered-agency.result at (c.as_str.ensures.value ∙ named) agency inside c.in_ok-with_id.ensures in
+    let both = route-row sides row.side row.number c.as_str.result.now numbers (c.requires.agencies.numbers row.side) source made c.renumbered-agency.result at (c.as_str.ensures.value ∙ named) agency inside c.in_ok-with_id.ensures in
     record {
-      listed = rows-more (route_named (merged_ids kind.Agency p q)) (route_from p q) rows index items _ made row c.loop-row-test.true c.loop-row.invariant.listed c.in_ok-push.ensures.items c.row-item.is both.0;
-      within = all-more (names_agency (merged_ids kind.Agency p q)) items _ made c.loop-row.invariant.within c.in_ok-push.ensures.items both.1;
+      listed = rows-more (route_named (merged_ids kind.Agency sides)) (route_from sides) rows index items _ made row c.loop-row-test.true c.loop-row.invariant.listed c.in_ok-push.ensures.items c.row-item.is both.0;
+      within = all-more (names_agency (merged_ids kind.Agency sides)) items _ made c.loop-row.invariant.within c.in_ok-push.ensures.items both.1;
     }
 
 pub returns-clause-rows : goal.returns-clause-rows
 returns-clause-rows c =
-    let p = c.args.a.now in
-    let q = c.args.b.now in
+    let sides = c.args.sides.now in
     let rows = c.rows-rows.result.now in
-    let are = subst (AreMergedRows kind.Route p q) (sym c.rows-rows.ensures) c.requires.routes.rows in
+    let are = subst (AreMergedRows kind.Route sides) (sym c.rows-rows.ensures) c.requires.routes.rows in
     let past : length rows ≤ c.loop-row.row-index = omega (arith, c.loop-row-test.false) in
-    ap (map (route_named (merged_ids kind.Agency p q))) c.new.ensures
-    ∙ rows-all (route_named (merged_ids kind.Agency p q)) (route_from p q) rows c.loop-row.row-index c.loop-row.list.items (merged_parts p q).routes past c.loop-row.invariant.listed are.rows
+    ap (map (route_named (merged_ids kind.Agency sides))) c.new.ensures
+    ∙ rows-all (route_named (merged_ids kind.Agency sides)) (route_from sides) rows c.loop-row.row-index c.loop-row.list.items (merged_parts sides).routes past c.loop-row.invariant.listed are.rows
 
 pub returns-clause-agencies : goal.returns-clause-agencies
-returns-clause-agencies c = ap (list_all (names_agency (merged_ids kind.Agency c.args.a.now c.args.b.now))) c.new.ensures ∙ c.loop-row.invariant.within
+returns-clause-agencies c = ap (list_all (names_agency (merged_ids kind.Agency c.args.sides.now))) c.new.ensures ∙ c.loop-row.invariant.within

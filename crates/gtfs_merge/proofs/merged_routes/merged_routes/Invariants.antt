@@ -10,6 +10,6 @@ use Rattle.gtfs_merge.proofs.merged_routes.merged_routes.Given as goal
 -- the routes so far
 abbrev pub invariant-loop-row : goal.invariant-loop-row
 invariant-loop-row l = record {
-  listed : map (λ r. Some (route_named (merged_ids kind.Agency l.a l.b) r)) l.list.items ≡ map (route_from l.a l.b) (take l.row-index (map entry_value l.rows));
-  within : list_all (names_agency (merged_ids kind.Agency l.a l.b)) l.list.items ≡ true;
+  listed : map (λ r. Some (route_named (merged_ids kind.Agency l.sides) r)) l.list.items ≡ map (route_from l.sides) (take l.row-index (map entry_value l.rows));
+  within : list_all (names_agency (merged_ids kind.Agency l.sides)) l.list.items ≡ true;
 }

@@ -10,27 +10,24 @@ use Rattle.gtfs_merge.proofs.merged_services.merged_services.Goals as goal
 
 pub service_by_number-source-requires : goal.service_by_number-source-requires
 service_by_number-source-requires c =
-    let p = c.args.a.now in
-    let q = c.args.b.now in
+    let sides = c.args.sides.now in
     let row = c.row-item.result in
-    let within = row-within kind.Service p q c.rows-rows.result.now (subst (AreMergedRows kind.Service c.args.a.now c.args.b.now) (sym c.rows-rows.ensures) c.requires.rows) c.loop-row.row-index c.loop-row-test.true row c.row-item.is in
-    subst (λ (f : Parts). row.number < length f.services) (sym c.side_of.ensures) (omega (arith, within, length-map (side_parts row.side p q).services (λ a. a.service_id)))
+    let within = row-within kind.Service sides c.rows-rows.result.now (subst (AreMergedRows kind.Service c.args.sides.now) (sym c.rows-rows.ensures) c.requires.rows) c.loop-row.row-index c.loop-row-test.true row c.row-item.is in
+    subst (λ (f : Parts). row.number < length f.services) (sym c.of.ensures) (omega (arith, within, length-map (side_parts row.side sides).services (λ a. a.service_id)))
 
 pub loop-row-preserved : goal.loop-row-preserved
 loop-row-preserved c =
-    let p = c.args.a.now in
-    let q = c.args.b.now in
+    let sides = c.args.sides.now in
     let rows = c.rows-rows.result.now in
     let index = c.loop-row.row-index in
     let row = c.row-item.result in
-    let at = subst (λ (f : Parts). option_map (λ s. s.service) (slice_get f.services row.number) ≡ Some c.service_by_number-source.result.now) c.side_of.ensures c.service_by_number-source.ensures in
-    let named = row-named kind.Service p q rows (subst (AreMergedRows kind.Service c.args.a.now c.args.b.now) (sym c.rows-rows.ensures) c.requires.rows) index c.loop-row-test.true row c.row-item.is in
-    rows-more service_of (service_from p q) rows index c.loop-row.list.items _ c.in_ok-with_id.field-0 row c.loop-row-test.true c.loop-row.invariant c.in_ok-push.ensures.items c.row-item.is
-    (service-row p q row.side row.number c.as_str.result.now c.service_by_number-source.result.now c.in_ok-with_id.field-0 at (c.as_str.ensures.value ∙ named) c.in_ok-with_id.ensures)
+    let at = subst (λ (f : Parts). option_map (λ s. s.service) (slice_get f.services row.number) ≡ Some c.service_by_number-source.result.now) c.of.ensures c.service_by_number-source.ensures in
+    let named = row-named kind.Service sides rows (subst (AreMergedRows kind.Service c.args.sides.now) (sym c.rows-rows.ensures) c.requires.rows) index c.loop-row-test.true row c.row-item.is in
+    rows-more service_of (service_from sides) rows index c.loop-row.list.items _ c.in_ok-with_id.field-0 row c.loop-row-test.true c.loop-row.invariant c.in_ok-push.ensures.items c.row-item.is
+    (service-row sides row.side row.number c.as_str.result.now c.service_by_number-source.result.now c.in_ok-with_id.field-0 at (c.as_str.ensures.value ∙ named) c.in_ok-with_id.ensures)
 
 pub returns : goal.returns
 returns c =
-    let p = c.args.a.now in
-    let q = c.args.b.now in
+    let sides = c.args.sides.now in
     let past : length c.rows-rows.result.now ≤ c.loop-row.row-index = omega (arith, c.loop-row-test.false) in
-    ap (map service_of) c.new.ensures ∙ rows-all service_of (service_from p q) c.rows-rows.result.now c.loop-row.row-index c.loop-row.list.items (merged_parts p q).services past c.loop-row.invariant (subst (AreMergedRows kind.Service c.args.a.now c.args.b.now) (sym c.rows-rows.ensures) c.requires.rows).rows
+    ap (map service_of) c.new.ensures ∙ rows-all service_of (service_from sides) c.rows-rows.result.now c.loop-row.row-index c.loop-row.list.items (merged_parts sides).services past c.loop-row.invariant (subst (AreMergedRows kind.Service c.args.sides.now) (sym c.rows-rows.ensures) c.requires.rows).rows

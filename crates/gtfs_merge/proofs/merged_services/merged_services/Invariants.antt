@@ -6,4 +6,4 @@ use Rattle.gtfs_merge.proofs.merged_services.merged_services.Given as goal
 
 -- the services so far
 abbrev pub invariant-loop-row : goal.invariant-loop-row
-invariant-loop-row l = map (λ r. Some (service_of r)) l.list.items ≡ map (service_from l.a l.b) (take l.row-index (map entry_value l.rows))
+invariant-loop-row l = map (λ r. Some (service_of r)) l.list.items ≡ map (service_from l.sides) (take l.row-index (map entry_value l.rows))

@@ -4,5 +4,5 @@ use Rattle.gtfs_merge.proofs.merged_stop_times.stop_time_count.Goals as goal
 
 pub trip_rows-rows-requires : goal.trip_rows-rows-requires
 trip_rows-rows-requires c =
-    trip-of_side c.args.a.now c.args.b.now c.args.kinds.now c.requires _ _ _ c.side_of.ensures
-    (trip-there c.args.a.now c.args.b.now c.args.kinds.now c.requires c.rows-trips.result.now (c.rows-trips.ensures ∙ ap (λ m. m.trips.rows) c.kinds.view_is) c.loop-trip.trip-index c.trip-item.result c.loop-trip-test.true c.trip-item.is)
+    trip-of_side c.args.sides.now c.args.kinds.now c.requires _ _ _ c.of.ensures
+    (trip-there c.args.sides.now c.args.kinds.now c.requires c.rows-trips.result.now (c.rows-trips.ensures ∙ ap (λ m. m.trips.rows) c.kinds.view_is) c.loop-trip.trip-index c.trip-item.result c.loop-trip-test.true c.trip-item.is)

@@ -14,57 +14,53 @@ use Rattle.gtfs_merge.proofs.merged_stops.merged_stops.Goals as goal
 
 pub stop_by_number-source-requires : goal.stop_by_number-source-requires
 stop_by_number-source-requires c =
-    let p = c.args.a.now in
-    let q = c.args.b.now in
+    let sides = c.args.sides.now in
     let row = c.row-item.result in
-    let are = subst (AreMergedRows kind.Stop p q) (sym c.rows-rows.ensures) c.requires.rows in
-    let within = row-within kind.Stop p q c.rows-rows.result.now are c.loop-row.row-index c.loop-row-test.true row c.row-item.is in
-    subst (λ (f : Parts). row.number < length f.stops) (sym c.side_of.ensures) (omega (arith, within, length-map (side_parts row.side p q).stops (λ s. s.stop_id)))
+    let are = subst (AreMergedRows kind.Stop sides) (sym c.rows-rows.ensures) c.requires.rows in
+    let within = row-within kind.Stop sides c.rows-rows.result.now are c.loop-row.row-index c.loop-row-test.true row c.row-item.is in
+    subst (λ (f : Parts). row.number < length f.stops) (sym c.of.ensures) (omega (arith, within, length-map (side_parts row.side sides).stops (λ s. s.stop_id)))
 
 pub renumbered-parent-requires : goal.renumbered-parent-requires
 renumbered-parent-requires c =
-    let p = c.args.a.now in
-    let q = c.args.b.now in
+    let sides = c.args.sides.now in
     let row = c.row-item.result in
     let source = c.stop_by_number-source.result.now in
-    let f = side_parts row.side p q in
-    let at = subst (λ (f : Parts). slice_get f.stops row.number ≡ Some source) c.side_of.ensures c.stop_by_number-source.ensures in
-    let inside = parent-inside f (side-sound row.side p q c.soundness.ensures c.soundness-2.ensures) row.number source at in
-    let long = ap length c.numbers.ensures ∙ numbers-long (merged_ids kind.Stop p q) (side_names row.side p q).stop (stop_ids f) (numbers_of c.args.stops.now.numbers row.side) (c.requires.numbers row.side) in
+    let f = side_parts row.side sides in
+    let at = subst (λ (f : Parts). slice_get f.stops row.number ≡ Some source) c.of.ensures c.stop_by_number-source.ensures in
+    let inside = parent-inside f (side-sound row.side sides c.soundness.ensures.a c.soundness.ensures.b) row.number source at in
+    let long = ap length c.numbers.ensures ∙ numbers-long (merged_ids kind.Stop sides) (side_names row.side sides).stop (stop_ids f) (numbers_of c.args.stops.now.numbers row.side) (c.requires.numbers row.side) in
     subst (λ (m : ℕ). IfSome source.parent_station (λ n. n.0 < m)) (sym long) inside
 
 pub loop-row-preserved : goal.loop-row-preserved
 loop-row-preserved c =
-    let p = c.args.a.now in
-    let q = c.args.b.now in
+    let sides = c.args.sides.now in
     let rows = c.rows-rows.result.now in
     let index = c.loop-row.row-index in
     let row = c.row-item.result in
     let items = c.loop-row.list.items in
     let source = c.stop_by_number-source.result.now in
     let made = c.in_ok-with_id.field-0 in
-    let are = subst (AreMergedRows kind.Stop p q) (sym c.rows-rows.ensures) c.requires.rows in
+    let are = subst (AreMergedRows kind.Stop sides) (sym c.rows-rows.ensures) c.requires.rows in
     let numbers = numbers_of c.args.stops.now.numbers row.side in
-    let f = side_parts row.side p q in
-    let at = subst (λ (f : Parts). slice_get f.stops row.number ≡ Some source) c.side_of.ensures c.stop_by_number-source.ensures in
-    let inside = parent-inside f (side-sound row.side p q c.soundness.ensures c.soundness-2.ensures) row.number source at in
-    let named = row-named kind.Stop p q rows are index c.loop-row-test.true row c.row-item.is in
+    let f = side_parts row.side sides in
+    let at = subst (λ (f : Parts). slice_get f.stops row.number ≡ Some source) c.of.ensures c.stop_by_number-source.ensures in
+    let inside = parent-inside f (side-sound row.side sides c.soundness.ensures.a c.soundness.ensures.b) row.number source at in
+    let named = row-named kind.Stop sides rows are index c.loop-row-test.true row c.row-item.is in
     let parent = c.renumbered-parent.ensures ∙ ap (λ (ns : List ℕ). option_map (λ n. get_or ns n.0 0) source.parent_station) c.numbers.ensures in
-    let both = stop-row p q row.side row.number c.as_str.result.now numbers (c.requires.numbers row.side) source made c.renumbered-parent.result at (c.as_str.ensures.value ∙ named) parent inside c.in_ok-with_id.ensures in
+    let both = stop-row sides row.side row.number c.as_str.result.now numbers (c.requires.numbers row.side) source made c.renumbered-parent.result at (c.as_str.ensures.value ∙ named) parent inside c.in_ok-with_id.ensures in
     record {
-      listed = rows-more (stop_named (merged_ids kind.Stop p q)) (stop_from p q) rows index items _ made row c.loop-row-test.true c.loop-row.invariant.listed c.in_ok-push.ensures.items c.row-item.is both.0;
-      within = all-more (names_parent (merged_ids kind.Stop p q)) items _ made c.loop-row.invariant.within c.in_ok-push.ensures.items both.1;
+      listed = rows-more (stop_named (merged_ids kind.Stop sides)) (stop_from sides) rows index items _ made row c.loop-row-test.true c.loop-row.invariant.listed c.in_ok-push.ensures.items c.row-item.is both.0;
+      within = all-more (names_parent (merged_ids kind.Stop sides)) items _ made c.loop-row.invariant.within c.in_ok-push.ensures.items both.1;
     }
 
 pub returns-clause-rows : goal.returns-clause-rows
 returns-clause-rows c =
-    let p = c.args.a.now in
-    let q = c.args.b.now in
+    let sides = c.args.sides.now in
     let rows = c.rows-rows.result.now in
-    let are = subst (AreMergedRows kind.Stop p q) (sym c.rows-rows.ensures) c.requires.rows in
+    let are = subst (AreMergedRows kind.Stop sides) (sym c.rows-rows.ensures) c.requires.rows in
     let past : length rows ≤ c.loop-row.row-index = omega (arith, c.loop-row-test.false) in
-    ap (map (stop_named (merged_ids kind.Stop p q))) c.new.ensures
-    ∙ rows-all (stop_named (merged_ids kind.Stop p q)) (stop_from p q) rows c.loop-row.row-index c.loop-row.list.items (merged_parts p q).stops past c.loop-row.invariant.listed are.rows
+    ap (map (stop_named (merged_ids kind.Stop sides))) c.new.ensures
+    ∙ rows-all (stop_named (merged_ids kind.Stop sides)) (stop_from sides) rows c.loop-row.row-index c.loop-row.list.items (merged_parts sides).stops past c.loop-row.invariant.listed are.rows
 
 pub returns-clause-parents : goal.returns-clause-parents
-returns-clause-parents c = ap (list_all (names_parent (merged_ids kind.Stop c.args.a.now c.args.b.now))) c.new.ensures ∙ c.loop-row.invariant.within
+returns-clause-parents c = ap (list_all (names_parent (merged_ids kind.Stop c.args.sides.now))) c.new.ensures ∙ c.loop-row.invariant.within

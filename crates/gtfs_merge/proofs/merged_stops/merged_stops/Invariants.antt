@@ -10,6 +10,6 @@ use Rattle.gtfs_merge.proofs.merged_stops.merged_stops.Given as goal
 -- the stops so far
 abbrev pub invariant-loop-row : goal.invariant-loop-row
 invariant-loop-row l = record {
-  listed : map (λ r. Some (stop_named (merged_ids kind.Stop l.a l.b) r)) l.list.items ≡ map (stop_from l.a l.b) (take l.row-index (map entry_value l.rows));
-  within : list_all (names_parent (merged_ids kind.Stop l.a l.b)) l.list.items ≡ true;
+  listed : map (λ r. Some (stop_named (merged_ids kind.Stop l.sides) r)) l.list.items ≡ map (stop_from l.sides) (take l.row-index (map entry_value l.rows));
+  within : list_all (names_parent (merged_ids kind.Stop l.sides)) l.list.items ≡ true;
 }

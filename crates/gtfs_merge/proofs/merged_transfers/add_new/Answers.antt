@@ -10,8 +10,8 @@ use Rattle.gtfs_merge.proofs.merged_transfers.add_new.Goals.{then-not-contains_k
 
 pub renumbered-transfer-requires : goal.renumbered-transfer-requires
 renumbered-transfer-requires c =
-    within-index c.args.a.now c.args.b.now c.soundness.ensures c.soundness-2.ensures c.args.kinds.now c.requires c.args.side c.transfers-transfers.result.now
-    (c.transfers-transfers.ensures.value ∙ ap (λ f. f.transfers) c.side_of.ensures) c.loop-own.own-index _ c.loop-own-test.true
+    within-index c.args.sides.now c.soundness.ensures.a c.soundness.ensures.b c.args.kinds.now c.requires c.args.side c.transfers-transfers.result.now
+    (c.transfers-transfers.ensures.value ∙ ap (λ f. f.transfers) c.of.ensures) c.loop-own.own-index _ c.loop-own-test.true
 
 pub loop-own-preserved : goal.loop-own-preserved
 loop-own-preserved c = λ xs start.
@@ -30,4 +30,4 @@ pub returns : goal.returns
 returns c = λ xs start.
     c.loop-own.invariant xs start
     ∙ ap (λ ts. entries_of ends_cmp ends_total ends_antisymmetric transfer_numbers (xs ++ map (transfer_on c.args.kinds.now c.args.side) ts))
-    (take_all c.loop-own.own-index c.transfers-transfers.result.now c.loop-own-test.false ∙ c.transfers-transfers.ensures.value ∙ ap (λ f. f.transfers) c.side_of.ensures)
+    (take_all c.loop-own.own-index c.transfers-transfers.result.now c.loop-own-test.false ∙ c.transfers-transfers.ensures.value ∙ ap (λ f. f.transfers) c.of.ensures)

@@ -10,11 +10,10 @@ use Rattle.gtfs_merge.proofs.merged_transfers.merged_transfers.Goals as goal
 
 pub returns : goal.returns
 returns c =
-    let p = c.args.a.now in
-    let q = c.args.b.now in
+    let sides = c.args.sides.now in
     let k = c.args.kinds.now in
     let first = c.in_ok-add_new.ensures [] (c.new-by_key.ensures.empty ∙ sym (entries-none ends_cmp transfer_numbers)) in
-    let both = c.in_ok-add_new-2.ensures (transfers_on p q k side.A) first in
+    let both = c.in_ok-add_new-2.ensures (transfers_on sides k side.A) first in
     c.new.ensures
-    ∙ subst (λ r. IfOk r (λ v. v.items ≡ merged_transfers p q k)) c.in_ok-transfers.was
-    (items_from_collect c.collect.result c.collect.ensures.ran (YieldsList-from_rest (merged_transfers p q k) (c.into_values.ensures.rest ∙ ap (map (λ e. e.1)) both)))
+    ∙ subst (λ r. IfOk r (λ v. v.items ≡ merged_transfers sides k)) c.in_ok-transfers.was
+    (items_from_collect c.collect.result c.collect.ensures.ran (YieldsList-from_rest (merged_transfers sides k) (c.into_values.ensures.rest ∙ ap (map (λ e. e.1)) both)))

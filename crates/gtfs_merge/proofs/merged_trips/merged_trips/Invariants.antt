@@ -10,6 +10,6 @@ use Rattle.gtfs_merge.proofs.merged_trips.merged_trips.Given as goal
 -- the trips so far
 abbrev pub invariant-loop-row : goal.invariant-loop-row
 invariant-loop-row l = record {
-  listed : map (λ r. Some (trip_named (merged_ids kind.Route l.a l.b) (merged_ids kind.Service l.a l.b) r)) l.list.items ≡ map (λ e. option_map without_rows (trip_from l.a l.b e)) (take l.row-index (map entry_value l.rows));
-  within : list_all (names_route_and_service (merged_ids kind.Route l.a l.b) (merged_ids kind.Service l.a l.b)) l.list.items ≡ true;
+  listed : map (λ r. Some (trip_named (merged_ids kind.Route l.sides) (merged_ids kind.Service l.sides) r)) l.list.items ≡ map (λ e. option_map without_rows (trip_from l.sides e)) (take l.row-index (map entry_value l.rows));
+  within : list_all (names_route_and_service (merged_ids kind.Route l.sides) (merged_ids kind.Service l.sides)) l.list.items ≡ true;
 }

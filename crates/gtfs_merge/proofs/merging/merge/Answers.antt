@@ -15,9 +15,9 @@ pub returns-clause-departures : goal.returns-clause-departures
 returns-clause-departures c =
     let a = content_of_parts c.args.a.now in
     let b = content_of_parts c.args.b.now in
-    let few = λ (k : Kind). few-enough k a b (c.are_few.ensures k) in
+    let few = λ (k : Kind). few-enough k a b (c.soundness.ensures.few k) in
     record {
-      union = λ times. merge-union times never_near never-nearness a b c.soundness.ensures.content c.soundness-2.ensures.content few;
-      shares = λ times. merge-shares-exactly times never_near never-nearness a b c.soundness.ensures.content c.soundness-2.ensures.content few;
-      boards = λ times. merge-boards times never_near never-nearness a b c.soundness.ensures.content c.soundness-2.ensures.content few;
+      union = λ times. merge-union times never_near never-nearness a b c.soundness.ensures.a.content c.soundness.ensures.b.content few;
+      shares = λ times. merge-shares-exactly times never_near never-nearness a b c.soundness.ensures.a.content c.soundness.ensures.b.content few;
+      boards = λ times. merge-boards times never_near never-nearness a b c.soundness.ensures.a.content c.soundness.ensures.b.content few;
     }

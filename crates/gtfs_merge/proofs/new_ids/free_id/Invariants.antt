@@ -5,7 +5,7 @@ use Rattle.gtfs_merge.proofs.new_ids.free_id.Given as goal
 
 -- all numbers so far are taken
 abbrev pub invariant-loop-id : goal.invariant-loop-id
-invariant-loop-id l = IsSearched (known_ids l.kind l.a ++ known_ids l.kind l.b) l.base l.number
+invariant-loop-id l = IsSearched (known_ids l.kind l.sides.a.now ++ known_ids l.kind l.sides.b.now) l.base l.number
 
 abbrev pub decreases-loop-id : goal.decreases-loop-id
-decreases-loop-id l = length (known_ids l.kind l.a ++ known_ids l.kind l.b) + 2 - l.number
+decreases-loop-id l = length (known_ids l.kind l.sides.a.now ++ known_ids l.kind l.sides.b.now) + 2 - l.number

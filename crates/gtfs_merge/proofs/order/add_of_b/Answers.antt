@@ -6,5 +6,5 @@ use Rattle.gtfs_merge.proofs.order.add_of_b.Goals as goal
 
 pub loop-number-preserved : goal.loop-number-preserved
 loop-number-preserved c =
-    passing-more (is_apart c.args.kind c.args.a.now c.args.b.now) (entry_of side.B c.args.kind c.args.a.now c.args.b.now) c.loop-number.number (map entry_value c.args.rows.now.items) _ _
+    passing-more (is_apart c.args.kind c.args.sides.now) (entry_of side.B c.args.kind c.args.sides.now) c.loop-number.number (map entry_value c.args.rows.now.items) _ _
     c.loop-number.invariant c.in_ok-add_if_apart.ensures

@@ -6,9 +6,8 @@ use Rattle.gtfs_merge.proofs.order.merged_rows.Goals as goal
 
 pub returns : goal.returns
 returns c =
-    let p = c.args.a.now in
-    let q = c.args.b.now in
+    let sides = c.args.sides.now in
     let es = map entry_value c.in_ok-sorted.field-0.items in
-    merged-rows p q c.soundness.ensures c.soundness-2.ensures c.are_few.ensures c.args.kind es
-    (subst (λ xs. IsPermutation xs es) (c.in_ok-add_of_b.ensures ∙ ap (λ xs. xs ++ rows_of_b c.args.kind p q) c.in_ok-rows.ensures) c.in_ok-sorted.ensures.same)
+    merged-rows sides c.soundness.ensures.a c.soundness.ensures.b c.soundness.ensures.few c.args.kind es
+    (subst (λ xs. IsPermutation xs es) (c.in_ok-add_of_b.ensures ∙ ap (λ xs. xs ++ rows_of_b c.args.kind sides) c.in_ok-rows.ensures) c.in_ok-sorted.ensures.same)
     c.in_ok-sorted.ensures.in_order

@@ -6,4 +6,4 @@ use Rattle.gtfs_merge.proofs.order.of_a.Given as goal
 
 -- the rows so far
 abbrev pub invariant-loop-number : goal.invariant-loop-number
-invariant-loop-number l = map entry_value l.rows.items ≡ map (entry_of side.A l.kind l.a l.b) (range_with_len 0 l.number)
+invariant-loop-number l = map entry_value l.rows.items ≡ map (entry_of side.A l.kind l.sides) (range_with_len 0 l.number)

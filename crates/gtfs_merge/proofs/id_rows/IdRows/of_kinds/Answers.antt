@@ -4,28 +4,28 @@ use Rattle.gtfs_merge.specs.declared.kind.Kind.TheVariants as kind
 use Rattle.gtfs_merge.proofs.id_rows.IdRows.of_kinds.Goals as goal
 
 pub merged_agencies-requires : goal.merged_agencies-requires
-merged_agencies-requires c = subst (AreMergedKinds c.args.a.now c.args.b.now) (sym c.kinds.view_is) c.requires kind.Agency
+merged_agencies-requires c = subst (AreMergedKinds c.args.sides.now) (sym c.kinds.view_is) c.requires kind.Agency
 
 pub merged_stops-requires : goal.merged_stops-requires
-merged_stops-requires c = subst (AreMergedKinds c.args.a.now c.args.b.now) (sym c.kinds.view_is) c.requires kind.Stop
+merged_stops-requires c = subst (AreMergedKinds c.args.sides.now) (sym c.kinds.view_is) c.requires kind.Stop
 
 pub merged_routes-requires-clause-routes : goal.merged_routes-requires-clause-routes
-merged_routes-requires-clause-routes c = subst (AreMergedKinds c.args.a.now c.args.b.now) (sym c.kinds.view_is) c.requires kind.Route
+merged_routes-requires-clause-routes c = subst (AreMergedKinds c.args.sides.now) (sym c.kinds.view_is) c.requires kind.Route
 
 pub merged_routes-requires-clause-agencies : goal.merged_routes-requires-clause-agencies
-merged_routes-requires-clause-agencies c = subst (AreMergedKinds c.args.a.now c.args.b.now) (sym c.kinds.view_is) c.requires kind.Agency
+merged_routes-requires-clause-agencies c = subst (AreMergedKinds c.args.sides.now) (sym c.kinds.view_is) c.requires kind.Agency
 
 pub merged_services-requires : goal.merged_services-requires
-merged_services-requires c = subst (AreMergedKinds c.args.a.now c.args.b.now) (sym c.kinds.view_is) c.requires kind.Service
+merged_services-requires c = subst (AreMergedKinds c.args.sides.now) (sym c.kinds.view_is) c.requires kind.Service
 
 pub merged_trips-requires-clause-trips : goal.merged_trips-requires-clause-trips
-merged_trips-requires-clause-trips c = subst (AreMergedKinds c.args.a.now c.args.b.now) (sym c.kinds.view_is) c.requires kind.Trip
+merged_trips-requires-clause-trips c = subst (AreMergedKinds c.args.sides.now) (sym c.kinds.view_is) c.requires kind.Trip
 
 pub merged_trips-requires-clause-routes : goal.merged_trips-requires-clause-routes
-merged_trips-requires-clause-routes c = subst (AreMergedKinds c.args.a.now c.args.b.now) (sym c.kinds.view_is) c.requires kind.Route
+merged_trips-requires-clause-routes c = subst (AreMergedKinds c.args.sides.now) (sym c.kinds.view_is) c.requires kind.Route
 
 pub merged_trips-requires-clause-services : goal.merged_trips-requires-clause-services
-merged_trips-requires-clause-services c = subst (AreMergedKinds c.args.a.now c.args.b.now) (sym c.kinds.view_is) c.requires kind.Service
+merged_trips-requires-clause-services c = subst (AreMergedKinds c.args.sides.now) (sym c.kinds.view_is) c.requires kind.Service
 
 pub returns : goal.returns
 returns c = record {

@@ -1,35 +1,36 @@
 use Rattle.std.proofs.Common.{◌<◌, ◌≤◌, ◌∙◌, ap, arith, length, sym}
-use Rattle.gtfs_rows.specs.Views.{content_of_parts}
 use Rattle.gtfs_merge.specs.Numbered.{known_ids}
-use Rattle.gtfs_merge.specs.Renaming.{has_id, is_joined, names_b, never_near, renaming}
+use Rattle.gtfs_merge.specs.Renaming.{has_id, renaming}
+use Rattle.gtfs_merge.specs.Sides.{side_names, is_joined_id}
+use Rattle.gtfs_merge.specs.declared.kind.Side.TheVariants as side
 use Rattle.gtfs_merge.proofs.JoinedNames.{has-at}
 use Rattle.gtfs_merge.proofs.RenamedLists.{known-fresh, renamed-all, renamed-more}
 use Rattle.gtfs_merge.proofs.renamed.Renamed.of_b.Goals as goal
 
 pub new_id_of_b-requires-clause-there : goal.new_id_of_b-requires-clause-there
 new_id_of_b-requires-clause-there c =
-    let within : c.loop-number.number < length (known_ids c.args.kind c.args.b.now) = omega (arith, c.count_of-number-end.ensures) in
-    ap (has_id (known_ids c.args.kind c.args.b.now)) c.id_of-id.ensures ∙ has-at (known_ids c.args.kind c.args.b.now) c.loop-number.number within
+    let within : c.loop-number.number < length (known_ids c.args.kind c.args.sides.now.b.now) = omega (arith, c.count_of-number-end.ensures) in
+    ap (has_id (known_ids c.args.kind c.args.sides.now.b.now)) c.id_of-id.ensures ∙ has-at (known_ids c.args.kind c.args.sides.now.b.now) c.loop-number.number within
 
 pub new_id_of_b-requires-clause-joined : goal.new_id_of_b-requires-clause-joined
 new_id_of_b-requires-clause-joined c =
-    c.is_joined_row-is_joined.ensures ∙ ap (is_joined never_near c.args.kind (content_of_parts c.args.a.now) (content_of_parts c.args.b.now)) (sym c.id_of-id.ensures)
+    c.is_joined_row-is_joined.ensures ∙ ap (is_joined_id c.args.kind c.args.sides.now) (sym c.id_of-id.ensures)
 
 pub push-requires : goal.push-requires
 push-requires c =
-    let within : c.loop-number.number < length (known_ids c.args.kind c.args.b.now) = omega (arith, c.count_of-number-end.ensures) in
-    known-fresh c.args.kind c.args.b.now c.soundness.ensures c.loop-number.number (renaming (names_b never_near (content_of_parts c.args.a.now) (content_of_parts c.args.b.now)) c.args.kind) _ _ within
+    let within : c.loop-number.number < length (known_ids c.args.kind c.args.sides.now.b.now) = omega (arith, c.count_of-number-end.ensures) in
+    known-fresh c.args.kind c.args.sides.now.b.now c.soundness.ensures.b c.loop-number.number (renaming (side_names side.B c.args.sides.now) c.args.kind) _ _ within
     c.loop-number.invariant c.id_of-id.ensures
 
 pub loop-number-preserved : goal.loop-number-preserved
 loop-number-preserved c =
-    let ids = known_ids c.args.kind c.args.b.now in
-    let rename = renaming (names_b never_near (content_of_parts c.args.a.now) (content_of_parts c.args.b.now)) c.args.kind in
+    let ids = known_ids c.args.kind c.args.sides.now.b.now in
+    let rename = renaming (side_names side.B c.args.sides.now) c.args.kind in
     let within : c.loop-number.number < length ids = omega (arith, c.count_of-number-end.ensures) in
     renamed-more rename ids c.loop-number.number _ _ c.id_of-id.result.now _ within c.loop-number.invariant c.in_ok-push.ensures c.id_of-id.ensures (c.in_ok-name.ensures ∙ ap rename c.id_of-id.ensures)
 
 pub returns : goal.returns
 returns c =
-    let ids = known_ids c.args.kind c.args.b.now in
+    let ids = known_ids c.args.kind c.args.sides.now.b.now in
     let past : length ids ≤ c.loop-number.number = omega (arith, c.count_of-number-end.ensures) in
-    c.loop-number.invariant ∙ renamed-all (renaming (names_b never_near (content_of_parts c.args.a.now) (content_of_parts c.args.b.now)) c.args.kind) ids c.loop-number.number past
+    c.loop-number.invariant ∙ renamed-all (renaming (side_names side.B c.args.sides.now) c.args.kind) ids c.loop-number.number past
