@@ -2,9 +2,11 @@
 use Rattle.std.proofs.Common.{◌≡◌, ◌≤◌, ◌<◌, ◌+◌, ◌*◌, ◌∙◌, ◌∷◌, [], ℕ, zero, suc, Bool, true, false, cond, not, List, Option, Some, None, refl, sym, ap, subst, arith, length, get_or, nat_lt, true≢false}
 use Rattle.std.specs.Prelude.{is_some, option_map, position}
 use Rattle.std.specs.List.{Any, All, position_or_len}
-use Rattle.std.proofs.lemmas.Bool.{lt-ltb}
+use Rattle.std.specs.Bool.{then_some}
+use Rattle.std.proofs.lemmas.Bool.{lt-ltb, ltb-false, ltb-true}
 use Rattle.std.proofs.lemmas.Bool.Decides.{nat_tests}
 use Rattle.gtfs_field.proofs.ListFacts.{some_of}
+use Rattle.gtfs_rows.specs.declared.numbers.StopNo.{StopNo}
 use Rattle.gtfs_rows.specs.declared.stop.Stop.{Stop}
 use Rattle.gtfs_nearby.specs.Areas.{area_around, has}
 use Rattle.gtfs_nearby.specs.Index.{IsIndex, IsListed, IsRun}
@@ -72,17 +74,24 @@ module _ (n : ℕ) (stops : List Stop) (xs : List Listed) (bs : List Block) (ind
 
   none-lower : (k : ℕ) (d : Stop) → k < length stops → k < least → is_near_row n y became (get_or stops k d) ≡ false
   none-lower k d within lower = no_test _ (λ near.
-    let it = index.listed.all k d within (near-placed n y became (get_or stops k d) near).1 in
-    let listed = index.listed.listed it.0 it.1 it.2 in
-    let number : (get_or xs it.0 it.1).number ≡ k = ap (λ x. x.number) it.3 ∙ it.4 in
-    let here : is_near_row n y became (get_or stops (get_or xs it.0 it.1).number d) ≡ true = ap (λ m. is_near_row n y became (get_or stops m d)) number ∙ near in
-    let group = near-group n y became parent parents p place (get_or stops (get_or xs it.0 it.1).number d) (get_or xs it.0 it.1).place (listed.place d) here in
-    let inside = near-inside n y became parent parents p place (get_or stops (get_or xs it.0 it.1).number d) (get_or xs it.0 it.1).place (listed.place d) here in
-    let between = is_run.all it.0 it.1 it.2 group in
-    absurd (omega (arith, lower, number, is_least.each it.0 it.1 between.0 between.1 inside)))
+      let it = index.listed.all k d within (near-placed n y became (get_or stops k d) near).1 in
+      let listed = index.listed.listed it.0 it.1 it.2 in
+      let number : (get_or xs it.0 it.1).number ≡ k = ap (λ x. x.number) it.3 ∙ it.4 in
+      let here : is_near_row n y became (get_or stops (get_or xs it.0 it.1).number d) ≡ true = ap (λ m. is_near_row n y became (get_or stops m d)) number ∙ near in
+      let group = near-group n y became parent parents p place (get_or stops (get_or xs it.0 it.1).number d) (get_or xs it.0 it.1).place (listed.place d) here in
+      let inside = near-inside n y became parent parents p place (get_or stops (get_or xs it.0 it.1).number d) (get_or xs it.0 it.1).place (listed.place d) here in
+      let between = is_run.all it.0 it.1 it.2 group in
+      absurd (omega (arith, lower, number, is_least.each it.0 it.1 between.0 between.1 inside)))
 
-  pub found-is : least < length stops → position (is_near_row n y became) stops ≡ Some least
+  found-is : least < length stops → position (is_near_row n y became) stops ≡ Some least
   found-is found = first-is (is_near_row n y became) stops least found (at-least found) (λ k d h. none-lower k d (omega arith) h)
 
-  pub missing-is : length stops ≤ least → position (is_near_row n y became) stops ≡ None
+  missing-is : length stops ≤ least → position (is_near_row n y became) stops ≡ None
   missing-is missing = none-is (is_near_row n y became) stops (λ k d h. none-lower k d h (omega arith))
+
+  pub searched : (x : StopNo) → x.0 ≡ least → option_map (λ m. m.0) (then_some (nat_lt least (length stops)) x) ≡ position (is_near_row n y became) stops
+  searched x is = by (nat_lt least (length stops)) refl
+    where
+      by : (b : Bool) → nat_lt least (length stops) ≡ b → option_map (λ m. m.0) (then_some b x) ≡ position (is_near_row n y became) stops
+      by true e = ap Some is ∙ sym (found-is (ltb-true least (length stops) e))
+      by false e = sym (missing-is (ltb-false least (length stops) e))

@@ -57,7 +57,7 @@ pub listed-moved : (stops : List Stop) (xs ys : List Listed) → IsPermutation x
 listed-moved stops xs ys moved are = record {
   listed = All-permutation (IsListed stops) xs ys moved are.listed;
   all = λ k d h has_it.
-    let it = are.all k d h has_it in
-    let there = Contains-permutation xs ys it.1 moved (it.0, it.2, it.3) in
-    (there.0, it.1, there.1, there.2, it.4);
+      let it = are.all k d h has_it in
+      let there = Contains-permutation xs ys it.1 moved (it.0, it.2, it.3) in
+      (there.0, it.1, there.1, there.2, it.4);
 }

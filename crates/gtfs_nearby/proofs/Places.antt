@@ -15,6 +15,7 @@ use Rattle.gtfs_field.proofs.OrderingFacts.{tied_first, tied_second}
 use Rattle.gtfs_field.proofs.TextOrderFacts.{texts_exact, texts_total}
 use Rattle.gtfs_field.specs.TextOrder.{text_cmp}
 use Rattle.gtfs_rows.specs.Choices.{location_code}
+use Rattle.gtfs_rows.specs.declared.numbers.StopNo.{StopNo}
 use Rattle.gtfs_rows.specs.declared.stop.Stop.{Stop}
 use Rattle.gtfs_nearby.specs.Areas.{area_around, has}
 use Rattle.gtfs_nearby.specs.Near.{are_close, is_near_row, is_same_parent, same_given_name}
@@ -36,17 +37,17 @@ number-tied a b e = grind (arith, nat_tests)
 number-is : (a b : ℕ) → nat_cmp a b ≡ Equal → a ≡ b
 number-is a b e = grind (arith, nat_tests)
 
-number-same : (o u : Option ℕ) → option_cmp nat_cmp o u ≡ Equal → option_eq nat_eq u o ≡ true
+number-same : (o u : Option ℕ) → option_cmp nat_cmp o u ≡ Equal → option_eq nat_eq o u ≡ true
 number-same None None e = refl
 number-same None (Some b) e = cc
 number-same (Some a) None e = cc
-number-same (Some a) (Some b) e = eq-eqb b a (sym (number-is a b e))
+number-same (Some a) (Some b) e = eq-eqb a b (number-is a b e)
 
-number-ties : (o u : Option ℕ) → option_eq nat_eq u o ≡ true → option_cmp nat_cmp o u ≡ Equal
+number-ties : (o u : Option ℕ) → option_eq nat_eq o u ≡ true → option_cmp nat_cmp o u ≡ Equal
 number-ties None None e = refl
 number-ties None (Some b) e = absurd (true≢false (sym e))
 number-ties (Some a) None e = absurd (true≢false (sym e))
-number-ties (Some a) (Some b) e = number-tied a b (sym (eqb-true b a e))
+number-ties (Some a) (Some b) e = number-tied a b (eqb-true a b e)
 
 both-so : (a b : Bool) → a ≡ true → b ≡ true → (a && b) ≡ true
 both-so true b e f = f
@@ -108,12 +109,30 @@ near-whole n y became x near =
 
 -- what the parent of a stop of B became, where one without a parent needs none
 pub record IsParent (y : Stop) (became parent : Option ℕ) : Type 0 where
-  pub same : (o : Option ℕ) → is_same_parent o (option_map (λ m. m.0) y.parent_station) became ≡ option_eq nat_eq parent o
+  pub same : (o : Option ℕ) → is_same_parent o (option_map (λ m. m.0) y.parent_station) became ≡ option_eq nat_eq o parent
+
+pub parent-there : (y : Stop) (s x : StopNo) (o u : Option StopNo) → y.parent_station ≡ Some s → o ≡ Some x → u ≡ Some x → IsParent y (option_map (λ m. m.0) o) (option_map (λ m. m.0) u)
+parent-there y s x o u has e f = record {
+  same = λ v. (λ i. is_same_parent v (option_map (λ m. m.0) (has i)) (option_map (λ m. m.0) (e i))) ∙ by v ∙ (λ i. option_eq nat_eq v (option_map (λ m. m.0) (sym f i)));
+}
+  where
+    by : (v : Option ℕ) → is_same_parent v (Some s.0) (Some x.0) ≡ option_eq nat_eq v (Some x.0)
+    by None = refl
+    by (Some a) = refl
+
+pub parent-none : (y : Stop) (o u : Option StopNo) → y.parent_station ≡ None → u ≡ None → IsParent y (option_map (λ m. m.0) o) (option_map (λ m. m.0) u)
+parent-none y o u has f = record {
+  same = λ v. (λ i. is_same_parent v (option_map (λ m. m.0) (has i)) (option_map (λ m. m.0) o)) ∙ by v ∙ (λ i. option_eq nat_eq v (option_map (λ m. m.0) (sym f i)));
+}
+  where
+    by : (v : Option ℕ) → is_same_parent v None (option_map (λ m. m.0) o) ≡ option_eq nat_eq v None
+    by None = refl
+    by (Some a) = refl
 
 module _ (n : ℕ) (y : Stop) (became parent : Option ℕ) (parents : IsParent y became parent) (p : Place) (of_y : IsPlace y parent p) (x : Stop) (q : Place)
     (of_x : IsPlace x (option_map (λ m. m.0) x.parent_station) q) where
-  same-parents : is_same_parent (option_map (λ m. m.0) x.parent_station) (option_map (λ m. m.0) y.parent_station) became ≡ option_eq nat_eq (option_map (λ m. m.0) p.parent) (option_map (λ m. m.0) q.parent)
-  same-parents = parents.same (option_map (λ m. m.0) x.parent_station) ∙ (λ i. option_eq nat_eq (sym of_y.parent i) (sym of_x.parent i))
+  same-parents : is_same_parent (option_map (λ m. m.0) x.parent_station) (option_map (λ m. m.0) y.parent_station) became ≡ option_eq nat_eq (option_map (λ m. m.0) q.parent) (option_map (λ m. m.0) p.parent)
+  same-parents = parents.same (option_map (λ m. m.0) x.parent_station) ∙ (λ i. option_eq nat_eq (sym of_x.parent i) (sym of_y.parent i))
 
   pub near-group : is_near_row n y became x ≡ true → group_cmp q p ≡ Equal
   near-group near =
@@ -139,7 +158,8 @@ module _ (n : ℕ) (y : Stop) (became parent : Option ℕ) (parents : IsParent y
         name = same-name y.stop_name x.stop_name p.name.now q.name.now of_y.name of_x.name (tied_first _ _ texts);
         lat = close-is n y.stop_lat x.stop_lat p.lat q.lat of_y.lat of_x.lat ∙ both-so _ _ c.0 c.1;
         lon = close-is n y.stop_lon x.stop_lon p.lon q.lon of_y.lon of_x.lon ∙ both-so _ _ b.1 a.1;
-        parent = same-parents ∙ number-same _ _ (tied_second _ _ tied);
+        parent = same-parents ∙ number-same (option_map (λ m. m.0) q.parent) (option_map (λ m. m.0) p.parent)
+            (tied_second (ordering_then (text_cmp q.name.now p.name.now) (nat_cmp q.kind p.kind)) (option_cmp nat_cmp (option_map (λ m. m.0) q.parent) (option_map (λ m. m.0) p.parent)) tied);
       })
 
 -- ---- what is near has a place

@@ -1,5 +1,5 @@
 -- The least number of stops inside an area: of some, of a block, of a run.
-use Rattle.std.proofs.Common.{◌≡◌, ◌≤◌, ◌<◌, ◌+◌, ◌-◌, ◌*◌, ◌∙◌, ◌⊎◌, inl, inr, ℕ, true, false, Bool, List, refl, sym, ap, subst, arith, length, get_or, min, max, take, drop, true≢false}
+use Rattle.std.proofs.Common.{◌≡◌, ◌≤◌, ◌<◌, ◌+◌, ◌-◌, ◌*◌, ◌/◌, ◌%◌, ◌∙◌, ◌⊎◌, inl, inr, ℕ, true, false, Bool, List, refl, sym, ap, subst, arith, length, get_or, min, max, take, drop, true≢false}
 use Rattle.std.specs.List.{Any, All, slice_range}
 use Rattle.std.proofs.lemmas.List.{get_or-drop, get_or-take, get_or_default, length-drop, length-take}
 use Rattle.gtfs_nearby.specs.Areas.{covers, has, meets}
@@ -28,9 +28,9 @@ here : (xs : List Listed) (n : ℕ) (x : Listed) → n < length xs → x ≡ get
 here xs n x within is k d e = is ∙ get_or_default xs n x d within ∙ ap (λ j. get_or xs j d) (sym e)
 
 -- a stop that is lower, and inside
-pub so_far-lower : (area : Area) (xs : List Listed) (n below least : ℕ) (x : Listed) → n < length xs → x ≡ get_or xs n x → x.number < least → has area x.place ≡ true
+stop-lower : (area : Area) (xs : List Listed) (n below least : ℕ) (x : Listed) → n < length xs → x ≡ get_or xs n x → x.number < least → has area x.place ≡ true
     → IsLeastSoFar area xs n below least → IsLeastSoFar area xs (n + 1) below x.number
-so_far-lower area xs n below least x within is lower inside so_far = record {
+stop-lower area xs n below least x within is lower inside so_far = record {
   bound = omega (arith, so_far.bound);
   each = λ k d h has_it. elim (cases n k h) as (λ w. x.number ≤ (get_or xs k d).number) [
     | inl l ↦ omega (arith, so_far.each k d l has_it)
@@ -40,9 +40,9 @@ so_far-lower area xs n below least x within is lower inside so_far = record {
 }
 
 -- one that is not
-pub so_far-kept : (area : Area) (xs : List Listed) (n below least : ℕ) (x : Listed) → n < length xs → x ≡ get_or xs n x → (has area x.place ≡ true → least ≤ x.number)
+stop-kept : (area : Area) (xs : List Listed) (n below least : ℕ) (x : Listed) → n < length xs → x ≡ get_or xs n x → (has area x.place ≡ true → least ≤ x.number)
     → IsLeastSoFar area xs n below least → IsLeastSoFar area xs (n + 1) below least
-so_far-kept area xs n below least x within is higher so_far = record {
+stop-kept area xs n below least x within is higher so_far = record {
   bound = so_far.bound;
   each = λ k d h has_it. elim (cases n k h) as (λ w. least ≤ (get_or xs k d).number) [
     | inl l ↦ so_far.each k d l has_it
@@ -52,6 +52,21 @@ so_far-kept area xs n below least x within is higher so_far = record {
   ];
   one = so_far.one;
 }
+
+pub so_far-lower : (area : Area) (xs : List Listed) (n below old new : ℕ) (d : Listed) → n < length xs → (get_or xs n d).number < old → has area (get_or xs n d).place ≡ true → new ≡ (get_or xs n d).number
+    → IsLeastSoFar area xs n below old → IsLeastSoFar area xs (n + 1) below new
+so_far-lower area xs n below old new d within lower inside is so_far =
+    subst (IsLeastSoFar area xs (n + 1) below) (sym is) (stop-lower area xs n below old (get_or xs n d) within (get_or_default xs n d (get_or xs n d) within) lower inside so_far)
+
+pub so_far-higher : (area : Area) (xs : List Listed) (n below old new : ℕ) (d : Listed) → n < length xs → old ≤ (get_or xs n d).number → new ≡ old
+    → IsLeastSoFar area xs n below old → IsLeastSoFar area xs (n + 1) below new
+so_far-higher area xs n below old new d within higher is so_far =
+    subst (IsLeastSoFar area xs (n + 1) below) (sym is) (stop-kept area xs n below old (get_or xs n d) within (get_or_default xs n d (get_or xs n d) within) (λ h. higher) so_far)
+
+pub so_far-outside : (area : Area) (xs : List Listed) (n below old new : ℕ) (d : Listed) → n < length xs → has area (get_or xs n d).place ≡ false → new ≡ old
+    → IsLeastSoFar area xs n below old → IsLeastSoFar area xs (n + 1) below new
+so_far-outside area xs n below old new d within outside is so_far =
+    subst (IsLeastSoFar area xs (n + 1) below) (sym is) (stop-kept area xs n below old (get_or xs n d) within (get_or_default xs n d (get_or xs n d) within) (λ h. absurd (true≢false (sym h ∙ outside))) so_far)
 
 pub so_far-all : (area : Area) (xs : List Listed) (n below least : ℕ) → length xs ≤ n → IsLeastSoFar area xs n below least → IsLeast area xs below least
 so_far-all area xs n below least all so_far = record {
@@ -146,10 +161,10 @@ run-more area xs run below a b n m f u within first last order so_far part = rec
           omega (arith, first),
           omega (arith, last, inner),
           λ d.
-          let is : it.1 ≡ get_or xs (f + it.0) d = sym it.3 ∙ get_or_default (slice_range xs f u) it.0 it.1 d it.2 ∙ get-range xs f u it.0 d inner in (
-            subst (λ y. has area y.place ≡ true) is it.4.0,
-            sym (ap (λ y. y.number) is) ∙ it.4.1,
-          ),
+              let is : it.1 ≡ get_or xs (f + it.0) d = sym it.3 ∙ get_or_default (slice_range xs f u) it.0 it.1 d it.2 ∙ get-range xs f u it.0 d inner in (
+                subst (λ y. has area y.place ≡ true) is it.4.0,
+                sym (ap (λ y. y.number) is) ∙ it.4.1,
+              ),
         )
     | inr e ↦
         let it = so_far.one (omega (arith, e, h)) in
@@ -173,3 +188,23 @@ pub run-all : (area : Area) (xs : List Listed) (run : Run) (below least n : ℕ)
 run-all area xs run below least n all so_far =
     let e : min run.until n ≡ run.until = omega arith in
     subst (λ u. IsLeastOfRun area xs (record { from = run.from; until = u }) below least) e so_far
+
+-- ---- the numbers of blocks
+
+-- a number below that of the blocks of so many stops
+pub before-ceil : (a n : ℕ) → n < a / 256 + min 1 (a % 256) → n * 256 < a
+before-ceil a n h = omega arith
+
+pub ceil-after : (a n : ℕ) → a / 256 + min 1 (a % 256) ≤ n → a ≤ n * 256
+ceil-after a n h = omega arith
+
+pub floor-before : (a : ℕ) → a / 256 * 256 ≤ a
+floor-before a = omega arith
+
+-- a part of a run lies inside its block
+pub in-block : (xs : List Listed) (bs : List Block) (d : Block) (run : Run) (n f u : ℕ) → AreBlocks xs bs → run.until ≤ length xs → run.from ≤ run.until → run.from / 256 ≤ n → n * 256 < run.until
+    → f ≡ max run.from (n * 256) → u ≡ min run.until ((n + 1) * 256) → IsInBlock (slice_range xs f u) (get_or bs n d)
+in-block xs bs d run n f u are within order first last from until =
+    let enough = are.enough in
+    part-of_block xs (get_or bs n d) (n * 256) (min (length xs) (n * 256 + 256)) f u (omega arith) (omega (arith, until, within)) (omega (arith, from)) (omega (arith, from, until, first, last, order)) (omega arith)
+    (are.blocks n d (omega (arith, enough, last, within)))

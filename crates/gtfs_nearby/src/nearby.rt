@@ -68,10 +68,6 @@ impl<'a> Nearby<'a> {
         let area = Area::around(&place, u64::from(self.near) * 1000);
         let count = self.stops.len();
         let least = least_of_run(&self.listed, &self.blocks, run, &area, count);
-        if least < count {
-            Some(StopNo(least))
-        } else {
-            None
-        }
+        (least < count).then_some(StopNo(least))
     }
 }
