@@ -1,8 +1,8 @@
 -- Areas: what no place of an area that is missed, and each place of one that is covered, tells.
-use Rattle.std.proofs.Common.{◌≡◌, ◌≤◌, ℕ, Bool, true, false, refl, sym, ap, arith, nat_le, max, min, true≢false}
+use Rattle.std.proofs.Common.{◌≡◌, ◌≤◌, Bool, true, false, sym, arith, nat_le, true≢false}
 use Rattle.std.specs.Prelude.{◌&&◌}
 use Rattle.std.proofs.lemmas.Bool.{and_parts, leb-true, le-leb}
-use Rattle.gtfs_nearby.specs.Areas.{covers, has, meets, widened, area_of}
+use Rattle.gtfs_nearby.specs.Areas.{covers, has, meets, widened}
 use Rattle.gtfs_nearby.specs.declared.area.Area.{Area}
 use Rattle.gtfs_nearby.specs.declared.place.Place.{Place}
 

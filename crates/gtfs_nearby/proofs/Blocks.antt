@@ -1,6 +1,6 @@
 -- Blocks of listed stops.
-use Rattle.std.proofs.Common.{◌≡◌, ◌≤◌, ◌<◌, ◌+◌, ◌-◌, ◌*◌, ◌∙◌, ◌++◌, ◌∷◌, [], ◌⊎◌, inl, inr, ℕ, true, List, refl, sym, ap, subst, arith, length, get_or, min, take, drop, suc}
-use Rattle.std.specs.List.{Any, All, slice_range}
+use Rattle.std.proofs.Common.{◌≡◌, ◌≤◌, ◌<◌, ◌+◌, ◌*◌, ◌∙◌, ◌++◌, ◌∷◌, [], ◌⊎◌, inl, inr, ℕ, true, List, refl, sym, ap, subst, arith, length, get_or, min}
+use Rattle.std.specs.List.{Any, slice_range}
 use Rattle.std.proofs.lemmas.List.{get_or_append_left, get_or_default, length-append}
 use Rattle.std.proofs.Math.Seq.{get_or-append_seam}
 use Rattle.gtfs_nearby.specs.Areas.{has}

@@ -1,7 +1,7 @@
 -- The least number of a near stop, from a search of its run.
-use Rattle.std.proofs.Common.{◌≡◌, ◌≤◌, ◌<◌, ◌+◌, ◌*◌, ◌∙◌, ◌∷◌, [], ℕ, zero, suc, Bool, true, false, cond, not, List, Option, Some, None, refl, sym, ap, subst, arith, length, get_or, nat_lt, true≢false}
+use Rattle.std.proofs.Common.{◌≡◌, ◌≤◌, ◌<◌, ◌+◌, ◌*◌, ◌∙◌, ◌∷◌, [], ℕ, zero, suc, Bool, true, false, cond, not, List, Option, Some, None, refl, sym, ap, subst, arith, length, get_or, nat_lt}
 use Rattle.std.specs.Prelude.{is_some, option_map, position}
-use Rattle.std.specs.List.{Any, All, position_or_len}
+use Rattle.std.specs.List.{position_or_len}
 use Rattle.std.specs.Bool.{then_some}
 use Rattle.std.proofs.lemmas.Bool.{lt-ltb, ltb-false, ltb-true}
 use Rattle.std.proofs.lemmas.Bool.Decides.{nat_tests}
@@ -9,9 +9,9 @@ use Rattle.gtfs_field.proofs.ListFacts.{some_of}
 use Rattle.gtfs_rows.specs.declared.numbers.StopNo.{StopNo}
 use Rattle.gtfs_rows.specs.declared.stop.Stop.{Stop}
 use Rattle.gtfs_nearby.specs.Areas.{area_around, has}
-use Rattle.gtfs_nearby.specs.Index.{IsIndex, IsListed, IsRun}
+use Rattle.gtfs_nearby.specs.Index.{IsIndex, IsRun}
 use Rattle.gtfs_nearby.specs.Near.{is_near_row}
-use Rattle.gtfs_nearby.specs.Places.{IsPlace, group_cmp, has_place}
+use Rattle.gtfs_nearby.specs.Places.{IsPlace, has_place}
 use Rattle.gtfs_nearby.specs.Search.{IsLeastOfRun}
 use Rattle.gtfs_nearby.specs.declared.block.Block.{Block}
 use Rattle.gtfs_nearby.specs.declared.listed.Listed.{Listed}

@@ -1,7 +1,7 @@
 -- All stops with a place, listed one by one.
-use Rattle.std.proofs.Common.{◌≡◌, ◌≤◌, ◌<◌, ◌+◌, ◌∙◌, ◌++◌, ◌∷◌, [], ◌⊎◌, inl, inr, ℕ, true, false, List, Some, None, refl, sym, ap, subst, arith, length, get_or, map, true≢false}
+use Rattle.std.proofs.Common.{◌≡◌, ◌≤◌, ◌<◌, ◌+◌, ◌∙◌, ◌++◌, ◌∷◌, [], ◌⊎◌, inl, inr, ℕ, true, false, List, sym, ap, subst, arith, length, get_or, true≢false}
 use Rattle.std.specs.Prelude.{option_map}
-use Rattle.std.specs.List.{Any, All, Contains}
+use Rattle.std.specs.List.{Any, All}
 use Rattle.std.specs.List.Sorted.{IsPermutation}
 use Rattle.std.proofs.lemmas.List.{get_or_append_left, get_or_default, length-append}
 use Rattle.std.proofs.lemmas.List.Elements.{All-push}

@@ -1,5 +1,5 @@
 -- Near stops are those whose places are of one group, and lie inside a square.
-use Rattle.std.proofs.Common.{◌≡◌, ◌+◌, ◌-◌, ◌*◌, ◌≤◌, ◌∙◌, ℕ, Bool, true, false, List, Option, Some, None, refl, sym, ap, subst, arith, bytes_eq, nat_eq, nat_le, unsigned_abs, ℤ, pos, ◌+ℤ◌, ◌-ℤ◌, true≢false}
+use Rattle.std.proofs.Common.{◌≡◌, ◌+◌, ◌-◌, ◌*◌, ◌∙◌, ℕ, Bool, true, false, List, Option, Some, None, refl, sym, ap, arith, nat_eq, nat_le, unsigned_abs, ℤ, pos, ◌+ℤ◌, ◌-ℤ◌, true≢false}
 use Rattle.std.specs.Prelude.{◌&&◌, ◌==◌, is_some, option_map}
 use Rattle.std.specs.Cmp.{IsTotalOrder, nat_cmp_total, on_total, then_total, tied_itself}
 use Rattle.std.specs.Cmp.Lexicographic.{options_total}
@@ -19,7 +19,7 @@ use Rattle.gtfs_rows.specs.declared.numbers.StopNo.{StopNo}
 use Rattle.gtfs_rows.specs.declared.stop.Stop.{Stop}
 use Rattle.gtfs_nearby.specs.Areas.{area_around, has}
 use Rattle.gtfs_nearby.specs.Near.{are_close, is_near_row, is_same_parent, same_given_name}
-use Rattle.gtfs_nearby.specs.Places.{AreUnits, AreUnitsOf, IsPlace, group_cmp, has_place}
+use Rattle.gtfs_nearby.specs.Places.{AreUnitsOf, IsPlace, group_cmp, has_place}
 use Rattle.gtfs_nearby.specs.declared.place.Place.{Place}
 
 -- ---- places in order

@@ -1,5 +1,5 @@
 -- Stops of one group stand one after the other.
-use Rattle.std.proofs.Common.{◌≡◌, ◌+◌, ◌≤◌, ◌<◌, ◌∙◌, ℕ, Bool, true, false, List, refl, sym, ap, subst, arith, length, get_or, ltb, leb, true≢false, inl, inr, ◌⊎◌}
+use Rattle.std.proofs.Common.{◌≡◌, ◌≤◌, ◌<◌, ◌∙◌, ℕ, Bool, true, false, List, refl, sym, ap, subst, arith, length, get_or, ltb, leb, true≢false, inl, inr, ◌⊎◌}
 use Rattle.std.specs.Cmp.{IsTotalOrder, nat_cmp_total, on_total, then_total}
 use Rattle.std.specs.List.Sorted.{IsPartitionPoint, IsPartitionedBy, IsNonDecreasingBy, IsSorted}
 use Rattle.std.specs.Ordering.{is_le, is_lt, ordering_index, ordering_then}
@@ -11,7 +11,6 @@ use Rattle.gtfs_nearby.specs.Index.{IsRun, listed_cmp}
 use Rattle.gtfs_nearby.specs.Places.{group_cmp}
 use Rattle.gtfs_nearby.specs.declared.listed.Listed.{Listed}
 use Rattle.gtfs_nearby.specs.declared.place.Place.{Place}
-use Rattle.gtfs_nearby.specs.declared.run.Run.{Run}
 use Rattle.gtfs_nearby.proofs.Places.{group_total}
 
 abbrev pub is_before : Place → Listed → Bool

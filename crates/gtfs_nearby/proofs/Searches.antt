@@ -1,6 +1,6 @@
 -- The least number of stops inside an area: of some, of a block, of a run.
-use Rattle.std.proofs.Common.{◌≡◌, ◌≤◌, ◌<◌, ◌+◌, ◌-◌, ◌*◌, ◌/◌, ◌%◌, ◌∙◌, ◌⊎◌, inl, inr, ℕ, true, false, Bool, List, refl, sym, ap, subst, arith, length, get_or, min, max, take, drop, true≢false}
-use Rattle.std.specs.List.{Any, All, slice_range}
+use Rattle.std.proofs.Common.{◌≡◌, ◌≤◌, ◌<◌, ◌+◌, ◌-◌, ◌*◌, ◌/◌, ◌%◌, ◌∙◌, ◌⊎◌, inl, inr, ℕ, true, false, List, refl, sym, ap, subst, arith, length, get_or, min, max, drop, true≢false}
+use Rattle.std.specs.List.{Any, slice_range}
 use Rattle.std.proofs.lemmas.List.{get_or-drop, get_or-take, get_or_default, length-drop, length-take}
 use Rattle.gtfs_nearby.specs.Areas.{covers, has, meets}
 use Rattle.gtfs_nearby.specs.Index.{AreBlocks, IsBlock}

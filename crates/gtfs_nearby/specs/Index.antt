@@ -1,5 +1,5 @@
 -- Stops that are listed by name, type and parent, and blocks of them.
-use Rattle.std.specs.Prelude.{◌≡◌, ◌<◌, ◌≤◌, ◌+◌, ◌*◌, ◌-◌, ℕ, true, false, min, length, List, option_map, slice_index_or, slice_range}
+use Rattle.std.specs.Prelude.{◌≡◌, ◌<◌, ◌≤◌, ◌+◌, ◌*◌, ℕ, true, min, length, List, option_map, slice_index_or, slice_range}
 use Rattle.std.specs.List.{Any, All}
 use Rattle.std.specs.List.Sorted.{IsSorted}
 use Rattle.std.specs.Ordering.{nat_cmp, ordering_then}

@@ -1,4 +1,4 @@
-use Rattle.std.proofs.Common.{◌≡◌, ◌+◌, ◌-◌, ◌*◌, ◌≤◌, ◌∙◌, length, min, sym, subst, ap, arith}
+use Rattle.std.proofs.Common.{◌*◌, ◌≤◌, length, sym, subst}
 use Rattle.std.specs.List.{slice_range}
 use Rattle.gtfs_nearby.specs.Index.{IsBlock}
 use Rattle.gtfs_nearby.proofs.Blocks.{AreBlocksSoFar, blocks-all, blocks-more, blocks-none}

@@ -1,4 +1,4 @@
-use Rattle.std.proofs.Common.{◌≡◌, ◌∙◌, arith, ap, refl, sym, subst, option_map}
+use Rattle.std.proofs.Common.{◌∙◌, ap, refl, sym, subst, option_map}
 use Rattle.gtfs_nearby.specs.Places.{IsPlaceIfAny}
 use Rattle.gtfs_nearby.proofs.Listing.{AreListedSoFar, all-listed, none-listed, none-more, one-listed}
 use Rattle.gtfs_nearby.proofs.listed.by_number.Goals.{in-Some+in_ok-push, in_default}

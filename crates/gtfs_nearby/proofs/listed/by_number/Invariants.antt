@@ -1,4 +1,3 @@
-use Rattle.std.proofs.Common.{length}
 use Rattle.gtfs_nearby.proofs.Listing.{AreListedSoFar}
 use Rattle.gtfs_nearby.proofs.listed.by_number.Given as goal
 

@@ -1,4 +1,4 @@
-use Rattle.std.proofs.Common.{◌≡◌, ◌<◌, ◌*◌, ◌+◌, ◌∙◌, arith, subst}
+use Rattle.std.proofs.Common.{◌<◌, ◌*◌, ◌+◌, arith, subst}
 use Rattle.gtfs_nearby.proofs.Searches.{before-ceil, in-block, run-more}
 use Rattle.gtfs_nearby.proofs.search.least_of_run.Goals as goal
 

@@ -1,4 +1,4 @@
-use Rattle.std.proofs.Common.{◌≡◌, ◌*◌, ◌∙◌, List, Option, Some, None, ap, length, refl, rules, sym, subst}
+use Rattle.std.proofs.Common.{◌≡◌, ◌*◌, ◌∙◌, None, ap, length, refl, rules, sym, subst}
 use Rattle.std.specs.Prelude.{is_some, option_map, position}
 use Rattle.gtfs_nearby.specs.Areas.{area_around}
 use Rattle.gtfs_nearby.specs.Index.{IsRun}
@@ -46,5 +46,5 @@ returns c =
     let within = subst (λ l. IsLeastOfRun c.around-area.result l run (length inside.stops.now) least) c.deref-2.ensures.value c.least_of_run-least.ensures in
     let is_least = subst (λ a. IsLeastOfRun a inside.listed.items run (length inside.stops.now) least) area within in
     ap (option_map (λ n. n.0)) c.then_some.ensures
-    ∙ searched inside.near inside.stops.now inside.listed.items inside.blocks.items c.self.invariant row became parent parents p place run is_run least is_least _ refl
+    ∙ searched inside.near inside.stops.now inside.listed.items _ c.self.invariant row became parent parents p place run is_run least is_least _ refl
     ∙ ap (λ v. position (is_near_row v.near row became) v.stops) c.self.view_is
