@@ -12,7 +12,10 @@ use gtfs_rows::{Stop, StopNo};
 use std::alloc::Global;
 use std::marker::Model;
 
-/// The stops of a feed, in which stops near those of another feed are found.
+/// The stops of a feed, by what near stops have in common and by their places.
+///
+/// However many stops share a name, a search looks at few of them: they stand in blocks along a curve, and it passes over most
+/// blocks or takes them whole.
 #[derive(Drop)]
 pub struct Nearby<'a> {
     stops: &'a [Stop],
@@ -33,8 +36,8 @@ impl<'a> Model for Nearby<'a> {
 }
 
 impl<'a> Nearby<'a> {
-    /// These stops, of which those up to `near` millionths of a degree away are near. They are borrowed, and about 90 bytes
-    /// are taken for each.
+    /// A search among these stops, of which those up to `near` millionths of a degree away are near. It borrows them, and
+    /// takes 72 bytes for each and 40 for each 256.
     ///
     /// # Errors
     /// `OutOfMemory` where memory ran out.
@@ -51,9 +54,12 @@ impl<'a> Nearby<'a> {
         })
     }
 
-    /// The least number of a stop that is near the stop `row` of another feed: both have the same type and the same name, and
-    /// they lie close. Where `row` has a parent, that parent became `parent` here, which is the parent of the stop found;
-    /// where it became nothing, no stop is near.
+    /// The least number of a stop that is near the stop `row` of another feed, None exactly where none is near.
+    ///
+    /// Near stops have one type and one name, and neither their latitudes nor their longitudes differ by more than was said
+    /// (GTFS Schedule Reference, `stops.txt`). A stop without a name or a coordinate is near none. Where `row` has a parent,
+    /// `parent` is the stop here that this parent became, and a near stop has it as its own; if it became none, no stop is
+    /// near. Where `row` has no parent, a near stop has none.
     pub fn find(&self, row: &Stop, parent: Option<StopNo>) -> Option<StopNo>
         ensures { option_map (λ n. n.0) result
             ≡ position (is_near_row self.now.near row.now (option_map (λ n. n.0) parent))
