@@ -10,7 +10,8 @@ use Rattle.gtfs_rows.specs.Places.{is_plain_stop}
 use Rattle.gtfs_merge.specs.Same.{same_stop}
 use Rattle.gtfs_merge.specs.Renaming.{Renaming, Nearness, never_near, kept_as_is, has_id, ids, free_id, stop_with, joined_stop_under, near_stop_under, stop_under, stop_within, stop_b, renamed_b}
 use Rattle.gtfs_merge.specs.Merged.{merged}
-use Rattle.gtfs_merge.specs.Near.{near_by, are_close, nearness, same_given_name}
+use Rattle.gtfs_nearby.specs.Near.{are_close, same_given_name}
+use Rattle.gtfs_merge.specs.Near.{near_by, nearness}
 use Rattle.gtfs_merge.specs.declared.kind.Kind.TheVariants as kind
 pub use Rattle.gtfs_merge.specs.Law.{IsNearness}
 use Rattle.gtfs_merge.proofs.Lookups.{bytes_same, In, In-list_any, find-In, holds_at, look, IsKeyed}
