@@ -17,6 +17,7 @@ use Rattle.gtfs_merge.specs.Near.{near_pair, near_pairs}
 use Rattle.gtfs_merge.specs.Renaming.{Nearness, Renaming, has_id, ids, joined_stop, joined_stop_under, near_stop_under, stop_b, stop_within}
 use Rattle.gtfs_merge.specs.Sides.{nearness_of}
 use Rattle.gtfs_merge.specs.Twins.{near_at, pairs_at, twin_number, twin_rows}
+use Rattle.gtfs_merge.specs.declared.kind.Kind.{Kind}
 use Rattle.gtfs_merge.specs.declared.kind.Kind.TheVariants as kind
 use Rattle.gtfs_merge.specs.declared.sides.Sides.{Sides}
 use Rattle.gtfs_merge.proofs.JoinedIds.{has-number, twin-at}
@@ -42,17 +43,20 @@ near-there near rename a b x z = by (find (λ y. bytes_eq y.stop_id x) b.stops)
     by None f = cc f
     by (Some y) f = at y (find (near rename y) a.stops) refl f
 
+abbrev paired : List ℕ → List ℕ → List ℕ × List ℕ
+paired x z = (x, z)
+
 -- an id that is there, by its number
-pub by-own-number : (xs : List (List ℕ)) (x : List ℕ) (o : Option (List ℕ)) → ((z : List ℕ) → o ≡ Some z → has_id xs z ≡ true)
-    → option_map (λ z. (x, z)) o ≡ option_map (λ m. (x, get_or xs m [])) (option_and_then (λ z. position (bytes_eq z) xs) o)
+by-own-number : (xs : List (List ℕ)) (x : List ℕ) (o : Option (List ℕ)) → ((z : List ℕ) → o ≡ Some z → has_id xs z ≡ true)
+    → option_map (paired x) o ≡ option_map (λ m. paired x (get_or xs m [])) (option_and_then (λ z. position (bytes_eq z) xs) o)
 by-own-number xs x None has = refl
 by-own-number xs x (Some z) has = at (position (bytes_eq z) xs) refl
   where
-    at : (p : Option ℕ) → position (bytes_eq z) xs ≡ p → Some (x, z) ≡ option_map (λ m. (x, get_or xs m [])) p
+    at : (p : Option ℕ) → position (bytes_eq z) xs ≡ p → Some (paired x z) ≡ option_map (λ m. paired x (get_or xs m [])) p
     at None e = absurd (true≢false (sym (has-number xs z ∙ has z refl) ∙ ap is_some e))
-    at (Some m) e = λ i. Some (x, same_bytes z (get_or xs m []) (position-Some (bytes_eq z) xs m [] e).1 i)
+    at (Some m) e = λ i. Some (paired x (same_bytes z (get_or xs m []) (position-Some (bytes_eq z) xs m [] e).1 i))
 
-pub listed : {X : Type 0} → Option X → List X
+abbrev listed : {X : Type 0} → Option X → List X
 listed None = []
 listed (Some x) = x ∷ []
 
@@ -61,7 +65,7 @@ filtered-one f x None e = rw e refl
 filtered-one f x (Some y) e = rw e refl
 
 module _ (sides : Sides) (sound_a : IsSoundParts sides.a.now) (sound_b : IsSoundParts sides.b.now)
-    (few : (k : _) → length (ids k (content_of_parts sides.a.now)) + length (ids k (content_of_parts sides.b.now)) < 2 ^ 65) where
+    (few : (k : Kind) → length (ids k (content_of_parts sides.a.now)) + length (ids k (content_of_parts sides.b.now)) < 2 ^ 65) where
   abbrev a : Content
   a = content_of_parts sides.a.now
 
@@ -88,30 +92,24 @@ module _ (sides : Sides) (sound_a : IsSoundParts sides.a.now) (sound_b : IsSound
       → listed (near_pair (nearness_of sides) a b y) ≡ pairs_at sides (near_at (twin_rows sides) n) n
   pair-is n within y own has = by (joined_stop (nearness_of sides) a b y.stop_id) refl
     where
-      x : List ℕ
-      x = y.stop_id
-
-      near_of : Option (List ℕ)
-      near_of = near_stop_under (nearness_of sides) (stop_b (nearness_of sides) a b) a b y.stop_id
-
       flag : get_or (twin_rows sides).joined_stops n false ≡ joined_stop (nearness_of sides) a b y.stop_id
       flag = get_or-map (joined_stop (nearness_of sides) a b) (stop_ids sides.b.now) n [] false within ∙ ap (joined_stop (nearness_of sides) a b) (sym own)
 
       twin : get_or (twin_rows sides).stops n None ≡ twin_number kind.Stop sides y.stop_id
       twin = twin-at sides kind.Stop n within ∙ ap (twin_number kind.Stop sides) (sym own)
 
-      told : (o : Option ℕ) → listed (option_map (λ m. (y.stop_id, get_or (stop_ids sides.a.now) m [])) o) ≡ pairs_at sides o n
+      told : (o : Option ℕ) → listed (option_map (λ m. paired y.stop_id (get_or (stop_ids sides.a.now) m [])) o) ≡ pairs_at sides o n
       told None = refl
       told (Some m) = λ i. (own i, get_or (stop_ids sides.a.now) m []) ∷ []
 
       by : (j : Bool) → joined_stop (nearness_of sides) a b y.stop_id ≡ j → listed (near_pair (nearness_of sides) a b y) ≡ pairs_at sides (near_at (twin_rows sides) n) n
       by true e =
-          ap (λ j. listed (if j then None else option_map (λ z. (y.stop_id, z)) (near_stop_under (nearness_of sides) (stop_b (nearness_of sides) a b) a b y.stop_id))) e
+          ap (λ j. listed (if j then None else option_map (paired y.stop_id) (near_stop_under (nearness_of sides) (stop_b (nearness_of sides) a b) a b y.stop_id))) e
           ∙ sym (ap (λ j. pairs_at sides (if j then None else get_or (twin_rows sides).stops n None) n) (flag ∙ e))
       by false e =
           let has_a : (z : List ℕ) → near_stop_under (nearness_of sides) (stop_b (nearness_of sides) a b) a b y.stop_id ≡ Some z → has_id (stop_ids sides.a.now) z ≡ true = λ z f. subst (λ xs. has_id xs z ≡ true) (ids-known kind.Stop sides.a.now sound_a) (near-there (nearness_of sides) (stop_b (nearness_of sides) a b) a b y.stop_id z f) in
-          ap (λ j. listed (if j then None else option_map (λ z. (y.stop_id, z)) (near_stop_under (nearness_of sides) (stop_b (nearness_of sides) a b) a b y.stop_id))) e
-          ∙ ap listed (by-own-number (stop_ids sides.a.now) y.stop_id (near_stop_under (nearness_of sides) (stop_b (nearness_of sides) a b) a b y.stop_id) has_a ∙ ap (option_map (λ m. (y.stop_id, get_or (stop_ids sides.a.now) m []))) (sym (unjoined-twin y.stop_id has e)))
+          ap (λ j. listed (if j then None else option_map (paired y.stop_id) (near_stop_under (nearness_of sides) (stop_b (nearness_of sides) a b) a b y.stop_id))) e
+          ∙ ap listed (by-own-number (stop_ids sides.a.now) y.stop_id (near_stop_under (nearness_of sides) (stop_b (nearness_of sides) a b) a b y.stop_id) has_a ∙ ap (option_map (λ m. paired y.stop_id (get_or (stop_ids sides.a.now) m []))) (sym (unjoined-twin y.stop_id has e)))
           ∙ told (twin_number kind.Stop sides y.stop_id)
           ∙ sym (ap (λ j. pairs_at sides (if j then None else get_or (twin_rows sides).stops n None) n) (flag ∙ e) ∙ ap (λ o. pairs_at sides o n) twin)
 

@@ -48,24 +48,18 @@ cond-some false m n e = cc e
 pub find-number : {X : Type 0} (id : X → List ℕ) (rows : List X) → Ascends (on id text_cmp) rows → (g : X → Bool) → option_and_then (λ z. position (bytes_eq z) (map id rows)) (option_map id (find g rows)) ≡ position g rows
 find-number {X = X} id rows up g = by (position g rows) refl
   where
-    number_of : Option X → Option ℕ
-    number_of o = option_and_then (λ z. position (bytes_eq z) (map id rows)) (option_map id o)
-
     by : (o : Option ℕ) → position g rows ≡ o → option_and_then (λ z. position (bytes_eq z) (map id rows)) (option_map id (find g rows)) ≡ position g rows
     by None e =
         let none : list_any g rows ≡ false = sym (before-any g rows) ∙ cond-none _ (position_or_len g rows) e in
         ap (λ o. option_and_then (λ z. position (bytes_eq z) (map id rows)) (option_map id o)) (find-None g rows none) ∙ sym e
     by (Some m) e =
         let first : position_or_len g rows ≡ m = cond-some _ (position_or_len g rows) m e in
-        let within : m < length rows = below m e in
+        let within : m < length rows = inside rows m e in
         let row = get_or rows m (some_of rows m within) in
         let at : slice_get rows m ≡ Some row = slice_get-get_or rows m (some_of rows m within) within in
         ap (λ o. option_and_then (λ z. position (bytes_eq z) (map id rows)) (option_map id o)) (find_at g rows ∙ ap (slice_get rows) first ∙ at)
         ∙ own_number id rows m row up at ∙ sym e
       where
-        below : (m : ℕ) → position g rows ≡ Some m → m < length rows
-        below m e = inside rows m e
-
         inside : (rows : List X) (m : ℕ) → position g rows ≡ Some m → m < length rows
         inside [] m e = cc e
         inside (r ∷ rs) m e = (position-Some g (r ∷ rs) m r e).0
@@ -109,6 +103,9 @@ module _ (sides : Sides) (sound_a : IsSoundParts sides.a.now) (sound_b : IsSound
       named None = refl
       named (Some x) = refl
 
+  abbrev stops_near : Option ℕ → Option NearStops
+  stops_near m = option_map (λ n. record { stops = sides.a.now.stops; near = n }) m
+
   abbrev IsNearNumber : Option ℕ → Option ℕ → Type 0
   IsNearNumber near o = o ≡ option_and_then (λ z. position (bytes_eq z) (stop_ids sides.a.now)) (near_stop_under (nearness near) rename a b y.stop_id)
 
@@ -116,14 +113,14 @@ module _ (sides : Sides) (sound_a : IsSoundParts sides.a.now) (sound_b : IsSound
   near-number : (near : NearStops) (o : Option ℕ) → Some near ≡ near_stops sides → o ≡ position (is_near_row near.near y parent) near.stops → IsNearNumber sides.near o
   near-number near o are is = by sides.near are
     where
-      by : (m : Option ℕ) → Some near ≡ option_map (λ n. record { stops = sides.a.now.stops; near = n }) m → IsNearNumber m o
+      by : (m : Option ℕ) → Some near ≡ stops_near m → IsNearNumber m o
       by None e = cc e
       by (Some n) e = let same : near ≡ record { stops = sides.a.now.stops; near = n } = cc e in is ∙ ap (λ v. position (is_near_row v.near y parent) v.stops) same ∙ near-found n
 
   no-number : None ≡ near_stops sides → IsNearNumber sides.near None
   no-number are = by sides.near are
     where
-      by : (m : Option ℕ) → None ≡ option_map (λ n. record { stops = sides.a.now.stops; near = n }) m → IsNearNumber m None
+      by : (m : Option ℕ) → None ≡ stops_near m → IsNearNumber m None
       by None e = sym (ap (option_and_then (λ z. position (bytes_eq z) (stop_ids sides.a.now))) (none-near rename a b y.stop_id))
       by (Some n) e = cc e
 

@@ -59,7 +59,7 @@ module _ (near : Nearness) (nearness : IsNearness near) (a b : Content) (places_
     pub joined-same : joined_stop_under r a b x ≡ joined_stop_under s a b x
     joined-same = joined-is r ∙ (λ i. list_any (λ row. bytes_eq row.stop_id x && same_stop row (record y { parent_station = p i })) a.stops) ∙ sym (joined-is s)
 
-    near-same : near_stop_under near r a b x ≡ near_stop_under near s a b x
+    pub near-same : near_stop_under near r a b x ≡ near_stop_under near s a b x
     near-same = ap (option_and_then (λ y. option_map stop_id_of (find (near r y) a.stops))) e
         ∙ (λ i. option_map stop_id_of (find (λ z. nearness.reads_parent r s y z p i) a.stops))
         ∙ sym (ap (option_and_then (λ y. option_map stop_id_of (find (near s y) a.stops))) e)

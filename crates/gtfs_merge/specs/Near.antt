@@ -1,6 +1,6 @@
 -- Stops of two feeds that lie close together become one.
 -- The rule is this project's.
-use Rattle.std.specs.Prelude.{ℕ, ◌==◌, ◌&&◌, false, if◌then◌else◌, List, [], ◌++◌, length, filter_map, bytes_eq, codes, decimal, option_map, Option, Some, None}
+use Rattle.std.specs.Prelude.{ℕ, ◌==◌, ◌&&◌, if◌then◌else◌, List, [], ◌++◌, length, filter_map, bytes_eq, codes, decimal, option_map, Option, Some, None}
 use Rattle.std.specs.Option.{option_eq}
 use Rattle.gtfs_nearby.specs.Near.{are_close, same_given_name}
 use Rattle.gtfs_rows.specs.Content.{Content}

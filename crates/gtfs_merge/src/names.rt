@@ -1,4 +1,4 @@
-ghost use Rattle.std.specs.Prelude.{◌≡◌, ◌<◌, ◌∷◌, ◌++◌, [], IfOk, OnOk, filter, length, map, option_map, slice_index_or, string_bytes};
+ghost use Rattle.std.specs.Prelude.{◌≡◌, ◌<◌, ◌∷◌, ◌++◌, [], IfOk, OnOk, Some, filter, length, map, option_map, slice_index_or, string_bytes};
 ghost use Rattle.gtfs_merge.specs.Merging.{AreNamesOf};
 ghost use Rattle.gtfs_merge.specs.Names.{AreKindNames, ArePairedNames, in_kind, kind_names, new_id, of_side, pair_value};
 ghost use Rattle.gtfs_merge.specs.Near.{near_pairs};
@@ -302,10 +302,27 @@ fn push_if_near(
     ensures { OnOk result (map pair_value pairs.new.items ≡ map pair_value pairs.old.items
         ++ pairs_at sides.now (near_at (twin_rows sides.now) number) number) }
 {
-    if let Some(first) = twins.near(number) {
-        let own = String::from_str(alloc, id_of(sides.b, Kind::Stop, number))?;
-        let other = String::from_str(alloc, id_of(sides.a, Kind::Stop, first))?;
-        pairs.push((own, other))?;
+    match twins.near(number) {
+        Some(first) => push_pair(alloc, sides, number, first, pairs),
+        None => Ok(()),
     }
+}
+
+// Adds a stop of B with one of A.
+fn push_pair(
+    alloc: Global,
+    sides: &Sides,
+    number: usize,
+    first: usize,
+    pairs: &mut Vec<(String, String)>,
+) -> Result<(), OutOfMemory>
+    requires number { number < length (known_ids kind.Stop sides.now.b.now) }
+    requires first { first < length (known_ids kind.Stop sides.now.a.now) }
+    ensures { OnOk result (map pair_value pairs.new.items ≡ map pair_value pairs.old.items
+        ++ pairs_at sides.now (Some first) number) }
+{
+    let own = String::from_str(alloc, id_of(sides.b, Kind::Stop, number))?;
+    let other = String::from_str(alloc, id_of(sides.a, Kind::Stop, first))?;
+    pairs.push((own, other))?;
     Ok(())
 }

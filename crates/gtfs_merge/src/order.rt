@@ -116,7 +116,7 @@ fn add_if_apart(
         ++ map (entry_of side.B kind sides.now)
         (filter (is_apart kind sides.now) (number ∷ []))) }
 {
-    if twins.of(kind, number).is_none() {
+    if !twins.has(kind, number) {
         rows.push(row_of(alloc, sides, names, Side::B, kind, number)?)?;
     }
     Ok(())

@@ -1,4 +1,4 @@
-ghost use Rattle.std.specs.Prelude.{◌≡◌, ◌<◌, IfOk, None, length, slice_index_or};
+ghost use Rattle.std.specs.Prelude.{◌≡◌, ◌<◌, IfOk, None, is_some, length, slice_index_or};
 ghost use Rattle.gtfs_merge.specs.Twins.{is_joined_at, near_at, of_kind, twin_rows};
 
 use crate::joined::{joined_agencies, joined_services};
@@ -96,6 +96,14 @@ impl Twins {
         }
     }
 
+    // Whether the row of a number has a twin.
+    pub(crate) fn has(&self, kind: Kind, number: usize) -> bool
+        requires { number < length (of_kind self.now kind) }
+        ensures { result ≡ is_some (slice_index_or (of_kind self.now kind) number None) }
+    {
+        self.of(kind, number).is_some()
+    }
+
     // Whether the row of a number is joined.
     pub(crate) fn joined(&self, kind: Kind, number: usize) -> bool
         requires within { number < length (of_kind self.now kind) }
@@ -104,7 +112,7 @@ impl Twins {
     {
         match kind {
             Kind::Stop => self.joined_stops[number],
-            _ => self.of(kind, number).is_some(),
+            _ => self.has(kind, number),
         }
     }
 

@@ -9,8 +9,8 @@ use Rattle.gtfs_merge.proofs.new_names.new_id_of_b.Goals as goal
 pub id_of-requires : goal.id_of-requires
 id_of-requires c = (own-index (known_ids c.args.kind c.args.sides.now.a.now) (renaming (side_names side.B c.args.sides.now) c.args.kind c.args.id.now) c.in-Some.first (sym c.requires.twin ∙ c.in-Some.is)).0
 
-pub returns-in-Some : goal.returns-in-Some
-returns-in-Some c =
+pub returns-in_ok-from_str-in-Some : goal.returns-in_ok-from_str-in-Some
+returns-in_ok-from_str-in-Some c =
     c.in_ok-from_str.ensures.ok ∙ c.id_of.ensures
     ∙ sym (own-index (known_ids c.args.kind c.args.sides.now.a.now) (renaming (side_names side.B c.args.sides.now) c.args.kind c.args.id.now) c.in-Some.first (sym c.requires.twin ∙ c.in-Some.is)).1
 

@@ -24,10 +24,8 @@ returns-in_default t c =
 pub stop_within-became-requires : goal.stop_within-became-requires
 stop_within-became-requires t c = (
   omega (arith, c.decreases, c.if-generations-eq0.false),
-  record {
-    nearby = c.requires.nearby;
-    stop = parent-within c.args.sides.now.b.now c.soundness.ensures.b c.args.stop.0 c.stop_by_number-row.result.now c.in-Some.parent c.stop_by_number-row.ensures c.in-Some.is;
-  },
+  c.requires.nearby,
+  parent-within c.args.sides.now.b.now c.soundness.ensures.b c.args.stop.0 c.stop_by_number-row.result.now c.in-Some.parent c.stop_by_number-row.ensures c.in-Some.is,
 )
 
 pub returns : goal.returns
