@@ -13,6 +13,10 @@ use Rattle.gtfs_cli.specs.Sending.{Output, Sends, SendsBeginning}
 use Rattle.gtfs_cli.specs.declared.commands.refusal.Refusal.{Refusal}
 use Rattle.gtfs_cli.specs.declared.commands.refusal.Refusal.TheVariants.{Words, BadValue, NotThere, Unreadable, OverLimit, HasErrors, NoZone, UnknownStop, UnknownRoute, UntilBeforeFrom, ZonesDiffer, MergeTooLarge, Unwritable, OutputFailed, OutOfMemory}
 
+pub is-some : {A : Type 0} (o : Option A) (x : A) → o ≡ Some x → IsSome o
+is-some None x e = cc e
+is-some (Some y) x e = refl
+
 -- no refusal ends well
 pub not_well : (r : Refusal) → status_of r ≡ 0 → ⊥
 not_well (Words text) e = cc e
