@@ -1,6 +1,6 @@
 -- How a run of `gtfs board` ends.
-use Rattle.std.proofs.Common.{◌≡◌, ◌∙◌, ap, ℕ, sym, inl, inr, Bool, false, List, Option, Result, Ok, Err, arith}
-use Rattle.std.specs.Prelude.{cond, IfErr, IfOk, OnErr, OnOk}
+use Rattle.std.proofs.Common.{◌≡◌, ◌∙◌, ap, refl, ℕ, sym, inl, inr, Bool, false, List, Option, Some, None, Result, Ok, Err, arith}
+use Rattle.std.specs.Prelude.{cond, IfErr, IfOk, IsSome, OnErr, OnOk}
 use Rattle.std.specs.Io.KnownBytes.{Appends, Keeps}
 use Rattle.gtfs_devices.specs.Device.{Rises}
 use Rattle.gtfs_devices.specs.Folder.{Store}
