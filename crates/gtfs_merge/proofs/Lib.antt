@@ -13,6 +13,7 @@ pub mod Premises
 pub mod JoinedRows
 pub mod JoinedKinds
 pub mod JoinedStops
+pub mod NearRows
 pub mod JoinedAgencies
 pub mod JoinedNames
 pub mod SameLists

@@ -1,6 +1,6 @@
 -- Which rows of two feeds are joined, by their numbers.
-use Rattle.std.specs.Prelude.{ℕ, Bool, true, false, nat_eq, if◌then◌else◌, List, bytes_eq, map, position, Option, Some, None, option_and_then}
-use Rattle.std.specs.Option.{option_eq}
+use Rattle.std.specs.Prelude.{ℕ, Bool, if◌then◌else◌, List, bytes_eq, map, position, Option, Some, None, option_and_then}
+pub use Rattle.gtfs_nearby.specs.Near.{is_same_parent}
 use Rattle.gtfs_rows.specs.Views.{content_of_parts, stop_ids, text_of_number}
 use Rattle.gtfs_rows.specs.declared.parts.Parts.{Parts}
 use Rattle.gtfs_rows.specs.declared.stop.Stop.{Stop}
@@ -29,13 +29,6 @@ became ids rename x = position (bytes_eq (rename x)) ids
 -- the same for the parent of a stop of B
 abbrev pub parent_became : Parts → Parts → Renaming → Stop → Option ℕ
 parent_became p q rename y = option_and_then (λ n. became (stop_ids p) rename (text_of_number (stop_ids q) n.0)) y.parent_station
-
--- neither stop has a parent, or that of B's stop became that of A's
-abbrev pub is_same_parent : Option ℕ → Option ℕ → Option ℕ → Bool
-is_same_parent None None parent = true
-is_same_parent None (Some y) parent = false
-is_same_parent (Some x) None parent = false
-is_same_parent (Some x) (Some y) parent = option_eq nat_eq (Some x) parent
 
 -- ---- all kinds
 
