@@ -8,8 +8,11 @@ use Rattle.gtfs_rows.specs.Sound.{IsSound, is_sound_agency}
 use Rattle.gtfs_table.specs.Rows.{is_empty}
 use Rattle.gtfs_merge.specs.Renaming.{Nearness, never_near, has_id, ids, free_id, renamed_b, agency_a, agency_b, joined_agency, joined_route, joined_service, joined_trip, stop_b, names_a, names_b, joined_stop_under, stop_within}
 use Rattle.gtfs_merge.specs.Departures.{StaysApart}
+use Rattle.gtfs_merge.specs.Names.{may_meet}
+use Rattle.gtfs_merge.specs.Near.{nearness}
 use Rattle.gtfs_merge.specs.declared.kind.Kind.{Kind}
 use Rattle.gtfs_merge.specs.declared.kind.Kind.TheVariants as kind
+use Rattle.gtfs_merge.specs.declared.kind.Side.TheVariants as side
 use Rattle.gtfs_merge.proofs.Lookups.{In, list_all-In}
 use Rattle.gtfs_merge.proofs.Fresh.{renamed_apart, renamed_into_a}
 use Rattle.gtfs_merge.proofs.MergedRows.{found, found_id}
@@ -75,14 +78,16 @@ module _ (a b : Content) (sound_a : IsSound a) (sound_b : IsSound b) where
           then free_id (if has_id (ids kind.Agency a) [] then (ids kind.Agency a ++ ids kind.Agency b) ++ agency_a a b [] ∷ [] else ids kind.Agency a ++ ids kind.Agency b) (codes "agency")
           else renamed_b (ids kind.Agency a) (ids kind.Agency b) (joined_agency a b) x
 
-  -- without near stops an id of B that gets an id of A stays
-  stop_stays : AreFew kind.Stop a b → (x : List ℕ) → has_id (ids kind.Stop b) x ≡ true → has_id (ids kind.Stop a) (stop_b never_near a b x) ≡ true → stop_b never_near a b x ≡ x
-  stop_stays few x hx h = elim (stop_case never_near never-nearness a b (sound-places a sound_a) (sound-places b sound_b) few x) as (λ w. stop_b never_near a b x ≡ x) [
-    | inl c ↦ elim c as (λ w. stop_b never_near a b x ≡ x) [
-      | inl j ↦ j.1
+  -- without near stops an id of B that gets an id of A is joined, and stays
+  pub stop_joins : AreFew kind.Stop a b → (x : List ℕ) → has_id (ids kind.Stop b) x ≡ true → has_id (ids kind.Stop a) (stop_b never_near a b x) ≡ true → (joined_stop_under (stop_within never_near 2 a b) a b x ≡ true) × (stop_b never_near a b x ≡ x)
+  stop_joins few x hx h = elim (stop_case never_near never-nearness a b (sound-places a sound_a) (sound-places b sound_b) few x) as (λ w. (joined_stop_under (stop_within never_near 2 a b) a b x ≡ true) × (stop_b never_near a b x ≡ x)) [
+    | inl c ↦ elim c as (λ w. (joined_stop_under (stop_within never_near 2 a b) a b x ≡ true) × (stop_b never_near a b x ≡ x)) [
+      | inl j ↦ j
       | inr n ↦ absurd (none (find (λ y. bytes_eq y.stop_id x) b.stops) n.0 n.1)
     ]
-    | inr r ↦ r ∙ (renamed_into_a (ids kind.Stop a) (ids kind.Stop b) (joined_stop_under (stop_within never_near 2 a b) a b) few x (subst (λ v. has_id (ids kind.Stop a) v ≡ true) r h)).0
+    | inr r ↦
+        let into = renamed_into_a (ids kind.Stop a) (ids kind.Stop b) (joined_stop_under (stop_within never_near 2 a b) a b) few x (subst (λ v. has_id (ids kind.Stop a) v ≡ true) r h) in
+        (into.1, r ∙ into.0)
   ]
     where
       nobody : (xs : List Stop) → find (λ z. false) xs ≡ None
@@ -95,7 +100,7 @@ module _ (a b : Content) (sound_a : IsSound a) (sound_b : IsSound b) where
 
   apart-stop : AreFew kind.Stop a b → StaysApart kind.Stop b (names_b never_near a b)
   apart-stop few x y hx hy e = elim (cases_Bool (has_id (ids kind.Stop a) (stop_b never_near a b x))) as (λ w. x ≡ y) [
-    | inl h ↦ sym (stop_stays few x hx h) ∙ e ∙ stop_stays few y hy (subst (λ v. has_id (ids kind.Stop a) v ≡ true) e h)
+    | inl h ↦ sym (stop_joins few x hx h).1 ∙ e ∙ (stop_joins few y hy (subst (λ v. has_id (ids kind.Stop a) v ≡ true) e h)).1
     | inr n ↦
         let places_a = sound-places a sound_a in
         let places_b = sound-places b sound_b in
@@ -111,17 +116,11 @@ module _ (a b : Content) (sound_a : IsSound a) (sound_b : IsSound b) where
   apart-a kind.Service = λ x y hx hy e. e
   apart-a kind.Trip = λ x y hx hy e. e
 
-  pub apart-b : (c : Kind) → AreFew c a b → StaysApart c b (names_b never_near a b)
-  apart-b kind.Agency few = apart-agency_b never_near few
-  apart-b kind.Stop few = apart-stop few
-  apart-b kind.Route few = renamed_apart (ids kind.Route a) (ids kind.Route b) (joined_route a b) few
-  apart-b kind.Service few = renamed_apart (ids kind.Service a) (ids kind.Service b) (joined_service a b) few
-  apart-b kind.Trip few = renamed_apart (ids kind.Trip a) (ids kind.Trip b) (joined_trip never_near a b) few
-
-  -- with near stops, for the other kinds
-  pub apart-near : (near : Nearness) (c : Kind) → (c ≡ kind.Stop → ⊥) → AreFew c a b → StaysApart c b (names_b near a b)
-  apart-near near kind.Agency other few = apart-agency_b near few
-  apart-near near kind.Stop other few = absurd (other refl)
-  apart-near near kind.Route other few = renamed_apart (ids kind.Route a) (ids kind.Route b) (joined_route a b) few
-  apart-near near kind.Service other few = renamed_apart (ids kind.Service a) (ids kind.Service b) (joined_service a b) few
-  apart-near near kind.Trip other few = renamed_apart (ids kind.Trip a) (ids kind.Trip b) (joined_trip near a b) few
+  -- where ids of a kind do not meet
+  pub apart-unmet : (near : Option ℕ) (c : Kind) → may_meet near c side.B ≡ false → AreFew c a b → StaysApart c b (names_b (nearness near) a b)
+  apart-unmet near kind.Agency unmet few = apart-agency_b (nearness near) few
+  apart-unmet None kind.Stop unmet few = apart-stop few
+  apart-unmet (Some n) kind.Stop unmet few = absurd (true≢false unmet)
+  apart-unmet near kind.Route unmet few = renamed_apart (ids kind.Route a) (ids kind.Route b) (joined_route a b) few
+  apart-unmet near kind.Service unmet few = renamed_apart (ids kind.Service a) (ids kind.Service b) (joined_service a b) few
+  apart-unmet near kind.Trip unmet few = renamed_apart (ids kind.Trip a) (ids kind.Trip b) (joined_trip (nearness near) a b) few

@@ -1,16 +1,19 @@
 -- Agencies of two feeds have one new id exactly where they are joined.
 use Rattle.std.proofs.Common.{◌≡◌, ◌<◌, ◌+◌, ◌^◌, ℕ, Bool, true, false, not, List, [], ◌∷◌, ◌++◌, refl, sym, ap, ◌∙◌, subst, inl, inr, length, bytes_eq, codes, true≢false, length-append, arith}
 use Rattle.std.specs.Prelude.{◌&&◌, ◌||◌, ◌==◌, if◌then◌else◌}
-use Rattle.std.proofs.lemmas.Bool.{and_parts, and_from, cases_Bool, or_left, or_parts}
+use Rattle.std.specs.List.{position}
+use Rattle.std.proofs.lemmas.Bool.{and_parts, and_from, cases_Bool, not-true, or_left, or_parts}
 use Rattle.gtfs_columns.proofs.SiteFacts.{text_is as same_bytes}
 use Rattle.gtfs_columns.proofs.BoolFacts.{same_test as same_tests}
 use Rattle.gtfs_rows.specs.Content.{Content}
 use Rattle.gtfs_rows.specs.Sound.{IsSound}
+use Rattle.gtfs_merge.specs.Joined.{number_if}
 use Rattle.gtfs_merge.specs.Renaming.{ids, has_id, free_id, renamed_b, agency_a, agency_b, joined_agency}
 use Rattle.gtfs_merge.specs.declared.kind.Kind.TheVariants as kind
 use Rattle.gtfs_merge.proofs.Apart.{no-text, one-agency}
 use Rattle.gtfs_merge.proofs.Fresh.{free_number-free, joined_stays, renamed_into_a}
 use Rattle.gtfs_merge.proofs.FreeSearch.{has_both}
+use Rattle.gtfs_merge.proofs.JoinedStops.{no-index, renamed-number}
 use Rattle.gtfs_merge.proofs.Lookups.{bytes_same}
 
 module _ (a b : Content) (sound_a : IsSound a) (few : length (ids kind.Agency a) + length (ids kind.Agency b) < 2 ^ 65) where
@@ -133,3 +136,19 @@ module _ (a b : Content) (sound_a : IsSound a) (few : length (ids kind.Agency a)
       back : joined_agency a b t ≡ true → s ≡ t → bytes_eq (agency_a a b s) (agency_b a b t) ≡ true
       back j e =
           bytes_same _ _ (agency-stays_a s (ap (joined_agency a b) e ∙ j) ∙ e ∙ sym (agency-stays_b t j))
+
+  -- the new id of an agency of B is one of A only where the agency is joined
+  pub agency-into : (x : List ℕ) → has_id ids_a (agency_b a b x) ≡ true → joined_agency a b x ≡ true
+  agency-into x h = elim (cases_Bool (is_named x)) as (λ w. joined_agency a b x ≡ true) [
+    | inl n ↦ absurd (true≢false (sym h ∙ ap (has_id ids_a) (named_b x n) ∙ free_b))
+    | inr n ↦ (renamed_into_a ids_a ids_b (joined_agency a b) few_both x (subst (λ y. has_id ids_a y ≡ true) (ruled_b x n) h)).1
+  ]
+
+  -- the empty id that is not joined gets one that A lacks, and every other one goes by the rule of all kinds
+  pub agency-number : (x : List ℕ) → position (bytes_eq (agency_b a b x)) ids_a ≡ number_if (joined_agency a b x) ids_a x
+  agency-number x = elim (cases_Bool (is_named x)) as (λ w. position (bytes_eq (agency_b a b x)) ids_a ≡ number_if (joined_agency a b x) ids_a x) [
+    | inl n ↦
+        let apart : joined_agency a b x ≡ false = not-true (joined_agency a b x) (and_parts (length x == 0) (not (joined_agency a b x)) n).1 in
+        ap (λ y. position (bytes_eq y) ids_a) (named_b x n) ∙ no-index ids_a (free_id taken_b name) free_b ∙ ap (λ j. number_if j ids_a x) (sym apart)
+    | inr n ↦ ap (λ y. position (bytes_eq y) ids_a) (ruled_b x n) ∙ renamed-number ids_a ids_b (joined_agency a b) few_both x
+  ]

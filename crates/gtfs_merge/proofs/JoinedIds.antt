@@ -10,10 +10,11 @@ use Rattle.gtfs_field.proofs.OptionFacts.{is_some-cond}
 use Rattle.gtfs_columns.proofs.SiteFacts.{text_is as same_bytes}
 use Rattle.gtfs_rows.specs.Content.{Content}
 use Rattle.gtfs_rows.specs.Views.{IsSoundParts, content_of_parts}
-use Rattle.gtfs_merge.specs.Joined.{joined_number, joined_numbers, joined_rows, number_if, of_kind}
+use Rattle.gtfs_merge.specs.Joined.{number_if}
 use Rattle.gtfs_merge.specs.Numbered.{known_ids}
-use Rattle.gtfs_merge.specs.Renaming.{Nearness, has_id, ids, is_joined, joined_by}
+use Rattle.gtfs_merge.specs.Renaming.{Nearness, Renaming, has_id, ids, is_joined, joined_by, joined_stop_under}
 use Rattle.gtfs_merge.specs.Sides.{nearness_of}
+use Rattle.gtfs_merge.specs.Twins.{of_kind, twin_number, twin_numbers, twin_rows}
 use Rattle.gtfs_merge.specs.declared.kind.Kind.{Kind}
 use Rattle.gtfs_merge.specs.declared.kind.Kind.TheVariants as kind
 use Rattle.gtfs_merge.specs.declared.sides.Sides.{Sides}
@@ -39,6 +40,9 @@ joined-has near kind.Route a b x j = by-has (λ r. r.route_id) _ a.routes b.rout
 joined-has near kind.Service a b x j = by-has (λ s. s.service_id) _ a.services b.services x j
 joined-has near kind.Trip a b x j = by-has (λ t. t.trip_id) _ a.trips b.trips x j
 
+pub under-has : (rename : Renaming) (a b : Content) (x : List ℕ) → joined_stop_under rename a b x ≡ true → has_id (ids kind.Stop a) x ≡ true
+under-has rename a b x j = (by-has (λ s. s.stop_id) _ a.stops b.stops x j).0
+
 -- an id has a number where it is there
 pub has-number : (xs : List (List ℕ)) (x : List ℕ) → is_some (position (bytes_eq x) xs) ≡ has_id xs x
 has-number xs x = is_some-cond _ (position_or_len (bytes_eq x) xs) ∙ before-any (bytes_eq x) xs
@@ -47,24 +51,19 @@ pub number-tells : (j : Bool) (xs : List (List ℕ)) (x : List ℕ) → (j ≡ t
 number-tells true xs x has = has-number xs x ∙ has refl
 number-tells false xs x has = refl
 
-pub of-kind : (sides : Sides) (k : Kind) → of_kind (joined_rows sides) k ≡ joined_numbers k sides
+pub of-kind : (sides : Sides) (k : Kind) → of_kind (twin_rows sides) k ≡ twin_numbers k sides
 of-kind sides kind.Agency = refl
 of-kind sides kind.Stop = refl
 of-kind sides kind.Route = refl
 of-kind sides kind.Service = refl
 of-kind sides kind.Trip = refl
 
-pub of-kind-length : (sides : Sides) (k : Kind) → length (of_kind (joined_rows sides) k) ≡ length (known_ids k sides.b.now)
-of-kind-length sides k = ap length (of-kind sides k) ∙ length-map (known_ids k sides.b.now) (joined_number k sides)
+pub of-kind-length : (sides : Sides) (k : Kind) → length (of_kind (twin_rows sides) k) ≡ length (known_ids k sides.b.now)
+of-kind-length sides k = ap length (of-kind sides k) ∙ length-map (known_ids k sides.b.now) (twin_number k sides)
 
--- what is told of a row of B
-pub told-at : (sides : Sides) → IsSoundParts sides.a.now → (k : Kind) (n : ℕ) → n < length (known_ids k sides.b.now) → (result : Bool) → result ≡ is_some (get_or (of_kind (joined_rows sides) k) n None)
-    → result ≡ is_joined (nearness_of sides) k (content_of_parts sides.a.now) (content_of_parts sides.b.now) (get_or (known_ids k sides.b.now) n [])
-told-at sides sound_a k n within result is =
-    let x = get_or (known_ids k sides.b.now) n [] in
-    let joined = is_joined (nearness_of sides) k (content_of_parts sides.a.now) (content_of_parts sides.b.now) x in
-    is ∙ ap (λ xs. is_some (get_or xs n None)) (of-kind sides k) ∙ ap is_some (get_or-map (joined_number k sides) (known_ids k sides.b.now) n [] None within)
-    ∙ number-tells joined (known_ids k sides.a.now) x (λ j. subst (λ xs. has_id xs x ≡ true) (ids-known k sides.a.now sound_a) (joined-has (nearness_of sides) k (content_of_parts sides.a.now) (content_of_parts sides.b.now) x j).0)
+-- the twin of a row of B
+pub twin-at : (sides : Sides) (k : Kind) (n : ℕ) → n < length (known_ids k sides.b.now) → get_or (of_kind (twin_rows sides) k) n None ≡ twin_number k sides (get_or (known_ids k sides.b.now) n [])
+twin-at sides k n within = ap (λ xs. get_or xs n None) (of-kind sides k) ∙ get_or-map (twin_number k sides) (known_ids k sides.b.now) n [] None within
 
 -- the id of a number
 pub own-index : (xs : List (List ℕ)) (x : List ℕ) (n : ℕ) → position (bytes_eq x) xs ≡ Some n → (n < length xs) × (x ≡ get_or xs n [])

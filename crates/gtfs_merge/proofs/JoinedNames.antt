@@ -19,6 +19,7 @@ use Rattle.gtfs_merge.specs.Joined.{joined_number, joined_numbers, number_if}
 use Rattle.gtfs_merge.specs.Numbered.{known_ids, same_agency_in, same_route_in}
 use Rattle.gtfs_merge.specs.Renaming.{Renaming, has_id, ids, kept_as_is, renamed_b, agency_a, agency_b, joined_agency, route_with}
 use Rattle.gtfs_merge.specs.Same.{same_route}
+use Rattle.gtfs_merge.specs.Twins.{twin_number, twin_numbers}
 use Rattle.gtfs_merge.specs.declared.kind.Kind.{Kind}
 use Rattle.gtfs_merge.specs.declared.kind.Kind.TheVariants as kind
 use Rattle.gtfs_merge.specs.declared.sides.Sides.{Sides}
@@ -40,6 +41,14 @@ joined-at-index number k sides joined j is within = ap (λ xs. get_or xs j None)
 
 pub joined-length : {T : Type 0} (number : T → ℕ) (k : Kind) (sides : Sides) (joined : List (Option T)) → map (option_map number) joined ≡ joined_numbers k sides → length joined ≡ length (known_ids k sides.b.now)
 joined-length number k sides joined is = sym (length-map joined (option_map number)) ∙ ap length is ∙ length-map (known_ids k sides.b.now) (joined_number k sides)
+
+-- the same of twins
+pub twin-at-index : {T : Type 0} (number : T → ℕ) (k : Kind) (sides : Sides) (twins : List (Option T)) (j : ℕ) → map (option_map number) twins ≡ twin_numbers k sides → j < length (known_ids k sides.b.now)
+    → get_or (map (option_map number) twins) j None ≡ twin_number k sides (get_or (known_ids k sides.b.now) j [])
+twin-at-index number k sides twins j is within = ap (λ xs. get_or xs j None) is ∙ get_or-map (twin_number k sides) (known_ids k sides.b.now) j [] None within
+
+pub twins-length : {T : Type 0} (number : T → ℕ) (k : Kind) (sides : Sides) (twins : List (Option T)) → map (option_map number) twins ≡ twin_numbers k sides → length twins ≡ length (known_ids k sides.b.now)
+twins-length number k sides twins is = sym (length-map twins (option_map number)) ∙ ap length is ∙ length-map (known_ids k sides.b.now) (twin_number k sides)
 
 -- by the rule of all kinds
 pub rule-meets : {X : Type 0} (id : X → List ℕ) (rows : List X) → Ascends (on id text_cmp) rows → (ids_a ids_b : List (List ℕ)) → ids_a ≡ map id rows → (is_joined : List ℕ → Bool)

@@ -1,5 +1,5 @@
--- Stops that are joined, by their numbers.
-use Rattle.std.proofs.Common.{◌≡◌, ◌<◌, ◌+◌, ◌^◌, ℕ, suc, Bool, true, false, cond, List, [], ◌∷◌, Some, None, Option, refl, sym, ap, ◌∙◌, subst, inl, inr, length, map, get_or, bytes_eq, nat_eq, eqb-true, true≢false, find, option_map, option_and_then, unwrap_or, arith}
+-- Stops that are joined and stops that are near, by their numbers.
+use Rattle.std.proofs.Common.{◌≡◌, ◌<◌, ◌+◌, ◌^◌, ℕ, suc, Bool, true, false, cond, List, [], ◌∷◌, Some, None, Option, refl, sym, ap, ◌∙◌, subst, inl, inr, length, map, get_or, bytes_eq, nat_eq, eqb-true, true≢false, find, option_map, option_and_then, unwrap_or, is_some, arith}
 use Rattle.std.specs.Prelude.{◌&&◌, if◌then◌else◌, IfSome}
 use Rattle.std.specs.List.{slice_get, position, position_or_len}
 use Rattle.std.specs.Option.{option_eq}
@@ -22,15 +22,18 @@ use Rattle.gtfs_rows.specs.declared.parts.Parts.{Parts}
 use Rattle.gtfs_rows.specs.declared.stop.Stop.{Stop as StopByNumber}
 use Rattle.gtfs_rows.proofs.SoundOrder.{in_order}
 use Rattle.gtfs_rows.proofs.NumberFacts.{own_number, stop_parent}
-use Rattle.gtfs_merge.specs.Joined.{became, is_same_parent, joined_number, number_if, parent_became}
+use Rattle.gtfs_merge.specs.Joined.{number_if}
+use Rattle.gtfs_nearby.specs.Near.{is_same_parent}
+use Rattle.gtfs_merge.specs.Twins.{became, parent_became}
 use Rattle.gtfs_merge.specs.Numbered.{same_parent_in, same_stop_in}
 use Rattle.gtfs_merge.specs.Same.{same_stop, same_text}
 use Rattle.gtfs_merge.specs.Law.{AreFew}
-use Rattle.gtfs_merge.specs.Renaming.{Renaming, ids, has_id, renamed_b, never_near, near_stop_under, joined_stop, joined_stop_under, stop_b, stop_under, stop_with, stop_within}
+use Rattle.gtfs_merge.specs.Renaming.{Nearness, Renaming, ids, has_id, renamed_b, never_near, near_stop_under, joined_stop_under, stop_under, stop_with, stop_within}
 use Rattle.gtfs_merge.specs.Sides.{nearness_of}
 use Rattle.gtfs_merge.specs.declared.kind.Kind.TheVariants as kind
 use Rattle.gtfs_merge.specs.declared.sides.Sides.{Sides}
 use Rattle.gtfs_merge.proofs.Fresh.{joined_stays, renamed_into_a}
+use Rattle.gtfs_merge.proofs.JoinedIds.{has-number, under-has}
 use Rattle.gtfs_merge.proofs.JoinedKinds.{id-at, ids-known}
 use Rattle.gtfs_merge.proofs.JoinedRows.{number-same}
 
@@ -89,25 +92,30 @@ nobody : (xs : List Stop) → find (λ z. false) xs ≡ None
 nobody [] = refl
 nobody (z ∷ zs) = nobody zs
 
-none-near : (rename : Renaming) (a b : Content) (x : List ℕ) → near_stop_under never_near rename a b x ≡ None
+pub none-near : (rename : Renaming) (a b : Content) (x : List ℕ) → near_stop_under never_near rename a b x ≡ None
 none-near rename a b x = by (find (λ y. bytes_eq y.stop_id x) b.stops)
   where
     by : (o : Option Stop) → option_and_then (λ y. option_map (λ s. s.stop_id) (find (λ z. false) a.stops)) o ≡ None
     by None = refl
     by (Some y) = ap (option_map (λ s. s.stop_id)) (nobody a.stops)
 
--- a joined stop stays by the rule of all kinds, too
-pub stop-ruled : (rename : Renaming) (a b : Content) → AreFew kind.Stop a b → (x : List ℕ) → stop_under never_near rename a b x ≡ renamed_b (ids kind.Stop a) (ids kind.Stop b) (joined_stop_under rename a b) x
-stop-ruled rename a b few x = by (joined_stop_under rename a b x) refl
-  where
-    by : (j : Bool) → joined_stop_under rename a b x ≡ j → stop_under never_near rename a b x ≡ renamed_b (ids kind.Stop a) (ids kind.Stop b) (joined_stop_under rename a b) x
-    by true e = ap (λ j. if j then x else unwrap_or (near_stop_under never_near rename a b x) (renamed_b (ids kind.Stop a) (ids kind.Stop b) (joined_stop_under rename a b) x)) e
-        ∙ sym (joined_stays (ids kind.Stop a) (ids kind.Stop b) (joined_stop_under rename a b) few x e)
-    by false e = λ i. if e i then x else unwrap_or (none-near rename a b x i) (renamed_b (ids kind.Stop a) (ids kind.Stop b) (joined_stop_under rename a b) x)
+-- the number in A of what a stop of B became: that of the stop that it is joined with, else of the stop that it is near
+module _ (near : Nearness) (rename : Renaming) (a b : Content) (few : AreFew kind.Stop a b) (x : List ℕ) where
+  abbrev ruled : List ℕ
+  ruled = renamed_b (ids kind.Stop a) (ids kind.Stop b) (joined_stop_under rename a b) x
 
-pub stop-number : (rename : Renaming) (a b : Content) → AreFew kind.Stop a b → (x : List ℕ)
-    → became (ids kind.Stop a) (stop_under never_near rename a b) x ≡ number_if (joined_stop_under rename a b x) (ids kind.Stop a) x
-stop-number rename a b few x = ap (λ q. position (bytes_eq q) (ids kind.Stop a)) (stop-ruled rename a b few x) ∙ renamed-number (ids kind.Stop a) (ids kind.Stop b) (joined_stop_under rename a b) few x
+  abbrev number_of : List ℕ → Option ℕ
+  number_of z = position (bytes_eq z) (ids kind.Stop a)
+
+  by : (j : Bool) → joined_stop_under rename a b x ≡ j → (o : Option (List ℕ)) → near_stop_under near rename a b x ≡ o
+      → number_of (if joined_stop_under rename a b x then x else unwrap_or (near_stop_under near rename a b x) ruled) ≡ (if j then number_of x else option_and_then number_of o)
+  by true e o f = ap (λ j. number_of (if j then x else unwrap_or (near_stop_under near rename a b x) ruled)) e
+  by false e (Some z) f = λ i. number_of (if e i then x else unwrap_or (f i) ruled)
+  by false e None f = (λ i. number_of (if e i then x else unwrap_or (f i) ruled))
+      ∙ renamed-number (ids kind.Stop a) (ids kind.Stop b) (joined_stop_under rename a b) few x ∙ ap (λ j. if j then number_of x else None) e
+
+  pub twin-under : became (ids kind.Stop a) (stop_under near rename a b) x ≡ (if joined_stop_under rename a b x then number_of x else option_and_then number_of (near_stop_under near rename a b x))
+  twin-under = by (joined_stop_under rename a b x) refl (near_stop_under near rename a b x) refl
 
 -- ---- one stop of B and its parent
 
@@ -118,7 +126,7 @@ module _ (sides : Sides) (sound_a : IsSoundParts sides.a.now) (sound_b : IsSound
   abbrev b : Content
   b = content_of_parts sides.b.now
 
-  same-parent : (rename : Renaming) (n : ℕ) (x y : StopByNumber) (parent : Option ℕ) → slice_get sides.a.now.stops n ≡ Some x → parent ≡ parent_became sides rename y
+  pub same-parent : (rename : Renaming) (n : ℕ) (x y : StopByNumber) (parent : Option ℕ) → slice_get sides.a.now.stops n ≡ Some x → parent ≡ parent_became sides rename y
       → same_parent_in sides.a.now sides.b.now rename x y ≡ is_same_parent (option_map (λ m. m.0) x.parent_station) (option_map (λ m. m.0) y.parent_station) parent
   same-parent rename n x y parent at = by x.parent_station y.parent_station (stop_parent sides.a.now sound_a n x at)
     where
@@ -155,20 +163,37 @@ module _ (sides : Sides) (sound_a : IsSoundParts sides.a.now) (sound_b : IsSound
       is ∙ (λ i. position (bytes_eq (sym (id-at (λ s. s.stop_id) sides.b.now.stops k y at) i)) (stop_ids sides.a.now)) ∙ ap (λ n. became (stop_ids sides.a.now) (stop_within (nearness_of sides) n a b) (get_or (stop_ids sides.b.now) k [])) (sym none)
 
   -- one generation more
-  pub next-generation : AreFew kind.Stop a b → (k g h : ℕ) (y : StopByNumber) (o : Option ℕ) → slice_get sides.b.now.stops k ≡ Some y → g ≡ suc h
-      → o ≡ number_if (joined_stop_under (stop_within (nearness_of sides) h a b) a b y.stop_id) (stop_ids sides.a.now) y.stop_id
+  pub next-generation : (k g h : ℕ) (y : StopByNumber) (o : Option ℕ) → slice_get sides.b.now.stops k ≡ Some y → g ≡ suc h
+      → o ≡ became (stop_ids sides.a.now) (stop_under (nearness_of sides) (stop_within (nearness_of sides) h a b) a b) y.stop_id
       → o ≡ became (stop_ids sides.a.now) (stop_within (nearness_of sides) g a b) (get_or (stop_ids sides.b.now) k [])
-  next-generation few k g h y o at more is =
-      let known = ids-known kind.Stop sides.a.now sound_a in
-      is ∙ ap (λ ids. number_if (joined_stop_under (stop_within (nearness_of sides) h a b) a b y.stop_id) ids y.stop_id) (sym known)
-      ∙ sym (stop-number (stop_within (nearness_of sides) h a b) a b few y.stop_id)
-      ∙ ap (λ ids. became ids (stop_within (nearness_of sides) (suc h) a b) y.stop_id) known
-      ∙ (λ i. became (stop_ids sides.a.now) (stop_within (nearness_of sides) (sym more i) a b) (sym (id-at (λ s. s.stop_id) sides.b.now.stops k y at) i))
+  next-generation k g h y o at more is =
+      is ∙ (λ i. became (stop_ids sides.a.now) (stop_within (nearness_of sides) (sym more i) a b) (sym (id-at (λ s. s.stop_id) sides.b.now.stops k y at) i))
 
-  pub last-generation : AreFew kind.Stop a b → (x : List ℕ) → became (stop_ids sides.a.now) (stop_within (nearness_of sides) 4 a b) x ≡ joined_number kind.Stop sides x
-  last-generation few x =
-      let known = ids-known kind.Stop sides.a.now sound_a in
-      ap (λ ids. became ids (stop_within (nearness_of sides) 4 a b) x) (sym known) ∙ stop-number (stop_b (nearness_of sides) a b) a b few x ∙ ap (λ ids. number_if (joined_stop (nearness_of sides) a b x) ids x) known
+  -- the twin of a stop: the one that it is joined with, else the one that it is near
+  pub twin-is : AreFew kind.Stop a b → (rename : Renaming) (x : List ℕ)
+      → became (stop_ids sides.a.now) (stop_under (nearness_of sides) rename a b) x
+      ≡ (if joined_stop_under rename a b x then position (bytes_eq x) (stop_ids sides.a.now) else option_and_then (λ z. position (bytes_eq z) (stop_ids sides.a.now)) (near_stop_under (nearness_of sides) rename a b x))
+  twin-is few rename x = subst (λ ids. became ids (stop_under (nearness_of sides) rename a b) x
+      ≡ (if joined_stop_under rename a b x then position (bytes_eq x) ids else option_and_then (λ z. position (bytes_eq z) ids) (near_stop_under (nearness_of sides) rename a b x)))
+      (ids-known kind.Stop sides.a.now sound_a) (twin-under (nearness_of sides) rename a b few x)
+
+  twin-some : (j : Bool) (xs : List (List ℕ)) (x : List ℕ) (n : ℕ) (rest : Option ℕ) → Some n ≡ number_if j xs x → Some n ≡ (if j then position (bytes_eq x) xs else rest)
+  twin-some true xs x n rest e = e
+  twin-some false xs x n rest e = cc
+
+  twin-none : (j : Bool) (xs : List (List ℕ)) (x : List ℕ) (rest : Option ℕ) → (j ≡ true → has_id xs x ≡ true) → None ≡ number_if j xs x → rest ≡ (if j then position (bytes_eq x) xs else rest)
+  twin-none true xs x rest has e = absurd (true≢false (sym (has-number xs x ∙ has refl) ∙ ap is_some (sym e)))
+  twin-none false xs x rest has e = refl
+
+  -- a joined stop has its twin, and every other one that of the stop that it is near
+  pub twin-joined : AreFew kind.Stop a b → (rename : Renaming) (x : List ℕ) (n : ℕ) → Some n ≡ number_if (joined_stop_under rename a b x) (stop_ids sides.a.now) x → Some n ≡ became (stop_ids sides.a.now) (stop_under (nearness_of sides) rename a b) x
+  twin-joined few rename x n e = twin-some (joined_stop_under rename a b x) (stop_ids sides.a.now) x n _ e ∙ sym (twin-is few rename x)
+
+  pub twin-near : AreFew kind.Stop a b → (rename : Renaming) (x : List ℕ) (o : Option ℕ) → None ≡ number_if (joined_stop_under rename a b x) (stop_ids sides.a.now) x
+      → o ≡ option_and_then (λ z. position (bytes_eq z) (stop_ids sides.a.now)) (near_stop_under (nearness_of sides) rename a b x) → o ≡ became (stop_ids sides.a.now) (stop_under (nearness_of sides) rename a b) x
+  twin-near few rename x o e is =
+      is ∙ twin-none (joined_stop_under rename a b x) (stop_ids sides.a.now) x _ (λ j. subst (λ xs. has_id xs x ≡ true) (ids-known kind.Stop sides.a.now sound_a) (under-has rename a b x j)) e
+      ∙ sym (twin-is few rename x)
 
 pub parent-within : (q : Parts) → IsSoundParts q → (k : ℕ) (y : StopByNumber) (parent : StopNo) → slice_get q.stops k ≡ Some y → y.parent_station ≡ Some parent → parent.0 < length q.stops
 parent-within q sound k y parent at is = subst (λ o. IfSome (option_map (λ s. s.0) o) (λ s. s < length q.stops)) is (stop_parent q sound k y at)

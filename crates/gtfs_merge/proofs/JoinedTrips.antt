@@ -52,16 +52,6 @@ module _ (q : Parts) (sound_q : IsSoundParts q) where
   pub content-id : (k : ℕ) (t : Trip) → slice_get b.trips k ≡ Some t → get_or (trip_ids q) k [] ≡ t.trip_id
   content-id k t at = ap (λ xs. get_or xs k []) (sym (ids-known kind.Trip q sound_q)) ∙ id-at (λ t. t.trip_id) b.trips k t at
 
-  -- vehicles call at stops and platforms
-  pub rows-plain : (k : ℕ) (y : TripRow) (ys : List StopRow) (vs : List Frequency) → slice_get q.trips k ≡ Some y → slice_get (stop_rows_by_trip q) k ≡ Some ys → slice_get (frequencies_by_trip q) k ≡ Some vs
-      → All (λ r. is_stop_of b (0 ∷ []) (text_of_number (stop_ids q) r.stop_id.0) ≡ true) ys
-  rows-plain k y ys vs at at_rows at_periods i d within =
-      let t = trip_of q y ys vs in
-      let there : In t b.trips = in-at b.trips k t (content_trip q k y ys vs at at_rows at_periods) in
-      let r = get_or ys i d in
-      let row : In (stop_row_of q r) t.stop_rows = in-at (map (stop_row_of q) ys) i (stop_row_of q r) (row-map (stop_row_of q) ys i r (slice_get-get_or ys i d within)) in
-      (and_parts (is_stop_of b (0 ∷ []) (stop_row_of q r).stop_id) _ (sound-row b sound_q.content t there (stop_row_of q r) row)).0
-
 module _ (sides : Sides) (sound_a : IsSoundParts sides.a.now) (sound_b : IsSoundParts sides.b.now) where
   abbrev a : Content
   a = content_of_parts sides.a.now

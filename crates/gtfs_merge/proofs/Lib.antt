@@ -19,6 +19,11 @@ pub mod SameLists
 pub mod JoinedStopTimes
 pub mod JoinedTrips
 pub mod JoinedIds
+pub mod TwinKinds
+pub mod NearStops
+pub mod StopTwins
+pub mod SettledStops
+pub mod NearPairs
 pub mod RenamedLists
 pub mod NamesFacts
 pub mod NewIdRules
@@ -44,6 +49,7 @@ pub mod TripsOfSides
 pub mod FileLimit
 pub mod ByNewIds
 pub mod Distinct
+pub mod Dropped
 pub mod MergedOrder
 pub mod MergesOfKinds
 pub mod NamesAcross

@@ -39,7 +39,7 @@ use Rattle.gtfs_merge.proofs.InTurn.{starts-in_turn}
 use Rattle.gtfs_merge.proofs.MergedSound.{merged-sound}
 use Rattle.gtfs_merge.proofs.MergedStopTimes.{merged-periods, merged-rows, merged-within}
 use Rattle.gtfs_merge.proofs.MergedTransfers.{transfers-named, transfers-within}
-use Rattle.gtfs_merge.proofs.Stops.{never-nearness}
+use Rattle.gtfs_merge.proofs.Stops.{is-nearness}
 
 -- ---- trips
 
@@ -86,7 +86,7 @@ module _ (sides : Sides) (sound_a : IsSoundParts sides.a.now) (sound_b : IsSound
   m = parts_with r ts st fr hs.texts
 
   content-sound : IsSound (merged_parts sides)
-  content-sound = merged-sound (nearness_of sides) never-nearness (content_of_parts sides.a.now) (content_of_parts sides.b.now) sound_a.content sound_b.content few zone
+  content-sound = merged-sound (nearness_of sides) (is-nearness sides.near) (content_of_parts sides.a.now) (content_of_parts sides.b.now) sound_a.content sound_b.content few zone
 
   -- ---- ids
 

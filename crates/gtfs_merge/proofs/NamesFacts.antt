@@ -12,11 +12,12 @@ use Rattle.gtfs_rows.specs.Content.{Content}
 use Rattle.gtfs_rows.specs.declared.parts.Parts.{Parts}
 use Rattle.gtfs_rows.specs.Views.{IsSoundParts, content_of_parts}
 use Rattle.gtfs_merge.specs.Departures.{StaysApart}
-use Rattle.gtfs_merge.specs.Names.{kind_names, new_id, new_ids, of_side}
+use Rattle.gtfs_merge.specs.Names.{AllNames, AreKindNames, kind_names, new_id, new_ids, of_side}
 use Rattle.gtfs_merge.specs.Numbered.{known_ids}
 use Rattle.gtfs_merge.specs.Renaming.{has_id, ids, name_of, Names, Renaming, renaming}
 use Rattle.gtfs_merge.specs.Sides.{side_names, side_parts}
 use Rattle.gtfs_merge.specs.declared.kind.Kind.{Kind}
+use Rattle.gtfs_merge.specs.declared.kind.Kind.TheVariants as kind
 use Rattle.gtfs_merge.specs.declared.kind.Side.{Side}
 use Rattle.gtfs_merge.specs.declared.kind.Side.TheVariants as side
 use Rattle.gtfs_merge.specs.declared.sides.Sides.{Sides}
@@ -61,3 +62,12 @@ apart-names n k f apart x y name = by (has_id (ids k f) x) refl (has_id (ids k f
     by true has_x true has_y first second = let same : renaming n k x ≡ renaming n k y = cc in apart x y has_x has_y same
     by true has_x false has_y first second = cc
     by false has_x g has_y first second = cc
+
+-- the names of all kinds
+pub each-kind : (sides : Sides) (n : AllNames) → n.agencies ≡ kind_names kind.Agency sides → n.stops ≡ kind_names kind.Stop sides → n.routes ≡ kind_names kind.Route sides → n.services ≡ kind_names kind.Service sides → n.trips ≡ kind_names kind.Trip sides
+    → AreKindNames sides n
+each-kind sides n agencies stops routes services trips kind.Agency = agencies
+each-kind sides n agencies stops routes services trips kind.Stop = stops
+each-kind sides n agencies stops routes services trips kind.Route = routes
+each-kind sides n agencies stops routes services trips kind.Service = services
+each-kind sides n agencies stops routes services trips kind.Trip = trips

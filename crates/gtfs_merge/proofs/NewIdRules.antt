@@ -6,23 +6,26 @@ use Rattle.std.proofs.lemmas.Bool.{and_parts, or_cases, false_from_ne_true}
 use Rattle.gtfs_table.specs.Rows.{is_empty}
 use Rattle.gtfs_columns.proofs.SiteFacts.{text_is as same_bytes}
 use Rattle.gtfs_rows.specs.Content.{Content}
-use Rattle.gtfs_rows.specs.Rows.{Agency, Stop}
-use Rattle.gtfs_rows.specs.Sound.{IsSound, is_sound_agency, is_stop_of, has_right_parent}
+use Rattle.gtfs_rows.specs.Rows.{Agency}
+use Rattle.gtfs_rows.specs.Sound.{IsSound, is_sound_agency}
 use Rattle.gtfs_rows.specs.declared.parts.Parts.{Parts}
 use Rattle.gtfs_rows.specs.Views.{IsSoundParts, content_of_parts}
+use Rattle.gtfs_merge.specs.Law.{AreFew, IsNearness}
 use Rattle.gtfs_merge.specs.Names.{is_nameless}
 use Rattle.gtfs_merge.specs.Numbered.{known_ids}
-use Rattle.gtfs_merge.specs.Renaming.{has_id, ids, is_joined, free_id, merged_id, renamed_b, renaming, names_a, names_b, never_near, agency_a, agency_b, joined_agency, joined_stop, stop_b, stop_within}
+use Rattle.gtfs_merge.specs.Renaming.{Nearness, has_id, ids, is_joined, free_id, merged_id, renamed_b, renaming, names_a, names_b, agency_a, agency_b, joined_agency, joined_stop_under, stop_within}
 use Rattle.gtfs_merge.specs.declared.kind.Kind.{Kind}
 use Rattle.gtfs_merge.specs.declared.kind.Kind.TheVariants as kind
 use Rattle.gtfs_merge.specs.declared.sides.Sides.{Sides}
+use Rattle.gtfs_merge.proofs.Apart.{no-text}
+use Rattle.gtfs_merge.proofs.JoinedAgencies.{agency-stays_b}
+use Rattle.gtfs_merge.proofs.JoinedIds.{joined-has}
 use Rattle.gtfs_merge.proofs.JoinedKinds.{ids-known}
-use Rattle.gtfs_merge.proofs.JoinedStops.{stop-ruled}
 use Rattle.gtfs_merge.proofs.Fresh.{merged_id-number}
 use Rattle.gtfs_merge.proofs.Lookups.{In, bytes_same, list_all-In}
 use Rattle.gtfs_merge.proofs.MergedRows.{found, found_id}
-use Rattle.gtfs_merge.proofs.Premises.{of_type-found, right-parent, sound-parent, sound-places}
-use Rattle.gtfs_merge.proofs.Stops.{joined-same, never-nearness, stop_id_of, under-same}
+use Rattle.gtfs_merge.proofs.Premises.{sound-places}
+use Rattle.gtfs_merge.proofs.Stops.{by_rule}
 
 -- ---- the ids that are taken
 
@@ -45,86 +48,78 @@ on-ok (Err e) h f = tt
 
 -- ---- A
 
-pub new-a : (a b : Content) (k : Kind) (x : List ℕ) (c : Bool) → (is_nameless k x && not (is_joined never_near k a b x)) ≡ c
+pub new-a : (near : Nearness) (a b : Content) (k : Kind) (x : List ℕ) (c : Bool) → (is_nameless k x && not (is_joined near k a b x)) ≡ c
     → renaming (names_a a b) k x ≡ (if c then free_id (ids kind.Agency a ++ ids kind.Agency b) (codes "agency") else x)
-new-a a b kind.Agency x c e = ap (λ c. if c then free_id (ids kind.Agency a ++ ids kind.Agency b) (codes "agency") else x) e
-new-a a b kind.Stop x c e = ap (λ c. if c then free_id (ids kind.Agency a ++ ids kind.Agency b) (codes "agency") else x) e
-new-a a b kind.Route x c e = ap (λ c. if c then free_id (ids kind.Agency a ++ ids kind.Agency b) (codes "agency") else x) e
-new-a a b kind.Service x c e = ap (λ c. if c then free_id (ids kind.Agency a ++ ids kind.Agency b) (codes "agency") else x) e
-new-a a b kind.Trip x c e = ap (λ c. if c then free_id (ids kind.Agency a ++ ids kind.Agency b) (codes "agency") else x) e
+new-a near a b kind.Agency x c e = ap (λ c. if c then free_id (ids kind.Agency a ++ ids kind.Agency b) (codes "agency") else x) e
+new-a near a b kind.Stop x c e = ap (λ c. if c then free_id (ids kind.Agency a ++ ids kind.Agency b) (codes "agency") else x) e
+new-a near a b kind.Route x c e = ap (λ c. if c then free_id (ids kind.Agency a ++ ids kind.Agency b) (codes "agency") else x) e
+new-a near a b kind.Service x c e = ap (λ c. if c then free_id (ids kind.Agency a ++ ids kind.Agency b) (codes "agency") else x) e
+new-a near a b kind.Trip x c e = ap (λ c. if c then free_id (ids kind.Agency a ++ ids kind.Agency b) (codes "agency") else x) e
 
--- ---- stops: three steps of parents decide for all of them
+-- ---- B
 
-of-type : (t u : ℕ) → list_any (λ x. x == u) (t ∷ []) ≡ true → u ≡ t
-of-type t u e = elim (or_cases (t == u) false e) as (λ w. u ≡ t) [
-  | inl h ↦ sym (eqb-true t u h)
-  | inr h ↦ absurd (true≢false (sym h))
-]
+-- an id that A has and that becomes none of A gets a free one
+unjoined : (ids_a ids_b : List (List ℕ)) (is_joined : List ℕ → Bool) (x : List ℕ) → has_id ids_a x ≡ true → has_id ids_a (renamed_b ids_a ids_b is_joined x) ≡ false → renamed_b ids_a ids_b is_joined x ≡ free_id (ids_a ++ ids_b) x
+unjoined ids_a ids_b is_joined x has lacks = by (is_joined x) refl
+  where
+    by : (j : Bool) → is_joined x ≡ j → renamed_b ids_a ids_b is_joined x ≡ free_id (ids_a ++ ids_b) x
+    by true e =
+        let stays : renamed_b ids_a ids_b is_joined x ≡ x = λ i. if not (has i) || e i then x else free_id (ids_a ++ ids_b) x in
+        absurd (true≢false (sym has ∙ sym (ap (has_id ids_a) stays) ∙ lacks))
+    by false e = λ i. if not (has i) || e i then x else free_id (ids_a ++ ids_b) x
 
-module _ (a b : Content) (sound_a : IsSound a) (sound_b : IsSound b) (few : length (ids kind.Stop a) + length (ids kind.Stop b) + 2 < 10 ^ 64) where
-  abbrev within : ℕ → List ℕ → List ℕ
-  within n = stop_within never_near n a b
+module _ (near : Nearness) (nearness : IsNearness near) (a b : Content) (sound_a : IsSound a) (sound_b : IsSound b) (few : AreFew kind.Stop a b) where
+  -- some rule of all kinds made it
+  abbrev IsRuled : Kind → List ℕ → Type 0
+  IsRuled k x = (is_joined : List ℕ → Bool) × (renaming (names_b near a b) k x ≡ renamed_b (ids k a) (ids k b) is_joined x)
 
-  no-parent : (o : Option (List ℕ)) → has_right_parent b 1 o ≡ true → o ≡ None
-  no-parent None e = refl
-  no-parent (Some p) e = absurd (true≢false (sym e))
+  ruled : (k : Kind) (x : List ℕ) → has_id (ids k b) x ≡ true → (is_nameless k x && not (is_joined near k a b x)) ≡ false → has_id (ids k a) (renaming (names_b near a b) k x) ≡ false → IsRuled k x
+  ruled kind.Agency x h e lacks = (
+    joined_agency a b,
+    ap (λ c. if c then free_id (if has_id (ids kind.Agency a) [] then (ids kind.Agency a ++ ids kind.Agency b) ++ agency_a a b [] ∷ [] else ids kind.Agency a ++ ids kind.Agency b) (codes "agency") else renamed_b (ids kind.Agency a) (ids kind.Agency b) (joined_agency a b) x) e,
+  )
+  ruled kind.Stop x h e lacks = (joined_stop_under (stop_within near 2 a b) a b, by_rule near nearness a b (sound-places a sound_a) (sound-places b sound_b) few x h lacks)
+  ruled kind.Route x h e lacks = (is_joined near kind.Route a b, refl)
+  ruled kind.Service x h e lacks = (is_joined near kind.Service a b, refl)
+  ruled kind.Trip x h e lacks = (is_joined near kind.Trip a b, refl)
 
-  -- a station has its name at once
-  station-named : (s : List ℕ) → is_stop_of b (1 ∷ []) s ≡ true → within 1 s ≡ within 2 s
-  station-named s e =
-      let u = of_type-found b (1 ∷ []) s e in
-      let there = (found_id stop_id_of b.stops s u.0 u.1).0 in
-      let none = no-parent u.0.parent_station (ap (λ t. has_right_parent b t u.0.parent_station) (sym (of-type 1 u.0.location_type u.2)) ∙ sound-parent b sound_b u.0 there) in
-      under-same never_near never-nearness a b (sound-places a sound_a) (sound-places b sound_b) few (within 0) (within 1) s u.0 u.1 (ap (option_map (within 0)) none ∙ sym (ap (option_map (within 1)) none))
+  pub stays-lacking : (k : Kind) (x : List ℕ) → has_id (ids k b) x ≡ true → (is_nameless k x && not (is_joined near k a b x)) ≡ false → has_id (ids k a) (renaming (names_b near a b) k x) ≡ false → has_id (ids k a) x ≡ false
+      → renaming (names_b near a b) k x ≡ x
+  stays-lacking k x h e none lacks =
+      let r = ruled k x h e none in
+      r.1 ∙ ap (λ c. if not c || r.0 x then x else free_id (ids k a ++ ids k b) x) lacks
 
-  -- so does the parent of each stop but a boarding area
-  lower : (v : Stop) → In v b.stops → (v.location_type == 4) ≡ false → option_map (within 1) v.parent_station ≡ option_map (within 2) v.parent_station
-  lower v i other = by v.parent_station refl
-    where
-      by : (o : Option (List ℕ)) → v.parent_station ≡ o → option_map (within 1) o ≡ option_map (within 2) o
-      by None e = refl
-      by (Some s) e =
-          let right = ap (has_right_parent b v.location_type) (sym e) ∙ sound-parent b sound_b v i in
-          ap Some (station-named s (ap (λ c. is_stop_of b ((if c then 0 else 1) ∷ []) s) (sym other) ∙ right-parent b v.location_type s right))
+  pub gets-free : (k : Kind) (x : List ℕ) → has_id (ids k b) x ≡ true → (is_nameless k x && not (is_joined near k a b x)) ≡ false → has_id (ids k a) (renaming (names_b near a b) k x) ≡ false → has_id (ids k a) x ≡ true
+      → renaming (names_b near a b) k x ≡ free_id (ids k a ++ ids k b) x
+  gets-free k x h e none has =
+      let r = ruled k x h e none in
+      r.1 ∙ unjoined (ids k a) (ids k b) r.0 x has (ap (has_id (ids k a)) (sym r.1) ∙ none)
 
-  not-boarding : (c : Bool) (t : ℕ) → t ≡ (if c then 0 else 1) → (t == 4) ≡ false
-  not-boarding true t e = ap (λ n. n == 4) e
-  not-boarding false t e = ap (λ n. n == 4) e
+-- an empty id is that of an agency
+pub nameless-there : (p : Parts) (k : Kind) (x : List ℕ) → is_nameless k x ≡ true → has_id (known_ids k p) x ≡ true → has_id (known_ids kind.Agency p) [] ≡ true
+nameless-there p kind.Agency x e h = ap (has_id (known_ids kind.Agency p)) (sym (no-text x e)) ∙ h
+nameless-there p kind.Stop x e h = absurd (true≢false (sym e))
+nameless-there p kind.Route x e h = absurd (true≢false (sym e))
+nameless-there p kind.Service x e h = absurd (true≢false (sym e))
+nameless-there p kind.Trip x e h = absurd (true≢false (sym e))
 
-  parents-named : (y : Stop) → In y b.stops → option_map (within 2) y.parent_station ≡ option_map (within 3) y.parent_station
-  parents-named y i = by y.parent_station refl
-    where
-      by : (o : Option (List ℕ)) → y.parent_station ≡ o → option_map (within 2) o ≡ option_map (within 3) o
-      by None e = refl
-      by (Some p) e =
-          let right = ap (has_right_parent b y.location_type) (sym e) ∙ sound-parent b sound_b y i in
-          let v = of_type-found b ((if y.location_type == 4 then 0 else 1) ∷ []) p (right-parent b y.location_type p right) in
-          let there = (found_id stop_id_of b.stops p v.0 v.1).0 in
-          let below = lower v.0 there (not-boarding (y.location_type == 4) v.0.location_type (of-type _ v.0.location_type v.2)) in
-          ap Some (under-same never_near never-nearness a b (sound-places a sound_a) (sound-places b sound_b) few (within 1) (within 2) p v.0 v.1 below)
+pub nameless-name : (near : Nearness) (a b : Content) (k : Kind) (x : List ℕ) → is_nameless k x ≡ true → agency_b a b [] ≡ renaming (names_b near a b) k x
+nameless-name near a b kind.Agency x e = ap (agency_b a b) (sym (no-text x e))
+nameless-name near a b kind.Stop x e = absurd (true≢false (sym e))
+nameless-name near a b kind.Route x e = absurd (true≢false (sym e))
+nameless-name near a b kind.Service x e = absurd (true≢false (sym e))
+nameless-name near a b kind.Trip x e = absurd (true≢false (sym e))
 
-  pub stop-rule : (x : List ℕ) → has_id (ids kind.Stop b) x ≡ true → stop_b never_near a b x ≡ renamed_b (ids kind.Stop a) (ids kind.Stop b) (joined_stop never_near a b) x
-  stop-rule x h =
-      let y = found stop_id_of b.stops x h in
-      let there = (found_id stop_id_of b.stops x y.0 y.1).0 in
-      let same = joined-same never_near never-nearness a b (sound-places a sound_a) (sound-places b sound_b) few (within 2) (within 3) x y.0 y.1 (parents-named y.0 there) in
-      stop-ruled (within 2) a b few x ∙ (λ i. if not (has_id (ids kind.Stop a) x) || same i then x else free_id (ids kind.Stop a ++ ids kind.Stop b) x)
-
-  -- ---- B
-
-  pub rule-b : (k : Kind) (x : List ℕ) → has_id (ids k b) x ≡ true → (is_nameless k x && not (is_joined never_near k a b x)) ≡ false
-      → renaming (names_b never_near a b) k x ≡ renamed_b (ids k a) (ids k b) (is_joined never_near k a b) x
-  rule-b kind.Agency x h e = ap (λ c. if c then free_id (if has_id (ids kind.Agency a) [] then (ids kind.Agency a ++ ids kind.Agency b) ++ agency_a a b [] ∷ [] else ids kind.Agency a ++ ids kind.Agency b) (codes "agency") else renamed_b (ids kind.Agency a) (ids kind.Agency b) (joined_agency a b) x) e
-  rule-b kind.Stop x h e = stop-rule x h
-  rule-b kind.Route x h e = refl
-  rule-b kind.Service x h e = refl
-  rule-b kind.Trip x h e = refl
-
-  pub stays-lacking : (k : Kind) (x : List ℕ) → has_id (ids k b) x ≡ true → (is_nameless k x && not (is_joined never_near k a b x)) ≡ false → has_id (ids k a) x ≡ false → renaming (names_b never_near a b) k x ≡ x
-  stays-lacking k x h e lacks = rule-b k x h e ∙ ap (λ c. if not c || is_joined never_near k a b x then x else free_id (ids k a ++ ids k b) x) lacks
-
-  pub gets-free : (k : Kind) (x : List ℕ) → has_id (ids k b) x ≡ true → (is_nameless k x && not (is_joined never_near k a b x)) ≡ false → has_id (ids k a) x ≡ true → is_joined never_near k a b x ≡ false → renaming (names_b never_near a b) k x ≡ free_id (ids k a ++ ids k b) x
-  gets-free k x h e has apart = rule-b k x h e ∙ (λ i. if not (has i) || apart i then x else free_id (ids k a ++ ids k b) x)
+-- it is not joined where it becomes none of A
+pub nameless-apart : (near : Nearness) (a b : Content) → IsSound a → ((k : Kind) → length (ids k a) + length (ids k b) < 2 ^ 65) → (k : Kind) (x : List ℕ) → is_nameless k x ≡ true → has_id (ids k a) (renaming (names_b near a b) k x) ≡ false
+    → joined_agency a b [] ≡ false
+nameless-apart near a b sound_a few kind.Agency x e none = false_from_ne_true (joined_agency a b []) (λ j.
+    let stays = agency-stays_b a b sound_a (few kind.Agency) [] j in
+    true≢false (sym (joined-has near kind.Agency a b [] j).0 ∙ ap (has_id (ids kind.Agency a)) (sym stays ∙ ap (agency_b a b) (sym (no-text x e))) ∙ none))
+nameless-apart near a b sound_a few kind.Stop x e none = absurd (true≢false (sym e))
+nameless-apart near a b sound_a few kind.Route x e none = absurd (true≢false (sym e))
+nameless-apart near a b sound_a few kind.Service x e none = absurd (true≢false (sym e))
+nameless-apart near a b sound_a few kind.Trip x e none = absurd (true≢false (sym e))
 
 -- ---- an agency of B without an id
 

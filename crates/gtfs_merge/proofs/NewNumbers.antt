@@ -8,21 +8,20 @@ use Rattle.std.proofs.lemmas.List.Quantifiers.{position-Some}
 use Rattle.gtfs_columns.proofs.SiteFacts.{text_is as same_bytes}
 use Rattle.gtfs_rows.specs.Views.{IsSoundParts, content_of_parts, text_of_number}
 use Rattle.gtfs_rows.proofs.SameElements.{contains-filter, contains-from_map, contains-map, same-from_permutation}
-use Rattle.gtfs_merge.specs.Joined.{joined_number, joined_rows, number_if, of_kind}
 use Rattle.gtfs_merge.specs.MergedKinds.{AreMergedRows}
 use Rattle.gtfs_merge.specs.Numbered.{known_ids}
 use Rattle.gtfs_merge.specs.Order.{Entry, entry_of, is_apart, rows_of_a, rows_of_b}
-use Rattle.gtfs_merge.specs.Renaming.{has_id, ids, is_joined, renaming}
+use Rattle.gtfs_merge.specs.Renaming.{has_id, ids, renaming}
 use Rattle.gtfs_merge.specs.Renumbered.{AreNewNumbers, AreNumbered, AreRenumbered, IsIndexOf, NewNumbers, number_or, numbers_of}
 use Rattle.gtfs_merge.specs.Sides.{side_parts, nearness_of, side_names, merged_ids}
+use Rattle.gtfs_merge.specs.Twins.{of_kind, twin_number, twin_rows}
 use Rattle.gtfs_merge.specs.declared.kind.Kind.{Kind}
 use Rattle.gtfs_merge.specs.declared.kind.Side.{Side}
 use Rattle.gtfs_merge.specs.declared.kind.Side.TheVariants as side
 use Rattle.gtfs_merge.specs.declared.sides.Sides.{Sides}
-use Rattle.gtfs_merge.proofs.JoinedIds.{joined-has, number-tells, of-kind}
-use Rattle.gtfs_merge.proofs.JoinedKinds.{ids-known}
+use Rattle.gtfs_merge.proofs.JoinedIds.{of-kind, twin-at}
 use Rattle.gtfs_merge.proofs.MergedOrder.{range-has}
-use Rattle.gtfs_merge.proofs.MergesOfKinds.{joined-name}
+use Rattle.gtfs_merge.proofs.MergesOfKinds.{has-twin, twin-stays}
 
 -- lists that agree at each index under both functions
 maps-alike : {X Y Z : Type 0} (f : X → Z) (g : Y → Z) (xs : List X) (ys : List Y) (x : X) (y : Y) → length xs ≡ length ys → ((k : ℕ) → k < length ys → f (get_or xs k x) ≡ g (get_or ys k y)) → map f xs ≡ map g ys
@@ -32,11 +31,6 @@ maps-alike f g (u ∷ xs) [] x y long each = absurd (omega (arith, long))
 maps-alike f g (u ∷ xs) (v ∷ ys) x y long each =
     let rest : length xs ≡ length ys = omega (arith, long) in
     λ i. each 0 (omega arith) i ∷ maps-alike f g xs ys x y rest (λ k within. each (suc k) (omega arith)) i
-
--- a joined row and its number
-pub number-some : (joined : Bool) (xs : List (List ℕ)) (x : List ℕ) (n : ℕ) → number_if joined xs x ≡ Some n → (joined ≡ true) × (position (bytes_eq x) xs ≡ Some n)
-number-some true xs x n e = (refl, e)
-number-some false xs x n e = cc
 
 module _ (k : Kind) (sides : Sides) (es : List Entry) (rows : AreMergedRows k sides es) where
   abbrev merged : List (List ℕ)
@@ -101,48 +95,43 @@ module _ (k : Kind) (sides : Sides) (es : List Entry) (rows : AreMergedRows k si
       get_or_same (x ∷ xs) (suc m) c d within = get_or_same xs m c d (omega arith)
 
   module _ (sound_a : IsSoundParts sides.a.now) (sound_b : IsSoundParts sides.b.now) (few : (k : Kind) → length (ids k (content_of_parts sides.a.now)) + length (ids k (content_of_parts sides.b.now)) < 2 ^ 65) where
-    abbrev joined_of : ℕ → Option ℕ
-    joined_of m = joined_number k sides (get_or (known_ids k sides.b.now) m [])
+    abbrev twin_of : ℕ → Option ℕ
+    twin_of m = twin_number k sides (get_or (known_ids k sides.b.now) m [])
 
-    -- what is told of a row of B, joined or not
-    new-b : (old new : NewNumbers) → AreNumbered es old es → (m : ℕ) → m < length (known_ids k sides.b.now) → (o : Option ℕ) → joined_of m ≡ o → get_or new.b m 0 ≡ number_or old.a o (get_or old.b m 0) → IsNew side.B m (get_or new.b m 0)
-    new-b old new are m within None none is =
-        let x = get_or (known_ids k sides.b.now) m [] in
-        let apart : is_joined (nearness_of sides) k (content_of_parts sides.a.now) (content_of_parts sides.b.now) x ≡ false =
-        sym (number-tells (is_joined (nearness_of sides) k (content_of_parts sides.a.now) (content_of_parts sides.b.now) x) (known_ids k sides.a.now) x
-        (λ j. subst (λ xs. has_id xs x ≡ true) (ids-known k sides.a.now sound_a) (joined-has (nearness_of sides) k (content_of_parts sides.a.now) (content_of_parts sides.b.now) x j).0)) ∙ ap is_some none in
-        subst (IsNew side.B m) (sym is) (new-at old are side.B m (has-b m within (ap not apart)))
+    -- what is told of a row of B, with a twin or without
+    new-b : (old new : NewNumbers) → AreNumbered es old es → (m : ℕ) → m < length (known_ids k sides.b.now) → (o : Option ℕ) → twin_of m ≡ o → get_or new.b m 0 ≡ number_or old.a o (get_or old.b m 0) → IsNew side.B m (get_or new.b m 0)
+    new-b old new are m within None none is = subst (IsNew side.B m) (sym is) (new-at old are side.B m (has-b m within (ap (λ o. not (is_some o)) none)))
     new-b old new are m within (Some first) some is =
         let x = get_or (known_ids k sides.b.now) m [] in
-        let j = number-some (is_joined (nearness_of sides) k (content_of_parts sides.a.now) (content_of_parts sides.b.now) x) (known_ids k sides.a.now) x first some in
-        let there = position-Some (bytes_eq x) (known_ids k sides.a.now) first [] j.1 in
-        let same : x ≡ get_or (known_ids k sides.a.now) first [] = same_bytes x (get_or (known_ids k sides.a.now) first []) there.1 in
+        let name = renaming (side_names side.B sides) k x in
+        let there = position-Some (bytes_eq name) (known_ids k sides.a.now) first [] some in
+        let same : name ≡ get_or (known_ids k sides.a.now) first [] = same_bytes name (get_or (known_ids k sides.a.now) first []) there.1 in
+        let has : has_id (ids k (content_of_parts sides.a.now)) name ≡ true = sym (has-twin sides sound_a sound_b few k x) ∙ ap is_some some in
         let of_a = new-at old are side.A first (has-a first there.0) in
         record {
           within = subst (λ n. n < length merged) (sym is) of_a.within;
-          is = ap (text_of_number merged) is ∙ of_a.is ∙ ap (renaming (side_names side.A sides) k) (sym same) ∙ joined-name sides sound_a sound_b few k x j.0;
+          is = ap (text_of_number merged) is ∙ of_a.is ∙ ap (renaming (side_names side.A sides) k) (sym same) ∙ twin-stays sides sound_a sound_b few k x has;
         }
 
     pub renumbered : (old new : NewNumbers) → AreNumbered es old es → length old.a ≡ length (known_ids k sides.a.now) → length old.b ≡ length (known_ids k sides.b.now) → new.a ≡ old.a → length new.b ≡ length old.b
-        → ((m : ℕ) → m < length old.b → get_or new.b m 0 ≡ number_or old.a (get_or (of_kind (joined_rows sides) k) m None) (get_or old.b m 0)) → AreRenumbered k sides new
+        → ((m : ℕ) → m < length old.b → get_or new.b m 0 ≡ number_or old.a (get_or (of_kind (twin_rows sides) k) m None) (get_or old.b m 0)) → AreRenumbered k sides new
     renumbered old new are long_a long_b kept count each side.A =
         are-new side.A new.a (ap length kept ∙ long_a) (λ m within. subst (λ (xs : List ℕ). IsNew side.A m (get_or xs m 0)) (sym kept) (new-at old are side.A m (has-a m within)))
     renumbered old new are long_a long_b kept count each side.B =
         are-new side.B new.b (count ∙ long_b) (λ m within.
-        let told : get_or (of_kind (joined_rows sides) k) m None ≡ joined_of m = ap (λ xs. get_or xs m None) (of-kind sides k) ∙ get_or-map (joined_number k sides) (known_ids k sides.b.now) m [] None within in
-        new-b old new are m within (joined_of m) refl (each m (omega (arith, within, long_b)) ∙ ap (λ o. number_or old.a o (get_or old.b m 0)) told))
+        new-b old new are m within (twin_of m) refl (each m (omega (arith, within, long_b)) ∙ ap (λ o. number_or old.a o (get_or old.b m 0)) (twin-at sides k m within)))
 
--- the rows of A that rows of B are joined with are there
-pub joined-within : (k : Kind) (sides : Sides) → All (λ o. IfSome o (λ n. n < length (known_ids k sides.a.now))) (of_kind (joined_rows sides) k)
-joined-within k sides = subst (All (λ o. IfSome o (λ n. n < length (known_ids k sides.a.now)))) (sym (of-kind sides k)) (each (known_ids k sides.b.now))
+-- the twins of rows of B are there
+pub twins-within : (k : Kind) (sides : Sides) → All (λ o. IfSome o (λ n. n < length (known_ids k sides.a.now))) (of_kind (twin_rows sides) k)
+twins-within k sides = subst (All (λ o. IfSome o (λ n. n < length (known_ids k sides.a.now)))) (sym (of-kind sides k)) (each (known_ids k sides.b.now))
   where
-    some : (x : List ℕ) (o : Option ℕ) → joined_number k sides x ≡ o → IfSome o (λ n. n < length (known_ids k sides.a.now))
+    some : (x : List ℕ) (o : Option ℕ) → twin_number k sides x ≡ o → IfSome o (λ n. n < length (known_ids k sides.a.now))
     some x None e = tt
-    some x (Some n) e = (position-Some (bytes_eq x) (known_ids k sides.a.now) n [] (number-some (is_joined (nearness_of sides) k (content_of_parts sides.a.now) (content_of_parts sides.b.now) x) (known_ids k sides.a.now) x n e).1).0
+    some x (Some n) e = (position-Some (bytes_eq (renaming (side_names side.B sides) k x)) (known_ids k sides.a.now) n [] e).0
 
-    each : (xs : List (List ℕ)) → All (λ o. IfSome o (λ n. n < length (known_ids k sides.a.now))) (map (joined_number k sides) xs)
+    each : (xs : List (List ℕ)) → All (λ o. IfSome o (λ n. n < length (known_ids k sides.a.now))) (map (twin_number k sides) xs)
     each [] m d within = absurd (omega arith)
-    each (x ∷ xs) zero d within = some x (joined_number k sides x) refl
+    each (x ∷ xs) zero d within = some x (twin_number k sides x) refl
     each (x ∷ xs) (suc m) d within = each xs m d (omega arith)
 
 -- the number of an entry is that of a row of its side

@@ -10,7 +10,8 @@ use Rattle.gtfs_rows.specs.Places.{is_plain_stop}
 use Rattle.gtfs_merge.specs.Same.{same_stop}
 use Rattle.gtfs_merge.specs.Renaming.{Renaming, Nearness, never_near, kept_as_is, has_id, ids, free_id, stop_with, joined_stop_under, near_stop_under, stop_under, stop_within, stop_b, renamed_b}
 use Rattle.gtfs_merge.specs.Merged.{merged}
-use Rattle.gtfs_merge.specs.Near.{near_by, are_close, nearness, same_given_name}
+use Rattle.gtfs_nearby.specs.Near.{are_close, same_given_name}
+use Rattle.gtfs_merge.specs.Near.{near_by, nearness}
 use Rattle.gtfs_merge.specs.declared.kind.Kind.TheVariants as kind
 pub use Rattle.gtfs_merge.specs.Law.{IsNearness}
 use Rattle.gtfs_merge.proofs.Lookups.{bytes_same, In, In-list_any, find-In, holds_at, look, IsKeyed}
@@ -58,7 +59,7 @@ module _ (near : Nearness) (nearness : IsNearness near) (a b : Content) (places_
     pub joined-same : joined_stop_under r a b x ≡ joined_stop_under s a b x
     joined-same = joined-is r ∙ (λ i. list_any (λ row. bytes_eq row.stop_id x && same_stop row (record y { parent_station = p i })) a.stops) ∙ sym (joined-is s)
 
-    near-same : near_stop_under near r a b x ≡ near_stop_under near s a b x
+    pub near-same : near_stop_under near r a b x ≡ near_stop_under near s a b x
     near-same = ap (option_and_then (λ y. option_map stop_id_of (find (near r y) a.stops))) e
         ∙ (λ i. option_map stop_id_of (find (λ z. nearness.reads_parent r s y z p i) a.stops))
         ∙ sym (ap (option_and_then (λ y. option_map stop_id_of (find (near s y) a.stops))) e)

@@ -19,3 +19,4 @@ pub mod Same
 pub mod Sides
 pub mod Transfers
 pub mod TripRows
+pub mod Twins

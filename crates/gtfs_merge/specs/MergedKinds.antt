@@ -44,7 +44,7 @@ RowsFrom kind.Route sides es = map Some (merged_parts sides).routes ≡ map (rou
 RowsFrom kind.Service sides es = map Some (merged_parts sides).services ≡ map (service_from sides) es
 RowsFrom kind.Trip sides es = map Some (merged_parts sides).trips ≡ map (trip_from sides) es
 
--- all rows of A and those of B that are not joined, by their new ids, which are those of the merged content
+-- all rows of A and those of B that have no twin, by their new ids, which are those of the merged content
 pub record AreMergedRows (k : Kind) (sides : Sides) (es : List Entry) : Type 0 where
   pub same : IsPermutation (rows_of_a k sides ++ rows_of_b k sides) es
   pub ascend : Ascends (on (λ e. e.id) text_cmp) es

@@ -1,15 +1,17 @@
 -- What a merge answers.
-use Rattle.std.specs.Prelude.{◌≡◌, ℕ, true, false, List}
+use Rattle.std.specs.Prelude.{◌≡◌, ℕ, true, false, List, Option}
 use Rattle.gtfs_feed.specs.Content.{content_of}
 use Rattle.gtfs_rows.specs.Content.{Content}
 use Rattle.gtfs_merge.specs.Departures.{HasBoards, HasUnion}
 use Rattle.gtfs_merge.specs.Law.{SharesExactly}
 use Rattle.gtfs_times.specs.declared.times.Times.{Times}
 use Rattle.gtfs_merge.specs.Merged.{is_too_large, merged, zones_differ}
-use Rattle.gtfs_merge.specs.Names.{AllNames, AreApart, MeetWhereJoined, in_kind, new_id, of_side}
-use Rattle.gtfs_merge.specs.Renaming.{ids, joined_ids, name_of, names_a, names_b, never_near}
+use Rattle.gtfs_merge.specs.Names.{AllNames, AreApart, MeetWhereJoined, in_kind, may_meet, new_id, of_side}
+use Rattle.gtfs_merge.specs.Near.{near_pairs, nearness}
+use Rattle.gtfs_merge.specs.Renaming.{ids, joined_ids, name_of, names_a, names_b}
 use Rattle.gtfs_merge.specs.declared.kind.Kind.{Kind}
 use Rattle.gtfs_merge.specs.declared.kind.Side.{Side}
+use Rattle.gtfs_merge.specs.declared.kind.Side.TheVariants as side
 use Rattle.gtfs_merge.specs.declared.merging.Merged.{Merged}
 use Rattle.gtfs_merge.specs.declared.merging.MergeFault.{MergeFault}
 use Rattle.gtfs_merge.specs.declared.merging.MergeFault.TheVariants as fault
@@ -18,31 +20,32 @@ use Rattle.gtfs_merge.specs.declared.merging.MergeFault.TheVariants as fault
 abbrev pub default_file_limit : ℕ
 default_file_limit = 1_073_741_824
 
--- the ids of both feeds by their bytes, as those of a content stand, what each became, and the joined ids
-pub record AreNamesOf (first second : Content) (names : AllNames) : Type 0 where
+-- the ids of both feeds by their bytes, as those of a content stand, what each became, the joined ids, and the near stops
+pub record AreNamesOf (distance : Option ℕ) (first second : Content) (names : AllNames) : Type 0 where
   pub ids_a : (k : Kind) → (in_kind names k).a.ids ≡ ids k first
   pub ids_b : (k : Kind) → (in_kind names k).b.ids ≡ ids k second
   pub a : (k : Kind) (id : List ℕ) → new_id (in_kind names k).a id ≡ name_of (names_a first second) k first id
-  pub b : (k : Kind) (id : List ℕ) → new_id (in_kind names k).b id ≡ name_of (names_b never_near first second) k second id
-  pub apart : (k : Kind) (s : Side) → AreApart (of_side (in_kind names k) s)
-  pub across : (k : Kind) → MeetWhereJoined (in_kind names k)
-  pub joined : (k : Kind) → (in_kind names k).joined ≡ joined_ids never_near k first second
+  pub b : (k : Kind) (id : List ℕ) → new_id (in_kind names k).b id ≡ name_of (names_b (nearness distance) first second) k second id
+  pub apart : (k : Kind) (s : Side) → may_meet distance k s ≡ false → AreApart (of_side (in_kind names k) s)
+  pub across : (k : Kind) → may_meet distance k side.B ≡ false → MeetWhereJoined (in_kind names k)
+  pub joined : (k : Kind) → (in_kind names k).joined ≡ joined_ids (nearness distance) k first second
+  pub near : names.near ≡ near_pairs (nearness distance) first second
 
 -- the merged feed: both feeds have one zone, and no written file is longer than the limit
-pub record IsMergeOf (a b : Content) (limit : ℕ) (m : Merged) : Type 0 where
+pub record IsMergeOf (near : Option ℕ) (a b : Content) (limit : ℕ) (m : Merged) : Type 0 where
   pub zone : zones_differ a b ≡ false
-  pub small : is_too_large limit (merged never_near a b) ≡ false
-  pub content : content_of m.feed ≡ merged never_near a b
-  pub names : AreNamesOf a b m.names
+  pub small : is_too_large limit (merged (nearness near) a b) ≡ false
+  pub content : content_of m.feed ≡ merged (nearness near) a b
+  pub names : AreNamesOf near a b m.names
 
 -- why two feeds are not merged; zones are judged first
-abbrev pub IsRefusal : Content → Content → ℕ → MergeFault → Type 0
-IsRefusal a b limit fault.ZoneDiffers = zones_differ a b ≡ true
-IsRefusal a b limit fault.TooLarge = (zones_differ a b ≡ false) × (is_too_large limit (merged never_near a b) ≡ true)
-IsRefusal a b limit fault.OutOfMemory = zones_differ a b ≡ false
+abbrev pub IsRefusal : Option ℕ → Content → Content → ℕ → MergeFault → Type 0
+IsRefusal near a b limit fault.ZoneDiffers = zones_differ a b ≡ true
+IsRefusal near a b limit fault.TooLarge = (zones_differ a b ≡ false) × (is_too_large limit (merged (nearness near) a b) ≡ true)
+IsRefusal near a b limit fault.OutOfMemory = zones_differ a b ≡ false
 
 -- what the merged content keeps, with times as given and with times filled: every departure of both feeds, and every board
-pub record KeepsDepartures (a b : Content) : Type 0 where
-  pub union : (times : Times) → HasUnion times never_near a b
-  pub shares : (times : Times) → SharesExactly times never_near a b
-  pub boards : (times : Times) → HasBoards times never_near a b
+pub record KeepsDepartures (near : Option ℕ) (a b : Content) : Type 0 where
+  pub union : (times : Times) → HasUnion times (nearness near) a b
+  pub shares : (times : Times) → SharesExactly times (nearness near) a b
+  pub boards : (times : Times) → HasBoards times (nearness near) a b

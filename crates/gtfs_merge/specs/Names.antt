@@ -1,5 +1,6 @@
 -- What ids became.
-use Rattle.std.specs.Prelude.{◌≡◌, ℕ, ◌==◌, Bool, true, false, List, ◌∷◌, ◌++◌, [], length, map, bytes_eq, position, slice_get, Option, Some, option_and_then}
+use Rattle.std.specs.Prelude.{◌≡◌, ℕ, ◌==◌, Bool, true, false, List, ◌∷◌, ◌++◌, [], length, map, bytes_eq, position, slice_get, Option, Some, String, option_and_then, is_some, string_bytes}
+use Rattle.gtfs_merge.specs.Near.{near_pairs}
 use Rattle.gtfs_merge.specs.Numbered.{known_ids}
 use Rattle.gtfs_merge.specs.Renaming.{Renaming, has_id, joined_ids, renaming}
 use Rattle.gtfs_merge.specs.Sides.{content_a, content_b, nearness_of, side_names}
@@ -49,6 +50,8 @@ pub record AllNames : Type 0 where
   pub routes : NamesOfKind
   pub services : NamesOfKind
   pub trips : NamesOfKind
+  -- the near stops of B, with those of A that they are near
+  pub near : List (List ℕ × List ℕ)
 
 abbrev pub in_kind : AllNames → Kind → NamesOfKind
 in_kind n kind.Agency = n.agencies
@@ -72,6 +75,24 @@ kind_names k sides = record {
   joined = joined_ids (nearness_of sides) k (content_a sides) (content_b sides);
 }
 
+-- with near stops two stops of B may become one, and a stop of B one that A has under another id
+abbrev pub may_meet : Option ℕ → Kind → Side → Bool
+may_meet near k side.A = false
+may_meet near kind.Agency side.B = false
+may_meet near kind.Stop side.B = is_some near
+may_meet near kind.Route side.B = false
+may_meet near kind.Service side.B = false
+may_meet near kind.Trip side.B = false
+
 -- the names of two feeds, of each kind
 abbrev pub AreKindNames : Sides → AllNames → Type 0
 AreKindNames sides n = (k : Kind) → in_kind n k ≡ kind_names k sides
+
+-- what a pair of texts stands for
+abbrev pub pair_value : {Y : Type 0} → String Y × String Y → List ℕ × List ℕ
+pair_value p = (string_bytes p.0, string_bytes p.1)
+
+-- the names of each kind, and the near stops
+pub record ArePairedNames (sides : Sides) (n : AllNames) : Type 0 where
+  pub kinds : AreKindNames sides n
+  pub near : n.near ≡ near_pairs (nearness_of sides) (content_a sides) (content_b sides)

@@ -1,20 +1,12 @@
 -- Stops of two feeds that lie close together become one.
 -- The rule is this project's.
-use Rattle.std.specs.Prelude.{ℕ, ◌*◌, ◌==◌, ◌&&◌, Bool, false, if◌then◌else◌, nat_le, List, [], ◌++◌, length, filter_map, bytes_eq, codes, decimal, option_map, unsigned_abs, ◌-ℤ◌, ℤ, Option, Some, None, is_some}
+use Rattle.std.specs.Prelude.{ℕ, ◌==◌, ◌&&◌, if◌then◌else◌, List, [], ◌++◌, length, filter_map, bytes_eq, codes, decimal, option_map, Option, Some, None}
 use Rattle.std.specs.Option.{option_eq}
+use Rattle.gtfs_nearby.specs.Near.{are_close, same_given_name}
 use Rattle.gtfs_rows.specs.Content.{Content}
 use Rattle.gtfs_rows.specs.Rows.{Stop}
 use Rattle.gtfs_merge.specs.Renaming.{Nearness, joined_stop, near_stop_under, never_near, stop_b}
 use Rattle.gtfs_merge.specs.Report.{merge_report}
-
--- both coordinates are there and differ by at most n millionths of a degree, which are a thousand units each
-abbrev pub are_close : ℕ → Option ℤ → Option ℤ → Bool
-are_close n None y = false
-are_close n (Some x) None = false
-are_close n (Some x) (Some y) = nat_le (unsigned_abs (x -ℤ y)) (n * 1000)
-
-abbrev pub same_given_name : Option (List ℕ) → Option (List ℕ) → Bool
-same_given_name a b = is_some a && option_eq bytes_eq a b
 
 -- a stop of B is near a stop of A: of one type, name and parent, and close
 abbrev pub near_by : ℕ → Nearness

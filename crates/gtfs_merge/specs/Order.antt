@@ -1,10 +1,11 @@
 -- The rows of a merged feed of one kind under their new ids, and the order in which they stand.
-use Rattle.std.specs.Prelude.{ℕ, Bool, not, List, length, map, filter, string_bytes}
+use Rattle.std.specs.Prelude.{ℕ, Bool, not, is_some, List, length, map, filter, string_bytes}
 use Rattle.std.specs.List.{range_with_len}
 use Rattle.gtfs_rows.specs.Views.{text_of_number}
 use Rattle.gtfs_merge.specs.Numbered.{known_ids}
 use Rattle.gtfs_merge.specs.Renaming.{renaming}
-use Rattle.gtfs_merge.specs.Sides.{side_parts, side_names, is_joined_id}
+use Rattle.gtfs_merge.specs.Sides.{side_parts, side_names}
+use Rattle.gtfs_merge.specs.Twins.{twin_number}
 use Rattle.gtfs_merge.specs.declared.kind.Kind.{Kind}
 use Rattle.gtfs_merge.specs.declared.kind.Side.{Side}
 use Rattle.gtfs_merge.specs.declared.kind.Side.TheVariants as side
@@ -28,9 +29,9 @@ entry_of s k sides n = record {
   number = n;
 }
 
--- the row of this number of B is not joined
+-- the row of this number of B has no twin
 abbrev pub is_apart : Kind → Sides → ℕ → Bool
-is_apart k sides n = not (is_joined_id k sides (text_of_number (known_ids k sides.b.now) n))
+is_apart k sides n = not (is_some (twin_number k sides (text_of_number (known_ids k sides.b.now) n)))
 
 abbrev pub rows_of_a : Kind → Sides → List Entry
 rows_of_a k sides = map (entry_of side.A k sides) (range_with_len 0 (length (known_ids k sides.a.now)))

@@ -43,7 +43,7 @@ pub record IsIndexOf (all : List Entry) (e : Entry) (index : ℕ) : Type 0 where
 abbrev pub AreNumbered : List Entry → NewNumbers → List Entry → Type 0
 AreNumbered all n es = All (λ e. IsIndexOf all e (slice_index_or (numbers_of n e.side) e.number 0)) es
 
--- the new number of a row of B: that of the row of A that it is joined with, else its own
+-- the new number of a row of B: that of its twin, else its own
 abbrev pub number_or : List ℕ → Option ℕ → ℕ → ℕ
 number_or numbers None own = own
 number_or numbers (Some first) own = slice_index_or numbers first 0

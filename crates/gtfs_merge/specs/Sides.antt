@@ -1,10 +1,11 @@
--- Both feeds of a merge as their parts keep them, and the content that they make.
+-- Both feeds of a merge as their parts keep them, which stops are near, and the content that they make.
 use Rattle.std.specs.Prelude.{ℕ, Bool, List}
 use Rattle.gtfs_rows.specs.Content.{Content}
 use Rattle.gtfs_rows.specs.Views.{content_of_parts}
 use Rattle.gtfs_rows.specs.declared.parts.Parts.{Parts}
 use Rattle.gtfs_merge.specs.Merged.{merged}
-use Rattle.gtfs_merge.specs.Renaming.{Names, Nearness, ids, is_joined, names_a, names_b, never_near}
+use Rattle.gtfs_merge.specs.Near.{nearness}
+use Rattle.gtfs_merge.specs.Renaming.{Names, Nearness, ids, is_joined, names_a, names_b}
 use Rattle.gtfs_merge.specs.declared.kind.Kind.{Kind}
 use Rattle.gtfs_merge.specs.declared.kind.Side.{Side}
 use Rattle.gtfs_merge.specs.declared.kind.Side.TheVariants as side
@@ -25,7 +26,7 @@ content_b sides = content_of_parts sides.b.now
 
 -- which stops are near
 abbrev pub nearness_of : Sides → Nearness
-nearness_of sides = never_near
+nearness_of sides = nearness sides.near
 
 -- what the ids of a side become
 abbrev pub side_names : Side → Sides → Names

@@ -6,6 +6,7 @@ ghost use Rattle.gtfs_merge.specs.Joined.{joined_number, joined_numbers};
 ghost use Rattle.gtfs_merge.specs.Renaming.{kept_as_is, route_b, service_b, stop_b, trip_with};
 ghost use Rattle.gtfs_merge.specs.Same.{same_trip};
 ghost use Rattle.gtfs_merge.specs.Sides.{content_a, content_b, nearness_of};
+ghost use Rattle.gtfs_merge.specs.Twins.{twin_numbers};
 ghost use Rattle.gtfs_merge.specs.declared.kind.Kind.TheVariants as kind;
 
 use crate::same_rows::{are_same_frequencies, is_same_trip};
@@ -27,7 +28,7 @@ pub(crate) fn joined_trips(
         ≡ joined_numbers kind.Route sides.now }
     requires services { map (option_map (λ n. n.0)) services.now
         ≡ joined_numbers kind.Service sides.now }
-    requires stops { map (option_map (λ n. n.0)) stops.now ≡ joined_numbers kind.Stop sides.now }
+    requires stops { map (option_map (λ n. n.0)) stops.now ≡ twin_numbers kind.Stop sides.now }
     ensures { IfOk result (λ joined. map (option_map (λ n. n.0)) joined.items
         ≡ joined_numbers kind.Trip sides.now) }
 {
@@ -50,7 +51,7 @@ fn joined_trip(
         ≡ joined_numbers kind.Route sides.now }
     requires services { map (option_map (λ n. n.0)) services.now
         ≡ joined_numbers kind.Service sides.now }
-    requires stops { map (option_map (λ n. n.0)) stops.now ≡ joined_numbers kind.Stop sides.now }
+    requires stops { map (option_map (λ n. n.0)) stops.now ≡ twin_numbers kind.Stop sides.now }
     requires trip { trip.0 < length sides.now.b.now.trips }
     ensures { option_map (λ n. n.0) result
         ≡ joined_number kind.Trip sides.now (slice_index_or (trip_ids sides.now.b.now) trip.0 []) }
@@ -78,7 +79,7 @@ fn is_joined_trip(
         ≡ joined_numbers kind.Route sides.now }
     requires services { map (option_map (λ n. n.0)) services.now
         ≡ joined_numbers kind.Service sides.now }
-    requires stops { map (option_map (λ n. n.0)) stops.now ≡ joined_numbers kind.Stop sides.now }
+    requires stops { map (option_map (λ n. n.0)) stops.now ≡ twin_numbers kind.Stop sides.now }
     requires other { other.0 < length sides.now.a.now.trips }
     requires trip { trip.0 < length sides.now.b.now.trips }
     ensures { (s t : TripOf) → slice_get (content_a sides.now).trips other.0 ≡ Some s

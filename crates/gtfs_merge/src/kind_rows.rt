@@ -1,16 +1,16 @@
 ghost use Rattle.std.specs.Prelude.{◌≡◌, IfOk, map};
-ghost use Rattle.gtfs_merge.specs.Joined.{joined_rows};
 ghost use Rattle.gtfs_merge.specs.KindRows.{AreKindRows};
 ghost use Rattle.gtfs_merge.specs.Names.{AreKindNames};
 ghost use Rattle.gtfs_merge.specs.Order.{entry_value};
 ghost use Rattle.gtfs_merge.specs.Renumbered.{numbers_of};
+ghost use Rattle.gtfs_merge.specs.Twins.{twin_rows};
 
-use crate::joins::Joined;
 use crate::kind::{Kind, Side};
 use crate::names::Names;
 use crate::order::{MergedRow, merged_rows};
 use crate::renumbered::Numbers;
 use crate::sides::Sides;
+use crate::twins::Twins;
 use gtfs_field::OutOfMemory;
 use std::alloc::Global;
 use std::marker::Model;
@@ -46,16 +46,16 @@ impl KindRows {
     pub(crate) fn of_feeds(
         alloc: Global,
         sides: &Sides,
-        joined: &Joined,
+        twins: &Twins,
         names: &Names,
         kind: Kind,
     ) -> Result<KindRows, OutOfMemory>
-        requires joined { joined.now ≡ joined_rows sides.now }
+        requires twins { twins.now ≡ twin_rows sides.now }
         requires names { AreKindNames sides.now names.now }
         ensures { IfOk result (AreKindRows kind sides.now) }
     {
-        let rows = merged_rows(alloc, sides, joined, names, kind)?;
-        let numbers = Numbers::of_rows(alloc, sides, joined, kind, rows.as_slice())?;
+        let rows = merged_rows(alloc, sides, twins, names, kind)?;
+        let numbers = Numbers::of_rows(alloc, sides, twins, kind, rows.as_slice())?;
         Ok(KindRows { rows, numbers })
     }
 

@@ -8,8 +8,9 @@
 //!
 //! An id of the second feed stays where the first feed has no such id, or where both have the same row under it: such an
 //! id is *joined*. Rows are compared once their references are renamed, so a trip is joined with its stop times and its
-//! frequencies. Every other id of the second feed gets a new name. `specs/Renaming.antt` says which, `specs/Merged.antt`
-//! what the merged content is, and `specs/Report.antt` what is told of it.
+//! frequencies. Every other id of the second feed gets a new name. With [`Options::near`] a stop of the second feed that
+//! lies close to one of the first, and is alike, becomes that one. `specs/Renaming.antt` and `specs/Near.antt` say which,
+//! `specs/Merged.antt` what the merged content is, and `specs/Report.antt` what is told of it.
 #![tactic(auto)]
 
 mod copies;
@@ -17,9 +18,7 @@ mod headsigns;
 mod id_rows;
 mod joined;
 mod joined_routes;
-mod joined_stops;
 mod joined_trips;
-mod joins;
 mod kind;
 mod kind_rows;
 mod kinds;
@@ -47,6 +46,8 @@ mod same_services;
 mod same_stop_times;
 mod same_values;
 mod sides;
+mod stop_twins;
+mod twins;
 mod zones;
 
 pub use kind::{Kind, Side};

@@ -1,13 +1,13 @@
 ghost use Rattle.std.specs.Prelude.{◌≡◌, IfOk};
-ghost use Rattle.gtfs_merge.specs.Joined.{joined_rows};
 ghost use Rattle.gtfs_merge.specs.KindRows.{AreMergedKinds};
 ghost use Rattle.gtfs_merge.specs.Names.{AreKindNames};
+ghost use Rattle.gtfs_merge.specs.Twins.{twin_rows};
 
-use crate::joins::Joined;
 use crate::kind::Kind;
 use crate::kind_rows::KindRows;
 use crate::names::Names;
 use crate::sides::Sides;
+use crate::twins::Twins;
 use gtfs_field::OutOfMemory;
 use std::alloc::Global;
 use std::marker::Model;
@@ -53,18 +53,18 @@ impl MergedKinds {
     pub(crate) fn of_feeds(
         alloc: Global,
         sides: &Sides,
-        joined: &Joined,
+        twins: &Twins,
         names: &Names,
     ) -> Result<MergedKinds, OutOfMemory>
-        requires joined { joined.now ≡ joined_rows sides.now }
+        requires twins { twins.now ≡ twin_rows sides.now }
         requires names { AreKindNames sides.now names.now }
         ensures { IfOk result (AreMergedKinds sides.now) }
     {
-        let agencies = KindRows::of_feeds(alloc, sides, joined, names, Kind::Agency)?;
-        let stops = KindRows::of_feeds(alloc, sides, joined, names, Kind::Stop)?;
-        let routes = KindRows::of_feeds(alloc, sides, joined, names, Kind::Route)?;
-        let services = KindRows::of_feeds(alloc, sides, joined, names, Kind::Service)?;
-        let trips = KindRows::of_feeds(alloc, sides, joined, names, Kind::Trip)?;
+        let agencies = KindRows::of_feeds(alloc, sides, twins, names, Kind::Agency)?;
+        let stops = KindRows::of_feeds(alloc, sides, twins, names, Kind::Stop)?;
+        let routes = KindRows::of_feeds(alloc, sides, twins, names, Kind::Route)?;
+        let services = KindRows::of_feeds(alloc, sides, twins, names, Kind::Service)?;
+        let trips = KindRows::of_feeds(alloc, sides, twins, names, Kind::Trip)?;
         Ok(MergedKinds {
             agencies,
             stops,

@@ -1,20 +1,20 @@
 ghost use Rattle.std.specs.Prelude.{◌≡◌, IfOk, false};
 ghost use Rattle.gtfs_rows.specs.Views.{IsSoundParts, content_of_parts};
-ghost use Rattle.gtfs_merge.specs.Joined.{joined_rows};
 ghost use Rattle.gtfs_merge.specs.KindRows.{AreMergedKinds};
 ghost use Rattle.gtfs_merge.specs.Merged.{zones_differ};
 ghost use Rattle.gtfs_merge.specs.Names.{AreKindNames};
 ghost use Rattle.gtfs_merge.specs.Sides.{content_a, content_b, merged_parts};
+ghost use Rattle.gtfs_merge.specs.Twins.{twin_rows};
 
 use crate::headsigns::Headsigns;
 use crate::id_rows::IdRows;
-use crate::joins::Joined;
 use crate::merged_frequencies::merged_frequencies;
 use crate::merged_kinds::MergedKinds;
 use crate::merged_stop_times::merged_stop_times;
 use crate::merged_transfers::merged_transfers;
 use crate::names::Names;
 use crate::sides::Sides;
+use crate::twins::Twins;
 use gtfs_field::OutOfMemory;
 use gtfs_rows::Parts;
 use std::alloc::Global;
@@ -25,16 +25,16 @@ pub(crate) fn merged_parts(
     alloc: Global,
     random: RandomState,
     sides: &Sides,
-    joined: &Joined,
+    twins: &Twins,
     names: &Names,
 ) -> Result<Parts, OutOfMemory>
-    requires joined { joined.now ≡ joined_rows sides.now }
+    requires twins { twins.now ≡ twin_rows sides.now }
     requires names { AreKindNames sides.now names.now }
     requires zone { zones_differ (content_a sides.now) (content_b sides.now) ≡ false }
     ensures sound { IfOk result IsSoundParts }
     ensures content { IfOk result (λ parts. content_of_parts parts ≡ merged_parts sides.now) }
 {
-    let kinds = MergedKinds::of_feeds(alloc, sides, joined, names)?;
+    let kinds = MergedKinds::of_feeds(alloc, sides, twins, names)?;
     parts_of_kinds(alloc, random, sides, &kinds)
 }
 

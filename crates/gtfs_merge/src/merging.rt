@@ -1,13 +1,14 @@
-ghost use Rattle.std.specs.Prelude.{◌≡◌, IfErr, IfOk, false};
+ghost use Rattle.std.specs.Prelude.{◌≡◌, ◌≤◌, IfErr, IfOk, IfSome, false};
 ghost use Rattle.gtfs_feed.specs.Content.{content_of};
 ghost use Rattle.gtfs_merge.specs.Merged.{zones_differ};
 ghost use Rattle.gtfs_merge.specs.Merging.{AreNamesOf, IsMergeOf, IsRefusal, KeepsDepartures};
 ghost use Rattle.gtfs_merge.specs.Sides.{content_a, content_b, merged_parts};
+ghost use Rattle.gtfs_merge.specs.Twins.{};
 
-use crate::joins::Joined;
 use crate::merged_parts::merged_parts;
 use crate::names::Names;
 use crate::sides::Sides;
+use crate::twins::Twins;
 use crate::zones::zones_differ;
 use gtfs_feed::Feed;
 use gtfs_field::OutOfMemory;
@@ -21,24 +22,28 @@ pub struct Options {
     /// How many bytes each file of the merged feed may have at most, as [`Feed::file_text`] gives it.
     /// Where nothing else is said, 1,073,741,824.
     pub file_limit: u64,
+    /// Up to how many millionths of a degree a stop of the second feed may lie from one of the first, in latitude and in
+    /// longitude, to become that stop: see [`Names::near`]. At most 2,147,483,647. Where nothing else is said, no stop does.
+    pub near: Option<u32>,
 }
 
 impl Default for Options {
-    ghost use Rattle.std.specs.Prelude.{◌≡◌};
+    ghost use Rattle.std.specs.Prelude.{◌≡◌, None};
     ghost use Rattle.gtfs_merge.specs.Merging.{default_file_limit};
 
-    ghost is_default = { λ options. options.file_limit ≡ default_file_limit };
+    ghost is_default = { λ options. (options.file_limit ≡ default_file_limit) × (options.near ≡ None) };
 
     fn default() -> Options {
         Options {
             file_limit: 1_073_741_824,
+            near: None,
         }
     }
 }
 
 /// Two feeds in one, and what their ids became.
 pub struct Merged {
-    /// The rows of both feeds under their new ids, those of joined ids once.
+    /// The rows of both feeds under their new ids, those of joined ids and of near stops once, as the first feed has them.
     pub feed: Feed,
     /// What the ids of both feeds became, and which are joined.
     pub names: Names,
@@ -78,7 +83,8 @@ impl From<OutOfMemory> for MergeFault {
 
 /// The two feeds in one: the rows of the first and then those of the second, each id and each key once, once the ids of
 /// both are what [`Names`] tells. Where both feeds have a transfer of one key, that of the first stays (GTFS Schedule
-/// Reference, primary key of `transfers.txt`).
+/// Reference, primary key of `transfers.txt`). With near stops two transfers of a feed may get one key; that with the
+/// lesser key in its own feed stays.
 ///
 /// Every departure of both feeds is one of the merged feed, that of a joined trip once, and nothing else is; the board of
 /// a stop lists what both feeds list of the stops that became it. The merged feed passes the validator. Both feeds are
@@ -95,15 +101,20 @@ pub fn merge(
     b: &Feed,
     options: &Options,
 ) -> Result<Merged, MergeFault>
+    requires near { IfSome options.now.near (λ n. n ≤ 2_147_483_647) }
     ensures merged { IfOk result
-        (IsMergeOf (content_of a.now) (content_of b.now) options.now.file_limit) }
+        (IsMergeOf options.now.near (content_of a.now) (content_of b.now) options.now.file_limit) }
     ensures refused { IfErr result
-        (IsRefusal (content_of a.now) (content_of b.now) options.now.file_limit) }
-    ensures departures { KeepsDepartures (content_of a.now) (content_of b.now) }
+        (IsRefusal options.now.near (content_of a.now) (content_of b.now) options.now.file_limit) }
+    ensures departures { KeepsDepartures options.now.near (content_of a.now) (content_of b.now) }
 {
-    let sides = Sides { a, b };
+    let sides = Sides {
+        a,
+        b,
+        near: options.near,
+    };
     sides.soundness();
-    judged(alloc, random, &sides, options)
+    judged(alloc, random, &sides, options.file_limit)
 }
 
 // The merged feed, or why there is none.
@@ -111,18 +122,18 @@ fn judged(
     alloc: Global,
     random: RandomState,
     sides: &Sides,
-    options: &Options,
+    file_limit: u64,
 ) -> Result<Merged, MergeFault>
     ensures merged { IfOk result
-        (IsMergeOf (content_a sides.now) (content_b sides.now) options.now.file_limit) }
+        (IsMergeOf sides.now.near (content_a sides.now) (content_b sides.now) file_limit) }
     ensures refused { IfErr result
-        (IsRefusal (content_a sides.now) (content_b sides.now) options.now.file_limit) }
+        (IsRefusal sides.now.near (content_a sides.now) (content_b sides.now) file_limit) }
 {
     if zones_differ(sides.a, sides.b) {
         return Err(MergeFault::ZoneDiffers);
     }
     let merged = merged_feed(alloc, random, sides)?;
-    let is_too_large = merged.feed.has_longer_file(alloc, options.file_limit)?;
+    let is_too_large = merged.feed.has_longer_file(alloc, file_limit)?;
     if is_too_large {
         return Err(MergeFault::TooLarge);
     }
@@ -133,11 +144,11 @@ fn judged(
 fn merged_feed(alloc: Global, random: RandomState, sides: &Sides) -> Result<Merged, OutOfMemory>
     requires { zones_differ (content_a sides.now) (content_b sides.now) ≡ false }
     ensures content { IfOk result (λ m. content_of m.feed ≡ merged_parts sides.now) }
-    ensures names { IfOk result (λ m. AreNamesOf (content_a sides.now) (content_b sides.now) m.names) }
+    ensures names { IfOk result (λ m. AreNamesOf sides.now.near (content_a sides.now) (content_b sides.now) m.names) }
 {
-    let joined = Joined::of_feeds(alloc, sides)?;
-    let names = Names::of_joined(alloc, random, sides, &joined)?;
-    let parts = merged_parts(alloc, random, sides, &joined, &names)?;
+    let twins = Twins::of_feeds(alloc, sides)?;
+    let names = Names::of_twins(alloc, random, sides, &twins)?;
+    let parts = merged_parts(alloc, random, sides, &twins, &names)?;
     let feed = Feed::assemble(alloc, random, parts)?;
     Ok(Merged { feed, names })
 }

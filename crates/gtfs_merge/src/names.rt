@@ -1,19 +1,19 @@
-ghost use Rattle.std.specs.Prelude.{◌≡◌, ◌<◌, ◌∷◌, ◌++◌, [], ℕ, List, IfOk, OnOk, filter, length, map, option_map, slice_index_or, string_bytes};
-ghost use Rattle.gtfs_merge.specs.Joined.{joined_rows};
-ghost use Rattle.gtfs_merge.specs.Names.{AreApart, AreKindNames, MeetWhereJoined, in_kind, kind_names, new_id, of_side};
-ghost use Rattle.gtfs_merge.specs.Renaming.{ids, joined_ids, name_of, names_a, names_b};
+ghost use Rattle.std.specs.Prelude.{◌≡◌, ◌<◌, ◌∷◌, ◌++◌, [], IfOk, OnOk, Some, filter, length, map, option_map, slice_index_or, string_bytes};
+ghost use Rattle.gtfs_merge.specs.Merging.{AreNamesOf};
+ghost use Rattle.gtfs_merge.specs.Names.{AreKindNames, ArePairedNames, in_kind, kind_names, new_id, of_side, pair_value};
+ghost use Rattle.gtfs_merge.specs.Near.{near_pairs};
+ghost use Rattle.gtfs_merge.specs.Numbered.{known_ids};
+ghost use Rattle.gtfs_merge.specs.Renaming.{joined_ids};
 ghost use Rattle.gtfs_merge.specs.Sides.{content_a, content_b, nearness_of, side_names, is_joined_id};
-ghost use Rattle.gtfs_merge.specs.declared.kind.Kind.{Kind as KindOf};
-ghost use Rattle.gtfs_merge.specs.declared.kind.Side.{Side as SideOf};
+ghost use Rattle.gtfs_merge.specs.Twins.{near_at, pairs_at, twin_rows};
 ghost use Rattle.gtfs_merge.specs.declared.kind.Kind.TheVariants as kind;
-ghost use Rattle.gtfs_merge.specs.declared.kind.Side.TheVariants as side;
 
-use crate::joins::Joined;
 use crate::kind::{Kind, Side};
 use crate::kinds::{count_of, id_of};
 use crate::new_names::is_joined_id;
 use crate::renamed::Renamed;
 use crate::sides::Sides;
+use crate::twins::Twins;
 use gtfs_field::OutOfMemory;
 use std::alloc::Global;
 use std::hash::RandomState;
@@ -24,17 +24,20 @@ use std::marker::Model;
 /// An id of the first feed stays. An id of the second one stays, too, where the first feed has no such id, or where both
 /// have the same row under it: such an id is joined. Every other id `x` of the second feed becomes `x_merged_n`, with the
 /// least `n` from 1 for which neither feed has that id. An agency's empty id that is not joined becomes
-/// `agency_merged_n` in either feed.
+/// `agency_merged_n` in either feed. With near stops ([`Options::near`](crate::Options::near)) a stop of the second feed
+/// that is not joined and lies near stops of the first one gets the least id of these.
 pub struct Names {
     agencies: KindNames,
     stops: KindNames,
     routes: KindNames,
     services: KindNames,
     trips: KindNames,
+    near: Vec<(String, String)>,
 }
 
 impl Model for Names {
-    ghost use Rattle.gtfs_merge.specs.Names.{AllNames};
+    ghost use Rattle.std.specs.Prelude.{map};
+    ghost use Rattle.gtfs_merge.specs.Names.{AllNames, pair_value};
 
     ghost Value = { AllNames };
 
@@ -44,6 +47,7 @@ impl Model for Names {
       routes = n.routes;
       services = n.services;
       trips = n.trips;
+      near = map pair_value n.near.items;
     } };
 }
 
@@ -56,64 +60,51 @@ impl Drop for Names {
             routes: _,
             services: _,
             trips: _,
+            near: _,
         } = self;
     }
 }
 
 impl Names {
-    // What the ids of two feeds become where these rows are joined: two ids of a feed never become one, and an id of each
-    // feed become one only where they are one joined id. No answer depends on the random state.
-    pub(crate) fn of_joined(
+    // What the ids of two feeds become where these are the twins of B's rows. No answer depends on the random state.
+    pub(crate) fn of_twins(
         alloc: Global,
         random: RandomState,
         sides: &Sides,
-        joined: &Joined,
+        twins: &Twins,
     ) -> Result<Names, OutOfMemory>
-        requires { joined.now ≡ joined_rows sides.now }
+        requires { twins.now ≡ twin_rows sides.now }
         ensures kinds { IfOk result (AreKindNames sides.now) }
-        ensures ids_a { IfOk result (λ names. (kind : KindOf) → (in_kind names kind).a.ids
-            ≡ ids kind (content_a sides.now)) }
-        ensures ids_b { IfOk result (λ names. (kind : KindOf) → (in_kind names kind).b.ids
-            ≡ ids kind (content_b sides.now)) }
-        ensures a { IfOk result (λ names. (kind : KindOf) (id : List ℕ)
-            → new_id (in_kind names kind).a id
-            ≡ name_of (side_names side.A sides.now) kind (content_a sides.now) id) }
-        ensures b { IfOk result (λ names. (kind : KindOf) (id : List ℕ)
-            → new_id (in_kind names kind).b id
-            ≡ name_of (side_names side.B sides.now) kind
-            (content_b sides.now) id) }
-        ensures apart { IfOk result (λ names. (kind : KindOf) (side : SideOf)
-            → AreApart (of_side (in_kind names kind) side)) }
-        ensures across { IfOk result (λ names. (kind : KindOf)
-            → MeetWhereJoined (in_kind names kind)) }
-        ensures joined { IfOk result (λ names. (kind : KindOf) → (in_kind names kind).joined
-            ≡ joined_ids (nearness_of sides.now) kind (content_a sides.now) (content_b sides.now)) }
+        ensures names { IfOk result
+            (AreNamesOf sides.now.near (content_a sides.now) (content_b sides.now)) }
     {
         sides.soundness();
-        Names::of_kinds(alloc, random, sides, joined)
+        Names::of_kinds(alloc, random, sides, twins)
     }
 
-    // The names of each kind.
+    // The names of each kind, and the near stops.
     fn of_kinds(
         alloc: Global,
         random: RandomState,
         sides: &Sides,
-        joined: &Joined,
+        twins: &Twins,
     ) -> Result<Names, OutOfMemory>
-        requires { joined.now ≡ joined_rows sides.now }
-        ensures { IfOk result (AreKindNames sides.now) }
+        requires { twins.now ≡ twin_rows sides.now }
+        ensures { IfOk result (ArePairedNames sides.now) }
     {
-        let agencies = KindNames::of_feeds(alloc, random, sides, joined, Kind::Agency)?;
-        let stops = KindNames::of_feeds(alloc, random, sides, joined, Kind::Stop)?;
-        let routes = KindNames::of_feeds(alloc, random, sides, joined, Kind::Route)?;
-        let services = KindNames::of_feeds(alloc, random, sides, joined, Kind::Service)?;
-        let trips = KindNames::of_feeds(alloc, random, sides, joined, Kind::Trip)?;
+        let agencies = KindNames::of_feeds(alloc, random, sides, twins, Kind::Agency)?;
+        let stops = KindNames::of_feeds(alloc, random, sides, twins, Kind::Stop)?;
+        let routes = KindNames::of_feeds(alloc, random, sides, twins, Kind::Route)?;
+        let services = KindNames::of_feeds(alloc, random, sides, twins, Kind::Service)?;
+        let trips = KindNames::of_feeds(alloc, random, sides, twins, Kind::Trip)?;
+        let near = near_pairs(alloc, sides, twins)?;
         Ok(Names {
             agencies,
             stops,
             routes,
             services,
             trips,
+            near,
         })
     }
 
@@ -145,6 +136,14 @@ impl Names {
         ensures { map string_bytes result.now ≡ (in_kind self.now kind).joined }
     {
         self.kind(kind).joined.as_slice()
+    }
+
+    /// The stops of the second feed that are near a stop of the first one and not joined, each with that one, by their own
+    /// ids. Both are one stop of the merged feed, with the id and the row of the first feed.
+    pub fn near(&self) -> &[(String, String)]
+        ensures { map pair_value result.now ≡ self.now.near }
+    {
+        self.near.as_slice()
     }
 
     // What the id of a number became.
@@ -210,15 +209,15 @@ impl KindNames {
         alloc: Global,
         random: RandomState,
         sides: &Sides,
-        joined: &Joined,
+        twins: &Twins,
         kind: Kind,
     ) -> Result<KindNames, OutOfMemory>
-        requires { joined.now ≡ joined_rows sides.now }
+        requires { twins.now ≡ twin_rows sides.now }
         ensures { IfOk result (λ names. names ≡ kind_names kind sides.now) }
     {
-        let names_a = Renamed::of_a(alloc, random, sides, joined, kind)?;
-        let names_b = Renamed::of_b(alloc, random, sides, joined, kind)?;
-        let joined = joined_ids(alloc, sides, joined, kind)?;
+        let names_a = Renamed::of_a(alloc, random, sides, twins, kind)?;
+        let names_b = Renamed::of_b(alloc, random, sides, twins, kind)?;
+        let joined = joined_ids(alloc, sides, twins, kind)?;
         Ok(KindNames {
             a: names_a,
             b: names_b,
@@ -231,10 +230,10 @@ impl KindNames {
 fn joined_ids(
     alloc: Global,
     sides: &Sides,
-    joined: &Joined,
+    twins: &Twins,
     kind: Kind,
 ) -> Result<Vec<String>, OutOfMemory>
-    requires { joined.now ≡ joined_rows sides.now }
+    requires { twins.now ≡ twin_rows sides.now }
     ensures { IfOk result (λ found. map string_bytes found.items
         ≡ joined_ids (nearness_of sides.now) kind (content_a sides.now) (content_b sides.now)) }
 {
@@ -244,7 +243,7 @@ fn joined_ids(
         push_if_joined(
             alloc,
             sides,
-            joined,
+            twins,
             kind,
             id_of(sides.a, kind, number),
             &mut found,
@@ -257,17 +256,73 @@ fn joined_ids(
 fn push_if_joined(
     alloc: Global,
     sides: &Sides,
-    joined: &Joined,
+    twins: &Twins,
     kind: Kind,
     id: &str,
     found: &mut Vec<String>,
 ) -> Result<(), OutOfMemory>
-    requires { joined.now ≡ joined_rows sides.now }
+    requires { twins.now ≡ twin_rows sides.now }
     ensures { OnOk result (map string_bytes found.new.items ≡ map string_bytes found.old.items
         ++ filter (is_joined_id kind sides.now) (id.now ∷ [])) }
 {
-    if is_joined_id(sides, joined, kind, id) {
+    if is_joined_id(sides, twins, kind, id) {
         found.push(String::from_str(alloc, id)?)?;
     }
+    Ok(())
+}
+
+// The near stops of B with those of A that they are near.
+fn near_pairs(
+    alloc: Global,
+    sides: &Sides,
+    twins: &Twins,
+) -> Result<Vec<(String, String)>, OutOfMemory>
+    requires { twins.now ≡ twin_rows sides.now }
+    ensures { IfOk result (λ pairs. map pair_value pairs.items
+        ≡ near_pairs (nearness_of sides.now) (content_a sides.now) (content_b sides.now)) }
+{
+    sides.soundness();
+    let mut pairs = Vec::new(alloc);
+    for number in 0..count_of(sides.b, Kind::Stop) {
+        push_if_near(alloc, sides, twins, number, &mut pairs)?;
+    }
+    Ok(pairs)
+}
+
+// Adds a stop of B with the one of A that it is near, if there is one.
+fn push_if_near(
+    alloc: Global,
+    sides: &Sides,
+    twins: &Twins,
+    number: usize,
+    pairs: &mut Vec<(String, String)>,
+) -> Result<(), OutOfMemory>
+    requires twins { twins.now ≡ twin_rows sides.now }
+    requires within { number < length (known_ids kind.Stop sides.now.b.now) }
+    ensures { OnOk result (map pair_value pairs.new.items ≡ map pair_value pairs.old.items
+        ++ pairs_at sides.now (near_at (twin_rows sides.now) number) number) }
+{
+    match twins.near(number) {
+        Some(first) => push_pair(alloc, sides, number, first, pairs),
+        None => Ok(()),
+    }
+}
+
+// Adds a stop of B with one of A.
+fn push_pair(
+    alloc: Global,
+    sides: &Sides,
+    number: usize,
+    first: usize,
+    pairs: &mut Vec<(String, String)>,
+) -> Result<(), OutOfMemory>
+    requires number { number < length (known_ids kind.Stop sides.now.b.now) }
+    requires first { first < length (known_ids kind.Stop sides.now.a.now) }
+    ensures { OnOk result (map pair_value pairs.new.items ≡ map pair_value pairs.old.items
+        ++ pairs_at sides.now (Some first) number) }
+{
+    let own = String::from_str(alloc, id_of(sides.b, Kind::Stop, number))?;
+    let other = String::from_str(alloc, id_of(sides.a, Kind::Stop, first))?;
+    pairs.push((own, other))?;
     Ok(())
 }

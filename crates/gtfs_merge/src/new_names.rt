@@ -1,17 +1,17 @@
-ghost use Rattle.std.specs.Prelude.{◌≡◌, ◌<◌, ◌&&◌, [], IfOk, false, length, not, slice_index_or, string_bytes, true};
-ghost use Rattle.gtfs_merge.specs.Joined.{joined_rows};
+ghost use Rattle.std.specs.Prelude.{◌≡◌, ◌<◌, ◌&&◌, [], IfOk, None, false, length, not, slice_index_or, string_bytes, true};
 ghost use Rattle.gtfs_merge.specs.Names.{is_nameless};
 ghost use Rattle.gtfs_merge.specs.Numbered.{known_ids};
 ghost use Rattle.gtfs_merge.specs.Renaming.{agency_b, has_id, joined_agency, renaming};
 ghost use Rattle.gtfs_merge.specs.Sides.{content_a, content_b, side_names, is_joined_id};
+ghost use Rattle.gtfs_merge.specs.Twins.{twin_number, twin_rows};
 ghost use Rattle.gtfs_merge.specs.declared.kind.Kind.TheVariants as kind;
 ghost use Rattle.gtfs_merge.specs.declared.kind.Side.TheVariants as side;
 
-use crate::joins::Joined;
 use crate::kind::Kind;
-use crate::kinds::number_of;
+use crate::kinds::{id_of, number_of};
 use crate::new_ids::{free_id, has_this_id, numbered_id};
 use crate::sides::Sides;
+use crate::twins::Twins;
 use gtfs_field::OutOfMemory;
 use std::alloc::Global;
 
@@ -19,35 +19,35 @@ use std::alloc::Global;
 const AGENCY: &str = "agency";
 
 // Whether the id of a number of B is joined.
-pub(crate) fn is_joined_row(sides: &Sides, joined: &Joined, kind: Kind, number: usize) -> bool
-    requires joined { joined.now ≡ joined_rows sides.now }
+pub(crate) fn is_joined_row(sides: &Sides, twins: &Twins, kind: Kind, number: usize) -> bool
+    requires twins { twins.now ≡ twin_rows sides.now }
     requires within { number < length (known_ids kind sides.now.b.now) }
     ensures { result ≡ is_joined_id kind sides.now
         (slice_index_or (known_ids kind sides.now.b.now) number []) }
 {
     sides.soundness();
-    joined.has(kind, number)
+    twins.joined(kind, number)
 }
 
 // Whether an id is joined.
-pub(crate) fn is_joined_id(sides: &Sides, joined: &Joined, kind: Kind, id: &str) -> bool
-    requires { joined.now ≡ joined_rows sides.now }
+pub(crate) fn is_joined_id(sides: &Sides, twins: &Twins, kind: Kind, id: &str) -> bool
+    requires { twins.now ≡ twin_rows sides.now }
     ensures { result ≡ is_joined_id kind sides.now id.now }
 {
     sides.soundness();
     match number_of(sides.b, kind, id) {
-        Some(number) => is_joined_row(sides, joined, kind, number),
+        Some(number) => is_joined_row(sides, twins, kind, number),
         None => false,
     }
 }
 
 // Whether it is the empty id of an agency that is not joined.
-fn is_left_nameless(sides: &Sides, joined: &Joined, kind: Kind, id: &str) -> bool
-    requires { joined.now ≡ joined_rows sides.now }
+fn is_left_nameless(sides: &Sides, twins: &Twins, kind: Kind, id: &str) -> bool
+    requires { twins.now ≡ twin_rows sides.now }
     ensures { result ≡ (is_nameless kind id.now
         && not (is_joined_id kind sides.now id.now)) }
 {
-    is_nameless(kind, id) && !is_joined_id(sides, joined, kind, id)
+    is_nameless(kind, id) && !is_joined_id(sides, twins, kind, id)
 }
 
 // Whether it is the id of an agency that has none.
@@ -64,39 +64,48 @@ fn is_nameless(kind: Kind, id: &str) -> bool
 pub(crate) fn new_id_of_a(
     alloc: Global,
     sides: &Sides,
-    joined: &Joined,
+    twins: &Twins,
     kind: Kind,
     id: &str,
 ) -> Result<String, OutOfMemory>
-    requires { joined.now ≡ joined_rows sides.now }
+    requires { twins.now ≡ twin_rows sides.now }
     ensures { IfOk result (λ new. string_bytes new
         ≡ renaming (side_names side.A sides.now) kind id.now) }
 {
     sides.soundness();
-    if is_left_nameless(sides, joined, kind, id) {
+    if is_left_nameless(sides, twins, kind, id) {
         return free_id(alloc, sides, Kind::Agency, AGENCY);
     }
     Ok(String::from_str(alloc, id)?)
 }
 
-// What an id of B becomes: it stays where it is joined or A lacks it.
+// What an id of B becomes, where this is its twin: it gets the id of its twin, and else it stays where A lacks it.
 pub(crate) fn new_id_of_b(
     alloc: Global,
     sides: &Sides,
     kind: Kind,
     id: &str,
-    joined: bool,
+    twin: Option<usize>,
 ) -> Result<String, OutOfMemory>
     requires there { has_id (known_ids kind sides.now.b.now) id.now ≡ true }
-    requires joined { joined
-        ≡ is_joined_id kind sides.now id.now }
+    requires twin { twin ≡ twin_number kind sides.now id.now }
+    ensures { IfOk result (λ new. string_bytes new
+        ≡ renaming (side_names side.B sides.now) kind id.now) }
+{
+    match twin {
+        Some(first) => Ok(String::from_str(alloc, id_of(sides.a, kind, first))?),
+        None => own_id_of_b(alloc, sides, kind, id),
+    }
+}
+
+// What an id of B becomes that has no twin.
+fn own_id_of_b(alloc: Global, sides: &Sides, kind: Kind, id: &str) -> Result<String, OutOfMemory>
+    requires there { has_id (known_ids kind sides.now.b.now) id.now ≡ true }
+    requires alone { None ≡ twin_number kind sides.now id.now }
     ensures { IfOk result (λ new. string_bytes new
         ≡ renaming (side_names side.B sides.now) kind id.now) }
 {
     sides.soundness();
-    if joined {
-        return Ok(String::from_str(alloc, id)?);
-    }
     if is_nameless(kind, id) {
         return new_agency_id_of_b(alloc, sides);
     }

@@ -2,25 +2,24 @@ ghost use Rattle.std.specs.List.Sorted.{IsPermutation, IsSorted};
 ghost use Rattle.std.specs.Ordering.{on};
 ghost use Rattle.std.specs.Prelude.{◌≡◌, ◌<◌, ◌∷◌, ◌++◌, [], IfOk, OnOk, filter, length, map};
 ghost use Rattle.gtfs_field.specs.TextOrder.{text_cmp};
-ghost use Rattle.gtfs_merge.specs.Joined.{joined_rows};
 ghost use Rattle.gtfs_merge.specs.MergedKinds.{AreMergedRows};
 ghost use Rattle.gtfs_merge.specs.Names.{AreKindNames};
 ghost use Rattle.gtfs_merge.specs.Numbered.{known_ids};
 ghost use Rattle.gtfs_merge.specs.Order.{entry_of, entry_value, is_apart, rows_of_a, rows_of_b};
 ghost use Rattle.gtfs_merge.specs.Sides.{side_parts};
+ghost use Rattle.gtfs_merge.specs.Twins.{twin_rows};
 ghost use Rattle.gtfs_merge.specs.declared.kind.Side.TheVariants as side;
 
-use crate::joins::Joined;
 use crate::kind::{Kind, Side};
 use crate::kinds::count_of;
 use crate::names::Names;
-use crate::new_names::is_joined_row;
 use crate::sides::Sides;
+use crate::twins::Twins;
 use gtfs_field::OutOfMemory;
 use std::alloc::Global;
 use std::cmp::Ordering;
 
-// A row of the merged feed under its new id, by its number on one side. A joined row is that of A.
+// A row of the merged feed under its new id, by its number on one side. A row of B with a twin is that of A.
 #[derive(Drop)]
 pub(crate) struct MergedRow {
     pub(crate) id: String,
@@ -28,21 +27,21 @@ pub(crate) struct MergedRow {
     pub(crate) number: usize,
 }
 
-// The rows of a kind of the merged feed, by their new ids: all of A's and those of B's that are not joined.
+// The rows of a kind of the merged feed, by their new ids: all of A's and those of B's that have no twin.
 pub(crate) fn merged_rows(
     alloc: Global,
     sides: &Sides,
-    joined: &Joined,
+    twins: &Twins,
     names: &Names,
     kind: Kind,
 ) -> Result<Vec<MergedRow>, OutOfMemory>
-    requires joined { joined.now ≡ joined_rows sides.now }
+    requires twins { twins.now ≡ twin_rows sides.now }
     requires names { AreKindNames sides.now names.now }
     ensures { IfOk result (λ rows. AreMergedRows kind sides.now (map entry_value rows.items)) }
 {
     sides.soundness();
     let mut rows = of_a(alloc, sides, names, kind)?;
-    add_of_b(alloc, sides, joined, names, kind, &mut rows)?;
+    add_of_b(alloc, sides, twins, names, kind, &mut rows)?;
     Ok(sorted(rows)?)
 }
 
@@ -80,44 +79,44 @@ fn row_of(
     Ok(MergedRow { id, side, number })
 }
 
-// Adds the rows of B that are not joined.
+// Adds the rows of B that have no twin.
 fn add_of_b(
     alloc: Global,
     sides: &Sides,
-    joined: &Joined,
+    twins: &Twins,
     names: &Names,
     kind: Kind,
     rows: &mut Vec<MergedRow>,
 ) -> Result<(), OutOfMemory>
-    requires joined { joined.now ≡ joined_rows sides.now }
+    requires twins { twins.now ≡ twin_rows sides.now }
     requires names { AreKindNames sides.now names.now }
     ensures { OnOk result (map entry_value rows.new.items
         ≡ map entry_value rows.old.items ++ rows_of_b kind sides.now) }
 {
     for number in 0..count_of(sides.b, kind) {
-        add_if_apart(alloc, sides, joined, names, kind, number, rows)?;
+        add_if_apart(alloc, sides, twins, names, kind, number, rows)?;
     }
     Ok(())
 }
 
-// Adds a row of B that is not joined.
+// Adds a row of B that has no twin.
 fn add_if_apart(
     alloc: Global,
     sides: &Sides,
-    joined: &Joined,
+    twins: &Twins,
     names: &Names,
     kind: Kind,
     number: usize,
     rows: &mut Vec<MergedRow>,
 ) -> Result<(), OutOfMemory>
-    requires joined { joined.now ≡ joined_rows sides.now }
+    requires twins { twins.now ≡ twin_rows sides.now }
     requires names { AreKindNames sides.now names.now }
     requires within { number < length (known_ids kind sides.now.b.now) }
     ensures { OnOk result (map entry_value rows.new.items ≡ map entry_value rows.old.items
         ++ map (entry_of side.B kind sides.now)
         (filter (is_apart kind sides.now) (number ∷ []))) }
 {
-    if !is_joined_row(sides, joined, kind, number) {
+    if !twins.has(kind, number) {
         rows.push(row_of(alloc, sides, names, Side::B, kind, number)?)?;
     }
     Ok(())

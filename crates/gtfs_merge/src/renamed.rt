@@ -1,17 +1,17 @@
 ghost use Rattle.std.specs.Prelude.{◌≡◌, ◌<◌, [], ◌∷◌, ◌++◌, IfOk, OnOk, bytes_eq, false, length, map, option_map, slice_index_or, string_bytes};
 ghost use Rattle.std.specs.List.{list_any};
-ghost use Rattle.gtfs_merge.specs.Joined.{joined_rows};
 ghost use Rattle.gtfs_merge.specs.Names.{new_id, new_ids, with_id};
 ghost use Rattle.gtfs_merge.specs.Numbered.{known_ids};
 ghost use Rattle.gtfs_merge.specs.Renaming.{renaming};
 ghost use Rattle.gtfs_merge.specs.Sides.{side_names};
+ghost use Rattle.gtfs_merge.specs.Twins.{twin_rows};
 ghost use Rattle.gtfs_merge.specs.declared.kind.Side.TheVariants as side;
 
-use crate::joins::Joined;
 use crate::kind::Kind;
 use crate::kinds::{count_of, id_of};
-use crate::new_names::{is_joined_row, new_id_of_a, new_id_of_b};
+use crate::new_names::{new_id_of_a, new_id_of_b};
 use crate::sides::Sides;
+use crate::twins::Twins;
 use gtfs_field::OutOfMemory;
 use indexmap::IndexSet;
 use std::alloc::Global;
@@ -49,10 +49,10 @@ impl Renamed {
         alloc: Global,
         random: RandomState,
         sides: &Sides,
-        joined: &Joined,
+        twins: &Twins,
         kind: Kind,
     ) -> Result<Renamed, OutOfMemory>
-        requires { joined.now ≡ joined_rows sides.now }
+        requires { twins.now ≡ twin_rows sides.now }
         ensures { IfOk result (λ ids. ids ≡ new_ids
             (renaming (side_names side.A sides.now) kind)
             (known_ids kind sides.now.a.now)) }
@@ -61,7 +61,7 @@ impl Renamed {
         let mut ids = Renamed::with_room(alloc, random, count_of(sides.a, kind))?;
         for number in 0..count_of(sides.a, kind) {
             let id = id_of(sides.a, kind, number);
-            let name = new_id_of_a(alloc, sides, joined, kind, id)?;
+            let name = new_id_of_a(alloc, sides, twins, kind, id)?;
             ids.push(alloc, id, name)?;
         }
         Ok(ids)
@@ -72,10 +72,10 @@ impl Renamed {
         alloc: Global,
         random: RandomState,
         sides: &Sides,
-        joined: &Joined,
+        twins: &Twins,
         kind: Kind,
     ) -> Result<Renamed, OutOfMemory>
-        requires { joined.now ≡ joined_rows sides.now }
+        requires { twins.now ≡ twin_rows sides.now }
         ensures { IfOk result (λ ids. ids ≡ new_ids
             (renaming (side_names side.B sides.now) kind)
             (known_ids kind sides.now.b.now)) }
@@ -84,8 +84,8 @@ impl Renamed {
         let mut ids = Renamed::with_room(alloc, random, count_of(sides.b, kind))?;
         for number in 0..count_of(sides.b, kind) {
             let id = id_of(sides.b, kind, number);
-            let is_joined = is_joined_row(sides, joined, kind, number);
-            let name = new_id_of_b(alloc, sides, kind, id, is_joined)?;
+            let twin = twins.of(kind, number);
+            let name = new_id_of_b(alloc, sides, kind, id, twin)?;
             ids.push(alloc, id, name)?;
         }
         Ok(ids)

@@ -1,15 +1,15 @@
 ghost use Rattle.std.specs.Prelude.{◌≡◌, ◌<◌, ℕ, All, IfOk, IfSome, None, length, map, slice_index_or};
-ghost use Rattle.gtfs_merge.specs.Joined.{joined_rows, of_kind};
 ghost use Rattle.gtfs_merge.specs.MergedKinds.{AreMergedRows};
 ghost use Rattle.gtfs_merge.specs.Order.{entry_value};
 ghost use Rattle.gtfs_merge.specs.Renumbered.{AreNumbered, AreRenumbered, number_or, numbers_of, with_number};
+ghost use Rattle.gtfs_merge.specs.Twins.{of_kind, twin_rows};
 ghost use Rattle.gtfs_merge.specs.declared.kind.Side.{Side as SideOf};
 
-use crate::joins::Joined;
 use crate::kind::{Kind, Side};
 use crate::kinds::count_of;
 use crate::order::MergedRow;
 use crate::sides::Sides;
+use crate::twins::Twins;
 use gtfs_field::OutOfMemory;
 use std::alloc::Global;
 use std::marker::Model;
@@ -40,11 +40,11 @@ impl Numbers {
     pub(crate) fn of_rows(
         alloc: Global,
         sides: &Sides,
-        joined: &Joined,
+        twins: &Twins,
         kind: Kind,
         rows: &[MergedRow],
     ) -> Result<Numbers, OutOfMemory>
-        requires joined { joined.now ≡ joined_rows sides.now }
+        requires twins { twins.now ≡ twin_rows sides.now }
         requires rows { AreMergedRows kind sides.now (map entry_value rows.now) }
         ensures { IfOk result (AreRenumbered kind sides.now) }
     {
@@ -55,7 +55,7 @@ impl Numbers {
             count_of(sides.b, kind),
         )?;
         numbers.set_rows(rows);
-        numbers.set_joined(joined, kind);
+        numbers.set_twins(twins, kind);
         Ok(numbers)
     }
 
@@ -106,24 +106,24 @@ impl Numbers {
         }
     }
 
-    // Sets the numbers of the joined rows of B: those of the rows of A.
-    fn set_joined(&mut self, joined: &Joined, kind: Kind)
-        requires count { length (of_kind joined.now kind) ≡ length self.old.b }
+    // Sets the numbers of the rows of B that have twins: those of the twins.
+    fn set_twins(&mut self, twins: &Twins, kind: Kind)
+        requires count { length (of_kind twins.now kind) ≡ length self.old.b }
         requires within { All (λ o. IfSome o (λ first. first < length self.old.a))
-            (of_kind joined.now kind) }
+            (of_kind twins.now kind) }
         ensures a { self.new.a ≡ self.old.a }
         ensures count { length self.new.b ≡ length self.old.b }
         ensures numbers { (n : ℕ) → n < length self.old.b → slice_index_or self.new.b n 0
-            ≡ number_or self.old.a (slice_index_or (of_kind joined.now kind) n None)
+            ≡ number_or self.old.a (slice_index_or (of_kind twins.now kind) n None)
             (slice_index_or self.old.b n 0) }
     {
         for number in 0..self.b.len() {
-            let renumbered = self.new_number(joined.of(kind, number), number);
+            let renumbered = self.new_number(twins.of(kind, number), number);
             self.b[number] = renumbered;
         }
     }
 
-    // The new number of a row of B that is joined with this row of A, if any.
+    // The new number of a row of B that has this twin, if any.
     fn new_number(&self, first: Option<usize>, number: usize) -> usize
         requires first { IfSome first (λ n. n < length self.now.a) }
         requires within { number < length self.now.b }

@@ -1,32 +1,28 @@
 ghost use Rattle.std.specs.Option.{option_eq};
 ghost use Rattle.std.specs.Prelude.{◌≡◌, ◌<◌, ◌∷◌, [], All, IfSome, None, Some, length, map, nat_eq, option_map, slice_index_or, true};
 ghost use Rattle.gtfs_rows.specs.Trips.{AreStopTimes};
-ghost use Rattle.gtfs_rows.specs.Sound.{is_stop_of};
 ghost use Rattle.gtfs_rows.specs.Views.{stop_ids, text_of_number};
-ghost use Rattle.gtfs_merge.specs.Joined.{joined_numbers};
 ghost use Rattle.gtfs_merge.specs.Numbered.{same_stop_row_in, same_stop_rows_in};
 ghost use Rattle.gtfs_merge.specs.Renaming.{stop_b};
 ghost use Rattle.gtfs_merge.specs.Same.{same_text};
 ghost use Rattle.gtfs_merge.specs.Sides.{content_a, content_b, nearness_of};
+ghost use Rattle.gtfs_merge.specs.Twins.{twin_numbers};
 ghost use Rattle.gtfs_merge.specs.declared.kind.Kind.TheVariants as kind;
 
 use crate::same_rows::is_same_stop_row;
 use crate::sides::Sides;
 use gtfs_rows::{OptionalHeadsign, StopNo, StopRow};
 
-// Whether stop times of A and of B are the same, one by one, where `stops` has the stop of A that each stop of B is
-// joined with.
+// Whether stop times of A and of B are the same, one by one, where `stops` has the twin of each stop of B.
 pub(crate) fn are_same_stop_times(
     sides: &Sides,
     stops: &[Option<StopNo>],
     rows_a: &[StopRow],
     rows_b: &[StopRow],
 ) -> bool
-    requires stops { map (option_map (λ n. n.0)) stops.now ≡ joined_numbers kind.Stop sides.now }
+    requires stops { map (option_map (λ n. n.0)) stops.now ≡ twin_numbers kind.Stop sides.now }
     requires rows_a { AreStopTimes sides.now.a.now rows_a.now }
     requires rows_b { AreStopTimes sides.now.b.now rows_b.now }
-    requires plain { All (λ r. is_stop_of (content_b sides.now) (0 ∷ [])
-        (text_of_number (stop_ids sides.now.b.now) r.stop_id.0) ≡ true) rows_b.now }
     ensures { result ≡ same_stop_rows_in sides.now.a.now sides.now.b.now
         (stop_b (nearness_of sides.now) (content_a sides.now) (content_b sides.now)) rows_a.now rows_b.now }
 {
@@ -48,24 +44,22 @@ fn is_same_stop_time(
     row_a: StopRow,
     row_b: StopRow,
 ) -> bool
-    requires stops { map (option_map (λ n. n.0)) stops.now ≡ joined_numbers kind.Stop sides.now }
+    requires stops { map (option_map (λ n. n.0)) stops.now ≡ twin_numbers kind.Stop sides.now }
     requires stop_a { row_a.stop_id.0 < length sides.now.a.now.stops }
     requires stop_b { row_b.stop_id.0 < length sides.now.b.now.stops }
     requires headsign_a { IfSome row_a.stop_headsign (λ n. n < length sides.now.a.now.headsigns) }
     requires headsign_b { IfSome row_b.stop_headsign (λ n. n < length sides.now.b.now.headsigns) }
-    requires plain { is_stop_of (content_b sides.now) (0 ∷ [])
-        (text_of_number (stop_ids sides.now.b.now) row_b.stop_id.0) ≡ true }
     ensures { result ≡ same_stop_row_in sides.now.a.now sides.now.b.now
         (stop_b (nearness_of sides.now) (content_a sides.now) (content_b sides.now)) row_a row_b }
 {
     sides.soundness();
-    let stop = is_joined_with(stops, row_b.stop_id, row_a.stop_id);
+    let stop = is_twin(stops, row_b.stop_id, row_a.stop_id);
     let headsign = is_same_headsign(sides, row_a.stop_headsign, row_b.stop_headsign);
     is_same_stop_row(row_a, row_b, stop, headsign)
 }
 
-// Whether a stop of B is joined with this one of A.
-fn is_joined_with(stops: &[Option<StopNo>], stop: StopNo, other: StopNo) -> bool
+// Whether the twin of a stop of B is this one of A.
+fn is_twin(stops: &[Option<StopNo>], stop: StopNo, other: StopNo) -> bool
     requires { stop.0 < length stops.now }
     ensures { result ≡ option_eq nat_eq (Some other.0)
         (slice_index_or (map (option_map (λ n. n.0)) stops.now) stop.0 None) }

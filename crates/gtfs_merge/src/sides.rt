@@ -7,11 +7,12 @@ ghost use Rattle.gtfs_merge.specs.declared.kind.Kind.{Kind as KindOf};
 use crate::kind::Side;
 use gtfs_feed::Feed;
 
-// What is merged: both feeds.
+// What is merged: both feeds, and up to how many millionths of a degree stops are near, if any are.
 #[derive(Clone, Copy)]
 pub(crate) struct Sides<'a> {
     pub(crate) a: &'a Feed,
     pub(crate) b: &'a Feed,
+    pub(crate) near: Option<u32>,
 }
 
 impl<'a> Sides<'a> {

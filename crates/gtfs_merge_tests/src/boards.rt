@@ -1,7 +1,8 @@
 //! The boards of a merged feed are those of both feeds: under the new names, in one order, those of joined trips once.
 
 use crate::assertions::assert_is;
-use crate::cases::{AT_TEN, merged_of};
+use crate::cases::{AT_TEN, merged_near};
+use crate::near::{AT_BOTH, TWO};
 use crate::report::{count_of, id_of};
 use crate::worked::{RAIL, WITH_SECOND};
 use gtfs_board::{Board, Departure, Key, Span, Times, push_line};
@@ -51,8 +52,9 @@ impl Fixture {
         a: Feed,
         b: Feed,
         clocks: Clocks,
+        near: Option<u32>,
     ) -> Result<Fixture, Fail> {
-        let merged = merged_of(rt, alloc, &a, &b)?;
+        let merged = merged_near(rt, alloc, &a, &b, near)?;
         let zone = clocks.zone(alloc)?;
         Ok(Fixture { a, b, merged, zone })
     }
@@ -241,6 +243,7 @@ fn lines(alloc: Global, feed: &Feed, zone: &Zone, stop: &str) -> Result<String, 
 struct Worked {
     a: &'static [FileText],
     b: &'static [FileText],
+    near: Option<u32>,
     lines: &'static str,
 }
 
@@ -248,11 +251,13 @@ const WORKED: &[Worked] = &[
     Worked {
         a: &[],
         b: &[],
+        near: None,
         lines: "@1711958400/T1/28800/1/20240401\t2024-04-01 08:00:00+00:00\tS1\t10\t\ts\n",
     },
     Worked {
         a: WITH_SECOND,
         b: &[AT_TEN],
+        near: None,
         lines: "@1711958400/T1/28800/1/20240401\t2024-04-01 08:00:00+00:00\tS1\t10\t\ts\n\
 @1711962000/T1_merged_1/32400/1/20240401\t2024-04-01 09:00:00+00:00\tS1\t10\t\ts\n\
 @1711965600/T1_merged_2/36000/1/20240401\t2024-04-01 10:00:00+00:00\tS1\t10\t\ts\n",
@@ -260,8 +265,17 @@ const WORKED: &[Worked] = &[
     Worked {
         a: &[],
         b: &[RAIL],
+        near: None,
         lines: "@1711958400/T1/28800/1/20240401\t2024-04-01 08:00:00+00:00\tS1\t10\t\ts\n\
 @1711958400/T1_merged_1/28800/1/20240401\t2024-04-01 08:00:00+00:00\tS1\t10\t\ts\n",
+    },
+    Worked {
+        a: &[],
+        b: &[TWO, AT_BOTH],
+        near: Some(0),
+        lines: "@1711958400/T1/28800/1/20240401\t2024-04-01 08:00:00+00:00\tS1\t10\t\ts\n\
+@1711958400/T1_merged_1/28800/1/20240401\t2024-04-01 08:00:00+00:00\tS1\t10\t\ts\n\
+@1711958700/T1_merged_1/28800/2/20240401\t2024-04-01 08:05:00+00:00\tS1\t10\t\ts\n",
     },
 ];
 
@@ -270,7 +284,7 @@ fn merged_boards_are_those_that_were_worked_out(rt: HostRuntime) -> Result<(), F
     for worked in WORKED {
         let a = feed_with(&rt, rt.alloc(), worked.a)?;
         let b = feed_with(&rt, rt.alloc(), worked.b)?;
-        let fixture = Fixture::new(&rt, rt.alloc(), a, b, Clocks::Utc)?;
+        let fixture = Fixture::new(&rt, rt.alloc(), a, b, Clocks::Utc, worked.near)?;
         assert_worked(&rt, rt.alloc(), &fixture, worked)?;
     }
     Ok(())
@@ -322,11 +336,12 @@ fn assert_merges<R: Abort + RandomSource>(
     alloc: Global,
     (number, other): (u64, u64),
     clocks: Clocks,
+    near: Option<u32>,
 ) -> Result<(), Fail> {
     for changes in CHANGES {
         let a = made_feed_with(rt, alloc, number, &[])?;
         let b = made_feed_with(rt, alloc, other, changes)?;
-        let count = Fixture::new(rt, alloc, a, b, clocks)?.assert_boards(rt, alloc)?;
+        let count = Fixture::new(rt, alloc, a, b, clocks, near)?.assert_boards(rt, alloc)?;
         assert!(rt; count > 100, "{count} departures");
     }
     Ok(())
@@ -334,10 +349,22 @@ fn assert_merges<R: Abort + RandomSource>(
 
 #[test]
 fn merged_boards_of_one_made_feed_are_united(rt: HostRuntime) -> Result<(), Fail> {
-    assert_merges(&rt, rt.alloc(), (1, 1), Clocks::GoesBack)
+    assert_merges(&rt, rt.alloc(), (1, 1), Clocks::GoesBack, None)
 }
 
 #[test]
 fn merged_boards_of_two_made_feeds_are_united(rt: HostRuntime) -> Result<(), Fail> {
-    assert_merges(&rt, rt.alloc(), (2, 3), Clocks::CentralEurope)
+    assert_merges(&rt, rt.alloc(), (2, 3), Clocks::CentralEurope, None)
+}
+
+// With all stops of one name near, of whichever place.
+#[test]
+fn merged_boards_of_near_stops_are_united(rt: HostRuntime) -> Result<(), Fail> {
+    assert_merges(
+        &rt,
+        rt.alloc(),
+        (2, 3),
+        Clocks::CentralEurope,
+        Some(2_147_483_647),
+    )
 }

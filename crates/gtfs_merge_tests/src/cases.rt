@@ -1,4 +1,5 @@
 //! Merges of changes to the small dataset.
+ghost use Rattle.std.specs.Prelude.{◌≤◌, IfSome};
 
 use crate::assertions::assert_is;
 use crate::report::report;
@@ -24,11 +25,6 @@ pub(crate) struct Case {
     pub(crate) written: &'static [Rows],
 }
 
-// Files of any length.
-const ANY_LENGTH: Options = Options {
-    file_limit: u64::MAX,
-};
-
 /// The small dataset at other times: at ten.
 pub(crate) const AT_TEN: FileText = (
     "stop_times.txt",
@@ -36,14 +32,39 @@ pub(crate) const AT_TEN: FileText = (
 T1,10:00:00,10:00:00,S1,1\nT1,10:10:00,10:10:00,S2,2\n",
 );
 
-/// The merge of two feeds.
+/// The merge of two feeds, with files of any length.
 pub(crate) fn merged_of<R: RandomSource>(
     rt: &R,
     alloc: Global,
     a: &Feed,
     b: &Feed,
 ) -> Result<Merged, Fail> {
-    Ok(merge(alloc, RandomState::new(rt)?, a, b, &ANY_LENGTH)?)
+    merged_near(rt, alloc, a, b, None)
+}
+
+/// The same, where stops up to this many millionths of a degree apart are near.
+pub(crate) fn merged_near<R: RandomSource>(
+    rt: &R,
+    alloc: Global,
+    a: &Feed,
+    b: &Feed,
+    near: Option<u32>,
+) -> Result<Merged, Fail> {
+    let options = Options {
+        file_limit: u64::MAX,
+        near: at_most(near),
+    };
+    Ok(merge(alloc, RandomState::new(rt)?, a, b, &options)?)
+}
+
+// The greatest distance that may be asked for, where it is more.
+fn at_most(near: Option<u32>) -> Option<u32>
+    ensures { IfSome result (λ n. n ≤ 2_147_483_647) }
+{
+    match near {
+        Some(near) => Some(near.min(2_147_483_647)),
+        None => None,
+    }
 }
 
 /// Each of the merges gives what is wanted.
@@ -98,8 +119,8 @@ fn assert_files<R: Abort + RandomSource>(
     assert_reads_back(rt, alloc, feed)
 }
 
-// The written files of a feed pass the validator, and are those of the feed that is made of them.
-fn assert_reads_back<R: Abort + RandomSource>(
+/// The written files of a feed pass the validator, and are those of the feed that is made of them.
+pub(crate) fn assert_reads_back<R: Abort + RandomSource>(
     rt: &R,
     alloc: Global,
     feed: &Feed,

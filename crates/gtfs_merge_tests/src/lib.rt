@@ -5,6 +5,7 @@
 //!   `report` tells the names on lines, and `written` has the headers of the files.
 //! - `worked` has whole merges; `agencies`, `stops`, `services`, `trips` and `transfers` have what is joined and what is
 //!   renamed of each kind, and `chains` new names that are taken already, and merges of three feeds.
+//! - `near` has merges with near stops.
 //! - `names` asks for the name of each id, and `refusals` has zones that differ and files that are too long.
 //! - `boards` compares the boards of a merged feed with those of both feeds, renamed and united.
 //! - `assertions` has assertions as calls.
@@ -22,6 +23,8 @@ mod cases;
 mod chains;
 #[cfg(test)]
 mod names;
+#[cfg(test)]
+mod near;
 #[cfg(test)]
 mod refusals;
 #[cfg(test)]

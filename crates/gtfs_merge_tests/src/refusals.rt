@@ -20,7 +20,16 @@ fn refused<R: RandomSource>(
     let a = feed_with(rt, alloc, a)?;
     let b = feed_with(rt, alloc, b)?;
     let random = RandomState::new(rt)?;
-    let fault = match merge(alloc, random, &a, &b, &Options { file_limit }) {
+    let fault = match merge(
+        alloc,
+        random,
+        &a,
+        &b,
+        &Options {
+            file_limit,
+            near: None,
+        },
+    ) {
         Ok(_) => None,
         Err(fault) => Some(fault),
     };

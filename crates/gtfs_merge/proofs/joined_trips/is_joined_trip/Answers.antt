@@ -8,7 +8,7 @@ use Rattle.gtfs_merge.specs.Renaming.{route_b, service_b, stop_b}
 use Rattle.gtfs_merge.specs.Sides.{content_a, content_b, nearness_of}
 use Rattle.gtfs_merge.specs.declared.kind.Kind.TheVariants as kind
 use Rattle.gtfs_merge.proofs.JoinedNames.{joined-length}
-use Rattle.gtfs_merge.proofs.JoinedTrips.{route-meets, rows-plain, service-meets, trip-same}
+use Rattle.gtfs_merge.proofs.JoinedTrips.{route-meets, service-meets, trip-same}
 use Rattle.gtfs_merge.proofs.joined_trips.is_joined_trip.Goals as goal
 
 pub is_route_joined_with-route-requires : goal.is_route_joined_with-route-requires
@@ -42,8 +42,6 @@ are_same_stop_times-requires c = record {
   stops = c.requires.stops;
   rows_a = stop_times c.args.sides.now.a.now c.soundness.ensures.a c.args.other.0 c.trip_rows-rows_a.result.now c.trip_rows-rows_a.ensures;
   rows_b = stop_times c.args.sides.now.b.now c.soundness.ensures.b c.args.trip.0 c.trip_rows-rows_b.result.now c.trip_rows-rows_b.ensures;
-  plain = rows-plain c.args.sides.now.b.now c.soundness.ensures.b c.args.trip.0 c.trip_by_number-second.result.now c.trip_rows-rows_b.result.now c.trip_frequencies-periods_b.result.now
-      c.trip_by_number-second.ensures c.trip_rows-rows_b.ensures c.trip_frequencies-periods_b.ensures;
 }
 
 pub returns-then-not-is_same_trip : goal.returns-then-not-is_same_trip

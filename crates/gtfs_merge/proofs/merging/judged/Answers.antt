@@ -16,13 +16,13 @@ told m c limit large answer same is so = sym (longer-is m limit) ∙ ap (λ x. l
 pub returns-then-is_too_large-clause-refused : goal.returns-then-is_too_large-clause-refused
 returns-then-is_too_large-clause-refused c = (
   sym c.zones_differ.ensures ∙ c.if-zones_differ.false,
-  told (merged_parts c.args.sides.now) (content_of_parts c.in_ok-merged.merged.feed) c.args.options.now.file_limit c.in_ok-is_too_large.is_too_large _ c.in_ok-merged.ensures.content c.in_ok-is_too_large.ensures c.if-is_too_large.true,
+  told (merged_parts c.args.sides.now) (content_of_parts c.in_ok-merged.merged.feed) c.args.file_limit c.in_ok-is_too_large.is_too_large _ c.in_ok-merged.ensures.content c.in_ok-is_too_large.ensures c.if-is_too_large.true,
 )
 
 pub returns-clause-merged : goal.returns-clause-merged
 returns-clause-merged c = record {
   zone = sym c.zones_differ.ensures ∙ c.if-zones_differ.false;
-  small = told (merged_parts c.args.sides.now) (content_of_parts c.in_ok-merged.merged.feed) c.args.options.now.file_limit c.in_ok-is_too_large.is_too_large _ c.in_ok-merged.ensures.content c.in_ok-is_too_large.ensures c.if-is_too_large.false;
+  small = told (merged_parts c.args.sides.now) (content_of_parts c.in_ok-merged.merged.feed) c.args.file_limit c.in_ok-is_too_large.is_too_large _ c.in_ok-merged.ensures.content c.in_ok-is_too_large.ensures c.if-is_too_large.false;
   content = c.in_ok-merged.ensures.content;
   names = c.in_ok-merged.ensures.names;
 }

@@ -1,9 +1,17 @@
-use Rattle.gtfs_merge.specs.declared.kind.Kind.TheVariants as kind
+use Rattle.std.proofs.Common.{map}
+use Rattle.gtfs_merge.specs.Names.{pair_value}
+use Rattle.gtfs_merge.proofs.NamesFacts.{each-kind}
 use Rattle.gtfs_merge.proofs.names.Names.of_kinds.Goals as goal
 
 pub returns : goal.returns
-returns c kind.Agency = c.in_ok-agencies.ensures
-returns c kind.Stop = c.in_ok-stops.ensures
-returns c kind.Route = c.in_ok-routes.ensures
-returns c kind.Service = c.in_ok-services.ensures
-returns c kind.Trip = c.in_ok-trips.ensures
+returns c = record {
+  kinds = each-kind c.args.sides.now (record {
+    agencies = c.in_ok-agencies.agencies;
+    stops = c.in_ok-stops.stops;
+    routes = c.in_ok-routes.routes;
+    services = c.in_ok-services.services;
+    trips = c.in_ok-trips.trips;
+    near = map pair_value c.in_ok-near.near.items;
+  }) c.in_ok-agencies.ensures c.in_ok-stops.ensures c.in_ok-routes.ensures c.in_ok-services.ensures c.in_ok-trips.ensures;
+  near = c.in_ok-near.ensures;
+}

@@ -1,8 +1,10 @@
-use Rattle.std.proofs.Common.{◌<◌, ◌≤◌, ◌∙◌, ap, arith, length, sym}
+use Rattle.std.proofs.Common.{◌<◌, ◌≤◌, ◌∙◌, None, ap, arith, get_or, length, sym}
 use Rattle.gtfs_merge.specs.Numbered.{known_ids}
 use Rattle.gtfs_merge.specs.Renaming.{has_id, renaming}
-use Rattle.gtfs_merge.specs.Sides.{side_names, is_joined_id}
+use Rattle.gtfs_merge.specs.Sides.{side_names}
+use Rattle.gtfs_merge.specs.Twins.{of_kind, twin_number}
 use Rattle.gtfs_merge.specs.declared.kind.Side.TheVariants as side
+use Rattle.gtfs_merge.proofs.JoinedIds.{of-kind-length, twin-at}
 use Rattle.gtfs_merge.proofs.JoinedNames.{has-at}
 use Rattle.gtfs_merge.proofs.RenamedLists.{known-fresh, renamed-all, renamed-more}
 use Rattle.gtfs_merge.proofs.renamed.Renamed.of_b.Goals as goal
@@ -12,9 +14,17 @@ new_id_of_b-requires-clause-there c =
     let within : c.loop-number.number < length (known_ids c.args.kind c.args.sides.now.b.now) = omega (arith, c.count_of-number-end.ensures) in
     ap (has_id (known_ids c.args.kind c.args.sides.now.b.now)) c.id_of-id.ensures ∙ has-at (known_ids c.args.kind c.args.sides.now.b.now) c.loop-number.number within
 
-pub new_id_of_b-requires-clause-joined : goal.new_id_of_b-requires-clause-joined
-new_id_of_b-requires-clause-joined c =
-    c.is_joined_row-is_joined.ensures ∙ ap (is_joined_id c.args.kind c.args.sides.now) (sym c.id_of-id.ensures)
+pub of-twin-requires : goal.of-twin-requires
+of-twin-requires c =
+    let within : c.loop-number.number < length (known_ids c.args.kind c.args.sides.now.b.now) = omega (arith, c.count_of-number-end.ensures) in
+    let count = ap (λ t. length (of_kind t c.args.kind)) c.requires ∙ of-kind-length c.args.sides.now c.args.kind in
+    omega (arith, count, within)
+
+pub new_id_of_b-requires-clause-twin : goal.new_id_of_b-requires-clause-twin
+new_id_of_b-requires-clause-twin c =
+    let within : c.loop-number.number < length (known_ids c.args.kind c.args.sides.now.b.now) = omega (arith, c.count_of-number-end.ensures) in
+    c.of-twin.ensures ∙ ap (λ t. get_or (of_kind t c.args.kind) c.loop-number.number None) c.requires ∙ twin-at c.args.sides.now c.args.kind c.loop-number.number within
+    ∙ ap (twin_number c.args.kind c.args.sides.now) (sym c.id_of-id.ensures)
 
 pub push-requires : goal.push-requires
 push-requires c =

@@ -1,0 +1,392 @@
+//! Merges with near stops: stops of the second feed that become stops of the first one.
+
+use crate::assertions::assert_is;
+use crate::cases::{assert_reads_back, merged_near};
+use crate::report::report;
+use crate::written::{Rows, assert_rows};
+use gtfs_feed::Feed;
+use gtfs_fixtures::{FileText, feed_with};
+use gtfs_merge::{Merged, Names};
+use gtfs_table::File;
+use std::alloc::Global;
+use std::process::Abort;
+use std::random::RandomSource;
+use std::test::Fail;
+
+// Two changes to the small dataset, how near stops are, and what the merge gives.
+#[derive(Clone, Copy)]
+struct Near {
+    what: &'static str,
+    near: u32,
+    a: &'static [FileText],
+    b: &'static [FileText],
+    // The ids that became others, and how many are joined.
+    report: &'static str,
+    // The near stops of B, each with that of A.
+    pairs: &'static str,
+    written: &'static [Rows],
+}
+
+// The small dataset with M1 in place of S1, at a latitude.
+const MOVED_HALF: FileText = (
+    "stops.txt",
+    "stop_id,stop_name,stop_lat,stop_lon\nM1,Mill,52.5000005,13.4\nS2,Lake,52.6,13.5\nS3,Hill,52.7,13.6\n",
+);
+
+const MOVED_ONE: FileText = (
+    "stops.txt",
+    "stop_id,stop_name,stop_lat,stop_lon\nM1,Mill,52.500001,13.4\nS2,Lake,52.6,13.5\nS3,Hill,52.7,13.6\n",
+);
+
+const MOVED_MORE: FileText = (
+    "stops.txt",
+    "stop_id,stop_name,stop_lat,stop_lon\nM1,Mill,52.500001001,13.4\nS2,Lake,52.6,13.5\nS3,Hill,52.7,13.6\n",
+);
+
+const AT_M1: FileText = (
+    "stop_times.txt",
+    "trip_id,arrival_time,departure_time,stop_id,stop_sequence\n\
+T1,08:00:00,08:00:00,M1,1\nT1,08:10:00,08:10:00,S2,2\n",
+);
+
+const NEAR_M1: &str = "B\tstop\tM1\tS1\n\
+joined agency 1\njoined stop 2\njoined route 1\njoined service 1\njoined trip 1\n";
+
+const FAR_M1: &str = "B\ttrip\tT1\tT1_merged_1\n\
+joined agency 1\njoined stop 2\njoined route 1\njoined service 1\njoined trip 0\n";
+
+const SMALL_STOPS: Rows = (
+    File::Stops,
+    "S1,,Mill,,,52.5,13.4,,0,,0,\nS2,,Lake,,,52.6,13.5,,0,,0,\nS3,,Hill,,,52.7,13.6,,0,,0,\n",
+);
+
+const DISTANCES: &[Near] = &[
+    Near {
+        what: "half a millionth north, up to one",
+        near: 1,
+        a: &[],
+        b: &[MOVED_HALF, AT_M1],
+        report: NEAR_M1,
+        pairs: "M1 S1\n",
+        written: &[
+            SMALL_STOPS,
+            (
+                File::StopTimes,
+                "T1,08:00:00,08:00:00,S1,1,,0,0,\nT1,08:10:00,08:10:00,S2,2,,0,0,\n",
+            ),
+        ],
+    },
+    Near {
+        what: "half a millionth north, none allowed",
+        near: 0,
+        a: &[],
+        b: &[MOVED_HALF, AT_M1],
+        report: FAR_M1,
+        pairs: "",
+        written: &[],
+    },
+    Near {
+        what: "a millionth north",
+        near: 1,
+        a: &[],
+        b: &[MOVED_ONE, AT_M1],
+        report: NEAR_M1,
+        pairs: "M1 S1\n",
+        written: &[SMALL_STOPS],
+    },
+    Near {
+        what: "a thousandth of a millionth more",
+        near: 1,
+        a: &[],
+        b: &[MOVED_MORE, AT_M1],
+        report: FAR_M1,
+        pairs: "",
+        written: &[],
+    },
+    Near {
+        what: "as far as can be asked for",
+        near: 2_147_483_647,
+        a: &[],
+        b: &[
+            (
+                "stops.txt",
+                "stop_id,stop_name,stop_lat,stop_lon\nM1,Mill,-90,-180\nS2,Lake,52.6,13.5\nS3,Hill,52.7,13.6\n",
+            ),
+            AT_M1,
+        ],
+        report: NEAR_M1,
+        pairs: "M1 S1\n",
+        written: &[SMALL_STOPS],
+    },
+];
+
+/// The small dataset with M1 and M2 in place of S1.
+pub(crate) const TWO: FileText = (
+    "stops.txt",
+    "stop_id,stop_name,stop_lat,stop_lon\nM1,Mill,52.5,13.4\nM2,Mill,52.5,13.4\nS2,Lake,52.6,13.5\nS3,Hill,52.7,13.6\n",
+);
+
+/// A trip that stops at both.
+pub(crate) const AT_BOTH: FileText = (
+    "stop_times.txt",
+    "trip_id,arrival_time,departure_time,stop_id,stop_sequence\n\
+T1,08:00:00,08:00:00,M1,1\nT1,08:05:00,08:05:00,M2,2\nT1,08:10:00,08:10:00,S2,3\n",
+);
+
+const MILLS: FileText = (
+    "stops.txt",
+    "stop_id,stop_name,stop_lat,stop_lon\nS0,Mill,52.5,13.4\nS1,Mill,52.5,13.4\nS2,Lake,52.6,13.5\n",
+);
+
+const STOPS: &[Near] = &[
+    Near {
+        what: "two stops that become one",
+        near: 0,
+        a: &[],
+        b: &[TWO, AT_BOTH],
+        report: "B\tstop\tM1\tS1\nB\tstop\tM2\tS1\nB\ttrip\tT1\tT1_merged_1\n\
+joined agency 1\njoined stop 2\njoined route 1\njoined service 1\njoined trip 0\n",
+        pairs: "M1 S1\nM2 S1\n",
+        written: &[
+            SMALL_STOPS,
+            (
+                File::StopTimes,
+                "T1,08:00:00,08:00:00,S1,1,,0,0,\nT1,08:10:00,08:10:00,S2,2,,0,0,\n\
+T1_merged_1,08:00:00,08:00:00,S1,1,,0,0,\nT1_merged_1,08:05:00,08:05:00,S1,2,,0,0,\n\
+T1_merged_1,08:10:00,08:10:00,S2,3,,0,0,\n",
+            ),
+        ],
+    },
+    Near {
+        what: "the least stop, though another has the id",
+        near: 0,
+        a: &[MILLS],
+        b: &[(
+            "stops.txt",
+            "stop_id,stop_name,stop_desc,stop_lat,stop_lon\nS1,Mill,new,52.5,13.4\nS2,Lake,,52.6,13.5\n",
+        )],
+        report: "B\tstop\tS1\tS0\nB\ttrip\tT1\tT1_merged_1\n\
+joined agency 1\njoined stop 1\njoined route 1\njoined service 1\njoined trip 0\n",
+        pairs: "S1 S0\n",
+        written: &[(
+            File::Stops,
+            "S0,,Mill,,,52.5,13.4,,0,,0,\nS1,,Mill,,,52.5,13.4,,0,,0,\nS2,,Lake,,,52.6,13.5,,0,,0,\n",
+        )],
+    },
+    Near {
+        what: "a stop that keeps its id",
+        near: 0,
+        a: &[],
+        b: &[(
+            "stops.txt",
+            "stop_id,stop_name,stop_desc,stop_lat,stop_lon\nS1,Mill,new,52.5,13.4\nS2,Lake,,52.6,13.5\nS3,Hill,,52.7,13.6\n",
+        )],
+        report: "joined agency 1\njoined stop 2\njoined route 1\njoined service 1\njoined trip 1\n",
+        pairs: "S1 S1\n",
+        written: &[SMALL_STOPS],
+    },
+    Near {
+        what: "another type, another name and no name",
+        near: 10,
+        a: &[(
+            "stops.txt",
+            "stop_id,stop_name,stop_lat,stop_lon,location_type\nS1,Mill,52.5,13.4,0\nS2,Lake,52.6,13.5,0\nX1,Hub,52.7,13.6,1\n",
+        )],
+        b: &[(
+            "stops.txt",
+            "stop_id,stop_name,stop_lat,stop_lon,location_type\nS1,Mill,52.5,13.4,0\nS2,Lake,52.6,13.5,0\nX2,Hub,52.7,13.6,0\nX3,Hab,52.7,13.6,1\n",
+        )],
+        report: "joined agency 1\njoined stop 2\njoined route 1\njoined service 1\njoined trip 1\n",
+        pairs: "",
+        written: &[],
+    },
+    Near {
+        what: "the line of longitude 180",
+        near: 1,
+        a: &[(
+            "stops.txt",
+            "stop_id,stop_name,stop_lat,stop_lon\nS1,Mill,0,180\nS2,Lake,52.6,13.5\n",
+        )],
+        b: &[
+            (
+                "stops.txt",
+                "stop_id,stop_name,stop_lat,stop_lon\nM1,Mill,0,-180\nS2,Lake,52.6,13.5\n",
+            ),
+            AT_M1,
+        ],
+        report: "B\ttrip\tT1\tT1_merged_1\n\
+joined agency 1\njoined stop 1\njoined route 1\njoined service 1\njoined trip 0\n",
+        pairs: "",
+        written: &[],
+    },
+];
+
+// A station with a stop, an entrance, a node without a name or a place, and a boarding area of the stop.
+const HUB: FileText = (
+    "stops.txt",
+    "stop_id,stop_name,stop_lat,stop_lon,location_type,parent_station\n\
+H,Hub,52.7,13.6,1,\nS1,Mill,52.5,13.4,0,H\nS2,Lake,52.6,13.5,0,\nE1,Gate,52.7,13.6,2,H\nN1,,,,3,H\nB1,Edge,52.5,13.4,4,S1\n",
+);
+
+const STATIONS: &[Near] = &[
+    Near {
+        what: "all stops of a station under other ids",
+        near: 0,
+        a: &[HUB],
+        b: &[
+            (
+                "stops.txt",
+                "stop_id,stop_name,stop_lat,stop_lon,location_type,parent_station\n\
+H2,Hub,52.7,13.6,1,\nM1,Mill,52.5,13.4,0,H2\nS2,Lake,52.6,13.5,0,\nE2,Gate,52.7,13.6,2,H2\nN2,,,,3,H2\nB2,Edge,52.5,13.4,4,M1\n",
+            ),
+            AT_M1,
+        ],
+        report: "B\tstop\tB2\tB1\nB\tstop\tE2\tE1\nB\tstop\tH2\tH\nB\tstop\tM1\tS1\n\
+joined agency 1\njoined stop 1\njoined route 1\njoined service 1\njoined trip 1\n",
+        pairs: "B2 B1\nE2 E1\nH2 H\nM1 S1\n",
+        written: &[(
+            File::Stops,
+            "B1,,Edge,,,52.5,13.4,,4,S1,0,\nE1,,Gate,,,52.7,13.6,,2,H,0,\nH,,Hub,,,52.7,13.6,,1,,0,\n\
+N1,,,,,,,,3,H,0,\nN2,,,,,,,,3,H,0,\nS1,,Mill,,,52.5,13.4,,0,H,0,\nS2,,Lake,,,52.6,13.5,,0,,0,\n",
+        )],
+    },
+    Near {
+        what: "a stop that is joined, since its station is near",
+        near: 0,
+        a: &[HUB],
+        b: &[(
+            "stops.txt",
+            "stop_id,stop_name,stop_lat,stop_lon,location_type,parent_station\n\
+H2,Hub,52.7,13.6,1,\nS1,Mill,52.5,13.4,0,H2\nS2,Lake,52.6,13.5,0,\n",
+        )],
+        report: "B\tstop\tH2\tH\n\
+joined agency 1\njoined stop 2\njoined route 1\njoined service 1\njoined trip 1\n",
+        pairs: "H2 H\n",
+        written: &[],
+    },
+    Near {
+        what: "a stop of another station, which is far",
+        near: 0,
+        a: &[HUB],
+        b: &[
+            (
+                "stops.txt",
+                "stop_id,stop_name,stop_lat,stop_lon,location_type,parent_station\n\
+H2,Hub,52.8,13.6,1,\nM1,Mill,52.5,13.4,0,H2\nM2,Mill,52.5,13.4,0,\nS2,Lake,52.6,13.5,0,\n",
+            ),
+            AT_M1,
+        ],
+        report: "B\ttrip\tT1\tT1_merged_1\n\
+joined agency 1\njoined stop 1\njoined route 1\njoined service 1\njoined trip 0\n",
+        pairs: "",
+        written: &[],
+    },
+];
+
+const TRANSFERS: &[Near] = &[
+    Near {
+        what: "two transfers of B that become one, and one within a stop",
+        near: 0,
+        a: &[],
+        b: &[
+            TWO,
+            AT_BOTH,
+            (
+                "transfers.txt",
+                "from_stop_id,to_stop_id,transfer_type,min_transfer_time\nM2,S2,2,20\nM1,S2,2,10\nM1,M2,2,30\n",
+            ),
+        ],
+        report: "B\tstop\tM1\tS1\nB\tstop\tM2\tS1\nB\ttrip\tT1\tT1_merged_1\n\
+joined agency 1\njoined stop 2\njoined route 1\njoined service 1\njoined trip 0\n",
+        pairs: "M1 S1\nM2 S1\n",
+        written: &[(File::Transfers, "S1,S1,,,,,2,30\nS1,S2,,,,,2,10\n")],
+    },
+    Near {
+        what: "a transfer of A that they become, too",
+        near: 0,
+        a: &[(
+            "transfers.txt",
+            "from_stop_id,to_stop_id,transfer_type,min_transfer_time\nS1,S2,2,90\n",
+        )],
+        b: &[
+            TWO,
+            AT_BOTH,
+            (
+                "transfers.txt",
+                "from_stop_id,to_stop_id,transfer_type,min_transfer_time\nM2,S2,2,20\nM1,S2,2,10\n",
+            ),
+        ],
+        report: "B\tstop\tM1\tS1\nB\tstop\tM2\tS1\nB\ttrip\tT1\tT1_merged_1\n\
+joined agency 1\njoined stop 2\njoined route 1\njoined service 1\njoined trip 0\n",
+        pairs: "M1 S1\nM2 S1\n",
+        written: &[(File::Transfers, "S1,S2,,,,,2,90\n")],
+    },
+];
+
+fn assert_near<R: Abort + RandomSource>(rt: &R, alloc: Global, cases: &[Near]) -> Result<(), Fail> {
+    for case in cases {
+        let a = feed_with(rt, alloc, case.a)?;
+        let b = feed_with(rt, alloc, case.b)?;
+        assert_case(rt, alloc, case, &a, &b)?;
+    }
+    Ok(())
+}
+
+fn assert_case<R: Abort + RandomSource>(
+    rt: &R,
+    alloc: Global,
+    case: &Near,
+    a: &Feed,
+    b: &Feed,
+) -> Result<(), Fail> {
+    let merged = merged_near(rt, alloc, a, b, Some(case.near))?;
+    assert_names(rt, alloc, case, (a, b), &merged)?;
+    assert_rows(rt, alloc, &merged.feed, case.written)?;
+    assert_reads_back(rt, alloc, &merged.feed)
+}
+
+fn assert_names(
+    rt: &impl Abort,
+    alloc: Global,
+    case: &Near,
+    (a, b): (&Feed, &Feed),
+    merged: &Merged,
+) -> Result<(), Fail> {
+    let told = report(alloc, a, b, &merged.names)?;
+    assert_is(rt, told.as_str(), case.report, case.what);
+    let pairs = pairs(alloc, &merged.names)?;
+    assert_is(rt, pairs.as_str(), case.pairs, case.what);
+    Ok(())
+}
+
+// A line for each near stop: its id and that of the stop of A.
+fn pairs(alloc: Global, names: &Names) -> Result<String, Fail> {
+    let mut text = String::new(alloc);
+    for (own, other) in names.near() {
+        text.push_str(own)?;
+        text.push_str(" ")?;
+        text.push_str(other)?;
+        text.push_str("\n")?;
+    }
+    Ok(text)
+}
+
+#[test]
+fn stops_are_near_up_to_a_distance(rt: HostRuntime) -> Result<(), Fail> {
+    assert_near(&rt, rt.alloc(), DISTANCES)
+}
+
+#[test]
+fn near_stops_become_the_least_stop_of_their_name_and_type(rt: HostRuntime) -> Result<(), Fail> {
+    assert_near(&rt, rt.alloc(), STOPS)
+}
+
+#[test]
+fn near_stops_have_the_same_parent(rt: HostRuntime) -> Result<(), Fail> {
+    assert_near(&rt, rt.alloc(), STATIONS)
+}
+
+#[test]
+fn transfers_of_near_stops_become_one(rt: HostRuntime) -> Result<(), Fail> {
+    assert_near(&rt, rt.alloc(), TRANSFERS)
+}

@@ -1,0 +1,26 @@
+-- Areas between two latitudes and two longitudes.
+use Rattle.std.specs.Prelude.{ℕ, ◌+◌, ◌-◌, ◌&&◌, Bool, nat_le, max, min}
+use Rattle.gtfs_nearby.specs.declared.area.Area.{Area}
+use Rattle.gtfs_nearby.specs.declared.place.Place.{Place}
+
+-- all places up to so many units away
+abbrev pub area_around : Place → ℕ → Area
+area_around p reach = record { south = p.lat - reach; north = p.lat + reach; west = p.lon - reach; east = p.lon + reach }
+
+abbrev pub area_of : Place → Area
+area_of p = record { south = p.lat; north = p.lat; west = p.lon; east = p.lon }
+
+-- the least area with one more place
+abbrev pub widened : Area → Place → Area
+widened a p = record { south = min a.south p.lat; north = max a.north p.lat; west = min a.west p.lon; east = max a.east p.lon }
+
+abbrev pub has : Area → Place → Bool
+has a p = nat_le a.south p.lat && nat_le p.lat a.north && nat_le a.west p.lon && nat_le p.lon a.east
+
+-- some place may be in both
+abbrev pub meets : Area → Area → Bool
+meets a b = nat_le a.south b.north && nat_le b.south a.north && nat_le a.west b.east && nat_le b.west a.east
+
+-- each place of the second is in the first
+abbrev pub covers : Area → Area → Bool
+covers a b = nat_le a.south b.south && nat_le b.north a.north && nat_le a.west b.west && nat_le b.east a.east

@@ -1,0 +1,26 @@
+ghost use Rattle.std.specs.Prelude.{◌≡◌, ◌<◌, length};
+ghost use Rattle.std.specs.List.Sorted.{IsSorted};
+ghost use Rattle.gtfs_nearby.specs.Index.{IsRun, listed_cmp};
+
+use crate::listed::Listed;
+use crate::place::{Place, group_order};
+
+// Listed stops that stand one after the other: their indices from the first to before the last.
+#[derive(Clone, Copy)]
+pub(crate) struct Run {
+    pub from: usize,
+    pub until: usize,
+}
+
+impl Run {
+    // Those that have the name, type and parent of this place.
+    pub fn of(listed: &[Listed<'_>], place: &Place<'_>) -> Run
+        requires { IsSorted listed_cmp listed.now }
+        ensures { IsRun listed.now place.now result }
+    {
+        Run {
+            from: listed.partition_point(|one| group_order(&one.place, place).is_lt()),
+            until: listed.partition_point(|one| group_order(&one.place, place).is_le()),
+        }
+    }
+}
