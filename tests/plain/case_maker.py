@@ -8,7 +8,7 @@ from commands import Ended, feed, moment_of, zone_of
 from feed_maker import BASES, file_bytes, make_feed
 from filling import interpolated
 from hostile import change_case
-from oddities import DIFFERENCES, ODDITIES, change
+from oddities import DIFFERENCES, MOVES, ODDITIES, change
 from values import LAST_SERVICE_DAY, Form, Range, date_text
 from words import COMMANDS
 from zone_maker import make_zone, no_zone
@@ -157,13 +157,18 @@ def given_merge(random):
     if random.random() < 0.7:
         other = copy.deepcopy(made)
         change(random, other, DIFFERENCES, random.choice([0, 1, 1, 2, 2, 3, 4]))
+        change(random, other, MOVES, random.choice([0, 0, 1, 2, 3]))
         put("b", file_bytes(random, other))
     else:
         put_feed(random, "b", random.choice([0, 0, 0, 0, 1]))
     put(".", {"z": b"no folder"})
     a, b = (name if random.random() < 0.94 else random.choice(["none", "", "z", "z"]) for name in "ab")
     out = random.choice(["out", "out/deep/er", "a", "b", "b"] if random.random() < 0.88 else ["z/out", "z", ""])
-    return {"A": a, "B": b, "OUT": out}
+    given = {"A": a, "B": b, "OUT": out}
+    if random.random() < 0.5:
+        odd = ["2147483648", "x", "", "+1", "-1", "1.0", " 1"]
+        given["near"] = random.choice(odd if random.random() < 0.06 else ["0", "1", "1", "5", "0010", "2147483647"])
+    return given
 
 
 GIVEN = {"check": given_check, "board": given_board, "timetable": given_timetable, "merge": given_merge}
@@ -196,7 +201,7 @@ def odd_words(random, command, given):
     version = random.choice([["--version"], ["-V"], ["--version", *words], ["-V", "--help"]])
     refused = random.choice([
         [], ["help"], ["Check", "f"], [command, "--version"], [*words, "-V"], [*words, "--foo"], [*words, "more"],
-        [*words, "--foo", "--help"], [*words, "--zone"], [*words, "--interpolate"], [*words, "--interpolate=true"], ["--foo"],
+        [*words, "--foo", "--help"], [*words, "--zone"], [*words, "--interpolate"], [*words, "--interpolate=true"], [*words, "--near"], ["--foo"],
         ["-x", *words], [*words, "--"], [*words, "--", "--help"], ["check", "--", "-d"], less, less,
     ])
     return random.choice([not_utf8, asking, version, refused, refused, refused])

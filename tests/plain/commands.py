@@ -187,10 +187,11 @@ def timetable(given):
 
 
 def merge(given):
+    near = value(given, "near", read_count)
     a = feed(given["A"], "A")
     b = feed(given["B"], "B")
     try:
-        merged, names = merging.merge(a, b)
+        merged, names = merging.merge(a, b, near)
     except merging.ZonesDiffer:
         raise Ended(1, "zones differ") from None
     if not can_be_written(given["OUT"]):

@@ -15,15 +15,19 @@ def without(row, *names):
 
 
 class Names:
-    """The names that the ids of both feeds have in the merged one, and the ids of each kind that are joined."""
+    """The names that the ids of both feeds have in the merged one, the ids of each kind that are joined, and the near stops of B.
 
-    def __init__(self, a, b):
-        self.a, self.b = a, b
+    `near` is how many millionths of a degree near stops are apart at most, or None where no stop is near another.
+    """
+
+    def __init__(self, a, b, near=None):
+        self.a, self.b, self.near = a, b, near
+        self.near_stops = []
         self.names = {side: {kind: {} for kind in KINDS} for side in "AB"}
         self.joined = {kind: [] for kind in KINDS}
         self.name_agencies()
         for id in sorted(b.stops, key=self.depth):
-            self.name("stop", id, a.stops, b.stops, self.stop)
+            self.name_stop(id)
         for id in b.routes:
             self.name("route", id, a.routes, b.routes, self.route)
         for id in b.services:
@@ -48,6 +52,27 @@ class Names:
             self.joined[kind].append(id)
         else:
             self.names["B"][kind][id] = free(f"{id}_merged_", set(in_a) | set(in_b))
+
+    def name_stop(self, id):
+        """Names a stop of B: one that is not joined takes the least id of A that it is near, if there is one."""
+        a, b = self.a.stops, self.b.stops
+        is_joined = id in a and self.stop("A", id) == self.stop("B", id)
+        near = [] if is_joined else [other for other in a if self.is_near(other, id)]
+        if near:
+            self.near_stops.append(id)
+            self.names["B"]["stop"][id] = min(near)
+        else:
+            self.name("stop", id, a, b, self.stop)
+
+    def is_near(self, id_a, id_b):
+        """Whether a stop of B, whose parent has its name already, is near a stop of A."""
+        x, y = self.stop("A", id_a), self.stop("B", id_b)
+        if self.near is None or x["stop_name"] is None:
+            return False
+        if any(x[column] != y[column] for column in ("stop_name", "location_type", "parent_station")):
+            return False
+        places = [(x[column], y[column]) for column in ("stop_lat", "stop_lon")]
+        return all(None not in place and abs(place[0] - place[1]) <= self.near * 1000 for place in places)
 
     def name_agencies(self):
         a, b = self.a.agencies, self.b.agencies
@@ -143,11 +168,11 @@ def renamed_feed(feed, names, side):
     return Content(agencies, rows("stop", feed.stops), rows("route", feed.routes), services, trips, transfers)
 
 
-def merge(a, b):
+def merge(a, b, near=None):
     """The merged feed, in which the rows of A stand before those of B with the same id, and the names."""
     if a.zone() != b.zone():
         raise ZonesDiffer
-    names = Names(a, b)
+    names = Names(a, b, near)
     first, second = renamed_feed(a, names, "A"), renamed_feed(b, names, "B")
     return Content(*({**vars(second)[part], **rows} for part, rows in vars(first).items())), names
 
@@ -159,6 +184,8 @@ def report(names):
             changed = sorted((old, new) for old, new in names.names[side][kind].items() if old != new)
             lines += [f"{side}\t{kind}\t{old}\t{new}\n" for old, new in changed]
     lines += [f"joined {kind} {len(names.joined[kind])}\n" for kind in KINDS]
+    if names.near is not None:
+        lines.append(f"near stop {len(names.near_stops)}\n")
     return "".join(lines)
 
 

@@ -1,6 +1,6 @@
 """Changes of a made feed that may break it: odd values, rows and columns too many or too few, files of another kind."""
 from columns import FILES, WEEKDAYS
-from values import date_text
+from values import Form, Range, coordinate_text, date_text, read_coordinate
 
 VALUES = [
     "", " ", "x", "-1", "007", "2147483647", "2147483648", "9", "0", "1", "2", "3", "4", "5", "6:00:00", "06:00:00",
@@ -181,6 +181,39 @@ def day_more(random, feed):
 
 # Changes of a feed of which another one is a copy; it mostly still passes.
 DIFFERENCES = [*[odd_value] * 3, other_value, row_less, times_less, week_emptied, *[trip_later, name_changed, day_more] * 3]
+
+
+def stop_called_anew(random, feed):
+    """A stop of another id, wherever it is named."""
+    ids = feed.ids("stops.txt", "stop_id")
+    if not ids:
+        return
+    old = random.choice(ids)
+    new = random.choice(["A" + old, old + "0", "Z9"])
+    if new in ids:
+        return
+    for rows in feed.sheets.values():
+        for row in rows:
+            for column in ("stop_id", "parent_station", "from_stop_id", "to_stop_id"):
+                if row.get(column) == old:
+                    row[column] = new
+
+
+def stop_moved(random, feed):
+    """A stop about a millionth of a degree away."""
+    row = random.choice(feed.sheets["stops.txt"])
+    column, limit = random.choice([("stop_lat", 90), ("stop_lon", 180)])
+    try:
+        units = read_coordinate(row.get(column, ""), limit)
+    except (Form, Range):
+        return
+    units += random.choice([1, 999, 1000, 1001, 5000, 9999]) * random.choice([1, -1])
+    if abs(units) <= limit * 10**9:
+        row[column] = coordinate_text(units)
+
+
+# Changes of a feed of which another one is a copy, that leave its stops close to those of the other.
+MOVES = [stop_called_anew, stop_called_anew, stop_moved]
 
 
 def change(random, feed, changes, times):

@@ -1,6 +1,6 @@
 -- How a run of `gtfs board` ends.
-use Rattle.std.proofs.Common.{◌≡◌, ◌∙◌, ap, ℕ, sym, inl, inr, Bool, false, List, Option, Result, Ok, Err, arith}
-use Rattle.std.specs.Prelude.{cond, IfErr, IfOk, OnErr, OnOk}
+use Rattle.std.proofs.Common.{◌≡◌, ◌∙◌, ap, refl, ℕ, sym, inl, inr, Bool, false, List, Option, Some, None, Result, Ok, Err, arith}
+use Rattle.std.specs.Prelude.{cond, IfErr, IfOk, IsSome, OnErr, OnOk}
 use Rattle.std.specs.Io.KnownBytes.{Appends, Keeps}
 use Rattle.gtfs_devices.specs.Device.{Rises}
 use Rattle.gtfs_devices.specs.Folder.{Store}
@@ -12,6 +12,10 @@ use Rattle.gtfs_cli.specs.Running.{Failures}
 use Rattle.gtfs_cli.specs.Sending.{Output, Sends, SendsBeginning}
 use Rattle.gtfs_cli.specs.declared.commands.refusal.Refusal.{Refusal}
 use Rattle.gtfs_cli.specs.declared.commands.refusal.Refusal.TheVariants.{Words, BadValue, NotThere, Unreadable, OverLimit, HasErrors, NoZone, UnknownStop, UnknownRoute, UntilBeforeFrom, ZonesDiffer, MergeTooLarge, Unwritable, OutputFailed, OutOfMemory}
+
+pub is-some : {A : Type 0} (o : Option A) (x : A) → o ≡ Some x → IsSome o
+is-some None x e = cc e
+is-some (Some y) x e = refl
 
 -- no refusal ends well
 pub not_well : (r : Refusal) → status_of r ≡ 0 → ⊥

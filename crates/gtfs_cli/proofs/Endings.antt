@@ -1,6 +1,6 @@
 -- Refusals, when they come, and the status that each gives.
-use Rattle.std.proofs.Common.{◌≡◌, refl, ℕ, ◌<◌, ◌≤◌, length, inl, inr, Bool, true, false, List, Option, Some, None, Result, Ok, Err, sym, subst, ◌∙◌, arith}
-use Rattle.std.specs.Prelude.{IfErr, IsErrAnd, IsSome}
+use Rattle.std.proofs.Common.{◌≡◌, ℕ, ◌<◌, ◌≤◌, length, inl, inr, Bool, true, false, List, Option, Result, Ok, Err, sym, subst, ◌∙◌, arith}
+use Rattle.std.specs.Prelude.{IfErr, IsErrAnd}
 use Rattle.gtfs_devices.specs.Device.{Rises}
 use Rattle.gtfs_devices.specs.Folder.{Store, RefusesRead}
 use Rattle.gtfs_table.specs.Reading.{RefusesDataset}
@@ -14,6 +14,7 @@ use Rattle.gtfs_cli.specs.Timetables.{IsTimetableCause}
 use Rattle.gtfs_cli.specs.Refusals.{status_in, status_of, IsCause, IsCauseInWords, IsCauseOf, IsCheckCause, IsFileCause, IsReadingCause}
 use Rattle.gtfs_cli.specs.declared.commands.refusal.Refusal.{Refusal}
 use Rattle.gtfs_cli.specs.declared.commands.refusal.Refusal.TheVariants.{Words, BadValue, NotThere, Unreadable, OverLimit, HasErrors, NoZone, UnknownStop, UnknownRoute, UntilBeforeFrom, ZonesDiffer, MergeTooLarge, Unwritable, OutputFailed, OutOfMemory}
+use Rattle.gtfs_cli.proofs.Ended.{is-some}
 use Rattle.gtfs_cli.proofs.MergeEnded.{device-by-merge, usage-by-merge}
 
 -- a count that rose within a call rose over a longer one
@@ -101,10 +102,6 @@ cause-file limit held path before after x y folder name faults.Write first last 
 
 -- ---- what statuses tell
 
-is-some : {A : Type 0} (o : Option A) (x : A) → o ≡ Some x → IsSome o
-is-some None x e = cc e
-is-some (Some y) x e = refl
-
 abbrev pub TellsUsage : List Text → ℕ → Option Store → Refusal → Type 0
 TellsUsage texts limit held refusal = status_of refusal ≡ 2 → IsBadUsage texts limit held
 
@@ -161,7 +158,7 @@ usage_by_board texts limit held before after OutOfMemory h e = absurd (omega (ar
 
 usage_by_timetable : (texts : List Text) (limit : ℕ) (held : Option Store) (before after : Failures) (r : Refusal) → AsksTimetable texts (λ asked. IsTimetableCause limit held asked before after r) → TellsUsage texts limit held r
 usage_by_timetable texts limit held before after (Words text) h e = absurd h.fact
-usage_by_timetable texts limit held before after (BadValue option) h e = inr (inr (record { words = h.words; taken = h.taken; asks = h.asks; fact = is-some _ option.now h.fact }))
+usage_by_timetable texts limit held before after (BadValue option) h e = inr (inr (inl (record { words = h.words; taken = h.taken; asks = h.asks; fact = is-some _ option.now h.fact })))
 usage_by_timetable texts limit held before after (NotThere path) h e = absurd (omega (arith, e))
 usage_by_timetable texts limit held before after (Unreadable path) h e = absurd (omega (arith, e))
 usage_by_timetable texts limit held before after (OverLimit path) h e = absurd (omega (arith, e))

@@ -14,7 +14,7 @@ use Rattle.gtfs_cli.specs.Running.{AsksMerge, Failures, HoldsKeptFile, IsBadUsag
 use Rattle.gtfs_cli.specs.Sending.{Output, Sends}
 use Rattle.gtfs_cli.specs.declared.commands.refusal.Refusal.{Refusal}
 use Rattle.gtfs_cli.specs.declared.commands.refusal.Refusal.TheVariants.{Words, BadValue, NotThere, Unreadable, OverLimit, HasErrors, NoZone, UnknownStop, UnknownRoute, UntilBeforeFrom, ZonesDiffer, MergeTooLarge, Unwritable, OutputFailed, OutOfMemory}
-use Rattle.gtfs_cli.proofs.Ended.{at_zero, not_well}
+use Rattle.gtfs_cli.proofs.Ended.{at_zero, is-some, not_well}
 
 -- ---- the status and the error output
 
@@ -37,8 +37,9 @@ module _ (limit : ℕ) (held : Option Store) (asked : MergeTexts) (before after 
 
 pub usage-by-merge : (texts : List Text) (limit : ℕ) (held : Option Store) (before after : Failures) (r : Refusal)
     → AsksMerge texts (λ asked. IsMergeCause limit held asked before after r) → status_of r ≡ 2 → IsBadUsage texts limit held
-usage-by-merge texts limit held before after (Words text) h e = absurd h.fact
-usage-by-merge texts limit held before after (BadValue option) h e = absurd h.fact
+usage-by-merge texts limit held before after (Words text) h e = absurd h.fact.1
+usage-by-merge texts limit held before after (BadValue option) h e =
+    inr (inr (inr (record { words = h.words; taken = h.taken; asks = h.asks; fact = is-some _ option.now h.fact })))
 usage-by-merge texts limit held before after (NotThere path) h e = absurd (omega (arith, e))
 usage-by-merge texts limit held before after (Unreadable path) h e = absurd (omega (arith, e))
 usage-by-merge texts limit held before after (OverLimit path) h e = absurd (omega (arith, e))
@@ -46,7 +47,7 @@ usage-by-merge texts limit held before after (HasErrors path) h e = absurd (omeg
 usage-by-merge texts limit held before after (NoZone path) h e = absurd (omega (arith, e))
 usage-by-merge texts limit held before after UnknownStop h e = absurd (omega (arith, e))
 usage-by-merge texts limit held before after UnknownRoute h e = absurd (omega (arith, e))
-usage-by-merge texts limit held before after UntilBeforeFrom h e = absurd h.fact
+usage-by-merge texts limit held before after UntilBeforeFrom h e = absurd h.fact.1
 usage-by-merge texts limit held before after ZonesDiffer h e = absurd (omega (arith, e))
 usage-by-merge texts limit held before after MergeTooLarge h e = absurd (omega (arith, e))
 usage-by-merge texts limit held before after (Unwritable path) h e = absurd (omega (arith, e))
@@ -77,16 +78,16 @@ module _ (texts : List Text) (limit : ℕ) (held : Option Store) (before after :
 
   pub device-by-merge : (r : Refusal) → AsksMerge texts (λ asked. IsMergeCause limit held asked before after r) → status_of r ≡ 3
       → IsDeviceFault texts limit held before after
-  device-by-merge (Words text) h e = absurd h.fact
-  device-by-merge (BadValue option) h e = absurd h.fact
-  device-by-merge (NotThere path) h e = kept_from (record { words = h.words; taken = h.taken; asks = h.asks; fact = either_lacks limit held (merge_texts_of h.words) path.now h.fact })
-  device-by-merge (Unreadable path) h e = inl (inl (either_rises limit held (merge_texts_of h.words) path.now (Rises before.folders after.folders) h.fact))
-  device-by-merge (OverLimit path) h e = kept_from (record { words = h.words; taken = h.taken; asks = h.asks; fact = either_over limit held (merge_texts_of h.words) path.now h.fact })
+  device-by-merge (Words text) h e = absurd h.fact.1
+  device-by-merge (BadValue option) h e = absurd (omega (arith, e))
+  device-by-merge (NotThere path) h e = kept_from (record { words = h.words; taken = h.taken; asks = h.asks; fact = either_lacks limit held (merge_texts_of h.words) path.now h.fact.1 })
+  device-by-merge (Unreadable path) h e = inl (inl (either_rises limit held (merge_texts_of h.words) path.now (Rises before.folders after.folders) h.fact.1))
+  device-by-merge (OverLimit path) h e = kept_from (record { words = h.words; taken = h.taken; asks = h.asks; fact = either_over limit held (merge_texts_of h.words) path.now h.fact.1 })
   device-by-merge (HasErrors path) h e = absurd (omega (arith, e))
-  device-by-merge (NoZone path) h e = absurd h.fact
-  device-by-merge UnknownStop h e = absurd h.fact
-  device-by-merge UnknownRoute h e = absurd h.fact
-  device-by-merge UntilBeforeFrom h e = absurd h.fact
+  device-by-merge (NoZone path) h e = absurd h.fact.1
+  device-by-merge UnknownStop h e = absurd h.fact.1
+  device-by-merge UnknownRoute h e = absurd h.fact.1
+  device-by-merge UntilBeforeFrom h e = absurd h.fact.1
   device-by-merge ZonesDiffer h e = absurd (omega (arith, e))
   device-by-merge MergeTooLarge h e = absurd (omega (arith, e))
   device-by-merge (Unwritable path) h e = unwritten (Unwritable path) h h.fact.2

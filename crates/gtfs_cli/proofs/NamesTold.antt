@@ -5,8 +5,9 @@ use Rattle.std.proofs.lemmas.Bool.{or_left, or_right}
 use Rattle.gtfs_rows.specs.Content.{Content}
 use Rattle.gtfs_merge.specs.Merging.{AreNamesOf}
 use Rattle.gtfs_merge.specs.Names.{AllNames, in_kind, new_id}
-use Rattle.gtfs_merge.specs.Renaming.{has_id, ids, names_a, names_b, never_near, renaming, Renaming}
-use Rattle.gtfs_merge.specs.Report.{joined_line, kind_lines, kinds, merge_report, renamed_line, renamed_lines}
+use Rattle.gtfs_merge.specs.Renaming.{has_id, ids, names_a, names_b, renaming, Renaming}
+use Rattle.gtfs_merge.specs.Near.{near_line, nearness, report}
+use Rattle.gtfs_merge.specs.Report.{joined_line, kind_lines, kinds, renamed_line, renamed_lines}
 use Rattle.gtfs_merge.specs.declared.kind.Kind.{Kind}
 use Rattle.gtfs_merge.specs.declared.kind.Side.{Side}
 use Rattle.gtfs_merge.specs.declared.kind.Side.TheVariants as side
@@ -30,21 +31,22 @@ lines_of s k rename new (x ∷ xs) is =
 named : (rename : Renaming) (xs : List (List ℕ)) (x : List ℕ) (told : Option (List ℕ)) → told ≡ (if has_id xs x then Some (rename x) else None) → has_id xs x ≡ true → told ≡ Some (rename x)
 named rename xs x told is there = is ∙ ap (λ b. if b then Some (rename x) else None) there
 
-module _ (a b : Content) (n : AllNames) (are : AreNamesOf a b n) where
+module _ (near : Option ℕ) (a b : Content) (n : AllNames) (are : AreNamesOf near a b n) where
   first_lines : (k : Kind) → side_lines n side.A k ≡ renamed_lines side.A k (renaming (names_a a b) k) (ids k a)
   first_lines k =
       ap (flat_map (id_line n side.A k)) (are.ids_a k)
       ∙ lines_of side.A k (renaming (names_a a b) k) (new_id (in_kind n k).a) (ids k a)
       (λ x. named (renaming (names_a a b) k) (ids k a) x (new_id (in_kind n k).a x) (are.a k x))
 
-  second_lines : (k : Kind) → side_lines n side.B k ≡ renamed_lines side.B k (renaming (names_b never_near a b) k) (ids k b)
+  second_lines : (k : Kind) → side_lines n side.B k ≡ renamed_lines side.B k (renaming (names_b (nearness near) a b) k) (ids k b)
   second_lines k =
       ap (flat_map (id_line n side.B k)) (are.ids_b k)
-      ∙ lines_of side.B k (renaming (names_b never_near a b) k) (new_id (in_kind n k).b) (ids k b)
-      (λ x. named (renaming (names_b never_near a b) k) (ids k b) x (new_id (in_kind n k).b x) (are.b k x))
+      ∙ lines_of side.B k (renaming (names_b (nearness near) a b) k) (new_id (in_kind n k).b) (ids k b)
+      (λ x. named (renaming (names_b (nearness near) a b) k) (ids k b) x (new_id (in_kind n k).b x) (are.b k x))
 
-  lines_told : (k : Kind) → both_lines n k ≡ kind_lines never_near a b k
+  lines_told : (k : Kind) → both_lines n k ≡ kind_lines (nearness near) a b k
   lines_told k = λ i. first_lines k i ++ second_lines k i
 
-  pub report-told : names_report n ≡ merge_report never_near a b
-  report-told = λ i. flat_map (λ k. lines_told k i) kinds ++ flat_map (λ k. joined_line k (length (are.joined k i))) kinds
+  pub report-told : names_report near n ≡ report near a b
+  report-told = λ i. (flat_map (λ k. lines_told k i) kinds ++ flat_map (λ k. joined_line k (length (are.joined k i))) kinds)
+      ++ near_line near (length (are.near i))

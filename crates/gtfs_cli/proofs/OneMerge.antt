@@ -1,14 +1,16 @@
 -- A merge has one outcome.
-use Rattle.std.proofs.Common.{◌≡◌, ◌≢◌, ◌∙◌, ap, sym, subst, refl, ℕ, inl, inr, ◌⊎◌, true, false, List, [], length, Some, codes, arith}
+use Rattle.std.proofs.Common.{◌≡◌, ◌≢◌, ◌∙◌, ap, sym, subst, refl, ℕ, inl, inr, ◌⊎◌, true, false, List, [], length, Option, Some, None, codes, arith}
+use Rattle.std.specs.Prelude.{unwrap_or}
 use Rattle.std.proofs.lemmas.Option.{same_Some}
 use Rattle.gtfs_devices.specs.Folder.{Store}
 use Rattle.gtfs_table.specs.Reading.{kept_files}
 use Rattle.gtfs_rows.specs.Content.{Content}
 use Rattle.gtfs_rows.specs.Reading.{content_of}
 use Rattle.gtfs_merge.specs.Merged.{is_too_large, merged, zones_differ}
-use Rattle.gtfs_merge.specs.Renaming.{never_near}
-use Rattle.gtfs_merge.specs.Report.{merge_report}
+use Rattle.gtfs_merge.specs.Near.{nearness, report as report_of}
+use Rattle.clap.specs.Words.{Text}
 use Rattle.gtfs_words.specs.Words.{MergeTexts}
+use Rattle.gtfs_cli.specs.MergeOptions.{first_bad_merge, HasMergeValues, IsMergeRequest, MergeRequest}
 use Rattle.gtfs_cli.specs.Merges.{file_limit, with_files, CanMerge, HasLargeMerge, HasTwoZones, IsFolderMerge, IsMergeCause, MergeSetting}
 use Rattle.gtfs_cli.specs.Messages.{line_of, message}
 use Rattle.gtfs_cli.specs.Outcomes.{none_failed, IsMergeMade, IsMergeOutcome, MergeOutcome, Outcome}
@@ -23,10 +25,24 @@ use Rattle.gtfs_cli.proofs.Outcomes.{alike, not_there, one_dataset, over_limit, 
 both_alike : (x y : MergeOutcome) → x.ended ≡ y.ended → x.folders ≡ y.folders → x ≡ y
 both_alike x y ended folders = λ i. record { ended = ended i; folders = folders i }
 
+none_bad : (asked : MergeTexts) → HasMergeValues asked → first_bad_merge asked ≡ None
+none_bad asked (q, is) = rw is.near refl
+
+same_option : (a b : Text) → Some a ≡ Some b → a ≡ b
+same_option a b is = ap (λ (o : Option Text). unwrap_or o a) is
+
+one_request : (asked : MergeTexts) (p q : MergeRequest) → IsMergeRequest asked p → IsMergeRequest asked q → p ≡ q
+one_request asked p q a b =
+    let near : p.near ≡ q.near = ap (λ (o : Option (Option ℕ)). unwrap_or o p.near) (sym a.near ∙ b.near) in
+    λ i. record { near = near i }
+
 module _ (limit : ℕ) (store : Store) (asked : MergeTexts) where
   -- nothing changed
   abbrev unchanged : Outcome → MergeOutcome
   unchanged e = record { ended = e; folders = store }
+
+  abbrev bad_value : Text → Outcome
+  bad_value option = refused (line_of (codes "bad value of ") option) 2
 
   abbrev zones_differ_line : Outcome
   zones_differ_line = refused (line_of (codes "zones differ") []) 1
@@ -62,9 +78,20 @@ module _ (limit : ℕ) (store : Store) (asked : MergeTexts) where
   abbrev SecondEnd : MergeOutcome → Type 0
   SecondEnd o = FolderEnd MergeOutcome unchanged limit store asked.b FeedsEnd o
 
+  -- an option is bad
+  abbrev BadEnd : MergeOutcome → Type 0
+  BadEnd o = (option : Text) × (first_bad_merge asked ≡ Some option) × (o ≡ unchanged (bad_value option))
+
   -- the first folder is judged, and then the second
+  abbrev FoldersEnd : MergeOutcome → Type 0
+  FoldersEnd o = FolderEnd MergeOutcome unchanged limit store asked.a SecondEnd o
+
+  -- none is, and then the folders are judged
+  abbrev GoodEnd : MergeOutcome → Type 0
+  GoodEnd o = HasMergeValues asked × FoldersEnd o
+
   abbrev MergeEnds : MergeOutcome → Type 0
-  MergeEnds o = FolderEnd MergeOutcome unchanged limit store asked.a SecondEnd o
+  MergeEnds o = BadEnd o ⊎ GoodEnd o
 
   nothing_changed : (o : MergeOutcome) → Some o.folders ≡ Some store → (e : Outcome) → o.ended ≡ e → o ≡ unchanged e
   nothing_changed o same e is = both_alike o (unchanged e) is (same_Some o.folders store same)
@@ -72,42 +99,47 @@ module _ (limit : ℕ) (store : Store) (asked : MergeTexts) where
   -- ---- each outcome ends so
 
   judged : (s : MergeSetting limit (Some store) asked) (o : MergeOutcome) → FeedsEnd o → MergeEnds o
-  judged s o end = inr (inr (inr ((s.first, s.holds_first, s.first_passes), inr (inr (inr ((s.second, s.holds_second, s.second_passes), end))))))
+  judged s o end = inr (
+    (s.request, s.is_request),
+    inr (inr (inr ((s.first, s.holds_first, s.first_passes), inr (inr (inr ((s.second, s.holds_second, s.second_passes), end)))))),
+  )
 
   refused_merge : (o : MergeOutcome) → Some o.folders ≡ Some store → (r : Refusal) → IsMergeCause limit (Some store) asked none_failed none_failed r → r ≢ OutOfMemory
       → o.ended.text ≡ [] → o.ended.told ≡ message r → o.ended.status ≡ status_of r → MergeEnds o
-  refused_merge o same (Words text) cause enough printed told status = absurd cause
-  refused_merge o same (BadValue option) cause enough printed told status = absurd cause
-  refused_merge o same (NotThere path) (inl at) enough printed told status =
+  refused_merge o same (Words text) cause enough printed told status = absurd cause.1
+  refused_merge o same (BadValue option) cause enough printed told status =
+      let end = alike o.ended (bad_value option.now) printed told status in
+      inl (option.now, cause, nothing_changed o same (bad_value option.now) end)
+  refused_merge o same (NotThere path) (values, inl at) enough printed told status =
       let end = alike o.ended (not_there limit store asked.a) printed (told ∙ told-of path.now asked.a (codes " is not there") at.0) status in
-      inl (at.1, nothing_changed o same (not_there limit store asked.a) end)
-  refused_merge o same (NotThere path) (inr at) enough printed told status =
+      inr (values, inl (at.1, nothing_changed o same (not_there limit store asked.a) end))
+  refused_merge o same (NotThere path) (values, inr at) enough printed told status =
       let end = alike o.ended (not_there limit store asked.b) printed (told ∙ told-of path.now asked.b (codes " is not there") at.0) status in
-      inr (inr (inr (at.1, inl (at.2, nothing_changed o same (not_there limit store asked.b) end))))
-  refused_merge o same (Unreadable path) (inl at) enough printed told status = absurd (omega (arith, at.1))
-  refused_merge o same (Unreadable path) (inr at) enough printed told status = absurd (omega (arith, at.2))
-  refused_merge o same (OverLimit path) (inl at) enough printed told status =
+      inr (values, inr (inr (inr (at.1, inl (at.2, nothing_changed o same (not_there limit store asked.b) end)))))
+  refused_merge o same (Unreadable path) (values, inl at) enough printed told status = absurd (omega (arith, at.1))
+  refused_merge o same (Unreadable path) (values, inr at) enough printed told status = absurd (omega (arith, at.2))
+  refused_merge o same (OverLimit path) (values, inl at) enough printed told status =
       let end = alike o.ended (over_limit limit store asked.a) printed (told ∙ told-of path.now asked.a (codes " holds a file over the limit") at.0) status in
-      inr (inl (at.1, nothing_changed o same (over_limit limit store asked.a) end))
-  refused_merge o same (OverLimit path) (inr at) enough printed told status =
+      inr (values, inr (inl (at.1, nothing_changed o same (over_limit limit store asked.a) end)))
+  refused_merge o same (OverLimit path) (values, inr at) enough printed told status =
       let end = alike o.ended (over_limit limit store asked.b) printed (told ∙ told-of path.now asked.b (codes " holds a file over the limit") at.0) status in
-      inr (inr (inr (at.1, inr (inl (at.2, nothing_changed o same (over_limit limit store asked.b) end)))))
-  refused_merge o same (HasErrors path) (inl at) enough printed told status =
+      inr (values, inr (inr (inr (at.1, inr (inl (at.2, nothing_changed o same (over_limit limit store asked.b) end))))))
+  refused_merge o same (HasErrors path) (values, inl at) enough printed told status =
       let end = alike o.ended (has_errors asked.a) printed (told ∙ told-of path.now asked.a (codes " has errors") at.0) status in
-      inr (inr (inl (at.1, nothing_changed o same (has_errors asked.a) end)))
-  refused_merge o same (HasErrors path) (inr at) enough printed told status =
+      inr (values, inr (inr (inl (at.1, nothing_changed o same (has_errors asked.a) end))))
+  refused_merge o same (HasErrors path) (values, inr at) enough printed told status =
       let end = alike o.ended (has_errors asked.b) printed (told ∙ told-of path.now asked.b (codes " has errors") at.0) status in
-      inr (inr (inr (at.1, inr (inr (inl (at.2, nothing_changed o same (has_errors asked.b) end))))))
-  refused_merge o same (NoZone path) cause enough printed told status = absurd cause
-  refused_merge o same UnknownStop cause enough printed told status = absurd cause
-  refused_merge o same UnknownRoute cause enough printed told status = absurd cause
-  refused_merge o same UntilBeforeFrom cause enough printed told status = absurd cause
+      inr (values, inr (inr (inr (at.1, inr (inr (inl (at.2, nothing_changed o same (has_errors asked.b) end)))))))
+  refused_merge o same (NoZone path) cause enough printed told status = absurd cause.1
+  refused_merge o same UnknownStop cause enough printed told status = absurd cause.1
+  refused_merge o same UnknownRoute cause enough printed told status = absurd cause.1
+  refused_merge o same UntilBeforeFrom cause enough printed told status = absurd cause.1
   refused_merge o same ZonesDiffer cause enough printed told status =
       let end = alike o.ended zones_differ_line printed told status in
-      judged cause.0 o (inl (cause, nothing_changed o same zones_differ_line end))
+      judged cause.1.0 o (inl (cause.1, nothing_changed o same zones_differ_line end))
   refused_merge o same MergeTooLarge cause enough printed told status =
       let end = alike o.ended too_large printed told status in
-      judged cause.0 o (inr (inl (cause, nothing_changed o same too_large end)))
+      judged cause.1.0 o (inr (inl (cause.1, nothing_changed o same too_large end)))
   refused_merge o same (Unwritable path) (at, can, inl none) enough printed told status =
       let end = alike o.ended not_written printed (told ∙ told-of path.now asked.out (codes " cannot be written") at) status in
       judged can.2.setting o (inr (inr (inl ((can, none), nothing_changed o same not_written end))))
@@ -128,9 +160,17 @@ module _ (limit : ℕ) (store : Store) (asked : MergeTexts) where
     same_second : content_of s.second ≡ content_of t.second
     same_second = ap content_of (one_dataset limit store asked.b s.second t.second s.holds_second t.holds_second)
 
+    same_near : s.request.near ≡ t.request.near
+    same_near = ap (λ (q : MergeRequest). q.near) (one_request asked s.request t.request s.is_request t.is_request)
+
     -- what is so of two feeds is so of them
     of_feeds : (P : Content → Content → Type 0) → P (content_of s.first) (content_of s.second) → P (content_of t.first) (content_of t.second)
     of_feeds P is = subst (λ (f : Content). P f (content_of t.second)) same_first (subst (λ (f : Content). P (content_of s.first) f) same_second is)
+
+    -- and what is so of them as near as is asked for
+    of_merge : (P : Option ℕ → Content → Content → Type 0) → P s.request.near (content_of s.first) (content_of s.second)
+        → P t.request.near (content_of t.first) (content_of t.second)
+    of_merge P is = subst (λ (n : Option ℕ). P n (content_of t.first) (content_of t.second)) same_near (of_feeds (P s.request.near) is)
 
     not_differing : zones_differ (content_of s.first) (content_of s.second) ≡ true → zones_differ (content_of t.first) (content_of t.second) ≡ false → ⊥
     not_differing differ one =
@@ -139,14 +179,14 @@ module _ (limit : ℕ) (store : Store) (asked : MergeTexts) where
 
   module _ (c d : Content) (told report : List ℕ) (a : IsFolderMerge limit (Some store) asked c told) (b : IsFolderMerge limit (Some store) asked d report) where
     same_content : c ≡ d
-    same_content = of_feeds a.setting b.setting (λ f g. c ≡ merged never_near f g) a.content ∙ sym b.content
+    same_content = of_merge a.setting b.setting (λ n f g. c ≡ merged (nearness n) f g) a.content ∙ sym b.content
 
     same_report : told ≡ report
-    same_report = of_feeds a.setting b.setting (λ f g. told ≡ merge_report never_near f g) a.is_report ∙ sym b.is_report
+    same_report = of_merge a.setting b.setting (λ n f g. told ≡ report_of n f g) a.is_report ∙ sym b.is_report
 
   not_large : HasLargeMerge limit (Some store) asked → (c : Content) (report : List ℕ) → IsFolderMerge limit (Some store) asked c report → ⊥
   not_large large c report is =
-      let both = of_feeds large.0 is.setting (λ f g. is_too_large file_limit (merged never_near f g) ≡ true) large.2 in
+      let both = of_merge large.0 is.setting (λ n f g. is_too_large file_limit (merged (nearness n) f g) ≡ true) large.2 in
       cc (sym (ap (is_too_large file_limit) is.content ∙ both) ∙ is.small)
 
   differing_one : Apart MergeOutcome Differing OfOneZone
@@ -180,8 +220,20 @@ module _ (limit : ℕ) (store : Store) (asked : MergeTexts) where
   one_second : One MergeOutcome SecondEnd
   one_second = one_folder MergeOutcome unchanged limit store asked.b FeedsEnd one_feeds
 
+  one_folders : One MergeOutcome FoldersEnd
+  one_folders = one_folder MergeOutcome unchanged limit store asked.a SecondEnd one_second
+
+  bad_good : Apart MergeOutcome BadEnd GoodEnd
+  bad_good x y a b = cc (sym (none_bad asked b.0) ∙ a.1)
+
+  one_bad : One MergeOutcome BadEnd
+  one_bad x y a b = a.2 ∙ ap (λ (option : Text). unchanged (bad_value option)) (same_option a.0 b.0 (sym a.1 ∙ b.1)) ∙ sym b.2
+
+  one_good : One MergeOutcome GoodEnd
+  one_good x y a b = one_folders x y a.1 b.1
+
   one_end : One MergeOutcome MergeEnds
-  one_end = one_folder MergeOutcome unchanged limit store asked.a SecondEnd one_second
+  one_end = either MergeOutcome BadEnd GoodEnd one_bad one_good bad_good
 
 pub one-merge : (limit : ℕ) (store : Store) (asked : MergeTexts) (x y : MergeOutcome) → IsMergeOutcome limit (Some store) asked x
     → IsMergeOutcome limit (Some store) asked y → x ≡ y

@@ -153,8 +153,8 @@ module _ (limit : ℕ) (store : Store) (before after : Failures) (old new : Opti
 
   module _ (asked : MergeTexts) (now : Option Store) where
     quiet_merge : (r : Refusal) → IsMergeCause limit (Some store) asked before after r → IsMergeCause limit (Some store) asked none_failed none_failed r
-    quiet_merge (Unreadable path) (inl at) = absurd (nothing.folders at.1)
-    quiet_merge (Unreadable path) (inr at) = absurd (nothing.folders at.2)
+    quiet_merge (Unreadable path) (values, inl at) = absurd (nothing.folders at.1)
+    quiet_merge (Unreadable path) (values, inr at) = absurd (nothing.folders at.2)
     quiet_merge (Unwritable path) (at, can, inl none) = (at, can, inl none)
     quiet_merge (Unwritable path) (at, can, inr rises) = absurd (nothing.folders rises)
     quiet_merge OutputFailed cause = absurd (nothing.output cause.1)

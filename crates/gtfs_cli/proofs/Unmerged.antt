@@ -1,5 +1,5 @@
 -- Why two folders are not merged, and what is left then.
-use Rattle.std.proofs.Common.{◌≡◌, ◌∙◌, ap, subst, ℕ, ◌<◌, ◌≤◌, length, ◌⊎◌, inl, inr, true, false, List, [], Option, Result, Ok, Err, arith}
+use Rattle.std.proofs.Common.{◌≡◌, ◌∙◌, ap, refl, subst, ℕ, ◌<◌, ◌≤◌, length, ◌⊎◌, inl, inr, true, false, List, [], Option, Result, Ok, Err, arith}
 use Rattle.std.specs.Prelude.{IfErr, OnErr}
 use Rattle.std.specs.Io.KnownBytes.{Appends, Keeps}
 use Rattle.gtfs_devices.specs.Device.{Rises}
@@ -11,13 +11,13 @@ use Rattle.gtfs_rows.specs.Views.{content_of_parts as content_of_feed}
 use Rattle.gtfs_rows.specs.declared.parts.Parts.{Parts as Feed}
 use Rattle.gtfs_merge.specs.Merged.{is_too_large, merged, zones_differ}
 use Rattle.gtfs_merge.specs.Merging.{IsMergeOf, KeepsDepartures}
-use Rattle.gtfs_merge.specs.Renaming.{never_near}
-use Rattle.gtfs_merge.specs.Report.{merge_report}
+use Rattle.gtfs_merge.specs.Near.{nearness, report as report_of}
 use Rattle.gtfs_merge.specs.declared.merging.Merged.{Merged}
 use Rattle.gtfs_words.specs.Words.{MergeTexts}
 use Rattle.gtfs_cli.specs.Boards.{HoldsFeed}
 use Rattle.gtfs_cli.specs.Checking.{IsSendingCause}
-use Rattle.gtfs_cli.specs.MergeParts.{HoldsMerge}
+use Rattle.gtfs_cli.specs.MergeOptions.{HasMergeValues, IsMergeRequest, MergeRequest}
+use Rattle.gtfs_cli.specs.MergeParts.{HoldsMerge, IsFirstBadMerge}
 use Rattle.gtfs_cli.specs.Merges.{file_limit, CanMerge, EndsMerge, HoldsFiles, IsFolderMerge, IsMergeCause, IsMergeFault, IsMergingCause, IsUntouched, IsWritingEnd, IsWritten, MergeSetting, ReadsAgain, StopsAtOne}
 use Rattle.gtfs_cli.specs.NamesReport.{names_report}
 use Rattle.gtfs_cli.specs.Refusals.{IsReadingCause}
@@ -41,6 +41,42 @@ abbrev pub MergingAside : ℕ → Option Store → MergeTexts → ℕ → ℕ �
 MergingAside limit held asked x y r = (before after : Failures) → before.folders ≤ x → y ≤ after.folders → IsMergingCause limit held asked before after r
 
 module _ (limit : ℕ) (held : Option Store) (asked : MergeTexts) where
+  -- ---- the values of the options
+
+  pub bad-merge-cause : (before after : Failures) (r : Refusal) → IsFirstBadMerge asked r → IsMergeCause limit held asked before after r
+  bad-merge-cause before after (Words text) h = absurd h
+  bad-merge-cause before after (BadValue option) h = h
+  bad-merge-cause before after (NotThere path) h = absurd h
+  bad-merge-cause before after (Unreadable path) h = absurd h
+  bad-merge-cause before after (OverLimit path) h = absurd h
+  bad-merge-cause before after (HasErrors path) h = absurd h
+  bad-merge-cause before after (NoZone path) h = absurd h
+  bad-merge-cause before after UnknownStop h = absurd h
+  bad-merge-cause before after UnknownRoute h = absurd h
+  bad-merge-cause before after UntilBeforeFrom h = absurd h
+  bad-merge-cause before after ZonesDiffer h = absurd h
+  bad-merge-cause before after MergeTooLarge h = absurd h
+  bad-merge-cause before after (Unwritable path) h = absurd h
+  bad-merge-cause before after OutputFailed h = absurd h
+  bad-merge-cause before after OutOfMemory h = absurd h
+
+  pub bad-merge-ends : (old new : Option (List ℕ)) → Keeps old new → (r : Refusal) → IsFirstBadMerge asked r → EndsMerge limit held asked held old new r
+  bad-merge-ends old new keeps (Words text) h = absurd h
+  bad-merge-ends old new keeps (BadValue option) h = (refl, keeps)
+  bad-merge-ends old new keeps (NotThere path) h = absurd h
+  bad-merge-ends old new keeps (Unreadable path) h = absurd h
+  bad-merge-ends old new keeps (OverLimit path) h = absurd h
+  bad-merge-ends old new keeps (HasErrors path) h = absurd h
+  bad-merge-ends old new keeps (NoZone path) h = absurd h
+  bad-merge-ends old new keeps UnknownStop h = absurd h
+  bad-merge-ends old new keeps UnknownRoute h = absurd h
+  bad-merge-ends old new keeps UntilBeforeFrom h = absurd h
+  bad-merge-ends old new keeps ZonesDiffer h = absurd h
+  bad-merge-ends old new keeps MergeTooLarge h = absurd h
+  bad-merge-ends old new keeps (Unwritable path) h = absurd h
+  bad-merge-ends old new keeps OutputFailed h = absurd h
+  bad-merge-ends old new keeps OutOfMemory h = absurd h
+
   -- ---- the folders that are read
 
   pub first-unread : (before after : Failures) (r : Refusal) → IsReadingCause limit held asked.a before after r → IsMergingCause limit held asked before after r
@@ -80,22 +116,24 @@ module _ (limit : ℕ) (held : Option Store) (asked : MergeTexts) where
 
   -- ---- the feeds that are merged
 
-  module _ (a b : Feed) (first : HoldsFeed limit held asked.a a) (second : HoldsFeed limit held asked.b b) where
+  module _ (a b : Feed) (first : HoldsFeed limit held asked.a a) (second : HoldsFeed limit held asked.b b) (q : MergeRequest) (is_request : IsMergeRequest asked q) where
     abbrev setting : MergeSetting limit held asked
     setting = record {
       first = first.dataset;
       second = second.dataset;
+      request = q;
       holds_first = first.holds;
       first_passes = first.is_feed.0;
       holds_second = second.holds;
       second_passes = second.is_feed.0;
+      is_request = is_request;
     }
 
     -- what is so of the feeds is so of the datasets
     of_datasets : (P : Content → Content → Type 0) → P (content_of_feed a) (content_of_feed b) → P (content_of first.dataset) (content_of second.dataset)
     of_datasets P h = subst (λ (f : Content). P f (content_of second.dataset)) first.is_feed.1 (subst (λ (f : Content). P (content_of_feed a) f) second.is_feed.1 h)
 
-    pub unmerged : (before after : Failures) (r : Refusal) → IsMergeFault (content_of_feed a) (content_of_feed b) r → IsMergingCause limit held asked before after r
+    pub unmerged : (before after : Failures) (r : Refusal) → IsMergeFault q.near (content_of_feed a) (content_of_feed b) r → IsMergingCause limit held asked before after r
     unmerged before after (Words text) h = absurd h
     unmerged before after (BadValue option) h = absurd h
     unmerged before after (NotThere path) h = absurd h
@@ -110,41 +148,42 @@ module _ (limit : ℕ) (held : Option Store) (asked : MergeTexts) where
     unmerged before after MergeTooLarge h = (
       setting,
       of_datasets (λ f g. zones_differ f g ≡ false) h.0,
-      of_datasets (λ f g. is_too_large file_limit (merged never_near f g) ≡ true) h.1,
+      of_datasets (λ f g. is_too_large file_limit (merged (nearness q.near) f g) ≡ true) h.1,
     )
     unmerged before after (Unwritable path) h = absurd h
     unmerged before after OutputFailed h = absurd h
     unmerged before after OutOfMemory h = tt
 
-    pub is-merged : (m : Merged) → IsMergeOf (content_of_feed a) (content_of_feed b) file_limit m → KeepsDepartures (content_of_feed a) (content_of_feed b)
-        → HoldsMerge limit held asked m
+    pub is-merged : (m : Merged) → IsMergeOf q.near (content_of_feed a) (content_of_feed b) file_limit m
+        → KeepsDepartures q.near (content_of_feed a) (content_of_feed b) → HoldsMerge limit held asked q.near m
     is-merged m is keeps = record {
       setting = setting;
       zone = of_datasets (λ f g. zones_differ f g ≡ false) is.zone;
-      content = of_datasets (λ f g. content_of_feed m.feed ≡ merged never_near f g) is.content;
+      content = of_datasets (λ f g. content_of_feed m.feed ≡ merged (nearness q.near) f g) is.content;
       small = ap (is_too_large file_limit) is.content ∙ is.small;
-      keeps = of_datasets (λ f g. KeepsDepartures f g) keeps;
-      is_report = of_datasets (λ f g. names_report m.names ≡ merge_report never_near f g) (report-told (content_of_feed a) (content_of_feed b) m.names is.names);
+      keeps = of_datasets (λ f g. KeepsDepartures q.near f g) keeps;
+      is_report = of_datasets (λ f g. names_report q.near m.names ≡ report_of q.near f g) (report-told q.near (content_of_feed a) (content_of_feed b) m.names is.names);
     }
 
   -- ---- why there is no merge
 
-  pub merging-cause : (before after : Failures) (r : Refusal) → IsMergingCause limit held asked before after r → IsMergeCause limit held asked before after r
-  merging-cause before after (Words text) h = h
-  merging-cause before after (BadValue option) h = h
-  merging-cause before after (NotThere path) h = h
-  merging-cause before after (Unreadable path) h = h
-  merging-cause before after (OverLimit path) h = h
-  merging-cause before after (HasErrors path) h = h
-  merging-cause before after (NoZone path) h = h
-  merging-cause before after UnknownStop h = h
-  merging-cause before after UnknownRoute h = h
-  merging-cause before after UntilBeforeFrom h = h
-  merging-cause before after ZonesDiffer h = h
-  merging-cause before after MergeTooLarge h = h
-  merging-cause before after (Unwritable path) h = absurd h
-  merging-cause before after OutputFailed h = absurd h
-  merging-cause before after OutOfMemory h = h
+  pub merging-cause : HasMergeValues asked → (before after : Failures) (r : Refusal) → IsMergingCause limit held asked before after r
+      → IsMergeCause limit held asked before after r
+  merging-cause values before after (Words text) h = absurd h
+  merging-cause values before after (BadValue option) h = absurd h
+  merging-cause values before after (NotThere path) h = (values, h)
+  merging-cause values before after (Unreadable path) h = (values, h)
+  merging-cause values before after (OverLimit path) h = (values, h)
+  merging-cause values before after (HasErrors path) h = (values, h)
+  merging-cause values before after (NoZone path) h = absurd h
+  merging-cause values before after UnknownStop h = absurd h
+  merging-cause values before after UnknownRoute h = absurd h
+  merging-cause values before after UntilBeforeFrom h = absurd h
+  merging-cause values before after ZonesDiffer h = (values, h)
+  merging-cause values before after MergeTooLarge h = (values, h)
+  merging-cause values before after (Unwritable path) h = absurd h
+  merging-cause values before after OutputFailed h = absurd h
+  merging-cause values before after OutOfMemory h = tt
 
   pub merging-ends : (before after : Failures) (now : Option Store) (old new : Option (List ℕ)) → IsUntouched held now old new → (r : Refusal)
       → IsMergingCause limit held asked before after r → EndsMerge limit held asked now old new r

@@ -1,4 +1,4 @@
--- What the parts of a merge give: the merged feed and its names, and the texts of its files.
+-- What the parts of a merge give: the values of its options, the merged feed and its names, and the texts of its files.
 use Rattle.std.specs.Prelude.{◌≡◌, ℕ, All, Option, Some}
 use Rattle.gtfs_devices.specs.Folder.{Store}
 use Rattle.gtfs_table.specs.Reading.{kept_files}
@@ -9,12 +9,25 @@ use Rattle.gtfs_rows.specs.Written.{written}
 use Rattle.gtfs_rows.specs.Views.{content_of_parts as content_of}
 use Rattle.gtfs_merge.specs.declared.merging.Merged.{Merged}
 use Rattle.gtfs_words.specs.Words.{MergeTexts}
+use Rattle.gtfs_cli.specs.MergeOptions.{first_bad_merge, MergeRequest}
 use Rattle.gtfs_cli.specs.Merges.{file_text, IsFolderMerge}
 use Rattle.gtfs_cli.specs.NamesReport.{names_report}
+use Rattle.gtfs_cli.specs.declared.commands.merge_values.MergeValues.{MergeValues}
+use Rattle.gtfs_cli.specs.declared.commands.refusal.Refusal.{Refusal}
+use Rattle.gtfs_cli.specs.declared.commands.refusal.Refusal.TheVariants.{BadValue}
+
+-- the request that values are
+abbrev pub merge_request_of : MergeValues → MergeRequest
+merge_request_of v = record { near = v.near }
+
+-- the refusal is for the first option whose value is bad
+abbrev pub IsFirstBadMerge : MergeTexts → Refusal → Type 0
+IsFirstBadMerge asked (BadValue option) = first_bad_merge asked ≡ Some option.now
+IsFirstBadMerge asked _ = ⊥
 
 -- the feed is the merge of both folders, and the names tell its report
-abbrev pub HoldsMerge : ℕ → Option Store → MergeTexts → Merged → Type 0
-HoldsMerge limit held asked m = IsFolderMerge limit held asked (content_of m.feed) (names_report m.names)
+abbrev pub HoldsMerge : ℕ → Option Store → MergeTexts → Option ℕ → Merged → Type 0
+HoldsMerge limit held asked near m = IsFolderMerge limit held asked (content_of m.feed) (names_report near m.names)
 
 -- the text of a file of the written form is read as its table
 abbrev pub ReadsAs : Content → File → Type 0

@@ -14,13 +14,13 @@ use Rattle.gtfs_rows.specs.Reading.{content_of}
 use Rattle.gtfs_rows.specs.Written.{written}
 use Rattle.gtfs_merge.specs.Merged.{is_too_large, merged, zones_differ}
 use Rattle.gtfs_merge.specs.Merging.{KeepsDepartures}
-use Rattle.gtfs_merge.specs.Renaming.{never_near}
-use Rattle.gtfs_merge.specs.Report.{merge_report}
+use Rattle.gtfs_merge.specs.Near.{nearness, report as report_of}
 use Rattle.gtfs_words.specs.Words.{MergeTexts}
+use Rattle.gtfs_cli.specs.MergeOptions.{first_bad_merge, HasMergeValues, IsMergeRequest, MergeRequest}
 use Rattle.gtfs_cli.specs.Running.{Failures, HoldsErrors, HoldsKeptFile, HoldsPassing, HoldsTables, LacksFeed}
 use Rattle.gtfs_cli.specs.Sending.{SendsBeginning}
 use Rattle.gtfs_cli.specs.declared.commands.refusal.Refusal.{Refusal}
-use Rattle.gtfs_cli.specs.declared.commands.refusal.Refusal.TheVariants.{NotThere, Unreadable, OverLimit, HasErrors, ZonesDiffer, MergeTooLarge, Unwritable, OutputFailed, OutOfMemory}
+use Rattle.gtfs_cli.specs.declared.commands.refusal.Refusal.TheVariants.{BadValue, NotThere, Unreadable, OverLimit, HasErrors, ZonesDiffer, MergeTooLarge, Unwritable, OutputFailed, OutOfMemory}
 
 -- the most bytes that a written file may have
 abbrev pub file_limit : ℕ
@@ -28,24 +28,26 @@ file_limit = 1_073_741_824
 
 -- ---- the merge of two folders
 
--- what both folders hold passes
+-- what a merge is made of: the datasets that both folders hold and that pass, and the values of the options
 pub record MergeSetting (limit : ℕ) (held : Option Store) (asked : MergeTexts) : Type 0 where
   pub first : Dataset
   pub second : Dataset
+  pub request : MergeRequest
   pub holds_first : HoldsTables limit held asked.a first
   pub first_passes : Passes first
   pub holds_second : HoldsTables limit held asked.b second
   pub second_passes : Passes second
+  pub is_request : IsMergeRequest asked request
 
--- both feeds have one zone; the content is their merge, with every departure and every board of both, no file of its written form is
--- over the limit, and the text is the report of the merge
+-- both feeds have one zone; the content is their merge, in which stops become one that are as near as the options say, with every
+-- departure and every board of both; no file of its written form is over the limit, and the text is the report of the merge
 pub record IsFolderMerge (limit : ℕ) (held : Option Store) (asked : MergeTexts) (c : Content) (report : List ℕ) : Type 0 where
   pub setting : MergeSetting limit held asked
   pub zone : zones_differ (content_of setting.first) (content_of setting.second) ≡ false
-  pub content : c ≡ merged never_near (content_of setting.first) (content_of setting.second)
+  pub content : c ≡ merged (nearness setting.request.near) (content_of setting.first) (content_of setting.second)
   pub small : is_too_large file_limit c ≡ false
-  pub keeps : KeepsDepartures (content_of setting.first) (content_of setting.second)
-  pub is_report : report ≡ merge_report never_near (content_of setting.first) (content_of setting.second)
+  pub keeps : KeepsDepartures setting.request.near (content_of setting.first) (content_of setting.second)
+  pub is_report : report ≡ report_of setting.request.near (content_of setting.first) (content_of setting.second)
 
 -- there is such a merge
 abbrev pub CanMerge : ℕ → Option Store → MergeTexts → Type 0
@@ -58,7 +60,7 @@ HasTwoZones limit held asked = (s : MergeSetting limit held asked) × (zones_dif
 -- they have one zone, and some file of their merge is over the limit
 abbrev pub HasLargeMerge : ℕ → Option Store → MergeTexts → Type 0
 HasLargeMerge limit held asked = (s : MergeSetting limit held asked) × (zones_differ (content_of s.first) (content_of s.second) ≡ false)
-    × (is_too_large file_limit (merged never_near (content_of s.first) (content_of s.second)) ≡ true)
+    × (is_too_large file_limit (merged (nearness s.request.near) (content_of s.first) (content_of s.second)) ≡ true)
 
 -- ---- the files of the written form, in order
 
@@ -117,12 +119,14 @@ IsMergingCause limit held asked before after MergeTooLarge = HasLargeMerge limit
 IsMergingCause limit held asked before after OutOfMemory = ⊤
 IsMergingCause limit held asked before after _ = ⊥
 
--- when a refusal comes where the words ask for a merge
+-- when a refusal comes where the words ask for a merge; the values of the options are judged before the folders
 abbrev pub IsMergeCause : ℕ → Option Store → MergeTexts → Failures → Failures → Refusal → Type 0
+IsMergeCause limit held asked before after (BadValue option) = first_bad_merge asked ≡ Some option.now
 IsMergeCause limit held asked before after (Unwritable path) =
     (path.now ≡ asked.out) × CanMerge limit held asked × ((asked.out ≡ []) ⊎ Rises before.folders after.folders)
 IsMergeCause limit held asked before after OutputFailed = CanMerge limit held asked × Rises before.output after.output
-IsMergeCause limit held asked before after refusal = IsMergingCause limit held asked before after refusal
+IsMergeCause limit held asked before after OutOfMemory = ⊤
+IsMergeCause limit held asked before after refusal = HasMergeValues asked × IsMergingCause limit held asked before after refusal
 
 -- ---- what the folders hold then, and what went out
 
@@ -167,11 +171,11 @@ EndsMerge limit held asked now old new _ = IsUntouched held now old new
 -- ---- what the parts of the work give
 
 -- why two feeds are not merged
-abbrev pub IsMergeFault : Content → Content → Refusal → Type 0
-IsMergeFault a b ZonesDiffer = zones_differ a b ≡ true
-IsMergeFault a b MergeTooLarge = (zones_differ a b ≡ false) × (is_too_large file_limit (merged never_near a b) ≡ true)
-IsMergeFault a b OutOfMemory = ⊤
-IsMergeFault a b _ = ⊥
+abbrev pub IsMergeFault : Option ℕ → Content → Content → Refusal → Type 0
+IsMergeFault near a b ZonesDiffer = zones_differ a b ≡ true
+IsMergeFault near a b MergeTooLarge = (zones_differ a b ≡ false) × (is_too_large file_limit (merged (nearness near) a b) ≡ true)
+IsMergeFault near a b OutOfMemory = ⊤
+IsMergeFault near a b _ = ⊥
 
 -- why a file is not written, and what the device holds then; the counts are those of its failures, before and after
 abbrev pub IsFileEnd : Option Store → Option Store → ℕ → ℕ → List ℕ → File → Refusal → Type 0

@@ -1,5 +1,6 @@
 -- The report of a merge, as the names tell it.
-use Rattle.std.specs.Prelude.{ℕ, ◌+◌, if◌then◌else◌, List, [], ◌++◌, length, flat_map, bytes_eq, Option, Some, None}
+use Rattle.std.specs.Prelude.{ℕ, ◌+◌, if◌then◌else◌, List, [], ◌++◌, length, flat_map, bytes_eq, codes, decimal, Option, Some, None}
+use Rattle.gtfs_merge.specs.Near.{near_line}
 use Rattle.gtfs_merge.specs.Names.{AllNames, in_kind, new_id, of_side}
 use Rattle.gtfs_merge.specs.Report.{joined_line, kind_name, kinds, renamed_line, side_name}
 use Rattle.gtfs_merge.specs.declared.kind.Kind.{Kind}
@@ -30,5 +31,13 @@ both_lines n k = side_lines n side.A k ++ side_lines n side.B k
 abbrev pub count_line : AllNames → Kind → List ℕ
 count_line n k = joined_line k (length (in_kind n k).joined)
 
-abbrev pub names_report : AllNames → List ℕ
-names_report n = flat_map (both_lines n) kinds ++ flat_map (count_line n) kinds
+abbrev pub ids_report : AllNames → List ℕ
+ids_report n = flat_map (both_lines n) kinds ++ flat_map (count_line n) kinds
+
+-- the line of so many near stops
+abbrev pub near_text : ℕ → List ℕ
+near_text count = codes "near stop " ++ decimal count ++ codes "\n"
+
+-- the last line comes only where a distance of near stops is given
+abbrev pub names_report : Option ℕ → AllNames → List ℕ
+names_report near n = ids_report n ++ near_line near (length n.near)

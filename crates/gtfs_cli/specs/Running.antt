@@ -24,6 +24,7 @@ use Rattle.gtfs_rows.specs.Key.{Key}
 use Rattle.gtfs_board.specs.KeyTexts.{key_of}
 use Rattle.gtfs_times.specs.declared.times.Times.{Times}
 use Rattle.gtfs_cli.specs.Options.{first_of_bad, times_of}
+use Rattle.gtfs_cli.specs.MergeOptions.{HasBadMergeValue}
 use Rattle.gtfs_cli.specs.TimetableOptions.{HasBadTimetableValue}
 use Rattle.gtfs_words.specs.Words.{gtfs_app, texts_of, timetable_texts_of, AreRefused, BoardTexts, IsCommandOf, MergeTexts, TimetableTexts, merge_texts_of}
 use Rattle.gtfs_cli.specs.declared.commands.moments.Moment.{Moment}
@@ -242,7 +243,8 @@ pub record AsksMerge (texts : List Text) (Fact : MergeTexts → Type 0) : Type 0
 -- `clap` does not take the words, which ask for neither help nor the version, or a value is bad, or until lies before from
 abbrev pub IsBadUsage : List Text → ℕ → Option Store → Type 0
 IsBadUsage texts limit held =
-    AreRefused texts ⊎ (AsksFor texts (λ asked. HasBadValue asked ⊎ EndsBeforeItBegins limit held asked) ⊎ AsksTimetable texts HasBadTimetableValue)
+    AreRefused texts ⊎ (AsksFor texts (λ asked. HasBadValue asked ⊎ EndsBeforeItBegins limit held asked)
+    ⊎ (AsksTimetable texts HasBadTimetableValue ⊎ AsksMerge texts HasBadMergeValue))
 
 -- ---- status 3
 

@@ -21,6 +21,7 @@ mod check;
 mod feed;
 mod folder;
 mod merge;
+mod merge_values;
 mod messages;
 mod moments;
 mod names;
@@ -54,8 +55,8 @@ use std::hash::RandomState;
 /// - 1: the feed, or one of two, has errors, or no stop or route of that id; the zones of two feeds have different names, or
 ///   a file of the merged feed would be longer than 1,073,741,824 bytes.
 /// - 2: `clap` refuses the words, the value of `--from` or `--until` is neither `@` and an instant nor a service day,
-///   that of `--limit` is no count, that of `--after` is no key, that of `--date` is no date, that of `--direction` is
-///   neither 0 nor 1, or the board would end before it begins.
+///   that of `--limit` or of `--near` is no count, that of `--after` is no key, that of `--date` is no date, that of
+///   `--direction` is neither 0 nor 1, or the board would end before it begins.
 /// - 3: the folder, the zone file or its folder is not there, cannot be read or holds a file over the limit, the zone file
 ///   is none, the folder of the merged feed or a file in it cannot be written, or the output failed.
 /// - 4: memory ran out.

@@ -1,5 +1,5 @@
 //! Texts of reports: of a check, a line for each problem and one with their counts, and of a merge, a line for each id
-//! that changes and one for each kind.
+//! that changes, one for each kind, and one for near stops.
 mod counts;
 mod line;
 mod pieces;
@@ -8,4 +8,4 @@ mod renamed;
 
 pub(crate) use counts::push_counts;
 pub(crate) use line::push_problem;
-pub(crate) use renamed::{push_joined, push_renamed};
+pub(crate) use renamed::{push_joined, push_near, push_renamed};

@@ -22,4 +22,6 @@ mod folders;
 #[cfg(test)]
 mod merges;
 #[cfg(test)]
+mod near_stops;
+#[cfg(test)]
 mod outputs;

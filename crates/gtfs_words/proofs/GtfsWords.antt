@@ -91,7 +91,7 @@ has_timetable rows filled all =
       date = given_text (codes "date") rows filled dates.0;
     }
 
--- and each id of `merge`
+-- and each id that `merge` needs
 has_merge : (rows : List Row) → are_filled rows ≡ true
     → (take.is_given (codes "A") rows && (take.is_given (codes "B") rows && (take.is_given (codes "OUT") rows && true))) ≡ true
     → HasMerge rows

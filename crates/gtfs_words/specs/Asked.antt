@@ -32,11 +32,12 @@ pub record TimetableTexts : Type 0 where
   pub direction : Option Text
   pub interpolate : Bool
 
--- what is given to `merge`
+-- what is given to `merge`; how close near stops lie may be missing
 pub record MergeTexts : Type 0 where
   pub a : Text
   pub b : Text
   pub out : Text
+  pub near : Option Text
 
 abbrev pub texts_of : BoardWords → BoardTexts
 texts_of words = record {
@@ -60,7 +61,12 @@ timetable_texts_of words = record {
 }
 
 abbrev pub merge_texts_of : MergeWords → MergeTexts
-merge_texts_of words = record { a = words.a.now; b = words.b.now; out = words.out.now }
+merge_texts_of words = record {
+  a = words.a.now;
+  b = words.b.now;
+  out = words.out.now;
+  near = option_map (λ text. text.now) words.near;
+}
 
 -- ---- what was given for each id
 
@@ -96,11 +102,12 @@ pub record IsTimetableOf (given : List Row) (asked : TimetableTexts) : Type 0 wh
   pub direction : first_of (codes "direction") given ≡ asked.direction
   pub interpolate : is_flagged (codes "interpolate") given ≡ asked.interpolate
 
--- each is the text that was given for it
+-- each is the text that was given for it, and None where none was given
 pub record IsMergeOf (given : List Row) (asked : MergeTexts) : Type 0 where
   pub a : first_of (codes "A") given ≡ Some asked.a
   pub b : first_of (codes "B") given ≡ Some asked.b
   pub out : first_of (codes "OUT") given ≡ Some asked.out
+  pub near : first_of (codes "near") given ≡ asked.near
 
 -- ---- the command that is asked for
 
@@ -172,7 +179,7 @@ pub record HasTimetable (given : List Row) : Type 0 where
   pub route : IsSome (first_of (codes "route") given)
   pub date : IsSome (first_of (codes "date") given)
 
--- a text was given for each id of `merge`
+-- a text was given for each id that `merge` needs
 pub record HasMerge (given : List Row) : Type 0 where
   pub a : IsSome (first_of (codes "A") given)
   pub b : IsSome (first_of (codes "B") given)

@@ -58,4 +58,6 @@ pub struct MergeWords<'w> {
     pub b: &'w str,
     /// The folder that the merged feed is written into.
     pub out: &'w str,
+    /// Up to how many millionths of a degree apart stops become one, if this was said.
+    pub near: Option<&'w str>,
 }

@@ -94,6 +94,7 @@ fn merge_words<'w>(given: &ArgMatches<'w>) -> Option<MergeWords<'w>>
         a: given_text(given, "A")?,
         b: given_text(given, "B")?,
         out: given_text(given, "OUT")?,
+        near: given_text(given, "near"),
     })
 }
 

@@ -72,11 +72,19 @@ abbrev merge_words : List Text
 merge_words = codes "gtfs" ∷ codes "merge" ∷ codes "north" ∷ codes "south" ∷ codes "both" ∷ []
 
 abbrev merge_texts : MergeTexts
-merge_texts = record { a = codes "north"; b = codes "south"; out = codes "both" }
+merge_texts = record { a = codes "north"; b = codes "south"; out = codes "both"; near = None }
 
 merge_asked : AsksMergeOf merge_words merge_texts
 unfolding clap_on_literals
-merge_asked = record { taken = refl; asks = (refl, record { a = refl; b = refl; out = refl }) }
+merge_asked = record { taken = refl; asks = (refl, record { a = refl; b = refl; out = refl; near = refl }) }
+
+-- the same with near stops
+abbrev near_merge : List Text
+near_merge = codes "gtfs" ∷ codes "merge" ∷ codes "north" ∷ codes "--near" ∷ codes "500" ∷ codes "south" ∷ codes "both" ∷ []
+
+near_merge_asked : AsksMergeOf near_merge (record merge_texts { near = Some (codes "500") })
+unfolding clap_on_literals
+near_merge_asked = record { taken = refl; asks = (refl, record { a = refl; b = refl; out = refl; near = refl }) }
 
 -- no command
 abbrev no_command : List Text
@@ -125,6 +133,30 @@ merge_of_four_is = refl
 merge_of_four_not_taken : takes gtfs_app merge_of_four ≡ false
 unfolding clap_on_literals
 merge_of_four_not_taken = refl
+
+-- near stops without their distance
+abbrev near_nothing : List Text
+near_nothing = codes "gtfs" ∷ codes "merge" ∷ codes "a" ∷ codes "b" ∷ codes "c" ∷ codes "--near" ∷ []
+
+near_nothing_is : fault_of gtfs_app near_nothing ≡ kind.InvalidValue ∷ []
+unfolding clap_on_literals
+near_nothing_is = refl
+
+near_nothing_not_taken : takes gtfs_app near_nothing ≡ false
+unfolding clap_on_literals
+near_nothing_not_taken = refl
+
+-- a distance that stands twice
+abbrev near_twice : List Text
+near_twice = codes "gtfs" ∷ codes "merge" ∷ codes "a" ∷ codes "b" ∷ codes "c" ∷ codes "--near=1" ∷ codes "--near=1" ∷ []
+
+near_twice_is : fault_of gtfs_app near_twice ≡ kind.ArgumentConflict ∷ []
+unfolding clap_on_literals
+near_twice_is = refl
+
+near_twice_not_taken : takes gtfs_app near_twice ≡ false
+unfolding clap_on_literals
+near_twice_not_taken = refl
 
 -- a timetable without its date
 abbrev without_date : List Text

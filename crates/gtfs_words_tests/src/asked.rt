@@ -91,7 +91,7 @@ fn timetable_has_its_direction_and_its_flag(rt: HostRuntime) -> Result<(), Fail>
 }
 
 #[test]
-fn merge_has_its_three_folders(rt: HostRuntime) -> Result<(), Fail> {
+fn merge_may_lack_near(rt: HostRuntime) -> Result<(), Fail> {
     let Ok(Command::Merge(merge)) = read_words(
         rt.alloc(),
         &["gtfs", "merge", "north", "south", "both"],
@@ -101,5 +101,30 @@ fn merge_has_its_three_folders(rt: HostRuntime) -> Result<(), Fail> {
     assert_equal(&rt, merge.a, "north");
     assert_equal(&rt, merge.b, "south");
     assert_equal(&rt, merge.out, "both");
+    assert_equal(&rt, merge.near, None);
+    Ok(())
+}
+
+#[test]
+fn merge_has_all_that_is_given(rt: HostRuntime) -> Result<(), Fail> {
+    let words = ["gtfs", "merge", "north", "--near=-1", "south", "both"];
+    let Ok(Command::Merge(merge)) = read_words(rt.alloc(), &words) else {
+        return Err("no merge".into());
+    };
+    assert_equal(&rt, merge.a, "north");
+    assert_equal(&rt, merge.b, "south");
+    assert_equal(&rt, merge.out, "both");
+    assert_equal(&rt, merge.near, Some("-1"));
+    Ok(())
+}
+
+#[test]
+fn near_may_stand_before_the_folders(rt: HostRuntime) -> Result<(), Fail> {
+    let words = ["gtfs", "merge", "--near=", "north", "south", "both"];
+    let Ok(Command::Merge(merge)) = read_words(rt.alloc(), &words) else {
+        return Err("no merge".into());
+    };
+    assert_equal(&rt, merge.a, "north");
+    assert_equal(&rt, merge.near, Some(""));
     Ok(())
 }

@@ -46,9 +46,11 @@ const BOARD: &str =
 const TIMETABLE: &str =
     "gtfs timetable DIR --route ID --date D [--direction 0|1] [--interpolate]\n";
 
+const MERGE: &str = "gtfs merge A B OUT [--near N]\n";
+
 #[test]
 fn help_of_the_program_has_the_line_of_each_command(rt: HostRuntime) {
-    for line in ["gtfs check DIR", BOARD, TIMETABLE, "gtfs merge A B OUT"] {
+    for line in ["gtfs check DIR", BOARD, TIMETABLE, MERGE] {
         let found = helped(rt.alloc(), &["gtfs", "--help"], line);
         assert_equal_at(&rt, line, found, Ok(()));
     }
@@ -135,6 +137,13 @@ const REFUSED: &[&[&str]] = &[
     ],
     &["gtfs", "merge", "north", "south"],
     &["gtfs", "merge", "north", "south", "both", "more"],
+    &["gtfs", "merge", "north", "south", "both", "--near"],
+    &[
+        "gtfs", "merge", "north", "south", "both", "--near=1", "--near=1",
+    ],
+    &["gtfs", "merge", "north", "south", "--near", "both"],
+    &["gtfs", "check", "f1", "--near=1"],
+    &["gtfs", "merge", "north", "south", "both", "--interpolate"],
     &["gtfs", "check", "f1", "more", "--help"],
     &["gtfs", "version"],
     &["gtfs", "-v"],

@@ -1,4 +1,4 @@
-ghost use Rattle.std.specs.Prelude.{◌≡◌, ◌<◌, ◌≤◌, ℕ, length, Option, IfOk, IfErr, OnOk};
+ghost use Rattle.std.specs.Prelude.{◌≡◌, ◌<◌, ◌≤◌, ℕ, length, Option, IfOk, IfErr, IfSome, OnOk};
 ghost use Rattle.gtfs_rows.specs.Views.{content_of_parts as content_of};
 ghost use Rattle.gtfs_merge.specs.Merging.{IsMergeOf, KeepsDepartures};
 ghost use Rattle.gtfs_table.specs.Files.{file_name};
@@ -7,11 +7,13 @@ ghost use Rattle.gtfs_table.specs.Reading.{kept_files};
 ghost use Rattle.gtfs_table.specs.declared.file.File.{File as FileOf};
 ghost use Rattle.gtfs_words.specs.Words.{merge_texts_of};
 ghost use Rattle.gtfs_cli.specs.Merges.{file_limit, file_text, EndsMerge, HoldsFiles, IsFileEnd, IsMergeCause, IsMergeFault, IsMergingCause, IsWritingEnd, PrintsMerge};
-ghost use Rattle.gtfs_cli.specs.MergeParts.{AllReadAs, HoldsMerge, ReadsAs};
+ghost use Rattle.gtfs_cli.specs.MergeOptions.{IsMergeRequest};
+ghost use Rattle.gtfs_cli.specs.MergeParts.{merge_request_of, AllReadAs, HoldsMerge, ReadsAs};
 ghost use Rattle.gtfs_cli.specs.Refusals.{IsGrave, UnlessGrave};
 ghost use Rattle.gtfs_cli.specs.Running.{FailedNowhere, Failures};
 
 use crate::commands::feed::read_feed;
+use crate::commands::merge_values::{MergeValues, read_merge_values};
 use crate::commands::names::print_names;
 use crate::commands::refusal::Refusal;
 use gtfs_board::Feed;
@@ -23,8 +25,8 @@ use std::hash::RandomState;
 
 // Merges the feeds of two folders, writes the files of the merged feed into a third folder, which may be one of the two,
 // and then prints the report of the merge.
-// Errors: In the order in which they are judged: `NotThere`, `Unreadable`, `OverLimit` and `HasErrors` of the first
-// folder, and then of the second; `ZonesDiffer`; `MergeTooLarge`; `Unwritable` at any file; `OutputFailed` at any line.
+// Errors: In the order in which they are judged: `BadValue`; `NotThere`, `Unreadable`, `OverLimit` and `HasErrors` of the
+// first folder, and then of the second; `ZonesDiffer`; `MergeTooLarge`; `Unwritable` at any file; `OutputFailed` at any line.
 // `OutOfMemory` at any point. Files that were written stay.
 pub(super) fn print_merge<'w, F: Folders, O: Out>(
     alloc: Global,
@@ -47,10 +49,11 @@ pub(super) fn print_merge<'w, F: Folders, O: Out>(
         (record { folders = F.failure_count folders.old; output = O.failure_count out.old })
         (record { folders = F.failure_count folders.new; output = O.failure_count out.new })) }
 {
-    let merged = merge_folders(alloc, random, words, folders)?;
+    let values = read_merge_values(words)?;
+    let merged = merge_folders(alloc, random, words, &values, folders)?;
     merged.feed.soundness();
     write_feed(alloc, &merged.feed, words.out, folders)?;
-    print_names(alloc, &merged.names, out)
+    print_names(alloc, &merged.names, values.near, out)
 }
 
 // The merge of the feeds of two folders, which are let go again.
@@ -58,10 +61,12 @@ fn merge_folders<'w, F: Folders>(
     alloc: Global,
     random: RandomState,
     words: &MergeWords<'w>,
+    values: &MergeValues,
     folders: &mut F,
 ) -> Result<Merged, Refusal<'w>>
+    requires { IsMergeRequest (merge_texts_of words.now) (merge_request_of values.now) }
     ensures merged { IfOk result (HoldsMerge (F.limit folders.old) (F.held folders.old)
-        (merge_texts_of words.now)) }
+        (merge_texts_of words.now) values.now.near) }
     ensures refused { IfErr result (λ refusal. (before after : Failures)
         → before.folders ≤ F.failure_count folders.old → F.failure_count folders.new ≤ after.folders
         → IsMergingCause (F.limit folders.old) (F.held folders.old) (merge_texts_of words.now)
@@ -73,7 +78,7 @@ fn merge_folders<'w, F: Folders>(
 {
     let a = read_feed(alloc, random, folders, words.a)?;
     let b = read_feed(alloc, random, folders, words.b)?;
-    merge_feeds(alloc, random, &a, &b)
+    merge_feeds(alloc, random, &a, &b, values.near)
 }
 
 // The merge of two feeds. A file that is written may have as many bytes as one that a disk's folder holds to be read.
@@ -82,12 +87,17 @@ fn merge_feeds<'w>(
     random: RandomState,
     a: &Feed,
     b: &Feed,
+    near: Option<u32>,
 ) -> Result<Merged, Refusal<'w>>
-    ensures merged { IfOk result (IsMergeOf (content_of a.now) (content_of b.now) file_limit) }
-    ensures refused { IfErr result (IsMergeFault (content_of a.now) (content_of b.now)) }
-    ensures departures { KeepsDepartures (content_of a.now) (content_of b.now) }
+    requires { IfSome near (λ n. n ≤ 2_147_483_647) }
+    ensures merged { IfOk result (IsMergeOf near (content_of a.now) (content_of b.now) file_limit) }
+    ensures refused { IfErr result (IsMergeFault near (content_of a.now) (content_of b.now)) }
+    ensures departures { KeepsDepartures near (content_of a.now) (content_of b.now) }
 {
-    let options = Options::default();
+    let options = Options {
+        near,
+        ..Options::default()
+    };
     match merge(alloc, random, a, b, &options) {
         Ok(merged) => Ok(merged),
         Err(MergeFault::ZoneDiffers) => Err(Refusal::ZonesDiffer),

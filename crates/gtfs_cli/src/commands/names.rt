@@ -1,36 +1,54 @@
-ghost use Rattle.std.specs.Prelude.{◌≡◌, ◌≤◌, flat_map, IfErr, OnOk, OnErr};
+ghost use Rattle.std.specs.Prelude.{◌≡◌, ◌≤◌, flat_map, length, IfErr, OnOk, OnErr};
 ghost use Rattle.std.specs.Io.KnownBytes.{Appends};
+ghost use Rattle.gtfs_merge.specs.Near.{near_line};
 ghost use Rattle.gtfs_merge.specs.Report.{kinds, renamed_line};
 ghost use Rattle.gtfs_cli.specs.Checking.{IsSendingCause};
-ghost use Rattle.gtfs_cli.specs.NamesReport.{both_lines, count_line, id_line, names_report, side_lines};
+ghost use Rattle.gtfs_cli.specs.NamesReport.{both_lines, count_line, id_line, ids_report, names_report, near_text, side_lines};
 ghost use Rattle.gtfs_cli.specs.Sending.{SendsBeginning};
 
 use crate::commands::refusal::Refusal;
 use crate::commands::send::send;
-use crate::report::{push_joined, push_renamed};
+use crate::report::{push_joined, push_near, push_renamed};
 use gtfs_merge::{Kind, Names, Side};
 use gtfs_table::Out;
 use std::alloc::Global;
 
-// Prints what the ids of two feeds became and how many are joined, each line sent out whole before the next is made.
+// Prints what the ids of two feeds became, how many are joined and, if this was asked for, how many stops are near, each
+// line sent out whole before the next is made.
 // Errors: `OutputFailed` at any line, and `OutOfMemory` at any point.
 pub(super) fn print_names<'w, O: Out>(
     alloc: Global,
     names: &Names,
+    near: Option<u32>,
     out: &mut O,
 ) -> Result<(), Refusal<'w>>
     ensures printed { OnOk result (Appends (O.told out.old) (O.told out.new)
-        (names_report names.now)) }
+        (names_report near names.now)) }
     ensures cut_short { OnErr result (SendsBeginning (O.told out.old) (O.told out.new)
-        (names_report names.now)) }
+        (names_report near names.now)) }
     ensures refused { IfErr result (IsSendingCause (O.failure_count out.old)
         (O.failure_count out.new)) }
     ensures grows { O.failure_count out.old ≤ O.failure_count out.new }
     ensures no_failure { OnOk result (O.failure_count out.new ≡ O.failure_count out.old) }
 {
     let mut line = String::new(alloc);
-    print_renamed(names, &mut line, out)?;
-    print_joined(names, &mut line, out)
+    print_ids(names, &mut line, out)?;
+    print_near(names, near, &mut line, out)
+}
+
+// The lines of the ids that change, and those of how many are joined.
+fn print_ids<'w, O: Out>(names: &Names, line: &mut String, out: &mut O) -> Result<(), Refusal<'w>>
+    ensures printed { OnOk result (Appends (O.told out.old) (O.told out.new)
+        (ids_report names.now)) }
+    ensures cut_short { OnErr result (SendsBeginning (O.told out.old) (O.told out.new)
+        (ids_report names.now)) }
+    ensures refused { IfErr result (IsSendingCause (O.failure_count out.old)
+        (O.failure_count out.new)) }
+    ensures grows { O.failure_count out.old ≤ O.failure_count out.new }
+    ensures no_failure { OnOk result (O.failure_count out.new ≡ O.failure_count out.old) }
+{
+    print_renamed(names, line, out)?;
+    print_joined(names, line, out)
 }
 
 // The lines of the ids that change, one kind after another.
@@ -186,5 +204,46 @@ fn print_count<'w, O: Out>(
 {
     line.clear();
     push_joined(line, kind, names.joined(kind).len())?;
+    send(line.as_bytes(), out)
+}
+
+// The line of how many stops are near, if it was asked for.
+fn print_near<'w, O: Out>(
+    names: &Names,
+    near: Option<u32>,
+    line: &mut String,
+    out: &mut O,
+) -> Result<(), Refusal<'w>>
+    ensures printed { OnOk result (Appends (O.told out.old) (O.told out.new)
+        (near_line near (length names.now.near))) }
+    ensures cut_short { OnErr result (SendsBeginning (O.told out.old) (O.told out.new)
+        (near_line near (length names.now.near))) }
+    ensures refused { IfErr result (IsSendingCause (O.failure_count out.old)
+        (O.failure_count out.new)) }
+    ensures grows { O.failure_count out.old ≤ O.failure_count out.new }
+    ensures no_failure { OnOk result (O.failure_count out.new ≡ O.failure_count out.old) }
+{
+    match near {
+        None => Ok(()),
+        Some(_) => print_near_count(names.near().len(), line, out),
+    }
+}
+
+// The line of so many near stops, made in the same way.
+fn print_near_count<'w, O: Out>(
+    count: usize,
+    line: &mut String,
+    out: &mut O,
+) -> Result<(), Refusal<'w>>
+    ensures printed { OnOk result (Appends (O.told out.old) (O.told out.new) (near_text count)) }
+    ensures cut_short { OnErr result (SendsBeginning (O.told out.old) (O.told out.new)
+        (near_text count)) }
+    ensures refused { IfErr result (IsSendingCause (O.failure_count out.old)
+        (O.failure_count out.new)) }
+    ensures grows { O.failure_count out.old ≤ O.failure_count out.new }
+    ensures no_failure { OnOk result (O.failure_count out.new ≡ O.failure_count out.old) }
+{
+    line.clear();
+    push_near(line, count)?;
     send(line.as_bytes(), out)
 }

@@ -1,7 +1,7 @@
 ghost use Rattle.std.specs.Prelude.{◌≡◌, ◌++◌, ◌≤◌, ◌+◌, ◌-◌, ◌^◌, length, min, string_bytes, string_len, OnOk, OnErr};
 ghost use Rattle.std.specs.String.{string_capacity};
 ghost use Rattle.gtfs_merge.specs.Report.{joined_line, kind_name, renamed_line};
-ghost use Rattle.gtfs_cli.specs.NamesReport.{renamed_len};
+ghost use Rattle.gtfs_cli.specs.NamesReport.{near_text, renamed_len};
 
 use crate::report::pieces::push_piece;
 use crate::report::plain::push_plain;
@@ -14,6 +14,9 @@ const LINE_ROOM: usize = 4;
 
 // How many bytes of the line of a count are not the kind's name, at most: the number has 20.
 const COUNT_ROOM: usize = 29;
+
+// How many bytes the line of near stops has, at most.
+const NEAR_ROOM: usize = 31;
 
 // Appends the line of an id that changes: `SIDE KIND OLD NEW`, with tabs, and a line feed. Control characters of the ids
 // are spaces.
@@ -79,5 +82,26 @@ fn write_joined(text: &mut String, kind: Kind, count: usize)
 {
     push_piece(text, "joined ", kind.name());
     push_piece(text, " ", Buffer::new().format(count));
+    push_piece(text, "", "\n");
+}
+
+// Appends the line of how many stops are near: `near stop COUNT` and a line feed.
+// Errors: `OutOfMemory` where the text cannot grow; it is then as it was.
+pub(crate) fn push_near(text: &mut String, count: usize) -> Result<(), OutOfMemory>
+    ensures appended { OnOk result (string_bytes text.new
+        ≡ string_bytes text.old ++ near_text count) }
+    ensures unchanged { OnErr result (string_bytes text.new ≡ string_bytes text.old) }
+{
+    text.reserve(NEAR_ROOM)?;
+    write_near(text, count);
+    Ok(())
+}
+
+// Appends that line, for which there is room.
+fn write_near(text: &mut String, count: usize)
+    requires { string_len text.old + 31 ≤ string_capacity text.old }
+    ensures { string_bytes text.new ≡ string_bytes text.old ++ near_text count }
+{
+    push_piece(text, "near stop ", Buffer::new().format(count));
     push_piece(text, "", "\n");
 }

@@ -2,9 +2,11 @@ use Rattle.std.proofs.Common.{◌∙◌, arith}
 use Rattle.std.proofs.lemmas.Result.{IfErr-weaker, IfOk-weaker}
 use Rattle.gtfs_words.specs.Words.{merge_texts_of}
 use Rattle.gtfs_cli.specs.Boards.{HoldsFeed}
+use Rattle.gtfs_cli.specs.MergeParts.{merge_request_of}
 use Rattle.gtfs_cli.specs.Refusals.{IsReadingCause}
 use Rattle.gtfs_cli.proofs.Endings.{told-up}
 use Rattle.gtfs_cli.proofs.Gravely.{of-any, passed-up}
+use Rattle.gtfs_cli.proofs.NearValues.{near-bound}
 use Rattle.gtfs_cli.proofs.Printed.{moved}
 use Rattle.gtfs_cli.proofs.Unmerged.{first-unread, is-merged, second-unread, unmerged, MergingAside}
 use Rattle.gtfs_cli.proofs.commands.merge.merge_folders.Goals as goal
@@ -33,6 +35,9 @@ returns-in_err-b-clause-refused g c =
     (moved (λ l h. IsReadingCause l h asked.b before after r) _ _ _ _ c.read_feed.ensures.same_limit c.read_feed.ensures.unchanged
     (c.in_err-b.ensures.refused before after (omega (arith, low, c.read_feed.ensures.grows)) high)))
 
+pub merge_feeds-requires : goal.merge_feeds-requires
+merge_feeds-requires g c = near-bound (merge_texts_of c.args.words.now).near c.args.values.now.near c.args.requires.near
+
 pub returns-clause-merged : goal.returns-clause-merged
 returns-clause-merged g c =
     let limit = g.F.Folders.limit c.args.folders.now in
@@ -40,7 +45,8 @@ returns-clause-merged g c =
     let asked = merge_texts_of c.args.words.now in
     let second = moved (λ l h. HoldsFeed l h asked.b c.in_ok-b.b) _ _ _ _ c.read_feed.ensures.same_limit c.read_feed.ensures.unchanged c.in_ok-b.ensures.read in
     IfOk-weaker c.merge_feeds.result _ _
-    (λ m is. is-merged limit held asked c.in_ok-a.a c.in_ok-b.b c.in_ok-a.ensures.read second m is c.merge_feeds.ensures.departures)
+    (λ m is. is-merged limit held asked c.in_ok-a.a c.in_ok-b.b c.in_ok-a.ensures.read second (merge_request_of c.args.values.now) c.args.requires m is
+    c.merge_feeds.ensures.departures)
     c.merge_feeds.ensures.merged
 
 pub returns-clause-refused : goal.returns-clause-refused
@@ -50,7 +56,7 @@ returns-clause-refused g c =
     let asked = merge_texts_of c.args.words.now in
     let second = moved (λ l h. HoldsFeed l h asked.b c.in_ok-b.b) _ _ _ _ c.read_feed.ensures.same_limit c.read_feed.ensures.unchanged c.in_ok-b.ensures.read in
     IfErr-weaker c.merge_feeds.result _ _
-    (λ r e before after low high. unmerged limit held asked c.in_ok-a.a c.in_ok-b.b c.in_ok-a.ensures.read second before after r e)
+    (λ r e before after low high. unmerged limit held asked c.in_ok-a.a c.in_ok-b.b c.in_ok-a.ensures.read second (merge_request_of c.args.values.now) c.args.requires before after r e)
     c.merge_feeds.ensures.refused
 
 pub returns-in_err-a-clause-no_failure : goal.returns-in_err-a-clause-no_failure

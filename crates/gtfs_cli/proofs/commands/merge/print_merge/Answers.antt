@@ -6,18 +6,39 @@ use Rattle.gtfs_table.proofs.StoreFacts.{on_ok-map}
 use Rattle.gtfs_rows.specs.Views.{content_of_parts as content_of}
 use Rattle.gtfs_rows.proofs.Passing.{written_form}
 use Rattle.gtfs_words.specs.Words.{merge_texts_of}
+use Rattle.gtfs_cli.specs.MergeParts.{merge_request_of}
 use Rattle.gtfs_cli.specs.Merges.{EndsMerge, HoldsFiles, IsMergeCause, IsWritingEnd}
 use Rattle.gtfs_cli.specs.NamesReport.{names_report}
 use Rattle.gtfs_cli.specs.Running.{Failures}
 use Rattle.gtfs_cli.proofs.Endings.{told-up}
-use Rattle.gtfs_cli.proofs.Gravely.{passed-up, unless-sent}
+use Rattle.gtfs_cli.proofs.Gravely.{of-any, passed-up, unless-sent}
 use Rattle.gtfs_cli.proofs.Printed.{kept}
 use Rattle.gtfs_cli.proofs.ReadBack.{reads-again}
-use Rattle.gtfs_cli.proofs.Unmerged.{all-printed, both-err, merging-cause, merging-ends, printing-cause, printing-ends, writing-cause, writing-ends}
+use Rattle.gtfs_cli.proofs.Unmerged.{all-printed, bad-merge-cause, bad-merge-ends, both-err, merging-cause, merging-ends, printing-cause, printing-ends, writing-cause, writing-ends}
 use Rattle.gtfs_cli.proofs.commands.merge.print_merge.Goals as goal
 
 same : (n : ℕ) → n ≤ n
 same n = omega arith
+
+pub returns-in_err-values-clause-refused : goal.returns-in_err-values-clause-refused
+returns-in_err-values-clause-refused g c =
+    let limit = g.F.Folders.limit c.args.folders.now in
+    let held = g.F.Folders.held c.args.folders.now in
+    let asked = merge_texts_of c.args.words.now in
+    let counts : Failures = record { folders = g.F.Folders.failure_count c.args.folders.now; output = g.O.Out.failure_count c.args.out.now } in
+    let r = c.in_err-values.field-0.0 in
+    told-up c.from_residual.result r (IsMergeCause limit held asked counts counts) c.from_residual.ensures.1
+    (bad-merge-cause limit held asked counts counts r c.in_err-values.ensures.refused)
+
+pub returns-in_err-values-clause-cut_short : goal.returns-in_err-values-clause-cut_short
+returns-in_err-values-clause-cut_short g c =
+    let limit = g.F.Folders.limit c.args.folders.now in
+    let held = g.F.Folders.held c.args.folders.now in
+    let asked = merge_texts_of c.args.words.now in
+    let told = g.O.Out.told c.args.out.now in
+    let r = c.in_err-values.field-0.0 in
+    told-up c.from_residual.result r (EndsMerge limit held asked held told told) c.from_residual.ensures.1
+    (bad-merge-ends limit held asked told told (kept told) r c.in_err-values.ensures.refused)
 
 pub returns-in_err-merged-clause-refused : goal.returns-in_err-merged-clause-refused
 returns-in_err-merged-clause-refused g c =
@@ -29,8 +50,8 @@ returns-in_err-merged-clause-refused g c =
     let before : Failures = record { folders = x; output = g.O.Out.failure_count c.args.out.now } in
     let after : Failures = record { folders = y; output = g.O.Out.failure_count c.args.out.now } in
     let r = c.in_err-merged.field-0.0 in
-    told-up c.from_residual.result r (IsMergeCause limit held asked before after) c.from_residual.ensures.1
-    (merging-cause limit held asked before after r (c.in_err-merged.ensures.refused before after (same x) (same y)))
+    told-up c.from_residual-in_err-merged.result r (IsMergeCause limit held asked before after) c.from_residual-in_err-merged.ensures.1
+    (merging-cause limit held asked (merge_request_of c.in_ok-values.values, c.in_ok-values.ensures.read) before after r (c.in_err-merged.ensures.refused before after (same x) (same y)))
 
 pub returns-in_err-merged-clause-cut_short : goal.returns-in_err-merged-clause-cut_short
 returns-in_err-merged-clause-cut_short g c =
@@ -44,7 +65,7 @@ returns-in_err-merged-clause-cut_short g c =
     let after : Failures = record { folders = y; output = g.O.Out.failure_count c.args.out.now } in
     let told = g.O.Out.told c.args.out.now in
     let r = c.in_err-merged.field-0.0 in
-    told-up c.from_residual.result r (EndsMerge limit held asked now told told) c.from_residual.ensures.1
+    told-up c.from_residual-in_err-merged.result r (EndsMerge limit held asked now told told) c.from_residual-in_err-merged.ensures.1
     (merging-ends limit held asked before after now told told (c.merge_folders.ensures.unchanged, kept told) r
     (c.in_err-merged.ensures.refused before after (same x) (same y)))
 
@@ -62,7 +83,7 @@ returns-in_err-write_feed-clause-refused g c =
     let m = c.in_ok-merged.merged in
     let r = c.in_err-write_feed.field-0.0 in
     told-up c.from_residual-in_err-write_feed.result r (IsMergeCause limit held asked before after) c.from_residual-in_err-write_feed.ensures.1
-    (writing-cause limit held asked (content_of m.feed) (names_report m.names) c.in_ok-merged.ensures.merged before after mid now x y
+    (writing-cause limit held asked (content_of m.feed) (names_report c.in_ok-values.values.near m.names) c.in_ok-merged.ensures.merged before after mid now x y
     c.merge_folders.ensures.grows (same y) r c.in_err-write_feed.ensures.refused)
 
 pub returns-in_err-write_feed-clause-cut_short : goal.returns-in_err-write_feed-clause-cut_short
@@ -77,7 +98,7 @@ returns-in_err-write_feed-clause-cut_short g c =
     let m = c.in_ok-merged.merged in
     let r = c.in_err-write_feed.field-0.0 in
     told-up c.from_residual-in_err-write_feed.result r (EndsMerge limit held asked now told told) c.from_residual-in_err-write_feed.ensures.1
-    (writing-ends limit held asked (content_of m.feed) (names_report m.names) c.in_ok-merged.ensures.merged x y now told told (kept told) r
+    (writing-ends limit held asked (content_of m.feed) (names_report c.in_ok-values.values.near m.names) c.in_ok-merged.ensures.merged x y now told told (kept told) r
     (subst (λ (h : Option Store). IsWritingEnd h now x y asked.out (content_of m.feed) r) c.merge_folders.ensures.unchanged c.in_err-write_feed.ensures.refused))
 
 pub returns-clause-printed : goal.returns-clause-printed
@@ -91,7 +112,7 @@ returns-clause-printed g c =
     let files = subst (λ (h : Option Store). HoldsFiles h now asked.out f kept_files) c.merge_folders.ensures.unchanged c.in_ok-write_feed.ensures.written in
     let again = reads-again f held now asked.out (written_form f c.soundness.ensures.content) c.in_ok-write_feed.ensures.read files in
     on_ok-map c.print_names.result _ _
-    (all-printed limit held asked f (names_report m.names) c.in_ok-merged.ensures.merged now (g.O.Out.told c.args.out.now) (g.O.Out.told c.print_names.new.out)
+    (all-printed limit held asked f (names_report c.in_ok-values.values.near m.names) c.in_ok-merged.ensures.merged now (g.O.Out.told c.args.out.now) (g.O.Out.told c.print_names.new.out)
     c.in_ok-write_feed.ensures.named files again)
     c.print_names.ensures.printed
 
@@ -106,7 +127,7 @@ returns-clause-cut_short g c =
     let files = subst (λ (h : Option Store). HoldsFiles h now asked.out f kept_files) c.merge_folders.ensures.unchanged c.in_ok-write_feed.ensures.written in
     let again = reads-again f held now asked.out (written_form f c.soundness.ensures.content) c.in_ok-write_feed.ensures.read files in
     both-err c.print_names.result _ _ _
-    (printing-ends limit held asked f (names_report m.names) c.in_ok-merged.ensures.merged now (g.O.Out.told c.args.out.now) (g.O.Out.told c.print_names.new.out)
+    (printing-ends limit held asked f (names_report c.in_ok-values.values.near m.names) c.in_ok-merged.ensures.merged now (g.O.Out.told c.args.out.now) (g.O.Out.told c.print_names.new.out)
     c.in_ok-write_feed.ensures.named files again
     (g.O.Out.failure_count c.args.out.now) (g.O.Out.failure_count c.print_names.new.out))
     c.print_names.ensures.cut_short c.print_names.ensures.refused
@@ -120,12 +141,15 @@ returns-clause-refused g c =
     let before : Failures = record { folders = g.F.Folders.failure_count c.args.folders.now; output = g.O.Out.failure_count c.args.out.now } in
     let after : Failures = record { folders = g.F.Folders.failure_count c.write_feed.new.folders; output = g.O.Out.failure_count c.print_names.new.out } in
     IfErr-weaker c.print_names.result _ _
-    (printing-cause limit held asked (content_of m.feed) (names_report m.names) c.in_ok-merged.ensures.merged before after)
+    (printing-cause limit held asked (content_of m.feed) (names_report c.in_ok-values.values.near m.names) c.in_ok-merged.ensures.merged before after)
     c.print_names.ensures.refused
+
+pub returns-in_err-values-clause-no_failure : goal.returns-in_err-values-clause-no_failure
+returns-in_err-values-clause-no_failure g c = of-any c.from_residual.result _ (refl, refl)
 
 pub returns-in_err-merged-clause-no_failure : goal.returns-in_err-merged-clause-no_failure
 returns-in_err-merged-clause-no_failure g c =
-    passed-up c.from_residual.result c.in_err-merged.field-0.0 _ c.from_residual.ensures.1
+    passed-up c.from_residual-in_err-merged.result c.in_err-merged.field-0.0 _ c.from_residual-in_err-merged.ensures.1
     (λ light. (c.in_err-merged.ensures.no_failure light, refl))
 
 pub returns-in_err-write_feed-clause-no_failure : goal.returns-in_err-write_feed-clause-no_failure

@@ -1,33 +1,34 @@
-use Rattle.std.proofs.Common.{◌∙◌, ◌++◌}
-use Rattle.std.specs.Prelude.{flat_map}
+use Rattle.std.proofs.Common.{◌∙◌, ◌++◌, length}
 use Rattle.gtfs_table.proofs.FolderFacts.{on_err-always}
 use Rattle.gtfs_table.proofs.StoreFacts.{on_ok-map}
-use Rattle.gtfs_merge.specs.Report.{kinds}
-use Rattle.gtfs_cli.specs.NamesReport.{both_lines, count_line}
+use Rattle.gtfs_merge.specs.Near.{near_line}
+use Rattle.gtfs_cli.specs.NamesReport.{ids_report}
 use Rattle.gtfs_cli.specs.Sending.{SendsBeginning}
 use Rattle.gtfs_cli.proofs.Parts.{err-then}
 use Rattle.gtfs_cli.proofs.Sequences.{both-sent, first-cut, second-cut}
 use Rattle.gtfs_cli.proofs.commands.names.print_names.Goals as goal
 
-pub returns-in_err-print_renamed-clause-cut_short : goal.returns-in_err-print_renamed-clause-cut_short
-returns-in_err-print_renamed-clause-cut_short g c =
+pub returns-in_err-print_ids-clause-cut_short : goal.returns-in_err-print_ids-clause-cut_short
+returns-in_err-print_ids-clause-cut_short g c =
     let a = g.O.Out.told c.args.out.now in
-    let b = g.O.Out.told c.print_renamed.new.out in
-    let first = flat_map (both_lines c.args.names.now) kinds in
-    let second = flat_map (count_line c.args.names.now) kinds in
-    on_err-always c.from_residual.result (SendsBeginning a b (first ++ second)) (first-cut a b first second c.in_err-print_renamed.ensures.cut_short)
+    let b = g.O.Out.told c.print_ids.new.out in
+    let first = ids_report c.args.names.now in
+    let second = near_line c.args.near (length c.args.names.now.near) in
+    on_err-always c.from_residual.result (SendsBeginning a b (first ++ second)) (first-cut a b first second c.in_err-print_ids.ensures.cut_short)
 
 pub returns-clause-printed : goal.returns-clause-printed
 returns-clause-printed g c =
-    on_ok-map c.print_joined.result _ _
-    (both-sent (g.O.Out.told c.args.out.now) (g.O.Out.told c.print_renamed.new.out) (g.O.Out.told c.print_joined.new.out) (flat_map (both_lines c.args.names.now) kinds) (flat_map (count_line c.args.names.now) kinds) c.in_ok-print_renamed.ensures.printed)
-    c.print_joined.ensures.printed
+    on_ok-map c.print_near.result _ _
+    (both-sent (g.O.Out.told c.args.out.now) (g.O.Out.told c.print_ids.new.out) (g.O.Out.told c.print_near.new.out) (ids_report c.args.names.now)
+    (near_line c.args.near (length c.args.names.now.near)) c.in_ok-print_ids.ensures.printed)
+    c.print_near.ensures.printed
 
 pub returns-clause-cut_short : goal.returns-clause-cut_short
 returns-clause-cut_short g c =
-    err-then c.print_joined.result _ _
-    (second-cut (g.O.Out.told c.args.out.now) (g.O.Out.told c.print_renamed.new.out) (g.O.Out.told c.print_joined.new.out) (flat_map (both_lines c.args.names.now) kinds) (flat_map (count_line c.args.names.now) kinds) c.in_ok-print_renamed.ensures.printed)
-    c.print_joined.ensures.cut_short
+    err-then c.print_near.result _ _
+    (second-cut (g.O.Out.told c.args.out.now) (g.O.Out.told c.print_ids.new.out) (g.O.Out.told c.print_near.new.out) (ids_report c.args.names.now)
+    (near_line c.args.near (length c.args.names.now.near)) c.in_ok-print_ids.ensures.printed)
+    c.print_near.ensures.cut_short
 
 pub returns-clause-no_failure : goal.returns-clause-no_failure
-returns-clause-no_failure g c = on_ok-map c.print_joined.result _ _ (λ same. same ∙ c.in_ok-print_renamed.ensures.no_failure) c.print_joined.ensures.no_failure
+returns-clause-no_failure g c = on_ok-map c.print_near.result _ _ (λ same. same ∙ c.in_ok-print_ids.ensures.no_failure) c.print_near.ensures.no_failure

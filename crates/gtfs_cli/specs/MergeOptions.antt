@@ -1,0 +1,36 @@
+-- The values of the options of `gtfs merge`.
+use Rattle.std.specs.Prelude.{◌≡◌, ℕ, Bool, codes, is_some, IsSome, List, [], ◌∷◌, Option, Some, None, option_map}
+use Rattle.std.specs.Result.{result_ok}
+use Rattle.clap.specs.Words.{Text}
+use Rattle.gtfs_field.specs.Kinds.{count_of}
+use Rattle.gtfs_words.specs.Words.{MergeTexts}
+use Rattle.gtfs_cli.specs.Options.{first_of_bad}
+
+-- up to how many millionths of a degree apart stops become one, if they do; its text has to be a count
+abbrev pub near_of : Option Text → Option (Option ℕ)
+near_of None = Some None
+near_of (Some text) = option_map Some (result_ok (count_of text))
+
+-- the options whose texts are judged, in the order of the usage, and whether each has a value
+abbrev pub judged_merge : MergeTexts → List (Text × Bool)
+judged_merge asked = (codes "--near", is_some (near_of asked.near)) ∷ []
+
+-- the first of them that has none
+abbrev pub first_bad_merge : MergeTexts → Option Text
+first_bad_merge asked = first_of_bad (judged_merge asked)
+
+-- what the options ask for
+pub record MergeRequest : Type 0 where
+  pub near : Option ℕ
+
+-- each is the value of its text
+pub record IsMergeRequest (asked : MergeTexts) (r : MergeRequest) : Type 0 where
+  pub near : near_of asked.near ≡ Some r.near
+
+-- each option has its value
+abbrev pub HasMergeValues : MergeTexts → Type 0
+HasMergeValues asked = (r : MergeRequest) × IsMergeRequest asked r
+
+-- one of them has none
+abbrev pub HasBadMergeValue : MergeTexts → Type 0
+HasBadMergeValue asked = IsSome (first_bad_merge asked)

@@ -1,0 +1,41 @@
+ghost use Rattle.std.specs.Prelude.{◌≡◌, option_map, IfOk, IfErr};
+ghost use Rattle.gtfs_words.specs.Words.{merge_texts_of};
+ghost use Rattle.gtfs_cli.specs.MergeOptions.{near_of, IsMergeRequest};
+ghost use Rattle.gtfs_cli.specs.MergeParts.{merge_request_of, IsFirstBadMerge};
+
+use crate::commands::refusal::Refusal;
+use gtfs_field::read_count;
+use gtfs_words::MergeWords;
+
+// The values of the options of a merge.
+#[derive(Clone, Copy)]
+pub(super) struct MergeValues {
+    // Up to how many millionths of a degree apart stops become one, if they do.
+    pub(super) near: Option<u32>,
+}
+
+// Reads the values in the order of the usage.
+// Errors: `BadValue` of the first that is bad.
+pub(super) fn read_merge_values<'w>(words: &MergeWords<'w>) -> Result<MergeValues, Refusal<'w>>
+    ensures read { IfOk result (λ values. IsMergeRequest (merge_texts_of words.now)
+        (merge_request_of values)) }
+    ensures refused { IfErr result (IsFirstBadMerge (merge_texts_of words.now)) }
+{
+    let Some(near) = read_near(words.near) else {
+        return Err(Refusal::BadValue("--near"));
+    };
+    Ok(MergeValues { near })
+}
+
+// Reads the value of `--near`, a count. None where it is not.
+fn read_near(text: Option<&str>) -> Option<Option<u32>>
+    ensures { result ≡ near_of (option_map (λ t. t.now) text.entry) }
+{
+    match text {
+        None => Some(None),
+        Some(text) => match read_count(text) {
+            Ok(count) => Some(Some(count)),
+            Err(_) => None,
+        },
+    }
+}
