@@ -1,3 +1,4 @@
+pub mod Cutoff
 pub mod Departures
 pub mod Headsigns
 pub mod IdRows

@@ -1,11 +1,13 @@
 -- What a merge answers.
-use Rattle.std.specs.Prelude.{◌≡◌, ℕ, true, false, List, Option}
+use Rattle.std.specs.Prelude.{◌≡◌, ℕ, true, false, List, Option, ℤ}
 use Rattle.gtfs_feed.specs.Content.{content_of}
 use Rattle.gtfs_rows.specs.Content.{Content}
+use Rattle.gtfs_rows.specs.Trimmed.{first_part, second_part}
+use Rattle.gtfs_merge.specs.Cutoff.{DepartsOn, is_first_day, is_second_day, merged_as}
 use Rattle.gtfs_merge.specs.Departures.{HasBoards, HasUnion}
 use Rattle.gtfs_merge.specs.Law.{SharesExactly}
 use Rattle.gtfs_times.specs.declared.times.Times.{Times}
-use Rattle.gtfs_merge.specs.Merged.{is_too_large, merged, zones_differ}
+use Rattle.gtfs_merge.specs.Merged.{is_too_large, zones_differ}
 use Rattle.gtfs_merge.specs.Names.{AllNames, AreApart, MeetWhereJoined, in_kind, may_meet, new_id, of_side}
 use Rattle.gtfs_merge.specs.Near.{near_pairs, nearness}
 use Rattle.gtfs_merge.specs.Renaming.{ids, joined_ids, name_of, names_a, names_b}
@@ -32,20 +34,23 @@ pub record AreNamesOf (distance : Option ℕ) (first second : Content) (names : 
   pub near : names.near ≡ near_pairs (nearness distance) first second
 
 -- the merged feed: both feeds have one zone, and no written file is longer than the limit
-pub record IsMergeOf (near : Option ℕ) (a b : Content) (limit : ℕ) (m : Merged) : Type 0 where
+pub record IsMergeOf (near : Option ℕ) (cutoff : Option ℤ) (a b : Content) (limit : ℕ) (m : Merged) : Type 0 where
   pub zone : zones_differ a b ≡ false
-  pub small : is_too_large limit (merged (nearness near) a b) ≡ false
-  pub content : content_of m.feed ≡ merged (nearness near) a b
-  pub names : AreNamesOf near a b m.names
+  pub small : is_too_large limit (merged_as near cutoff a b) ≡ false
+  pub content : content_of m.feed ≡ merged_as near cutoff a b
+  pub names : AreNamesOf near (first_part cutoff a) (second_part cutoff b) m.names
 
 -- why two feeds are not merged; zones are judged first
-abbrev pub IsRefusal : Option ℕ → Content → Content → ℕ → MergeFault → Type 0
-IsRefusal near a b limit fault.ZoneDiffers = zones_differ a b ≡ true
-IsRefusal near a b limit fault.TooLarge = (zones_differ a b ≡ false) × (is_too_large limit (merged (nearness near) a b) ≡ true)
-IsRefusal near a b limit fault.OutOfMemory = zones_differ a b ≡ false
+abbrev pub IsRefusal : Option ℕ → Option ℤ → Content → Content → ℕ → MergeFault → Type 0
+IsRefusal near cutoff a b limit fault.ZoneDiffers = zones_differ a b ≡ true
+IsRefusal near cutoff a b limit fault.TooLarge = (zones_differ a b ≡ false) × (is_too_large limit (merged_as near cutoff a b) ≡ true)
+IsRefusal near cutoff a b limit fault.OutOfMemory = zones_differ a b ≡ false
 
--- what the merged content keeps, with times as given and with times filled: every departure of both feeds, and every board
-pub record KeepsDepartures (near : Option ℕ) (a b : Content) : Type 0 where
-  pub union : (times : Times) → HasUnion times (nearness near) a b
-  pub shares : (times : Times) → SharesExactly times (nearness near) a b
-  pub boards : (times : Times) → HasBoards times (nearness near) a b
+-- what the merged content keeps, with times as given and with times filled: every departure of both feeds on the days that the cutoff
+-- leaves to each, and every board
+pub record KeepsDepartures (near : Option ℕ) (cutoff : Option ℤ) (a b : Content) : Type 0 where
+  pub union : (times : Times) → HasUnion times (nearness near) (first_part cutoff a) (second_part cutoff b)
+  pub shares : (times : Times) → SharesExactly times (nearness near) (first_part cutoff a) (second_part cutoff b)
+  pub boards : (times : Times) → HasBoards times (nearness near) (first_part cutoff a) (second_part cutoff b)
+  pub first_days : DepartsOn (is_first_day cutoff) a (first_part cutoff a)
+  pub second_days : DepartsOn (is_second_day cutoff) b (second_part cutoff b)

@@ -1,5 +1,8 @@
 ghost use Rattle.std.specs.Prelude.{ℕ, Option};
 ghost use Rattle.gtfs_times.specs.declared.times.Times.{Times};
+ghost use Rattle.gtfs_days.specs.declared.cut.Cut.{Cut as CutOf};
+ghost use Rattle.gtfs_rows.specs.Content.{Content};
+ghost use Rattle.gtfs_merge.specs.Cutoff.{DepartsInPart};
 ghost use Rattle.gtfs_merge.specs.Departures.{HasBoards, HasUnion};
 ghost use Rattle.gtfs_merge.specs.Law.{ForSound, IsNearness, IsSoundMerged, SharesExactly};
 ghost use Rattle.gtfs_merge.specs.Near.{nearness};
@@ -18,4 +21,12 @@ pub fn merges_keep_departures()
     ensures boards { (times : Times) → ForSound (HasBoards times) }
     ensures sound { ForSound IsSoundMerged }
     ensures nearness { (near : Option ℕ) → IsNearness (nearness near) }
+{}
+
+/// The law of feeds that are trimmed, which its contract states. It does nothing when it runs.
+///
+/// A feed on one side of a service day departs as the whole feed does on the service days of that side, and on no other, at
+/// the place of each stop too. A departure after midnight belongs to the service day before.
+pub fn cuts_keep_departures()
+    ensures { (cut : CutOf) (f : Content) → DepartsInPart cut f }
 {}

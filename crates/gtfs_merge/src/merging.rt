@@ -1,17 +1,18 @@
-ghost use Rattle.std.specs.Prelude.{◌≡◌, ◌≤◌, IfErr, IfOk, IfSome, false};
+ghost use Rattle.std.specs.Prelude.{◌≡◌, ◌≤◌, IfErr, IfOk, IfSome, None, Some, false, true};
+ghost use Rattle.gtfs_days.specs.Service.{is_service_day};
 ghost use Rattle.gtfs_feed.specs.Content.{content_of};
 ghost use Rattle.gtfs_merge.specs.Merged.{zones_differ};
 ghost use Rattle.gtfs_merge.specs.Merging.{AreNamesOf, IsMergeOf, IsRefusal, KeepsDepartures};
 ghost use Rattle.gtfs_merge.specs.Sides.{content_a, content_b, merged_parts};
-ghost use Rattle.gtfs_merge.specs.Twins.{};
 
 use crate::merged_parts::merged_parts;
 use crate::names::Names;
 use crate::sides::Sides;
 use crate::twins::Twins;
 use crate::zones::zones_differ;
+use gtfs_days::Cut;
 use gtfs_feed::Feed;
-use gtfs_field::OutOfMemory;
+use gtfs_field::{Day, OutOfMemory};
 use std::alloc::Global;
 use std::hash::RandomState;
 use thiserror::Error;
@@ -25,18 +26,22 @@ pub struct Options {
     /// Up to how many millionths of a degree a stop of the second feed may lie from one of the first, in latitude and in
     /// longitude, to become that stop: see [`Names::near`]. At most 2,147,483,647. Where nothing else is said, no stop does.
     pub near: Option<u32>,
+    /// The service day from which on the second feed is taken, and the first one only before it. Its year is at most 9998.
+    /// Where nothing else is said, both feeds are taken whole.
+    pub cutoff: Option<Day>,
 }
 
 impl Default for Options {
     ghost use Rattle.std.specs.Prelude.{◌≡◌, None};
     ghost use Rattle.gtfs_merge.specs.Merging.{default_file_limit};
 
-    ghost is_default = { λ options. (options.file_limit ≡ default_file_limit) × (options.near ≡ None) };
+    ghost is_default = { λ options. (options.file_limit ≡ default_file_limit) × (options.near ≡ None) × (options.cutoff ≡ None) };
 
     fn default() -> Options {
         Options {
             file_limit: 1_073_741_824,
             near: None,
+            cutoff: None,
         }
     }
 }
@@ -87,8 +92,9 @@ impl From<OutOfMemory> for MergeFault {
 /// lesser key in its own feed stays.
 ///
 /// Every departure of both feeds is one of the merged feed, that of a joined trip once, and nothing else is; the board of
-/// a stop lists what both feeds list of the stops that became it. The merged feed passes the validator. Both feeds are
-/// lent, and no answer depends on the random state.
+/// a stop lists what both feeds list of the stops that became it. With a cutoff the first feed is [trimmed](Feed::trimmed)
+/// to the service days before it, and the second to those from it on, before anything is compared. The merged feed passes
+/// the validator. Both feeds are lent, and no answer depends on the random state.
 ///
 /// # Errors
 /// In this order: `ZoneDiffers` exactly where the zones of the two feeds have different names; `TooLarge` only where the
@@ -102,11 +108,13 @@ pub fn merge(
     options: &Options,
 ) -> Result<Merged, MergeFault>
     requires near { IfSome options.now.near (λ n. n ≤ 2_147_483_647) }
-    ensures merged { IfOk result
-        (IsMergeOf options.now.near (content_of a.now) (content_of b.now) options.now.file_limit) }
-    ensures refused { IfErr result
-        (IsRefusal options.now.near (content_of a.now) (content_of b.now) options.now.file_limit) }
-    ensures departures { KeepsDepartures options.now.near (content_of a.now) (content_of b.now) }
+    requires cutoff { IfSome options.now.cutoff (λ d. is_service_day d ≡ true) }
+    ensures merged { IfOk result (IsMergeOf options.now.near options.now.cutoff
+        (content_of a.now) (content_of b.now) options.now.file_limit) }
+    ensures refused { IfErr result (IsRefusal options.now.near options.now.cutoff
+        (content_of a.now) (content_of b.now) options.now.file_limit) }
+    ensures departures { KeepsDepartures options.now.near options.now.cutoff
+        (content_of a.now) (content_of b.now) }
 {
     let sides = Sides {
         a,
@@ -114,24 +122,70 @@ pub fn merge(
         near: options.near,
     };
     sides.soundness();
-    judged(alloc, random, &sides, options.file_limit)
+    judged(alloc, random, &sides, options)
 }
 
-// The merged feed, or why there is none.
+// The merged feed, or why there is none; the zones are judged first.
 fn judged(
+    alloc: Global,
+    random: RandomState,
+    sides: &Sides,
+    options: &Options,
+) -> Result<Merged, MergeFault>
+    requires near { sides.now.near ≡ options.now.near }
+    requires cutoff { IfSome options.now.cutoff (λ d. is_service_day d ≡ true) }
+    ensures merged { IfOk result (IsMergeOf sides.now.near options.now.cutoff
+        (content_a sides.now) (content_b sides.now) options.now.file_limit) }
+    ensures refused { IfErr result (IsRefusal sides.now.near options.now.cutoff
+        (content_a sides.now) (content_b sides.now) options.now.file_limit) }
+{
+    if zones_differ(sides.a, sides.b) {
+        return Err(MergeFault::ZoneDiffers);
+    }
+    match options.cutoff {
+        Some(day) => cut_at(alloc, random, sides, day, options.file_limit),
+        None => limited(alloc, random, sides, options.file_limit),
+    }
+}
+
+// The merge of the first feed before a day and of the second one from it on.
+fn cut_at(
+    alloc: Global,
+    random: RandomState,
+    sides: &Sides,
+    day: Day,
+    file_limit: u64,
+) -> Result<Merged, MergeFault>
+    requires zone { zones_differ (content_a sides.now) (content_b sides.now) ≡ false }
+    requires day { is_service_day day ≡ true }
+    ensures merged { IfOk result (IsMergeOf sides.now.near (Some day)
+        (content_a sides.now) (content_b sides.now) file_limit) }
+    ensures refused { IfErr result (IsRefusal sides.now.near (Some day)
+        (content_a sides.now) (content_b sides.now) file_limit) }
+{
+    let first = sides.a.trimmed(alloc, random, Cut::Before(day))?;
+    let second = sides.b.trimmed(alloc, random, Cut::From(day))?;
+    let parts = Sides {
+        a: &first,
+        b: &second,
+        near: sides.near,
+    };
+    limited(alloc, random, &parts, file_limit)
+}
+
+// The merged feed of two feeds with one zone, unless a file of it is too long.
+fn limited(
     alloc: Global,
     random: RandomState,
     sides: &Sides,
     file_limit: u64,
 ) -> Result<Merged, MergeFault>
-    ensures merged { IfOk result
-        (IsMergeOf sides.now.near (content_a sides.now) (content_b sides.now) file_limit) }
-    ensures refused { IfErr result
-        (IsRefusal sides.now.near (content_a sides.now) (content_b sides.now) file_limit) }
+    requires { zones_differ (content_a sides.now) (content_b sides.now) ≡ false }
+    ensures merged { IfOk result (IsMergeOf sides.now.near None
+        (content_a sides.now) (content_b sides.now) file_limit) }
+    ensures refused { IfErr result (IsRefusal sides.now.near None
+        (content_a sides.now) (content_b sides.now) file_limit) }
 {
-    if zones_differ(sides.a, sides.b) {
-        return Err(MergeFault::ZoneDiffers);
-    }
     let merged = merged_feed(alloc, random, sides)?;
     let is_too_large = merged.feed.has_longer_file(alloc, file_limit)?;
     if is_too_large {
