@@ -227,7 +227,8 @@ def odd_words(random, command, given):
     refused = random.choice([
         [], ["help"], ["Check", "f"], [command, "--version"], [*words, "-V"], [*words, "--foo"], [*words, "more"],
         [*words, "--foo", "--help"], [*words, "--zone"], [*words, "--interpolate"], [*words, "--interpolate=true"],
-        [*words, "--near"], [*words, "--cutoff"], ["--foo"], ["-x", *words], [*words, "--"], [*words, "--", "--help"], ["check", "--", "-d"], less, less,
+        [*words, "--near"], [*words, "--cutoff"], ["--foo"], ["-x", *words], [*words, "--"],
+        [*words, "--", "--help"], ["check", "--", "-d"], less, less,
     ])
     return random.choice([not_utf8, asking, version, refused, refused, refused])
 
