@@ -30,6 +30,8 @@ pub mod NewIdRules
 pub mod Ordering
 pub mod Apart
 pub mod MergeLaws
+pub mod CutDepartures
+pub mod CutSides
 pub mod FitCells
 pub mod Fitting
 pub mod NewNames
