@@ -32,6 +32,7 @@ pub mod Apart
 pub mod MergeLaws
 pub mod CutDepartures
 pub mod CutSides
+pub mod CutMerges
 pub mod FitCells
 pub mod Fitting
 pub mod NewNames
