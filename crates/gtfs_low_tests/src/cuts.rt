@@ -1,13 +1,14 @@
 //! Services on one side of a service day: the rows that stay, and the days on which they run.
-ghost use Rattle.std.specs.Prelude.{◌≡◌, true};
+ghost use Rattle.std.specs.Prelude.{◌≡◌, IfOk, true};
 ghost use Rattle.gtfs_days.specs.Cut.{cut_day};
-ghost use Rattle.gtfs_days.specs.Service.{is_service_day};
+ghost use Rattle.gtfs_days.specs.Service.{NamesEachDayOnce, is_service_day};
 
 use crate::assertions::{assert_is, assert_is_at};
 use crate::services::april;
 use gtfs_days::Exception::{Added, Removed};
 use gtfs_days::{Cut, Exception, FIRST_SERVICE_DAY, LAST_SERVICE_DAY, Service, Week};
-use gtfs_field::Day;
+use gtfs_field::{Day, OutOfMemory};
+use std::alloc::Global;
 use std::process::Abort;
 use std::test::Fail;
 
@@ -197,4 +198,39 @@ fn a_cut_at_the_first_and_the_last_service_day(rt: HostRuntime) -> Result<(), Fa
         Some(&since),
         &[(end, Added)],
     )
+}
+
+// More exceptions than two bytes can number.
+const MANY: i32 = 70_000;
+
+// An exception for each of the days from 1970-01-01 on.
+fn many_exceptions(alloc: Global) -> Result<Vec<(Day, Exception)>, OutOfMemory>
+    ensures { IfOk result (λ exceptions. NamesEachDayOnce exceptions.items) }
+{
+    let mut exceptions = Vec::new(alloc);
+    for number in 0..MANY {
+        exceptions.push((Day::from_number(number), Added))?;
+    }
+    Ok(exceptions)
+}
+
+#[test]
+fn a_service_of_many_exceptions_is_cut_in_the_middle(rt: HostRuntime) -> Result<(), Fail> {
+    let exceptions = many_exceptions(rt.alloc())?;
+    let service = Service::new(rt.alloc(), None, &exceptions)?;
+    let middle = Day::from_number(35_000);
+    let before = service.trim(rt.alloc(), Cut::Before(middle))?;
+    let from = service.trim(rt.alloc(), Cut::From(Day::from_number(35_000)))?;
+    for half in [before.exceptions(), from.exceptions()] {
+        assert_is(&rt, half.len(), 35_000, "exceptions of a half");
+    }
+    let last = before.exceptions().last().copied();
+    let wanted = Some((Day::from_number(34_999), Added));
+    assert_is(&rt, last, wanted, "the last exception before");
+    let first = from.exceptions().first().copied();
+    let wanted = Some((Day::from_number(35_000), Added));
+    assert_is(&rt, first, wanted, "the first exception from the day on");
+    assert_is(&rt, before.week(), None, "a calendar row before");
+    assert_is(&rt, from.week(), None, "a calendar row from the day on");
+    Ok(())
 }
