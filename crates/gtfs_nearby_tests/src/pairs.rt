@@ -240,10 +240,10 @@ const LAKE: Spot = Spot {
     ..MILL
 };
 
-// The latitude of the mill, and places a millionth or two from it.
-const fn moved(north: i64) -> Spot {
+// The mill, so many units to the north.
+fn moved(north: i64) -> Spot {
     Spot {
-        lat: Some(52_500_000_000 + north),
+        lat: Some(north.wrapping_add(52_500_000_000)),
         ..MILL
     }
 }
