@@ -214,23 +214,29 @@ fn many_exceptions(alloc: Global) -> Result<Vec<(Day, Exception)>, OutOfMemory>
     Ok(exceptions)
 }
 
+// The service of these exceptions alone.
+fn many_days(alloc: Global) -> Result<Service, OutOfMemory> {
+    let exceptions = many_exceptions(alloc)?;
+    Service::new(alloc, None, &exceptions)
+}
+
+// Holds that half of the exceptions are left, those from the one day to the other, and no calendar row.
+fn assert_half(rt: &impl Abort, half: &Service, first: i32, last: i32) {
+    assert_is(rt, half.exceptions().len(), 35_000, "exceptions of a half");
+    assert_is(rt, half.week(), None, "a calendar row");
+    let [(one, _), .., (other, _)] = half.exceptions() else {
+        panic!(rt; "no exceptions");
+    };
+    assert_is(rt, one.number(), first, "the first exception");
+    assert_is(rt, other.number(), last, "the last exception");
+}
+
 #[test]
 fn a_service_of_many_exceptions_is_cut_in_the_middle(rt: HostRuntime) -> Result<(), Fail> {
-    let exceptions = many_exceptions(rt.alloc())?;
-    let service = Service::new(rt.alloc(), None, &exceptions)?;
-    let middle = Day::from_number(35_000);
-    let before = service.trim(rt.alloc(), Cut::Before(middle))?;
+    let service = many_days(rt.alloc())?;
+    let before = service.trim(rt.alloc(), Cut::Before(Day::from_number(35_000)))?;
+    assert_half(&rt, &before, 0, 34_999);
     let from = service.trim(rt.alloc(), Cut::From(Day::from_number(35_000)))?;
-    for half in [before.exceptions(), from.exceptions()] {
-        assert_is(&rt, half.len(), 35_000, "exceptions of a half");
-    }
-    let last = before.exceptions().last().copied();
-    let wanted = Some((Day::from_number(34_999), Added));
-    assert_is(&rt, last, wanted, "the last exception before");
-    let first = from.exceptions().first().copied();
-    let wanted = Some((Day::from_number(35_000), Added));
-    assert_is(&rt, first, wanted, "the first exception from the day on");
-    assert_is(&rt, before.week(), None, "a calendar row before");
-    assert_is(&rt, from.week(), None, "a calendar row from the day on");
+    assert_half(&rt, &from, 35_000, 69_999);
     Ok(())
 }
