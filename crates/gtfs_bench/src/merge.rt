@@ -14,6 +14,8 @@ use std::time::{Duration, Instant};
 /// What files of a folder are held to.
 const OPTIONS: Options = Options {
     file_limit: 1_073_741_824,
+    near: None,
+    cutoff: None,
 };
 
 /// The least times, and how many bytes the merged files have.

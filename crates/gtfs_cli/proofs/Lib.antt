@@ -16,7 +16,7 @@ pub mod Sequences
 mod NamesTold
 mod Filed
 mod ReadBack
-mod NearValues
+mod MergeValues
 mod Unmerged
 mod MergeEnded
 mod Unchecked

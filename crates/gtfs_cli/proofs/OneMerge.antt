@@ -1,17 +1,16 @@
 -- A merge has one outcome.
-use Rattle.std.proofs.Common.{◌≡◌, ◌≢◌, ◌∙◌, ap, sym, subst, refl, ℕ, inl, inr, ◌⊎◌, true, false, List, [], length, Option, Some, None, codes, arith}
+use Rattle.std.proofs.Common.{◌≡◌, ◌≢◌, ◌∙◌, ap, sym, subst, refl, ℕ, ℤ, inl, inr, ◌⊎◌, true, false, List, [], length, Option, Some, None, codes, arith}
 use Rattle.std.specs.Prelude.{unwrap_or}
 use Rattle.std.proofs.lemmas.Option.{same_Some}
 use Rattle.gtfs_devices.specs.Folder.{Store}
 use Rattle.gtfs_table.specs.Reading.{kept_files}
 use Rattle.gtfs_rows.specs.Content.{Content}
 use Rattle.gtfs_rows.specs.Reading.{content_of}
-use Rattle.gtfs_merge.specs.Merged.{is_too_large, merged, zones_differ}
-use Rattle.gtfs_merge.specs.Near.{nearness, report as report_of}
+use Rattle.gtfs_merge.specs.Merged.{is_too_large, zones_differ}
 use Rattle.clap.specs.Words.{Text}
 use Rattle.gtfs_words.specs.Words.{MergeTexts}
 use Rattle.gtfs_cli.specs.MergeOptions.{first_bad_merge, HasMergeValues, IsMergeRequest, MergeRequest}
-use Rattle.gtfs_cli.specs.Merges.{file_limit, with_files, CanMerge, HasLargeMerge, HasTwoZones, IsFolderMerge, IsMergeCause, MergeSetting}
+use Rattle.gtfs_cli.specs.Merges.{file_limit, merge_of, report_for, with_files, CanMerge, HasLargeMerge, HasTwoZones, IsFolderMerge, IsMergeCause, MergeSetting}
 use Rattle.gtfs_cli.specs.Messages.{line_of, message}
 use Rattle.gtfs_cli.specs.Outcomes.{none_failed, IsMergeMade, IsMergeOutcome, MergeOutcome, Outcome}
 use Rattle.gtfs_cli.specs.Refusals.{status_of}
@@ -26,7 +25,7 @@ both_alike : (x y : MergeOutcome) → x.ended ≡ y.ended → x.folders ≡ y.fo
 both_alike x y ended folders = λ i. record { ended = ended i; folders = folders i }
 
 none_bad : (asked : MergeTexts) → HasMergeValues asked → first_bad_merge asked ≡ None
-none_bad asked (q, is) = rw is.near refl
+none_bad asked (q, is) = rw is.near (rw is.cutoff refl)
 
 same_option : (a b : Text) → Some a ≡ Some b → a ≡ b
 same_option a b is = ap (λ (o : Option Text). unwrap_or o a) is
@@ -34,7 +33,8 @@ same_option a b is = ap (λ (o : Option Text). unwrap_or o a) is
 one_request : (asked : MergeTexts) (p q : MergeRequest) → IsMergeRequest asked p → IsMergeRequest asked q → p ≡ q
 one_request asked p q a b =
     let near : p.near ≡ q.near = ap (λ (o : Option (Option ℕ)). unwrap_or o p.near) (sym a.near ∙ b.near) in
-    λ i. record { near = near i }
+    let cutoff : p.cutoff ≡ q.cutoff = ap (λ (o : Option (Option ℤ)). unwrap_or o p.cutoff) (sym a.cutoff ∙ b.cutoff) in
+    λ i. record { near = near i; cutoff = cutoff i }
 
 module _ (limit : ℕ) (store : Store) (asked : MergeTexts) where
   -- nothing changed
@@ -160,17 +160,17 @@ module _ (limit : ℕ) (store : Store) (asked : MergeTexts) where
     same_second : content_of s.second ≡ content_of t.second
     same_second = ap content_of (one_dataset limit store asked.b s.second t.second s.holds_second t.holds_second)
 
-    same_near : s.request.near ≡ t.request.near
-    same_near = ap (λ (q : MergeRequest). q.near) (one_request asked s.request t.request s.is_request t.is_request)
+    same_request : s.request ≡ t.request
+    same_request = one_request asked s.request t.request s.is_request t.is_request
 
     -- what is so of two feeds is so of them
     of_feeds : (P : Content → Content → Type 0) → P (content_of s.first) (content_of s.second) → P (content_of t.first) (content_of t.second)
     of_feeds P is = subst (λ (f : Content). P f (content_of t.second)) same_first (subst (λ (f : Content). P (content_of s.first) f) same_second is)
 
-    -- and what is so of them as near as is asked for
-    of_merge : (P : Option ℕ → Content → Content → Type 0) → P s.request.near (content_of s.first) (content_of s.second)
-        → P t.request.near (content_of t.first) (content_of t.second)
-    of_merge P is = subst (λ (n : Option ℕ). P n (content_of t.first) (content_of t.second)) same_near (of_feeds (P s.request.near) is)
+    -- and what is so of them as the options say
+    of_merge : (P : MergeRequest → Content → Content → Type 0) → P s.request (content_of s.first) (content_of s.second)
+        → P t.request (content_of t.first) (content_of t.second)
+    of_merge P is = subst (λ (q : MergeRequest). P q (content_of t.first) (content_of t.second)) same_request (of_feeds (P s.request) is)
 
     not_differing : zones_differ (content_of s.first) (content_of s.second) ≡ true → zones_differ (content_of t.first) (content_of t.second) ≡ false → ⊥
     not_differing differ one =
@@ -179,14 +179,14 @@ module _ (limit : ℕ) (store : Store) (asked : MergeTexts) where
 
   module _ (c d : Content) (told report : List ℕ) (a : IsFolderMerge limit (Some store) asked c told) (b : IsFolderMerge limit (Some store) asked d report) where
     same_content : c ≡ d
-    same_content = of_merge a.setting b.setting (λ n f g. c ≡ merged (nearness n) f g) a.content ∙ sym b.content
+    same_content = of_merge a.setting b.setting (λ q f g. c ≡ merge_of q f g) a.content ∙ sym b.content
 
     same_report : told ≡ report
-    same_report = of_merge a.setting b.setting (λ n f g. told ≡ report_of n f g) a.is_report ∙ sym b.is_report
+    same_report = of_merge a.setting b.setting (λ q f g. told ≡ report_for q f g) a.is_report ∙ sym b.is_report
 
   not_large : HasLargeMerge limit (Some store) asked → (c : Content) (report : List ℕ) → IsFolderMerge limit (Some store) asked c report → ⊥
   not_large large c report is =
-      let both = of_merge large.0 is.setting (λ n f g. is_too_large file_limit (merged (nearness n) f g) ≡ true) large.2 in
+      let both = of_merge large.0 is.setting (λ q f g. is_too_large file_limit (merge_of q f g) ≡ true) large.2 in
       cc (sym (ap (is_too_large file_limit) is.content ∙ both) ∙ is.small)
 
   differing_one : Apart MergeOutcome Differing OfOneZone

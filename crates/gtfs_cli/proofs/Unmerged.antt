@@ -9,16 +9,16 @@ use Rattle.gtfs_rows.specs.Content.{Content}
 use Rattle.gtfs_rows.specs.Reading.{content_of}
 use Rattle.gtfs_rows.specs.Views.{content_of_parts as content_of_feed}
 use Rattle.gtfs_rows.specs.declared.parts.Parts.{Parts as Feed}
-use Rattle.gtfs_merge.specs.Merged.{is_too_large, merged, zones_differ}
+use Rattle.gtfs_rows.specs.Trimmed.{first_part, second_part}
+use Rattle.gtfs_merge.specs.Merged.{is_too_large, zones_differ}
 use Rattle.gtfs_merge.specs.Merging.{IsMergeOf, KeepsDepartures}
-use Rattle.gtfs_merge.specs.Near.{nearness, report as report_of}
 use Rattle.gtfs_merge.specs.declared.merging.Merged.{Merged}
 use Rattle.gtfs_words.specs.Words.{MergeTexts}
 use Rattle.gtfs_cli.specs.Boards.{HoldsFeed}
 use Rattle.gtfs_cli.specs.Checking.{IsSendingCause}
 use Rattle.gtfs_cli.specs.MergeOptions.{HasMergeValues, IsMergeRequest, MergeRequest}
 use Rattle.gtfs_cli.specs.MergeParts.{HoldsMerge, IsFirstBadMerge}
-use Rattle.gtfs_cli.specs.Merges.{file_limit, CanMerge, EndsMerge, HoldsFiles, IsFolderMerge, IsMergeCause, IsMergeFault, IsMergingCause, IsUntouched, IsWritingEnd, IsWritten, MergeSetting, ReadsAgain, StopsAtOne}
+use Rattle.gtfs_cli.specs.Merges.{file_limit, merge_of, report_for, CanMerge, EndsMerge, HoldsFiles, IsFolderMerge, IsMergeCause, IsMergeFault, IsMergingCause, IsUntouched, IsWritingEnd, IsWritten, MergeSetting, ReadsAgain, StopsAtOne}
 use Rattle.gtfs_cli.specs.NamesReport.{names_report}
 use Rattle.gtfs_cli.specs.Refusals.{IsReadingCause}
 use Rattle.gtfs_cli.specs.Running.{Failures}
@@ -133,7 +133,7 @@ module _ (limit : ℕ) (held : Option Store) (asked : MergeTexts) where
     of_datasets : (P : Content → Content → Type 0) → P (content_of_feed a) (content_of_feed b) → P (content_of first.dataset) (content_of second.dataset)
     of_datasets P h = subst (λ (f : Content). P f (content_of second.dataset)) first.is_feed.1 (subst (λ (f : Content). P (content_of_feed a) f) second.is_feed.1 h)
 
-    pub unmerged : (before after : Failures) (r : Refusal) → IsMergeFault q.near (content_of_feed a) (content_of_feed b) r → IsMergingCause limit held asked before after r
+    pub unmerged : (before after : Failures) (r : Refusal) → IsMergeFault q (content_of_feed a) (content_of_feed b) r → IsMergingCause limit held asked before after r
     unmerged before after (Words text) h = absurd h
     unmerged before after (BadValue option) h = absurd h
     unmerged before after (NotThere path) h = absurd h
@@ -148,21 +148,22 @@ module _ (limit : ℕ) (held : Option Store) (asked : MergeTexts) where
     unmerged before after MergeTooLarge h = (
       setting,
       of_datasets (λ f g. zones_differ f g ≡ false) h.0,
-      of_datasets (λ f g. is_too_large file_limit (merged (nearness q.near) f g) ≡ true) h.1,
+      of_datasets (λ f g. is_too_large file_limit (merge_of q f g) ≡ true) h.1,
     )
     unmerged before after (Unwritable path) h = absurd h
     unmerged before after OutputFailed h = absurd h
     unmerged before after OutOfMemory h = tt
 
-    pub is-merged : (m : Merged) → IsMergeOf q.near (content_of_feed a) (content_of_feed b) file_limit m
-        → KeepsDepartures q.near (content_of_feed a) (content_of_feed b) → HoldsMerge limit held asked q.near m
+    pub is-merged : (m : Merged) → IsMergeOf q.near q.cutoff (content_of_feed a) (content_of_feed b) file_limit m
+        → KeepsDepartures q.near q.cutoff (content_of_feed a) (content_of_feed b) → HoldsMerge limit held asked q.near m
     is-merged m is keeps = record {
       setting = setting;
       zone = of_datasets (λ f g. zones_differ f g ≡ false) is.zone;
-      content = of_datasets (λ f g. content_of_feed m.feed ≡ merged (nearness q.near) f g) is.content;
+      content = of_datasets (λ f g. content_of_feed m.feed ≡ merge_of q f g) is.content;
       small = ap (is_too_large file_limit) is.content ∙ is.small;
-      keeps = of_datasets (λ f g. KeepsDepartures q.near f g) keeps;
-      is_report = of_datasets (λ f g. names_report q.near m.names ≡ report_of q.near f g) (report-told q.near (content_of_feed a) (content_of_feed b) m.names is.names);
+      keeps = of_datasets (λ f g. KeepsDepartures q.near q.cutoff f g) keeps;
+      is_report = of_datasets (λ f g. names_report q.near m.names ≡ report_for q f g)
+          (report-told q.near (first_part q.cutoff (content_of_feed a)) (second_part q.cutoff (content_of_feed b)) m.names is.names);
     }
 
   -- ---- why there is no merge

@@ -18,7 +18,7 @@ use Rattle.gtfs_cli.specs.declared.commands.refusal.Refusal.TheVariants.{BadValu
 
 -- the request that values are
 abbrev pub merge_request_of : MergeValues → MergeRequest
-merge_request_of v = record { near = v.near }
+merge_request_of v = record { near = v.near; cutoff = v.cutoff }
 
 -- the refusal is for the first option whose value is bad
 abbrev pub IsFirstBadMerge : MergeTexts → Refusal → Type 0

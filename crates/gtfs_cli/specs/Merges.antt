@@ -12,9 +12,11 @@ use Rattle.gtfs_columns.specs.Problems.{Passes}
 use Rattle.gtfs_rows.specs.Content.{Content}
 use Rattle.gtfs_rows.specs.Reading.{content_of}
 use Rattle.gtfs_rows.specs.Written.{written}
-use Rattle.gtfs_merge.specs.Merged.{is_too_large, merged, zones_differ}
+use Rattle.gtfs_rows.specs.Trimmed.{first_part, second_part}
+use Rattle.gtfs_merge.specs.Cutoff.{merged_as}
+use Rattle.gtfs_merge.specs.Merged.{is_too_large, zones_differ}
 use Rattle.gtfs_merge.specs.Merging.{KeepsDepartures}
-use Rattle.gtfs_merge.specs.Near.{nearness, report as report_of}
+use Rattle.gtfs_merge.specs.Near.{report as report_of}
 use Rattle.gtfs_words.specs.Words.{MergeTexts}
 use Rattle.gtfs_cli.specs.MergeOptions.{first_bad_merge, HasMergeValues, IsMergeRequest, MergeRequest}
 use Rattle.gtfs_cli.specs.Running.{Failures, HoldsErrors, HoldsKeptFile, HoldsPassing, HoldsTables, LacksFeed}
@@ -39,15 +41,23 @@ pub record MergeSetting (limit : ℕ) (held : Option Store) (asked : MergeTexts)
   pub second_passes : Passes second
   pub is_request : IsMergeRequest asked request
 
--- both feeds have one zone; the content is their merge, in which stops become one that are as near as the options say, with every
--- departure and every board of both; no file of its written form is over the limit, and the text is the report of the merge
+-- the merge of two feeds, as the values of the options say
+abbrev pub merge_of : MergeRequest → Content → Content → Content
+merge_of r a b = merged_as r.near r.cutoff a b
+
+-- its report, which is that of the parts of both that a cutoff leaves
+abbrev pub report_for : MergeRequest → Content → Content → List ℕ
+report_for r a b = report_of r.near (first_part r.cutoff a) (second_part r.cutoff b)
+
+-- both feeds have one zone; the content is their merge as the options say, with every departure on the days that a cutoff leaves to
+-- each and every board; no file of its written form is over the limit, and the text is the report of the merge
 pub record IsFolderMerge (limit : ℕ) (held : Option Store) (asked : MergeTexts) (c : Content) (report : List ℕ) : Type 0 where
   pub setting : MergeSetting limit held asked
   pub zone : zones_differ (content_of setting.first) (content_of setting.second) ≡ false
-  pub content : c ≡ merged (nearness setting.request.near) (content_of setting.first) (content_of setting.second)
+  pub content : c ≡ merge_of setting.request (content_of setting.first) (content_of setting.second)
   pub small : is_too_large file_limit c ≡ false
-  pub keeps : KeepsDepartures setting.request.near (content_of setting.first) (content_of setting.second)
-  pub is_report : report ≡ report_of setting.request.near (content_of setting.first) (content_of setting.second)
+  pub keeps : KeepsDepartures setting.request.near setting.request.cutoff (content_of setting.first) (content_of setting.second)
+  pub is_report : report ≡ report_for setting.request (content_of setting.first) (content_of setting.second)
 
 -- there is such a merge
 abbrev pub CanMerge : ℕ → Option Store → MergeTexts → Type 0
@@ -60,7 +70,7 @@ HasTwoZones limit held asked = (s : MergeSetting limit held asked) × (zones_dif
 -- they have one zone, and some file of their merge is over the limit
 abbrev pub HasLargeMerge : ℕ → Option Store → MergeTexts → Type 0
 HasLargeMerge limit held asked = (s : MergeSetting limit held asked) × (zones_differ (content_of s.first) (content_of s.second) ≡ false)
-    × (is_too_large file_limit (merged (nearness s.request.near) (content_of s.first) (content_of s.second)) ≡ true)
+    × (is_too_large file_limit (merge_of s.request (content_of s.first) (content_of s.second)) ≡ true)
 
 -- ---- the files of the written form, in order
 
@@ -171,11 +181,11 @@ EndsMerge limit held asked now old new _ = IsUntouched held now old new
 -- ---- what the parts of the work give
 
 -- why two feeds are not merged
-abbrev pub IsMergeFault : Option ℕ → Content → Content → Refusal → Type 0
-IsMergeFault near a b ZonesDiffer = zones_differ a b ≡ true
-IsMergeFault near a b MergeTooLarge = (zones_differ a b ≡ false) × (is_too_large file_limit (merged (nearness near) a b) ≡ true)
-IsMergeFault near a b OutOfMemory = ⊤
-IsMergeFault near a b _ = ⊥
+abbrev pub IsMergeFault : MergeRequest → Content → Content → Refusal → Type 0
+IsMergeFault r a b ZonesDiffer = zones_differ a b ≡ true
+IsMergeFault r a b MergeTooLarge = (zones_differ a b ≡ false) × (is_too_large file_limit (merge_of r a b) ≡ true)
+IsMergeFault r a b OutOfMemory = ⊤
+IsMergeFault r a b _ = ⊥
 
 -- why a file is not written, and what the device holds then; the counts are those of its failures, before and after
 abbrev pub IsFileEnd : Option Store → Option Store → ℕ → ℕ → List ℕ → File → Refusal → Type 0

@@ -23,7 +23,7 @@ use Rattle.gtfs_rows.specs.Departures.{Origins}
 use Rattle.gtfs_rows.specs.Key.{Key}
 use Rattle.gtfs_board.specs.KeyTexts.{key_of}
 use Rattle.gtfs_times.specs.declared.times.Times.{Times}
-use Rattle.gtfs_cli.specs.Options.{first_of_bad, times_of}
+use Rattle.gtfs_cli.specs.Options.{first_of_bad, service_day, times_of}
 use Rattle.gtfs_cli.specs.MergeOptions.{HasBadMergeValue}
 use Rattle.gtfs_cli.specs.TimetableOptions.{HasBadTimetableValue}
 use Rattle.gtfs_words.specs.Words.{gtfs_app, texts_of, timetable_texts_of, AreRefused, BoardTexts, IsCommandOf, MergeTexts, TimetableTexts, merge_texts_of}
@@ -40,11 +40,6 @@ use Rattle.gtfs_words.specs.declared.command.TimetableWords.{TimetableWords}
 abbrev pub after_at : List ℕ → Option (List ℕ)
 after_at [] = None
 after_at (b ∷ rest) = if b == 64 then Some rest else None
-
--- a date that is a service day
-abbrev pub service_day : Result ℤ FieldFault → Option ℤ
-service_day (Ok d) = if is_service_day d then Some d else None
-service_day (Err fault) = None
 
 abbrev pub moment_from : List ℕ → Option (List ℕ) → Option Moment
 moment_from text (Some instant) = option_map Instant (result_ok (instant_of instant))

@@ -56,7 +56,7 @@ use std::hash::RandomState;
 ///   a file of the merged feed would be longer than 1,073,741,824 bytes.
 /// - 2: `clap` refuses the words, the value of `--from` or `--until` is neither `@` and an instant nor a service day,
 ///   that of `--limit` or of `--near` is no count, that of `--after` is no key, that of `--date` is no date, that of
-///   `--direction` is neither 0 nor 1, or the board would end before it begins.
+///   `--direction` is neither 0 nor 1, that of `--cutoff` is no service day, or the board would end before it begins.
 /// - 3: the folder, the zone file or its folder is not there, cannot be read or holds a file over the limit, the zone file
 ///   is none, the folder of the merged feed or a file in it cannot be written, or the output failed.
 /// - 4: memory ran out.
@@ -65,8 +65,9 @@ use std::hash::RandomState;
 /// with 0 only where a page of it went out: all its lines, or as many as `--limit` says. A timetable ends with 0 only where
 /// the text of all its sheets went out. A merge ends with 0 only where all nine files of the merged feed were written and
 /// then its whole report went out: the written folder passes the validator and has every departure and every board of
-/// both feeds, those of joined trips once. Where a file could not be written, those before it were and no later one.
-/// Nothing is written but by a merge. What is printed does not depend on the random state.
+/// both feeds, those of joined trips once; with a cutoff it has those of the first feed before that service day, and of the
+/// second feed from it on. Where a file could not be written, those before it were and no later one. Nothing is written but
+/// by a merge. What is printed does not depend on the random state.
 ///
 /// A run that ends with 0, 1 or 2 met no failure of the folders or of `out`: after one it ends with 3 or 4.
 pub fn run<S: AsStr, F: Folders, O: Out, E: Out>(

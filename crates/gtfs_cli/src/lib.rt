@@ -23,9 +23,10 @@
 //! With `--interpolate` a stop time with neither an arrival nor a departure has the time of an even pace between its nearest
 //! neighbours that have one. A board lists its departures too, and marks them by an `i`; a timetable prints its times.
 //!
-//! `gtfs merge A B OUT [--near N]` merges the feeds of two folders into a third, which may be one of the two, and prints which ids
-//! changed and how many are joined. With `--near` a stop of B becomes a stop of A that has its type, its name and its parent and
-//! whose coordinates differ from its own by at most N millionths of a degree, and the last line says how many stops do so.
+//! `gtfs merge A B OUT [--near N] [--cutoff D]` merges the feeds of two folders into a third, which may be one of the two, and
+//! prints which ids changed and how many are joined. With `--near` a stop of B becomes a stop of A that has its type, its name and
+//! its parent and whose coordinates differ from its own by at most N millionths of a degree, and the last line says how many stops
+//! do so. With `--cutoff` A serves the service days before D, and B those from D on.
 //!
 //! `gtfs --version` prints the name and the version of the program, and `--help` how it or a command is called.
 //!

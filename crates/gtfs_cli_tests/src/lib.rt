@@ -10,6 +10,8 @@ mod assertions;
 #[cfg(test)]
 mod boards;
 #[cfg(test)]
+mod cutoff;
+#[cfg(test)]
 mod ended;
 #[cfg(test)]
 mod faults;

@@ -50,7 +50,8 @@ same_merge (Some found) a b is_a is_b =
     let second : a.b ≡ b.b = same _ a.b b.b is_a.1.b is_b.1.b in
     let out : a.out ≡ b.out = same _ a.out b.out is_a.1.out is_b.1.out in
     let near : a.near ≡ b.near = sym is_a.1.near ∙ is_b.1.near in
-    λ i. record { a = first i; b = second i; out = out i; near = near i }
+    let cutoff : a.cutoff ≡ b.cutoff = sym is_a.1.cutoff ∙ is_b.1.cutoff in
+    λ i. record { a = first i; b = second i; out = out i; near = near i; cutoff = cutoff i }
 
 pub one_check : (words : List Text) (a b : Text) → AsksCheckOf words a → AsksCheckOf words b → a ≡ b
 one_check words a b is_a is_b = same_check _ a b is_a.asks is_b.asks

@@ -32,12 +32,13 @@ pub record TimetableTexts : Type 0 where
   pub direction : Option Text
   pub interpolate : Bool
 
--- what is given to `merge`; how close near stops lie may be missing
+-- what is given to `merge`; how close near stops lie, and the day from which the second feed counts, may be missing
 pub record MergeTexts : Type 0 where
   pub a : Text
   pub b : Text
   pub out : Text
   pub near : Option Text
+  pub cutoff : Option Text
 
 abbrev pub texts_of : BoardWords → BoardTexts
 texts_of words = record {
@@ -66,6 +67,7 @@ merge_texts_of words = record {
   b = words.b.now;
   out = words.out.now;
   near = option_map (λ text. text.now) words.near;
+  cutoff = option_map (λ text. text.now) words.cutoff;
 }
 
 -- ---- what was given for each id
@@ -108,6 +110,7 @@ pub record IsMergeOf (given : List Row) (asked : MergeTexts) : Type 0 where
   pub b : first_of (codes "B") given ≡ Some asked.b
   pub out : first_of (codes "OUT") given ≡ Some asked.out
   pub near : first_of (codes "near") given ≡ asked.near
+  pub cutoff : first_of (codes "cutoff") given ≡ asked.cutoff
 
 -- ---- the command that is asked for
 

@@ -44,10 +44,10 @@ timetable_app = with_rule (with_rule (with_rule (with_rule (with_rule (new_app (
     (word_rule (codes "DIR"))) (option_rule (codes "route"))) (option_rule (codes "date"))) (choice_rule (codes "direction")))
     (flag_rule (codes "interpolate"))
 
--- `merge A B OUT [--near N]`
+-- `merge A B OUT [--near N] [--cutoff D]`
 abbrev pub merge_app : App
-merge_app = with_rule (with_rule (with_rule (with_rule (new_app (codes "merge")) (word_rule (codes "A"))) (word_rule (codes "B")))
-    (word_rule (codes "OUT"))) (choice_rule (codes "near"))
+merge_app = with_rule (with_rule (with_rule (with_rule (with_rule (new_app (codes "merge")) (word_rule (codes "A")))
+    (word_rule (codes "B"))) (word_rule (codes "OUT"))) (choice_rule (codes "near"))) (choice_rule (codes "cutoff"))
 
 -- `gtfs`, which has a version, and of which one of the commands must be named; `help` is none of them
 abbrev pub gtfs_top : App

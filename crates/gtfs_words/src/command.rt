@@ -60,4 +60,6 @@ pub struct MergeWords<'w> {
     pub out: &'w str,
     /// Up to how many millionths of a degree apart stops become one, if this was said.
     pub near: Option<&'w str>,
+    /// The service day from which the second feed counts, if one was said.
+    pub cutoff: Option<&'w str>,
 }

@@ -27,7 +27,7 @@ const ABOUT: &str =
 const COMMANDS: &str = "gtfs check DIR\n       \
     gtfs board DIR --zone FILE --stop ID --from T --until T [--limit N] [--after KEY] [--interpolate]\n       \
     gtfs timetable DIR --route ID --date D [--direction 0|1] [--interpolate]\n       \
-    gtfs merge A B OUT [--near N]";
+    gtfs merge A B OUT [--near N] [--cutoff D]";
 
 // The program `gtfs` with all its commands. `--help` and `-h` ask for help, at the top and at each
 // command; `--version` and `-V` ask for the version, at the top alone. There is no command `help`.

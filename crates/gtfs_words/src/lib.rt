@@ -4,7 +4,7 @@
 //! gtfs check DIR
 //! gtfs board DIR --zone FILE --stop ID --from T --until T [--limit N] [--after KEY] [--interpolate]
 //! gtfs timetable DIR --route ID --date D [--direction 0|1] [--interpolate]
-//! gtfs merge A B OUT [--near N]
+//! gtfs merge A B OUT [--near N] [--cutoff D]
 //! ```
 //!
 //! [`read_words`] answers a [`Command`] with the texts that were given, each as it stands in the words, or a

@@ -95,6 +95,7 @@ fn merge_words<'w>(given: &ArgMatches<'w>) -> Option<MergeWords<'w>>
         b: given_text(given, "B")?,
         out: given_text(given, "OUT")?,
         near: given_text(given, "near"),
+        cutoff: given_text(given, "cutoff"),
     })
 }
 

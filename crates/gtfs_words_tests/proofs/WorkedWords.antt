@@ -72,11 +72,11 @@ abbrev merge_words : List Text
 merge_words = codes "gtfs" ∷ codes "merge" ∷ codes "north" ∷ codes "south" ∷ codes "both" ∷ []
 
 abbrev merge_texts : MergeTexts
-merge_texts = record { a = codes "north"; b = codes "south"; out = codes "both"; near = None }
+merge_texts = record { a = codes "north"; b = codes "south"; out = codes "both"; near = None; cutoff = None }
 
 merge_asked : AsksMergeOf merge_words merge_texts
 unfolding clap_on_literals
-merge_asked = record { taken = refl; asks = (refl, record { a = refl; b = refl; out = refl; near = refl }) }
+merge_asked = record { taken = refl; asks = (refl, record { a = refl; b = refl; out = refl; near = refl; cutoff = refl }) }
 
 -- the same with near stops
 abbrev near_merge : List Text
@@ -84,7 +84,15 @@ near_merge = codes "gtfs" ∷ codes "merge" ∷ codes "north" ∷ codes "--near"
 
 near_merge_asked : AsksMergeOf near_merge (record merge_texts { near = Some (codes "500") })
 unfolding clap_on_literals
-near_merge_asked = record { taken = refl; asks = (refl, record { a = refl; b = refl; out = refl; near = refl }) }
+near_merge_asked = record { taken = refl; asks = (refl, record { a = refl; b = refl; out = refl; near = refl; cutoff = refl }) }
+
+-- the same with near stops and a cutoff, which may stand in any order
+abbrev cut_merge : List Text
+cut_merge = codes "gtfs" ∷ codes "merge" ∷ codes "--cutoff=20240403" ∷ codes "north" ∷ codes "south" ∷ codes "--near" ∷ codes "500" ∷ codes "both" ∷ []
+
+cut_merge_asked : AsksMergeOf cut_merge (record merge_texts { near = Some (codes "500"); cutoff = Some (codes "20240403") })
+unfolding clap_on_literals
+cut_merge_asked = record { taken = refl; asks = (refl, record { a = refl; b = refl; out = refl; near = refl; cutoff = refl }) }
 
 -- no command
 abbrev no_command : List Text
@@ -157,6 +165,30 @@ near_twice_is = refl
 near_twice_not_taken : takes gtfs_app near_twice ≡ false
 unfolding clap_on_literals
 near_twice_not_taken = refl
+
+-- a cutoff without its day
+abbrev cutoff_nothing : List Text
+cutoff_nothing = codes "gtfs" ∷ codes "merge" ∷ codes "a" ∷ codes "b" ∷ codes "c" ∷ codes "--cutoff" ∷ []
+
+cutoff_nothing_is : fault_of gtfs_app cutoff_nothing ≡ kind.InvalidValue ∷ []
+unfolding clap_on_literals
+cutoff_nothing_is = refl
+
+cutoff_nothing_not_taken : takes gtfs_app cutoff_nothing ≡ false
+unfolding clap_on_literals
+cutoff_nothing_not_taken = refl
+
+-- a cutoff that stands twice
+abbrev cutoff_twice : List Text
+cutoff_twice = codes "gtfs" ∷ codes "merge" ∷ codes "a" ∷ codes "b" ∷ codes "c" ∷ codes "--cutoff=20240403" ∷ codes "--cutoff=20240403" ∷ []
+
+cutoff_twice_is : fault_of gtfs_app cutoff_twice ≡ kind.ArgumentConflict ∷ []
+unfolding clap_on_literals
+cutoff_twice_is = refl
+
+cutoff_twice_not_taken : takes gtfs_app cutoff_twice ≡ false
+unfolding clap_on_literals
+cutoff_twice_not_taken = refl
 
 -- a timetable without its date
 abbrev without_date : List Text

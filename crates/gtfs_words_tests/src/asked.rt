@@ -91,7 +91,7 @@ fn timetable_has_its_direction_and_its_flag(rt: HostRuntime) -> Result<(), Fail>
 }
 
 #[test]
-fn merge_may_lack_near(rt: HostRuntime) -> Result<(), Fail> {
+fn merge_may_lack_its_options(rt: HostRuntime) -> Result<(), Fail> {
     let Ok(Command::Merge(merge)) = read_words(
         rt.alloc(),
         &["gtfs", "merge", "north", "south", "both"],
@@ -102,12 +102,22 @@ fn merge_may_lack_near(rt: HostRuntime) -> Result<(), Fail> {
     assert_equal(&rt, merge.b, "south");
     assert_equal(&rt, merge.out, "both");
     assert_equal(&rt, merge.near, None);
+    assert_equal(&rt, merge.cutoff, None);
     Ok(())
 }
 
 #[test]
 fn merge_has_all_that_is_given(rt: HostRuntime) -> Result<(), Fail> {
-    let words = ["gtfs", "merge", "north", "--near=-1", "south", "both"];
+    let words = [
+        "gtfs",
+        "merge",
+        "north",
+        "--cutoff",
+        "tomorrow",
+        "--near=-1",
+        "south",
+        "both",
+    ];
     let Ok(Command::Merge(merge)) = read_words(rt.alloc(), &words) else {
         return Err("no merge".into());
     };
@@ -115,16 +125,26 @@ fn merge_has_all_that_is_given(rt: HostRuntime) -> Result<(), Fail> {
     assert_equal(&rt, merge.b, "south");
     assert_equal(&rt, merge.out, "both");
     assert_equal(&rt, merge.near, Some("-1"));
+    assert_equal(&rt, merge.cutoff, Some("tomorrow"));
     Ok(())
 }
 
 #[test]
-fn near_may_stand_before_the_folders(rt: HostRuntime) -> Result<(), Fail> {
-    let words = ["gtfs", "merge", "--near=", "north", "south", "both"];
+fn options_of_a_merge_may_stand_before_the_folders(rt: HostRuntime) -> Result<(), Fail> {
+    let words = [
+        "gtfs",
+        "merge",
+        "--near=",
+        "--cutoff=",
+        "north",
+        "south",
+        "both",
+    ];
     let Ok(Command::Merge(merge)) = read_words(rt.alloc(), &words) else {
         return Err("no merge".into());
     };
     assert_equal(&rt, merge.a, "north");
     assert_equal(&rt, merge.near, Some(""));
+    assert_equal(&rt, merge.cutoff, Some(""));
     Ok(())
 }

@@ -46,7 +46,7 @@ const BOARD: &str =
 const TIMETABLE: &str =
     "gtfs timetable DIR --route ID --date D [--direction 0|1] [--interpolate]\n";
 
-const MERGE: &str = "gtfs merge A B OUT [--near N]\n";
+const MERGE: &str = "gtfs merge A B OUT [--near N] [--cutoff D]\n";
 
 #[test]
 fn help_of_the_program_has_the_line_of_each_command(rt: HostRuntime) {
@@ -65,6 +65,10 @@ const EXAMPLES: &[(&[&str], &str)] = &[
     ),
     (&["gtfs", "timetable", "-h"], "20240401"),
     (&["gtfs", "merge", "--help"], "S1_merged_1"),
+    (
+        &["gtfs", "merge", "a", "-h"],
+        "D is a service day YYYYMMDD, as 20240401.",
+    ),
 ];
 
 #[test]
@@ -142,6 +146,18 @@ const REFUSED: &[&[&str]] = &[
         "gtfs", "merge", "north", "south", "both", "--near=1", "--near=1",
     ],
     &["gtfs", "merge", "north", "south", "--near", "both"],
+    &["gtfs", "merge", "north", "south", "both", "--cutoff"],
+    &[
+        "gtfs",
+        "merge",
+        "north",
+        "south",
+        "both",
+        "--cutoff=20240403",
+        "--cutoff=20240403",
+    ],
+    &["gtfs", "merge", "north", "south", "--cutoff", "both"],
+    &["gtfs", "check", "f1", "--cutoff=20240403"],
     &["gtfs", "check", "f1", "--near=1"],
     &["gtfs", "merge", "north", "south", "both", "--interpolate"],
     &["gtfs", "check", "f1", "more", "--help"],

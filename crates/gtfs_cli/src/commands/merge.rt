@@ -1,4 +1,5 @@
-ghost use Rattle.std.specs.Prelude.{◌≡◌, ◌<◌, ◌≤◌, ℕ, length, Option, IfOk, IfErr, IfSome, OnOk};
+ghost use Rattle.std.specs.Prelude.{◌≡◌, ◌<◌, ◌≤◌, ℕ, length, Option, IfOk, IfErr, IfSome, OnOk, true};
+ghost use Rattle.gtfs_days.specs.Service.{is_service_day};
 ghost use Rattle.gtfs_rows.specs.Views.{content_of_parts as content_of};
 ghost use Rattle.gtfs_merge.specs.Merging.{IsMergeOf, KeepsDepartures};
 ghost use Rattle.gtfs_table.specs.Files.{file_name};
@@ -78,7 +79,7 @@ fn merge_folders<'w, F: Folders>(
 {
     let a = read_feed(alloc, random, folders, words.a)?;
     let b = read_feed(alloc, random, folders, words.b)?;
-    merge_feeds(alloc, random, &a, &b, values.near)
+    merge_feeds(alloc, random, &a, &b, values)
 }
 
 // The merge of two feeds. A file that is written may have as many bytes as one that a disk's folder holds to be read.
@@ -87,15 +88,20 @@ fn merge_feeds<'w>(
     random: RandomState,
     a: &Feed,
     b: &Feed,
-    near: Option<u32>,
+    values: &MergeValues,
 ) -> Result<Merged, Refusal<'w>>
-    requires { IfSome near (λ n. n ≤ 2_147_483_647) }
-    ensures merged { IfOk result (IsMergeOf near (content_of a.now) (content_of b.now) file_limit) }
-    ensures refused { IfErr result (IsMergeFault near (content_of a.now) (content_of b.now)) }
-    ensures departures { KeepsDepartures near (content_of a.now) (content_of b.now) }
+    requires near { IfSome values.now.near (λ n. n ≤ 2_147_483_647) }
+    requires cutoff { IfSome values.now.cutoff (λ d. is_service_day d ≡ true) }
+    ensures merged { IfOk result (IsMergeOf values.now.near values.now.cutoff
+        (content_of a.now) (content_of b.now) file_limit) }
+    ensures refused { IfErr result (IsMergeFault (merge_request_of values.now)
+        (content_of a.now) (content_of b.now)) }
+    ensures departures { KeepsDepartures values.now.near values.now.cutoff
+        (content_of a.now) (content_of b.now) }
 {
     let options = Options {
-        near,
+        near: values.near,
+        cutoff: values.cutoff,
         ..Options::default()
     };
     match merge(alloc, random, a, b, &options) {

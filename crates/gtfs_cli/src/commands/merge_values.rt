@@ -1,10 +1,11 @@
 ghost use Rattle.std.specs.Prelude.{◌≡◌, option_map, IfOk, IfErr};
 ghost use Rattle.gtfs_words.specs.Words.{merge_texts_of};
-ghost use Rattle.gtfs_cli.specs.MergeOptions.{near_of, IsMergeRequest};
+ghost use Rattle.gtfs_cli.specs.MergeOptions.{cutoff_of, near_of, IsMergeRequest};
 ghost use Rattle.gtfs_cli.specs.MergeParts.{merge_request_of, IsFirstBadMerge};
 
+use crate::commands::moments::read_service_day;
 use crate::commands::refusal::Refusal;
-use gtfs_field::read_count;
+use gtfs_field::{Day, read_count};
 use gtfs_words::MergeWords;
 
 // The values of the options of a merge.
@@ -12,6 +13,8 @@ use gtfs_words::MergeWords;
 pub(super) struct MergeValues {
     // Up to how many millionths of a degree apart stops become one, if they do.
     pub(super) near: Option<u32>,
+    // The service day from which the second feed counts, and the first one before it, if there is one.
+    pub(super) cutoff: Option<Day>,
 }
 
 // Reads the values in the order of the usage.
@@ -24,7 +27,10 @@ pub(super) fn read_merge_values<'w>(words: &MergeWords<'w>) -> Result<MergeValue
     let Some(near) = read_near(words.near) else {
         return Err(Refusal::BadValue("--near"));
     };
-    Ok(MergeValues { near })
+    let Some(cutoff) = read_cutoff(words.cutoff) else {
+        return Err(Refusal::BadValue("--cutoff"));
+    };
+    Ok(MergeValues { near, cutoff })
 }
 
 // Reads the value of `--near`, a count. None where it is not.
@@ -36,6 +42,19 @@ fn read_near(text: Option<&str>) -> Option<Option<u32>>
         Some(text) => match read_count(text) {
             Ok(count) => Some(Some(count)),
             Err(_) => None,
+        },
+    }
+}
+
+// Reads the value of `--cutoff`, a service day. None where it is not.
+fn read_cutoff(text: Option<&str>) -> Option<Option<Day>>
+    ensures { result ≡ cutoff_of (option_map (λ t. t.now) text.entry) }
+{
+    match text {
+        None => Some(None),
+        Some(text) => match read_service_day(text) {
+            Some(day) => Some(Some(day)),
+            None => None,
         },
     }
 }

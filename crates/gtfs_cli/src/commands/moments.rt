@@ -1,7 +1,8 @@
 ghost use Rattle.std.specs.Prelude.{◌≡◌, ◌<◌, ◌^◌, option_map, unsigned_abs, IfOk, IfSome};
 ghost use Rattle.gtfs_field.specs.Kinds.{date_of};
 ghost use Rattle.gtfs_days.specs.Zone.{zone_origin};
-ghost use Rattle.gtfs_cli.specs.Running.{after_at, instant_at, moment_of, service_day};
+ghost use Rattle.gtfs_cli.specs.Options.{service_day};
+ghost use Rattle.gtfs_cli.specs.Running.{after_at, instant_at, moment_of};
 ghost use Rattle.gtfs_cli.specs.Refusals.{IsSound};
 
 use gtfs_days::{LAST_SERVICE_DAY, Zone};
@@ -37,7 +38,7 @@ fn after_at(text: &str) -> Option<&str>
 }
 
 // A date that is a service day.
-fn read_service_day(text: &str) -> Option<Day>
+pub(super) fn read_service_day(text: &str) -> Option<Day>
     ensures { result ≡ service_day (date_of text.now) }
 {
     let day = read_date(text).ok()?;

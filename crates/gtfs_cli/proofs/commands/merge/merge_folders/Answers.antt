@@ -6,7 +6,7 @@ use Rattle.gtfs_cli.specs.MergeParts.{merge_request_of}
 use Rattle.gtfs_cli.specs.Refusals.{IsReadingCause}
 use Rattle.gtfs_cli.proofs.Endings.{told-up}
 use Rattle.gtfs_cli.proofs.Gravely.{of-any, passed-up}
-use Rattle.gtfs_cli.proofs.NearValues.{near-bound}
+use Rattle.gtfs_cli.proofs.MergeValues.{cutoff-day, near-bound}
 use Rattle.gtfs_cli.proofs.Printed.{moved}
 use Rattle.gtfs_cli.proofs.Unmerged.{first-unread, is-merged, second-unread, unmerged, MergingAside}
 use Rattle.gtfs_cli.proofs.commands.merge.merge_folders.Goals as goal
@@ -36,7 +36,10 @@ returns-in_err-b-clause-refused g c =
     (c.in_err-b.ensures.refused before after (omega (arith, low, c.read_feed.ensures.grows)) high)))
 
 pub merge_feeds-requires : goal.merge_feeds-requires
-merge_feeds-requires g c = near-bound (merge_texts_of c.args.words.now).near c.args.values.now.near c.args.requires.near
+merge_feeds-requires g c = record {
+  near = near-bound (merge_texts_of c.args.words.now).near c.args.values.now.near c.args.requires.near;
+  cutoff = cutoff-day (merge_texts_of c.args.words.now).cutoff c.args.values.now.cutoff c.args.requires.cutoff;
+}
 
 pub returns-clause-merged : goal.returns-clause-merged
 returns-clause-merged g c =

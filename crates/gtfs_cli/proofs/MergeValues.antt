@@ -1,13 +1,16 @@
--- A distance of near stops is one that a merge takes.
-use Rattle.std.proofs.Common.{◌≡◌, ℕ, ◌≤◌, Bool, true, false, List, Option, Some, None, Result, Ok, Err, ap, refl, sym, subst}
+-- A distance of near stops and a cutoff are such as a merge takes.
+use Rattle.std.proofs.Common.{◌≡◌, ℕ, ℤ, ◌≤◌, Bool, true, false, List, Option, Some, None, Result, Ok, Err, ap, refl, sym, subst}
 use Rattle.std.specs.Prelude.{IfSome, nat_le, option_map, unwrap_or}
 use Rattle.std.specs.Result.{result_ok}
 use Rattle.std.proofs.lemmas.Bool.{leb-true}
 use Rattle.clap.specs.Words.{Text}
 use Rattle.gtfs_field.specs.Digits.{is_number, number}
-use Rattle.gtfs_field.specs.Kinds.{count_of, shaped, within}
+use Rattle.gtfs_field.specs.Kinds.{count_of, date_of, shaped, within}
 use Rattle.gtfs_field.specs.declared.fault.FieldFault.{FieldFault}
-use Rattle.gtfs_cli.specs.MergeOptions.{near_of}
+use Rattle.gtfs_days.specs.Service.{is_service_day}
+use Rattle.gtfs_cli.specs.MergeOptions.{cutoff_of, near_of}
+use Rattle.gtfs_cli.specs.Options.{service_day}
+use Rattle.gtfs_cli.proofs.Moments.{service-sound}
 
 -- a count is at most the greatest
 count_bound : (t : List ℕ) (n : ℕ) → count_of t ≡ Ok n → n ≤ 2_147_483_647
@@ -26,3 +29,12 @@ pub near-bound : (text : Option Text) (near : Option ℕ) → near_of text ≡ S
 near-bound text None is = tt
 near-bound None (Some n) is = cc is
 near-bound (Some t) (Some n) is = count_bound t n (read_as (count_of t) n is)
+
+day_as : (day : Option ℤ) (d : ℤ) → option_map Some day ≡ Some (Some d) → day ≡ Some d
+day_as None d e = cc e
+day_as (Some x) d e = cc e
+
+pub cutoff-day : (text : Option Text) (cutoff : Option ℤ) → cutoff_of text ≡ Some cutoff → IfSome cutoff (λ d. is_service_day d ≡ true)
+cutoff-day text None is = tt
+cutoff-day None (Some d) is = cc is
+cutoff-day (Some t) (Some d) is = service-sound (date_of t) d (day_as (service_day (date_of t)) d is)
