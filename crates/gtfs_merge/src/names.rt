@@ -272,11 +272,7 @@ fn push_if_joined(
 }
 
 // The near stops of B with those of A that they are near.
-fn near_pairs(
-    alloc: Global,
-    sides: &Sides,
-    twins: &Twins,
-) -> Result<Vec<(Text, Text)>, OutOfMemory>
+fn near_pairs(alloc: Global, sides: &Sides, twins: &Twins) -> Result<Vec<(Text, Text)>, OutOfMemory>
     requires { twins.now ≡ twin_rows sides.now }
     ensures { IfOk result (λ pairs. pairs.items
         ≡ near_pairs (nearness_of sides.now) (content_a sides.now) (content_b sides.now)) }
