@@ -1,5 +1,5 @@
 -- The departures of a feed on one side of a service day.
-use Rattle.std.proofs.Common.{◌≡◌, ℕ, Bool, true, false, List, [], ◌∷◌, Option, Some, None, refl, sym, ap, ◌∙◌, bytes_eq, ℤ, pos, ◌+ℤ◌, int_eq}
+use Rattle.std.proofs.Common.{◌≡◌, Bool, true, false, List, [], ◌∷◌, Option, Some, None, refl, sym, ap, ◌∙◌, bytes_eq, ℤ, pos, ◌+ℤ◌, int_eq}
 use Rattle.std.specs.Prelude.{◌&&◌, ◌||◌, ◌==◌}
 use Rattle.std.specs.List.{list_any}
 use Rattle.gtfs_field.proofs.ListFacts.{any_mapped}

@@ -1,9 +1,8 @@
 -- Both feeds of a merge on the days that a cutoff leaves to them: they are feeds with the ids and zones that they had, so the law of
 -- merging holds of them.
-use Rattle.std.proofs.Common.{◌≡◌, ◌∙◌, ◌<◌, ◌+◌, ◌^◌, ℕ, true, false, Option, Some, None, refl, sym, subst, length, ℤ}
+use Rattle.std.proofs.Common.{◌≡◌, ◌<◌, ◌+◌, ◌^◌, ℕ, true, Option, Some, None, refl, sym, subst, length, ℤ}
 use Rattle.std.specs.Prelude.{IfSome}
 use Rattle.std.proofs.lemmas.Simd.{map-map}
-use Rattle.gtfs_days.specs.Cut.{cut_day}
 use Rattle.gtfs_days.specs.Service.{is_service_day}
 use Rattle.gtfs_days.specs.declared.cut.Cut.{Cut}
 use Rattle.gtfs_days.specs.declared.cut.Cut.TheVariants.{Before, From}

@@ -1,5 +1,5 @@
 -- The near stops of B with those of A that they are near, by number.
-use Rattle.std.proofs.Common.{◌≡◌, ◌<◌, ◌+◌, ◌^◌, ◌≤◌, ℕ, Bool, true, false, List, [], ◌∷◌, ◌++◌, Some, None, Option, refl, sym, ap, ◌∙◌, subst, length, map, take, get_or, bytes_eq, find, is_some, option_map, option_and_then, true≢false, add-one, arith}
+use Rattle.std.proofs.Common.{◌≡◌, ◌<◌, ◌+◌, ◌^◌, ◌≤◌, ℕ, Bool, true, false, List, [], ◌∷◌, ◌++◌, Some, None, Option, refl, sym, ap, ◌∙◌, subst, length, take, get_or, bytes_eq, find, is_some, option_map, option_and_then, true≢false, add-one, arith}
 use Rattle.std.specs.Prelude.{if◌then◌else◌, filter_map}
 use Rattle.std.specs.List.{slice_get, position}
 use Rattle.std.proofs.Math.Seq.{take-suc}
@@ -11,7 +11,7 @@ use Rattle.gtfs_field.proofs.ListFacts.{some_of}
 use Rattle.gtfs_columns.proofs.SiteFacts.{text_is as same_bytes}
 use Rattle.gtfs_rows.specs.Content.{Content}
 use Rattle.gtfs_rows.specs.Rows.{Stop}
-use Rattle.gtfs_rows.specs.Views.{IsSoundParts, content_of_parts, stop_ids, text_of_number}
+use Rattle.gtfs_rows.specs.Views.{IsSoundParts, content_of_parts, stop_ids}
 use Rattle.gtfs_merge.specs.Law.{AreFew}
 use Rattle.gtfs_merge.specs.Near.{near_pair, near_pairs}
 use Rattle.gtfs_merge.specs.Renaming.{Nearness, Renaming, has_id, ids, joined_stop, joined_stop_under, near_stop_under, stop_b, stop_within}

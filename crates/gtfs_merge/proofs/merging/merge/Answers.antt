@@ -15,4 +15,4 @@ returns-clause-departures c =
     let a = content_of_parts c.args.a.now in
     let b = content_of_parts c.args.b.now in
     keeps-departures c.args.options.now.near c.args.options.now.cutoff a b c.requires.cutoff
-        c.soundness.ensures.a.content c.soundness.ensures.b.content (λ (k : Kind). few-enough k a b (c.soundness.ensures.few k))
+    c.soundness.ensures.a.content c.soundness.ensures.b.content (λ (k : Kind). few-enough k a b (c.soundness.ensures.few k))
