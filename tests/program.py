@@ -73,10 +73,10 @@ def files_in(folder):
     return {name: read(os.path.join(folder, name)) for name in os.listdir(folder)} if os.path.isdir(folder) else {}
 
 
-def first_written(folder):
-    """How many of the files of the small feed stand whole in a folder, the first ones. The next may be there, and no other."""
+def first_written(folder, wanted=WRITTEN):
+    """How many of the files of the small feed, or of another folder, stand whole in one. The next may be there, and no other."""
     held = files_in(folder)
-    whole = [held.get(name) == read(os.path.join(WRITTEN, name)) for name in FILES]
+    whole = [held.get(name) == read(os.path.join(wanted, name)) for name in FILES]
     count = whole.index(False) if False in whole else len(whole)
     want(set(held) <= set(FILES[:count + 1]), f"{count} files are whole, and there are {sorted(held)}")
     return count

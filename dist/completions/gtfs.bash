@@ -6,7 +6,7 @@ _gtfs_expect() {
         check) folders=1 ;;
         board) folders=1 options+=([--zone]=FILE [--stop]=ID [--from]=T [--until]=T [--limit]=N [--after]=KEY [--interpolate]='') ;;
         timetable) folders=1 options+=([--route]=ID [--date]=D [--direction]='0|1' [--interpolate]='') ;;
-        merge) folders=3 options+=([--near]=N) ;;
+        merge) folders=3 options+=([--near]=N [--cutoff]=D) ;;
         *) return 1 ;;
     esac
 }

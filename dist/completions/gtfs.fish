@@ -67,4 +67,5 @@ complete -c gtfs -n __gtfs_begins -a merge -d 'Make one feed of two'
 complete -c gtfs -n '__gtfs_takes merge help' -s h -l help -d 'Print help'
 complete -c gtfs -n '__gtfs_takes merge near' -l near -x \
     -d 'Make a stop of B one with a stop of A that has its name and lies within N of it'
+complete -c gtfs -n '__gtfs_takes merge cutoff' -l cutoff -x -d "Take A's service days before D and B's from D on"
 complete -c gtfs -n '__gtfs_wants_folder merge 3' -a '(__fish_complete_directories)'

@@ -1,5 +1,6 @@
 """Cases: a folder with feeds and zone files, and words. Each is made from its name alone."""
 import copy
+import datetime
 import os
 from random import Random
 
@@ -9,7 +10,7 @@ from feed_maker import BASES, file_bytes, make_feed
 from filling import interpolated
 from hostile import change_case
 from oddities import DIFFERENCES, MOVES, ODDITIES, change
-from values import LAST_SERVICE_DAY, Form, Range, date_text
+from values import FIRST_SERVICE_DAY, LAST_SERVICE_DAY, Form, Range, date_text, read_date
 from words import COMMANDS
 from zone_maker import make_zone, no_zone
 from zones import DAY, Odd, midnight
@@ -168,7 +169,31 @@ def given_merge(random):
     if random.random() < 0.5:
         odd = ["2147483648", "x", "", "+1", "-1", "1.0", " 1"]
         given["near"] = random.choice(odd if random.random() < 0.06 else ["0", "1", "1", "5", "0010", "2147483647"])
+    if random.random() < 0.5:
+        given["cutoff"] = cutoff(random, made)
     return given
+
+
+ODD_CUTOFFS = [
+    "99990101", "99991231", "18991231", "20240230", "2024-04-01", "202404011", "", "@0", "@1711929600", " 20240401", "+20240401",
+]
+
+
+def cutoff(random, made):
+    """A service day about the first and the last dates of a feed, or another one, or something else."""
+    form = random.random()
+    if form < 0.06:
+        return random.choice(ODD_CUTOFFS)
+    if form < 0.14:
+        return random.choice(["19000101", "99981231", "20240401"])
+    named = [date for column in ("start_date", "end_date") for date in made.ids("calendar.txt", column)]
+    named += made.ids("calendar_dates.txt", "date")
+    try:
+        date = read_date(random.choice([*named, date_text(made.base)]))
+    except (Form, Range):
+        date = made.base
+    date = min(date, LAST_SERVICE_DAY) + datetime.timedelta(random.choice([-1, 0, 0, 1, 1, 2]))
+    return date_text(min(max(date, FIRST_SERVICE_DAY), LAST_SERVICE_DAY))
 
 
 GIVEN = {"check": given_check, "board": given_board, "timetable": given_timetable, "merge": given_merge}
@@ -201,8 +226,9 @@ def odd_words(random, command, given):
     version = random.choice([["--version"], ["-V"], ["--version", *words], ["-V", "--help"]])
     refused = random.choice([
         [], ["help"], ["Check", "f"], [command, "--version"], [*words, "-V"], [*words, "--foo"], [*words, "more"],
-        [*words, "--foo", "--help"], [*words, "--zone"], [*words, "--interpolate"], [*words, "--interpolate=true"], [*words, "--near"], ["--foo"],
-        ["-x", *words], [*words, "--"], [*words, "--", "--help"], ["check", "--", "-d"], less, less,
+        [*words, "--foo", "--help"], [*words, "--zone"], [*words, "--interpolate"], [*words, "--interpolate=true"],
+        [*words, "--near"], [*words, "--cutoff"], ["--foo"], ["-x", *words], [*words, "--"],
+        [*words, "--", "--help"], ["check", "--", "-d"], less, less,
     ])
     return random.choice([not_utf8, asking, version, refused, refused, refused])
 

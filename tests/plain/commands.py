@@ -29,7 +29,7 @@ class Outcome:
     """How a run of the program ends.
 
     `cause` says what kept it from an answer, a path by its name in the usage. `written` has the files that a merge leaves in its
-    folder, and `merged` the two feeds and the names of their ids.
+    folder, and `merged` the two feeds as they were, the names of their ids, and the cutoff or none.
     """
 
     status: int
@@ -71,14 +71,16 @@ def number_of(text, greatest):
     return number
 
 
-def moment_of(text):
-    """An instant as a number, or a service day."""
-    if text.startswith("@"):
-        return instant_of(text[1:])
+def service_day_of(text):
     date = read_date(text)
     if not FIRST_SERVICE_DAY <= date <= LAST_SERVICE_DAY:
         raise Range
     return date
+
+
+def moment_of(text):
+    """An instant as a number, or a service day."""
+    return instant_of(text[1:]) if text.startswith("@") else service_day_of(text)
 
 
 def key_of(text):
@@ -187,17 +189,17 @@ def timetable(given):
 
 
 def merge(given):
-    near = value(given, "near", read_count)
+    near, cutoff = value(given, "near", read_count), value(given, "cutoff", service_day_of)
     a = feed(given["A"], "A")
     b = feed(given["B"], "B")
     try:
-        merged, names = merging.merge(a, b, near)
+        merged, names = merging.merge(a, b, near, cutoff)
     except merging.ZonesDiffer:
         raise Ended(1, "zones differ") from None
     if not can_be_written(given["OUT"]):
         raise Ended(3, "cannot be written", "OUT", given["OUT"])
     written = {given["OUT"]: merging.written_files(merged)}
-    return Outcome(0, merging.report(names), written=written, merged=(a, b, names))
+    return Outcome(0, merging.report(names), written=written, merged=(a, b, names, cutoff))
 
 
 def outcome(words):

@@ -1,6 +1,7 @@
 """The merger of two feeds: which rows are joined, the names of ids, the merged feed, its files and the report."""
-from content import Content, Service, Trip, transfer_key
+import trimming
 from columns import FILES
+from content import Content, Service, Trip, transfer_key
 from values import written
 
 KINDS = ["agency", "stop", "route", "service", "trip"]
@@ -168,10 +169,15 @@ def renamed_feed(feed, names, side):
     return Content(agencies, rows("stop", feed.stops), rows("route", feed.routes), services, trips, transfers)
 
 
-def merge(a, b, near=None):
-    """The merged feed, in which the rows of A stand before those of B with the same id, and the names."""
+def merge(a, b, near=None, cutoff=None):
+    """The merged feed, in which the rows of A stand before those of B with the same id, and the names.
+
+    Where there is a cutoff, A counts only before it and B only from it on.
+    """
     if a.zone() != b.zone():
         raise ZonesDiffer
+    if cutoff is not None:
+        a, b = trimming.before(a, cutoff), trimming.from_on(b, cutoff)
     names = Names(a, b, near)
     first, second = renamed_feed(a, names, "A"), renamed_feed(b, names, "B")
     return Content(*({**vars(second)[part], **rows} for part, rows in vars(first).items())), names

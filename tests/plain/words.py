@@ -5,7 +5,7 @@ COMMANDS = {
     "check": (["DIR"], [], [], []),
     "board": (["DIR"], ["zone", "stop", "from", "until"], ["limit", "after"], ["interpolate"]),
     "timetable": (["DIR"], ["route", "date"], ["direction"], ["interpolate"]),
-    "merge": (["A", "B", "OUT"], [], ["near"], []),
+    "merge": (["A", "B", "OUT"], [], ["near", "cutoff"], []),
 }
 
 

@@ -1,3 +1,4 @@
+pub mod ManyDays
 mod WorkedCounts
 mod WorkedDays
 mod WorkedTables

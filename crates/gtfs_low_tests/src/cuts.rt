@@ -1,13 +1,14 @@
 //! Services on one side of a service day: the rows that stay, and the days on which they run.
-ghost use Rattle.std.specs.Prelude.{◌≡◌, true};
+ghost use Rattle.std.specs.Prelude.{◌≡◌, IfOk, true};
 ghost use Rattle.gtfs_days.specs.Cut.{cut_day};
-ghost use Rattle.gtfs_days.specs.Service.{is_service_day};
+ghost use Rattle.gtfs_days.specs.Service.{NamesEachDayOnce, is_service_day};
 
 use crate::assertions::{assert_is, assert_is_at};
 use crate::services::april;
 use gtfs_days::Exception::{Added, Removed};
 use gtfs_days::{Cut, Exception, FIRST_SERVICE_DAY, LAST_SERVICE_DAY, Service, Week};
-use gtfs_field::Day;
+use gtfs_field::{Day, OutOfMemory};
+use std::alloc::Global;
 use std::process::Abort;
 use std::test::Fail;
 
@@ -197,4 +198,45 @@ fn a_cut_at_the_first_and_the_last_service_day(rt: HostRuntime) -> Result<(), Fa
         Some(&since),
         &[(end, Added)],
     )
+}
+
+// More exceptions than two bytes can number.
+const MANY: i32 = 70_000;
+
+// An exception for each of the days from 1970-01-01 on.
+fn many_exceptions(alloc: Global) -> Result<Vec<(Day, Exception)>, OutOfMemory>
+    ensures { IfOk result (λ exceptions. NamesEachDayOnce exceptions.items) }
+{
+    let mut exceptions = Vec::new(alloc);
+    for number in 0..MANY {
+        exceptions.push((Day::from_number(number), Added))?;
+    }
+    Ok(exceptions)
+}
+
+// The service of these exceptions alone.
+fn many_days(alloc: Global) -> Result<Service, OutOfMemory> {
+    let exceptions = many_exceptions(alloc)?;
+    Service::new(alloc, None, &exceptions)
+}
+
+// Holds that half of the exceptions are left, those from the one day to the other, and no calendar row.
+fn assert_half(rt: &impl Abort, half: &Service, first: i32, last: i32) {
+    assert_is(rt, half.exceptions().len(), 35_000, "exceptions of a half");
+    assert_is(rt, half.week(), None, "a calendar row");
+    let [(one, _), .., (other, _)] = half.exceptions() else {
+        panic!(rt; "no exceptions");
+    };
+    assert_is(rt, one.number(), first, "the first exception");
+    assert_is(rt, other.number(), last, "the last exception");
+}
+
+#[test]
+fn a_service_of_many_exceptions_is_cut_in_the_middle(rt: HostRuntime) -> Result<(), Fail> {
+    let service = many_days(rt.alloc())?;
+    let before = service.trim(rt.alloc(), Cut::Before(Day::from_number(35_000)))?;
+    assert_half(&rt, &before, 0, 34_999);
+    let from = service.trim(rt.alloc(), Cut::From(Day::from_number(35_000)))?;
+    assert_half(&rt, &from, 35_000, 69_999);
+    Ok(())
 }

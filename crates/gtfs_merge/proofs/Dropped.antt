@@ -1,5 +1,5 @@
 -- Rows whose ids stand before them can be left out of rows by id.
-use Rattle.std.proofs.Common.{◌≡◌, ℕ, Bool, true, false, cond, List, [], ◌∷◌, ◌++◌, Some, None, Option, refl, sym, ap, ◌∙◌, inl, inr, ◌⊎◌, filter, map, bytes_eq, true≢false}
+use Rattle.std.proofs.Common.{◌≡◌, ℕ, Bool, true, false, cond, List, [], ◌∷◌, ◌++◌, Some, Option, refl, sym, ap, ◌∙◌, inl, inr, filter, map, bytes_eq, true≢false}
 use Rattle.std.specs.Cmp.Lexicographic.{nat_list_cmp_total, texts_ties}
 use Rattle.std.specs.FinMap as table
 use Rattle.gtfs_columns.proofs.NamedFacts.{text_turned as bytes_flip}

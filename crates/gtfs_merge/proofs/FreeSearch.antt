@@ -1,5 +1,5 @@
 -- Ids that are looked up by number, and the search for a free one.
-use Rattle.std.proofs.Common.{◌≡◌, ℕ, zero, suc, ◌+◌, ◌^◌, ◌<◌, Bool, true, false, cond, not, List, [], ◌++◌, refl, sym, ap, ◌∙◌, unwrap_or, arith, length, bytes_eq, Some, is_some, find, true≢false}
+use Rattle.std.proofs.Common.{◌≡◌, ℕ, zero, suc, ◌+◌, ◌^◌, ◌<◌, Bool, true, false, cond, not, List, ◌++◌, refl, sym, ap, ◌∙◌, unwrap_or, arith, length, bytes_eq, Some, is_some, find, true≢false}
 use Rattle.std.specs.Prelude.{◌||◌}
 use Rattle.std.specs.List.{range_with_len}
 use Rattle.std.proofs.lemmas.List.Folds.{list_any-append}

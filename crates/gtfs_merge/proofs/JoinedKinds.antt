@@ -11,7 +11,6 @@ use Rattle.gtfs_table.proofs.PartFacts.{length-parts}
 use Rattle.gtfs_days.specs.Service.{ServiceDates}
 use Rattle.gtfs_rows.specs.declared.agency.Agency.{Agency}
 use Rattle.gtfs_rows.specs.declared.parts.Parts.{Parts}
-use Rattle.gtfs_rows.specs.declared.trip.Trip.{Trip}
 use Rattle.gtfs_rows.specs.Views.{IsSoundParts, content_of_parts, agency_of, route_of, service_of, stop_of, agency_ids, service_ids}
 use Rattle.gtfs_rows.proofs.SoundOrder.{trip_ids-kept}
 use Rattle.gtfs_merge.specs.Joined.{joined_number}

@@ -1,21 +1,19 @@
 -- Trips that are joined, with their stop times and frequencies.
-use Rattle.std.proofs.Common.{◌≡◌, ◌<◌, ◌+◌, ◌^◌, ℕ, zero, suc, Bool, true, List, [], ◌∷◌, Some, None, Option, sym, ap, ◌∙◌, inl, inr, length, map, get_or, bytes_eq, nat_eq, option_map, arith}
+use Rattle.std.proofs.Common.{◌≡◌, ◌<◌, ◌+◌, ◌^◌, ℕ, zero, suc, Bool, List, [], ◌∷◌, Some, None, Option, sym, ap, ◌∙◌, inl, inr, length, map, get_or, bytes_eq, nat_eq, option_map, arith}
 use Rattle.std.specs.Prelude.{if◌then◌else◌}
-use Rattle.std.specs.List.{All, slice_get, position}
+use Rattle.std.specs.List.{slice_get, position}
 use Rattle.std.specs.Option.{option_eq}
-use Rattle.std.proofs.lemmas.Bool.{and_parts}
 use Rattle.std.proofs.lemmas.List.{length-map}
 use Rattle.std.proofs.lemmas.List.Quantifiers.{position-Some}
 use Rattle.std.proofs.lemmas.Option.{get_or_from_slice_get, slice_get-get_or}
-use Rattle.gtfs_field.proofs.ListFacts.{mapped_at as row-map, some_of}
+use Rattle.gtfs_field.proofs.ListFacts.{some_of}
 use Rattle.gtfs_rows.specs.Content.{Content}
 use Rattle.gtfs_rows.specs.Rows.{Trip}
-use Rattle.gtfs_rows.specs.Sound.{is_stop_of}
 use Rattle.gtfs_rows.specs.declared.frequency.Frequency.{Frequency}
 use Rattle.gtfs_rows.specs.declared.parts.Parts.{Parts}
 use Rattle.gtfs_rows.specs.declared.stop_row.StopRow.{StopRow}
 use Rattle.gtfs_rows.specs.declared.trip.Trip.{Trip as TripRow}
-use Rattle.gtfs_rows.specs.Views.{IsSoundParts, content_of_parts, stop_row_of, stop_ids, text_of_number, route_ids, service_ids, trip_ids, trip_of}
+use Rattle.gtfs_rows.specs.Views.{IsSoundParts, content_of_parts, text_of_number, route_ids, service_ids, trip_ids, trip_of}
 use Rattle.gtfs_rows.specs.Trips.{stop_rows_by_trip, frequencies_by_trip}
 use Rattle.gtfs_rows.proofs.SoundOrder.{in_order}
 use Rattle.gtfs_rows.proofs.TripsAt.{content_trip}
@@ -30,7 +28,6 @@ use Rattle.gtfs_merge.proofs.JoinedKinds.{id-at, ids-known}
 use Rattle.gtfs_merge.proofs.JoinedNames.{joined-at-index, rule-meets}
 use Rattle.gtfs_merge.proofs.JoinedRows.{number-same}
 use Rattle.gtfs_merge.proofs.Lookups.{In}
-use Rattle.gtfs_merge.proofs.Premises.{sound-row}
 
 in-at : {X : Type 0} (xs : List X) (k : ℕ) (x : X) → slice_get xs k ≡ Some x → In x xs
 in-at [] k x at = cc

@@ -30,6 +30,9 @@ pub mod NewIdRules
 pub mod Ordering
 pub mod Apart
 pub mod MergeLaws
+pub mod CutDepartures
+pub mod CutSides
+pub mod CutMerges
 pub mod FitCells
 pub mod Fitting
 pub mod NewNames

@@ -1,5 +1,5 @@
 -- The near stops of B with those of A that they are near, by number.
-use Rattle.std.proofs.Common.{◌≡◌, ◌<◌, ◌+◌, ◌^◌, ◌≤◌, ℕ, Bool, true, false, List, [], ◌∷◌, ◌++◌, Some, None, Option, refl, sym, ap, ◌∙◌, subst, length, map, take, get_or, bytes_eq, find, is_some, option_map, option_and_then, true≢false, add-one, arith}
+use Rattle.std.proofs.Common.{◌≡◌, ◌<◌, ◌+◌, ◌^◌, ◌≤◌, ℕ, Bool, true, false, List, [], ◌∷◌, ◌++◌, Some, None, Option, refl, sym, ap, ◌∙◌, subst, length, take, get_or, bytes_eq, find, is_some, option_map, option_and_then, true≢false, add-one, arith}
 use Rattle.std.specs.Prelude.{if◌then◌else◌, filter_map}
 use Rattle.std.specs.List.{slice_get, position}
 use Rattle.std.proofs.Math.Seq.{take-suc}
@@ -11,11 +11,11 @@ use Rattle.gtfs_field.proofs.ListFacts.{some_of}
 use Rattle.gtfs_columns.proofs.SiteFacts.{text_is as same_bytes}
 use Rattle.gtfs_rows.specs.Content.{Content}
 use Rattle.gtfs_rows.specs.Rows.{Stop}
-use Rattle.gtfs_rows.specs.Views.{IsSoundParts, content_of_parts, stop_ids, text_of_number}
+use Rattle.gtfs_rows.specs.Views.{IsSoundParts, content_of_parts, stop_ids}
 use Rattle.gtfs_merge.specs.Law.{AreFew}
 use Rattle.gtfs_merge.specs.Near.{near_pair, near_pairs}
 use Rattle.gtfs_merge.specs.Renaming.{Nearness, Renaming, has_id, ids, joined_stop, joined_stop_under, near_stop_under, stop_b, stop_within}
-use Rattle.gtfs_merge.specs.Sides.{nearness_of}
+use Rattle.gtfs_merge.specs.Sides.{content_a, content_b, nearness_of}
 use Rattle.gtfs_merge.specs.Twins.{near_at, pairs_at, twin_number, twin_rows}
 use Rattle.gtfs_merge.specs.declared.kind.Kind.{Kind}
 use Rattle.gtfs_merge.specs.declared.kind.Kind.TheVariants as kind
@@ -63,6 +63,16 @@ listed (Some x) = x ∷ []
 filtered-one : {X Y : Type 0} (f : X → Option Y) (x : X) (o : Option Y) → f x ≡ o → filter_map f (x ∷ []) ≡ listed o
 filtered-one f x None e = rw e refl
 filtered-one f x (Some y) e = rw e refl
+
+-- the number of a stop that is near is that of a stop of A
+pub near-within : (sides : Sides) (n m : ℕ) → n < length (stop_ids sides.b.now) → near_at (twin_rows sides) n ≡ Some m → m < length (stop_ids sides.a.now)
+near-within sides n m within e = by (get_or (twin_rows sides).joined_stops n false) e
+  where
+    by : (j : Bool) → (if j then None else get_or (twin_rows sides).stops n None) ≡ Some m → m < length (stop_ids sides.a.now)
+    by true e = cc e
+    by false e =
+        let named = stop_b (nearness_of sides) (content_a sides) (content_b sides) (get_or (stop_ids sides.b.now) n []) in
+        (position-Some (bytes_eq named) (stop_ids sides.a.now) m [] (sym (twin-at sides kind.Stop n within) ∙ e)).0
 
 module _ (sides : Sides) (sound_a : IsSoundParts sides.a.now) (sound_b : IsSoundParts sides.b.now)
     (few : (k : Kind) → length (ids k (content_of_parts sides.a.now)) + length (ids k (content_of_parts sides.b.now)) < 2 ^ 65) where
@@ -112,15 +122,6 @@ module _ (sides : Sides) (sound_a : IsSoundParts sides.a.now) (sound_b : IsSound
           ∙ ap listed (by-own-number (stop_ids sides.a.now) y.stop_id (near_stop_under (nearness_of sides) (stop_b (nearness_of sides) a b) a b y.stop_id) has_a ∙ ap (option_map (λ m. paired y.stop_id (get_or (stop_ids sides.a.now) m []))) (sym (unjoined-twin y.stop_id has e)))
           ∙ told (twin_number kind.Stop sides y.stop_id)
           ∙ sym (ap (λ j. pairs_at sides (if j then None else get_or (twin_rows sides).stops n None) n) (flag ∙ e) ∙ ap (λ o. pairs_at sides o n) twin)
-
-  -- the number of a stop that is near is that of a stop of A
-  pub near-within : (n m : ℕ) → n < length (stop_ids sides.b.now) → near_at (twin_rows sides) n ≡ Some m → m < length (stop_ids sides.a.now)
-  near-within n m within e = by (get_or (twin_rows sides).joined_stops n false) e
-    where
-      by : (j : Bool) → (if j then None else get_or (twin_rows sides).stops n None) ≡ Some m → m < length (stop_ids sides.a.now)
-      by true e = cc e
-      by false e =
-          (position-Some (bytes_eq (stop_b (nearness_of sides) a b (get_or (stop_ids sides.b.now) n []))) (stop_ids sides.a.now) m [] (sym (twin-at sides kind.Stop n within) ∙ e)).0
 
   -- ---- the loop
 

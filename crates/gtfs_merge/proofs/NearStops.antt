@@ -1,6 +1,6 @@
 -- The near stops of A as they are found by number.
-use Rattle.std.proofs.Common.{◌≡◌, ◌<◌, ℕ, zero, suc, Bool, true, false, cond, List, [], ◌∷◌, Some, None, Option, refl, sym, ap, ◌∙◌, subst, inl, inr, length, map, get_or, bytes_eq, find, option_map, option_and_then, arith}
-use Rattle.std.specs.Prelude.{◌&&◌, ◌==◌, IfSome}
+use Rattle.std.proofs.Common.{◌≡◌, ◌<◌, ℕ, zero, suc, Bool, true, false, cond, List, [], ◌∷◌, Some, None, Option, refl, sym, ap, ◌∙◌, subst, inl, inr, length, map, get_or, bytes_eq, find, option_map, option_and_then}
+use Rattle.std.specs.Prelude.{◌&&◌, ◌==◌}
 use Rattle.std.specs.List.{list_any, slice_get, position, position_or_len}
 use Rattle.std.specs.Option.{option_eq}
 use Rattle.std.specs.Ordering.{on}

@@ -1,7 +1,7 @@
 -- The new numbers of both sides are those of the rows that their ids became.
-use Rattle.std.proofs.Common.{◌≡◌, ◌<◌, ◌+◌, ◌^◌, ℕ, zero, suc, Bool, true, false, not, List, [], ◌∷◌, ◌++◌, Some, None, Option, refl, sym, ap, ◌∙◌, subst, inl, inr, length, map, filter, get_or, bytes_eq, is_some, arith}
+use Rattle.std.proofs.Common.{◌≡◌, ◌<◌, ◌+◌, ◌^◌, ℕ, zero, suc, true, not, List, [], ◌∷◌, ◌++◌, Some, None, Option, refl, sym, ap, ◌∙◌, subst, inl, inr, length, map, filter, get_or, bytes_eq, is_some, arith}
 use Rattle.std.specs.Prelude.{IfSome}
-use Rattle.std.specs.List.{All, Contains, position, range_with_len}
+use Rattle.std.specs.List.{All, Contains, range_with_len}
 use Rattle.std.proofs.lemmas.List.{get_or-map, length-map}
 use Rattle.std.proofs.lemmas.List.Elements.{Contains-append_cases, Contains-append_left, Contains-append_right, Contains-get_or}
 use Rattle.std.proofs.lemmas.List.Quantifiers.{position-Some}
@@ -13,7 +13,7 @@ use Rattle.gtfs_merge.specs.Numbered.{known_ids}
 use Rattle.gtfs_merge.specs.Order.{Entry, entry_of, is_apart, rows_of_a, rows_of_b}
 use Rattle.gtfs_merge.specs.Renaming.{has_id, ids, renaming}
 use Rattle.gtfs_merge.specs.Renumbered.{AreNewNumbers, AreNumbered, AreRenumbered, IsIndexOf, NewNumbers, number_or, numbers_of}
-use Rattle.gtfs_merge.specs.Sides.{side_parts, nearness_of, side_names, merged_ids}
+use Rattle.gtfs_merge.specs.Sides.{side_parts, side_names, merged_ids}
 use Rattle.gtfs_merge.specs.Twins.{of_kind, twin_number, twin_rows}
 use Rattle.gtfs_merge.specs.declared.kind.Kind.{Kind}
 use Rattle.gtfs_merge.specs.declared.kind.Side.{Side}

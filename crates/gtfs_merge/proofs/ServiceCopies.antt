@@ -1,7 +1,6 @@
 -- The exceptions of a service, sorted once more, are the same.
 use Rattle.std.proofs.Common.{◌≡◌, ◌∙◌, List, arith, sym}
 use Rattle.std.specs.Prelude.{ℤ}
-use Rattle.std.specs.FinMap as table
 use Rattle.std.specs.List.Sorted.{IsPermutation}
 use Rattle.std.proofs.lemmas.List.Sorted.{IsPermutation-refl}
 use Rattle.jiff_core.proofs.SignedLemmas.{signed_arith}

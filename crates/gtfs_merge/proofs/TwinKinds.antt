@@ -1,5 +1,5 @@
 -- The twins of rows of B, kind by kind: of all but stops a twin is the row that is joined.
-use Rattle.std.proofs.Common.{◌≡◌, ◌<◌, ◌+◌, ◌^◌, ◌∙◌, ℕ, List, [], refl, sym, ap, subst, length, map, get_or, is_some, false, true, None, arith}
+use Rattle.std.proofs.Common.{◌≡◌, ◌<◌, ◌+◌, ◌^◌, ◌∙◌, ℕ, List, [], sym, ap, subst, length, map, get_or, is_some, false, true, None, arith}
 use Rattle.std.proofs.lemmas.List.{get_or-map}
 use Rattle.gtfs_rows.specs.Content.{Content}
 use Rattle.gtfs_rows.specs.Views.{IsSoundParts, content_of_parts}

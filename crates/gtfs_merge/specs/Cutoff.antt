@@ -30,9 +30,9 @@ is_second_day (Some cutoff) day = is_in (From cutoff) day
 -- what is left of a feed departs as the feed does, on these service days alone, also at the place of each stop
 pub record DepartsOn (has : ℤ → Bool) (f left : Content) : Type 0 where
   pub departures : (times : Times) (origin : Origins) (k : Key)
-    → is_departure (timed times left) origin k ≡ (is_departure (timed times f) origin k && has k.day)
+      → is_departure (timed times left) origin k ≡ (is_departure (timed times f) origin k && has k.day)
   pub places : (times : Times) (origin : Origins) (s : List ℕ) (k : Key)
-    → departs_at (timed times left) origin s k ≡ (departs_at (timed times f) origin s k && has k.day)
+      → departs_at (timed times left) origin s k ≡ (departs_at (timed times f) origin s k && has k.day)
 
 -- a feed on one side of a service day departs on the days of that side
 abbrev pub DepartsInPart : Cut → Content → Type 0

@@ -1,5 +1,5 @@
 -- What ids became.
-use Rattle.std.specs.Prelude.{◌≡◌, ℕ, ◌==◌, Bool, true, false, List, ◌∷◌, ◌++◌, [], length, map, bytes_eq, position, slice_get, Option, Some, String, option_and_then, is_some, string_bytes}
+use Rattle.std.specs.Prelude.{◌≡◌, ℕ, ◌==◌, Bool, true, false, List, ◌∷◌, ◌++◌, [], length, map, bytes_eq, position, slice_get, Option, Some, option_and_then, is_some}
 use Rattle.gtfs_merge.specs.Near.{near_pairs}
 use Rattle.gtfs_merge.specs.Numbered.{known_ids}
 use Rattle.gtfs_merge.specs.Renaming.{Renaming, has_id, joined_ids, renaming}
@@ -87,10 +87,6 @@ may_meet near kind.Trip side.B = false
 -- the names of two feeds, of each kind
 abbrev pub AreKindNames : Sides → AllNames → Type 0
 AreKindNames sides n = (k : Kind) → in_kind n k ≡ kind_names k sides
-
--- what a pair of texts stands for
-abbrev pub pair_value : {Y : Type 0} → String Y × String Y → List ℕ × List ℕ
-pair_value p = (string_bytes p.0, string_bytes p.1)
 
 -- the names of each kind, and the near stops
 pub record ArePairedNames (sides : Sides) (n : AllNames) : Type 0 where

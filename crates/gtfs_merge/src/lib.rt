@@ -16,7 +16,6 @@
 //! what is told of a merge.
 #![tactic(auto)]
 
-mod copies;
 mod headsigns;
 mod id_rows;
 mod joined;

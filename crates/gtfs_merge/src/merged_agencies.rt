@@ -4,7 +4,6 @@ ghost use Rattle.gtfs_merge.specs.KindRows.{AreKindRows};
 ghost use Rattle.gtfs_merge.specs.Sides.{merged_parts};
 ghost use Rattle.gtfs_merge.specs.declared.kind.Kind.TheVariants as kind;
 
-use crate::copies::{copied, copied_if_any, own};
 use crate::kind_rows::KindRows;
 use crate::sides::Sides;
 use gtfs_field::{List, OutOfMemory};
@@ -24,23 +23,7 @@ pub(crate) fn merged_agencies(
     let mut list = Vec::with_capacity(alloc, rows.len())?;
     for row in rows {
         let source = sides.of(row.side).agency_by_number(AgencyNo(row.number));
-        list.push(with_id(alloc, source, row.id.as_str())?)?;
+        list.push(source.under(alloc, row.id.as_str())?)?;
     }
     Ok(List::new(list))
-}
-
-// The agency under another id.
-fn with_id(alloc: Global, agency: &Agency, id: &str) -> Result<Agency, OutOfMemory>
-    ensures { IfOk result (λ other. other ≡ record agency.now { agency_id = id.now }) }
-{
-    Ok(Agency {
-        agency_id: own(alloc, id)?,
-        agency_name: copied(alloc, &agency.agency_name)?,
-        agency_url: copied(alloc, &agency.agency_url)?,
-        agency_timezone: copied(alloc, &agency.agency_timezone)?,
-        agency_lang: copied_if_any(alloc, &agency.agency_lang)?,
-        agency_phone: copied_if_any(alloc, &agency.agency_phone)?,
-        agency_fare_url: copied_if_any(alloc, &agency.agency_fare_url)?,
-        agency_email: copied_if_any(alloc, &agency.agency_email)?,
-    })
 }

@@ -5,7 +5,6 @@ ghost use Rattle.gtfs_merge.specs.KindRows.{AreKindRows};
 ghost use Rattle.gtfs_merge.specs.Sides.{merged_parts, merged_ids};
 ghost use Rattle.gtfs_merge.specs.declared.kind.Kind.TheVariants as kind;
 
-use crate::copies::{copied_if_any, own};
 use crate::kind_rows::KindRows;
 use crate::sides::Sides;
 use gtfs_field::{List, OutOfMemory};
@@ -32,7 +31,7 @@ pub(crate) fn merged_routes(
     for row in rows {
         let source = sides.of(row.side).route_by_number(RouteNo(row.number));
         let agency = renumbered(source.agency_id, agencies.numbers(row.side));
-        list.push(with_id(alloc, source, row.id.as_str(), agency)?)?;
+        list.push(source.under(alloc, row.id.as_str(), agency)?)?;
     }
     Ok(List::new(list))
 }
@@ -43,23 +42,4 @@ fn renumbered(agency: AgencyNo, numbers: &[usize]) -> AgencyNo
     ensures { result.0 ≡ slice_index_or numbers.now agency.0 0 }
 {
     AgencyNo(numbers[agency.0])
-}
-
-// The route under another id, with this agency.
-fn with_id(alloc: Global, route: &Route, id: &str, agency: AgencyNo) -> Result<Route, OutOfMemory>
-    ensures { IfOk result (λ other. other
-        ≡ record route.now { route_id = id.now; agency_id = agency }) }
-{
-    Ok(Route {
-        route_id: own(alloc, id)?,
-        agency_id: agency,
-        route_short_name: copied_if_any(alloc, &route.route_short_name)?,
-        route_long_name: copied_if_any(alloc, &route.route_long_name)?,
-        route_desc: copied_if_any(alloc, &route.route_desc)?,
-        route_type: route.route_type,
-        route_url: copied_if_any(alloc, &route.route_url)?,
-        route_color: route.route_color,
-        route_text_color: route.route_text_color,
-        route_sort_order: route.route_sort_order,
-    })
 }

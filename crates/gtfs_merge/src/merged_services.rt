@@ -4,11 +4,10 @@ ghost use Rattle.gtfs_merge.specs.KindRows.{AreKindRows};
 ghost use Rattle.gtfs_merge.specs.Sides.{merged_parts};
 ghost use Rattle.gtfs_merge.specs.declared.kind.Kind.TheVariants as kind;
 
-use crate::copies::own;
 use crate::kind_rows::KindRows;
 use crate::sides::Sides;
 use gtfs_days::Service;
-use gtfs_field::{List, OutOfMemory};
+use gtfs_field::{List, OutOfMemory, Text};
 use gtfs_rows::{ServiceNo, ServiceRow};
 use std::alloc::Global;
 
@@ -36,7 +35,7 @@ fn with_id(alloc: Global, service: &Service, id: &str) -> Result<ServiceRow, Out
         ≡ record { service_id = id.now; service = service.now }) }
 {
     Ok(ServiceRow {
-        service_id: own(alloc, id)?,
+        service_id: Text::new(String::from_str(alloc, id)?),
         service: Service::new(alloc, service.week().copied(), service.exceptions())?,
     })
 }

@@ -5,7 +5,6 @@ ghost use Rattle.gtfs_merge.specs.KindRows.{AreKindRows};
 ghost use Rattle.gtfs_merge.specs.Sides.{merged_parts, merged_ids};
 ghost use Rattle.gtfs_merge.specs.declared.kind.Kind.TheVariants as kind;
 
-use crate::copies::{copied_if_any, own};
 use crate::kind_rows::KindRows;
 use crate::sides::Sides;
 use gtfs_field::{List, OutOfMemory};
@@ -38,7 +37,7 @@ pub(crate) fn merged_trips(
         let route = renumbered_route(source.route_id, route_numbers);
         let service_numbers = services.numbers(row.side);
         let service = renumbered_service(source.service_id, service_numbers);
-        list.push(with_id(alloc, source, row.id.as_str(), route, service)?)?;
+        list.push(source.under(alloc, row.id.as_str(), route, service)?)?;
     }
     Ok(List::new(list))
 }
@@ -57,27 +56,4 @@ fn renumbered_service(service: ServiceNo, numbers: &[usize]) -> ServiceNo
     ensures { result.0 ≡ slice_index_or numbers.now service.0 0 }
 {
     ServiceNo(numbers[service.0])
-}
-
-// The trip under another id, with this route and this service.
-fn with_id(
-    alloc: Global,
-    trip: &Trip,
-    id: &str,
-    route: RouteNo,
-    service: ServiceNo,
-) -> Result<Trip, OutOfMemory>
-    ensures { IfOk result (λ other. other
-        ≡ record trip.now { trip_id = id.now; route_id = route; service_id = service }) }
-{
-    Ok(Trip {
-        route_id: route,
-        service_id: service,
-        trip_id: own(alloc, id)?,
-        trip_headsign: copied_if_any(alloc, &trip.trip_headsign)?,
-        trip_short_name: copied_if_any(alloc, &trip.trip_short_name)?,
-        direction_id: trip.direction_id,
-        wheelchair_accessible: trip.wheelchair_accessible,
-        bikes_allowed: trip.bikes_allowed,
-    })
 }

@@ -1,6 +1,6 @@
 ghost use Rattle.std.specs.Prelude.{◌≡◌, ◌<◌, ◌∷◌, ◌++◌, [], IfOk, OnOk, Some, filter, length, map, option_map, slice_index_or, string_bytes};
 ghost use Rattle.gtfs_merge.specs.Merging.{AreNamesOf};
-ghost use Rattle.gtfs_merge.specs.Names.{AreKindNames, ArePairedNames, in_kind, kind_names, new_id, of_side, pair_value};
+ghost use Rattle.gtfs_merge.specs.Names.{AreKindNames, ArePairedNames, in_kind, kind_names, new_id, of_side};
 ghost use Rattle.gtfs_merge.specs.Near.{near_pairs};
 ghost use Rattle.gtfs_merge.specs.Numbered.{known_ids};
 ghost use Rattle.gtfs_merge.specs.Renaming.{joined_ids};
@@ -14,7 +14,7 @@ use crate::new_names::is_joined_id;
 use crate::renamed::Renamed;
 use crate::sides::Sides;
 use crate::twins::Twins;
-use gtfs_field::OutOfMemory;
+use gtfs_field::{OutOfMemory, Text};
 use std::alloc::Global;
 use std::hash::RandomState;
 use std::marker::Model;
@@ -32,12 +32,12 @@ pub struct Names {
     routes: KindNames,
     services: KindNames,
     trips: KindNames,
-    near: Vec<(String, String)>,
+    near: Vec<(Text, Text)>,
 }
 
 impl Model for Names {
     ghost use Rattle.std.specs.Prelude.{map};
-    ghost use Rattle.gtfs_merge.specs.Names.{AllNames, pair_value};
+    ghost use Rattle.gtfs_merge.specs.Names.{AllNames};
 
     ghost Value = { AllNames };
 
@@ -47,7 +47,7 @@ impl Model for Names {
       routes = n.routes;
       services = n.services;
       trips = n.trips;
-      near = map pair_value n.near.items;
+      near = n.near.items;
     } };
 }
 
@@ -140,8 +140,8 @@ impl Names {
 
     /// The stops of the second feed that are near a stop of the first one and not joined, each with that one, by their own
     /// ids. Both are one stop of the merged feed, with the id and the row of the first feed.
-    pub fn near(&self) -> &[(String, String)]
-        ensures { map pair_value result.now ≡ self.now.near }
+    pub fn near(&self) -> &[(Text, Text)]
+        ensures { result.now ≡ self.now.near }
     {
         self.near.as_slice()
     }
@@ -272,13 +272,9 @@ fn push_if_joined(
 }
 
 // The near stops of B with those of A that they are near.
-fn near_pairs(
-    alloc: Global,
-    sides: &Sides,
-    twins: &Twins,
-) -> Result<Vec<(String, String)>, OutOfMemory>
+fn near_pairs(alloc: Global, sides: &Sides, twins: &Twins) -> Result<Vec<(Text, Text)>, OutOfMemory>
     requires { twins.now ≡ twin_rows sides.now }
-    ensures { IfOk result (λ pairs. map pair_value pairs.items
+    ensures { IfOk result (λ pairs. pairs.items
         ≡ near_pairs (nearness_of sides.now) (content_a sides.now) (content_b sides.now)) }
 {
     sides.soundness();
@@ -295,11 +291,11 @@ fn push_if_near(
     sides: &Sides,
     twins: &Twins,
     number: usize,
-    pairs: &mut Vec<(String, String)>,
+    pairs: &mut Vec<(Text, Text)>,
 ) -> Result<(), OutOfMemory>
     requires twins { twins.now ≡ twin_rows sides.now }
     requires within { number < length (known_ids kind.Stop sides.now.b.now) }
-    ensures { OnOk result (map pair_value pairs.new.items ≡ map pair_value pairs.old.items
+    ensures { OnOk result (pairs.new.items ≡ pairs.old.items
         ++ pairs_at sides.now (near_at (twin_rows sides.now) number) number) }
 {
     match twins.near(number) {
@@ -314,15 +310,15 @@ fn push_pair(
     sides: &Sides,
     number: usize,
     first: usize,
-    pairs: &mut Vec<(String, String)>,
+    pairs: &mut Vec<(Text, Text)>,
 ) -> Result<(), OutOfMemory>
     requires number { number < length (known_ids kind.Stop sides.now.b.now) }
     requires first { first < length (known_ids kind.Stop sides.now.a.now) }
-    ensures { OnOk result (map pair_value pairs.new.items ≡ map pair_value pairs.old.items
+    ensures { OnOk result (pairs.new.items ≡ pairs.old.items
         ++ pairs_at sides.now (Some first) number) }
 {
     let own = String::from_str(alloc, id_of(sides.b, Kind::Stop, number))?;
     let other = String::from_str(alloc, id_of(sides.a, Kind::Stop, first))?;
-    pairs.push((own, other))?;
+    pairs.push((Text::new(own), Text::new(other)))?;
     Ok(())
 }

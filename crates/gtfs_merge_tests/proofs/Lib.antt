@@ -1,2 +1,3 @@
+mod WorkedCutoff
 mod WorkedMerges
 mod WorkedNear

@@ -89,7 +89,7 @@ trip id seconds = record {
   frequencies = [];
 }
 
-abbrev stops : List Stop
+abbrev pub stops : List Stop
 stops = stop (codes "S1") (codes "Mill") 0 ∷ stop (codes "S2") (codes "Lake") 0 ∷ stop (codes "S3") (codes "Hill") 0 ∷ []
 
 abbrev pub feed : List ℕ → List Stop → List Trip → Content

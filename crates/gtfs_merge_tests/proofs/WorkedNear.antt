@@ -13,7 +13,7 @@ mill id latitude = record (stop id (codes "Mill") 0) { stop_lat = Some latitude 
 abbrev others : List Stop
 others = stop (codes "S2") (codes "Lake") 0 ∷ stop (codes "S3") (codes "Hill") 0 ∷ []
 
-abbrev moved : ℤ → Content
+abbrev pub moved : ℤ → Content
 moved latitude = feed (codes "Metro") (mill (codes "M1") latitude ∷ others)
     (record (trip (codes "T1") 28800) { stop_rows = stop_row (codes "M1") 28800 1 ∷ stop_row (codes "S2") 29400 2 ∷ [] } ∷ [])
 

@@ -1,10 +1,13 @@
 //! Merges of changes to the small dataset.
-ghost use Rattle.std.specs.Prelude.{◌≤◌, IfSome};
+ghost use Rattle.std.specs.Prelude.{◌≡◌, ◌≤◌, IfSome, true};
+ghost use Rattle.gtfs_days.specs.Service.{is_service_day};
 
 use crate::assertions::assert_is;
 use crate::report::report;
 use crate::written::{Rows, assert_rows, assert_same_files, folders_with};
+use gtfs_days::LAST_SERVICE_DAY;
 use gtfs_feed::Feed;
+use gtfs_field::{Day, read_date};
 use gtfs_fixtures::{FileText, feed_with, read_feed};
 use gtfs_merge::{Merged, Options, merge};
 use std::alloc::Global;
@@ -39,22 +42,49 @@ pub(crate) fn merged_of<R: RandomSource>(
     a: &Feed,
     b: &Feed,
 ) -> Result<Merged, Fail> {
-    merged_near(rt, alloc, a, b, None)
-}
-
-/// The same, where stops up to this many millionths of a degree apart are near.
-pub(crate) fn merged_near<R: RandomSource>(
-    rt: &R,
-    alloc: Global,
-    a: &Feed,
-    b: &Feed,
-    near: Option<u32>,
-) -> Result<Merged, Fail> {
     let options = Options {
         file_limit: u64::MAX,
-        near: at_most(near),
+        near: None,
+        cutoff: None,
     };
     Ok(merge(alloc, RandomState::new(rt)?, a, b, &options)?)
+}
+
+/// What a merge is asked for: up to how many millionths of a degree stops are near, and the date from which on the second
+/// feed is taken.
+#[derive(Clone, Copy)]
+pub(crate) struct Asked {
+    pub(crate) near: Option<u32>,
+    pub(crate) cutoff: Option<&'static str>,
+}
+
+/// Neither.
+pub(crate) const PLAIN: Asked = Asked {
+    near: None,
+    cutoff: None,
+};
+
+/// The merge of two feeds that is asked for, with files of any length.
+pub(crate) fn merged_by<R: Abort + RandomSource>(
+    rt: &R,
+    alloc: Global,
+    (a, b): (&Feed, &Feed),
+    asked: Asked,
+) -> Result<Merged, Fail> {
+    let options = options_of(rt, u64::MAX, asked);
+    Ok(merge(alloc, RandomState::new(rt)?, a, b, &options)?)
+}
+
+/// The options that are asked for.
+pub(crate) fn options_of(rt: &impl Abort, file_limit: u64, asked: Asked) -> Options
+    ensures near { IfSome result.near (λ n. n ≤ 2_147_483_647) }
+    ensures cutoff { IfSome result.cutoff (λ d. is_service_day d ≡ true) }
+{
+    Options {
+        file_limit,
+        near: at_most(asked.near),
+        cutoff: cutoff_of(rt, asked.cutoff),
+    }
 }
 
 // The greatest distance that may be asked for, where it is more.
@@ -65,6 +95,27 @@ fn at_most(near: Option<u32>) -> Option<u32>
         Some(near) => Some(near.min(2_147_483_647)),
         None => None,
     }
+}
+
+/// The service day of a date, if there is one.
+pub(crate) fn cutoff_of(rt: &impl Abort, date: Option<&str>) -> Option<Day>
+    ensures { IfSome result (λ d. is_service_day d ≡ true) }
+{
+    match date {
+        Some(date) => Some(service_day(rt, date)),
+        None => None,
+    }
+}
+
+/// The service day of a date.
+pub(crate) fn service_day(rt: &impl Abort, date: &str) -> Day
+    ensures { is_service_day result ≡ true }
+{
+    let Ok(day) = read_date(date) else {
+        panic!(rt; "no date: {date}");
+    };
+    assert!(rt; day.number() <= LAST_SERVICE_DAY);
+    day
 }
 
 /// Each of the merges gives what is wanted.
@@ -93,7 +144,18 @@ fn assert_merge<R: Abort + RandomSource>(
     b: &Feed,
 ) -> Result<(), Fail> {
     let merged = merged_of(rt, alloc, a, b)?;
-    assert_report(rt, alloc, case, (a, b), &merged)?;
+    assert_gives(rt, alloc, case, (a, b), &merged)
+}
+
+/// The merge of two feeds is what is wanted.
+pub(crate) fn assert_gives<R: Abort + RandomSource>(
+    rt: &R,
+    alloc: Global,
+    case: &Case,
+    feeds: (&Feed, &Feed),
+    merged: &Merged,
+) -> Result<(), Fail> {
+    assert_report(rt, alloc, case, feeds, merged)?;
     assert_files(rt, alloc, case, &merged.feed)
 }
 

@@ -5,7 +5,7 @@
 //!   `report` tells the names on lines, and `written` has the headers of the files.
 //! - `worked` has whole merges; `agencies`, `stops`, `services`, `trips` and `transfers` have what is joined and what is
 //!   renamed of each kind, and `chains` new names that are taken already, and merges of three feeds.
-//! - `near` has merges with near stops.
+//! - `near` has merges with near stops, and `cutoff` merges of one feed until a day and of the other from it on.
 //! - `names` asks for the name of each id, and `refusals` has zones that differ and files that are too long.
 //! - `boards` compares the boards of a merged feed with those of both feeds, renamed and united.
 //! - `assertions` has assertions as calls.
@@ -21,6 +21,8 @@ mod boards;
 mod cases;
 #[cfg(test)]
 mod chains;
+#[cfg(test)]
+mod cutoff;
 #[cfg(test)]
 mod names;
 #[cfg(test)]

@@ -1,7 +1,7 @@
 //! Merges with near stops: stops of the second feed that become stops of the first one.
 
 use crate::assertions::assert_is;
-use crate::cases::{assert_reads_back, merged_near};
+use crate::cases::{Asked, assert_reads_back, merged_by};
 use crate::report::report;
 use crate::written::{Rows, assert_rows};
 use gtfs_feed::Feed;
@@ -27,23 +27,26 @@ struct Near {
     written: &'static [Rows],
 }
 
-// The small dataset with M1 in place of S1, at a latitude.
-const MOVED_HALF: FileText = (
+/// The small dataset with M1 in place of S1, half a millionth of a degree to the north.
+pub(crate) const MOVED_HALF: FileText = (
     "stops.txt",
     "stop_id,stop_name,stop_lat,stop_lon\nM1,Mill,52.5000005,13.4\nS2,Lake,52.6,13.5\nS3,Hill,52.7,13.6\n",
 );
 
+// The same, a millionth to the north.
 const MOVED_ONE: FileText = (
     "stops.txt",
     "stop_id,stop_name,stop_lat,stop_lon\nM1,Mill,52.500001,13.4\nS2,Lake,52.6,13.5\nS3,Hill,52.7,13.6\n",
 );
 
+// The same, and a thousandth of a millionth more.
 const MOVED_MORE: FileText = (
     "stops.txt",
     "stop_id,stop_name,stop_lat,stop_lon\nM1,Mill,52.500001001,13.4\nS2,Lake,52.6,13.5\nS3,Hill,52.7,13.6\n",
 );
 
-const AT_M1: FileText = (
+/// A trip that stops there.
+pub(crate) const AT_M1: FileText = (
     "stop_times.txt",
     "trip_id,arrival_time,departure_time,stop_id,stop_sequence\n\
 T1,08:00:00,08:00:00,M1,1\nT1,08:10:00,08:10:00,S2,2\n",
@@ -133,9 +136,17 @@ pub(crate) const AT_BOTH: FileText = (
 T1,08:00:00,08:00:00,M1,1\nT1,08:05:00,08:05:00,M2,2\nT1,08:10:00,08:10:00,S2,3\n",
 );
 
+// Two stops of one name at one place.
 const MILLS: FileText = (
     "stops.txt",
     "stop_id,stop_name,stop_lat,stop_lon\nS0,Mill,52.5,13.4\nS1,Mill,52.5,13.4\nS2,Lake,52.6,13.5\n",
+);
+
+// The trip of the small dataset, with another first stop.
+const AT_S9: FileText = (
+    "stop_times.txt",
+    "trip_id,arrival_time,departure_time,stop_id,stop_sequence\n\
+T1,08:00:00,08:00:00,S9,1\nT1,08:10:00,08:10:00,S2,2\n",
 );
 
 const STOPS: &[Near] = &[
@@ -186,6 +197,32 @@ joined agency 1\njoined stop 1\njoined route 1\njoined service 1\njoined trip 0\
         written: &[SMALL_STOPS],
     },
     Near {
+        what: "the least stop by the bytes of the ids, which is joined with another one",
+        near: 1000,
+        a: &[
+            (
+                "stops.txt",
+                "stop_id,stop_name,stop_lat,stop_lon\nS9,Mill,52.5,13.4\nS10,Mill,52.501,13.401\nS2,Lake,52.6,13.5\n",
+            ),
+            AT_S9,
+        ],
+        b: &[
+            (
+                "stops.txt",
+                "stop_id,stop_name,stop_lat,stop_lon\nS10,Mill,52.501,13.401\nM1,Mill,52.5,13.4\nS2,Lake,52.6,13.5\n",
+            ),
+            AT_M1,
+        ],
+        report: "B\tstop\tM1\tS10\nB\ttrip\tT1\tT1_merged_1\n\
+joined agency 1\njoined stop 2\njoined route 1\njoined service 1\njoined trip 0\n",
+        pairs: "M1 S10\n",
+        written: &[(
+            File::StopTimes,
+            "T1,08:00:00,08:00:00,S9,1,,0,0,\nT1,08:10:00,08:10:00,S2,2,,0,0,\n\
+T1_merged_1,08:00:00,08:00:00,S10,1,,0,0,\nT1_merged_1,08:10:00,08:10:00,S2,2,,0,0,\n",
+        )],
+    },
+    Near {
         what: "another type, another name and no name",
         near: 10,
         a: &[(
@@ -199,6 +236,28 @@ joined agency 1\njoined stop 1\njoined route 1\njoined service 1\njoined trip 0\
         report: "joined agency 1\njoined stop 2\njoined route 1\njoined service 1\njoined trip 1\n",
         pairs: "",
         written: &[],
+    },
+    Near {
+        what: "the poles: one at one longitude, one at two",
+        near: 2,
+        a: &[(
+            "stops.txt",
+            "stop_id,stop_name,stop_lat,stop_lon\nS1,Mill,-90,-180\nS2,Lake,52.6,13.5\nS3,Top,90,0\n",
+        )],
+        b: &[
+            (
+                "stops.txt",
+                "stop_id,stop_name,stop_lat,stop_lon\nM1,Mill,-90,-180\nS2,Lake,52.6,13.5\nM3,Top,90,0.000003\n",
+            ),
+            AT_M1,
+        ],
+        report: "B\tstop\tM1\tS1\n\
+joined agency 1\njoined stop 1\njoined route 1\njoined service 1\njoined trip 1\n",
+        pairs: "M1 S1\n",
+        written: &[(
+            File::Stops,
+            "M3,,Top,,,90,0.000003,,0,,0,\nS1,,Mill,,,-90,-180,,0,,0,\nS2,,Lake,,,52.6,13.5,,0,,0,\nS3,,Top,,,90,0,,0,,0,\n",
+        )],
     },
     Near {
         what: "the line of longitude 180",
@@ -226,6 +285,21 @@ const HUB: FileText = (
     "stops.txt",
     "stop_id,stop_name,stop_lat,stop_lon,location_type,parent_station\n\
 H,Hub,52.7,13.6,1,\nS1,Mill,52.5,13.4,0,H\nS2,Lake,52.6,13.5,0,\nE1,Gate,52.7,13.6,2,H\nN1,,,,3,H\nB1,Edge,52.5,13.4,4,S1\n",
+);
+
+// Nodes of a joined station.
+const NODES_A: FileText = (
+    "stops.txt",
+    "stop_id,stop_name,stop_lat,stop_lon,location_type,parent_station\n\
+H,Hub,52.7,13.6,1,\nS1,Mill,52.5,13.4,0,H\nS2,Lake,52.6,13.5,0,\n\
+A1,,52.7,13.6,3,H\nA2,Stairs,,13.6,3,H\nA3,Lift,52.7,13.6,3,H\nA4,Ramp,52.7,,3,H\n",
+);
+
+const NODES_B: FileText = (
+    "stops.txt",
+    "stop_id,stop_name,stop_lat,stop_lon,location_type,parent_station\n\
+H,Hub,52.7,13.6,1,\nS1,Mill,52.5,13.4,0,H\nS2,Lake,52.6,13.5,0,\n\
+B1,,52.7,13.6,3,H\nB2,Stairs,52.7,13.6,3,H\nB3,Lift,,,3,H\nB4,Ramp,52.7,,3,H\n",
 );
 
 const STATIONS: &[Near] = &[
@@ -262,6 +336,32 @@ H2,Hub,52.7,13.6,1,\nS1,Mill,52.5,13.4,0,H2\nS2,Lake,52.6,13.5,0,\n",
         report: "B\tstop\tH2\tH\n\
 joined agency 1\njoined stop 2\njoined route 1\njoined service 1\njoined trip 1\n",
         pairs: "H2 H\n",
+        written: &[],
+    },
+    Near {
+        what: "a stop of another station, at the same place",
+        near: 10,
+        a: &[HUB],
+        b: &[
+            (
+                "stops.txt",
+                "stop_id,stop_name,stop_lat,stop_lon,location_type,parent_station\n\
+H2,Hub 2,52.7,13.6,1,\nM1,Mill,52.5,13.4,0,H2\nS2,Lake,52.6,13.5,0,\n",
+            ),
+            AT_M1,
+        ],
+        report: "B\ttrip\tT1\tT1_merged_1\n\
+joined agency 1\njoined stop 1\njoined route 1\njoined service 1\njoined trip 0\n",
+        pairs: "",
+        written: &[],
+    },
+    Near {
+        what: "nodes that lack a name, a latitude or both",
+        near: 2_147_483_647,
+        a: &[NODES_A],
+        b: &[NODES_B],
+        report: "joined agency 1\njoined stop 3\njoined route 1\njoined service 1\njoined trip 1\n",
+        pairs: "",
         written: &[],
     },
     Near {
@@ -339,7 +439,11 @@ fn assert_case<R: Abort + RandomSource>(
     a: &Feed,
     b: &Feed,
 ) -> Result<(), Fail> {
-    let merged = merged_near(rt, alloc, a, b, Some(case.near))?;
+    let asked = Asked {
+        near: Some(case.near),
+        cutoff: None,
+    };
+    let merged = merged_by(rt, alloc, (a, b), asked)?;
     assert_names(rt, alloc, case, (a, b), &merged)?;
     assert_rows(rt, alloc, &merged.feed, case.written)?;
     assert_reads_back(rt, alloc, &merged.feed)

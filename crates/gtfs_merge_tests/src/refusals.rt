@@ -1,35 +1,30 @@
-//! Feeds that are not merged: zones that differ, and files that are too long.
+//! Feeds that are not merged: zones that differ, files that are too long, and memory that is refused.
 
 use crate::assertions::assert_is;
-use crate::cases::AT_TEN;
+use crate::cases::{AT_TEN, Asked, PLAIN, assert_gives, options_of};
+use crate::cutoff::MOVED_AND_CUT;
 use crate::worked::WITH_SECOND;
+use gtfs_feed::Feed;
 use gtfs_fixtures::{FileText, feed_with};
-use gtfs_merge::{MergeFault, Options, merge, zones_differ};
+use gtfs_merge::{MergeFault, Merged, merge, zones_differ};
 use std::alloc::Global;
 use std::hash::RandomState;
+use std::process::Abort;
 use std::random::RandomSource;
 use std::test::Fail;
 
 // Two changes to the small dataset that are not merged, and whether their zones differ.
-fn refused<R: RandomSource>(
+fn refused<R: Abort + RandomSource>(
     rt: &R,
     alloc: Global,
     (a, b): (&[FileText], &[FileText]),
     file_limit: u64,
+    asked: Asked,
 ) -> Result<(Option<MergeFault>, bool), Fail> {
     let a = feed_with(rt, alloc, a)?;
     let b = feed_with(rt, alloc, b)?;
-    let random = RandomState::new(rt)?;
-    let fault = match merge(
-        alloc,
-        random,
-        &a,
-        &b,
-        &Options {
-            file_limit,
-            near: None,
-        },
-    ) {
+    let options = options_of(rt, file_limit, asked);
+    let fault = match merge(alloc, RandomState::new(rt)?, &a, &b, &options) {
         Ok(_) => None,
         Err(fault) => Some(fault),
     };
@@ -40,25 +35,46 @@ const SMALL_TWICE: (&[FileText], &[FileText]) = (&[], &[]);
 
 const THREE_TRIPS: (&[FileText], &[FileText]) = (WITH_SECOND, &[AT_TEN]);
 
-// The longest files: stops.txt of the small dataset with itself, and stop_times.txt with three trips.
-const SMALL_LONGEST: u64 = 226;
+// Twenty days that are added to the service of the first feed.
+const TWENTY_DAYS: (&[FileText], &[FileText]) = (
+    &[(
+        "calendar_dates.txt",
+        "service_id,date,exception_type\n\
+C1,20240501,1\nC1,20240502,1\nC1,20240503,1\nC1,20240504,1\nC1,20240505,1\n\
+C1,20240506,1\nC1,20240507,1\nC1,20240508,1\nC1,20240509,1\nC1,20240510,1\n\
+C1,20240511,1\nC1,20240512,1\nC1,20240513,1\nC1,20240514,1\nC1,20240515,1\n\
+C1,20240516,1\nC1,20240517,1\nC1,20240518,1\nC1,20240519,1\nC1,20240520,1\n",
+    )],
+    &[],
+);
 
-const THREE_TRIPS_LONGEST: u64 = 336;
+// A day before those.
+const ON_2_APRIL: Asked = Asked {
+    near: None,
+    cutoff: Some("20240402"),
+};
+
+// Two feeds, what is asked for, and how long the longest file of their merge is: stops.txt of the small dataset with
+// itself, stop_times.txt with three trips, calendar_dates.txt with twenty days, and stop_times.txt with two trips where
+// those days are cut.
+const LONGEST: &[((&[FileText], &[FileText]), Asked, u64)] = &[
+    (SMALL_TWICE, PLAIN, 226),
+    (THREE_TRIPS, PLAIN, 336),
+    (TWENTY_DAYS, PLAIN, 311),
+    (TWENTY_DAYS, ON_2_APRIL, 254),
+];
 
 #[test]
 fn a_file_is_as_long_as_the_limit_and_no_longer(rt: HostRuntime) -> Result<(), Fail> {
-    for (feeds, longest) in [
-        (SMALL_TWICE, SMALL_LONGEST),
-        (THREE_TRIPS, THREE_TRIPS_LONGEST),
-    ] {
+    for (feeds, asked, longest) in LONGEST {
         for (limit, fault) in [
             (0, Some(MergeFault::TooLarge)),
             (10, Some(MergeFault::TooLarge)),
-            (longest - 1, Some(MergeFault::TooLarge)),
-            (longest, None),
+            (*longest - 1, Some(MergeFault::TooLarge)),
+            (*longest, None),
             (u64::MAX, None),
         ] {
-            let found = refused(&rt, rt.alloc(), feeds, limit)?;
+            let found = refused(&rt, rt.alloc(), *feeds, limit, *asked)?;
             assert_is(&rt, found, (fault, false), limit);
         }
     }
@@ -105,7 +121,7 @@ fn zones_of_two_names_are_not_merged(rt: HostRuntime) -> Result<(), Fail> {
         (&[], &[AT_TEN], false, "other times"),
     ] {
         let fault = differ.then_some(MergeFault::ZoneDiffers);
-        let found = refused(&rt, rt.alloc(), (a, b), u64::MAX)?;
+        let found = refused(&rt, rt.alloc(), (a, b), u64::MAX, PLAIN)?;
         assert_is(&rt, found, (fault, differ), what);
     }
     Ok(())
@@ -113,10 +129,49 @@ fn zones_of_two_names_are_not_merged(rt: HostRuntime) -> Result<(), Fail> {
 
 #[test]
 fn zones_are_judged_before_lengths(rt: HostRuntime) -> Result<(), Fail> {
-    let found = refused(&rt, rt.alloc(), (&[], &[BERLIN]), 0)?;
+    let found = refused(&rt, rt.alloc(), (&[], &[BERLIN]), 0, PLAIN)?;
     let wanted = (Some(MergeFault::ZoneDiffers), true);
     assert_is(&rt, found, wanted, "another zone in B");
     Ok(())
+}
+
+// Also where nothing is left of one of the feeds.
+#[test]
+fn zones_are_judged_with_a_cutoff(rt: HostRuntime) -> Result<(), Fail> {
+    for date in ["19000101", "20240402", "99981231"] {
+        let asked = Asked {
+            near: Some(0),
+            cutoff: Some(date),
+        };
+        let found = refused(&rt, rt.alloc(), (&[], &[BERLIN]), 0, asked)?;
+        let wanted = (Some(MergeFault::ZoneDiffers), true);
+        assert_is(&rt, found, wanted, date);
+    }
+    Ok(())
+}
+
+// A merge with all options, asked for once more where memory was refused. `rt try --test --fail-alloc N` refuses it.
+fn merged_at_last<R: Abort + RandomSource>(
+    rt: &R,
+    alloc: Global,
+    a: &Feed,
+    b: &Feed,
+) -> Result<Merged, Fail> {
+    let options = options_of(rt, u64::MAX, MOVED_AND_CUT.asked());
+    match merge(alloc, RandomState::new(rt)?, a, b, &options) {
+        Ok(merged) => Ok(merged),
+        Err(MergeFault::OutOfMemory) => Ok(merge(alloc, RandomState::new(rt)?, a, b, &options)?),
+        Err(fault) => Err(Fail::from(fault)),
+    }
+}
+
+#[test]
+fn a_refused_merge_can_be_asked_for_again(rt: HostRuntime) -> Result<(), Fail> {
+    let case = &MOVED_AND_CUT.case;
+    let a = feed_with(&rt, rt.alloc(), case.a)?;
+    let b = feed_with(&rt, rt.alloc(), case.b)?;
+    let merged = merged_at_last(&rt, rt.alloc(), &a, &b)?;
+    assert_gives(&rt, rt.alloc(), case, (&a, &b), &merged)
 }
 
 #[test]

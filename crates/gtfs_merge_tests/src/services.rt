@@ -10,8 +10,8 @@ const ADDED: FileText = (
     "service_id,date,exception_type\nC1,20240402,1\n",
 );
 
-// A service is renamed, and the trip with it.
-const RENAMED: &str = "B\tservice\tC1\tC1_merged_1\nB\ttrip\tT1\tT1_merged_1\n\
+/// A service is renamed, and the trip with it.
+pub(crate) const RENAMED: &str = "B\tservice\tC1\tC1_merged_1\nB\ttrip\tT1\tT1_merged_1\n\
 joined agency 1\njoined stop 3\njoined route 1\njoined service 0\njoined trip 0\n";
 
 const CASES: &[Case] = &[

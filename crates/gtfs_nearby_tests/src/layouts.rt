@@ -1,4 +1,4 @@
-//! Two thousand stops in each of the ways that make a search slow, beside a plain slow search.
+//! Seven hundred stops in each of the ways that make a search slow, beside a plain slow search.
 
 use crate::assertions::assert_is;
 use crate::spots::{Spot, stop_no};
@@ -10,7 +10,7 @@ use std::process::Abort;
 use std::test::Fail;
 
 // How many stops each feed has.
-const COUNT: i64 = 2000;
+const COUNT: i64 = 700;
 
 const DEGREE: u64 = 1_000_000_000;
 
@@ -157,22 +157,38 @@ fn layouts() -> [Layout; 12] {
 }
 
 #[test]
-fn plainly(rt: HostRuntime) -> Result<(), Fail> {
-    let alloc = rt.alloc();
+fn nearby_finds_what_a_slow_search_finds(rt: HostRuntime) -> Result<(), Fail> {
     let mut dice = Dice { state: 1 };
     for layout in layouts() {
-        let a = made(alloc, &mut dice, layout.a, layout.kinds)?;
-        let b = made(alloc, &mut dice, layout.b, layout.kinds)?;
-        let nearby = Nearby::new(alloc, a.as_slice(), layout.near)?;
-        for row in b.as_slice() {
-            let parent = stop_no(one_of(&mut dice, 3));
-            assert_is(
-                &rt,
-                nearby.find(row, parent),
-                plain(a.as_slice(), layout.near, row, parent),
-                layout.what,
-            );
-        }
+        assert_layout(&rt, rt.alloc(), &mut dice, layout)?;
+    }
+    Ok(())
+}
+
+// The stops of a layout, and those of its second feed with what the slow search finds of them.
+fn assert_layout(
+    rt: &impl Abort,
+    alloc: Global,
+    dice: &mut Dice,
+    layout: Layout,
+) -> Result<(), Fail> {
+    let a = made(alloc, dice, layout.a, layout.kinds)?;
+    let b = made(alloc, dice, layout.b, layout.kinds)?;
+    assert_all(rt, alloc, dice, layout, (a.as_slice(), b.as_slice()))
+}
+
+fn assert_all(
+    rt: &impl Abort,
+    alloc: Global,
+    dice: &mut Dice,
+    layout: Layout,
+    (a, b): (&[Stop], &[Stop]),
+) -> Result<(), Fail> {
+    let nearby = Nearby::new(alloc, a, layout.near)?;
+    for row in b {
+        let parent = stop_no(one_of(dice, 3));
+        let wanted = plain(a, layout.near, row, parent);
+        assert_is(rt, nearby.find(row, parent), wanted, layout.what);
     }
     Ok(())
 }
@@ -225,16 +241,20 @@ fn made(
 ) -> Result<Vec<Stop>, OutOfMemory> {
     let mut stops = Vec::new(alloc);
     for number in 0..COUNT {
-        let spot = Spot {
-            name: name(dice.roll(kinds)),
-            kind: kind(dice.roll(kinds)),
-            parent: one_of(dice, kinds),
-            lat: Some(dice.coordinate(lines.0, number)),
-            lon: Some(dice.coordinate(lines.1, number)),
-        };
+        let spot = thrown(dice, lines, kinds, number);
         stops.push(spot.stop(alloc)?)?;
     }
     Ok(stops)
+}
+
+fn thrown(dice: &mut Dice, (lat, lon): (Line, Line), kinds: u64, number: i64) -> Spot {
+    Spot {
+        name: name(dice.roll(kinds)),
+        kind: kind(dice.roll(kinds)),
+        parent: one_of(dice, kinds),
+        lat: Some(dice.coordinate(lat, number)),
+        lon: Some(dice.coordinate(lon, number)),
+    }
 }
 
 fn name(roll: u64) -> Option<&'static str> {

@@ -1,9 +1,10 @@
 //! Whether one stop is near another, by tables.
 
 use crate::assertions::assert_is;
-use crate::spots::{Spot, stop_no};
+use crate::spots::{Spot, stop_no, stops_of};
+use gtfs_field::OutOfMemory;
 use gtfs_nearby::Nearby;
-use gtfs_rows::LocationType;
+use gtfs_rows::{LocationType, Stop, StopNo};
 use std::alloc::Global;
 use std::process::Abort;
 use std::test::Fail;
@@ -40,14 +41,14 @@ const MOVED: &[(&str, u32, i64, i64, bool)] = &[
 ];
 
 #[test]
-fn close(rt: HostRuntime) -> Result<(), Fail> {
+fn stops_are_near_up_to_a_distance(rt: HostRuntime) -> Result<(), Fail> {
     for (what, near, north, east, is_near) in MOVED {
         let moved = Spot {
             lat: Some(52_500_000_000 + *north),
             lon: Some(13_400_000_000 + *east),
             ..MILL
         };
-        assert_near(&rt, rt.alloc(), what, *near, MILL, moved, None, *is_near)?;
+        assert_near(&rt, rt.alloc(), what, *near, (MILL, moved), None, *is_near)?;
     }
     Ok(())
 }
@@ -183,74 +184,77 @@ const ALIKE: &[(&str, Spot, Spot, Option<usize>, bool)] = &[
 ];
 
 #[test]
-fn alike(rt: HostRuntime) -> Result<(), Fail> {
+fn near_stops_are_alike(rt: HostRuntime) -> Result<(), Fail> {
     for (what, a, b, parent, is_near) in ALIKE {
-        assert_near(&rt, rt.alloc(), what, 100, *a, *b, *parent, *is_near)?;
+        assert_near(&rt, rt.alloc(), what, 100, (*a, *b), *parent, *is_near)?;
     }
     Ok(())
 }
 
+// Whether the second stop is near the first one, once its parent became this.
 fn assert_near(
     rt: &impl Abort,
     alloc: Global,
     what: &str,
     near: u32,
-    a: Spot,
-    b: Spot,
+    pair: (Spot, Spot),
     parent: Option<usize>,
     is_near: bool,
 ) -> Result<(), Fail> {
-    let stops = [a.stop(alloc)?];
-    let nearby = Nearby::new(alloc, &stops, near)?;
-    let row = b.stop(alloc)?;
-    let found = nearby.find(&row, stop_no(parent));
-    assert_is(
-        rt,
-        found,
-        stop_no(if is_near { Some(0) } else { None }),
-        what,
-    );
+    let found = if is_near { Some(0) } else { None };
+    assert_found(rt, alloc, what, near, &[pair.0, pair.1], parent, found)
+}
+
+// The number of the stop that is near the last one.
+fn assert_found(
+    rt: &impl Abort,
+    alloc: Global,
+    what: &str,
+    near: u32,
+    spots: &[Spot],
+    parent: Option<usize>,
+    number: Option<usize>,
+) -> Result<(), Fail> {
+    let all = stops_of(alloc, spots)?;
+    let Some((row, stops)) = all.as_slice().split_last() else {
+        panic!(rt; "no stop");
+    };
+    let found = find(alloc, stops, near, row, stop_no(parent))?;
+    assert_is(rt, found, stop_no(number), what);
     Ok(())
+}
+
+fn find(
+    alloc: Global,
+    stops: &[Stop],
+    near: u32,
+    row: &Stop,
+    parent: Option<StopNo>,
+) -> Result<Option<StopNo>, OutOfMemory> {
+    let nearby = Nearby::new(alloc, stops, near)?;
+    Ok(nearby.find(row, parent))
+}
+
+const LAKE: Spot = Spot {
+    name: Some("Lake"),
+    ..MILL
+};
+
+// The mill, so many units to the north.
+fn moved(north: i64) -> Spot {
+    Spot {
+        lat: Some(north.wrapping_add(52_500_000_000)),
+        ..MILL
+    }
 }
 
 // Where several are near the least number counts, whatever the order of the places.
 #[test]
-fn least(rt: HostRuntime) -> Result<(), Fail> {
-    let alloc = rt.alloc();
-    let stops = [
-        Spot {
-            lat: Some(52_500_002_000),
-            ..MILL
-        }
-        .stop(alloc)?,
-        Spot {
-            name: Some("Lake"),
-            ..MILL
-        }
-        .stop(alloc)?,
-        Spot {
-            lat: Some(52_500_001_000),
-            ..MILL
-        }
-        .stop(alloc)?,
-        Spot {
-            lat: Some(52_499_999_000),
-            ..MILL
-        }
-        .stop(alloc)?,
-        MILL.stop(alloc)?,
-    ];
-    let row = MILL.stop(alloc)?;
+fn the_least_number_counts(rt: HostRuntime) -> Result<(), Fail> {
+    let spots = [moved(2000), LAKE, moved(1000), moved(-1000), MILL, MILL];
     for (near, least) in [(0, 4), (1, 2), (2, 0)] {
-        let nearby = Nearby::new(alloc, &stops, near)?;
-        assert_is(&rt, nearby.find(&row, None), stop_no(Some(least)), near);
+        let what = "the least";
+        assert_found(&rt, rt.alloc(), what, near, &spots, None, Some(least))?;
     }
-    let none: [gtfs_rows::Stop; 0] = [];
-    assert_is(
-        &rt,
-        Nearby::new(alloc, &none, 1)?.find(&row, None),
-        None,
-        "no stops",
-    );
-    Ok(())
+    assert_found(&rt, rt.alloc(), "no stops", 1, &[MILL], None, None)
 }

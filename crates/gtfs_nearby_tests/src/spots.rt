@@ -4,18 +4,19 @@ use gtfs_field::{Coord, OutOfMemory, Text};
 use gtfs_rows::{LocationType, Stop, StopNo, WheelchairBoarding};
 use std::alloc::Global;
 
-// What decides whether a stop is near another one. Coordinates are in units of 10^-9 degree.
+/// What decides whether a stop is near another one. Coordinates are in units of 10^-9 degree.
 #[derive(Clone, Copy)]
 pub(crate) struct Spot {
-    pub name: Option<&'static str>,
-    pub kind: LocationType,
-    pub parent: Option<usize>,
-    pub lat: Option<i64>,
-    pub lon: Option<i64>,
+    pub(crate) name: Option<&'static str>,
+    pub(crate) kind: LocationType,
+    pub(crate) parent: Option<usize>,
+    pub(crate) lat: Option<i64>,
+    pub(crate) lon: Option<i64>,
 }
 
 impl Spot {
-    pub fn stop(self, alloc: Global) -> Result<Stop, OutOfMemory> {
+    /// A stop with these values and no others.
+    pub(crate) fn stop(self, alloc: Global) -> Result<Stop, OutOfMemory> {
         Ok(Stop {
             stop_id: text(alloc, "S")?,
             stop_code: None,
@@ -36,6 +37,16 @@ impl Spot {
     }
 }
 
+/// The stops of these places.
+pub(crate) fn stops_of(alloc: Global, spots: &[Spot]) -> Result<Vec<Stop>, OutOfMemory> {
+    let mut stops = Vec::new(alloc);
+    for spot in spots {
+        stops.push(spot.stop(alloc)?)?;
+    }
+    Ok(stops)
+}
+
+/// The number of a stop, if there is one.
 pub(crate) fn stop_no(number: Option<usize>) -> Option<StopNo> {
     match number {
         Some(number) => Some(StopNo(number)),

@@ -23,8 +23,8 @@ loop-row-preserved c =
     let row = c.row-item.result in
     let at = subst (λ (f : Parts). slice_get f.agencies row.number ≡ Some c.agency_by_number-source.result.now) c.of.ensures c.agency_by_number-source.ensures in
     let named = row-named kind.Agency sides rows (subst (AreMergedRows kind.Agency c.args.sides.now) (sym c.rows-rows.ensures) c.requires.rows) index c.loop-row-test.true row c.row-item.is in
-    rows-more agency_of (agency_from sides) rows index c.loop-row.list.items _ c.in_ok-with_id.field-0 row c.loop-row-test.true c.loop-row.invariant c.in_ok-push.ensures.items c.row-item.is
-    (agency-row sides row.side row.number c.as_str.result.now c.agency_by_number-source.result.now c.in_ok-with_id.field-0 at (c.as_str.ensures.value ∙ named) c.in_ok-with_id.ensures)
+    rows-more agency_of (agency_from sides) rows index c.loop-row.list.items _ c.in_ok-under.field-0 row c.loop-row-test.true c.loop-row.invariant c.in_ok-push.ensures.items c.row-item.is
+    (agency-row sides row.side row.number c.as_str.result.now c.agency_by_number-source.result.now c.in_ok-under.field-0 at (c.as_str.ensures.value ∙ named) c.in_ok-under.ensures)
 
 pub returns : goal.returns
 returns c =

@@ -38,7 +38,7 @@ loop-row-preserved c =
     let row = c.row-item.result in
     let items = c.loop-row.list.items in
     let source = c.route_by_number-source.result.now in
-    let made = c.in_ok-with_id.field-0 in
+    let made = c.in_ok-under.field-0 in
     let are = subst (AreMergedRows kind.Route sides) (sym c.rows-rows.ensures) c.requires.routes.rows in
     let numbers = numbers_of c.args.agencies.now.numbers row.side in
     let f = side_parts row.side sides in
@@ -46,7 +46,7 @@ loop-row-preserved c =
     let inside = agency-inside f (side-sound row.side sides c.soundness.ensures.a c.soundness.ensures.b) row.number source at in
     let named = row-named kind.Route sides rows are index c.loop-row-test.true row c.row-item.is in
     let agency = c.renumbered-agency.ensures ∙ ap (λ (ns : List ℕ). get_or ns source.agency_id.0 0) c.numbers.ensures in
-    let both = route-row sides row.side row.number c.as_str.result.now numbers (c.requires.agencies.numbers row.side) source made c.renumbered-agency.result at (c.as_str.ensures.value ∙ named) agency inside c.in_ok-with_id.ensures in
+    let both = route-row sides row.side row.number c.as_str.result.now numbers (c.requires.agencies.numbers row.side) source made c.renumbered-agency.result at (c.as_str.ensures.value ∙ named) agency inside c.in_ok-under.ensures in
     record {
       listed = rows-more (route_named (merged_ids kind.Agency sides)) (route_from sides) rows index items _ made row c.loop-row-test.true c.loop-row.invariant.listed c.in_ok-push.ensures.items c.row-item.is both.0;
       within = all-more (names_agency (merged_ids kind.Agency sides)) items _ made c.loop-row.invariant.within c.in_ok-push.ensures.items both.1;

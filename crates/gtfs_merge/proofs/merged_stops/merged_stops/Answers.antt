@@ -39,7 +39,7 @@ loop-row-preserved c =
     let row = c.row-item.result in
     let items = c.loop-row.list.items in
     let source = c.stop_by_number-source.result.now in
-    let made = c.in_ok-with_id.field-0 in
+    let made = c.in_ok-under.field-0 in
     let are = subst (AreMergedRows kind.Stop sides) (sym c.rows-rows.ensures) c.requires.rows in
     let numbers = numbers_of c.args.stops.now.numbers row.side in
     let f = side_parts row.side sides in
@@ -47,7 +47,7 @@ loop-row-preserved c =
     let inside = parent-inside f (side-sound row.side sides c.soundness.ensures.a c.soundness.ensures.b) row.number source at in
     let named = row-named kind.Stop sides rows are index c.loop-row-test.true row c.row-item.is in
     let parent = c.renumbered-parent.ensures ∙ ap (λ (ns : List ℕ). option_map (λ n. get_or ns n.0 0) source.parent_station) c.numbers.ensures in
-    let both = stop-row sides row.side row.number c.as_str.result.now numbers (c.requires.numbers row.side) source made c.renumbered-parent.result at (c.as_str.ensures.value ∙ named) parent inside c.in_ok-with_id.ensures in
+    let both = stop-row sides row.side row.number c.as_str.result.now numbers (c.requires.numbers row.side) source made c.renumbered-parent.result at (c.as_str.ensures.value ∙ named) parent inside c.in_ok-under.ensures in
     record {
       listed = rows-more (stop_named (merged_ids kind.Stop sides)) (stop_from sides) rows index items _ made row c.loop-row-test.true c.loop-row.invariant.listed c.in_ok-push.ensures.items c.row-item.is both.0;
       within = all-more (names_parent (merged_ids kind.Stop sides)) items _ made c.loop-row.invariant.within c.in_ok-push.ensures.items both.1;

@@ -50,7 +50,7 @@ loop-row-preserved c =
     let row = c.row-item.result in
     let items = c.loop-row.list.items in
     let source = c.trip_by_number-source.result.now in
-    let made = c.in_ok-with_id.field-0 in
+    let made = c.in_ok-under.field-0 in
     let are = subst (AreMergedRows kind.Trip sides) (sym c.rows-rows.ensures) c.requires.trips.rows in
     let routes = numbers_of c.args.routes.now.numbers row.side in
     let services = numbers_of c.args.services.now.numbers row.side in
@@ -61,7 +61,7 @@ loop-row-preserved c =
     let route = c.renumbered_route-route.ensures ∙ ap (λ (ns : List ℕ). get_or ns source.route_id.0 0) c.numbers-route_numbers.ensures in
     let service = c.renumbered_service-service.ensures ∙ ap (λ (ns : List ℕ). get_or ns source.service_id.0 0) c.numbers-service_numbers.ensures in
     let both = trip-row sides row.side row.number c.as_str.result.now sound routes services (c.requires.routes.numbers row.side) (c.requires.services.numbers row.side) source made _ _ at (c.as_str.ensures.value ∙ named)
-    route (route-inside f sound row.number source at) service (service-inside f sound row.number source at) c.in_ok-with_id.ensures in
+    route (route-inside f sound row.number source at) service (service-inside f sound row.number source at) c.in_ok-under.ensures in
     record {
       listed = rows-more (trip_named (merged_ids kind.Route sides) (merged_ids kind.Service sides)) (λ e. option_map without_rows (trip_from sides e)) rows index items _ made row c.loop-row-test.true c.loop-row.invariant.listed c.in_ok-push.ensures.items c.row-item.is both.0;
       within = all-more (names_route_and_service (merged_ids kind.Route sides) (merged_ids kind.Service sides)) items _ made c.loop-row.invariant.within c.in_ok-push.ensures.items both.1;

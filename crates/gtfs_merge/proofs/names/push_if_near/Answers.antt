@@ -1,8 +1,7 @@
-use Rattle.std.proofs.Common.{◌≡◌, ◌++◌, ◌∙◌, Some, None, ap, arith, length, map, subst, sym, append-nil}
+use Rattle.std.proofs.Common.{◌≡◌, ◌++◌, ◌∙◌, Some, None, ap, arith, length, subst, sym, append-nil}
 use Rattle.std.specs.Prelude.{OnOk}
 use Rattle.std.proofs.lemmas.List.{length-map}
 use Rattle.gtfs_rows.specs.Views.{stop_ids}
-use Rattle.gtfs_merge.specs.Names.{pair_value}
 use Rattle.gtfs_merge.specs.Sides.{is_joined_id}
 use Rattle.gtfs_merge.specs.Twins.{near_at, pairs_at, twin_number, twin_rows}
 use Rattle.gtfs_merge.specs.declared.kind.Kind.TheVariants as kind
@@ -27,10 +26,10 @@ push_pair-requires-clause-first c =
 pub returns-in-Some : goal.returns-in-Some
 returns-in-Some c =
     let near : near_at (twin_rows c.args.sides.now) c.args.number ≡ Some c.in-Some.first = ap (λ t. near_at t c.args.number) (sym c.requires.twins) ∙ sym c.in-Some.ensures in
-    subst (λ o. OnOk c.push_pair.result (map pair_value c.push_pair.new.pairs.items ≡ map pair_value c.args.pairs.now.items ++ pairs_at c.args.sides.now o c.args.number)) (sym near) c.push_pair.ensures
+    subst (λ o. OnOk c.push_pair.result (c.push_pair.new.pairs.items ≡ c.args.pairs.now.items ++ pairs_at c.args.sides.now o c.args.number)) (sym near) c.push_pair.ensures
 
 pub returns-in-None : goal.returns-in-None
 returns-in-None c =
     let near : near_at (twin_rows c.args.sides.now) c.args.number ≡ None = ap (λ t. near_at t c.args.number) (sym c.requires.twins) ∙ sym c.in-None.ensures in
-    let old = map pair_value c.args.pairs.now.items in
+    let old = c.args.pairs.now.items in
     sym (append-nil old) ∙ ap (λ o. old ++ pairs_at c.args.sides.now o c.args.number) (sym near)

@@ -11,7 +11,7 @@ id_of-requires c = (own-index (known_ids c.args.kind c.args.sides.now.a.now) (re
 
 pub returns-in_ok-from_str-in-Some : goal.returns-in_ok-from_str-in-Some
 returns-in_ok-from_str-in-Some c =
-    c.in_ok-from_str.ensures.ok ∙ c.id_of.ensures
+    c.in_ok-from_str-in-Some.ensures.ok ∙ c.id_of.ensures
     ∙ sym (own-index (known_ids c.args.kind c.args.sides.now.a.now) (renaming (side_names side.B c.args.sides.now) c.args.kind c.args.id.now) c.in-Some.first (sym c.requires.twin ∙ c.in-Some.is)).1
 
 pub own_id_of_b-requires-clause-alone : goal.own_id_of_b-requires-clause-alone

@@ -1,4 +1,4 @@
-use Rattle.std.proofs.Common.{◌≡◌, ◌<◌, ◌+◌, ◌^◌, ◌∙◌, true, false, not, length, ap, sym, is_some, arith}
+use Rattle.std.proofs.Common.{◌≡◌, ◌∙◌, true, false, not, ap, sym, is_some, arith}
 use Rattle.std.specs.Prelude.{◌&&◌}
 use Rattle.gtfs_merge.specs.Law.{AreFew}
 use Rattle.gtfs_merge.specs.Renaming.{has_id, ids, renaming}

@@ -1,7 +1,6 @@
 use Rattle.std.proofs.Common.{sym}
 use Rattle.gtfs_merge.specs.Renaming.{stop_b}
 use Rattle.gtfs_merge.specs.Sides.{content_a, content_b, nearness_of}
-use Rattle.gtfs_merge.specs.declared.kind.Kind.TheVariants as kind
 use Rattle.gtfs_merge.proofs.JoinedStopTimes.{stop-meets}
 use Rattle.gtfs_merge.proofs.same_stop_times.is_same_stop_time.Goals as goal
 

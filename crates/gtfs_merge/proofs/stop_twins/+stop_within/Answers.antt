@@ -22,11 +22,9 @@ returns-in_default t c =
     (ap (option_and_then (λ n. became (stop_ids sides.a.now) rename (text_of_number (stop_ids sides.b.now) n.0))) (sym c.in_default.is)))
 
 pub stop_within-became-requires : goal.stop_within-became-requires
-stop_within-became-requires t c = (
-  omega (arith, c.decreases, c.if-generations-eq0.false),
-  c.requires.nearby,
-  parent-within c.args.sides.now.b.now c.soundness.ensures.b c.args.stop.0 c.stop_by_number-row.result.now c.in-Some.parent c.stop_by_number-row.ensures c.in-Some.is,
-)
+stop_within-became-requires t c =
+    let within = parent-within c.args.sides.now.b.now c.soundness.ensures.b c.args.stop.0 c.stop_by_number-row.result.now c.in-Some.parent c.stop_by_number-row.ensures c.in-Some.is in
+    (omega (arith, c.decreases, c.if-generations-eq0.false), (c.requires.nearby, within))
 
 pub returns : goal.returns
 returns t c =

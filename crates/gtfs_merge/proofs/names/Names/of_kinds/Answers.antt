@@ -1,5 +1,3 @@
-use Rattle.std.proofs.Common.{map}
-use Rattle.gtfs_merge.specs.Names.{pair_value}
 use Rattle.gtfs_merge.proofs.NamesFacts.{each-kind}
 use Rattle.gtfs_merge.proofs.names.Names.of_kinds.Goals as goal
 
@@ -11,7 +9,7 @@ returns c = record {
     routes = c.in_ok-routes.routes;
     services = c.in_ok-services.services;
     trips = c.in_ok-trips.trips;
-    near = map pair_value c.in_ok-near.near.items;
+    near = c.in_ok-near.near.items;
   }) c.in_ok-agencies.ensures c.in_ok-stops.ensures c.in_ok-routes.ensures c.in_ok-services.ensures c.in_ok-trips.ensures;
   near = c.in_ok-near.ensures;
 }
