@@ -1,5 +1,5 @@
 -- A distance of near stops and a cutoff are such as a merge takes.
-use Rattle.std.proofs.Common.{◌≡◌, ℕ, ℤ, ◌≤◌, Bool, true, false, List, Option, Some, None, Result, Ok, Err, ap, refl, sym, subst}
+use Rattle.std.proofs.Common.{◌≡◌, ℕ, ℤ, ◌≤◌, Bool, true, false, List, Option, Some, None, Result, Ok, Err, ap, refl, subst}
 use Rattle.std.specs.Prelude.{IfSome, nat_le, option_map, unwrap_or}
 use Rattle.std.specs.Result.{result_ok}
 use Rattle.std.proofs.lemmas.Bool.{leb-true}

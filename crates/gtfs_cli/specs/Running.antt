@@ -1,13 +1,11 @@
 -- How the program ends: what is the matter where it ends with status 2 (usage) or 3 (folders, files and output).
 -- These definitions say nothing about folders whose contents are unknown, such as those of a disk.
-use Rattle.std.specs.Prelude.{◌≡◌, ◌≢◌, ◌<◌, ◌≤◌, ◌++◌, ◌⊎◌, ℕ, slice_index, ◌==◌, Bool, false, true, is_some, IsSome, if◌then◌else◌, codes, length, List, [], ◌∷◌, Option, Some, None, option_map, Result, Ok, Err, ℤ, ◌<ℤ◌}
+use Rattle.std.specs.Prelude.{◌≡◌, ◌≢◌, ◌<◌, ◌≤◌, ◌++◌, ◌⊎◌, ℕ, slice_index, ◌==◌, Bool, false, true, is_some, IsSome, if◌then◌else◌, codes, length, List, [], ◌∷◌, Option, Some, None, option_map, ℤ, ◌<ℤ◌}
 use Rattle.std.specs.Borrow.{Bor}
 use Rattle.std.specs.Result.{result_ok}
 use Rattle.std.specs.Path.{slash}
 use Rattle.clap.specs.Words.{Text, subcommand_of, takes}
 use Rattle.gtfs_field.specs.Kinds.{count_of, date_of, instant_of}
-use Rattle.gtfs_field.specs.declared.fault.FieldFault.{FieldFault}
-use Rattle.gtfs_days.specs.Service.{is_service_day}
 use Rattle.gtfs_days.specs.Zone.{zone_origin, IsTooLong, IsUnreadable, IsZoneOf}
 use Rattle.gtfs_days.specs.declared.zone.Zone.{Zone}
 use Rattle.gtfs_devices.specs.Device.{Rises}

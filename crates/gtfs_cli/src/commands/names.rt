@@ -223,10 +223,10 @@ fn print_near<'w, O: Out>(
     ensures grows { O.failure_count out.old ≤ O.failure_count out.new }
     ensures no_failure { OnOk result (O.failure_count out.new ≡ O.failure_count out.old) }
 {
-    match near {
-        None => Ok(()),
-        Some(_) => print_near_count(names.near().len(), line, out),
-    }
+    let Some(_) = near else {
+        return Ok(());
+    };
+    print_near_count(names.near().len(), line, out)
 }
 
 // The line of so many near stops, made in the same way.

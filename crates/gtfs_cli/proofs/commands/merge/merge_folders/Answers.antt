@@ -37,8 +37,8 @@ returns-in_err-b-clause-refused g c =
 
 pub merge_feeds-requires : goal.merge_feeds-requires
 merge_feeds-requires g c = record {
-  near = near-bound (merge_texts_of c.args.words.now).near c.args.values.now.near c.args.requires.near;
-  cutoff = cutoff-day (merge_texts_of c.args.words.now).cutoff c.args.values.now.cutoff c.args.requires.cutoff;
+  near = near-bound (merge_texts_of c.args.words.now).near c.args.values.now.near c.requires.near;
+  cutoff = cutoff-day (merge_texts_of c.args.words.now).cutoff c.args.values.now.cutoff c.requires.cutoff;
 }
 
 pub returns-clause-merged : goal.returns-clause-merged
@@ -48,7 +48,7 @@ returns-clause-merged g c =
     let asked = merge_texts_of c.args.words.now in
     let second = moved (λ l h. HoldsFeed l h asked.b c.in_ok-b.b) _ _ _ _ c.read_feed.ensures.same_limit c.read_feed.ensures.unchanged c.in_ok-b.ensures.read in
     IfOk-weaker c.merge_feeds.result _ _
-    (λ m is. is-merged limit held asked c.in_ok-a.a c.in_ok-b.b c.in_ok-a.ensures.read second (merge_request_of c.args.values.now) c.args.requires m is
+    (λ m is. is-merged limit held asked c.in_ok-a.a c.in_ok-b.b c.in_ok-a.ensures.read second (merge_request_of c.args.values.now) c.requires m is
     c.merge_feeds.ensures.departures)
     c.merge_feeds.ensures.merged
 
@@ -59,7 +59,7 @@ returns-clause-refused g c =
     let asked = merge_texts_of c.args.words.now in
     let second = moved (λ l h. HoldsFeed l h asked.b c.in_ok-b.b) _ _ _ _ c.read_feed.ensures.same_limit c.read_feed.ensures.unchanged c.in_ok-b.ensures.read in
     IfErr-weaker c.merge_feeds.result _ _
-    (λ r e before after low high. unmerged limit held asked c.in_ok-a.a c.in_ok-b.b c.in_ok-a.ensures.read second (merge_request_of c.args.values.now) c.args.requires before after r e)
+    (λ r e before after low high. unmerged limit held asked c.in_ok-a.a c.in_ok-b.b c.in_ok-a.ensures.read second (merge_request_of c.args.values.now) c.requires before after r e)
     c.merge_feeds.ensures.refused
 
 pub returns-in_err-a-clause-no_failure : goal.returns-in_err-a-clause-no_failure
