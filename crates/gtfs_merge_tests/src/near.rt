@@ -467,9 +467,9 @@ fn assert_names(
 fn pairs(alloc: Global, names: &Names) -> Result<String, Fail> {
     let mut text = String::new(alloc);
     for (own, other) in names.near() {
-        text.push_str(own)?;
+        text.push_str(own.as_str())?;
         text.push_str(" ")?;
-        text.push_str(other)?;
+        text.push_str(other.as_str())?;
         text.push_str("\n")?;
     }
     Ok(text)
