@@ -198,7 +198,8 @@ fn limited(
 fn merged_feed(alloc: Global, random: RandomState, sides: &Sides) -> Result<Merged, OutOfMemory>
     requires { zones_differ (content_a sides.now) (content_b sides.now) ≡ false }
     ensures content { IfOk result (λ m. content_of m.feed ≡ merged_parts sides.now) }
-    ensures names { IfOk result (λ m. AreNamesOf sides.now.near (content_a sides.now) (content_b sides.now) m.names) }
+    ensures names { IfOk result (λ m.
+        AreNamesOf sides.now.near (content_a sides.now) (content_b sides.now) m.names) }
 {
     let twins = Twins::of_feeds(alloc, sides)?;
     let names = Names::of_twins(alloc, random, sides, &twins)?;
