@@ -1,40 +1,49 @@
--- The merge of two trimmed feeds is that of both feeds with a cutoff.
-use Rattle.std.proofs.Common.{◌≡◌, ◌∙◌, ℕ, Option, Some, None, sym, subst, ℤ}
+-- The merge of two trimmed feeds is that of both feeds with a cutoff, and the feed of its rows is the merged feed.
+use Rattle.std.proofs.Common.{◌≡◌, ◌∙◌, ℕ, false, Option, Some, None, ap, sym, subst, ℤ}
 use Rattle.std.specs.Prelude.{IfErr, IfOk, Result, Ok, Err}
 use Rattle.gtfs_days.specs.declared.cut.Cut.TheVariants.{Before, From}
 use Rattle.gtfs_rows.specs.Content.{Content}
-use Rattle.gtfs_rows.specs.Trimmed.{trimmed}
+use Rattle.gtfs_rows.specs.Trimmed.{first_part, second_part, trimmed}
+use Rattle.gtfs_rows.specs.Views.{content_of_parts}
+use Rattle.gtfs_rows.specs.declared.parts.Parts.{Parts}
 use Rattle.gtfs_merge.specs.Merged.{is_too_large, merged, zones_differ}
-use Rattle.gtfs_merge.specs.Merging.{AreNamesOf, IsMergeOf, IsRefusal}
+use Rattle.gtfs_merge.specs.Merging.{AreNamesOf, AreRowsOfMerge, IsFeedOf, IsLimitFault, IsMergeOf, IsRefusal}
+use Rattle.gtfs_merge.specs.Names.{AllNames}
 use Rattle.gtfs_merge.specs.Near.{nearness}
 use Rattle.gtfs_merge.specs.declared.merging.Merged.{Merged}
 use Rattle.gtfs_merge.specs.declared.merging.MergeFault.{MergeFault}
 use Rattle.gtfs_merge.specs.declared.merging.MergeFault.TheVariants as fault
 
-module _ (near : Option ℕ) (day : ℤ) (a b first second : Content) (is_first : first ≡ trimmed (Before day) a) (is_second : second ≡ trimmed (From day) b) (limit : ℕ) where
-  zones : zones_differ first second ≡ zones_differ a b
-  zones = λ i. zones_differ (is_first i) (is_second i)
-
-  large : is_too_large limit (merged (nearness near) first second) ≡ is_too_large limit (merged (nearness near) (trimmed (Before day) a) (trimmed (From day) b))
-  large = λ i. is_too_large limit (merged (nearness near) (is_first i) (is_second i))
-
-  merge-of-parts : (m : Merged) → IsMergeOf near None first second limit m → IsMergeOf near (Some day) a b limit m
-  merge-of-parts m is = record {
-    zone = sym zones ∙ is.zone;
-    small = sym large ∙ is.small;
-    content = is.content ∙ (λ i. merged (nearness near) (is_first i) (is_second i));
-    names = subst (λ (f : Content × Content). AreNamesOf near f.0 f.1 m.names) (λ i. (is_first i, is_second i)) is.names;
+module _ (near : Option ℕ) (day : ℤ) (a b first second : Content) (is_first : first ≡ trimmed (Before day) a) (is_second : second ≡ trimmed (From day) b) where
+  of-trimmed : (rows : Parts × AllNames) → AreRowsOfMerge near None first second rows → AreRowsOfMerge near (Some day) a b rows
+  of-trimmed rows are = record {
+    sound = are.sound;
+    content = are.content ∙ (λ i. merged (nearness near) (is_first i) (is_second i));
+    names = subst (λ (f : Content × Content). AreNamesOf near f.0 f.1 rows.1) (λ i. (is_first i, is_second i)) are.names;
   }
 
-  refusal-of-parts : (x : MergeFault) → IsRefusal near None first second limit x → IsRefusal near (Some day) a b limit x
-  refusal-of-parts fault.ZoneDiffers is = sym zones ∙ is
-  refusal-of-parts fault.TooLarge is = (sym zones ∙ is.0, sym large ∙ is.1)
-  refusal-of-parts fault.OutOfMemory is = sym zones ∙ is
+  pub rows-of-trimmed : {E : Type 0} (r : Result (Parts × AllNames) E) → IfOk r (AreRowsOfMerge near None first second) → IfOk r (AreRowsOfMerge near (Some day) a b)
+  rows-of-trimmed (Ok rows) are = of-trimmed rows are
+  rows-of-trimmed (Err x) are = are
 
-  pub merged-of-parts : (r : Result Merged MergeFault) → IfOk r (IsMergeOf near None first second limit) → IfOk r (IsMergeOf near (Some day) a b limit)
-  merged-of-parts (Ok m) is = merge-of-parts m is
-  merged-of-parts (Err x) is = is
+module _ (near : Option ℕ) (cutoff : Option ℤ) (a b : Content) (zone : zones_differ a b ≡ false) (limit : ℕ) (rows : Parts × AllNames) (are : AreRowsOfMerge near cutoff a b rows) where
+  merge-of : (m : Merged) → IsFeedOf rows limit m → IsMergeOf near cutoff a b limit m
+  merge-of m is = record {
+    zone = zone;
+    small = ap (is_too_large limit) (sym are.content) ∙ is.small;
+    content = ap content_of_parts is.feed ∙ are.content;
+    names = subst (AreNamesOf near (first_part cutoff a) (second_part cutoff b)) (sym is.names) are.names;
+  }
 
-  pub refused-of-parts : (r : Result Merged MergeFault) → IfErr r (IsRefusal near None first second limit) → IfErr r (IsRefusal near (Some day) a b limit)
-  refused-of-parts (Ok m) is = is
-  refused-of-parts (Err x) is = refusal-of-parts x is
+  refusal-of : (x : MergeFault) → IsLimitFault (content_of_parts rows.0) limit x → IsRefusal near cutoff a b limit x
+  refusal-of fault.ZoneDiffers is = elim is [ ]
+  refusal-of fault.TooLarge is = (zone, ap (is_too_large limit) (sym are.content) ∙ is)
+  refusal-of fault.OutOfMemory is = zone
+
+  pub merged-of-rows : (r : Result Merged MergeFault) → IfOk r (IsFeedOf rows limit) → IfOk r (IsMergeOf near cutoff a b limit)
+  merged-of-rows (Ok m) is = merge-of m is
+  merged-of-rows (Err x) is = is
+
+  pub refused-of-rows : (r : Result Merged MergeFault) → IfErr r (IsLimitFault (content_of_parts rows.0) limit) → IfErr r (IsRefusal near cutoff a b limit)
+  refused-of-rows (Ok m) is = is
+  refused-of-rows (Err x) is = refusal-of x is

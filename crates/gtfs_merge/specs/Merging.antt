@@ -1,8 +1,10 @@
 -- What a merge answers.
-use Rattle.std.specs.Prelude.{◌≡◌, ℕ, true, false, List, Option, ℤ}
+use Rattle.std.specs.Prelude.{◌≡◌, ⊤, ℕ, true, false, List, Option, ℤ}
 use Rattle.gtfs_feed.specs.Content.{content_of}
 use Rattle.gtfs_rows.specs.Content.{Content}
 use Rattle.gtfs_rows.specs.Trimmed.{first_part, second_part}
+use Rattle.gtfs_rows.specs.Views.{IsSoundParts, content_of_parts}
+use Rattle.gtfs_rows.specs.declared.parts.Parts.{Parts}
 use Rattle.gtfs_merge.specs.Cutoff.{DepartsOn, is_first_day, is_second_day, merged_as}
 use Rattle.gtfs_merge.specs.Departures.{HasBoards, HasUnion}
 use Rattle.gtfs_merge.specs.Law.{SharesExactly}
@@ -45,6 +47,26 @@ abbrev pub IsRefusal : Option ℕ → Option ℤ → Content → Content → ℕ
 IsRefusal near cutoff a b limit fault.ZoneDiffers = zones_differ a b ≡ true
 IsRefusal near cutoff a b limit fault.TooLarge = (zones_differ a b ≡ false) × (is_too_large limit (merged_as near cutoff a b) ≡ true)
 IsRefusal near cutoff a b limit fault.OutOfMemory = zones_differ a b ≡ false
+
+-- ---- what the parts of the work give
+
+-- the rows of the merged feed, which make a feed, and what the ids of both feeds became
+pub record AreRowsOfMerge (near : Option ℕ) (cutoff : Option ℤ) (a b : Content) (rows : Parts × AllNames) : Type 0 where
+  pub sound : IsSoundParts rows.0
+  pub content : content_of_parts rows.0 ≡ merged_as near cutoff a b
+  pub names : AreNamesOf near (first_part cutoff a) (second_part cutoff b) rows.1
+
+-- the feed of these rows, with these names, of which no written file is longer than the limit
+pub record IsFeedOf (rows : Parts × AllNames) (limit : ℕ) (m : Merged) : Type 0 where
+  pub small : is_too_large limit (content_of_parts rows.0) ≡ false
+  pub feed : m.feed ≡ rows.0
+  pub names : m.names ≡ rows.1
+
+-- why it is not made
+abbrev pub IsLimitFault : Content → ℕ → MergeFault → Type 0
+IsLimitFault c limit fault.ZoneDiffers = ⊥
+IsLimitFault c limit fault.TooLarge = is_too_large limit c ≡ true
+IsLimitFault c limit fault.OutOfMemory = ⊤
 
 -- what the merged content keeps, with times as given and with times filled: every departure of both feeds on the days that the cutoff
 -- leaves to each, and every board

@@ -1,9 +1,10 @@
 ghost use Rattle.std.specs.Prelude.{◌≡◌, ◌≤◌, IfErr, IfOk, IfSome, None, Some, false, true};
 ghost use Rattle.gtfs_days.specs.Service.{is_service_day};
+ghost use Rattle.gtfs_rows.specs.Views.{IsSoundParts, content_of_parts};
 ghost use Rattle.gtfs_feed.specs.Content.{content_of};
 ghost use Rattle.gtfs_merge.specs.Merged.{zones_differ};
-ghost use Rattle.gtfs_merge.specs.Merging.{AreNamesOf, IsMergeOf, IsRefusal, KeepsDepartures};
-ghost use Rattle.gtfs_merge.specs.Sides.{content_a, content_b, merged_parts};
+ghost use Rattle.gtfs_merge.specs.Merging.{AreRowsOfMerge, IsFeedOf, IsLimitFault, IsMergeOf, IsRefusal, KeepsDepartures};
+ghost use Rattle.gtfs_merge.specs.Sides.{content_a, content_b};
 
 use crate::merged_parts::merged_parts;
 use crate::names::Names;
@@ -13,6 +14,7 @@ use crate::zones::zones_differ;
 use gtfs_days::Cut;
 use gtfs_feed::Feed;
 use gtfs_field::{Day, OutOfMemory};
+use gtfs_rows::Parts;
 use std::alloc::Global;
 use std::hash::RandomState;
 use thiserror::Error;
@@ -142,68 +144,82 @@ fn judged(
     if zones_differ(sides.a, sides.b) {
         return Err(MergeFault::ZoneDiffers);
     }
-    match options.cutoff {
-        Some(day) => cut_at(alloc, random, sides, day, options.file_limit),
-        None => limited(alloc, random, sides, options.file_limit),
+    let rows = rows_of(alloc, random, sides, options.cutoff)?;
+    limited(alloc, random, rows, options.file_limit)
+}
+
+// The rows of the merged feed, and what the ids of both feeds became. Feeds that were trimmed for it are let go.
+fn rows_of(
+    alloc: Global,
+    random: RandomState,
+    sides: &Sides,
+    cutoff: Option<Day>,
+) -> Result<(Parts, Names), OutOfMemory>
+    requires zone { zones_differ (content_a sides.now) (content_b sides.now) ≡ false }
+    requires cutoff { IfSome cutoff (λ d. is_service_day d ≡ true) }
+    ensures { IfOk result (AreRowsOfMerge sides.now.near cutoff
+        (content_a sides.now) (content_b sides.now)) }
+{
+    match cutoff {
+        Some(day) => rows_cut_at(alloc, random, sides, day),
+        None => whole_rows(alloc, random, sides),
     }
 }
 
-// The merge of the first feed before a day and of the second one from it on.
-fn cut_at(
+// The same of the first feed before a day and of the second one from it on.
+fn rows_cut_at(
     alloc: Global,
     random: RandomState,
     sides: &Sides,
     day: Day,
-    file_limit: u64,
-) -> Result<Merged, MergeFault>
+) -> Result<(Parts, Names), OutOfMemory>
     requires zone { zones_differ (content_a sides.now) (content_b sides.now) ≡ false }
     requires day { is_service_day day ≡ true }
-    ensures merged { IfOk result (IsMergeOf sides.now.near (Some day)
-        (content_a sides.now) (content_b sides.now) file_limit) }
-    ensures refused { IfErr result (IsRefusal sides.now.near (Some day)
-        (content_a sides.now) (content_b sides.now) file_limit) }
+    ensures { IfOk result (AreRowsOfMerge sides.now.near (Some day)
+        (content_a sides.now) (content_b sides.now)) }
 {
     let first = sides.a.trimmed(alloc, random, Cut::Before(day))?;
     let second = sides.b.trimmed(alloc, random, Cut::From(day))?;
-    let parts = Sides {
+    let trimmed = Sides {
         a: &first,
         b: &second,
         near: sides.near,
     };
-    limited(alloc, random, &parts, file_limit)
+    whole_rows(alloc, random, &trimmed)
 }
 
-// The merged feed of two feeds with one zone, unless a file of it is too long.
-fn limited(
+// The same of both feeds as they are.
+fn whole_rows(
     alloc: Global,
     random: RandomState,
     sides: &Sides,
-    file_limit: u64,
-) -> Result<Merged, MergeFault>
+) -> Result<(Parts, Names), OutOfMemory>
     requires { zones_differ (content_a sides.now) (content_b sides.now) ≡ false }
-    ensures merged { IfOk result (IsMergeOf sides.now.near None
-        (content_a sides.now) (content_b sides.now) file_limit) }
-    ensures refused { IfErr result (IsRefusal sides.now.near None
-        (content_a sides.now) (content_b sides.now) file_limit) }
-{
-    let merged = merged_feed(alloc, random, sides)?;
-    let is_too_large = merged.feed.has_longer_file(alloc, file_limit)?;
-    if is_too_large {
-        return Err(MergeFault::TooLarge);
-    }
-    Ok(merged)
-}
-
-// The merged feed of two feeds with one zone.
-fn merged_feed(alloc: Global, random: RandomState, sides: &Sides) -> Result<Merged, OutOfMemory>
-    requires { zones_differ (content_a sides.now) (content_b sides.now) ≡ false }
-    ensures content { IfOk result (λ m. content_of m.feed ≡ merged_parts sides.now) }
-    ensures names { IfOk result (λ m.
-        AreNamesOf sides.now.near (content_a sides.now) (content_b sides.now) m.names) }
+    ensures { IfOk result (AreRowsOfMerge sides.now.near None
+        (content_a sides.now) (content_b sides.now)) }
 {
     let twins = Twins::of_feeds(alloc, sides)?;
     let names = Names::of_twins(alloc, random, sides, &twins)?;
     let parts = merged_parts(alloc, random, sides, &twins, &names)?;
+    Ok((parts, names))
+}
+
+// The feed of these rows, unless a file of it is too long.
+fn limited(
+    alloc: Global,
+    random: RandomState,
+    rows: (Parts, Names),
+    file_limit: u64,
+) -> Result<Merged, MergeFault>
+    requires { IsSoundParts rows.0 }
+    ensures merged { IfOk result (IsFeedOf rows file_limit) }
+    ensures refused { IfErr result (IsLimitFault (content_of_parts rows.0) file_limit) }
+{
+    let (parts, names) = rows;
     let feed = Feed::assemble(alloc, random, parts)?;
+    let is_too_large = feed.has_longer_file(alloc, file_limit)?;
+    if is_too_large {
+        return Err(MergeFault::TooLarge);
+    }
     Ok(Merged { feed, names })
 }

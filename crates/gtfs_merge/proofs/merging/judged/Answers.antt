@@ -1,15 +1,16 @@
-use Rattle.std.proofs.Common.{subst, sym}
-use Rattle.std.specs.Prelude.{IfErr}
-use Rattle.gtfs_merge.specs.Merging.{IsRefusal}
+use Rattle.std.proofs.Common.{◌∙◌, sym}
 use Rattle.gtfs_merge.specs.Sides.{content_a, content_b}
+use Rattle.gtfs_merge.proofs.CutMerges.{merged-of-rows, refused-of-rows}
 use Rattle.gtfs_merge.proofs.merging.judged.Goals as goal
 
-pub returns-in-Some-clause-refused : goal.returns-in-Some-clause-refused
-returns-in-Some-clause-refused c =
+pub returns-clause-merged : goal.returns-clause-merged
+returns-clause-merged c =
     let sides = c.args.sides.now in
-    subst (λ cutoff. IfErr c.cut_at.result (IsRefusal sides.near cutoff (content_a sides) (content_b sides) c.args.options.now.file_limit)) (sym c.in-Some.is) c.cut_at.ensures.refused
+    merged-of-rows sides.near c.args.options.now.cutoff (content_a sides) (content_b sides) (sym c.zones_differ.ensures ∙ c.if-zones_differ.false)
+    c.args.options.now.file_limit c.in_ok-rows.rows c.in_ok-rows.ensures c.limited.result c.limited.ensures.merged
 
-pub returns-in-None-clause-refused : goal.returns-in-None-clause-refused
-returns-in-None-clause-refused c =
+pub returns-clause-refused : goal.returns-clause-refused
+returns-clause-refused c =
     let sides = c.args.sides.now in
-    subst (λ cutoff. IfErr c.limited.result (IsRefusal sides.near cutoff (content_a sides) (content_b sides) c.args.options.now.file_limit)) (sym c.in-None.is) c.limited.ensures.refused
+    refused-of-rows sides.near c.args.options.now.cutoff (content_a sides) (content_b sides) (sym c.zones_differ.ensures ∙ c.if-zones_differ.false)
+    c.args.options.now.file_limit c.in_ok-rows.rows c.in_ok-rows.ensures c.limited.result c.limited.ensures.refused
