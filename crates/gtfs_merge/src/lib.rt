@@ -1,6 +1,6 @@
 //! Merging two feeds of a region into one.
 //!
-//! - [`merge`] makes one [`Feed`](gtfs_feed::Feed) of two.
+//! - [`merge`] makes one [`Feed`](gtfs_feed::Feed) of two, and [`merge_owned`] of two that are given up.
 //! - [`Kind`] names the kinds of ids, and [`Side`] the two feeds.
 //! - [`Names`] tells what each id of either feed becomes, and which ids are joined.
 //! - [`zones_differ`] tells whether two feeds cannot be merged, since their times are in different zones.
@@ -54,6 +54,6 @@ mod zones;
 
 pub use kind::{Kind, Side};
 pub use law::{cuts_keep_departures, merges_keep_departures};
-pub use merging::{MergeFault, Merged, Options, merge};
+pub use merging::{MergeFault, Merged, Options, merge, merge_owned};
 pub use names::Names;
 pub use zones::zones_differ;

@@ -1,5 +1,7 @@
 ghost use Rattle.std.specs.Prelude.{◌≡◌, ◌≤◌, IfErr, IfOk, IfSome, None, Some, false, true};
+ghost use Rattle.gtfs_days.specs.Cut.{cut_day};
 ghost use Rattle.gtfs_days.specs.Service.{is_service_day};
+ghost use Rattle.gtfs_rows.specs.Trimmed.{trimmed};
 ghost use Rattle.gtfs_rows.specs.Views.{IsSoundParts, content_of_parts};
 ghost use Rattle.gtfs_feed.specs.Content.{content_of};
 ghost use Rattle.gtfs_merge.specs.Merged.{zones_differ};
@@ -127,6 +129,36 @@ pub fn merge(
     judged(alloc, random, &sides, options)
 }
 
+/// The same of two feeds that are given up. With a cutoff each is let go as soon as it is trimmed, so that no more memory is
+/// held than without one.
+///
+/// # Errors
+/// Those of [`merge`], in the same order.
+pub fn merge_owned(
+    alloc: Global,
+    random: RandomState,
+    a: Feed,
+    b: Feed,
+    options: &Options,
+) -> Result<Merged, MergeFault>
+    requires near { IfSome options.now.near (λ n. n ≤ 2_147_483_647) }
+    requires cutoff { IfSome options.now.cutoff (λ d. is_service_day d ≡ true) }
+    ensures merged { IfOk result (IsMergeOf options.now.near options.now.cutoff
+        (content_of a) (content_of b) options.now.file_limit) }
+    ensures refused { IfErr result (IsRefusal options.now.near options.now.cutoff
+        (content_of a) (content_of b) options.now.file_limit) }
+    ensures departures { KeepsDepartures options.now.near options.now.cutoff
+        (content_of a) (content_of b) }
+{
+    let sides = Sides {
+        a: &a,
+        b: &b,
+        near: options.near,
+    };
+    sides.soundness();
+    judged_owned(alloc, random, a, b, options)
+}
+
 // The merged feed, or why there is none; the zones are judged first.
 fn judged(
     alloc: Global,
@@ -145,6 +177,27 @@ fn judged(
         return Err(MergeFault::ZoneDiffers);
     }
     let rows = rows_of(alloc, random, sides, options.cutoff)?;
+    limited(alloc, random, rows, options.file_limit)
+}
+
+// The same of feeds that are given up.
+fn judged_owned(
+    alloc: Global,
+    random: RandomState,
+    a: Feed,
+    b: Feed,
+    options: &Options,
+) -> Result<Merged, MergeFault>
+    requires { IfSome options.now.cutoff (λ d. is_service_day d ≡ true) }
+    ensures merged { IfOk result (IsMergeOf options.now.near options.now.cutoff
+        (content_of a) (content_of b) options.now.file_limit) }
+    ensures refused { IfErr result (IsRefusal options.now.near options.now.cutoff
+        (content_of a) (content_of b) options.now.file_limit) }
+{
+    if zones_differ(&a, &b) {
+        return Err(MergeFault::ZoneDiffers);
+    }
+    let rows = rows_of_owned(alloc, random, a, b, options)?;
     limited(alloc, random, rows, options.file_limit)
 }
 
@@ -186,6 +239,66 @@ fn rows_cut_at(
         near: sides.near,
     };
     whole_rows(alloc, random, &trimmed)
+}
+
+// The same of feeds that are given up.
+fn rows_of_owned(
+    alloc: Global,
+    random: RandomState,
+    a: Feed,
+    b: Feed,
+    options: &Options,
+) -> Result<(Parts, Names), OutOfMemory>
+    requires zone { zones_differ (content_of a) (content_of b) ≡ false }
+    requires cutoff { IfSome options.now.cutoff (λ d. is_service_day d ≡ true) }
+    ensures { IfOk result (AreRowsOfMerge options.now.near options.now.cutoff
+        (content_of a) (content_of b)) }
+{
+    match options.cutoff {
+        Some(day) => rows_of_trimmed(alloc, random, a, b, day, options.near),
+        None => rows_of_pair(alloc, random, a, b, options.near),
+    }
+}
+
+// The same with a cutoff: each feed is let go before more is made of the other one.
+fn rows_of_trimmed(
+    alloc: Global,
+    random: RandomState,
+    a: Feed,
+    b: Feed,
+    day: Day,
+    near: Option<u32>,
+) -> Result<(Parts, Names), OutOfMemory>
+    requires zone { zones_differ (content_of a) (content_of b) ≡ false }
+    requires day { is_service_day day ≡ true }
+    ensures { IfOk result (AreRowsOfMerge near (Some day) (content_of a) (content_of b)) }
+{
+    let first = trimmed(alloc, random, a, Cut::Before(day))?;
+    let second = trimmed(alloc, random, b, Cut::From(day))?;
+    rows_of_pair(alloc, random, first, second, near)
+}
+
+// What is left of a feed that is given up.
+fn trimmed(alloc: Global, random: RandomState, feed: Feed, cut: Cut) -> Result<Feed, OutOfMemory>
+    requires { is_service_day (cut_day cut) ≡ true }
+    ensures { IfOk result (λ left. content_of left ≡ trimmed cut (content_of feed)) }
+{
+    feed.trimmed(alloc, random, cut)
+}
+
+// The rows of the merge of two whole feeds that are given up.
+fn rows_of_pair(
+    alloc: Global,
+    random: RandomState,
+    a: Feed,
+    b: Feed,
+    near: Option<u32>,
+) -> Result<(Parts, Names), OutOfMemory>
+    requires { zones_differ (content_of a) (content_of b) ≡ false }
+    ensures { IfOk result (AreRowsOfMerge near None (content_of a) (content_of b)) }
+{
+    let sides = Sides { a: &a, b: &b, near };
+    whole_rows(alloc, random, &sides)
 }
 
 // The same of both feeds as they are.

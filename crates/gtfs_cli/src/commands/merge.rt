@@ -18,7 +18,7 @@ use crate::commands::merge_values::{MergeValues, read_merge_values};
 use crate::commands::names::print_names;
 use crate::commands::refusal::Refusal;
 use gtfs_board::Feed;
-use gtfs_merge::{MergeFault, Merged, Options, merge};
+use gtfs_merge::{MergeFault, Merged, Options, merge_owned};
 use gtfs_table::{File, FolderFault, Folders, Out};
 use gtfs_words::MergeWords;
 use std::alloc::Global;
@@ -57,7 +57,7 @@ pub(super) fn print_merge<'w, F: Folders, O: Out>(
     print_names(alloc, &merged.names, values.near, out)
 }
 
-// The merge of the feeds of two folders, which are let go again.
+// The merge of the feeds of two folders.
 fn merge_folders<'w, F: Folders>(
     alloc: Global,
     random: RandomState,
@@ -79,32 +79,32 @@ fn merge_folders<'w, F: Folders>(
 {
     let a = read_feed(alloc, random, folders, words.a)?;
     let b = read_feed(alloc, random, folders, words.b)?;
-    merge_feeds(alloc, random, &a, &b, values)
+    merge_feeds(alloc, random, a, b, values)
 }
 
-// The merge of two feeds. A file that is written may have as many bytes as one that a disk's folder holds to be read.
+// The merge of two feeds, which are let go. A file that is written may have as many bytes as one that a disk's folder holds to be read.
 fn merge_feeds<'w>(
     alloc: Global,
     random: RandomState,
-    a: &Feed,
-    b: &Feed,
+    a: Feed,
+    b: Feed,
     values: &MergeValues,
 ) -> Result<Merged, Refusal<'w>>
     requires near { IfSome values.now.near (λ n. n ≤ 2_147_483_647) }
     requires cutoff { IfSome values.now.cutoff (λ d. is_service_day d ≡ true) }
     ensures merged { IfOk result (IsMergeOf values.now.near values.now.cutoff
-        (content_of a.now) (content_of b.now) file_limit) }
+        (content_of a) (content_of b) file_limit) }
     ensures refused { IfErr result (IsMergeFault (merge_request_of values.now)
-        (content_of a.now) (content_of b.now)) }
+        (content_of a) (content_of b)) }
     ensures departures { KeepsDepartures values.now.near values.now.cutoff
-        (content_of a.now) (content_of b.now) }
+        (content_of a) (content_of b) }
 {
     let options = Options {
         near: values.near,
         cutoff: values.cutoff,
         ..Options::default()
     };
-    match merge(alloc, random, a, b, &options) {
+    match merge_owned(alloc, random, a, b, &options) {
         Ok(merged) => Ok(merged),
         Err(MergeFault::ZoneDiffers) => Err(Refusal::ZonesDiffer),
         Err(MergeFault::TooLarge) => Err(Refusal::MergeTooLarge),
