@@ -29,3 +29,4 @@ mod UntimedEvents
 mod LanesMoved
 pub mod TimedTrips
 pub mod Tallies
+mod EntryFacts

@@ -25,7 +25,7 @@ departure_row_cmp = then_cmp (on (λ x. x.trip) nat_cmp) (on (λ x. x.row) nat_c
 
 -- that of this trip at this position
 abbrev pub is_row : ℕ → ℕ → DepartureRow → Bool
-is_row trip row x = (x.trip == trip) && (x.row == row)
+is_row trip row x = (trip == x.trip) && (row == x.row)
 
 -- for each stop, by its number, every departure row there and no other, each once, in their order
 pub record AreDepartureRows (times : Times) (p : Parts) (index : List (List DepartureRow)) : Type 0 where

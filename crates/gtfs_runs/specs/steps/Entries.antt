@@ -20,7 +20,7 @@ entry_cmp = then_cmp (on (λ x. x.stop) nat_cmp) (then_cmp (on (λ x. x.trip) na
 
 -- that of this stop, trip and position
 abbrev pub is_entry : ℕ → ℕ → ℕ → Entry → Bool
-is_entry s t r x = (x.stop == s) && (x.trip == t) && (x.row == r)
+is_entry s t r x = (t == x.trip) && (r == x.row) && (x.stop == s)
 
 -- riders can leave the stop of this number at a stop time of a trip
 abbrev pub leaves_stop : Parts → Trip → List StopRow → List Frequency → ℕ → StopRow → Bool
