@@ -2,19 +2,19 @@
 use Rattle.std.proofs.Common.{◌≡◌, ◌≤◌, ◌<◌, ◌+◌, ◌++◌, ◌∙◌, ◌&&◌, ◌==◌, ℕ, Bool, true, false, cond, List, [], ◌∷◌, length, map, get_or, Option, Some, None, nat_lt, refl, sym, ap, subst, arith, rules, inl, inr}
 use Rattle.std.specs.Prelude.{bytes_eq}
 use Rattle.std.specs.List.{All, slice_get}
-use Rattle.std.specs.List.Sorted.{IsPermutation, IsSorted}
+use Rattle.std.specs.List.Sorted.{IsPartitionedBy, IsPermutation, IsSorted}
 use Rattle.std.specs.Cmp.{IsTotalOrder, ranked}
 use Rattle.std.specs.Cmp.Derive.{both_true}
 use Rattle.std.specs.Cmp.Rules.{comparing}
 use Rattle.std.specs.declared.cmp.Ordering.{Ordering}
 use Rattle.std.specs.declared.cmp.Ordering.TheVariants.{Less, Equal, Greater}
 use Rattle.std.specs.Ordering.{is_lt, ordering_reverse}
-use Rattle.std.proofs.lemmas.Bool.{and_parts, cases_Bool, eqb-true, false≢true, ltb-true, ltb-false, le-ltb}
+use Rattle.std.proofs.lemmas.Bool.{and_parts, cases_Bool, eqb-true, false≢true, lt-ltb, ltb-true, ltb-false, le-ltb}
 use Rattle.std.proofs.lemmas.List.Sorted.{ranks_by, sorted_far}
 use Rattle.std.proofs.lemmas.Option.{slice_get-get_or, slice_get_within}
 use Rattle.gtfs_field.proofs.ListFacts.{some_of}
 use Rattle.gtfs_field.proofs.NumberFacts.{number_itself as itself}
-use Rattle.gtfs_field.proofs.OrderingFacts.{tied_first as first_tie, tied_second as second_tie}
+use Rattle.gtfs_field.proofs.OrderingFacts.{nat-less, tied_first as first_tie, tied_second as second_tie}
 use Rattle.gtfs_columns.specs.Values.{if_there}
 use Rattle.gtfs_rows.specs.Rows as content
 use Rattle.gtfs_rows.specs.Order.{Ascends}
@@ -26,6 +26,10 @@ use Rattle.gtfs_rows.specs.declared.parts.Parts.{Parts}
 use Rattle.gtfs_rows.specs.declared.stop_row.StopRow.{StopRow}
 use Rattle.gtfs_rows.specs.declared.trip.Trip.{Trip}
 use Rattle.gtfs_rows.proofs.TripsAt.{content_trip}
+use Rattle.gtfs_table.proofs.PartFacts.{length-parts}
+use Rattle.gtfs_times.proofs.FilledContent.{sound-timed}
+use Rattle.gtfs_times.specs.TimedRows.{timed_parts, timed_stop_times}
+use Rattle.gtfs_times.specs.declared.times.Times.{Times}
 use Rattle.gtfs_runs.specs.Counts.{tally}
 use Rattle.gtfs_runs.specs.StopIndex.{departs_at}
 use Rattle.gtfs_runs.specs.declared.stop_index.entries.Entry.{Entry}
@@ -33,6 +37,7 @@ use Rattle.gtfs_runs.specs.steps.Entries.{AreEntries, departs_of, entry_cmp, is_
 use Rattle.gtfs_runs.proofs.ContentEvents.{past_trips, row_at}
 use Rattle.gtfs_runs.proofs.PlaceFacts.{same_stop}
 use Rattle.gtfs_runs.proofs.Tallies.{kept, tally-permutation, tally-push, two_at}
+use Rattle.gtfs_runs.proofs.TimedTrips.{rows_timed, trip_times}
 
 -- ---- one stop time
 
@@ -125,6 +130,25 @@ module _ (p : Parts) (sound : IsSoundParts p) where
       | inr other ↦ rw other refl
     ]
 
+-- the rows of a trip under a choice of times
+pub trip_added : (choice : Times) (p : Parts) → IsSoundParts p → (t : ℕ) (rs own : List StopRow) (old new : List Entry) → slice_get (stop_rows_by_trip p) t ≡ Some rs
+    → own ≡ timed_stop_times choice rs
+    → ((s v r : ℕ) (q : Parts) (u : Trip) (fs : List Frequency)
+    → tally (is_entry s v r) new ≡ tally (is_entry s v r) old + cond ((v == t) && if_there (slice_get own r) (leaves_stop q u own fs s)) 1 0)
+    → (s v r : ℕ) → tally (is_entry s v r) new ≡ tally (is_entry s v r) old + cond ((v == t) && departs_of (timed_parts choice p) s v r) 1 0
+trip_added choice p sound t rs own old new at is added s v r =
+    let q = timed_parts choice p in
+    let fair = sound-timed p sound choice in
+    let at_rows = rows_timed choice p sound t rs own at is in
+    let within : t < length p.trips = omega (arith, slice_get_within (stop_rows_by_trip p) t rs at, length-parts p.stop_row_starts p.stop_rows, sound.stop_rows.0) in
+    let periods : t < length (frequencies_by_trip p) = omega (arith, within, length-parts p.frequency_starts p.frequencies, sound.frequencies.0) in
+    let some = some_of p.trips t within in
+    let u = get_or p.trips t some in
+    let fs = get_or (frequencies_by_trip p) t [] in
+    added s v r q u fs
+    ∙ ap (λ b. tally (is_entry s v r) old + cond b 1 0)
+    (of_trip q fair t u own fs (slice_get-get_or p.trips t some within) at_rows (slice_get-get_or (frequencies_by_trip p) t [] periods) (trip_times q fair t own at_rows).stops v s r)
+
 -- past the last trip there is none
 pub trip_within : (p : Parts) (s t r : ℕ) → departs_of p s t r ≡ true → t < length p.trips
 trip_within p s t r holds = elim (cases_Bool (nat_lt t (length p.trips))) [
@@ -182,3 +206,24 @@ are-entries p found sorted told same up =
     most : (b : Bool) (n : ℕ) → n ≡ cond b 1 0 → n ≤ 1
     most true n is = omega (arith, is)
     most false n is = omega (arith, is)
+
+-- ---- by stop
+
+-- an entry before another is of no higher stop
+pub stops_rise : (xs : List Entry) → IsSorted entry_cmp xs → (i j : ℕ) (d : Entry) → i ≤ j → j < length xs → (get_or xs i d).stop ≤ (get_or xs j d).stop
+stops_rise xs up i j d before within =
+    let a = get_or xs i d in
+    let b = get_or xs j d in
+    let far = sorted_far (λ x y. is_lt (entry_cmp x y)) (ranks_by entries_total (λ x. x)) xs up i j d before within in
+    elim (cases_Bool (nat_lt b.stop a.stop)) [
+      | inl lower ↦ absurd (false≢true (sym far ∙ first_less b a (ltb-true b.stop a.stop lower)))
+      | inr not_lower ↦ ltb-false b.stop a.stop not_lower
+    ]
+  where
+    first_less : (x y : Entry) → x.stop < y.stop → is_lt (entry_cmp x y) ≡ true
+    first_less x y less = rw (nat-less x.stop y.stop less) refl
+
+-- in sorted ones, those of lower stops come first
+pub lower_first : (xs : List Entry) (s : ℕ) → IsSorted entry_cmp xs → IsPartitionedBy (λ x. nat_lt x.stop s) xs
+lower_first xs s up i j d before within below =
+    lt-ltb (get_or xs i d).stop s (let rise = stops_rise xs up i j d before within in omega (arith, rise, ltb-true (get_or xs j d).stop s below))

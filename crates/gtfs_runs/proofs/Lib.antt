@@ -30,3 +30,4 @@ mod LanesMoved
 pub mod TimedTrips
 pub mod Tallies
 mod EntryFacts
+mod IndexFacts

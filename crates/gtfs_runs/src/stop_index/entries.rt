@@ -1,11 +1,12 @@
 ghost use Rattle.std.specs.Prelude.{◌≡◌, ◌<◌, ◌+◌, ◌&&◌, ◌==◌, ℕ, AllPairs, IfOk, List, OnOk, cond, length, slice_get, slice_index_or};
+ghost use Rattle.std.specs.List.Sorted.{IsSorted};
 ghost use Rattle.gtfs_columns.specs.Values.{if_there};
 ghost use Rattle.gtfs_rows.specs.declared.frequency.Frequency.{Frequency};
 ghost use Rattle.gtfs_rows.specs.declared.parts.Parts.{Parts};
 ghost use Rattle.gtfs_rows.specs.declared.stop_row.StopRow.{StopRow as StopTime};
 ghost use Rattle.gtfs_rows.specs.declared.trip.Trip.{Trip};
 ghost use Rattle.gtfs_runs.specs.Counts.{tally};
-ghost use Rattle.gtfs_runs.specs.steps.Entries.{AreEntries, departs_of, is_entry, leaves_stop};
+ghost use Rattle.gtfs_runs.specs.steps.Entries.{AreEntries, departs_of, entry_cmp, is_entry, leaves_stop};
 ghost use Rattle.gtfs_times.specs.TimedRows.{timed_parts};
 
 use crate::departure_row::is_departure_row;
@@ -26,7 +27,8 @@ pub(crate) struct Entry {
 
 // Every departure row of a feed, by stop, trip and position.
 pub(crate) fn entries(alloc: Global, feed: &Feed, times: Times) -> Result<Vec<Entry>, OutOfMemory>
-    ensures { IfOk result (λ found. AreEntries (timed_parts times feed.now) found.items) }
+    ensures told { IfOk result (λ found. AreEntries (timed_parts times feed.now) found.items) }
+    ensures sorted { IfOk result (λ found. IsSorted entry_cmp found.items) }
 {
     let mut found = gathered(alloc, feed, times)?;
     found.sort_unstable();
