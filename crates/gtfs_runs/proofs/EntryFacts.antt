@@ -175,8 +175,8 @@ tied x y tie =
     both_true (both_true (ap (λ n. x.trip == n) (sym trips) ∙ itself x.trip) (ap (λ n. x.row == n) (sym rows) ∙ itself x.row))
     (ap (λ n. n == x.stop) (sym stops) ∙ itself x.stop)
 
-own : (x : Entry) → is_entry x.stop x.trip x.row x ≡ true
-own x = both_true (both_true (itself x.trip) (itself x.row)) (itself x.stop)
+pub entry_itself : (x : Entry) → is_entry x.stop x.trip x.row x ≡ true
+entry_itself x = both_true (both_true (itself x.trip) (itself x.row)) (itself x.stop)
 
 less_if_apart : (r q : Ordering) → q ≡ ordering_reverse r → is_lt q ≡ false → (r ≡ Equal → ⊥) → r ≡ Less
 less_if_apart Less q turned far apart = refl
@@ -189,7 +189,7 @@ entries_ascend xs up once i j d before within =
     let b = get_or xs j d in
     less_if_apart (entry_cmp a b) (entry_cmp b a) (entries_total.antisymm b a)
     (sorted_far (λ x y. is_lt (entry_cmp x y)) (ranks_by entries_total (λ x. x)) xs up i j d (omega arith) within)
-    (λ tie. twice (tally (is_entry a.stop a.trip a.row) xs) (two_at (is_entry a.stop a.trip a.row) xs i j d before within (own a) (tied a b tie)) (once a.stop a.trip a.row))
+    (λ tie. twice (tally (is_entry a.stop a.trip a.row) xs) (two_at (is_entry a.stop a.trip a.row) xs i j d before within (entry_itself a) (tied a b tie)) (once a.stop a.trip a.row))
   where
     twice : (n : ℕ) → 2 ≤ n → n ≤ 1 → ⊥
     twice n two one = omega arith

@@ -10,7 +10,7 @@ loop-stop-preserved c =
     let n = c.loop-stop.stop in
     let size = length-range_with_len 0 c.args.stops in
     let within : n < length (range_with_len 0 c.args.stops) = omega (arith, size, c.loop-stop-test.true) in
-    let here : n ≡ get_or (range_with_len 0 c.args.stops) n n = sym (get_or-range_with_len 0 c.args.stops n n c.loop-stop-test.true) in
+    let here : n ≡ get_or (range_with_len 0 c.args.stops) n n = omega (arith, get_or-range_with_len 0 c.args.stops n n c.loop-stop-test.true) in
     pushed-more (below_stop c.args.sorted.now) (range_with_len 0 c.args.stops) n n _ _ _ within here
     c.loop-stop.invariant c.in_ok-push.ensures.items c.start_of.ensures
 
