@@ -1,2 +1,3 @@
 mod WorkedLines
 mod WorkedReports
+mod WorkedRequests

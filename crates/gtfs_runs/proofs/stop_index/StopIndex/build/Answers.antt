@@ -1,4 +1,4 @@
-use Rattle.std.proofs.Common.{◌≡◌, ◌∙◌, length, map, ap}
+use Rattle.std.proofs.Common.{◌∙◌, length, map, ap}
 use Rattle.std.specs.List.{range_with_len}
 use Rattle.gtfs_runs.specs.steps.Entries.{below_stop, row_of}
 use Rattle.gtfs_runs.proofs.IndexFacts.{are-departure-rows, index_rises}

@@ -1,4 +1,4 @@
-use Rattle.std.proofs.Common.{◌≡◌, ◌<◌, ◌∙◌, length, sym, ap, arith}
+use Rattle.std.proofs.Common.{◌≡◌, ◌∙◌, length, sym, ap, arith}
 use Rattle.gtfs_table.proofs.PartFacts.{length-parts}
 use Rattle.gtfs_runs.proofs.stop_index.StopIndex.rows.Goals as goal
 

@@ -1,4 +1,4 @@
-use Rattle.std.proofs.Common.{◌∙◌, get_or, sym, ap}
+use Rattle.std.proofs.Common.{◌∙◌, sym}
 use Rattle.gtfs_field.proofs.ListFacts.{some_of}
 use Rattle.gtfs_rows.specs.declared.stop_row.StopRow.{StopRow}
 use Rattle.gtfs_runs.proofs.EntryFacts.{row_added, row_passed}
