@@ -1,7 +1,10 @@
-ghost use Rattle.std.specs.Prelude.{◌≡◌, IfOk, Option, Some, None, option_map};
+ghost use Rattle.std.specs.Prelude.{◌≡◌, IfOk, IfSome, int_lt, option_map};
+ghost use Rattle.std.specs.Option.{option_and_then};
 ghost use Rattle.gtfs_days.specs.Zone.{zone_origin};
-ghost use Rattle.gtfs_rows.specs.Views.{content_of_parts as content_of};
-ghost use Rattle.gtfs_cli.specs.Requests.{numbered_lines, request_texts, requests_of, stop_request};
+ghost use Rattle.gtfs_cli.specs.Boards.{request_of};
+ghost use Rattle.gtfs_cli.specs.Refusals.{IsSound};
+ghost use Rattle.gtfs_cli.specs.Requests.{request_from, request_texts, request_texts_of, text_if_any};
+ghost use Rattle.gtfs_cli.specs.Running.{instant_at};
 
 use crate::commands::moments::read_moment;
 use crate::commands::values::{Values, read_after, read_limit};
@@ -31,13 +34,6 @@ pub(super) struct RequestTexts<'w> {
     pub(super) limit: Option<&'w str>,
     // The same.
     pub(super) after: Option<&'w str>,
-}
-
-// A board that a line asks for.
-#[derive(Clone, Copy)]
-pub(super) struct StopRequest<'w> {
-    pub(super) texts: RequestTexts<'w>,
-    pub(super) values: Values<'w>,
 }
 
 // What is the matter with the first line that is refused, if any is.
@@ -71,38 +67,65 @@ fn line_fault(
     line: &str,
     times: Times,
 ) -> Result<Option<RequestFault>, OutOfMemory> {
-    let Some(request) = read_request(line, times) else {
+    let Some(texts) = read_texts(line) else {
         return Ok(Some(RequestFault::BadRequest(number)));
     };
-    if feed.stop(request.texts.stop).is_none() {
+    let Some(values) = read_request_values(&texts, times) else {
+        return Ok(Some(RequestFault::BadRequest(number)));
+    };
+    if feed.stop(texts.stop).is_none() {
         return Ok(Some(RequestFault::UnknownStop(number)));
     }
-    let from = request.values.from.instant(alloc, zone)?;
-    if request.values.until.instant(alloc, zone)? < from {
+    if lies_before(alloc, zone, &values)? {
         return Ok(Some(RequestFault::UntilBeforeFrom(number)));
     }
     Ok(None)
 }
 
-// What a line asks for. None where it has too few or too many fields, or a bad value.
-pub(super) fn read_request<'w>(line: &'w str, times: Times) -> Option<StopRequest<'w>> {
-    let texts = read_texts(line)?;
-    let from = read_moment(texts.from)?;
-    let until = read_moment(texts.until)?;
-    let limit = read_limit(texts.limit)?;
-    let after = read_after(texts.after)?;
-    let values = Values {
+// Whether the board would end before it begins.
+fn lies_before(alloc: Global, zone: &Zone, values: &Values<'_>) -> Result<bool, OutOfMemory>
+    requires from { IsSound values.now.from }
+    requires until { IsSound values.now.until }
+    ensures { IfOk result (λ before. before
+        ≡ int_lt (instant_at (zone_origin zone.now) values.now.until)
+        (instant_at (zone_origin zone.now) values.now.from)) }
+{
+    let from = values.from.instant(alloc, zone)?;
+    let until = values.until.instant(alloc, zone)?;
+    Ok(until < from)
+}
+
+// The values of the texts of a request. None where one is bad.
+pub(super) fn read_request_values<'w>(texts: &RequestTexts<'w>, times: Times) -> Option<Values<'w>>
+    ensures values { option_map request_of result ≡ request_from times (request_texts_of texts.now) }
+    ensures from { IfSome result (λ v. IsSound v.from) }
+    ensures until { IfSome result (λ v. IsSound v.until) }
+{
+    let Some(from) = read_moment(texts.from) else {
+        return None;
+    };
+    let Some(until) = read_moment(texts.until) else {
+        return None;
+    };
+    let Some(limit) = read_limit(texts.limit) else {
+        return None;
+    };
+    let Some(after) = read_after(texts.after) else {
+        return None;
+    };
+    Some(Values {
         from,
         until,
         limit,
         after,
         times,
-    };
-    Some(StopRequest { texts, values })
+    })
 }
 
 // The texts of a line of three to five fields, which stand between tabs.
-fn read_texts<'w>(line: &'w str) -> Option<RequestTexts<'w>> {
+pub(super) fn read_texts<'w>(line: &'w str) -> Option<RequestTexts<'w>>
+    ensures { option_map request_texts_of result ≡ request_texts line.now }
+{
     let mut fields = line.split('\t');
     let texts = RequestTexts {
         stop: fields.next()?,
@@ -118,9 +141,12 @@ fn read_texts<'w>(line: &'w str) -> Option<RequestTexts<'w>> {
 }
 
 // An empty text is none.
-fn text_if_any(field: Option<&str>) -> Option<&str> {
+fn text_if_any(field: Option<&str>) -> Option<&str>
+    ensures { option_map (λ t. t.now) result
+        ≡ option_and_then text_if_any (option_map (λ t. t.now) field.entry) }
+{
     match field {
-        Some("") | None => None,
-        Some(text) => Some(text),
+        Some(text) if !text.is_empty() => Some(text),
+        _ => None,
     }
 }
