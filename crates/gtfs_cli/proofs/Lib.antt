@@ -31,3 +31,4 @@ mod OneBoard
 mod OneMerge
 mod RunOutcomes
 mod Told
+mod RequestFields

@@ -55,8 +55,11 @@ texts_in (stop ∷ from ∷ until ∷ limit ∷ key ∷ []) =
     Some (record { stop = stop; from = from; until = until; limit = text_if_any limit; after = text_if_any key })
 texts_in (stop ∷ from ∷ until ∷ limit ∷ key ∷ more ∷ rest) = None
 
+abbrev pub fields_of : List ℕ → List (List ℕ)
+fields_of line = slice_split (λ b. b == 9) line
+
 abbrev pub request_texts : List ℕ → Option RequestTexts
-request_texts line = texts_in (slice_split (λ b. b == 9) line)
+request_texts line = texts_in (fields_of line)
 
 -- ---- values, which are those of the options of `gtfs board`
 

@@ -1,23 +1,26 @@
 -- Requests' files: their lines, their fields, and the first line that is refused.
 use Rattle.std.proofs.Common.{◌≡◌, ◌++◌, ℕ, pos, [], ◌∷◌, codes, refl, true, false, Some, None, Ok, Err}
 use Rattle.std.specs.Prelude.{List, Option}
+use Rattle.gtfs_table.specs.Tables as tables
 use Rattle.gtfs_cli.specs.Requests.{heading_of, numbered_lines, request_texts, RequestTexts}
 
 -- LF and CRLF end lines, the last line has neither; the second line is empty and is counted
 three_lines : numbered_lines (codes "a" ++ 10 ∷ 13 ∷ 10 ∷ codes "b" ++ 13 ∷ 10 ∷ codes "c") ≡ (1, codes "a") ∷ (3, codes "b") ∷ (4, codes "c") ∷ []
+unfolding tables.without_marks
 three_lines = refl
 
 -- a CR elsewhere is part of its line, and so is one at the end of a text without LF
 other_returns : numbered_lines (codes "a" ++ 13 ∷ codes "b" ++ 10 ∷ codes "c" ++ 13 ∷ []) ≡ (1, codes "a" ++ 13 ∷ codes "b") ∷ (2, codes "c" ++ 13 ∷ []) ∷ []
+unfolding tables.without_marks
 other_returns = refl
 
 -- marks at the beginning are cut, and nothing has no lines
 marks : numbered_lines (239 ∷ 187 ∷ 191 ∷ 239 ∷ 187 ∷ 191 ∷ codes "a" ++ 10 ∷ []) ≡ (1, codes "a") ∷ []
-unfolding Rattle.gtfs_table.specs.Tables.without_marks
+unfolding tables.without_marks
 marks = refl
 
 no_lines : numbered_lines [] ≡ []
-unfolding Rattle.gtfs_table.specs.Tables.without_marks
+unfolding tables.without_marks
 no_lines = refl
 
 -- an id may hold blanks

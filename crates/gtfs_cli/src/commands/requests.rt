@@ -1,9 +1,9 @@
-ghost use Rattle.std.specs.Prelude.{◌≡◌, IfOk, IfSome, int_lt, option_map};
+ghost use Rattle.std.specs.Prelude.{◌≡◌, IfOk, IfSome, int_lt, option_map, slice_get};
 ghost use Rattle.std.specs.Option.{option_and_then};
 ghost use Rattle.gtfs_days.specs.Zone.{zone_origin};
 ghost use Rattle.gtfs_cli.specs.Boards.{request_of};
 ghost use Rattle.gtfs_cli.specs.Refusals.{IsSound};
-ghost use Rattle.gtfs_cli.specs.Requests.{request_from, request_texts, request_texts_of, text_if_any};
+ghost use Rattle.gtfs_cli.specs.Requests.{fields_of, request_from, request_texts, request_texts_of, text_if_any};
 ghost use Rattle.gtfs_cli.specs.Running.{instant_at};
 
 use crate::commands::moments::read_moment;
@@ -126,18 +126,32 @@ pub(super) fn read_request_values<'w>(texts: &RequestTexts<'w>, times: Times) ->
 pub(super) fn read_texts<'w>(line: &'w str) -> Option<RequestTexts<'w>>
     ensures { option_map request_texts_of result ≡ request_texts line.now }
 {
-    let mut fields = line.split('\t');
-    let texts = RequestTexts {
-        stop: fields.next()?,
-        from: fields.next()?,
-        until: fields.next()?,
-        limit: text_if_any(fields.next()),
-        after: text_if_any(fields.next()),
-    };
-    match fields.next() {
-        None => Some(texts),
-        Some(_) => None,
+    if field(line, 5).is_some() {
+        return None;
     }
+    let Some(stop) = field(line, 0) else {
+        return None;
+    };
+    let Some(from) = field(line, 1) else {
+        return None;
+    };
+    let Some(until) = field(line, 2) else {
+        return None;
+    };
+    Some(RequestTexts {
+        stop,
+        from,
+        until,
+        limit: text_if_any(field(line, 3)),
+        after: text_if_any(field(line, 4)),
+    })
+}
+
+// The field of a line at an index, if it has so many.
+fn field(line: &str, index: usize) -> Option<&str>
+    ensures { option_map (λ t. t.now) result ≡ slice_get (fields_of line.now) index }
+{
+    line.split('\t').nth(index)
 }
 
 // An empty text is none.
