@@ -1,6 +1,6 @@
 -- The texts of a request by the fields of its line.
 use Rattle.std.proofs.Common.{◌≡◌, ℕ, true, false, List, [], ◌∷◌, Option, Some, None, refl, sym}
-use Rattle.std.specs.Prelude.{is_some}
+use Rattle.std.specs.Prelude.{is_some, option_map}
 use Rattle.std.specs.List.{slice_get}
 use Rattle.std.specs.Option.{option_and_then}
 use Rattle.std.proofs.lemmas.Option.{same_Some}
@@ -44,3 +44,7 @@ are_texts (a ∷ b ∷ c ∷ d ∷ []) stop from until limit after few one two t
 are_texts (a ∷ b ∷ c ∷ d ∷ e ∷ []) stop from until limit after few one two three four five =
     λ i. Some (record { stop = same_Some stop a (sym one) i; from = same_Some from b (sym two) i; until = same_Some until c (sym three) i; limit = four i; after = five i })
 are_texts (a ∷ b ∷ c ∷ d ∷ e ∷ f ∷ rest) stop from until limit after few one two three four five = cc
+
+pub some_read : {X Y : Type 0} (f : X → Y) (o : Option X) → is_some (option_map f o) ≡ is_some o
+some_read f None = refl
+some_read f (Some x) = refl
