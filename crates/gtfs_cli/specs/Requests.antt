@@ -99,6 +99,11 @@ all_or_first (Err e ∷ rest) = Err e
 abbrev pub requests_of : Content → Origins → Times → List ℕ → Result (List StopRequest) RequestFault
 requests_of f origin times bytes = all_or_first (map (λ l. judged f origin l.0 (stop_request times l.1)) (numbered_lines bytes))
 
+-- what is the matter, if anything is
+abbrev pub fault_in : {A : Type 0} → Result A RequestFault → Option RequestFault
+fault_in (Ok x) = None
+fault_in (Err fault) = Some fault
+
 -- ---- what goes out before a board
 
 abbrev pub heading_of : RequestTexts → List ℕ

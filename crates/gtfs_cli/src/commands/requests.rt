@@ -1,9 +1,10 @@
 ghost use Rattle.std.specs.Prelude.{◌≡◌, IfOk, IfSome, int_lt, option_map, slice_get};
 ghost use Rattle.std.specs.Option.{option_and_then};
 ghost use Rattle.gtfs_days.specs.Zone.{zone_origin};
+ghost use Rattle.gtfs_rows.specs.Views.{content_of_parts as content_of};
 ghost use Rattle.gtfs_cli.specs.Boards.{request_of};
 ghost use Rattle.gtfs_cli.specs.Refusals.{IsSound};
-ghost use Rattle.gtfs_cli.specs.Requests.{fields_of, request_from, request_texts, request_texts_of, text_if_any};
+ghost use Rattle.gtfs_cli.specs.Requests.{fault_in, fields_of, judged, request_from, request_texts, request_texts_of, stop_request, text_if_any};
 ghost use Rattle.gtfs_cli.specs.Running.{instant_at};
 
 use crate::commands::moments::read_moment;
@@ -66,7 +67,10 @@ fn line_fault(
     number: usize,
     line: &str,
     times: Times,
-) -> Result<Option<RequestFault>, OutOfMemory> {
+) -> Result<Option<RequestFault>, OutOfMemory>
+    ensures { IfOk result (λ fault. fault ≡ fault_in (judged (content_of feed.now)
+        (zone_origin zone.now) number (stop_request times line.now))) }
+{
     let Some(texts) = read_texts(line) else {
         return Ok(Some(RequestFault::BadRequest(number)));
     };
