@@ -32,3 +32,4 @@ mod OneMerge
 mod RunOutcomes
 mod Told
 mod RequestFields
+mod RequestFaults
