@@ -1,6 +1,18 @@
 ghost use Rattle.std.specs.Prelude.{◌≡◌, ◌<◌, IfOk, Some, length, slice_get};
 ghost use Rattle.gtfs_runs.specs.StopIndex.{AreDepartureRows};
 
+// How lanes are to be made of the index, in time that depends on the rows of the place alone.
+//
+// `StopLanes::build` is `whole`, `latest` and `split`; `whole` is `Place::of_stop`, `Found::at_place`,
+// `numbered`, `sorted` and `lists`. All but two of these see only the rows of the place, and serve as
+// they are. The two that look at the whole feed are `Place::of_stop`, which asks each stop, and
+// `Found::at_place`, which asks each trip.
+//
+// In their stead: the stops of the place, from an index of children by parent; their `rows`, merged by
+// trip and position, so that the events of a trip stand together, as `firsts` wants for its speed; and
+// for each trip its `Passing`s of these rows, then `add_listed` or `add_periods` as `add_trip` calls
+// them. What results has to be `AreFound`, the contract of `Found::at_place`.
+
 mod entries;
 mod starts;
 
