@@ -61,7 +61,7 @@ fn floor_after(feed: &Feed, lanes: usize, key: &Key<'_>) -> Candidate
             lane: lanes,
             row: 0,
             run: key.run,
-            sequence: key.sequence,
+            sequence: key.seq,
             day: key.day.number(),
             at: 0,
         },
