@@ -46,9 +46,9 @@ use Rattle.gtfs_board.specs.SheetSteps.{IsPattern, IsShownAlong, column_cmp, col
 use Rattle.gtfs_board.specs.Timetable.{Run, Sheet, has_run_on, is_run_before, named_runs, row_at, run_cmp, runs_of, time_at, time_of_run}
 use Rattle.gtfs_board.specs.declared.sheet.columns.Column.{Column}
 use Rattle.gtfs_board.specs.merge.Order.{In, IsAscending, IsStrict}
-use Rattle.gtfs_board.proofs.CandidateKeys.{numbers}
 use Rattle.gtfs_board.proofs.Candidates.{strict_from_total}
-use Rattle.gtfs_board.proofs.EventFacts.{same_number, text_at, there_some, trip_back}
+use Rattle.gtfs_runs.proofs.TripIds.{numbers, text_at}
+use Rattle.gtfs_board.proofs.EventFacts.{same_number, there_some, trip_back}
 use Rattle.gtfs_board.proofs.LaneDays.{flat_map-in, in-flat_map, in-map, map-in}
 use Rattle.gtfs_board.proofs.Rests.{ascending-in_order, ascending-unique, filter-in, in-filter, in-in_order, in_order-in}
 use Rattle.gtfs_board.proofs.SheetLists.{ascending-mapped, counted-in, find-one, in-counted, map-agree, sorted-ascends}

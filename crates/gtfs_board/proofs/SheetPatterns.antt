@@ -44,7 +44,7 @@ use Rattle.gtfs_board.specs.SheetSteps.{HasRow, IsPattern, stops_along}
 use Rattle.gtfs_board.specs.Timetable.{direction_rank, heading_cmp, is_heading_before}
 use Rattle.gtfs_board.specs.Timetable as timetable
 use Rattle.gtfs_board.specs.merge.Order.{In, IsAscending, IsStrict}
-use Rattle.gtfs_board.proofs.CandidateKeys.{numbers}
+use Rattle.gtfs_runs.proofs.TripIds.{numbers}
 use Rattle.gtfs_board.proofs.Candidates.{strict_from_total}
 use Rattle.gtfs_board.proofs.EventFacts.{at_in, in_at}
 use Rattle.gtfs_board.proofs.LaneDays.{flat_map-in, in-flat_map, in-map, in-range, in-right, map-in}

@@ -36,8 +36,8 @@ use Rattle.gtfs_board.specs.declared.sheet.TableFault.{TableFault}
 use Rattle.gtfs_board.specs.declared.sheet.TableFault.TheVariants.{UnknownRoute}
 use Rattle.gtfs_board.specs.merge.Order.{In, IsStrict}
 use Rattle.gtfs_board.proofs.Candidates.{strict_from_total}
-use Rattle.gtfs_board.proofs.EventFacts.{any_at, at_in, in_at, map_at, same_number, text_at}
-use Rattle.gtfs_board.proofs.Floors.{position_at, position_none}
+use Rattle.gtfs_runs.proofs.TripIds.{position_at, position_none, text_at}
+use Rattle.gtfs_board.proofs.EventFacts.{any_at, at_in, in_at, map_at, same_number}
 use Rattle.gtfs_board.proofs.LaneDays.{flat_map-in, in-flat_map, in-map, map-in}
 use Rattle.gtfs_board.proofs.Rests.{ascending-in_order, ascending-unique, filter-in, in-filter, in-in_order, in_order-in}
 use Rattle.gtfs_board.proofs.SheetColumns.{found-trip, in-running, running-in, runs_strict, trip-of, trip-within}

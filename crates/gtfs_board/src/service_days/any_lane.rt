@@ -26,14 +26,14 @@ impl AnyLane<'_> {
     }
 
     // Its first event above a position.
-    pub(super) fn first_after(self, feed: &Feed, seek: &Seek, steps: &mut Steps) -> Option<Event>
+    pub(super) fn first_above(self, feed: &Feed, seek: &Seek, steps: &mut Steps) -> Option<Event>
         ensures first { result ≡ find (is_above seek.now) (any_value self.entry).events }
         ensures steps { steps.new ≤ steps.old + 1 }
     {
         match self {
-            AnyLane::List(lane) => lane.first_after(feed, seek, steps),
-            AnyLane::Period(lane) => lane.first_after(feed, seek, steps),
-            AnyLane::Filled(lane) => lane.first_after(feed, seek, steps),
+            AnyLane::List(lane) => lane.first_above(feed, seek, steps),
+            AnyLane::Period(lane) => lane.first_above(feed, seek, steps),
+            AnyLane::Filled(lane) => lane.first_above(feed, seek, steps),
         }
     }
 
