@@ -1,10 +1,10 @@
 -- A seek lies where its moment lies.
-use Rattle.std.proofs.Common.{◌≡◌, ◌<◌, ◌∙◌, ℕ, ℤ, pos, negsuc, Bool, true, List, [], ◌∷◌, zero, suc, get_or, length, refl, sym, ap, Option, Some, None, arith}
+use Rattle.std.proofs.Common.{◌≡◌, ◌<◌, ◌∙◌, ℕ, pos, negsuc, Bool, List, [], ◌∷◌, suc, length, refl, ap, Some, None, arith}
 use Rattle.std.specs.Prelude.{All, bytes_eq, nat_lt}
 use Rattle.std.specs.List.{find, position}
 use Rattle.std.specs.Ordering.{int_cmp, is_lt, nat_cmp, ordering_then}
 use Rattle.std.specs.declared.cmp.Ordering.{Ordering}
-use Rattle.std.specs.declared.cmp.Ordering.TheVariants.{Less, Equal, Greater}
+use Rattle.std.specs.declared.cmp.Ordering.TheVariants.{Less}
 use Rattle.gtfs_rows.specs.Order.{Ascends}
 use Rattle.gtfs_rows.specs.Views.{text_of_number}
 use Rattle.gtfs_field.specs.TextOrder.{text_cmp}
