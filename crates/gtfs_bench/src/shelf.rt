@@ -1,4 +1,5 @@
 use anyhow::{Context, Result};
+use gtfs_field::Text;
 use gtfs_table::{File, FolderFault, Folders};
 use std::alloc::Global;
 use std::io::ErrorKind;
@@ -46,7 +47,7 @@ impl Folders for Shelf {
     // No list of bytes is longer.
     ghost limit = { λ _. 9_223_372_036_854_775_807 };
 
-    fn names(&mut self, alloc: Global, _dir: &str) -> Result<Vec<String>, FolderFault> {
+    fn names(&mut self, alloc: Global, _dir: &str) -> Result<Vec<Text>, FolderFault> {
         Ok(Vec::new(alloc))
     }
 

@@ -1,31 +1,16 @@
 -- Candidates compare as their keys do.
-use Rattle.std.proofs.Common.{◌≡◌, ◌<◌, ℕ, true, List, [], length, refl, sym, ap, ◌∙◌, inl, inr}
-use Rattle.std.proofs.lemmas.Bool.{cases_order}
-use Rattle.std.proofs.lemmas.Cmp.{nat_list_cmp_total}
-use Rattle.std.specs.Cmp.{nat_cmp_is, tied_itself}
-use Rattle.std.specs.Ordering.{nat_cmp, int_cmp, is_lt, ordering_then, ordering_reverse}
+use Rattle.std.proofs.Common.{◌≡◌, ◌<◌, ℕ, true, List, length, refl, sym, ap, ◌∙◌}
+use Rattle.std.specs.Ordering.{nat_cmp, int_cmp, is_lt, ordering_then}
 use Rattle.std.specs.declared.cmp.Ordering.{Ordering}
 use Rattle.std.specs.declared.cmp.Ordering.TheVariants.{Less, Equal, Greater}
 use Rattle.gtfs_rows.specs.Order.{Ascends}
-use Rattle.gtfs_rows.specs.Views.{text_of_number}
 use Rattle.gtfs_field.specs.TextOrder.{text_cmp}
+use Rattle.gtfs_runs.proofs.TripIds.{numbers}
 use Rattle.gtfs_board.specs.CandidateKeys.{key_among}
 use Rattle.gtfs_rows.specs.Key.{key_cmp}
 use Rattle.gtfs_board.specs.declared.merge.candidate.Candidate.{Candidate}
 use Rattle.gtfs_board.specs.merge.Candidates.{candidate_lt, departure_cmp, lane_cmp}
 use Rattle.gtfs_board.proofs.KeyOrder.{key_cmp-IsAntisymmetric}
-
--- numbers compare as the texts for which they stand
-pub numbers : (ids : List (List ℕ)) (i j : ℕ) → Ascends text_cmp ids → i < length ids → j < length ids → nat_cmp i j ≡ text_cmp (text_of_number ids i) (text_of_number ids j)
-numbers ids i j up in_i in_j = elim (cases_order i j) [
-  | inl same ↦
-      sym (nat_cmp_is i j Equal same)
-      ∙ sym (ap (λ n. text_cmp (text_of_number ids i) (text_of_number ids n)) (sym same) ∙ tied_itself nat_list_cmp_total (text_of_number ids i))
-  | inr (inl less) ↦ sym (nat_cmp_is i j Less less) ∙ sym (up i j [] less in_j)
-  | inr (inr more) ↦
-      sym (nat_cmp_is i j Greater more)
-      ∙ sym (nat_list_cmp_total.antisymm (text_of_number ids i) (text_of_number ids j) ∙ ap ordering_reverse (up j i [] more in_i))
-]
 
 pub compares : (ids : List (List ℕ)) (a b : Candidate) → Ascends text_cmp ids → a.trip < length ids → b.trip < length ids
     → departure_cmp a b ≡ key_cmp (key_among ids a) (key_among ids b)

@@ -61,12 +61,6 @@ map_at f [] n y at = cc
 map_at f (x ∷ xs) zero y at = (x, (refl, some_is (f x) y at))
 map_at f (x ∷ xs) (suc n) y at = map_at f xs n y at
 
--- the text of the number of a row
-pub text_at : {X : Type 0} (g : X → List ℕ) (xs : List X) (n : ℕ) (x : X) → slice_get xs n ≡ Some x → text_of_number (map g xs) n ≡ g x
-text_at g [] n x at = cc
-text_at g (y ∷ ys) zero x at = ap g (some_is y x at)
-text_at g (y ∷ ys) (suc n) x at = text_at g ys n x at
-
 unlike : (r : Ordering) → r ≡ Less → r ≡ Equal → ⊥
 unlike r less equal = cc
 

@@ -26,7 +26,7 @@ use Rattle.std.proofs.lemmas.Cmp.{int_cmp_total, nat_cmp_total}
 use Rattle.gtfs_field.proofs.NumberFacts.{cases_int, int_le-true, le-int_le}
 use Rattle.gtfs_days.proofs.ActiveDays.{before_service as day_too_early}
 use Rattle.gtfs_runs.specs.Order.{event_cmp, is_above, is_later}
-use Rattle.gtfs_runs.specs.declared.seek.Seek.{Seek}
+use Rattle.gtfs_runs.specs.declared.moment.Moment.{Moment}
 use Rattle.gtfs_runs.specs.StopLanes.{StopLanesValue, lanes_of}
 use Rattle.gtfs_runs.specs.declared.event.Event.{Event}
 use Rattle.gtfs_rows.specs.Departures.{Origins}
@@ -418,13 +418,13 @@ origin_small p n z d o busy is =
 
 module _ (p : Parts) (z : Zone) (lanes : StopLanesValue) (end : ℤ) where
   -- a lane is asked for what lies above a floor
-  pub head_found : AreAscending lanes → AreTimely lanes → (i : ℕ) (d o : ℤ) (floor : Candidate) (seek : Seek) (found : Option Event) → i < length (lanes_of lanes)
+  pub head_found : AreAscending lanes → AreTimely lanes → (i : ℕ) (d o : ℤ) (floor : Candidate) (moment : Moment) (found : Option Event) → i < length (lanes_of lanes)
       → serves_on p (lane_at lanes i).service d ≡ true → o ≡ zone_origin z d → IsAside floor d (length (lanes_of lanes))
-      → ((lane : ℕ) (e : Event) → e.at < 2 ^ 32 → (floor.day <ℤ d) ⊎ (lane < floor.lane) → is_above seek e ≡ candidate_lt floor (departing o d lane e))
-      → found ≡ find (is_above seek) (lane_at lanes i).events
+      → ((lane : ℕ) (e : Event) → e.at < 2 ^ 32 → (floor.day <ℤ d) ⊎ (lane < floor.lane) → is_above moment e ≡ candidate_lt floor (departing o d lane e))
+      → found ≡ find (is_above moment) (lane_at lanes i).events
       → first_above floor (departures_on p (zone_origin z) lanes end i d) ≡ keep (ends_by end) (map_option (departing o d i) found)
-  head_found up timely i d o floor seek found inside busy origin aside stands is =
-      first_found p (zone_origin z) lanes end up i d floor (is_above seek)
+  head_found up timely i d o floor moment found inside busy origin aside stands is =
+      first_found p (zone_origin z) lanes end up i d floor (is_above moment)
       (λ e there. stands i e (small e.at (lane_timely p (zone_origin z) lanes end timely i e there).1) (elim aside [ inl earlier ↦ inl earlier | inr past ↦ inr (omega (arith, inside, past)) ])
       ∙ ap (λ x. candidate_lt floor (departing x d i e)) origin) busy
       ∙ (let o_is = sym origin in let found_is = sym is in λ k. keep (ends_by end) (map_option (departing (o_is k) d i) (found_is k)))

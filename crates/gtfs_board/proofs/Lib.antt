@@ -18,7 +18,7 @@ pub mod OneBoard
 pub mod CandidateKeys
 pub mod BoardKeys
 pub mod Pages
-pub mod Seeks
+pub mod Moments
 pub mod LaneDays
 pub mod LanesByNumber
 pub mod ServiceDays

@@ -14,7 +14,7 @@ use Rattle.std.specs.Cmp.{tied_itself}
 use Rattle.std.specs.List.{AllByRecursion, list_any, position}
 use Rattle.gtfs_field.proofs.NumberFacts.{int_lt-false, int_lt-true, le-int_le}
 use Rattle.gtfs_rows.specs.declared.stop.Stop.{Stop as StopRowOf}
-use Rattle.gtfs_board.proofs.Floors.{position_at, position_none, turned}
+use Rattle.gtfs_runs.proofs.TripIds.{position_at, position_none, text_at, turned}
 use Rattle.gtfs_board.specs.LaneDays.{serves_on}
 use Rattle.gtfs_columns.proofs.SiteFacts.{text_is, text_itself}
 use Rattle.gtfs_days.specs.Service.{is_service_day, service_days}
@@ -49,7 +49,7 @@ use Rattle.gtfs_board.specs.merge.Lanes.{is_reached}
 use Rattle.gtfs_board.specs.merge.Order.{Each, In, IsAscending, tally}
 use Rattle.gtfs_board.proofs.BoardKeys.{board-of, in-member}
 use Rattle.gtfs_board.proofs.CandidateKeys.{compares}
-use Rattle.gtfs_board.proofs.EventFacts.{any_at, text_at, lane_there, map_at, trip_back}
+use Rattle.gtfs_board.proofs.EventFacts.{any_at, lane_there, map_at, trip_back}
 use Rattle.gtfs_board.proofs.Merges.{tally_sum}
 use Rattle.gtfs_board.proofs.KeyOrder.{key_cmp_total}
 use Rattle.gtfs_board.proofs.LaneDays.{day_there, serves_within}

@@ -46,9 +46,9 @@ use Rattle.gtfs_board.specs.SheetSteps.{IsPattern, IsShownAlong, column_cmp, col
 use Rattle.gtfs_board.specs.Timetable.{Run, Sheet, has_run_on, is_run_before, named_runs, row_at, run_cmp, runs_of, time_at, time_of_run}
 use Rattle.gtfs_board.specs.declared.sheet.columns.Column.{Column}
 use Rattle.gtfs_board.specs.merge.Order.{In, IsAscending, IsStrict}
-use Rattle.gtfs_board.proofs.CandidateKeys.{numbers}
 use Rattle.gtfs_board.proofs.Candidates.{strict_from_total}
-use Rattle.gtfs_board.proofs.EventFacts.{same_number, text_at, there_some, trip_back}
+use Rattle.gtfs_runs.proofs.TripIds.{numbers, text_at}
+use Rattle.gtfs_board.proofs.EventFacts.{same_number, there_some, trip_back}
 use Rattle.gtfs_board.proofs.LaneDays.{flat_map-in, in-flat_map, in-map, map-in}
 use Rattle.gtfs_board.proofs.Rests.{ascending-in_order, ascending-unique, filter-in, in-filter, in-in_order, in_order-in}
 use Rattle.gtfs_board.proofs.SheetLists.{ascending-mapped, counted-in, find-one, in-counted, map-agree, sorted-ascends}
@@ -300,34 +300,34 @@ module _ (p : Parts) (sound : IsSoundParts p) (d : ℤ) (ns : List TripNo) where
       (λ u member same. let k = known u member in one-trip p sound n k.0 t u at k.1 (text_is u.trip_id t.trip_id same))
 
 module _ (p : Parts) (sound : IsSoundParts p) (d : ℤ) (x : Pattern) (pattern : IsPattern p x) (cs : List Column)
-    (told : (c : Column) → tally (is_same_column c) cs ≡ tally (is_column_of p d c) x.trips.items) (sorted : IsSorted column_cmp cs) where
+    (told : (c : Column) → tally (is_same_column c) cs ≡ tally (is_column_of p d c) x.trips) (sorted : IsSorted column_cmp cs) where
   abbrev ts : List Trip
-  ts = running_at (content_of_parts p) d x.trips.items
+  ts = running_at (content_of_parts p) d x.trips
 
   once : (c : Column) → tally (is_same_column c) cs ≤ 1
-  once c = omega (arith, told c, tally-less (λ (n : TripNo). c.trip.0 == n.0) (is_run_on p d c) x.trips.items, pattern.once c.trip.0)
+  once c = omega (arith, told c, tally-less (λ (n : TripNo). c.trip.0 == n.0) (is_run_on p d c) x.trips, pattern.once c.trip.0)
 
   ascends : IsAscending is_column_before cs
   ascends = sorted-ascends columns_total is_same_column column_ties cs sorted once
 
-  column-is : (c : Column) → In c cs → IsColumn p d x.trips.items c
+  column-is : (c : Column) → In c cs → IsColumn p d x.trips c
   column-is c there =
       let f = content_of_parts p in
       let here = in-counted (is_same_column c) cs c there (same_itself c) in
-      let n = counted-in (is_column_of p d c) x.trips.items (omega (arith, here, told c)) in
+      let n = counted-in (is_column_of p d c) x.trips (omega (arith, here, told c)) in
       let both = and_parts (c.trip.0 == n.0.0) (is_run_on p d c) n.1.1 in
       let t = there_some (slice_get f.trips c.trip.0) (λ u. runs_on f u d && is_run u c.start) both.1 in
       let parts = and_parts (runs_on f t.0 d) (is_run t.0 c.start) t.1.1 in
       record { number = n.0; member = n.1.0; same = eqb-true c.trip.0 n.0.0 both.0; trip = t.0; at = t.1.0; runs = parts.0; run = parts.1 }
 
-  is-column : (n : TripNo) (t : Trip) (r : ℕ) → In n x.trips.items → slice_get (content_of_parts p).trips n.0 ≡ Some t → runs_on (content_of_parts p) t d ≡ true → is_run t r ≡ true
+  is-column : (n : TripNo) (t : Trip) (r : ℕ) → In n x.trips → slice_get (content_of_parts p).trips n.0 ≡ Some t → runs_on (content_of_parts p) t d ≡ true → is_run t r ≡ true
       → In (record { start = r; trip = n }) cs
   is-column n t r member at busy run =
       let f = content_of_parts p in
       let c : Column = record { start = r; trip = n } in
       let runs : is_run_on p d c ≡ true = ap (λ o. if_there o (λ u. runs_on f u d && is_run u r)) at ∙ and_from (runs_on f t d) (is_run t r) busy run in
       let passes : is_column_of p d c n ≡ true = and_from (n.0 == n.0) (is_run_on p d c) (eq-eqb n.0 n.0 refl) runs in
-      let some = in-counted (is_column_of p d c) x.trips.items n member passes in
+      let some = in-counted (is_column_of p d c) x.trips n member passes in
       let y = counted-in (is_same_column c) cs (omega (arith, some, told c)) in
       subst (λ z. In z cs) (sym (same_is c y.0 y.1.1)) y.1.0
 
@@ -337,7 +337,7 @@ module _ (p : Parts) (sound : IsSoundParts p) (d : ℤ) (x : Pattern) (pattern :
   to-columns q there =
       let by_trip = flat_map-in named_runs ts q there in
       let t = by_trip.0 in
-      let n = running-in p sound d x.trips.items t by_trip.1.0 in
+      let n = running-in p sound d x.trips t by_trip.1.0 in
       let r = map-in (λ r. (r, t.trip_id)) (runs t) q by_trip.1.1 in
       let both = and_parts (runs_on (content_of_parts p) t d) (not (length (runs t) == 0)) n.1.1.1 in
       let column = is-column n.0 t r.0 n.1.0 n.1.1.0 both.0 (runs-in t r.0 r.1.0) in
@@ -345,12 +345,12 @@ module _ (p : Parts) (sound : IsSoundParts p) (d : ℤ) (x : Pattern) (pattern :
       subst (λ z. In z (map (named_column p) cs)) named (in-map (named_column p) cs (record { start = r.0; trip = n.0 }) column)
 
   -- the trip of a column runs on the day
-  column-runs : (c : Column) → (k : IsColumn p d x.trips.items c) → In c.start (runs k.trip)
+  column-runs : (c : Column) → (k : IsColumn p d x.trips c) → In c.start (runs k.trip)
   column-runs c k = in-runs k.trip c.start k.run (early-run p sound c.trip.0 k.trip c.start k.at k.run)
 
-  column-trip : (c : Column) → (k : IsColumn p d x.trips.items c) → In k.trip ts
+  column-trip : (c : Column) → (k : IsColumn p d x.trips c) → In k.trip ts
   column-trip c k =
-      in-running p sound d x.trips.items k.number k.trip k.member (ap (slice_get (content_of_parts p).trips) (sym k.same) ∙ k.at)
+      in-running p sound d x.trips k.number k.trip k.member (ap (slice_get (content_of_parts p).trips) (sym k.same) ∙ k.at)
       (and_from (runs_on (content_of_parts p) k.trip d) (not (length (runs k.trip) == 0)) k.runs (some-run k.trip c.start (column-runs c k)))
 
   from-columns : (q : Run) → In q (map (named_column p) cs) → In q (flat_map named_runs ts)
@@ -379,14 +379,14 @@ module _ (p : Parts) (sound : IsSoundParts p) (d : ℤ) (x : Pattern) (pattern :
   -- ---- times
 
   known : (u : Trip) → In u ts → (m : ℕ) × (slice_get (content_of_parts p).trips m ≡ Some u)
-  known u there = let r = running-in p sound d x.trips.items u there in (r.0.0, r.1.1.0)
+  known u there = let r = running-in p sound d x.trips u there in (r.0.0, r.1.1.0)
 
   time-is : (i : ℕ) (c : Column) → In c cs → time_of_column (content_of_parts p) i c ≡ time_of_run ts i (named_column p c)
   time-is i c there =
       let k = column-is c there in
       let at_time = λ (t : Trip). option_and_then (time_at t c.start) (row_at t i) in
       let found : find (λ u. bytes_eq u.trip_id (text_of_number (trip_ids p) c.trip.0)) ts ≡ Some k.trip =
-      ap (λ id. find (λ u. bytes_eq u.trip_id id) ts) (trip-id p sound c.trip.0 k.trip k.at) ∙ found-trip p sound d x.trips.items ts c.trip.0 k.trip known k.at (column-trip c k) in
+      ap (λ id. find (λ u. bytes_eq u.trip_id id) ts) (trip-id p sound c.trip.0 k.trip k.at) ∙ found-trip p sound d x.trips ts c.trip.0 k.trip known k.at (column-trip c k) in
       ap (option_and_then at_time) k.at ∙ sym (ap (option_and_then at_time) found)
 
   row-of-times : (i : ℕ) → map (time_of_column (content_of_parts p) i) cs ≡ map (time_of_run ts i) (runs_of ts)
@@ -400,14 +400,14 @@ module _ (p : Parts) (sound : IsSoundParts p) (d : ℤ) (x : Pattern) (pattern :
   -- ---- the sheet
 
   sheet-same : (route : List ℕ) → sheet_of_columns p route d x cs ≡ sheet_along p route d x
-  sheet-same route = λ i. sheet_with p route d x (runs-are i) (times-are (length x.stops.items) i)
+  sheet-same route = λ i. sheet_with p route d x (runs-are i) (times-are (length x.stops) i)
 
   pub nothing-shown : (length cs == 0) ≡ true → (length ts == 0) ≡ true
   nothing-shown none = elim (cases_Bool (length ts == 0)) [
     | inl is ↦ is
     | inr some ↦
         let t = some-in ts some in
-        let n = running-in p sound d x.trips.items t.0 t.1 in
+        let n = running-in p sound d x.trips t.0 t.1 in
         let both = and_parts (runs_on (content_of_parts p) t.0 d) (not (length (runs t.0) == 0)) n.1.1.1 in
         let r = some-in (runs t.0) (not-true (length (runs t.0) == 0) both.1) in
         absurd (true≢false (sym none ∙ in-some cs _ (is-column n.0 t.0 r.0 n.1.0 n.1.1.0 both.0 (runs-in t.0 r.0 r.1))))
@@ -431,20 +431,20 @@ module _ (p : Parts) (sound : IsSoundParts p) (d : ℤ) (x : Pattern) (pattern :
   one-added route y old some is =
       ap (λ s. old ++ s ∷ []) (is ∙ sheet-same route) ∙ sym (ap (λ b. old ++ cond b [] (sheet_along p route d x ∷ [])) (something-shown some))
 
-  pub all-shown : All (IsShownAlong p (length x.stops.items)) cs
+  pub all-shown : All (IsShownAlong p (length x.stops)) cs
   all-shown = each cs (λ c there. there)
     where
-      fits : (c : Column) → In c cs → IsShownAlong p (length x.stops.items) c
+      fits : (c : Column) → In c cs → IsShownAlong p (length x.stops) c
       fits c there =
           let k = column-is c there in
-          let rows = all-in (λ n. map (λ row. row.stop_id) (rows_of p n.0) ≡ x.stops.items) x.trips.items pattern.along k.number k.member in
-          let long : length (rows_of p k.number.0) ≡ length x.stops.items = sym (length-map (rows_of p k.number.0) (λ row. row.stop_id)) ∙ ap length rows in
+          let rows = all-in (λ n. map (λ row. row.stop_id) (rows_of p n.0) ≡ x.stops) x.trips pattern.along k.number k.member in
+          let long : length (rows_of p k.number.0) ≡ length x.stops = sym (length-map (rows_of p k.number.0) (λ row. row.stop_id)) ∙ ap length rows in
           record {
             trip = trip-within p sound c.trip.0 k.trip k.at;
-            reaches = subst (λ m. length x.stops.items ≤ length (rows_of p m)) (sym k.same) (omega (arith, long));
+            reaches = subst (λ m. length x.stops ≤ length (rows_of p m)) (sym k.same) (omega (arith, long));
             early = early-run p sound c.trip.0 k.trip c.start k.at k.run;
           }
 
-      each : (ys : List Column) → ((c : Column) → In c ys → In c cs) → All (IsShownAlong p (length x.stops.items)) ys
-      each [] inside = All-nil (IsShownAlong p (length x.stops.items))
-      each (y ∷ ys) inside = All-cons (IsShownAlong p (length x.stops.items)) y ys (fits y (inside y (inl refl))) (each ys (λ c there. inside c (inr there)))
+      each : (ys : List Column) → ((c : Column) → In c ys → In c cs) → All (IsShownAlong p (length x.stops)) ys
+      each [] inside = All-nil (IsShownAlong p (length x.stops))
+      each (y ∷ ys) inside = All-cons (IsShownAlong p (length x.stops)) y ys (fits y (inside y (inl refl))) (each ys (λ c there. inside c (inr there)))

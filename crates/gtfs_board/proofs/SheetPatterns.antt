@@ -44,7 +44,7 @@ use Rattle.gtfs_board.specs.SheetSteps.{HasRow, IsPattern, stops_along}
 use Rattle.gtfs_board.specs.Timetable.{direction_rank, heading_cmp, is_heading_before}
 use Rattle.gtfs_board.specs.Timetable as timetable
 use Rattle.gtfs_board.specs.merge.Order.{In, IsAscending, IsStrict}
-use Rattle.gtfs_board.proofs.CandidateKeys.{numbers}
+use Rattle.gtfs_runs.proofs.TripIds.{numbers}
 use Rattle.gtfs_board.proofs.Candidates.{strict_from_total}
 use Rattle.gtfs_board.proofs.EventFacts.{at_in, in_at}
 use Rattle.gtfs_board.proofs.LaneDays.{flat_map-in, in-flat_map, in-map, in-range, in-right, map-in}
@@ -128,15 +128,15 @@ pairs-cross R (z ∷ xs) ys up x y in_x in_y = elim in_x [
   | inr later ↦ pairs-cross R xs ys (pairs-tail R z (xs ++ ys) up) x y later in_y
 ]
 
-some-trip : (x : Pattern) → is_filled x ≡ true → (k : TripNo) × In k x.trips.items
-some-trip x filled = some x.trips.items (not-true (length x.trips.items == 0) filled)
+some-trip : (x : Pattern) → is_filled x ≡ true → (k : TripNo) × In k x.trips
+some-trip x filled = some x.trips (not-true (length x.trips == 0) filled)
   where
     some : (xs : List TripNo) → (length xs == 0) ≡ false → (k : TripNo) × In k xs
     some [] none = absurd (true≢false none)
     some (k ∷ xs) none = (k, inl refl)
 
-entry-under : (x : Pattern) (k : TripNo) → In k x.trips.items → In (record { heading = heading_of x; trip = k }) (entries_under x)
-entry-under x k there = in-map (λ t. record { heading = heading_of x; trip = t }) x.trips.items k there
+entry-under : (x : Pattern) (k : TripNo) → In k x.trips → In (record { heading = heading_of x; trip = k }) (entries_under x)
+entry-under x k there = in-map (λ t. record { heading = heading_of x; trip = t }) x.trips k there
 
 rise : (xs : List Pattern) → AllPairs NotBelow (flat_map entries_under xs) → list_all is_filled xs ≡ true → are_apart (map heading_of xs) ≡ true → IsAscending is_pattern_before xs
 rise [] far filled apart = tt
@@ -153,7 +153,7 @@ rise (x ∷ y ∷ xs) far filled apart =
     let later : In g (flat_map entries_under (y ∷ xs)) = in-flat_map entries_under (y ∷ xs) y g (inl refl) (entry-under y b.0 b.1) in
     let up = pairs-cross NotBelow (entries_under x) (flat_map entries_under (y ∷ xs)) far e g (entry-under x a.0 a.1) later in
     let back : is_lt (number_cmp (heading_of y) (heading_of x)) ≡ false =
-    lt_front (option_cmp nat_cmp y.direction x.direction) (stops_cmp y.stops.items x.stops.items) (nat_cmp b.0.0 a.0.0) up in
+    lt_front (option_cmp nat_cmp y.direction x.direction) (stops_cmp y.stops x.stops) (nat_cmp b.0.0 a.0.0) up in
     let first : is_pattern_before x y ≡ true =
     below numbers_total (λ _ _. true) (λ _ _ _. refl) (number_cmp (heading_of x) (heading_of y)) (number_cmp (heading_of y) (heading_of x)) (numbers_total.antisymm (heading_of y) (heading_of x)) back
     (λ tie. true≢false (sym (heading_itself (heading_of x)) ∙ ap (is_same_heading (heading_of x)) (number_exact (heading_of x) (heading_of y) tie)
@@ -192,7 +192,7 @@ module _ (p : Parts) (sound : IsSoundParts p) where
       ids-within n within = omega (arith, within, length-map p.stops (λ s. s.stop_id))
 
   pub headings-compare : (x y : Pattern) → IsPattern p x → IsPattern p y → heading_cmp (heading_along p x) (heading_along p y) ≡ number_cmp (heading_of x) (heading_of y)
-  headings-compare x y a b = λ i. ordering_then (directions x.direction y.direction i) (stops-compare x.stops.items y.stops.items a.stops b.stops i)
+  headings-compare x y a b = λ i. ordering_then (directions x.direction y.direction i) (stops-compare x.stops y.stops a.stops b.stops i)
 
   -- a trip of a pattern has the pattern's heading
   pub heading-is : (x : Pattern) (m : ℕ) (t : Trip) → slice_get (content_of_parts p).trips m ≡ Some t → heading_of x ≡ (entry_of p m).heading → heading_along p x ≡ timetable.heading_of t
@@ -243,7 +243,7 @@ module _ (p : Parts) (sound : IsSoundParts p) (route : ℕ) (xs : List Pattern) 
       are.groups.filled are.groups.apart
 
   -- a trip of a pattern is one of the route, under the pattern's heading
-  pub trip-of-pattern : (x : Pattern) (k : TripNo) → In x xs → In k x.trips.items
+  pub trip-of-pattern : (x : Pattern) (k : TripNo) → In x xs → In k x.trips
       → (k.0 < length p.trips) × ((is_of_route p route k.0 ≡ true) × (heading_of x ≡ (entry_of p k.0).heading))
   trip-of-pattern x k in_x in_k =
       let e : Entry = record { heading = heading_of x; trip = k } in
@@ -261,20 +261,20 @@ module _ (p : Parts) (sound : IsSoundParts p) (route : ℕ) (xs : List Pattern) 
 
   -- each trip of the route that has a stop row is in a pattern
   pub pattern-of-trip : (m : ℕ) → m < length p.trips → is_of_route p route m ≡ true
-      → (x : Pattern) × (In x xs × (In (record { 0 = m }) x.trips.items × (heading_of x ≡ (entry_of p m).heading)))
+      → (x : Pattern) × (In x xs × (In (record { 0 = m }) x.trips × (heading_of x ≡ (entry_of p m).heading)))
   pattern-of-trip m within is =
       let listed = in-map (entry_of p) (filter (is_of_route p route) (range_with_len 0 (length p.trips))) m
       (in-filter (is_of_route p route) (range_with_len 0 (length p.trips)) m (in-range 0 (length p.trips) m (omega arith) (omega (arith, within))) is) in
       let there = permuted (entries_of p route) (flat_map entries_under xs) are.each_once (entry_of p m) listed in
       let x = flat_map-in entries_under xs (entry_of p m) there in
-      let k = map-in (λ t. record { heading = heading_of x.0; trip = t }) x.0.trips.items (entry_of p m) x.1.1 in
+      let k = map-in (λ t. record { heading = heading_of x.0; trip = t }) x.0.trips (entry_of p m) x.1.1 in
       let number : k.0 ≡ record { 0 = m } = sym (ap (λ (g : Entry). g.trip) k.1.1) in
-      (x.0, (x.1.0, (subst (λ n. In n x.0.trips.items) number k.1.0, sym (ap (λ (g : Entry). g.heading) k.1.1))))
+      (x.0, (x.1.0, (subst (λ n. In n x.0.trips) number k.1.0, sym (ap (λ (g : Entry). g.heading) k.1.1))))
 
-  once : (x : Pattern) → In x xs → (m : ℕ) → tally (λ n. m == n.0) x.trips.items ≤ 1
+  once : (x : Pattern) → In x xs → (m : ℕ) → tally (λ n. m == n.0) x.trips ≤ 1
   once x there m =
       let q : Entry → Bool = λ e. m == e.trip.0 in
-      let own : tally q (entries_under x) ≡ tally (λ n. m == n.0) x.trips.items = tally-mapped q (λ t. record { heading = heading_of x; trip = t }) x.trips.items in
+      let own : tally q (entries_under x) ≡ tally (λ n. m == n.0) x.trips = tally-mapped q (λ t. record { heading = heading_of x; trip = t }) x.trips in
       let part = tally-part q entries_under xs x there in
       let all = tally-permuted q (entries_of p route) (flat_map entries_under xs) are.each_once in
       let each = tally-mapped q (entry_of p) (filter (is_of_route p route) (range_with_len 0 (length p.trips))) in
@@ -290,8 +290,8 @@ module _ (p : Parts) (sound : IsSoundParts p) (route : ℕ) (xs : List Pattern) 
       record {
         stops = subst (All (λ s. s.0 < length p.stops)) (sym (ap (λ (h : Heading). h.stops) t.1.1))
             (All-map (λ s. s.0 < length p.stops) (λ row. row.stop_id) (rows_of p k.0.0) (stop_times p sound k.0.0 (rows_of p k.0.0) rows).stops);
-        trips = all-from (HasRow p) x.trips.items (λ n member. let u = trip-of-pattern x n there member in (u.0, some-rows n.0 u.1.0));
-        along = all-from (λ n. map (λ row. row.stop_id) (rows_of p n.0) ≡ x.stops.items) x.trips.items
+        trips = all-from (HasRow p) x.trips (λ n member. let u = trip-of-pattern x n there member in (u.0, some-rows n.0 u.1.0));
+        along = all-from (λ n. map (λ row. row.stop_id) (rows_of p n.0) ≡ x.stops) x.trips
             (λ n member. let u = trip-of-pattern x n there member in sym (ap (λ (h : Heading). h.stops) u.1.1));
         once = once x there;
       }

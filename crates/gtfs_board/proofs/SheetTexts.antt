@@ -72,50 +72,50 @@ field-at f xs n d old start mid new within so_far more =
     more ∙ ap (λ t. t ++ f (get_or xs n d)) so_far ∙ append_assoc old (start ++ flat_map f (take n xs)) (f (get_or xs n d))
     ∙ ap (λ t. old ++ t) (append_assoc start (flat_map f (take n xs)) (f (get_or xs n d))) ∙ ap (λ t. old ++ (start ++ t)) taken
 
-module _ {A T : Type 0} (f : A → List ℕ) (g : T → List (Option ℕ)) where
-  length-zipped : (xs : List A) (ys : List T) (n : ℕ) → n < length xs → n < length ys → n < length (zip (map f xs) (map g ys))
+module _ {A : Type 0} (f : A → List ℕ) where
+  length-zipped : (xs : List A) (ys : List (List (Option ℕ))) (n : ℕ) → n < length xs → n < length ys → n < length (zip (map f xs) ys)
   length-zipped [] ys n in_first in_second = absurd (omega arith)
   length-zipped (x ∷ xs) [] n in_first in_second = absurd (omega arith)
   length-zipped (x ∷ xs) (y ∷ ys) zero in_first in_second = omega arith
   length-zipped (x ∷ xs) (y ∷ ys) (suc n) in_first in_second = omega (arith, length-zipped xs ys n (omega arith) (omega arith))
 
-  taken-zipped : (xs : List A) (ys : List T) (n : ℕ) → min (length xs) (length ys) ≤ n → length (zip (map f xs) (map g ys)) ≤ n
+  taken-zipped : (xs : List A) (ys : List (List (Option ℕ))) (n : ℕ) → min (length xs) (length ys) ≤ n → length (zip (map f xs) ys) ≤ n
   taken-zipped [] ys n past = omega arith
   taken-zipped (x ∷ xs) [] n past = omega arith
   taken-zipped (x ∷ xs) (y ∷ ys) zero past = absurd (omega arith)
   taken-zipped (x ∷ xs) (y ∷ ys) (suc n) past = omega (arith, taken-zipped xs ys n (omega arith))
 
-  zipped-at : (xs : List A) (ys : List T) (n : ℕ) (d : A) (e : T) (z : List ℕ × List (Option ℕ)) → n < length xs → n < length ys
-      → (f (get_or xs n d), g (get_or ys n e)) ≡ get_or (zip (map f xs) (map g ys)) n z
+  zipped-at : (xs : List A) (ys : List (List (Option ℕ))) (n : ℕ) (d : A) (e : List (Option ℕ)) (z : List ℕ × List (Option ℕ)) → n < length xs → n < length ys
+      → (f (get_or xs n d), get_or ys n e) ≡ get_or (zip (map f xs) ys) n z
   zipped-at [] ys n d e z in_first in_second = absurd (omega arith)
   zipped-at (x ∷ xs) [] n d e z in_first in_second = absurd (omega arith)
   zipped-at (x ∷ xs) (y ∷ ys) zero d e z in_first in_second = refl
   zipped-at (x ∷ xs) (y ∷ ys) (suc n) d e z in_first in_second = zipped-at xs ys n d e z (omega arith) (omega arith)
 
-  line-more : (stops : List A) (times : List T) (n : ℕ) (d : A) (t : T) (old mid new : List ℕ) → n < min (length stops) (length times) → t ≡ get_or times n t
-      → mid ≡ old ++ flat_map stop_text (take n (zip (map f stops) (map g times))) → new ≡ mid ++ stop_text (f (get_or stops n d), g t)
-      → new ≡ old ++ flat_map stop_text (take (n + 1) (zip (map f stops) (map g times)))
+  line-more : (stops : List A) (times : List (List (Option ℕ))) (n : ℕ) (d : A) (t : List (Option ℕ)) (old mid new : List ℕ) → n < min (length stops) (length times) → t ≡ get_or times n t
+      → mid ≡ old ++ flat_map stop_text (take n (zip (map f stops) times)) → new ≡ mid ++ stop_text (f (get_or stops n d), t)
+      → new ≡ old ++ flat_map stop_text (take (n + 1) (zip (map f stops) times))
   line-more stops times n d t old mid new within item so_far more =
-      let z : List ℕ × List (Option ℕ) = (f (get_or stops n d), g t) in
-      let lines = zip (map f stops) (map g times) in
-      let same : z ≡ get_or lines n z = (λ i. (f (get_or stops n d), g (item i))) ∙ zipped-at stops times n d t z (omega arith) (omega arith) in
+      let z : List ℕ × List (Option ℕ) = (f (get_or stops n d), t) in
+      let lines = zip (map f stops) times in
+      let same : z ≡ get_or lines n z = (λ i. (f (get_or stops n d), item i)) ∙ zipped-at stops times n d t z (omega arith) (omega arith) in
       field-more stop_text lines n z old [] mid new (length-zipped stops times n (omega arith) (omega arith)) same so_far more
 
-  pub lines-more : (stops ss : List A) (times ts : List T) (n count : ℕ) (d : A) (t : T) (cells : List (Option ℕ)) (old mid new : List ℕ)
-      → n < count → count ≡ min (length ss) (length ts) → ss ≡ stops → ts ≡ times → t ≡ get_or ts n t → cells ≡ g t
-      → mid ≡ old ++ flat_map stop_text (take n (zip (map f stops) (map g times))) → new ≡ mid ++ stop_text (f (get_or ss n d), cells)
-      → new ≡ old ++ flat_map stop_text (take (n + 1) (zip (map f stops) (map g times)))
+  pub lines-more : (stops ss : List A) (times ts : List (List (Option ℕ))) (n count : ℕ) (d : A) (t : List (Option ℕ)) (cells : List (Option ℕ)) (old mid new : List ℕ)
+      → n < count → count ≡ min (length ss) (length ts) → ss ≡ stops → ts ≡ times → t ≡ get_or ts n t → cells ≡ t
+      → mid ≡ old ++ flat_map stop_text (take n (zip (map f stops) times)) → new ≡ mid ++ stop_text (f (get_or ss n d), cells)
+      → new ≡ old ++ flat_map stop_text (take (n + 1) (zip (map f stops) times))
   lines-more stops ss times ts n count d t cells old mid new before count-is stops-are times-are item cells-are so_far more =
       let same-count : count ≡ min (length stops) (length times) = count-is ∙ (λ i. min (length (stops-are i)) (length (times-are i))) in
       line-more stops times n d t old mid new (omega (arith, same-count)) (item ∙ ap (λ us. get_or us n t) times-are) so_far
       (more ∙ (λ i. mid ++ stop_text (f (get_or (stops-are i) n d), cells-are i)))
 
-  pub lines-all : (stops ss : List A) (times ts : List T) (n count : ℕ) (old new : List ℕ)
+  pub lines-all : (stops ss : List A) (times ts : List (List (Option ℕ))) (n count : ℕ) (old new : List ℕ)
       → count ≤ n → count ≡ min (length ss) (length ts) → ss ≡ stops → ts ≡ times
-      → new ≡ old ++ flat_map stop_text (take n (zip (map f stops) (map g times))) → new ≡ old ++ flat_map stop_text (zip (map f stops) (map g times))
+      → new ≡ old ++ flat_map stop_text (take n (zip (map f stops) times)) → new ≡ old ++ flat_map stop_text (zip (map f stops) times)
   lines-all stops ss times ts n count old new past count-is stops-are times-are so_far =
       let same-count : count ≡ min (length stops) (length times) = count-is ∙ (λ i. min (length (stops-are i)) (length (times-are i))) in
-      so_far ∙ ap (λ ls. old ++ flat_map stop_text ls) (take_all n (zip (map f stops) (map g times)) (taken-zipped stops times n (omega (arith, same-count))))
+      so_far ∙ ap (λ ls. old ++ flat_map stop_text ls) (take_all n (zip (map f stops) times) (taken-zipped stops times n (omega (arith, same-count))))
 
 -- ---- the whole text
 

@@ -36,8 +36,8 @@ use Rattle.gtfs_board.specs.declared.sheet.TableFault.{TableFault}
 use Rattle.gtfs_board.specs.declared.sheet.TableFault.TheVariants.{UnknownRoute}
 use Rattle.gtfs_board.specs.merge.Order.{In, IsStrict}
 use Rattle.gtfs_board.proofs.Candidates.{strict_from_total}
-use Rattle.gtfs_board.proofs.EventFacts.{any_at, at_in, in_at, map_at, same_number, text_at}
-use Rattle.gtfs_board.proofs.Floors.{position_at, position_none}
+use Rattle.gtfs_runs.proofs.TripIds.{position_at, position_none, text_at}
+use Rattle.gtfs_board.proofs.EventFacts.{any_at, at_in, in_at, map_at, same_number}
 use Rattle.gtfs_board.proofs.LaneDays.{flat_map-in, in-flat_map, in-map, map-in}
 use Rattle.gtfs_board.proofs.Rests.{ascending-in_order, ascending-unique, filter-in, in-filter, in-in_order, in_order-in}
 use Rattle.gtfs_board.proofs.SheetColumns.{found-trip, in-running, running-in, runs_strict, trip-of, trip-within}
@@ -85,7 +85,7 @@ module _ (p : Parts) (sound : IsSoundParts p) (n : ℕ) (within : n < length p.r
   trips = running (content_of_parts p) id direction d
 
   abbrev trips_along : Pattern → List Trip
-  trips_along x = running_at (content_of_parts p) d x.trips.items
+  trips_along x = running_at (content_of_parts p) d x.trips
 
   abbrev is_kept : Pattern → Bool
   is_kept x = goes direction x && not (is_idle p d x)
@@ -153,7 +153,7 @@ module _ (p : Parts) (sound : IsSoundParts p) (n : ℕ) (within : n < length p.r
       record {
         pattern = x.0;
         there = x.1.0;
-        member = in-running p sound d x.0.trips.items (record { 0 = is.number }) t x.1.1.0 is.at is.runs;
+        member = in-running p sound d x.0.trips (record { 0 = is.number }) t x.1.1.0 is.at is.runs;
         heading = heading;
         goes_so = goes-wants direction x.0 t (ap (λ h. h.0) heading) ∙ is.wanted;
       }
@@ -165,7 +165,7 @@ module _ (p : Parts) (sound : IsSoundParts p) (n : ℕ) (within : n < length p.r
 
   running-along : (x : Pattern) → In x xs → (t : Trip) → In t (trips_along x) → IsRunning x t
   running-along x in_x t there =
-      let k = running-in p sound d x.trips.items t there in
+      let k = running-in p sound d x.trips t there in
       let of = trip-of-pattern p sound n xs are x k.0 in_x k.1.0 in
       let heading = heading-is p sound x k.0.0 t k.1.1.0 of.1.1 in
       let r = trip-of p k.0.0 t k.1.1.0 in
@@ -251,7 +251,7 @@ module _ (p : Parts) (sound : IsSoundParts p) (n : ℕ) (within : n < length p.r
   timed-known t there = let is = timed-in t there in (is.number, is.at)
 
   along-known : (x : Pattern) (t : Trip) → In t (trips_along x) → (m : ℕ) × (slice_get (content_of_parts p).trips m ≡ Some t)
-  along-known x t there = let k = running-in p sound d x.trips.items t there in (k.0.0, k.1.1.0)
+  along-known x t there = let k = running-in p sound d x.trips t there in (k.0.0, k.1.1.0)
 
   time-same : (x : Pattern) → In x xs → goes direction x ≡ true → (i : ℕ) (q : Run) → In q (runs_of (trips_along x)) → time_of_run trips i q ≡ time_of_run (trips_along x) i q
   time-same x in_x way i q there =
@@ -259,8 +259,8 @@ module _ (p : Parts) (sound : IsSoundParts p) (n : ℕ) (within : n < length p.r
       let t = r.0 in
       let named = map-in (λ s. (s, t.trip_id)) (runs t) q r.1.1 in
       let k = along-known x t r.1.0 in
-      let all = found-trip p sound d x.trips.items trips k.0 t timed-known k.1 ((running-along x in_x t r.1.0).timed way) in
-      let own = found-trip p sound d x.trips.items (trips_along x) k.0 t (along-known x) k.1 r.1.0 in
+      let all = found-trip p sound d x.trips trips k.0 t timed-known k.1 ((running-along x in_x t r.1.0).timed way) in
+      let own = found-trip p sound d x.trips (trips_along x) k.0 t (along-known x) k.1 r.1.0 in
       let time = λ (u : Trip). option_and_then (time_at u q.0) (row_at u i) in
       let by_id = λ (ts : List Trip). ap (λ name. option_and_then time (find (λ u. bytes_eq u.trip_id name) ts)) (ap (λ z. z.1) named.1.1) in
       by_id trips ∙ ap (option_and_then time) (all ∙ sym own) ∙ sym (by_id (trips_along x))
@@ -270,7 +270,7 @@ module _ (p : Parts) (sound : IsSoundParts p) (n : ℕ) (within : n < length p.r
       let k = kept-in x there in
       let direction_is = rank_back x.direction in
       let runs_are = runs-same x k.0 k.1.0 in
-      let stop_count : length (heading_along p x).1 ≡ length x.stops.items = length-map x.stops.items (λ s. text_of_number (stop_ids p) s.0) in
+      let stop_count : length (heading_along p x).1 ≡ length x.stops = length-map x.stops (λ s. text_of_number (stop_ids p) s.0) in
       let rows : (i : ℕ) → map (time_of_run trips i) (runs_under (heading_along p x) trips) ≡ map (time_of_run (trips_along x) i) (runs_of (trips_along x)) =
       λ i. ap (map (time_of_run trips i)) runs_are ∙ map-agree (time_of_run trips i) (time_of_run (trips_along x) i) (runs_of (trips_along x)) (time-same x k.0 k.1.0 i) in
       let times : (sheet_under id d trips (heading_along p x)).times ≡ (sheet_along p id d x).times =

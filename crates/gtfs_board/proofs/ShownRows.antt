@@ -21,7 +21,7 @@ use Rattle.gtfs_board.specs.Lines.{Listed}
 use Rattle.gtfs_board.specs.Showing.{key_in, listed_in, trip_in}
 use Rattle.gtfs_board.specs.Shown.{mark_if, name_of, route_name, shown_at}
 use Rattle.gtfs_board.specs.declared.merge.candidate.Candidate.{Candidate}
-use Rattle.gtfs_board.proofs.EventFacts.{text_at}
+use Rattle.gtfs_runs.proofs.TripIds.{text_at}
 use Rattle.gtfs_board.proofs.Opened.{found_id, listed_at}
 
 module _ (p : Parts) (sound : IsSoundParts p) where

@@ -33,7 +33,8 @@ use Rattle.gtfs_board.specs.LaneDays.{all_departures, departing, lane_at, serves
 use Rattle.gtfs_board.specs.declared.merge.candidate.Candidate.{Candidate}
 use Rattle.gtfs_board.specs.merge.Order.{In}
 use Rattle.gtfs_board.proofs.BoardKeys.{StandFor}
-use Rattle.gtfs_board.proofs.EventFacts.{IsPassing, any_at, event_lane, lane_event, lane_one, map_at, of_passing, passing, same_number, same_row, service_within, text_at, there_some, trip_back}
+use Rattle.gtfs_runs.proofs.TripIds.{text_at}
+use Rattle.gtfs_board.proofs.EventFacts.{IsPassing, any_at, event_lane, lane_event, lane_one, map_at, of_passing, passing, same_number, same_row, service_within, there_some, trip_back}
 use Rattle.gtfs_board.proofs.LaneDays.{all-on, event-on, on-all, on-event}
 
 -- ---- a departure by its parts

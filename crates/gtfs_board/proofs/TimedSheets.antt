@@ -162,9 +162,9 @@ module _ (choice : Times) (p : Parts) (sound : IsSoundParts p) where
   pub pattern-timed : (x : Pattern) → IsPattern p x → IsPattern q x
   pattern-timed x is = record {
     stops = is.stops;
-    trips = λ k d within. let known = is.trips k d within in (known.0, omega (arith, known.1, as-many choice p sound (get_or x.trips.items k d).0));
+    trips = λ k d within. let known = is.trips k d within in (known.0, omega (arith, known.1, as-many choice p sound (get_or x.trips k d).0));
     along = λ k d within.
-        let n = (get_or x.trips.items k d).0 in
+        let n = (get_or x.trips k d).0 in
         ap (map (λ row. row.stop_id)) (rows-timed choice p sound n) ∙ stops-same choice (rows_of p n) ∙ is.along k d within;
     once = is.once;
   }

@@ -8,7 +8,7 @@ use Rattle.gtfs_board.specs.declared.departure.Departure.{Departure}
 use Rattle.gtfs_board.specs.declared.key.Key.{Key as LentKey}
 
 abbrev pub plain_key : LentKey → Key
-plain_key k = record { instant = k.instant; trip = k.trip.now; run = k.run; sequence = k.sequence; day = k.day }
+plain_key k = record { instant = k.instant; trip = k.trip.now; run = k.run; sequence = k.seq; day = k.day }
 
 abbrev pub listed : Departure → Listed
 listed d = record { key = plain_key d.key; stop = d.stop.now; route = d.route.now; headsign = d.headsign.now; mark = d.mark }

@@ -8,7 +8,7 @@ plain_sheet s = record {
   route = s.route.now;
   direction = s.direction;
   day = s.day;
-  stops = map (λ stop. stop.now) s.stops.items;
-  runs = map (λ run. (run.0, run.1.now)) s.runs.items;
-  times = map (λ times. times.items) s.times.items;
+  stops = map (λ stop. stop.now) s.stops;
+  runs = map (λ run. (run.0, run.1.now)) s.runs;
+  times = s.times;
 }

@@ -78,17 +78,17 @@ goes (Some d) x = direction_rank x.direction == d + 1
 
 -- a pattern of the parts: its trips have its stops, and each stands once
 pub record IsPattern (p : Parts) (x : Pattern) : Type 0 where
-  pub stops : All (λ s. s.0 < length p.stops) x.stops.items
-  pub trips : All (HasRow p) x.trips.items
-  pub along : All (λ n. map (λ row. row.stop_id) (rows_of p n.0) ≡ x.stops.items) x.trips.items
-  pub once : (m : ℕ) → tally (λ n. m == n.0) x.trips.items ≤ 1
+  pub stops : All (λ s. s.0 < length p.stops) x.stops
+  pub trips : All (HasRow p) x.trips
+  pub along : All (λ n. map (λ row. row.stop_id) (rows_of p n.0) ≡ x.stops) x.trips
+  pub once : (m : ℕ) → tally (λ n. m == n.0) x.trips ≤ 1
 
 -- the trips of these numbers that have a run on the day
 abbrev pub running_at : Content → ℤ → List TripNo → List Trip
 running_at f d ns = filter (has_run_on f d) (filter_map (λ n. slice_get f.trips n.0) ns)
 
 abbrev pub stops_along : Parts → Pattern → List (List ℕ)
-stops_along p x = map (λ s. text_of_number (stop_ids p) s.0) x.stops.items
+stops_along p x = map (λ s. text_of_number (stop_ids p) s.0) x.stops
 
 -- a sheet of a pattern with these runs and times
 abbrev pub sheet_with : Parts → List ℕ → ℤ → Pattern → List Run → List (List (Option ℕ)) → Sheet
@@ -103,18 +103,18 @@ sheet_with p route d x runs times = record {
 
 abbrev pub sheet_of_columns : Parts → List ℕ → ℤ → Pattern → List Column → Sheet
 sheet_of_columns p route d x cs =
-    sheet_with p route d x (map (named_column p) cs) (column_times (content_of_parts p) (length x.stops.items) cs)
+    sheet_with p route d x (map (named_column p) cs) (column_times (content_of_parts p) (length x.stops) cs)
 
 abbrev pub sheet_of_trips : Parts → List ℕ → ℤ → Pattern → List Trip → Sheet
 sheet_of_trips p route d x ts =
-    sheet_with p route d x (runs_of ts) (map (λ i. map (time_of_run ts i) (runs_of ts)) (range_with_len 0 (length x.stops.items)))
+    sheet_with p route d x (runs_of ts) (map (λ i. map (time_of_run ts i) (runs_of ts)) (range_with_len 0 (length x.stops)))
 
 -- the sheet of a pattern, if one of its trips has a run on the day
 abbrev pub is_idle : Parts → ℤ → Pattern → Bool
-is_idle p d x = length (running_at (content_of_parts p) d x.trips.items) == 0
+is_idle p d x = length (running_at (content_of_parts p) d x.trips) == 0
 
 abbrev pub sheet_along : Parts → List ℕ → ℤ → Pattern → Sheet
-sheet_along p route d x = sheet_of_trips p route d x (running_at (content_of_parts p) d x.trips.items)
+sheet_along p route d x = sheet_of_trips p route d x (running_at (content_of_parts p) d x.trips)
 
 abbrev pub sheets_along : Parts → List ℕ → ℤ → Pattern → List Sheet
 sheets_along p route d x = cond (is_idle p d x) [] (sheet_along p route d x ∷ [])

@@ -1,11 +1,9 @@
 //! Above which candidates a board begins.
-ghost use Rattle.std.specs.Prelude.{◌≡◌, ◌<◌, ◌≤◌, ◌⊎◌, ◌≤ℤ◌, ◌<ℤ◌, ℕ, length, nat_lt, option_map, Some};
+ghost use Rattle.std.specs.Prelude.{◌≡◌, ◌≤◌, ◌⊎◌, ◌≤ℤ◌, ◌<ℤ◌, option_map, Some};
 ghost use Rattle.std.specs.Int.{int_max};
 ghost use Rattle.std.specs.Ordering.{is_lt, ordering_then, int_cmp, nat_cmp};
 ghost use Rattle.std.specs.declared.cmp.Ordering.TheVariants.{Less};
 ghost use Rattle.gtfs_days.specs.Service.{first_service_day};
-ghost use Rattle.gtfs_rows.specs.Views.{text_of_number, trip_ids};
-ghost use Rattle.gtfs_field.specs.TextOrder.{text_cmp};
 ghost use Rattle.gtfs_board.specs.Board.{start_of};
 ghost use Rattle.gtfs_board.specs.Floors.{IsNumbered, is_from};
 ghost use Rattle.gtfs_rows.specs.Key.{key_cmp};
@@ -16,7 +14,7 @@ ghost use Rattle.gtfs_board.specs.merge.Candidates.{candidate_lt};
 
 use crate::key::Key;
 use crate::merge::Candidate;
-use gtfs_runs::Feed;
+use gtfs_runs::{Feed, trips_below};
 
 // The floor of a board from an instant on, above a key if there is one. It belongs to none of so many lanes,
 // or to a day before all service days.
@@ -61,7 +59,7 @@ fn floor_after(feed: &Feed, lanes: usize, key: &Key<'_>) -> Candidate
             lane: lanes,
             row: 0,
             run: key.run,
-            sequence: key.sequence,
+            sequence: key.seq,
             day: key.day.number(),
             at: 0,
         },
@@ -87,14 +85,4 @@ fn floor_before(instant: i64, trip: usize) -> Candidate
         day: i32::MIN,
         at: 0,
     }
-}
-
-// How many trips have an id below this one, byte by byte.
-fn trips_below(feed: &Feed, id: &str) -> usize
-    ensures { (n : ℕ) → n < length feed.now.trips
-        → nat_lt n result ≡ is_lt (text_cmp (text_of_number (trip_ids feed.now) n) id.now) }
-{
-    feed.soundness();
-    let trips = feed.parts().trips.as_slice();
-    trips.partition_point(|trip| trip.trip_id.as_str() < id)
 }

@@ -29,7 +29,7 @@ pub struct Key<'a> {
     /// The second of the service day at which the trip's run starts.
     pub run: u32,
     /// `stop_sequence` of the row of stop_times.txt.
-    pub sequence: u32,
+    pub seq: u32,
     /// The service day, which is not always the date on the clock.
     pub day: Day,
 }
@@ -48,7 +48,7 @@ impl Ord for Key<'_> {
             .cmp(&other.instant)
             .then(self.trip.cmp(other.trip))
             .then(self.run.cmp(&other.run))
-            .then(self.sequence.cmp(&other.sequence))
+            .then(self.seq.cmp(&other.seq))
             .then(self.day.cmp(&other.day))
     }
 }

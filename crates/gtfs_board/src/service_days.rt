@@ -15,8 +15,8 @@ use crate::service_days::any_lane::AnyLane;
 use gtfs_days::{FIRST_SERVICE_DAY, LAST_SERVICE_DAY, Service, Zone};
 use gtfs_field::Day;
 use gtfs_rows::TripNo;
-use gtfs_runs::{Event, Feed, Seek, Steps, StopLanes};
-use seeking::seek_from;
+use gtfs_runs::{Event, Feed, Moment, Steps, StopLanes};
+use seeking::moment_from;
 use std::alloc::{AllocError, Global};
 
 // The departures of the lanes of a stop on each service day, up to an instant.
@@ -88,12 +88,12 @@ impl<'a> Days<'a> {
     }
 
     // The first event of a lane above a position.
-    fn first_after(&self, lane: usize, seek: &Seek, steps: &mut Steps) -> Option<Event>
+    fn first_above(&self, lane: usize, moment: &Moment, steps: &mut Steps) -> Option<Event>
         requires { lane < length (lanes_of self.now.lanes) }
-        ensures first { result ≡ find (is_above seek.now) (lane_at self.now.lanes lane).events }
+        ensures first { result ≡ find (is_above moment.now) (lane_at self.now.lanes lane).events }
         ensures steps { steps.new ≤ steps.old + 1 }
     {
-        self.lane(lane).first_after(self.feed, seek, steps)
+        self.lane(lane).first_above(self.feed, moment, steps)
     }
 
     // The first event of a lane above another.
@@ -156,8 +156,8 @@ impl<'a> Days<'a> {
             (zone_origin self.now.zone.now) self.now.lanes self.now.end lane day) }
         ensures steps { steps.new ≤ steps.old + 1 }
     {
-        let seek = seek_from(floor, origin, day);
-        match self.first_after(lane, &seek, steps) {
+        let moment = moment_from(floor, origin, day);
+        match self.first_above(lane, &moment, steps) {
             Some(event) => self.by_end(departing(origin, day, lane, event)),
             None => None,
         }

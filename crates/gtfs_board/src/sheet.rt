@@ -6,7 +6,7 @@ mod text;
 mod times;
 mod turning;
 
-use gtfs_field::{Clock, Day, OutOfMemory};
+use gtfs_field::{Clock, Day, List, OutOfMemory};
 pub use table::timetable;
 pub use text::push_sheet;
 use thiserror::Error;
@@ -43,11 +43,11 @@ pub struct Sheet<'a> {
     /// The service day, which is not always the date on a clock.
     pub day: Day,
     /// `stop_id` of each stop time, by sequence.
-    pub stops: Vec<&'a str>,
+    pub stops: List<&'a str>,
     /// The runs, each the second of the service day at which it starts and the `trip_id` of its trip: by their start, and
     /// runs of one start by the bytes of the id.
-    pub runs: Vec<(u32, &'a str)>,
+    pub runs: List<(u32, &'a str)>,
     /// For each stop the time of each run, None where the stop time has neither an arrival nor a departure and gets no time
     /// between.
-    pub times: Vec<Vec<Option<Clock>>>,
+    pub times: List<List<Option<Clock>>>,
 }

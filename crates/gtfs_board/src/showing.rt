@@ -47,7 +47,7 @@ fn key_of<'a>(feed: &'a Feed, candidate: &Candidate) -> Key<'a>
         instant: candidate.instant,
         trip: trip_id(feed, TripNo(candidate.trip)),
         run: candidate.run,
-        sequence: candidate.sequence,
+        seq: candidate.sequence,
         day: Day::from_number(candidate.day),
     }
 }

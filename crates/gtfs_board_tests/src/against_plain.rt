@@ -58,13 +58,13 @@ fn assert_above(
     rt: &impl Abort,
     alloc: Global,
     opening: &Opening<'_>,
-    (plain, trip, sequence): (&PlainKey, &str, u32),
+    (plain, trip, seq): (&PlainKey, &str, u32),
 ) -> Result<(), Fail> {
     let key = Key {
         instant: plain.instant,
         trip,
         run: plain.run,
-        sequence,
+        seq,
         day: plain.day,
     };
     opening.assert_plain_above(rt, alloc, &key)

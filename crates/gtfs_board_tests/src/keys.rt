@@ -17,7 +17,7 @@ fn a_key_is_cut_at_its_first_slash_and_its_last_three(rt: HostRuntime) {
             assert_is(&rt, key.instant, 1_711_837_800, "instant");
             assert_is(&rt, key.trip, "A/1/2", "trip");
             assert_is(&rt, key.run, 1_800, "run");
-            assert_is(&rt, key.sequence, 5, "sequence");
+            assert_is(&rt, key.seq, 5, "seq");
             // 2024-03-31
             assert_is(&rt, key.day, Day::from_number(19_813), "day");
         }
@@ -58,7 +58,7 @@ fn a_key_that_does_not_read_back_is_written_as_it_is(rt: HostRuntime) -> Result<
         instant: i64::MIN,
         trip: "",
         run: u32::MAX,
-        sequence: u32::MAX,
+        seq: u32::MAX,
         // 1970-01-01
         day: Day::from_number(0),
     };
@@ -228,7 +228,7 @@ fn assert_listed_above(
             instant: *instant,
             trip,
             run: *run,
-            sequence: *sequence,
+            seq: *sequence,
             // 2024-04-01
             day: Day::from_number(19_814),
         };

@@ -3,7 +3,7 @@
 use crate::assertions::{assert_is, assert_text};
 use gtfs_board::{Departure, Key, Mark, Sheet, push_line, push_sheet};
 use gtfs_days::Zone;
-use gtfs_field::{Clock, Day};
+use gtfs_field::{Clock, Day, List};
 use gtfs_fixtures::Clocks;
 use std::alloc::Global;
 use std::test::Fail;
@@ -42,7 +42,7 @@ fn line_after(
             instant,
             trip: "T1",
             run: 28_800,
-            sequence: 1,
+            seq: 1,
             day: Day::from_number(19_814),
         },
         stop: shown.stop,
@@ -99,7 +99,7 @@ fn a_line_has_any_run_and_sequence(rt: HostRuntime) -> Result<(), Fail> {
             instant: EIGHT,
             trip: "T1",
             run: u32::MAX,
-            sequence: u32::MAX,
+            seq: u32::MAX,
             day: Day::from_number(19_814),
         },
         stop: "S1",
@@ -147,9 +147,12 @@ fn a_sheet_has_a_line_for_each_stop(rt: HostRuntime) -> Result<(), Fail> {
         route: "R1",
         direction: Some(1),
         day: Day::from_number(19_814),
-        stops: vec![in alloc; "S1", "S2"]?,
-        runs: vec![in alloc; (28_800, "T1"), (3_599_999, "T 2")]?,
-        times: vec![in alloc; vec![in alloc; first, last]?, vec![in alloc; None, None]?]?,
+        stops: List::new(vec![in alloc; "S1", "S2"]?),
+        runs: List::new(vec![in alloc; (28_800, "T1"), (3_599_999, "T 2")]?),
+        times: List::new(vec![in alloc;
+            List::new(vec![in alloc; first, last]?),
+            List::new(vec![in alloc; None, None]?),
+        ]?),
     };
     let mut text = String::from_str(alloc, "before\n")?;
     push_sheet(alloc, &mut text, &sheet)?;
@@ -159,12 +162,12 @@ fn a_sheet_has_a_line_for_each_stop(rt: HostRuntime) -> Result<(), Fail> {
         route: "R1",
         direction: None,
         day: Day::from_number(19_814),
-        stops: vec![in alloc; "S1", "S2"]?,
-        runs: vec![in alloc; (28_800, "T1")]?,
-        times: vec![in alloc;
-            vec![in alloc; first]?,
-            vec![in alloc; Some(Clock::from_seconds(29_400))]?,
-        ]?,
+        stops: List::new(vec![in alloc; "S1", "S2"]?),
+        runs: List::new(vec![in alloc; (28_800, "T1")]?),
+        times: List::new(vec![in alloc;
+            List::new(vec![in alloc; first]?),
+            List::new(vec![in alloc; Some(Clock::from_seconds(29_400))]?),
+        ]?),
     };
     text.clear();
     push_sheet(alloc, &mut text, &sheet)?;
@@ -181,9 +184,11 @@ fn a_sheet_has_any_direction(rt: HostRuntime) -> Result<(), Fail> {
         route: "R1",
         direction: Some(255),
         day: Day::from_number(19_814),
-        stops: vec![in alloc; "S1"]?,
-        runs: vec![in alloc; (28_800, "T1")]?,
-        times: vec![in alloc; vec![in alloc; Some(Clock::from_seconds(28_800))]?]?,
+        stops: List::new(vec![in alloc; "S1"]?),
+        runs: List::new(vec![in alloc; (28_800, "T1")]?),
+        times: List::new(vec![in alloc;
+            List::new(vec![in alloc; Some(Clock::from_seconds(28_800))]?),
+        ]?),
     };
     let mut text = String::new(alloc);
     push_sheet(alloc, &mut text, &sheet)?;

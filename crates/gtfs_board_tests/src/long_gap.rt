@@ -81,7 +81,7 @@ fn a_sheet_of_a_long_gap_is_made_at_once(rt: HostRuntime) -> Result<(), Fail> {
 // The stop time of each position is passed so many seconds after the first.
 fn assert_each_second(rt: &impl Abort, sheet: &Sheet<'_>) {
     let mut second = 0u32;
-    for times in &sheet.times {
+    for times in sheet.times.as_slice() {
         assert_is(rt, only_time(times.as_slice()), Some(second), "seconds");
         second = second.saturating_add(1);
     }

@@ -120,7 +120,7 @@ impl PlainKey {
             .cmp(&key.instant)
             .then(trip_shown(feed, self.trip).cmp(key.trip))
             .then(self.run.cmp(&key.run))
-            .then(self.sequence.cmp(&key.sequence))
+            .then(self.sequence.cmp(&key.seq))
             .then(self.day.cmp(&key.day))
             .is_gt()
     }
@@ -134,7 +134,7 @@ impl PlainKey {
         self.instant == key.instant
             && trip_shown(feed, self.trip) == key.trip
             && self.run == key.run
-            && self.sequence == key.sequence
+            && self.sequence == key.seq
             && self.day == key.day
     }
 

@@ -1,4 +1,4 @@
-ghost use Rattle.std.specs.Prelude.{◌≡◌, ◌≤◌, map, option_map, string_bytes, vec_len, IfOk, IfErr, IfSome, IsErrOf, OnOk, MatchResult};
+ghost use Rattle.std.specs.Prelude.{◌≡◌, ◌≤◌, option_map, vec_len, IfOk, IfErr, IfSome, IsErrOf, OnOk, MatchResult};
 ghost use Rattle.gtfs_devices.specs.Device.{FailsAtLast, MakesCalls};
 ghost use Rattle.gtfs_devices.specs.Folder.{IsByBytes, Lists, Finds, Writes, RefusesNames, RefusesRead, RefusesWrite};
 ghost use Rattle.gtfs_devices.specs.Disk.{told, calls, after_fault, IsAllOf, TakesAll, ReadsOver};
@@ -6,6 +6,7 @@ ghost use Rattle.gtfs_devices.specs.Disk.{told, calls, after_fault, IsAllOf, Tak
 use crate::disk_files::{read_file, write_file};
 use crate::disk_names::list;
 use crate::folders::{FolderFault, Folders};
+use gtfs_field::Text;
 use std::alloc::Global;
 use std::marker::Model;
 use std::rt::Files;
@@ -90,10 +91,10 @@ impl<'a, R: Files + Alloc + Clone + Drop> Folders for DiskFolders<'a, R> {
     ghost calls = { calls };
 
     /// Reads the folder from the system. It counts a failure exactly where it answers Read.
-    fn names(&mut self, alloc: Global, dir: &str) -> Result<Vec<String>, FolderFault>
+    fn names(&mut self, alloc: Global, dir: &str) -> Result<Vec<Text>, FolderFault>
         ensures lists { IfOk result
-            (λ names. Lists (told self.old) dir.now (map string_bytes names.items)) }
-        ensures ordered { IfOk result (λ names. IsByBytes (map string_bytes names.items)) }
+            (λ names. Lists (told self.old) dir.now names.items) }
+        ensures ordered { IfOk result (λ names. IsByBytes names.items) }
         ensures refused { IfErr result
             (λ fault. RefusesNames fault (told self.old) dir.now
             self.old.failures self.new.failures) }

@@ -1,10 +1,13 @@
-ghost use Rattle.std.specs.Prelude.{◌≡◌, ◌≤◌, map, string_bytes, vec_len, IfOk, IfErr, IsErrOf, OnOk};
+ghost use Rattle.std.specs.Prelude.{◌≡◌, ◌≤◌, vec_len, IfOk, IfErr, IsErrOf, OnOk};
 ghost use Rattle.gtfs_devices.specs.Folder.{IsByBytes};
+ghost use Rattle.gtfs_field.specs.TextOrder.{text_cmp};
 ghost use Rattle.gtfs_devices.specs.Disk.{LacksDir, RefusesOpen, TellsUnlisted};
 
 use crate::folders::FolderFault;
 use crate::system::{Listing, System};
+use gtfs_field::Text;
 use std::alloc::Global;
+use std::cmp::Ordering;
 use std::io::ErrorKind;
 
 // The names of a folder's entries, in byte order.
@@ -13,8 +16,8 @@ pub(crate) fn list<S: System>(
     alloc: Global,
     dir: &str,
     entries: usize,
-) -> Result<Vec<String>, FolderFault>
-    ensures ordered { IfOk result (λ names. IsByBytes (map string_bytes names.items)) }
+) -> Result<Vec<Text>, FolderFault>
+    ensures ordered { IfOk result (λ names. IsByBytes names.items) }
     ensures few { IfOk result (λ names. vec_len names ≤ entries) }
     ensures refused { IfErr result RefusesOpen }
     ensures absent { IsErrOf result FolderFault.NoFolder
@@ -25,8 +28,14 @@ pub(crate) fn list<S: System>(
     }
     let mut names = Vec::new(alloc);
     push_names(system, alloc, dir, entries, &mut names)?;
-    names.sort_unstable();
+    names.sort_unstable_by(|a, b| order(a, b));
     Ok(names)
+}
+
+fn order(a: &Text, b: &Text) -> Ordering
+    ensures { result ≡ text_cmp a.now b.now }
+{
+    a.as_str().cmp(b.as_str())
 }
 
 // Adds the names of a folder's entries, as the file system lists them, up to as many names as `entries`.
@@ -35,7 +44,7 @@ fn push_names<S: System>(
     alloc: Global,
     dir: &str,
     entries: usize,
-    names: &mut Vec<String>,
+    names: &mut Vec<Text>,
 ) -> Result<(), FolderFault>
     requires { vec_len names.old ≤ entries }
     ensures few { OnOk result (vec_len names.new ≤ entries) }

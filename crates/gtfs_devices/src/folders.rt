@@ -1,8 +1,8 @@
-ghost use Rattle.std.specs.Prelude.{◌≡◌, ◌≤◌, ℕ, Option, None, map, option_map, string_bytes, vec_len, IfOk, IfErr, IfSome, IsErrOf, OnOk};
+ghost use Rattle.std.specs.Prelude.{◌≡◌, ◌≤◌, ℕ, Option, None, option_map, vec_len, IfOk, IfErr, IfSome, IsErrOf, OnOk};
 ghost use Rattle.gtfs_devices.specs.Device.{Calls, FailsAtLast, MakesCalls};
 ghost use Rattle.gtfs_devices.specs.Folder.{Store, IsByBytes, Lists, Finds, Writes, RefusesNames, RefusesRead, RefusesWrite};
 
-use gtfs_field::OutOfMemory;
+use gtfs_field::{OutOfMemory, Text};
 use std::alloc::{AllocFailed, Global};
 use thiserror::Error;
 
@@ -68,10 +68,10 @@ pub trait Folders {
     /// The names of what lies in a folder, in byte order.
     ///
     /// Refused with Read, with NoFolder where there is no such folder, and with OutOfMemory.
-    fn names(&mut self, alloc: Global, dir: &str) -> Result<Vec<String>, FolderFault>
+    fn names(&mut self, alloc: Global, dir: &str) -> Result<Vec<Text>, FolderFault>
         ensures lists { IfOk result
-            (λ names. Lists (held self.old) dir.now (map string_bytes names.items)) }
-        ensures ordered { IfOk result (λ names. IsByBytes (map string_bytes names.items)) }
+            (λ names. Lists (held self.old) dir.now names.items) }
+        ensures ordered { IfOk result (λ names. IsByBytes names.items) }
         ensures refused { IfErr result
             (λ fault. RefusesNames fault (held self.old) dir.now
             (failure_count self.old) (failure_count self.new)) }

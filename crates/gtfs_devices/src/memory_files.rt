@@ -1,8 +1,8 @@
-ghost use Rattle.std.specs.Prelude.{◌≡◌, map, option_copied, string_bytes, IfOk, OnOk, OnErr};
+ghost use Rattle.std.specs.Prelude.{◌≡◌, option_copied, string_bytes, IfOk, OnOk, OnErr};
 ghost use Rattle.std.specs.FinMap as finite;
 ghost use Rattle.gtfs_devices.specs.Folder.{IsByBytes};
 
-use gtfs_field::{List, OutOfMemory};
+use gtfs_field::{List, OutOfMemory, Text};
 use std::alloc::Global;
 use std::collections::BTreeMap;
 use std::marker::Model;
@@ -54,13 +54,13 @@ impl MemoryFiles {
     }
 
     // The names of the files, in byte order.
-    pub(crate) fn names(&self, alloc: Global) -> Result<Vec<String>, OutOfMemory>
-        ensures all { IfOk result (λ names. map string_bytes names.items ≡ finite.keys self.now) }
-        ensures ordered { IfOk result (λ names. IsByBytes (map string_bytes names.items)) }
+    pub(crate) fn names(&self, alloc: Global) -> Result<Vec<Text>, OutOfMemory>
+        ensures all { IfOk result (λ names. names.items ≡ finite.keys self.now) }
+        ensures ordered { IfOk result (λ names. IsByBytes names.items) }
     {
         let mut names = Vec::new(alloc);
         for name in self.files.keys() {
-            names.push(name.clone()?)?;
+            names.push(Text::new(name.clone()?))?;
         }
         Ok(names)
     }

@@ -1,4 +1,4 @@
-ghost use Rattle.std.specs.Prelude.{◌≡◌, ◌≤◌, ◌<◌, ◌-◌, ◌^◌, ◌↔◌, map, option_map, string_bytes, IsTrue, vec_len, IfOk, IfErr, OnOk, OnErr, IfSome, IsErrOf, MatchResult, Ok, Some};
+ghost use Rattle.std.specs.Prelude.{◌≡◌, ◌≤◌, ◌<◌, ◌-◌, ◌^◌, ◌↔◌, option_map, IsTrue, vec_len, IfOk, IfErr, OnOk, OnErr, IfSome, IsErrOf, MatchResult, Ok, Some};
 ghost use Rattle.std.specs.Option.{ForSome};
 ghost use Rattle.std.specs.FinMap as finite;
 ghost use Rattle.gtfs_devices.specs.Device.{FailsAtLast, MakesCalls};
@@ -7,7 +7,7 @@ ghost use Rattle.gtfs_devices.specs.Held.{Refuses, calls_of, is_failing, after_c
 
 use crate::folders::{FolderFault, Folders};
 use crate::memory_store::MemoryStore;
-use gtfs_field::OutOfMemory;
+use gtfs_field::{OutOfMemory, Text};
 use std::alloc::Global;
 use std::marker::Model;
 
@@ -110,10 +110,10 @@ impl Folders for MemoryFolders {
 
     /// Answers Read exactly at the call that fails; at any other, NoFolder exactly where there is no such
     /// folder, and else the names, as memory suffices.
-    fn names(&mut self, alloc: Global, dir: &str) -> Result<Vec<String>, FolderFault>
+    fn names(&mut self, alloc: Global, dir: &str) -> Result<Vec<Text>, FolderFault>
         ensures lists { IfOk result
-            (λ names. Lists (Some self.old.store) dir.now (map string_bytes names.items)) }
-        ensures ordered { IfOk result (λ names. IsByBytes (map string_bytes names.items)) }
+            (λ names. Lists (Some self.old.store) dir.now names.items) }
+        ensures ordered { IfOk result (λ names. IsByBytes names.items) }
         ensures refused { IfErr result
             (λ fault. RefusesNames fault (Some self.old.store) dir.now
             self.old.failures self.new.failures) }
@@ -125,7 +125,7 @@ impl Folders for MemoryFolders {
         ensures ends { IsErrOf result FolderFault.Read → FailsAtLast (calls_of self.new) }
 
         ensures answers { MatchResult result
-            (λ names. names_answer self.old dir.now ≡ Ok (map string_bytes names.items))
+            (λ names. names_answer self.old dir.now ≡ Ok names.items)
             (λ fault. Refuses fault (names_answer self.old dir.now)) }
         ensures counted { self.new ≡ after_call self.old }
     {

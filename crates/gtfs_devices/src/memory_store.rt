@@ -1,4 +1,4 @@
-ghost use Rattle.std.specs.Prelude.{◌≡◌, map, option_map, option_copied, string_bytes, ok_or, MatchResult, Ok, IfOk, OnOk, OnErr};
+ghost use Rattle.std.specs.Prelude.{◌≡◌, option_map, option_copied, ok_or, MatchResult, Ok, IfOk, OnOk, OnErr};
 ghost use Rattle.std.specs.FinMap as finite;
 ghost use Rattle.gtfs_devices.specs.Folder.{IsByBytes, names_in, file_in, put, put_folder};
 ghost use Rattle.gtfs_devices.specs.Held.{Refuses, within_limit, file_answer};
@@ -6,7 +6,7 @@ ghost use Rattle.gtfs_devices.specs.declared.folders.FolderFault.TheVariants.{No
 
 use crate::folders::FolderFault;
 use crate::memory_files::MemoryFiles;
-use gtfs_field::{List, OutOfMemory};
+use gtfs_field::{List, OutOfMemory, Text};
 use std::alloc::Global;
 use std::collections::BTreeMap;
 use std::marker::Model;
@@ -45,11 +45,11 @@ impl MemoryStore {
     }
 
     // The names of a folder's files, in byte order.
-    pub(crate) fn names(&self, alloc: Global, dir: &str) -> Result<Vec<String>, FolderFault>
+    pub(crate) fn names(&self, alloc: Global, dir: &str) -> Result<Vec<Text>, FolderFault>
         ensures answers { MatchResult result
-            (λ names. names_in self.now dir.now ≡ Some (map string_bytes names.items))
+            (λ names. names_in self.now dir.now ≡ Some names.items)
             (λ fault. Refuses fault (ok_or (names_in self.now dir.now) NoFolder)) }
-        ensures ordered { IfOk result (λ names. IsByBytes (map string_bytes names.items)) }
+        ensures ordered { IfOk result (λ names. IsByBytes names.items) }
     {
         match self.files(dir) {
             Some(files) => Ok(files.names(alloc)?),

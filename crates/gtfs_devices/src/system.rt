@@ -6,6 +6,7 @@ ghost use Rattle.gtfs_devices.specs.declared.system.Entry.{Entry};
 ghost use Rattle.gtfs_devices.specs.Disk.{IsOpenable, RefusesListing};
 
 use crate::folders::FolderFault;
+use gtfs_field::Text;
 use std::alloc::{Allocator, Global};
 use std::fs::{Metadata, OpenFile, ReadDir};
 use std::io::{ErrorKind, Read, Write};
@@ -59,7 +60,7 @@ pub(crate) trait Listing {
         &mut self,
         alloc: Global,
         entries: usize,
-        names: &mut Vec<String>,
+        names: &mut Vec<Text>,
     ) -> Result<(), FolderFault>
         requires { vec_len names.old ≤ entries }
         ensures few { OnOk result (vec_len names.new ≤ entries) }
@@ -169,7 +170,7 @@ impl<R: Files + Clone + Drop, A: Allocator + Clone> Listing for ReadDir<R, A> {
         &mut self,
         alloc: Global,
         entries: usize,
-        names: &mut Vec<String>,
+        names: &mut Vec<Text>,
     ) -> Result<(), FolderFault> {
         push_listed(alloc, entries, self, names)
     }
@@ -180,7 +181,7 @@ fn push_listed<R: Files + Clone + Drop, A: Allocator + Clone>(
     alloc: Global,
     entries: usize,
     listing: &mut ReadDir<R, A>,
-    names: &mut Vec<String>,
+    names: &mut Vec<Text>,
 ) -> Result<(), FolderFault>
     requires { vec_len names.old ≤ entries }
     ensures few { OnOk result (vec_len names.new ≤ entries) }
@@ -210,7 +211,7 @@ fn push_name(
     alloc: Global,
     name: &str,
     entries: usize,
-    names: &mut Vec<String>,
+    names: &mut Vec<Text>,
 ) -> Result<(), FolderFault>
     ensures few { OnOk result (vec_len names.new ≤ entries) }
     ensures refused { IfErr result RefusesListing }
@@ -218,6 +219,6 @@ fn push_name(
     if names.len() >= entries {
         return Err(FolderFault::Read);
     }
-    names.push(String::from_str(alloc, name)?)?;
+    names.push(Text::new(String::from_str(alloc, name)?))?;
     Ok(())
 }

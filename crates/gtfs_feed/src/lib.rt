@@ -1,8 +1,8 @@
 //! The typed feed of a GTFS Schedule dataset.
 //!
 //! - [`Feed`] has the rows of a dataset by number: ids are numbered in the order of their bytes, from 0.
-//!   [`Feed::new`] makes one of a dataset that passed the validator, and [`Feed::assemble`] of [`gtfs_rows::Parts`] that
-//!   are sound.
+//!   [`Feed::new`] makes one of a dataset that passed the validator, and [`Feed::assemble`] of [`Parts`] that are sound.
+//! - [`Parts`] has the rows themselves, such as [`Trip`] and [`StopRow`], and [`TripNo`] and its like are their numbers.
 //! - [`Feed::trimmed`] is the feed on one side of a service day.
 //! - [`Feed::to_tables`] is its written form, and [`Feed::file_text`] the text of one file of it.
 #![tactic(auto)]
@@ -17,3 +17,9 @@ mod trimmed;
 mod written;
 
 pub use feed::Feed;
+pub use gtfs_rows::{
+    Agency, AgencyNo, BikesAllowed, Direction, DropOffType, ExactTimes, Frequency, HeadsignNo,
+    LocationType, OptionalClock, OptionalHeadsign, Parts, PickupType, Route, RouteNo, RouteType,
+    ServiceNo, ServiceRow, Stop, StopNo, StopRow, Timepoint, Transfer, TransferType, Trip, TripNo,
+    WheelchairAccessible, WheelchairBoarding,
+};

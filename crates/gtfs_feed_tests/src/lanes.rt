@@ -4,7 +4,7 @@ use crate::assertions::{assert_holds, assert_is};
 use gtfs_feed::Feed;
 use gtfs_field::OutOfMemory;
 use gtfs_rows::{ServiceNo, StopNo, TripNo};
-use gtfs_runs::{Event, Lane, Seek, Steps, StopLanes, Times, flat_events};
+use gtfs_runs::{Event, Lane, Moment, Steps, StopLanes, Times, flat_events};
 use std::alloc::Global;
 use std::process::Abort;
 use std::test::Fail;
@@ -29,7 +29,7 @@ impl Wanted {
 }
 
 // Before every event.
-const BEGINNING: Seek = Seek {
+const BEGINNING: Moment = Moment {
     at: i64::MIN,
     trip: TripNo(0),
     run: 0,
@@ -40,8 +40,8 @@ const BEGINNING: Seek = Seek {
 const MOST: usize = 100_000;
 
 // The position of an event, or of this sequence beside it.
-fn seek_at(event: &Event, seq: i64) -> Seek {
-    Seek {
+fn moment_at(event: &Event, seq: i64) -> Moment {
+    Moment {
         at: i64::from(event.at),
         trip: event.trip,
         run: event.run,
@@ -49,8 +49,8 @@ fn seek_at(event: &Event, seq: i64) -> Seek {
     }
 }
 
-// A lane's events, one after the other: one call for the first, and three for each event. A seek at an event finds the
-// next one, and a seek at the sequence before finds the event.
+// A lane's events, one after the other: one call for the first, and three for each event. A moment at an event finds the
+// next one, and a moment at the sequence before finds the event.
 fn walk<L: Lane>(
     rt: &impl Abort,
     feed: &Feed,
@@ -58,7 +58,7 @@ fn walk<L: Lane>(
     steps: &mut Steps,
     events: &mut Vec<(ServiceNo, Event)>,
 ) -> Result<(), OutOfMemory> {
-    let mut found = lane.first_after(feed, &BEGINNING, steps);
+    let mut found = lane.first_above(feed, &BEGINNING, steps);
     for _ in 0..MOST {
         let Some(event) = found else {
             return Ok(());
@@ -66,9 +66,9 @@ fn walk<L: Lane>(
         events.push((lane.service(), event))?;
         found = lane.next(feed, &event, steps);
         let seq = i64::from(event.seq);
-        let next = lane.first_after(feed, &seek_at(&event, seq), steps);
+        let next = lane.first_above(feed, &moment_at(&event, seq), steps);
         assert_is(rt, next, found, "the next event");
-        let same = lane.first_after(feed, &seek_at(&event, seq - 1), steps);
+        let same = lane.first_above(feed, &moment_at(&event, seq - 1), steps);
         assert_is(rt, same, Some(event), "the same event");
     }
     Ok(())

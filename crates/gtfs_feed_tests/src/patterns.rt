@@ -71,12 +71,12 @@ fn direction_text(direction: Option<u32>) -> &'static str {
 // A pattern on a line.
 fn push_pattern(feed: &Feed, pattern: &Pattern, text: &mut String) -> Result<(), Fail> {
     text.push_str(direction_text(pattern.direction.map(u32::from)))?;
-    for stop in &pattern.stops {
+    for stop in pattern.stops.as_slice() {
         text.push_str(stop_id(feed, *stop))?;
         text.push_str("\t")?;
     }
     text.push_str(":")?;
-    for trip in &pattern.trips {
+    for trip in pattern.trips.as_slice() {
         text.push_str(" ")?;
         text.push_str(trip_id(feed, *trip))?;
     }

@@ -1,17 +1,16 @@
-//! A lane that is asked from positions before, at, between and past its events.
+//! A lane that is asked from positions before, at, between and past its events, and by ids that no trip has.
 
 use crate::assertions::{assert_holds, assert_is};
 use crate::named::stop_named;
 use gtfs_feed::Feed;
 use gtfs_fixtures::feed_with;
-use gtfs_rows::TripNo;
 use gtfs_runs::{Lane, Seek, StepLane, Steps, StopLanes, Times};
 use std::mem::size_of;
 use std::process::Abort;
 use std::test::Fail;
 
-// A second, a trip, a run and a sequence, with the second of the least event above.
-type Asked = (i64, usize, u32, i64, Option<u32>);
+// A second, the id of a trip, a run and a sequence, with the second and the trip of the least event above.
+type Asked = (i64, &'static str, u32, i64, Option<(u32, usize)>);
 
 fn assert_first<L: Lane>(
     rt: &impl Abort,
@@ -23,30 +22,35 @@ fn assert_first<L: Lane>(
     for (at, trip, run, seq, wanted) in asked {
         let seek = Seek {
             at: *at,
-            trip: TripNo(*trip),
+            trip,
             run: *run,
             seq: *seq,
         };
         let found = lane.first_after(feed, &seek, steps);
-        let second = found.map(|event| event.at);
+        let second = found.map(|event| (event.at, event.trip.0));
         assert_is(rt, second, *wanted, format_args!("{seek:?}"));
     }
 }
 
-// Runs at 21,600 and 23,400 with sequence 1.
+// Runs of the trip T1 at 21,600 and 23,400 with sequence 1.
 const OF_A_PERIOD: &[Asked] = &[
-    (i64::MIN, 0, 0, -1, Some(21_600)),
-    (21_599, 9, 0, 0, Some(21_600)),
-    (21_600, 0, 0, 0, Some(21_600)),
-    (21_600, 0, 21_600, 0, Some(21_600)),
-    (21_600, 0, 21_600, 1, Some(23_400)),
-    (21_600, 0, 21_601, 0, Some(23_400)),
-    (21_600, 1, 0, -1, Some(23_400)),
-    (23_399, 0, 0, 0, Some(23_400)),
-    (23_400, 0, 23_400, 0, Some(23_400)),
-    (23_400, 0, 23_400, 1, None),
-    (23_401, 0, 0, -1, None),
-    (i64::MAX, 0, 0, -1, None),
+    (i64::MIN, "", 0, -1, Some((21_600, 0))),
+    (21_599, "T9", 0, 0, Some((21_600, 0))),
+    (21_600, "", 3_599_999, 9, Some((21_600, 0))),
+    (21_600, "T0", u32::MAX, i64::MAX, Some((21_600, 0))),
+    (21_600, "T", 21_600, 1, Some((21_600, 0))),
+    (21_600, "T1", 0, 0, Some((21_600, 0))),
+    (21_600, "T1", 21_600, 0, Some((21_600, 0))),
+    (21_600, "T1", 21_600, 1, Some((23_400, 0))),
+    (21_600, "T1", 21_601, 0, Some((23_400, 0))),
+    (21_600, "T10", 0, -1, Some((23_400, 0))),
+    (21_600, "U", 0, i64::MIN, Some((23_400, 0))),
+    (23_399, "T1", 0, 0, Some((23_400, 0))),
+    (23_400, "T1", 23_400, 0, Some((23_400, 0))),
+    (23_400, "T1", 23_400, 1, None),
+    (23_400, "t1", 0, -1, None),
+    (23_401, "", 0, -1, None),
+    (i64::MAX, "", 0, -1, None),
 ];
 
 #[test]
@@ -62,15 +66,19 @@ fn a_period_is_asked_from_any_position(rt: HostRuntime) -> Result<(), Fail> {
     Ok(())
 }
 
-// The trips T10 and T2 at 90,600, with the numbers 0 and 1.
+// The trips T10 and T2 at 90,600, with the numbers 0 and 1. No trip has the ids T0, T100, T11 and T20.
 const OF_A_LIST: &[Asked] = &[
-    (i64::MIN, 0, 0, -1, Some(90_600)),
-    (90_600, 0, 90_600, 1, Some(90_600)),
-    (90_600, 1, 90_600, 0, Some(90_600)),
-    (90_600, 1, 90_600, 1, None),
-    (90_600, 2, 0, -1, None),
-    (90_601, 0, 0, -1, None),
-    (i64::MAX, 0, 0, -1, None),
+    (i64::MIN, "", 0, -1, Some((90_600, 0))),
+    (90_600, "T0", 3_599_999, 9, Some((90_600, 0))),
+    (90_600, "T10", 90_600, 0, Some((90_600, 0))),
+    (90_600, "T10", 90_600, 1, Some((90_600, 1))),
+    (90_600, "T100", 0, -1, Some((90_600, 1))),
+    (90_600, "T11", 3_599_999, 9, Some((90_600, 1))),
+    (90_600, "T2", 90_600, 0, Some((90_600, 1))),
+    (90_600, "T2", 90_600, 1, None),
+    (90_600, "T20", 0, -1, None),
+    (90_601, "", 0, -1, None),
+    (i64::MAX, "", 0, -1, None),
 ];
 
 #[test]
@@ -91,10 +99,10 @@ T2,25:10:00,25:10:00,S1,1\nT2,25:20:00,25:20:00,S2,2\nT10,25:10:00,25:10:00,S1,1
 }
 
 // The seek at the only stop time of the run that starts at a second.
-fn seek_of_run(run: u32) -> Seek {
+fn seek_of_run(run: u32) -> Seek<'static> {
     Seek {
         at: i64::from(run),
-        trip: TripNo(0),
+        trip: "T1",
         run,
         seq: 1,
     }

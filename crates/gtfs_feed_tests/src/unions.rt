@@ -1,33 +1,37 @@
-//! The lanes of a stop asked together, seek by seek, beside the plain list of its events.
+//! The lanes of a stop asked together, moment by moment, beside the plain list of its events.
 ghost use Rattle.std.specs.Prelude.{◌<◌, length};
 
 use crate::assertions::assert_is;
 use gtfs_feed::Feed;
 use gtfs_rows::{ServiceNo, StopNo, TripNo};
-use gtfs_runs::{Event, Lane, Seek, Steps, StopLanes, Times, flat_events};
+use gtfs_runs::{Event, Lane, Moment, Steps, StopLanes, Times, flat_events};
 use std::alloc::Global;
 use std::process::Abort;
 use std::test::Fail;
 
-// The first event of the list, which ascends, that belongs to the service and lies above the seek.
-fn first_listed(events: &[(ServiceNo, Event)], service: ServiceNo, seek: &Seek) -> Option<Event> {
+// The first event of the list, which ascends, that belongs to the service and lies above the moment.
+fn first_listed(
+    events: &[(ServiceNo, Event)],
+    service: ServiceNo,
+    moment: &Moment,
+) -> Option<Event> {
     for (other, event) in events {
-        if *other == service && lies_above(seek, event) {
+        if *other == service && lies_above(moment, event) {
             return Some(*event);
         }
     }
     None
 }
 
-// Whether an event lies above a seek: by its second, trip, run and sequence.
-fn lies_above(seek: &Seek, event: &Event) -> bool {
+// Whether an event lies above a moment: by its second, trip, run and sequence.
+fn lies_above(moment: &Moment, event: &Event) -> bool {
     let event_position = (
         i64::from(event.at),
         event.trip.0,
         event.run,
         i64::from(event.seq),
     );
-    event_position > (seek.at, seek.trip.0, seek.run, seek.seq)
+    event_position > (moment.at, moment.trip.0, moment.run, moment.seq)
 }
 
 // The lesser of two events, where there are two.
@@ -39,26 +43,26 @@ fn lesser(one: Option<Event>, other: Option<Event>) -> Option<Event> {
     }
 }
 
-// The least event of the lanes of a service above the seek.
+// The least event of the lanes of a service above the moment.
 fn least<L: Lane>(
     feed: &Feed,
     lanes: &[L],
     service: ServiceNo,
-    seek: &Seek,
+    moment: &Moment,
     steps: &mut Steps,
 ) -> Option<Event> {
     let mut found = None;
     for lane in lanes {
         if lane.service() == service {
-            found = lesser(found, lane.first_after(feed, seek, steps));
+            found = lesser(found, lane.first_above(feed, moment, steps));
         }
     }
     found
 }
 
 // Positions around an event: itself, and those that differ from it in one part.
-fn around(event: &Event) -> [Seek; 9] {
-    let at = Seek {
+fn around(event: &Event) -> [Moment; 9] {
+    let at = Moment {
         at: i64::from(event.at),
         trip: event.trip,
         run: event.run,
@@ -67,35 +71,35 @@ fn around(event: &Event) -> [Seek; 9] {
     let trip = event.trip.0;
     [
         at,
-        Seek {
+        Moment {
             at: at.at - 1,
             ..at
         },
-        Seek {
+        Moment {
             at: at.at + 1,
             ..at
         },
-        Seek {
+        Moment {
             trip: TripNo(trip.saturating_sub(1)),
             ..at
         },
-        Seek {
+        Moment {
             trip: TripNo(trip.saturating_add(1)),
             ..at
         },
-        Seek {
+        Moment {
             run: event.run.saturating_sub(1),
             ..at
         },
-        Seek {
+        Moment {
             run: event.run.saturating_add(1),
             ..at
         },
-        Seek {
+        Moment {
             seq: at.seq - 1,
             ..at
         },
-        Seek {
+        Moment {
             seq: at.seq + 1,
             ..at
         },
@@ -116,15 +120,15 @@ fn assert_union(
     let events = flat_events(alloc, feed, stop, times)?;
     let (lanes, mut steps) = StopLanes::build(alloc, feed, stop, times)?;
     for (_, event) in &events {
-        for seek in around(event) {
+        for moment in around(event) {
             for number in 0..feed.service_count() {
                 let service = ServiceNo(number);
-                let lists = least(feed, lanes.lists(), service, &seek, &mut steps);
-                let periods = least(feed, lanes.periods(), service, &seek, &mut steps);
-                let wanted = first_listed(&events, service, &seek);
-                let filled = least(feed, lanes.filled(), service, &seek, &mut steps);
+                let lists = least(feed, lanes.lists(), service, &moment, &mut steps);
+                let periods = least(feed, lanes.periods(), service, &moment, &mut steps);
+                let wanted = first_listed(&events, service, &moment);
+                let filled = least(feed, lanes.filled(), service, &moment, &mut steps);
                 let found = lesser(lesser(lists, periods), filled);
-                assert_is(rt, found, wanted, format_args!("{seek:?}"));
+                assert_is(rt, found, wanted, format_args!("{moment:?}"));
             }
         }
     }

@@ -1,4 +1,4 @@
-ghost use Rattle.std.specs.Prelude.{◌≡◌, ◌<◌, ◌∷◌, ◌++◌, [], IfOk, OnOk, Some, filter, length, map, option_map, slice_index_or, string_bytes};
+ghost use Rattle.std.specs.Prelude.{◌≡◌, ◌<◌, ◌∷◌, ◌++◌, [], IfOk, OnOk, Some, filter, length, option_map, slice_index_or};
 ghost use Rattle.gtfs_merge.specs.Merging.{AreNamesOf};
 ghost use Rattle.gtfs_merge.specs.Names.{AreKindNames, ArePairedNames, in_kind, kind_names, new_id, of_side};
 ghost use Rattle.gtfs_merge.specs.Near.{near_pairs};
@@ -14,6 +14,7 @@ use crate::new_names::is_joined_id;
 use crate::renamed::Renamed;
 use crate::sides::Sides;
 use crate::twins::Twins;
+use gtfs_feed::Feed;
 use gtfs_field::{OutOfMemory, Text};
 use std::alloc::Global;
 use std::hash::RandomState;
@@ -121,19 +122,15 @@ impl Names {
     }
 
     /// The ids of a kind that a feed has, by their bytes.
-    pub fn ids(&self, side: Side, kind: Kind) -> &[String]
-        ensures { map string_bytes result.now ≡ (of_side (in_kind self.now kind) side).ids }
+    pub fn ids(&self, side: Side, kind: Kind) -> &[Text]
+        ensures { result.now ≡ (of_side (in_kind self.now kind) side).ids }
     {
-        let names = self.kind(kind);
-        match side {
-            Side::A => names.a.ids(),
-            Side::B => names.b.ids(),
-        }
+        self.kind(kind).ids(side)
     }
 
     /// The joined ids of a kind, by their bytes.
-    pub fn joined(&self, kind: Kind) -> &[String]
-        ensures { map string_bytes result.now ≡ (in_kind self.now kind).joined }
+    pub fn joined(&self, kind: Kind) -> &[Text]
+        ensures { result.now ≡ (in_kind self.now kind).joined }
     {
         self.kind(kind).joined.as_slice()
     }
@@ -173,15 +170,17 @@ impl Names {
     }
 }
 
-// The names of one kind.
+// The names of one kind, and the ids of each feed as they are lent.
 struct KindNames {
     a: Renamed,
     b: Renamed,
-    joined: Vec<String>,
+    ids_a: Vec<Text>,
+    ids_b: Vec<Text>,
+    joined: Vec<Text>,
 }
 
 impl Model for KindNames {
-    ghost use Rattle.std.specs.Prelude.{map, string_bytes};
+    ghost use Rattle.std.specs.Prelude.{◌≡◌};
     ghost use Rattle.gtfs_merge.specs.Names.{NamesOfKind};
 
     ghost Value = { NamesOfKind };
@@ -189,8 +188,10 @@ impl Model for KindNames {
     ghost view = { λ n. record {
       a = n.a;
       b = n.b;
-      joined = map string_bytes n.joined.items;
+      joined = n.joined.items;
     } };
+
+    ghost invariant = { λ n. (n.ids_a.items ≡ n.a.ids) × (n.ids_b.items ≡ n.b.ids) };
 }
 
 impl Drop for KindNames {
@@ -198,6 +199,8 @@ impl Drop for KindNames {
         let KindNames {
             a: _,
             b: _,
+            ids_a: _,
+            ids_b: _,
             joined: _,
         } = self;
     }
@@ -217,13 +220,39 @@ impl KindNames {
     {
         let names_a = Renamed::of_a(alloc, random, sides, twins, kind)?;
         let names_b = Renamed::of_b(alloc, random, sides, twins, kind)?;
+        let ids_a = ids_of(alloc, sides.a, kind)?;
+        let ids_b = ids_of(alloc, sides.b, kind)?;
         let joined = joined_ids(alloc, sides, twins, kind)?;
         Ok(KindNames {
             a: names_a,
             b: names_b,
+            ids_a,
+            ids_b,
             joined,
         })
     }
+
+    // The ids that a feed has.
+    fn ids(&self, side: Side) -> &[Text]
+        ensures { result.now ≡ (of_side self.now side).ids }
+    {
+        match side {
+            Side::A => self.ids_a.as_slice(),
+            Side::B => self.ids_b.as_slice(),
+        }
+    }
+}
+
+// The ids of a kind that a feed has.
+fn ids_of(alloc: Global, feed: &Feed, kind: Kind) -> Result<Vec<Text>, OutOfMemory>
+    ensures { IfOk result (λ ids. ids.items ≡ known_ids kind feed.now) }
+{
+    let mut ids = Vec::with_capacity(alloc, count_of(feed, kind))?;
+    for number in 0..count_of(feed, kind) {
+        let id = String::from_str(alloc, id_of(feed, kind, number))?;
+        ids.push(Text::new(id))?;
+    }
+    Ok(ids)
 }
 
 // The joined ids of a kind.
@@ -232,9 +261,9 @@ fn joined_ids(
     sides: &Sides,
     twins: &Twins,
     kind: Kind,
-) -> Result<Vec<String>, OutOfMemory>
+) -> Result<Vec<Text>, OutOfMemory>
     requires { twins.now ≡ twin_rows sides.now }
-    ensures { IfOk result (λ found. map string_bytes found.items
+    ensures { IfOk result (λ found. found.items
         ≡ joined_ids (nearness_of sides.now) kind (content_a sides.now) (content_b sides.now)) }
 {
     sides.soundness();
@@ -259,14 +288,15 @@ fn push_if_joined(
     twins: &Twins,
     kind: Kind,
     id: &str,
-    found: &mut Vec<String>,
+    found: &mut Vec<Text>,
 ) -> Result<(), OutOfMemory>
     requires { twins.now ≡ twin_rows sides.now }
-    ensures { OnOk result (map string_bytes found.new.items ≡ map string_bytes found.old.items
+    ensures { OnOk result (found.new.items ≡ found.old.items
         ++ filter (is_joined_id kind sides.now) (id.now ∷ [])) }
 {
     if is_joined_id(sides, twins, kind, id) {
-        found.push(String::from_str(alloc, id)?)?;
+        let joined = String::from_str(alloc, id)?;
+        found.push(Text::new(joined))?;
     }
     Ok(())
 }

@@ -1,4 +1,4 @@
-ghost use Rattle.std.specs.Prelude.{◌≡◌, ◌<◌, [], ◌∷◌, ◌++◌, IfOk, OnOk, bytes_eq, false, length, map, option_map, slice_index_or, string_bytes};
+ghost use Rattle.std.specs.Prelude.{◌≡◌, ◌<◌, [], ◌∷◌, ◌++◌, IfOk, OnOk, bytes_eq, false, length, option_map, slice_index_or, string_bytes};
 ghost use Rattle.std.specs.List.{list_any};
 ghost use Rattle.gtfs_merge.specs.Names.{new_id, new_ids, with_id};
 ghost use Rattle.gtfs_merge.specs.Numbered.{known_ids};
@@ -89,13 +89,6 @@ impl Renamed {
             ids.push(alloc, id, name)?;
         }
         Ok(ids)
-    }
-
-    // The ids, by number.
-    pub(crate) fn ids(&self) -> &[String]
-        ensures { map string_bytes result.now ≡ self.now.ids }
-    {
-        self.ids.as_slice()
     }
 
     // What the id of a number became.

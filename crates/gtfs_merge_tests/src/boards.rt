@@ -214,7 +214,7 @@ impl Fixture {
                 instant,
                 trip,
                 run: departure.key.run,
-                sequence: departure.key.sequence,
+                seq: departure.key.seq,
                 day: departure.key.day,
             },
             stop,
@@ -228,7 +228,7 @@ impl Fixture {
             instant,
             trip: self.merged.feed.trip(trip).unwrap_or(TripNo(0)),
             run: departure.key.run,
-            sequence: departure.key.sequence,
+            sequence: departure.key.seq,
             day: departure.key.day,
         };
         Ok((rank, line))

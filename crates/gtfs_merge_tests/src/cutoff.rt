@@ -380,7 +380,7 @@ fn last_of_a(rt: &impl Abort) -> Key<'static> {
         instant: 1_712_044_800,
         trip: "T1",
         run: 28_800,
-        sequence: 1,
+        seq: 1,
         day: service_day(rt, "20240402"),
     }
 }

@@ -75,7 +75,7 @@ fn joined_ids(alloc: Global, names: &Names) -> Result<String, Fail> {
         text.push_str(word)?;
         for id in names.joined(kind) {
             text.push_str(" ")?;
-            text.push_str(id)?;
+            text.push_str(id.as_str())?;
         }
         text.push_str("\n")?;
     }

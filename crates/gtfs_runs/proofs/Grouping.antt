@@ -58,13 +58,13 @@ under-last : (xs : List Pattern) (l : Pattern) → flat_map entries_under (xs ++
 under-last xs l = flat_map-append entries_under xs (l ∷ []) ∙ ap (λ ys. flat_map entries_under xs ++ ys) (append-nil (entries_under l))
 
 pub told-more : (olds news xs : List Pattern) (l n : Pattern) (e : Entry) → olds ≡ xs ++ l ∷ [] → news ≡ xs ++ n ∷ []
-    → heading_of n ≡ heading_of l → n.trips.items ≡ l.trips.items ++ e.trip ∷ [] → heading_of l ≡ e.heading
+    → heading_of n ≡ heading_of l → n.trips ≡ l.trips ++ e.trip ∷ [] → heading_of l ≡ e.heading
     → flat_map entries_under news ≡ flat_map entries_under olds ++ e ∷ []
 told-more olds news xs l n e old new same trips under =
     let more : entries_under n ≡ entries_under l ++ e ∷ [] =
-    ap (λ h. map (headed h) n.trips.items) same
+    ap (λ h. map (headed h) n.trips) same
     ∙ ap (map (headed (heading_of l))) trips
-    ∙ map-append (headed (heading_of l)) l.trips.items (e.trip ∷ [])
+    ∙ map-append (headed (heading_of l)) l.trips (e.trip ∷ [])
     ∙ ap (λ h. entries_under l ++ headed h e.trip ∷ []) under in
     ap (flat_map entries_under) new ∙ under-last xs n ∙ ap (λ es. flat_map entries_under xs ++ es) more
     ∙ sym (append-assoc (flat_map entries_under xs) (entries_under l) (e ∷ []))

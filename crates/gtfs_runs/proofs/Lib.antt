@@ -29,3 +29,5 @@ mod UntimedEvents
 mod LanesMoved
 pub mod TimedTrips
 pub mod Tallies
+pub mod TripIds
+mod SeekOrder

@@ -1,4 +1,4 @@
--- What lies above an event or a seek lies above with all that follow.
+-- What lies above an event or a moment lies above with all that follow.
 use Rattle.std.proofs.Common.{◌≡◌, true, false, refl, sym, ◌∙◌, ap, rules, arith}
 use Rattle.std.specs.Prelude.{ℤ, pos, ◌<ℤ◌}
 use Rattle.std.proofs.lemmas.Int.{ints}
@@ -11,14 +11,14 @@ use Rattle.std.specs.Ordering.{is_lt, is_gt, ordering_then, nat_cmp, int_cmp}
 use Rattle.gtfs_field.proofs.NumberFacts.{int_cmp-pos as same_cmp}
 use Rattle.gtfs_field.proofs.OrderingFacts.{int-less, less, nat-greater, nat-less}
 use Rattle.gtfs_runs.specs.declared.event.Event.{Event}
-use Rattle.gtfs_runs.specs.declared.seek.Seek.{Seek}
-use Rattle.gtfs_runs.specs.Order.{event_cmp, seek_cmp, seek_of, is_later, is_above, IsFrom}
+use Rattle.gtfs_runs.specs.declared.moment.Moment.{Moment}
+use Rattle.gtfs_runs.specs.Order.{event_cmp, moment_cmp, moment_of, is_later, is_above, IsFrom}
 
 pub events_total : IsTotalOrder event_cmp
 events_total = search (comparing, rules) depth 20
 
-pub seeks_total : IsTotalOrder seek_cmp
-seeks_total = search (comparing, rules) depth 20
+pub moments_total : IsTotalOrder moment_cmp
+moments_total = search (comparing, rules) depth 20
 
 -- an order of which the last part is left out
 without_last : (a b c d e : Ordering) → ordering_then a (ordering_then b (ordering_then c (ordering_then d e))) ≡ Less → is_gt (ordering_then a (ordering_then b (ordering_then c d))) ≡ false
@@ -32,8 +32,8 @@ without_last Equal Equal Equal Less e h = refl
 without_last Equal Equal Equal Equal e h = refl
 without_last Equal Equal Equal Greater e h = absurd (cc)
 
-pub seeks-rise : (x y : Event) → event_cmp x y ≡ Less → is_gt (seek_cmp (seek_of x) (seek_of y)) ≡ false
-seeks-rise x y h =
+pub moments-rise : (x y : Event) → event_cmp x y ≡ Less → is_gt (moment_cmp (moment_of x) (moment_of y)) ≡ false
+moments-rise x y h =
     rw (same_cmp x.at y.at, same_cmp x.seq y.seq) (without_last (nat_cmp x.at y.at) (nat_cmp x.trip.0 y.trip.0) (nat_cmp x.run y.run) (nat_cmp x.seq y.seq) (nat_cmp x.row y.row) h)
 
 module _ {K : Type 0} {R : K → K → Ordering} (o : IsTotalOrder R) where
@@ -46,14 +46,14 @@ module _ {K : Type 0} {R : K → K → Ordering} (o : IsTotalOrder R) where
 pub later-upward : (e x y : Event) → event_cmp x y ≡ Less → is_later e x ≡ true → is_later e y ≡ true
 later-upward e x y rises above = ap is_lt (events_total.trans e x y (less _ above) rises)
 
-pub above-upward : (s : Seek) (x y : Event) → event_cmp x y ≡ Less → is_above s x ≡ true → is_above s y ≡ true
-above-upward s x y rises above = ap is_lt (upto seeks_total s (seek_of x) (seek_of y) _ (less _ above) refl (seeks-rise x y rises))
+pub above-upward : (s : Moment) (x y : Event) → event_cmp x y ≡ Less → is_above s x ≡ true → is_above s y ≡ true
+above-upward s x y rises above = ap is_lt (upto moments_total s (moment_of x) (moment_of y) _ (less _ above) refl (moments-rise x y rises))
 
 int-greater : (a b : ℤ) → b <ℤ a → int_cmp a b ≡ Greater
 int-greater a b h = grind (arith, ints)
 
 -- time decides first
-pub above-from : (s : Seek) → IsFrom s.at (is_above s)
+pub above-from : (s : Moment) → IsFrom s.at (is_above s)
 above-from s = record {
   before = λ e h. rw (int-greater s.at (pos e.at) h) refl;
   after = λ e h. rw (int-less s.at (pos e.at) h) refl;

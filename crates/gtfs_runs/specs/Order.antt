@@ -1,8 +1,12 @@
 -- The order of events, and of the positions from which a lane is asked.
-use Rattle.std.specs.Prelude.{◌≡◌, ◌<ℤ◌, ℤ, Bool, true, false, pos, Option, Some, None, if◌then◌else◌}
+use Rattle.std.specs.Prelude.{◌≡◌, ◌<◌, ◌<ℤ◌, ℤ, length, Bool, true, false, pos, Option, Some, None, if◌then◌else◌}
 use Rattle.std.specs.declared.cmp.Ordering.{Ordering}
-use Rattle.std.specs.Ordering.{nat_cmp, int_cmp, is_lt, on, then_cmp}
+use Rattle.std.specs.Ordering.{nat_cmp, int_cmp, is_lt, on, ordering_then, then_cmp}
+use Rattle.gtfs_field.specs.TextOrder.{text_cmp}
+use Rattle.gtfs_rows.specs.Views.{text_of_number, trip_ids}
+use Rattle.gtfs_rows.specs.declared.parts.Parts.{Parts}
 use Rattle.gtfs_runs.specs.declared.event.Event.{Event}
+use Rattle.gtfs_runs.specs.declared.moment.Moment.{Moment}
 use Rattle.gtfs_runs.specs.declared.seek.Seek.{Seek}
 
 -- by time, trip, run, sequence and row; trips are numbered by the bytes of their ids
@@ -18,19 +22,30 @@ abbrev pub is_later : Event → Event → Bool
 is_later e x = is_lt (event_cmp e x)
 
 -- by time, trip, run and sequence
-abbrev pub seek_cmp : Seek → Seek → Ordering
-seek_cmp = then_cmp (on (λ s. s.at) int_cmp)
+abbrev pub moment_cmp : Moment → Moment → Ordering
+moment_cmp = then_cmp (on (λ s. s.at) int_cmp)
     (then_cmp (on (λ s. s.trip.0) nat_cmp)
     (then_cmp (on (λ s. s.run) nat_cmp)
     (on (λ s. s.seq) int_cmp)))
 
 -- the position of an event
-abbrev pub seek_of : Event → Seek
-seek_of e = record { at = pos e.at; trip = e.trip; run = e.run; seq = pos e.seq }
+abbrev pub moment_of : Event → Moment
+moment_of e = record { at = pos e.at; trip = e.trip; run = e.run; seq = pos e.seq }
 
--- the event lies above the seek
-abbrev pub is_above : Seek → Event → Bool
-is_above s e = is_lt (seek_cmp s (seek_of e))
+-- the event lies above the moment
+abbrev pub is_above : Moment → Event → Bool
+is_above s e = is_lt (moment_cmp s (moment_of e))
+
+-- an event of one of the trips
+abbrev pub IsOfTrips : Parts → Event → Type 0
+IsOfTrips p e = e.trip.0 < length p.trips
+
+-- the event lies above the seek: by time, the trip's id, run and sequence
+abbrev pub is_above_seek : Parts → Seek → Event → Bool
+is_above_seek p s e = is_lt (ordering_then (int_cmp s.at (pos e.at))
+    (ordering_then (text_cmp s.trip.now (text_of_number (trip_ids p) e.trip.0))
+    (ordering_then (nat_cmp s.run e.run)
+    (int_cmp s.seq (pos e.seq)))))
 
 -- a test that no event before a time passes, and each event after it
 pub record IsFrom (at : ℤ) (test : Event → Bool) : Type 0 where

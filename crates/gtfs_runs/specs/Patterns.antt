@@ -66,14 +66,14 @@ entry_cmp = then_cmp (on (λ e. e.heading.direction) (option_cmp nat_cmp))
 -- ---- patterns
 
 abbrev pub heading_of : Pattern → Heading
-heading_of x = record { direction = x.direction; stops = x.stops.items }
+heading_of x = record { direction = x.direction; stops = x.stops }
 
 -- the trips of a pattern, each under the pattern's heading
 abbrev pub entries_under : Pattern → List Entry
-entries_under x = map (λ t. record { heading = heading_of x; trip = t }) x.trips.items
+entries_under x = map (λ t. record { heading = heading_of x; trip = t }) x.trips
 
 abbrev pub is_filled : Pattern → Bool
-is_filled x = not (length x.trips.items == 0)
+is_filled x = not (length x.trips == 0)
 
 abbrev pub is_same_heading : Heading → Heading → Bool
 is_same_heading x y = option_eq (λ a b. a == b) x.direction y.direction && pointwise (λ s t. s.0 == t.0) x.stops y.stops

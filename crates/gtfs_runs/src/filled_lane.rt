@@ -3,7 +3,7 @@ ghost use Rattle.std.specs.Prelude.{◌≡◌};
 use crate::event::Event;
 use crate::lane::Lane;
 use crate::list_lane::ListLane;
-use crate::seek::Seek;
+use crate::moment::Moment;
 use crate::steps::Steps;
 use gtfs_feed::Feed;
 use gtfs_rows::ServiceNo;
@@ -26,8 +26,8 @@ impl Lane for FilledLane {
         self.list.service()
     }
 
-    fn first_after(&self, feed: &Feed, seek: &Seek, steps: &mut Steps) -> Option<Event> {
-        self.list.first_after(feed, seek, steps)
+    fn first_above(&self, feed: &Feed, moment: &Moment, steps: &mut Steps) -> Option<Event> {
+        self.list.first_above(feed, moment, steps)
     }
 
     fn next(&self, feed: &Feed, event: &Event, steps: &mut Steps) -> Option<Event> {

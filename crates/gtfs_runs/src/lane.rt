@@ -1,9 +1,10 @@
-ghost use Rattle.std.specs.Prelude.{◌≡◌, ◌+◌, ◌-◌, ◌^◌, ℕ, List, min};
+ghost use Rattle.std.specs.Prelude.{◌≡◌, ◌+◌, ◌-◌, ◌^◌, ℕ, All, List, min};
 ghost use Rattle.std.specs.List.{find};
 ghost use Rattle.gtfs_rows.specs.Order.{Ascends};
-ghost use Rattle.gtfs_runs.specs.Order.{event_cmp, is_above, is_later};
+ghost use Rattle.gtfs_runs.specs.Order.{IsOfTrips, event_cmp, is_above, is_above_seek, is_later};
 
 use crate::event::Event;
+use crate::moment::Moment;
 use crate::seek::Seek;
 use crate::steps::Steps;
 use gtfs_feed::Feed;
@@ -25,10 +26,19 @@ pub trait Lane {
     fn service(&self) -> ServiceNo
         ensures { result.0 ≡ serves self.now };
 
-    /// The least event above a seek, and None exactly where there is none. It is one step.
-    fn first_after(&self, feed: &Feed, seek: &Seek, steps: &mut Steps) -> Option<Event>
-        ensures first { result ≡ find (is_above seek.now) (events self.now) }
+    /// The least event above a moment, and None exactly where there is none. It is one step.
+    fn first_above(&self, feed: &Feed, moment: &Moment, steps: &mut Steps) -> Option<Event>
+        ensures first { result ≡ find (is_above moment.now) (events self.now) }
         ensures counted { steps.new ≡ min (steps.old + 1) (2 ^ 64 - 1) };
+
+    /// The least event above a seek, and None exactly where there is none. It is one step.
+    fn first_after(&self, feed: &Feed, seek: &Seek<'_>, steps: &mut Steps) -> Option<Event>
+        ensures first { All (IsOfTrips feed.now) (events self.now)
+            → result ≡ find (is_above_seek feed.now seek.now) (events self.now) }
+        ensures counted { steps.new ≡ min (steps.old + 1) (2 ^ 64 - 1) }
+    {
+        self.first_above(feed, &seek.moment(feed), steps)
+    }
 
     /// The least event above another, and None exactly where there is none. It is one step.
     fn next(&self, feed: &Feed, event: &Event, steps: &mut Steps) -> Option<Event>

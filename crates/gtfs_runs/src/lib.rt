@@ -1,7 +1,8 @@
 //! What passes a stop, and when, without unfolding a day.
 //!
 //! - An [`Event`] is a run of a trip that passes a row at which riders can leave a stop: when, after the origin of
-//!   whichever service day. Events have an order, and a [`Seek`] is a position between them.
+//!   whichever service day. Events have an order, and a [`Seek`] is a position between them, by the id of a trip; a
+//!   [`Moment`] is the same by its number.
 //! - A [`Lane`] tells events of one service, each after the one before: a [`ListLane`] those of a list, a [`FilledLane`]
 //!   those of a list with times that the file does not give, a [`StepLane`] those of a row of `frequencies.txt`, which it
 //!   does not list.
@@ -20,12 +21,14 @@ mod filled_lane;
 mod flat;
 mod lane;
 mod list_lane;
+mod moment;
 mod pattern;
 mod place;
 mod seek;
 mod step_lane;
 mod steps;
 mod stop_lanes;
+mod trips;
 
 pub use event::Event;
 pub use filled_lane::FilledLane;
@@ -34,8 +37,10 @@ pub use gtfs_feed::Feed;
 pub use gtfs_times::Times;
 pub use lane::Lane;
 pub use list_lane::ListLane;
+pub use moment::Moment;
 pub use pattern::{Pattern, patterns};
 pub use seek::Seek;
 pub use step_lane::StepLane;
 pub use steps::Steps;
 pub use stop_lanes::StopLanes;
+pub use trips::trips_below;

@@ -6,7 +6,7 @@ ghost use Rattle.gtfs_runs.specs.steps.Lists.{latest_of};
 
 use crate::event::Event;
 use crate::lane::Lane;
-use crate::seek::Seek;
+use crate::moment::Moment;
 use crate::steps::Steps;
 use gtfs_feed::Feed;
 use gtfs_rows::ServiceNo;
@@ -30,9 +30,9 @@ impl Lane for ListLane {
         self.service
     }
 
-    fn first_after(&self, _feed: &Feed, seek: &Seek, steps: &mut Steps) -> Option<Event> {
+    fn first_above(&self, _feed: &Feed, moment: &Moment, steps: &mut Steps) -> Option<Event> {
         steps.add_one();
-        let index = self.events.partition_point(|event| !seek.is_below(event));
+        let index = self.events.partition_point(|event| !moment.is_below(event));
         self.event(index)
     }
 

@@ -5,7 +5,7 @@ ghost use Rattle.gtfs_rows.specs.Choices.{direction_code};
 ghost use Rattle.gtfs_runs.specs.Patterns.{ArePatterns, AreGroups, entries_of, entries_under, entry_of, entry_cmp, is_of_route, entry_value, heading_of, is_same_heading, is_filled};
 
 use gtfs_feed::Feed;
-use gtfs_field::OutOfMemory;
+use gtfs_field::{List, OutOfMemory};
 use gtfs_rows::{Direction, RouteNo, StopNo, StopRow, TripNo};
 use std::alloc::Global;
 
@@ -15,9 +15,9 @@ pub struct Pattern {
     /// `direction_id` of the trips, 0 or 1, where they have one.
     pub direction: Option<u8>,
     /// The stops of the trips' rows, by sequence.
-    pub stops: Vec<StopNo>,
+    pub stops: List<StopNo>,
     /// The trips, ascending; at least one.
-    pub trips: Vec<TripNo>,
+    pub trips: List<TripNo>,
 }
 
 impl Pattern {
@@ -25,7 +25,7 @@ impl Pattern {
     fn leads(&self, trip: &Headed) -> bool
         ensures { result ≡ is_same_heading (heading_of self.now) (entry_value trip.now).heading }
     {
-        self.direction == trip.direction && self.stops == trip.stops
+        self.direction == trip.direction && self.stops.as_slice() == trip.stops.as_slice()
     }
 }
 
@@ -134,18 +134,36 @@ fn add(alloc: Global, found: &mut Vec<Pattern>, trip: Headed) -> Result<(), OutO
         ≡ flat_map entries_under found.old.items ++ entry_value trip ∷ []) }
     ensures groups { OnOk result (AreGroups found.old.items → AreGroups found.new.items) }
 {
-    let Some(mut last) = found.pop() else {
+    let Some(last) = found.pop() else {
         found.push(first_of(alloc, trip)?)?;
         return Ok(());
     };
     if last.leads(&trip) {
-        last.trips.push(trip.trip)?;
-        found.push(last)?;
+        found.push(with_trip(last, trip.trip)?)?;
     } else {
         found.push(last)?;
         found.push(first_of(alloc, trip)?)?;
     }
     Ok(())
+}
+
+// The pattern with one trip more.
+fn with_trip(pattern: Pattern, trip: TripNo) -> Result<Pattern, OutOfMemory>
+    ensures heading { IfOk result (λ x. heading_of x ≡ heading_of pattern) }
+    ensures trips { IfOk result (λ x. x.trips ≡ pattern.trips ++ trip ∷ []) }
+{
+    let Pattern {
+        direction,
+        stops,
+        trips,
+    } = pattern;
+    let mut trips = trips.into_vec();
+    trips.push(trip)?;
+    Ok(Pattern {
+        direction,
+        stops,
+        trips: List::new(trips),
+    })
 }
 
 // The pattern of one trip.
@@ -158,7 +176,7 @@ fn first_of(alloc: Global, trip: Headed) -> Result<Pattern, OutOfMemory>
     trips.push(trip.trip)?;
     Ok(Pattern {
         direction: trip.direction,
-        stops: trip.stops,
-        trips,
+        stops: List::new(trip.stops),
+        trips: List::new(trips),
     })
 }

@@ -10,7 +10,7 @@ ghost use Rattle.gtfs_runs.specs.Periods.{is_of_period, run_event, run_events};
 
 use crate::event::Event;
 use crate::lane::Lane;
-use crate::seek::Seek;
+use crate::moment::Moment;
 use crate::steps::Steps;
 use gtfs_feed::Feed;
 use gtfs_rows::{Frequency, ServiceNo};
@@ -44,11 +44,15 @@ impl Lane for StepLane {
         self.service
     }
 
-    fn first_after(&self, _feed: &Feed, seek: &Seek, steps: &mut Steps) -> Option<Event> {
+    fn first_above(&self, _feed: &Feed, moment: &Moment, steps: &mut Steps) -> Option<Event> {
         steps.add_one();
-        let (first, second) = self.two_from(seek.at);
+        let (first, second) = self.two_from(moment.at);
         match first {
-            Some(event) => if seek.is_below(&event) { first } else { second },
+            Some(event) => if moment.is_below(&event) {
+                first
+            } else {
+                second
+            },
             None => second,
         }
     }

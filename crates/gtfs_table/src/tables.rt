@@ -1,4 +1,4 @@
-ghost use Rattle.std.specs.Prelude.{All, ◌≡◌, ◌≢◌, ◌<◌, ◌≤◌, [], false, is_some, length, map, option_map, string_bytes, IfOk, IfErr, IfSome, IsErrOf, OnOk, OnErr};
+ghost use Rattle.std.specs.Prelude.{All, ◌≡◌, ◌≢◌, ◌<◌, ◌≤◌, [], false, is_some, length, map, option_map, IfOk, IfErr, IfSome, IsErrOf, OnOk, OnErr};
 ghost use Rattle.gtfs_devices.specs.Device.{FailsAtLast, MakesCalls, MakesSomeCalls};
 ghost use Rattle.gtfs_table.specs.Ending.{EndsAtFile, EndsReading};
 ghost use Rattle.gtfs_table.specs.Files.{file_name};
@@ -391,13 +391,13 @@ fn read_file<F: Folders>(
     }
 }
 
-fn other_names(alloc: Global, names: Vec<String>) -> Result<Vec<Text>, OutOfMemory>
-    ensures { IfOk result (λ others. others.items ≡ names_kept_out (map string_bytes names.items)) }
+fn other_names(alloc: Global, names: Vec<Text>) -> Result<Vec<Text>, OutOfMemory>
+    ensures { IfOk result (λ others. others.items ≡ names_kept_out names.items) }
 {
     let mut others = Vec::new(alloc);
     for name in names {
         if !is_kept(name.as_str()) {
-            others.push(Text::new(name))?;
+            others.push(name)?;
         }
     }
     Ok(others)

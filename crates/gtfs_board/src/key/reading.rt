@@ -40,7 +40,7 @@ pub fn read_key(text: &str) -> Result<Key<'_>, FieldFault>
         instant: read_instant(parts.instant)?,
         trip: parts.trip,
         run: read_plain(parts.run, LAST_RUN)?,
-        sequence: read_plain(parts.sequence, LAST_SEQUENCE)?,
+        seq: read_plain(parts.sequence, LAST_SEQUENCE)?,
         day: read_date(parts.day)?,
     })
 }

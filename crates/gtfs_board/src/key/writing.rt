@@ -47,7 +47,7 @@ pub(crate) fn write_key(text: &mut String, key: &Key<'_>)
     push_piece(text, "@", Buffer::new().format(key.instant));
     push_piece(text, "/", key.trip);
     push_piece(text, "/", Buffer::new().format(key.run));
-    push_piece(text, "/", Buffer::new().format(key.sequence));
+    push_piece(text, "/", Buffer::new().format(key.seq));
     push_day(text, key.day);
 }
 

@@ -3,7 +3,7 @@ ghost use Rattle.gtfs_runs.specs.Order.{is_above, is_later};
 ghost use Rattle.gtfs_board.specs.LaneDays.{any_value};
 
 use gtfs_rows::ServiceNo;
-use gtfs_runs::{Event, Feed, FilledLane, Lane, ListLane, Seek, StepLane, Steps};
+use gtfs_runs::{Event, Feed, FilledLane, Lane, ListLane, Moment, StepLane, Steps};
 
 // A lane of one of the kinds that a stop has.
 #[derive(Clone, Copy)]
@@ -26,14 +26,19 @@ impl AnyLane<'_> {
     }
 
     // Its first event above a position.
-    pub(super) fn first_after(self, feed: &Feed, seek: &Seek, steps: &mut Steps) -> Option<Event>
-        ensures first { result ≡ find (is_above seek.now) (any_value self.entry).events }
+    pub(super) fn first_above(
+        self,
+        feed: &Feed,
+        moment: &Moment,
+        steps: &mut Steps,
+    ) -> Option<Event>
+        ensures first { result ≡ find (is_above moment.now) (any_value self.entry).events }
         ensures steps { steps.new ≤ steps.old + 1 }
     {
         match self {
-            AnyLane::List(lane) => lane.first_after(feed, seek, steps),
-            AnyLane::Period(lane) => lane.first_after(feed, seek, steps),
-            AnyLane::Filled(lane) => lane.first_after(feed, seek, steps),
+            AnyLane::List(lane) => lane.first_above(feed, moment, steps),
+            AnyLane::Period(lane) => lane.first_above(feed, moment, steps),
+            AnyLane::Filled(lane) => lane.first_above(feed, moment, steps),
         }
     }
 

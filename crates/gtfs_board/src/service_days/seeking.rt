@@ -6,16 +6,16 @@ ghost use Rattle.gtfs_board.specs.merge.Candidates.{candidate_lt};
 
 use crate::merge::Candidate;
 use gtfs_rows::TripNo;
-use gtfs_runs::Seek;
+use gtfs_runs::Moment;
 
 // The position above which a lane has the departures of a day that lie above a floor, where the floor lies on an earlier
 // day or belongs to a later lane. On a later day a departure with the floor's time, trip, run and sequence lies above it.
-pub(super) fn seek_from(floor: &Candidate, origin: i64, day: i32) -> Seek
+pub(super) fn moment_from(floor: &Candidate, origin: i64, day: i32) -> Moment
     ensures { (lane : ℕ) (e : Event) → e.at < 2 ^ 32 → (floor.now.day <ℤ day)
         ⊎ (lane < floor.now.lane)
         → is_above result e ≡ candidate_lt floor.now (departing origin day lane e) }
 {
-    Seek {
+    Moment {
         at: floor.instant.saturating_sub(origin),
         trip: TripNo(floor.trip),
         run: floor.run,

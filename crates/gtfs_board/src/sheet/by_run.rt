@@ -14,7 +14,7 @@ ghost use Rattle.gtfs_board.specs.Timetable.{row_at, time_at};
 use crate::sheet::columns::Column;
 use crate::sheet::times::time_among;
 use crate::sheet::turning::turned;
-use gtfs_field::{Clock, OutOfMemory};
+use gtfs_field::{Clock, List, OutOfMemory};
 use gtfs_rows::StopRow;
 use gtfs_runs::{Feed, Times};
 use gtfs_times::{filled, is_to_fill};
@@ -26,9 +26,9 @@ pub(super) fn filled_times(
     feed: &Feed,
     stop_count: usize,
     columns: &[Column],
-) -> Result<Vec<Vec<Option<Clock>>>, OutOfMemory>
+) -> Result<Vec<List<Option<Clock>>>, OutOfMemory>
     requires { All (IsShownAlong feed.now stop_count) columns.now }
-    ensures { IfOk result (λ lines. map (λ line. line.items) lines.items
+    ensures { IfOk result (λ lines. lines.items
         ≡ column_times (content_of (timed_parts Interpolated feed.now)) stop_count columns.now) }
 {
     let runs = times_by_run(alloc, feed, stop_count, columns)?;

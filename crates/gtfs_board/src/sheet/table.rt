@@ -13,7 +13,7 @@ use crate::sheet::columns::{Column, columns};
 use crate::sheet::times::sheet_times;
 use crate::sheet::{Sheet, TableFault};
 use crate::showing::{stop_id, trip_id};
-use gtfs_field::{Day, OutOfMemory};
+use gtfs_field::{Day, List, OutOfMemory};
 use gtfs_rows::{RouteNo, StopNo};
 use gtfs_runs::{Feed, Pattern, Times, patterns};
 use std::alloc::Global;
@@ -139,8 +139,8 @@ fn sheet_of<'a>(
     columns: &[Column],
     times: Times,
 ) -> Result<Sheet<'a>, OutOfMemory>
-    requires stops { All (λ s. s.0 < length feed.now.stops) pattern.now.stops.items }
-    requires shown { All (IsShownAlong feed.now (length pattern.now.stops.items)) columns.now }
+    requires stops { All (λ s. s.0 < length feed.now.stops) pattern.now.stops }
+    requires shown { All (IsShownAlong feed.now (length pattern.now.stops)) columns.now }
     ensures { IfOk result (λ sheet. plain_sheet sheet
         ≡ sheet_of_columns (timed_parts times feed.now) route.now day pattern.now columns.now) }
 {
@@ -151,9 +151,9 @@ fn sheet_of<'a>(
         route,
         direction: pattern.direction,
         day,
-        stops,
-        runs,
-        times,
+        stops: List::new(stops),
+        runs: List::new(runs),
+        times: List::new(times),
     })
 }
 

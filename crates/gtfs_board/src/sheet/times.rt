@@ -14,7 +14,7 @@ ghost use Rattle.gtfs_times.specs.TimedRows.{timed_parts};
 
 use crate::sheet::by_run::filled_times;
 use crate::sheet::columns::{Column, leaves, seconds_left};
-use gtfs_field::{Clock, OutOfMemory};
+use gtfs_field::{Clock, List, OutOfMemory};
 use gtfs_rows::StopRow;
 use gtfs_runs::{Feed, Times};
 use std::alloc::Global;
@@ -26,9 +26,9 @@ pub(super) fn sheet_times(
     stop_count: usize,
     columns: &[Column],
     times: Times,
-) -> Result<Vec<Vec<Option<Clock>>>, OutOfMemory>
+) -> Result<Vec<List<Option<Clock>>>, OutOfMemory>
     requires { All (IsShownAlong feed.now stop_count) columns.now }
-    ensures { IfOk result (λ lines. map (λ line. line.items) lines.items
+    ensures { IfOk result (λ lines. lines.items
         ≡ column_times (content_of (timed_parts times feed.now)) stop_count columns.now) }
 {
     feed.soundness();
@@ -44,9 +44,9 @@ fn given_times(
     feed: &Feed,
     stop_count: usize,
     columns: &[Column],
-) -> Result<Vec<Vec<Option<Clock>>>, OutOfMemory>
+) -> Result<Vec<List<Option<Clock>>>, OutOfMemory>
     requires { All (IsShownAlong feed.now stop_count) columns.now }
-    ensures { IfOk result (λ lines. map (λ line. line.items) lines.items
+    ensures { IfOk result (λ lines. lines.items
         ≡ column_times (content_of feed.now) stop_count columns.now) }
 {
     let mut lines = Vec::with_capacity(alloc, stop_count)?;
@@ -62,16 +62,16 @@ fn times_at(
     feed: &Feed,
     position: usize,
     columns: &[Column],
-) -> Result<Vec<Option<Clock>>, OutOfMemory>
+) -> Result<List<Option<Clock>>, OutOfMemory>
     requires { All (IsShownAlong feed.now (position + 1)) columns.now }
-    ensures { IfOk result (λ times. times.items
+    ensures { IfOk result (λ times. times
         ≡ map (time_of_column (content_of feed.now) position) columns.now) }
 {
     let mut times = Vec::with_capacity(alloc, columns.len())?;
     for column in columns {
         times.push(time_at(feed, *column, position))?;
     }
-    Ok(times)
+    Ok(List::new(times))
 }
 
 // When a run passes the stop time of this position among those of its trip, None where that is untimed.

@@ -2,7 +2,7 @@
 ghost use Rattle.std.specs.Prelude.{◌≡◌, ◌<◌, All, IfOk, None, length, map, slice_index_or};
 ghost use Rattle.std.specs.List.{range_with_len};
 
-use gtfs_field::{Clock, OutOfMemory};
+use gtfs_field::{Clock, List, OutOfMemory};
 use std::alloc::Global;
 
 // A line for each place in lines that have so many.
@@ -10,9 +10,9 @@ pub(super) fn turned(
     alloc: Global,
     lines: &[Vec<Option<Clock>>],
     width: usize,
-) -> Result<Vec<Vec<Option<Clock>>>, OutOfMemory>
+) -> Result<Vec<List<Option<Clock>>>, OutOfMemory>
     requires { All (λ line. length line.items ≡ width) lines.now }
-    ensures { IfOk result (λ table. map (λ line. line.items) table.items
+    ensures { IfOk result (λ table. table.items
         ≡ map (λ i. map (λ line. slice_index_or line.items i None) lines.now)
         (range_with_len 0 width)) }
 {
@@ -28,14 +28,14 @@ fn times_across(
     alloc: Global,
     lines: &[Vec<Option<Clock>>],
     place: usize,
-) -> Result<Vec<Option<Clock>>, OutOfMemory>
+) -> Result<List<Option<Clock>>, OutOfMemory>
     requires { All (λ line. place < length line.items) lines.now }
-    ensures { IfOk result (λ times. times.items
+    ensures { IfOk result (λ times. times
         ≡ map (λ line. slice_index_or line.items place None) lines.now) }
 {
     let mut times = Vec::with_capacity(alloc, lines.len())?;
     for line in lines {
         times.push(line[place])?;
     }
-    Ok(times)
+    Ok(List::new(times))
 }

@@ -1,5 +1,5 @@
 use Rattle.std.proofs.Common.{◌∙◌}
-use Rattle.gtfs_board.proofs.Floors.{trip_ids_ascend}
+use Rattle.gtfs_runs.proofs.TripIds.{trip_ids_ascend}
 use Rattle.gtfs_board.proofs.Opened.{open_kept, open_taken, queued_is, steps_kept}
 use Rattle.gtfs_board.specs.merge.Candidates.{taken}
 use Rattle.gtfs_board.proofs.board.Board.next.Goals as goal

@@ -15,16 +15,16 @@ departing-requires-clause-high c =
 pub returns-in-Some-clause-first : goal.returns-in-Some-clause-first
 returns-in-Some-clause-first c =
     let s = c.args.self.now in
-    let stands = rw (to_z-of_z w64 c.args.origin c.ranges.origin, to_z-of_z w32 c.args.day c.ranges.day) at c.seek_from-seek.ensures in
-    let first = head_found s.feed.now s.zone.now s.lanes s.end s.ascending s.timely c.args.lane c.args.day c.args.origin c.args.floor.now c.seek_from-seek.result c.first_after.result
-    c.requires.inside c.requires.runs c.requires.origin c.requires.aside stands c.first_after.ensures.first in
+    let stands = rw (to_z-of_z w64 c.args.origin c.ranges.origin, to_z-of_z w32 c.args.day c.ranges.day) at c.moment_from-moment.ensures in
+    let first = head_found s.feed.now s.zone.now s.lanes s.end s.ascending s.timely c.args.lane c.args.day c.args.origin c.args.floor.now c.moment_from-moment.result c.first_above.result
+    c.requires.inside c.requires.runs c.requires.origin c.requires.aside stands c.first_above.ensures.first in
     let departs = rw (to_z-of_z w64 c.args.origin c.ranges.origin, to_z-of_z w32 c.args.day c.ranges.day) at c.departing.ensures in
-    kept_some s.end c.args.origin c.args.day c.args.lane c.first_after.result c.in-Some.event c.departing.result _ _ first c.in-Some.is departs c.by_end.ensures
+    kept_some s.end c.args.origin c.args.day c.args.lane c.first_above.result c.in-Some.event c.departing.result _ _ first c.in-Some.is departs c.by_end.ensures
 
 pub returns-in-None-clause-first : goal.returns-in-None-clause-first
 returns-in-None-clause-first c =
     let s = c.args.self.now in
-    let stands = rw (to_z-of_z w64 c.args.origin c.ranges.origin, to_z-of_z w32 c.args.day c.ranges.day) at c.seek_from-seek.ensures in
-    let first = head_found s.feed.now s.zone.now s.lanes s.end s.ascending s.timely c.args.lane c.args.day c.args.origin c.args.floor.now c.seek_from-seek.result c.first_after.result
-    c.requires.inside c.requires.runs c.requires.origin c.requires.aside stands c.first_after.ensures.first in
-    kept_none s.end c.args.origin c.args.day c.args.lane c.first_after.result _ first c.in-None.is
+    let stands = rw (to_z-of_z w64 c.args.origin c.ranges.origin, to_z-of_z w32 c.args.day c.ranges.day) at c.moment_from-moment.ensures in
+    let first = head_found s.feed.now s.zone.now s.lanes s.end s.ascending s.timely c.args.lane c.args.day c.args.origin c.args.floor.now c.moment_from-moment.result c.first_above.result
+    c.requires.inside c.requires.runs c.requires.origin c.requires.aside stands c.first_above.ensures.first in
+    kept_none s.end c.args.origin c.args.day c.args.lane c.first_above.result _ first c.in-None.is

@@ -11,15 +11,15 @@ use Rattle.gtfs_board.proofs.TimedSheets.{columns-same, pattern-timed}
 use Rattle.gtfs_board.proofs.sheet.table.push_pattern.Goals as goal
 
 pub columns-requires : goal.columns-requires
-columns-requires c = subst (All (HasRow c.args.feed.now)) (sym c.as_slice-trips.ensures.value) c.requires.trips
+columns-requires c = subst (All (HasRow c.args.feed.now)) (sym c.as_slice-trips.ensures) c.requires.trips
 
 pub sheet_of-requires-clause-shown : goal.sheet_of-requires-clause-shown
 sheet_of-requires-clause-shown c =
     let p = c.args.feed.now in
     let d = c.args.day in
-    subst (All (IsShownAlong p (length c.args.pattern.now.stops.items))) (sym c.as_slice-shown.ensures.value)
+    subst (All (IsShownAlong p (length c.args.pattern.now.stops))) (sym c.as_slice-shown.ensures.value)
     (all-shown p c.soundness.ensures d c.args.pattern.now c.requires c.in_ok-columns.columns.items
-    (λ y. c.in_ok-columns.ensures.told y ∙ ap (tally (is_column_of p d y)) c.as_slice-trips.ensures.value) c.in_ok-columns.ensures.in_order)
+    (λ y. c.in_ok-columns.ensures.told y ∙ ap (tally (is_column_of p d y)) c.as_slice-trips.ensures) c.in_ok-columns.ensures.in_order)
 
 pub returns-then-is_empty : goal.returns-then-is_empty
 returns-then-is_empty c =
@@ -28,7 +28,7 @@ returns-then-is_empty c =
     let x = c.args.pattern.now in
     let q = timed_parts c.args.times p in
     none-added q (sound-timed p c.soundness.ensures c.args.times) d x (pattern-timed c.args.times p c.soundness.ensures x c.requires) c.in_ok-columns.columns.items
-    (λ y. c.in_ok-columns.ensures.told y ∙ ap (tally (is_column_of p d y)) c.as_slice-trips.ensures.value ∙ columns-same c.args.times p c.soundness.ensures d y x.trips.items) c.in_ok-columns.ensures.in_order
+    (λ y. c.in_ok-columns.ensures.told y ∙ ap (tally (is_column_of p d y)) c.as_slice-trips.ensures ∙ columns-same c.args.times p c.soundness.ensures d y x.trips) c.in_ok-columns.ensures.in_order
     (sheet_along q c.args.route.now d x) (map plain_sheet c.args.found.now.items) (ap (λ ys. length ys == 0) (sym c.as_slice-shown.ensures.value) ∙ sym c.is_empty.ensures ∙ c.if-is_empty.true)
 
 pub returns : goal.returns
@@ -39,6 +39,6 @@ returns c =
     let q = timed_parts c.args.times p in
     ap (map plain_sheet) c.in_ok-push.ensures.items ∙ map-append plain_sheet c.args.found.now.items (c.in_ok-sheet.sheet ∷ [])
     ∙ one-added q (sound-timed p c.soundness.ensures c.args.times) d x (pattern-timed c.args.times p c.soundness.ensures x c.requires) c.in_ok-columns.columns.items
-    (λ y. c.in_ok-columns.ensures.told y ∙ ap (tally (is_column_of p d y)) c.as_slice-trips.ensures.value ∙ columns-same c.args.times p c.soundness.ensures d y x.trips.items) c.in_ok-columns.ensures.in_order
+    (λ y. c.in_ok-columns.ensures.told y ∙ ap (tally (is_column_of p d y)) c.as_slice-trips.ensures ∙ columns-same c.args.times p c.soundness.ensures d y x.trips) c.in_ok-columns.ensures.in_order
     c.args.route.now (plain_sheet c.in_ok-sheet.sheet) (map plain_sheet c.args.found.now.items) (ap (λ ys. length ys == 0) (sym c.as_slice-shown.ensures.value) ∙ sym c.is_empty.ensures ∙ c.if-is_empty.false)
     (c.in_ok-sheet.ensures ∙ ap (sheet_of_columns q c.args.route.now d x) c.as_slice-shown.ensures.value)

@@ -5,7 +5,7 @@ use Rattle.gtfs_rows.specs.Views.{route_ids, text_of_number}
 use Rattle.gtfs_times.specs.TimedRows.{timed_parts}
 use Rattle.gtfs_board.specs.LentSheets.{plain_sheet}
 use Rattle.gtfs_board.specs.SheetSteps.{IsPattern, goes, sheets_along}
-use Rattle.gtfs_board.proofs.EventFacts.{text_at}
+use Rattle.gtfs_runs.proofs.TripIds.{text_at}
 use Rattle.gtfs_board.proofs.SheetPatterns.{patterns-are}
 use Rattle.gtfs_board.proofs.TimedSheets.{sheets-timed}
 use Rattle.gtfs_board.proofs.sheet.table.sheets_of_route.Goals as goal

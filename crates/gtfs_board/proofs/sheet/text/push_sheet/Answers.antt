@@ -6,6 +6,6 @@ use Rattle.gtfs_board.proofs.sheet.text.push_sheet.Goals as goal
 pub returns-clause-appended : goal.returns-clause-appended
 returns-clause-appended c =
     pushed c.push_str.result _ (string_bytes c.args.text.now) _ c.as_str.result.now c.push_str.ensures.bytes (λ last.
-    sheet-joined (λ id. id.now) c.args.sheet.now.runs.items _ (plain_sheet c.args.sheet.now) (string_bytes c.args.text.now) _ _ _ _ _ _
-    refl c.as_slice.ensures.value c.new-whole.ensures.bytes c.in_ok-push_title.ensures c.in_ok-push_trips.ensures c.in_ok-push_stops.ensures
+    sheet-joined (λ id. id.now) c.args.sheet.now.runs _ (plain_sheet c.args.sheet.now) (string_bytes c.args.text.now) _ _ _ _ _ _
+    refl c.as_slice.ensures c.new-whole.ensures.bytes c.in_ok-push_title.ensures c.in_ok-push_trips.ensures c.in_ok-push_stops.ensures
     c.as_str.ensures.value last)

@@ -2,7 +2,7 @@ use Rattle.std.proofs.Common.{◌≡◌, ◌∙◌, map, ap, arith}
 use Rattle.gtfs_rows.specs.Views.{content_of_parts}
 use Rattle.gtfs_board.specs.SheetSteps.{column_times, time_of_column}
 use Rattle.gtfs_board.proofs.SheetColumns.{shown-upto}
-use Rattle.gtfs_board.proofs.SheetLists.{ranged-more}
+use Rattle.gtfs_board.proofs.SheetLists.{ranged-pushed}
 use Rattle.gtfs_board.proofs.sheet.times.given_times.Goals as goal
 
 pub times_at-requires : goal.times_at-requires
@@ -10,7 +10,7 @@ times_at-requires c = λ k d h. shown-upto c.args.feed.now c.args.stop_count c.l
 
 pub loop-position-preserved : goal.loop-position-preserved
 loop-position-preserved c =
-    ranged-more (λ line. line.items) (λ i. map (time_of_column (content_of_parts c.args.feed.now) i) c.args.columns.now) c.loop-position.position _ _ c.in_ok-times_at.field-0
+    ranged-pushed (λ i. map (time_of_column (content_of_parts c.args.feed.now) i) c.args.columns.now) c.loop-position.position _ _ c.in_ok-times_at.field-0
     c.loop-position.invariant c.in_ok-push.ensures.items c.in_ok-times_at.ensures
 
 pub returns : goal.returns

@@ -1,4 +1,4 @@
-use Rattle.std.proofs.Common.{get_or}
+use Rattle.std.proofs.Common.{◌∙◌, get_or}
 use Rattle.gtfs_rows.specs.Views.{content_of_parts}
 use Rattle.gtfs_runs.proofs.Pushes.{mapped-all, pushed-more}
 use Rattle.gtfs_board.specs.SheetSteps.{time_of_column}
@@ -15,4 +15,4 @@ loop-column-preserved c =
     c.loop-column-test.true (item-at cs n first c.loop-column-test.true) c.loop-column.invariant c.in_ok-push.ensures.items c.time_at.ensures
 
 pub returns : goal.returns
-returns c = mapped-all (time_of_column (content_of_parts c.args.feed.now) c.args.position) c.args.columns.now c.loop-column.column-index _ c.loop-column-test.false c.loop-column.invariant
+returns c = c.new.ensures ∙ mapped-all (time_of_column (content_of_parts c.args.feed.now) c.args.position) c.args.columns.now c.loop-column.column-index _ c.loop-column-test.false c.loop-column.invariant

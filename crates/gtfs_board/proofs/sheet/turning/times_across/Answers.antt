@@ -1,4 +1,4 @@
-use Rattle.std.proofs.Common.{get_or, None}
+use Rattle.std.proofs.Common.{◌∙◌, get_or, None}
 use Rattle.std.proofs.lemmas.List.{get_or_read}
 use Rattle.gtfs_runs.proofs.Pushes.{mapped-all, pushed-more}
 use Rattle.gtfs_board.proofs.TimedSheets.{line-within}
@@ -12,4 +12,4 @@ loop-line-preserved c =
     (line-within (λ line. line.items) c.args.lines.now c.loop-line.line-index c.args.place c.line-item.result c.requires c.loop-line-test.true c.line-item.is) c.index.ensures None)
 
 pub returns : goal.returns
-returns c = mapped-all (λ line. get_or line.items c.args.place None) c.args.lines.now c.loop-line.line-index _ c.loop-line-test.false c.loop-line.invariant
+returns c = c.new.ensures ∙ mapped-all (λ line. get_or line.items c.args.place None) c.args.lines.now c.loop-line.line-index _ c.loop-line-test.false c.loop-line.invariant

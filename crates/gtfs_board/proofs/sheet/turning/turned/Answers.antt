@@ -1,6 +1,6 @@
 use Rattle.std.proofs.Common.{◌≡◌, ◌∙◌, None, map, get_or, ap, arith}
 use Rattle.std.specs.List.{range_with_len}
-use Rattle.gtfs_board.proofs.SheetLists.{ranged-more}
+use Rattle.gtfs_board.proofs.SheetLists.{ranged-pushed}
 use Rattle.gtfs_board.proofs.sheet.turning.turned.Goals as goal
 
 pub times_across-requires : goal.times_across-requires
@@ -8,7 +8,7 @@ times_across-requires c = λ k d within. omega (arith, c.requires k d within, c.
 
 pub loop-place-preserved : goal.loop-place-preserved
 loop-place-preserved c =
-    ranged-more (λ line. line.items) (λ i. map (λ line. get_or line.items i None) c.args.lines.now) c.loop-place.place _ _ c.in_ok-times_across.field-0
+    ranged-pushed (λ i. map (λ line. get_or line.items i None) c.args.lines.now) c.loop-place.place _ _ c.in_ok-times_across.field-0
     c.loop-place.invariant c.in_ok-push.ensures.items c.in_ok-times_across.ensures
 
 pub returns : goal.returns

@@ -4,4 +4,4 @@ use Rattle.gtfs_board.proofs.sheet.turning.turned.Given as goal
 
 -- the lines of the places so far
 abbrev pub invariant-loop-place : goal.invariant-loop-place
-invariant-loop-place l = map (λ line. line.items) l.table.items ≡ map (λ i. map (λ line. get_or line.items i None) l.lines) (range_with_len 0 l.place)
+invariant-loop-place l = l.table.items ≡ map (λ i. map (λ line. get_or line.items i None) l.lines) (range_with_len 0 l.place)

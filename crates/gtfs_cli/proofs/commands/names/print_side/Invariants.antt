@@ -1,4 +1,4 @@
-use Rattle.std.proofs.Common.{◌≡◌, ◌≤◌, string_bytes, take}
+use Rattle.std.proofs.Common.{◌≡◌, ◌≤◌, take}
 use Rattle.std.specs.Prelude.{flat_map}
 use Rattle.std.specs.Io.KnownBytes.{Appends}
 use Rattle.gtfs_cli.specs.NamesReport.{id_line}
@@ -6,7 +6,7 @@ use Rattle.gtfs_cli.proofs.commands.names.print_side.Given as goal
 
 abbrev pub invariant-loop-id : goal.invariant-loop-id
 invariant-loop-id g l = record {
-  sent : Appends (g.O.Out.told l.initial.out) (g.O.Out.told l.out) (flat_map (λ id. id_line l.names l.side l.kind (string_bytes id)) (take l.id-index l.id-items));
+  sent : Appends (g.O.Out.told l.initial.out) (g.O.Out.told l.out) (flat_map (id_line l.names l.side l.kind) (take l.id-index l.id-items));
   grows : g.O.Out.failure_count l.initial.out ≤ g.O.Out.failure_count l.out;
   no_failure : g.O.Out.failure_count l.out ≡ g.O.Out.failure_count l.initial.out;
 }

@@ -11,7 +11,7 @@ use Rattle.gtfs_devices.proofs.memory_files.MemoryFiles.names.Goals as goal
 pub returns : goal.returns
 returns c =
     let all : map deref c.loop-name.yielded ≡ tree.keys c.self.inside.files = search (rules, iter_end) in
-    let names : map string_bytes c.loop-name.names.items ≡ map string_bytes (tree.keys c.self.inside.files) =
+    let names : c.loop-name.names.items ≡ map string_bytes (tree.keys c.self.inside.files) =
     c.loop-name.invariant ∙ map-deref c.loop-name.yielded ∙ ap (map string_bytes) all in
     record {
       all = names ∙ sym (keys-by_text c.self.inside.files c.keys-name-items.ensures.ordered) ∙ ap (λ files. finite.keys files) c.self.view_is;

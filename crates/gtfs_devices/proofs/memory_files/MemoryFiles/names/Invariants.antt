@@ -3,4 +3,4 @@ use Rattle.gtfs_devices.proofs.memory_files.MemoryFiles.names.Given as goal
 
 -- the names so far are clones of the keys so far
 abbrev pub invariant-loop-name : goal.invariant-loop-name
-invariant-loop-name l = map string_bytes l.names.items ≡ map (λ name. string_bytes name.now) l.yielded
+invariant-loop-name l = l.names.items ≡ map (λ name. string_bytes name.now) l.yielded

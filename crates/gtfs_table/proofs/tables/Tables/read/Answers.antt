@@ -1,4 +1,4 @@
-use Rattle.std.proofs.Common.{map, sym, subst, string_bytes, inl, inr}
+use Rattle.std.proofs.Common.{sym, subst, inl, inr}
 use Rattle.gtfs_devices.specs.Device.{MakesSomeCalls}
 use Rattle.gtfs_table.specs.Ending.{EndsReading}
 use Rattle.gtfs_table.specs.Reading.{AreOthers}
@@ -11,7 +11,7 @@ use Rattle.gtfs_table.proofs.tables.Tables.read.Goals as goal
 
 pub of_names-tables-requires : goal.of_names-tables-requires
 of_names-tables-requires g c =
-    let names = map string_bytes c.in_ok-names.names.items in
+    let names = c.in_ok-names.names.items in
     subst AreOthers (sym c.in_ok-other_names.ensures) (others-of names c.in_ok-names.ensures.ordered)
 
 pub returns-in_err-read_files-clause-called_until : goal.returns-in_err-read_files-clause-called_until

@@ -5,8 +5,8 @@ use Rattle.std.proofs.lemmas.List.Sorted.{IsPartitionPoint-from_clause}
 use Rattle.gtfs_rows.proofs.SoundOrder.{in_order}
 use Rattle.gtfs_rows.specs.declared.trip.Trip.{Trip}
 use Rattle.gtfs_field.specs.TextOrder.{text_cmp}
-use Rattle.gtfs_board.proofs.Floors.{count_below, trips_parted}
-use Rattle.gtfs_board.proofs.floor.trips_below.Goals as goal
+use Rattle.gtfs_runs.proofs.TripIds.{count_below, trips_parted}
+use Rattle.gtfs_runs.proofs.trips.trips_below.Goals as goal
 
 pub returns : goal.returns
 returns c =

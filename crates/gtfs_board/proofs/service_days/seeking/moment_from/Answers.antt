@@ -5,8 +5,8 @@ use Rattle.std.proofs.lemmas.Int.{to_z-of_z}
 use Rattle.gtfs_field.proofs.NumberFacts.{cases_int}
 use Rattle.gtfs_board.specs.LaneDays.{departing}
 use Rattle.gtfs_board.specs.merge.Candidates.{lane_cmp}
-use Rattle.gtfs_board.proofs.Seeks.{apart_days, later_day, same_day, stands_for}
-use Rattle.gtfs_board.proofs.service_days.seeking.seek_from.Goals as goal
+use Rattle.gtfs_board.proofs.Moments.{apart_days, later_day, same_day, stands_for}
+use Rattle.gtfs_board.proofs.service_days.seeking.moment_from.Goals as goal
 
 pub returns : goal.returns
 returns c lane e small aside =

@@ -5,13 +5,13 @@ use Rattle.gtfs_runs.specs.declared.event.Event.{Event}
 use Rattle.gtfs_runs.specs.Order.{event_cmp, is_above}
 use Rattle.gtfs_runs.proofs.Finding.{find-parted, parted-upward}
 use Rattle.gtfs_runs.proofs.Orders.{above-upward}
-use Rattle.gtfs_runs.proofs.list_lane.ListLaneLane.first_after.Goals as goal
+use Rattle.gtfs_runs.proofs.list_lane.ListLaneLane.first_above.Goals as goal
 
 pub returns-clause-first : goal.returns-clause-first
 returns-clause-first c =
     let xs : List Event = c.args.self.now.events.items in
-    let test : Event → Bool = is_above c.args.seek.now in
+    let test : Event → Bool = is_above c.args.moment.now in
     let index = c.partition_point-index.result in
     let parted : IsPartitionPoint (λ x. not (test x) ≡ true) (λ x. not (test x) ≡ false) xs index =
-    IsPartitionPoint-from_clause (λ x. not (test x)) xs index (rw c.deref.ensures.value at c.partition_point-index.ensures.partitioned) (parted-upward event_cmp test (above-upward c.args.seek.now) xs c.args.self.now.ascending) (λ a r f k. search (rules, of_calls)) in
+    IsPartitionPoint-from_clause (λ x. not (test x)) xs index (rw c.deref.ensures.value at c.partition_point-index.ensures.partitioned) (parted-upward event_cmp test (above-upward c.args.moment.now) xs c.args.self.now.ascending) (λ a r f k. search (rules, of_calls)) in
     c.event.ensures ∙ sym (find-parted test xs index parted (rw c.deref.ensures.value at c.partition_point-index.ensures.bound))

@@ -11,7 +11,7 @@ use Rattle.std.specs.declared.cmp.Ordering.TheVariants.{Less, Equal, Greater}
 use Rattle.gtfs_field.proofs.NumberFacts.{cases_int}
 use Rattle.gtfs_runs.specs.Order.{is_above}
 use Rattle.gtfs_runs.specs.declared.event.Event.{Event}
-use Rattle.gtfs_runs.specs.declared.seek.Seek.{Seek}
+use Rattle.gtfs_runs.specs.declared.moment.Moment.{Moment}
 use Rattle.gtfs_board.specs.LaneDays.{departing}
 use Rattle.gtfs_board.specs.declared.merge.candidate.Candidate.{Candidate}
 use Rattle.gtfs_board.specs.merge.Candidates.{candidate_lt, lane_cmp}
@@ -87,13 +87,13 @@ moved x o n = elim (cases_int x (o +ℤ pos n)) [
 pub cut_alike : (x o at : ℤ) (n : ℕ) → at ≡ saturate_signed w64 (x -ℤ o) → n < 2 ^ 32 → int_cmp at (pos n) ≡ int_cmp x (o +ℤ pos n)
 cut_alike x o at n is small = cut_same (x -ℤ o) at n is small ∙ moved x o n
 
--- a seek stands for a floor
-pub stands_for : (floor : Candidate) (seek : Seek) (origin day : ℤ) (lane : ℕ) (e : Event) → e.at < 2 ^ 32
-    → seek.at ≡ saturate_signed w64 (floor.instant -ℤ origin) → seek.trip.0 ≡ floor.trip → seek.run ≡ floor.run
-    → is_lt (int_cmp seek.seq (pos e.seq)) ≡ is_lt (ordering_then (ordering_then (nat_cmp floor.sequence e.seq) (int_cmp floor.day day)) (lane_cmp floor (departing origin day lane e)))
-    → is_above seek e ≡ candidate_lt floor (departing origin day lane e)
-stands_for floor seek origin day lane e small at trip run seq =
-    let times = cut_alike floor.instant origin seek.at e.at at small in
-    (λ i. is_lt (ordering_then (times i) (ordering_then (nat_cmp (trip i) e.trip.0) (ordering_then (nat_cmp (run i) e.run) (int_cmp seek.seq (pos e.seq))))))
-    ∙ last_alike (int_cmp floor.instant (origin +ℤ pos e.at)) (nat_cmp floor.trip e.trip.0) (nat_cmp floor.run e.run) (int_cmp seek.seq (pos e.seq))
+-- a moment stands for a floor
+pub stands_for : (floor : Candidate) (moment : Moment) (origin day : ℤ) (lane : ℕ) (e : Event) → e.at < 2 ^ 32
+    → moment.at ≡ saturate_signed w64 (floor.instant -ℤ origin) → moment.trip.0 ≡ floor.trip → moment.run ≡ floor.run
+    → is_lt (int_cmp moment.seq (pos e.seq)) ≡ is_lt (ordering_then (ordering_then (nat_cmp floor.sequence e.seq) (int_cmp floor.day day)) (lane_cmp floor (departing origin day lane e)))
+    → is_above moment e ≡ candidate_lt floor (departing origin day lane e)
+stands_for floor moment origin day lane e small at trip run seq =
+    let times = cut_alike floor.instant origin moment.at e.at at small in
+    (λ i. is_lt (ordering_then (times i) (ordering_then (nat_cmp (trip i) e.trip.0) (ordering_then (nat_cmp (run i) e.run) (int_cmp moment.seq (pos e.seq))))))
+    ∙ last_alike (int_cmp floor.instant (origin +ℤ pos e.at)) (nat_cmp floor.trip e.trip.0) (nat_cmp floor.run e.run) (int_cmp moment.seq (pos e.seq))
     (nat_cmp floor.sequence e.seq) (int_cmp floor.day day) (lane_cmp floor (departing origin day lane e)) seq

@@ -1,0 +1,20 @@
+//! `gtfs_cli`.
+
+use gtfs_cli::run;
+use gtfs_table::{Folders, Out};
+use std::alloc::Global;
+use std::hash::RandomState;
+
+fn ended<F: Folders, O: Out, E: Out>(
+    alloc: Global,
+    random: RandomState,
+    words: &[String],
+    folders: &mut F,
+    out: &mut O,
+    err: &mut E,
+) -> u8 {
+    run(alloc, random, words, folders, out, err)
+}
+
+#[test]
+fn the_calls_are_these() {}
