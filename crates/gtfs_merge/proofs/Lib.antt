@@ -49,7 +49,6 @@ pub mod TransferOrder
 pub mod MergedTransfers
 pub mod MergedFeed
 pub mod TripsOfSides
-pub mod FileLimit
 pub mod ByNewIds
 pub mod Distinct
 pub mod Dropped

@@ -14,7 +14,7 @@ use Rattle.gtfs_rows.specs.Views.{IsSoundParts, content_of_parts}
 use Rattle.gtfs_merge.specs.Departures.{StaysApart}
 use Rattle.gtfs_merge.specs.Names.{AllNames, AreKindNames, kind_names, new_id, new_ids, of_side}
 use Rattle.gtfs_merge.specs.Numbered.{known_ids}
-use Rattle.gtfs_merge.specs.Renaming.{has_id, ids, name_of, Names, Renaming, renaming}
+use Rattle.gtfs_merge.specs.Renaming.{lists_id, ids, name_of, Names, Renaming, renaming}
 use Rattle.gtfs_merge.specs.Sides.{side_names, side_parts}
 use Rattle.gtfs_merge.specs.declared.kind.Kind.{Kind}
 use Rattle.gtfs_merge.specs.declared.kind.Kind.TheVariants as kind
@@ -24,10 +24,10 @@ use Rattle.gtfs_merge.specs.declared.sides.Sides.{Sides}
 use Rattle.gtfs_merge.proofs.JoinedIds.{has-number}
 use Rattle.gtfs_merge.proofs.JoinedKinds.{ids-known}
 
-looked-up : (rename : Renaming) (xs : List (List ℕ)) (x : List ℕ) → new_id (new_ids rename xs) x ≡ (if has_id xs x then Some (rename x) else None)
+looked-up : (rename : Renaming) (xs : List (List ℕ)) (x : List ℕ) → new_id (new_ids rename xs) x ≡ (if lists_id xs x then Some (rename x) else None)
 looked-up rename xs x = by (position (bytes_eq x) xs) refl
   where
-    by : (o : Option ℕ) → position (bytes_eq x) xs ≡ o → option_and_then (slice_get (map rename xs)) (position (bytes_eq x) xs) ≡ (if has_id xs x then Some (rename x) else None)
+    by : (o : Option ℕ) → position (bytes_eq x) xs ≡ o → option_and_then (slice_get (map rename xs)) (position (bytes_eq x) xs) ≡ (if lists_id xs x then Some (rename x) else None)
     by None e = ap (option_and_then (slice_get (map rename xs))) e ∙ ap (λ h. if h then Some (rename x) else None) (sym (ap is_some e) ∙ has-number xs x)
     by (Some n) e =
         let there = position-Some (bytes_eq x) xs n [] e in
@@ -38,7 +38,7 @@ looked-up rename xs x = by (position (bytes_eq x) xs) refl
         ∙ ap (λ h. if h then Some (rename x) else None) (sym (ap is_some e) ∙ has-number xs x)
 
 pub named : (n : Names) (k : Kind) (p : Parts) → IsSoundParts p → (x : List ℕ) → new_id (new_ids (renaming n k) (known_ids k p)) x ≡ name_of n k (content_of_parts p) x
-named n k p sound x = looked-up (renaming n k) (known_ids k p) x ∙ ap (λ xs. if has_id xs x then Some (renaming n k x) else None) (sym (ids-known k p sound))
+named n k p sound x = looked-up (renaming n k) (known_ids k p) x ∙ ap (λ xs. if lists_id xs x then Some (renaming n k x) else None) (sym (ids-known k p sound))
 
 -- a name by its number
 pub name-at : (k : Kind) (sides : Sides) (s : Side) (n : ℕ) → n < length (known_ids k (side_parts s sides)) → get_or (of_side (kind_names k sides) s).names n [] ≡ renaming (side_names s sides) k (get_or (known_ids k (side_parts s sides)) n [])
@@ -56,9 +56,9 @@ joined-further p xs n before after x within so_far added own =
 
 -- ids that stay apart have names that tell them
 pub apart-names : (n : Names) (k : Kind) (f : Content) → StaysApart k f n → (x y name : List ℕ) → name_of n k f x ≡ Some name → name_of n k f y ≡ Some name → x ≡ y
-apart-names n k f apart x y name = by (has_id (ids k f) x) refl (has_id (ids k f) y) refl
+apart-names n k f apart x y name = by (lists_id (ids k f) x) refl (lists_id (ids k f) y) refl
   where
-    by : (h : Bool) → has_id (ids k f) x ≡ h → (g : Bool) → has_id (ids k f) y ≡ g → (if h then Some (renaming n k x) else None) ≡ Some name → (if g then Some (renaming n k y) else None) ≡ Some name → x ≡ y
+    by : (h : Bool) → lists_id (ids k f) x ≡ h → (g : Bool) → lists_id (ids k f) y ≡ g → (if h then Some (renaming n k x) else None) ≡ Some name → (if g then Some (renaming n k y) else None) ≡ Some name → x ≡ y
     by true has_x true has_y first second = let same : renaming n k x ≡ renaming n k y = cc in apart x y has_x has_y same
     by true has_x false has_y first second = cc
     by false has_x g has_y first second = cc

@@ -2,7 +2,7 @@
 use Rattle.std.specs.Prelude.{◌≡◌, ℕ, ◌==◌, Bool, true, false, List, ◌∷◌, ◌++◌, [], length, map, bytes_eq, position, slice_get, Option, Some, option_and_then, is_some}
 use Rattle.gtfs_merge.specs.Near.{near_pairs}
 use Rattle.gtfs_merge.specs.Numbered.{known_ids}
-use Rattle.gtfs_merge.specs.Renaming.{Renaming, has_id, joined_ids, renaming}
+use Rattle.gtfs_merge.specs.Renaming.{Renaming, lists_id, joined_ids, renaming}
 use Rattle.gtfs_merge.specs.Sides.{content_a, content_b, nearness_of, side_names}
 use Rattle.gtfs_merge.specs.declared.kind.Kind.{Kind}
 use Rattle.gtfs_merge.specs.declared.kind.Kind.TheVariants as kind
@@ -66,7 +66,7 @@ of_side n side.B = n.b
 
 -- an id of A and an id of B became one name only where they are one id that is joined, which stays: a renamed id of B is no name of A
 abbrev pub MeetWhereJoined : NamesOfKind → Type 0
-MeetWhereJoined n = (x y name : List ℕ) → new_id n.a x ≡ Some name → new_id n.b y ≡ Some name → (x ≡ name) × (y ≡ name) × (has_id n.joined name ≡ true)
+MeetWhereJoined n = (x y name : List ℕ) → new_id n.a x ≡ Some name → new_id n.b y ≡ Some name → (x ≡ name) × (y ≡ name) × (lists_id n.joined name ≡ true)
 
 abbrev pub kind_names : Kind → Sides → NamesOfKind
 kind_names k sides = record {

@@ -1,6 +1,6 @@
 use Rattle.std.proofs.Common.{◌<◌, ◌≤◌, ◌∙◌, None, ap, arith, get_or, length, sym}
 use Rattle.gtfs_merge.specs.Numbered.{known_ids}
-use Rattle.gtfs_merge.specs.Renaming.{has_id, renaming}
+use Rattle.gtfs_merge.specs.Renaming.{lists_id, renaming}
 use Rattle.gtfs_merge.specs.Sides.{side_names}
 use Rattle.gtfs_merge.specs.Twins.{of_kind, twin_number}
 use Rattle.gtfs_merge.specs.declared.kind.Side.TheVariants as side
@@ -12,7 +12,7 @@ use Rattle.gtfs_merge.proofs.renamed.Renamed.of_b.Goals as goal
 pub new_id_of_b-requires-clause-there : goal.new_id_of_b-requires-clause-there
 new_id_of_b-requires-clause-there c =
     let within : c.loop-number.number < length (known_ids c.args.kind c.args.sides.now.b.now) = omega (arith, c.count_of-number-end.ensures) in
-    ap (has_id (known_ids c.args.kind c.args.sides.now.b.now)) c.id_of-id.ensures ∙ has-at (known_ids c.args.kind c.args.sides.now.b.now) c.loop-number.number within
+    ap (lists_id (known_ids c.args.kind c.args.sides.now.b.now)) c.id_of-id.ensures ∙ has-at (known_ids c.args.kind c.args.sides.now.b.now) c.loop-number.number within
 
 pub of-twin-requires : goal.of-twin-requires
 of-twin-requires c =
