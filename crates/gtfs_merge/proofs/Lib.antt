@@ -1,3 +1,4 @@
+pub mod Few
 pub mod Lookups
 pub mod Fresh
 pub mod FreeSearch

@@ -16,6 +16,7 @@
 //! what is told of a merge.
 #![tactic(auto)]
 
+mod given;
 mod headsigns;
 mod id_rows;
 mod joined;

@@ -1,13 +1,12 @@
 ghost use Rattle.std.specs.Prelude.{◌≡◌, ◌≤◌, IfErr, IfOk, IfSome, None, Some, false, true};
-ghost use Rattle.gtfs_days.specs.Cut.{cut_day};
 ghost use Rattle.gtfs_days.specs.Service.{is_service_day};
-ghost use Rattle.gtfs_rows.specs.Trimmed.{trimmed};
 ghost use Rattle.gtfs_rows.specs.Views.{IsSoundParts, content_of_parts};
 ghost use Rattle.gtfs_feed.specs.Content.{content_of};
 ghost use Rattle.gtfs_merge.specs.Merged.{zones_differ};
 ghost use Rattle.gtfs_merge.specs.Merging.{AreRowsOfMerge, IsFeedOf, IsLimitFault, IsMergeOf, IsRefusal, KeepsDepartures};
-ghost use Rattle.gtfs_merge.specs.Sides.{content_a, content_b};
+ghost use Rattle.gtfs_merge.specs.Sides.{content_a, content_b, given_parts};
 
+use crate::given::Given;
 use crate::merged_parts::merged_parts;
 use crate::names::Names;
 use crate::sides::Sides;
@@ -39,7 +38,8 @@ impl Default for Options {
     ghost use Rattle.std.specs.Prelude.{◌≡◌, None};
     ghost use Rattle.gtfs_merge.specs.Merging.{default_file_limit};
 
-    ghost is_default = { λ options. (options.file_limit ≡ default_file_limit) × (options.near ≡ None) × (options.cutoff ≡ None) };
+    ghost is_default = { λ options. (options.file_limit ≡ default_file_limit)
+        × (options.near ≡ None) × (options.cutoff ≡ None) };
 
     fn default() -> Options {
         Options {
@@ -126,7 +126,7 @@ pub fn merge(
         near: options.near,
     };
     sides.soundness();
-    judged(alloc, random, &sides, options)
+    judged(alloc, random, Given::Lent(a), Given::Lent(b), options)
 }
 
 /// The same of two feeds that are given up. With a cutoff each is let go as soon as it is trimmed, so that no more memory is
@@ -156,152 +156,102 @@ pub fn merge_owned(
         near: options.near,
     };
     sides.soundness();
-    judged_owned(alloc, random, a, b, options)
+    judged(
+        alloc,
+        random,
+        Given::Owned(a),
+        Given::Owned(b),
+        options,
+    )
 }
 
 // The merged feed, or why there is none; the zones are judged first.
 fn judged(
     alloc: Global,
     random: RandomState,
-    sides: &Sides,
-    options: &Options,
-) -> Result<Merged, MergeFault>
-    requires near { sides.now.near ≡ options.now.near }
-    requires cutoff { IfSome options.now.cutoff (λ d. is_service_day d ≡ true) }
-    ensures merged { IfOk result (IsMergeOf sides.now.near options.now.cutoff
-        (content_a sides.now) (content_b sides.now) options.now.file_limit) }
-    ensures refused { IfErr result (IsRefusal sides.now.near options.now.cutoff
-        (content_a sides.now) (content_b sides.now) options.now.file_limit) }
-{
-    if zones_differ(sides.a, sides.b) {
-        return Err(MergeFault::ZoneDiffers);
-    }
-    let rows = rows_of(alloc, random, sides, options.cutoff)?;
-    limited(alloc, random, rows, options.file_limit)
-}
-
-// The same of feeds that are given up.
-fn judged_owned(
-    alloc: Global,
-    random: RandomState,
-    a: Feed,
-    b: Feed,
+    a: Given<'_>,
+    b: Given<'_>,
     options: &Options,
 ) -> Result<Merged, MergeFault>
     requires { IfSome options.now.cutoff (λ d. is_service_day d ≡ true) }
     ensures merged { IfOk result (IsMergeOf options.now.near options.now.cutoff
-        (content_of a) (content_of b) options.now.file_limit) }
+        (content_of (given_parts a)) (content_of (given_parts b)) options.now.file_limit) }
     ensures refused { IfErr result (IsRefusal options.now.near options.now.cutoff
-        (content_of a) (content_of b) options.now.file_limit) }
+        (content_of (given_parts a)) (content_of (given_parts b)) options.now.file_limit) }
 {
-    if zones_differ(&a, &b) {
+    if zones_differ(a.feed(), b.feed()) {
         return Err(MergeFault::ZoneDiffers);
     }
-    let rows = rows_of_owned(alloc, random, a, b, options)?;
+    let rows = rows_of(alloc, random, a, b, options)?;
     limited(alloc, random, rows, options.file_limit)
 }
 
-// The rows of the merged feed, and what the ids of both feeds became. Feeds that were trimmed for it are let go.
+// The rows of the merged feed, and what the ids of both feeds became.
 fn rows_of(
     alloc: Global,
     random: RandomState,
-    sides: &Sides,
-    cutoff: Option<Day>,
-) -> Result<(Parts, Names), OutOfMemory>
-    requires zone { zones_differ (content_a sides.now) (content_b sides.now) ≡ false }
-    requires cutoff { IfSome cutoff (λ d. is_service_day d ≡ true) }
-    ensures { IfOk result (AreRowsOfMerge sides.now.near cutoff
-        (content_a sides.now) (content_b sides.now)) }
-{
-    match cutoff {
-        Some(day) => rows_cut_at(alloc, random, sides, day),
-        None => whole_rows(alloc, random, sides),
-    }
-}
-
-// The same of the first feed before a day and of the second one from it on.
-fn rows_cut_at(
-    alloc: Global,
-    random: RandomState,
-    sides: &Sides,
-    day: Day,
-) -> Result<(Parts, Names), OutOfMemory>
-    requires zone { zones_differ (content_a sides.now) (content_b sides.now) ≡ false }
-    requires day { is_service_day day ≡ true }
-    ensures { IfOk result (AreRowsOfMerge sides.now.near (Some day)
-        (content_a sides.now) (content_b sides.now)) }
-{
-    let first = sides.a.trimmed(alloc, random, Cut::Before(day))?;
-    let second = sides.b.trimmed(alloc, random, Cut::From(day))?;
-    let trimmed = Sides {
-        a: &first,
-        b: &second,
-        near: sides.near,
-    };
-    whole_rows(alloc, random, &trimmed)
-}
-
-// The same of feeds that are given up.
-fn rows_of_owned(
-    alloc: Global,
-    random: RandomState,
-    a: Feed,
-    b: Feed,
+    a: Given<'_>,
+    b: Given<'_>,
     options: &Options,
 ) -> Result<(Parts, Names), OutOfMemory>
-    requires zone { zones_differ (content_of a) (content_of b) ≡ false }
+    requires zone { zones_differ (content_of (given_parts a)) (content_of (given_parts b)) ≡ false }
     requires cutoff { IfSome options.now.cutoff (λ d. is_service_day d ≡ true) }
     ensures { IfOk result (AreRowsOfMerge options.now.near options.now.cutoff
-        (content_of a) (content_of b)) }
+        (content_of (given_parts a)) (content_of (given_parts b))) }
 {
     match options.cutoff {
-        Some(day) => rows_of_trimmed(alloc, random, a, b, day, options.near),
+        Some(day) => rows_cut_at(alloc, random, a, b, day, options.near),
         None => rows_of_pair(alloc, random, a, b, options.near),
     }
 }
 
-// The same with a cutoff: each feed is let go before more is made of the other one.
-fn rows_of_trimmed(
+// The same of the first feed before a day and of the second one from it on. A feed that is given up is let go before more
+// is made of the other one.
+fn rows_cut_at(
     alloc: Global,
     random: RandomState,
-    a: Feed,
-    b: Feed,
+    a: Given<'_>,
+    b: Given<'_>,
     day: Day,
     near: Option<u32>,
 ) -> Result<(Parts, Names), OutOfMemory>
-    requires zone { zones_differ (content_of a) (content_of b) ≡ false }
+    requires zone { zones_differ (content_of (given_parts a)) (content_of (given_parts b)) ≡ false }
     requires day { is_service_day day ≡ true }
-    ensures { IfOk result (AreRowsOfMerge near (Some day) (content_of a) (content_of b)) }
+    ensures { IfOk result (AreRowsOfMerge near (Some day)
+        (content_of (given_parts a)) (content_of (given_parts b))) }
 {
-    let first = trimmed(alloc, random, a, Cut::Before(day))?;
-    let second = trimmed(alloc, random, b, Cut::From(day))?;
-    rows_of_pair(alloc, random, first, second, near)
-}
-
-// What is left of a feed that is given up.
-fn trimmed(alloc: Global, random: RandomState, feed: Feed, cut: Cut) -> Result<Feed, OutOfMemory>
-    requires { is_service_day (cut_day cut) ≡ true }
-    ensures { IfOk result (λ left. content_of left ≡ trimmed cut (content_of feed)) }
-{
-    feed.trimmed(alloc, random, cut)
-}
-
-// The rows of the merge of two whole feeds that are given up.
-fn rows_of_pair(
-    alloc: Global,
-    random: RandomState,
-    a: Feed,
-    b: Feed,
-    near: Option<u32>,
-) -> Result<(Parts, Names), OutOfMemory>
-    requires { zones_differ (content_of a) (content_of b) ≡ false }
-    ensures { IfOk result (AreRowsOfMerge near None (content_of a) (content_of b)) }
-{
-    let sides = Sides { a: &a, b: &b, near };
-    whole_rows(alloc, random, &sides)
+    let first = a.trimmed(alloc, random, Cut::Before(day))?;
+    let second = b.trimmed(alloc, random, Cut::From(day))?;
+    rows_of_pair(
+        alloc,
+        random,
+        Given::Owned(first),
+        Given::Owned(second),
+        near,
+    )
 }
 
 // The same of both feeds as they are.
+fn rows_of_pair(
+    alloc: Global,
+    random: RandomState,
+    a: Given<'_>,
+    b: Given<'_>,
+    near: Option<u32>,
+) -> Result<(Parts, Names), OutOfMemory>
+    requires { zones_differ (content_of (given_parts a)) (content_of (given_parts b)) ≡ false }
+    ensures { IfOk result (AreRowsOfMerge near None
+        (content_of (given_parts a)) (content_of (given_parts b))) }
+{
+    let sides = Sides {
+        a: a.feed(),
+        b: b.feed(),
+        near,
+    };
+    whole_rows(alloc, random, &sides)
+}
+
+// The same of two feeds that are lent.
 fn whole_rows(
     alloc: Global,
     random: RandomState,

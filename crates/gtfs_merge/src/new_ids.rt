@@ -34,7 +34,8 @@ pub(crate) fn free_id(
     kind: Kind,
     base: &str,
 ) -> Result<String, OutOfMemory>
-    requires { length (known_ids kind sides.now.a.now ++ known_ids kind sides.now.b.now) + 2 < 2 ^ 128 }
+    requires { length (known_ids kind sides.now.a.now ++ known_ids kind sides.now.b.now) + 2
+        < 2 ^ 128 }
     ensures { IfOk result (λ id. string_bytes id
         ≡ free_id (known_ids kind sides.now.a.now ++ known_ids kind sides.now.b.now) base.now) }
 {
@@ -51,7 +52,8 @@ pub(crate) fn free_id(
 // Whether one of the feeds has this id of a kind.
 #[tactic(auto, using(crate::proofs::FreeSearch::has_both))]
 fn is_taken(sides: &Sides, kind: Kind, id: &str) -> bool
-    ensures { result ≡ lists_id (known_ids kind sides.now.a.now ++ known_ids kind sides.now.b.now) id.now }
+    ensures { result
+        ≡ lists_id (known_ids kind sides.now.a.now ++ known_ids kind sides.now.b.now) id.now }
 {
     has_this_id(sides.a, kind, id) || has_this_id(sides.b, kind, id)
 }
