@@ -3,6 +3,7 @@ ghost use Rattle.gtfs_days.specs.Service.{is_service_day};
 ghost use Rattle.gtfs_rows.specs.Views.{IsSoundParts, content_of_parts};
 ghost use Rattle.gtfs_feed.specs.Content.{content_of};
 ghost use Rattle.gtfs_merge.specs.Merged.{zones_differ};
+ghost use Rattle.gtfs_merge.specs.Names.{AreHashedBy};
 ghost use Rattle.gtfs_merge.specs.Merging.{AreRowsOfMerge, IsFeedOf, IsLimitFault, IsMergeOf, IsRefusal, KeepsDepartures};
 ghost use Rattle.gtfs_merge.specs.Sides.{content_a, content_b, given_parts};
 
@@ -119,6 +120,7 @@ pub fn merge(
         (content_of a.now) (content_of b.now) options.now.file_limit) }
     ensures departures { KeepsDepartures options.now.near options.now.cutoff
         (content_of a.now) (content_of b.now) }
+    ensures hashed { IfOk result (λ merged. AreHashedBy random merged.names) }
 {
     let sides = Sides {
         a,
@@ -149,6 +151,7 @@ pub fn merge_owned(
         (content_of a) (content_of b) options.now.file_limit) }
     ensures departures { KeepsDepartures options.now.near options.now.cutoff
         (content_of a) (content_of b) }
+    ensures hashed { IfOk result (λ merged. AreHashedBy random merged.names) }
 {
     let sides = Sides {
         a: &a,
@@ -178,6 +181,7 @@ fn judged(
         (content_of (given_parts a)) (content_of (given_parts b)) options.now.file_limit) }
     ensures refused { IfErr result (IsRefusal options.now.near options.now.cutoff
         (content_of (given_parts a)) (content_of (given_parts b)) options.now.file_limit) }
+    ensures hashed { IfOk result (λ merged. AreHashedBy random merged.names) }
 {
     if zones_differ(a.feed(), b.feed()) {
         return Err(MergeFault::ZoneDiffers);
@@ -196,7 +200,7 @@ fn rows_of(
 ) -> Result<(Parts, Names), OutOfMemory>
     requires zone { zones_differ (content_of (given_parts a)) (content_of (given_parts b)) ≡ false }
     requires cutoff { IfSome options.now.cutoff (λ d. is_service_day d ≡ true) }
-    ensures { IfOk result (AreRowsOfMerge options.now.near options.now.cutoff
+    ensures { IfOk result (AreRowsOfMerge random options.now.near options.now.cutoff
         (content_of (given_parts a)) (content_of (given_parts b))) }
 {
     match options.cutoff {
@@ -217,7 +221,7 @@ fn rows_cut_at(
 ) -> Result<(Parts, Names), OutOfMemory>
     requires zone { zones_differ (content_of (given_parts a)) (content_of (given_parts b)) ≡ false }
     requires day { is_service_day day ≡ true }
-    ensures { IfOk result (AreRowsOfMerge near (Some day)
+    ensures { IfOk result (AreRowsOfMerge random near (Some day)
         (content_of (given_parts a)) (content_of (given_parts b))) }
 {
     let first = a.trimmed(alloc, random, Cut::Before(day))?;
@@ -240,7 +244,7 @@ fn rows_of_pair(
     near: Option<u32>,
 ) -> Result<(Parts, Names), OutOfMemory>
     requires { zones_differ (content_of (given_parts a)) (content_of (given_parts b)) ≡ false }
-    ensures { IfOk result (AreRowsOfMerge near None
+    ensures { IfOk result (AreRowsOfMerge random near None
         (content_of (given_parts a)) (content_of (given_parts b))) }
 {
     let sides = Sides {
@@ -258,7 +262,7 @@ fn whole_rows(
     sides: &Sides,
 ) -> Result<(Parts, Names), OutOfMemory>
     requires { zones_differ (content_a sides.now) (content_b sides.now) ≡ false }
-    ensures { IfOk result (AreRowsOfMerge sides.now.near None
+    ensures { IfOk result (AreRowsOfMerge random sides.now.near None
         (content_a sides.now) (content_b sides.now)) }
 {
     let twins = Twins::of_feeds(alloc, sides)?;
