@@ -4,8 +4,8 @@ use crate::assertions::{assert_case, assert_is};
 use crate::feed::{FREQUENCIES, FileLines, put_files, small_feed};
 use gtfs_columns::{
     Code, Column, Empty, FeedIds, FileName, Finder, Found, Ids, Kind, Problem, cell_code,
-    fault_code, has_control, is_one_of, is_required, length_code, read_choice, stop_types, type_of,
-    values,
+    fault_code, has_control, is_one_of, is_required, length_code, push_plain, read_choice, stop_types,
+    type_of, values,
 };
 use gtfs_field::{Axis, Clock, Colour, Coord, Day, FieldFault};
 use gtfs_rules::{Passed, check};
@@ -122,6 +122,14 @@ fn texts_are_read(rt: HostRuntime) {
     assert_is(&rt, values::meant("0", "1"), "1", "a text");
     assert!(rt; has_control("\u{7f}"));
     assert!(rt; !has_control("Mill Road"));
+}
+
+#[test]
+fn control_characters_become_spaces(rt: HostRuntime) -> Result<(), Fail> {
+    let mut shown = String::with_capacity(rt.alloc(), 20)?;
+    push_plain(&mut shown, "Mill\tRoad\u{7f}");
+    assert_is(&rt, shown.as_str(), "Mill Road ", "a tab and a delete");
+    Ok(())
 }
 
 #[test]
