@@ -6,17 +6,10 @@ use Rattle.gtfs_rows.specs.declared.parts.Parts.{Parts}
 use Rattle.gtfs_merge.specs.Merged.{merged}
 use Rattle.gtfs_merge.specs.Near.{nearness}
 use Rattle.gtfs_merge.specs.Renaming.{Names, Nearness, ids, is_joined, names_a, names_b}
-use Rattle.gtfs_merge.specs.declared.given.Given.{Given}
-use Rattle.gtfs_merge.specs.declared.given.Given.TheVariants.{Lent, Owned}
 use Rattle.gtfs_merge.specs.declared.kind.Kind.{Kind}
 use Rattle.gtfs_merge.specs.declared.kind.Side.{Side}
 use Rattle.gtfs_merge.specs.declared.kind.Side.TheVariants as side
 use Rattle.gtfs_merge.specs.declared.sides.Sides.{Sides}
-
--- the rows of a feed that is lent or given up
-abbrev pub given_parts : Given → Parts
-given_parts (Lent feed) = feed.now
-given_parts (Owned feed) = feed
 
 abbrev pub side_parts : Side → Sides → Parts
 side_parts side.A sides = sides.a.now

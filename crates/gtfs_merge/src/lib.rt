@@ -16,7 +16,6 @@
 //! what is told of a merge.
 #![tactic(auto)]
 
-mod given;
 mod headsigns;
 mod id_rows;
 mod joined;

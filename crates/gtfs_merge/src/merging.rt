@@ -1,13 +1,15 @@
 ghost use Rattle.std.specs.Prelude.{◌≡◌, ◌≤◌, IfErr, IfOk, IfSome, None, Some, false, true};
+ghost use Rattle.std.specs.Cow.{cow_value};
+ghost use Rattle.gtfs_days.specs.Cut.{cut_day};
 ghost use Rattle.gtfs_days.specs.Service.{is_service_day};
+ghost use Rattle.gtfs_rows.specs.Trimmed.{trimmed};
 ghost use Rattle.gtfs_rows.specs.Views.{IsSoundParts, content_of_parts};
 ghost use Rattle.gtfs_feed.specs.Content.{content_of};
 ghost use Rattle.gtfs_merge.specs.Merged.{zones_differ};
 ghost use Rattle.gtfs_merge.specs.Names.{AreHashedBy};
 ghost use Rattle.gtfs_merge.specs.Merging.{AreRowsOfMerge, IsFeedOf, IsLimitFault, IsMergeOf, IsRefusal, KeepsDepartures};
-ghost use Rattle.gtfs_merge.specs.Sides.{content_a, content_b, given_parts};
+ghost use Rattle.gtfs_merge.specs.Sides.{content_a, content_b};
 
-use crate::given::Given;
 use crate::merged_parts::merged_parts;
 use crate::names::Names;
 use crate::sides::Sides;
@@ -18,6 +20,7 @@ use gtfs_feed::Feed;
 use gtfs_field::{Day, OutOfMemory};
 use gtfs_rows::Parts;
 use std::alloc::Global;
+use std::borrow::Cow;
 use std::hash::RandomState;
 use thiserror::Error;
 
@@ -128,7 +131,7 @@ pub fn merge(
         near: options.near,
     };
     sides.soundness();
-    judged(alloc, random, Given::Lent(a), Given::Lent(b), options)
+    judged(alloc, random, Cow::Borrowed(a), Cow::Borrowed(b), options)
 }
 
 /// The same of two feeds that are given up. With a cutoff each is let go as soon as it is trimmed, so that no more memory is
@@ -159,31 +162,25 @@ pub fn merge_owned(
         near: options.near,
     };
     sides.soundness();
-    judged(
-        alloc,
-        random,
-        Given::Owned(a),
-        Given::Owned(b),
-        options,
-    )
+    judged(alloc, random, Cow::Owned(a), Cow::Owned(b), options)
 }
 
-// The merged feed, or why there is none; the zones are judged first.
+// The merged feed, or why there is none; the zones are judged first. The feeds are lent or given up.
 fn judged(
     alloc: Global,
     random: RandomState,
-    a: Given<'_>,
-    b: Given<'_>,
+    a: Cow<'_, Feed>,
+    b: Cow<'_, Feed>,
     options: &Options,
 ) -> Result<Merged, MergeFault>
     requires { IfSome options.now.cutoff (λ d. is_service_day d ≡ true) }
     ensures merged { IfOk result (IsMergeOf options.now.near options.now.cutoff
-        (content_of (given_parts a)) (content_of (given_parts b)) options.now.file_limit) }
+        (content_of (cow_value a)) (content_of (cow_value b)) options.now.file_limit) }
     ensures refused { IfErr result (IsRefusal options.now.near options.now.cutoff
-        (content_of (given_parts a)) (content_of (given_parts b)) options.now.file_limit) }
+        (content_of (cow_value a)) (content_of (cow_value b)) options.now.file_limit) }
     ensures hashed { IfOk result (λ merged. AreHashedBy random merged.names) }
 {
-    if zones_differ(a.feed(), b.feed()) {
+    if zones_differ(a.as_ref(), b.as_ref()) {
         return Err(MergeFault::ZoneDiffers);
     }
     let rows = rows_of(alloc, random, a, b, options)?;
@@ -194,14 +191,14 @@ fn judged(
 fn rows_of(
     alloc: Global,
     random: RandomState,
-    a: Given<'_>,
-    b: Given<'_>,
+    a: Cow<'_, Feed>,
+    b: Cow<'_, Feed>,
     options: &Options,
 ) -> Result<(Parts, Names), OutOfMemory>
-    requires zone { zones_differ (content_of (given_parts a)) (content_of (given_parts b)) ≡ false }
+    requires zone { zones_differ (content_of (cow_value a)) (content_of (cow_value b)) ≡ false }
     requires cutoff { IfSome options.now.cutoff (λ d. is_service_day d ≡ true) }
     ensures { IfOk result (AreRowsOfMerge random options.now.near options.now.cutoff
-        (content_of (given_parts a)) (content_of (given_parts b))) }
+        (content_of (cow_value a)) (content_of (cow_value b))) }
 {
     match options.cutoff {
         Some(day) => rows_cut_at(alloc, random, a, b, day, options.near),
@@ -214,42 +211,49 @@ fn rows_of(
 fn rows_cut_at(
     alloc: Global,
     random: RandomState,
-    a: Given<'_>,
-    b: Given<'_>,
+    a: Cow<'_, Feed>,
+    b: Cow<'_, Feed>,
     day: Day,
     near: Option<u32>,
 ) -> Result<(Parts, Names), OutOfMemory>
-    requires zone { zones_differ (content_of (given_parts a)) (content_of (given_parts b)) ≡ false }
+    requires zone { zones_differ (content_of (cow_value a)) (content_of (cow_value b)) ≡ false }
     requires day { is_service_day day ≡ true }
     ensures { IfOk result (AreRowsOfMerge random near (Some day)
-        (content_of (given_parts a)) (content_of (given_parts b))) }
+        (content_of (cow_value a)) (content_of (cow_value b))) }
 {
-    let first = a.trimmed(alloc, random, Cut::Before(day))?;
-    let second = b.trimmed(alloc, random, Cut::From(day))?;
-    rows_of_pair(
-        alloc,
-        random,
-        Given::Owned(first),
-        Given::Owned(second),
-        near,
-    )
+    let first = trimmed(alloc, random, a, Cut::Before(day))?;
+    let second = trimmed(alloc, random, b, Cut::From(day))?;
+    rows_of_pair(alloc, random, Cow::Owned(first), Cow::Owned(second), near)
+}
+
+// What is left of a feed. If it is given up, it is let go.
+fn trimmed(
+    alloc: Global,
+    random: RandomState,
+    feed: Cow<'_, Feed>,
+    cut: Cut,
+) -> Result<Feed, OutOfMemory>
+    requires { is_service_day (cut_day cut) ≡ true }
+    ensures { IfOk result (λ left. content_of left ≡ trimmed cut (content_of (cow_value feed))) }
+{
+    feed.as_ref().trimmed(alloc, random, cut)
 }
 
 // The same of both feeds as they are.
 fn rows_of_pair(
     alloc: Global,
     random: RandomState,
-    a: Given<'_>,
-    b: Given<'_>,
+    a: Cow<'_, Feed>,
+    b: Cow<'_, Feed>,
     near: Option<u32>,
 ) -> Result<(Parts, Names), OutOfMemory>
-    requires { zones_differ (content_of (given_parts a)) (content_of (given_parts b)) ≡ false }
+    requires { zones_differ (content_of (cow_value a)) (content_of (cow_value b)) ≡ false }
     ensures { IfOk result (AreRowsOfMerge random near None
-        (content_of (given_parts a)) (content_of (given_parts b))) }
+        (content_of (cow_value a)) (content_of (cow_value b))) }
 {
     let sides = Sides {
-        a: a.feed(),
-        b: b.feed(),
+        a: a.as_ref(),
+        b: b.as_ref(),
         near,
     };
     whole_rows(alloc, random, &sides)

@@ -39,7 +39,12 @@ fn assert_alike<R: Abort + RandomSource>(
     let wanted = report(alloc, &a, &b, &lent.names)?;
     let told = report(alloc, &a, &b, &owned.names)?;
     assert_is(rt, told.as_str(), wanted.as_str(), "names");
-    assert_is(rt, owned.names.near() == lent.names.near(), true, "near stops");
+    assert_is(
+        rt,
+        owned.names.near() == lent.names.near(),
+        true,
+        "near stops",
+    );
     assert_same_files(rt, alloc, &owned.feed, &lent.feed)
 }
 

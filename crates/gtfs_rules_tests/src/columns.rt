@@ -4,8 +4,8 @@ use crate::assertions::{assert_case, assert_is};
 use crate::feed::{FREQUENCIES, FileLines, put_files, small_feed};
 use gtfs_columns::{
     Code, Column, Empty, FeedIds, FileName, Finder, Found, Ids, Kind, Problem, cell_code,
-    fault_code, has_control, is_one_of, is_required, length_code, push_plain, read_choice, stop_types,
-    type_of, values,
+    fault_code, has_control, is_one_of, is_required, length_code, push_plain, read_choice,
+    stop_types, type_of, values,
 };
 use gtfs_field::{Axis, Clock, Colour, Coord, Day, FieldFault};
 use gtfs_rules::{Passed, check};
