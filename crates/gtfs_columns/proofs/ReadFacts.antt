@@ -1,6 +1,6 @@
 -- Reading a value of a dataset that passes never fails.
 use Rattle.std.proofs.Common.{◌≡◌, ℕ, List, [], ◌∷◌, true, false, Bool, Option, Some, None, codes, refl, sym, ap, ◌∙◌, inl, inr, arith}
-use Rattle.std.specs.Prelude.{◌&&◌, ◌||◌, bytes_eq, not, if◌then◌else◌, nat_lt, nat_le, length, find, is_some, IsSome, option_and_then, option_map, ℤ, Result, Ok, Err}
+use Rattle.std.specs.Prelude.{◌&&◌, ◌||◌, bytes_eq, not, if◌then◌else◌, nat_lt, nat_le, length, find, is_some, option_and_then, option_map, ℤ, Result, Ok, Err}
 use Rattle.std.specs.List.{list_all, list_any}
 use Rattle.std.specs.Result.{result_ok}
 use Rattle.std.proofs.lemmas.Bool.{and_parts, cases_Bool, not-false as not_not}
@@ -21,9 +21,9 @@ use Rattle.gtfs_columns.specs.FieldRules.{is_id, is_text, is_form_fault, is_rang
 use Rattle.gtfs_columns.specs.Problems.{Passes, holds_in, kept}
 use Rattle.gtfs_columns.specs.ReadRules.{IsReadAs, IsReadUnder, StandsAs, StandsUnder, may_lack}
 use Rattle.gtfs_columns.specs.Rows.{is_named, text_in}
-use Rattle.gtfs_columns.specs.Values.{Value, word, as_amount, as_word, counted, has_control, meaning, measured, one_of, read_as, readable}
+use Rattle.gtfs_columns.specs.Values.{Value, as_amount, counted, has_control, meaning, measured, one_of, read_as, readable}
 use Rattle.gtfs_columns.specs.Reads.{amount_of, word_of}
-use Rattle.gtfs_field.specs.Kinds.{shaped, count_of, time_of, date_of, colour_of, coordinate_of}
+use Rattle.gtfs_field.specs.Kinds.{count_of, time_of, date_of, colour_of, coordinate_of}
 use Rattle.gtfs_field.proofs.OptionFacts.{is_some-map as mapped_some}
 
 -- ---- what a default means is readable

@@ -1,17 +1,17 @@
 -- The names of a merge fit both feeds: each id is there under its new name, which is a text that a field holds.
 use Rattle.std.proofs.Common.{◌≡◌, ℕ, suc, ◌+◌, ◌<◌, ◌^◌, Bool, true, false, cond, not, List, [], ◌∷◌, ◌++◌, Some, None, refl, sym, ap, ◌∙◌, subst, inl, inr, map, length, bytes_eq, count_by, codes, true≢false, eqb-true, arith, length-append}
 use Rattle.std.specs.Prelude.{◌&&◌, ◌||◌, ◌==◌, if◌then◌else◌}
-use Rattle.std.specs.List.{list_any, list_all}
+use Rattle.std.specs.List.{list_any}
 use Rattle.std.proofs.lemmas.Bool.{and_parts, and_from, or_cases, or_left, or_right, cases_Bool}
 use Rattle.std.proofs.lemmas.List.{length-map}
 use Rattle.std.proofs.lemmas.List.Sums.{sum_by-cons}
 use Prim.Native.String.{String as Literal}
 use Rattle.gtfs_table.specs.Rows.{is_empty}
 use Rattle.gtfs_table.specs.declared.file.File.TheVariants as file
-use Rattle.gtfs_columns.specs.Columns.{Column, columns_of, optional, id}
+use Rattle.gtfs_columns.specs.Columns.{columns_of, optional, id}
 use Rattle.gtfs_columns.specs.Values.{if_there, word}
 use Rattle.gtfs_columns.proofs.SiteFacts.{text_is as same_bytes}
-use Rattle.gtfs_rows.specs.Cells.{Cell, are_cells, is_cell, is_clean, is_filled}
+use Rattle.gtfs_rows.specs.Cells.{is_cell, is_clean, is_filled}
 use Rattle.gtfs_rows.specs.Content.{Content}
 use Rattle.gtfs_rows.specs.RowCells.{id_cell, agency_cells, stop_cells}
 use Rattle.gtfs_rows.specs.Rows.{Agency, Stop}

@@ -3,6 +3,7 @@
 use crate::assertions::assert_is;
 use crate::cases::{Asked, PLAIN, merged_by, options_of};
 use crate::cutoff::MOVED_AND_CUT;
+use crate::near::pairs;
 use crate::report::report;
 use crate::written::assert_same_files;
 use gtfs_fixtures::{FileText, feed_with};
@@ -39,12 +40,9 @@ fn assert_alike<R: Abort + RandomSource>(
     let wanted = report(alloc, &a, &b, &lent.names)?;
     let told = report(alloc, &a, &b, &owned.names)?;
     assert_is(rt, told.as_str(), wanted.as_str(), "names");
-    assert_is(
-        rt,
-        owned.names.near() == lent.names.near(),
-        true,
-        "near stops",
-    );
+    let wanted = pairs(alloc, &lent.names)?;
+    let told = pairs(alloc, &owned.names)?;
+    assert_is(rt, told.as_str(), wanted.as_str(), "near stops");
     assert_same_files(rt, alloc, &owned.feed, &lent.feed)
 }
 
