@@ -2,7 +2,7 @@ use Rattle.std.proofs.Common.{◌∙◌, ap, sym, ◌++◌, append_assoc, arith,
 use Rattle.std.specs.Prelude.{encode_utf8}
 use Rattle.gtfs_columns.specs.Values.{plain}
 use Rattle.gtfs_columns.proofs.PlainTexts.{length-past, plain-past}
-use Rattle.gtfs_stop_times.proofs.plain.push_plain.Goals as goal
+use Rattle.gtfs_columns.proofs.plain.push_plain.Goals as goal
 
 pub loop-character-preserved : goal.loop-character-preserved
 loop-character-preserved c =
@@ -16,7 +16,8 @@ loop-character-preserved c =
     let rest_len = length-past name later c.in-Some.character d c.in-Some.ensures.steps.0 c.plain_character.ensures in
     record {
       grown = ap (λ t. t ++ plain later) bytes ∙ append_assoc before (encode_utf8 d) (plain later) ∙ ap (λ t. before ++ t) (sym rest) ∙ c.loop-character.invariant.grown;
-      room = omega (arith, len, rest_len, c.push.ensures.capacity, c.loop-character.invariant.room);
+      len = omega (arith, len, rest_len, c.loop-character.invariant.len);
+      capacity = omega (arith, c.push.ensures.capacity, c.loop-character.invariant.capacity);
     }
 
 pub unwrap-requires : goal.unwrap-requires
@@ -24,4 +25,4 @@ unwrap-requires c =
     let name = c.loop-character.character-iterator.rest.now in
     let later = c.next.new.self.rest.now in
     let rest_len = length-past name later c.in-Some.character c.plain_character.result c.in-Some.ensures.steps.0 c.plain_character.ensures in
-    c.push.ensures.succeeds (omega (arith, rest_len, c.loop-character.invariant.room))
+    c.push.ensures.succeeds (omega (arith, rest_len, c.loop-character.invariant.len, c.loop-character.invariant.capacity, c.requires))
