@@ -22,14 +22,13 @@ pub struct Feed {
 
 impl Model for Feed {
     ghost use Rattle.gtfs_rows.specs.declared.parts.Parts.{Parts as PartsValue};
-    ghost use Rattle.gtfs_feed.specs.Numbering.{IsNumbered};
-    ghost use Rattle.gtfs_feed.specs.RowIds.{numbering_in};
+    ghost use Rattle.gtfs_feed.specs.RowIds.{IsNumbered};
 
     ghost Value = { PartsValue };
 
     ghost view = { λ f. f.parts };
 
-    ghost invariant = { λ f. IsNumbered f.parts (numbering_in f.ids) };
+    ghost invariant = { λ f. IsNumbered f.parts f.ids };
 }
 
 // Written out, so that a function that lets a feed go has one call to prove.

@@ -4,6 +4,7 @@ ghost use Rattle.gtfs_rows.specs.Reading.{content_of as content_of_dataset};
 ghost use Rattle.gtfs_rows.specs.Views.{content_of_parts, stop_row_of};
 ghost use Rattle.gtfs_table.specs.Parts.{parts};
 ghost use Rattle.gtfs_table.specs.Tables.{Dataset};
+ghost use Rattle.gtfs_stop_times.specs.FirstNamed.{headsigns_in};
 ghost use Rattle.gtfs_feed.specs.Content.{content_of};
 
 use crate::feed::Feed;
@@ -25,7 +26,10 @@ impl Feed {
     /// # Errors
     /// `OutOfMemory` where memory is refused, and where stop times have more than 4,294,967,295 different headsigns.
     pub fn new(alloc: Global, random: RandomState, passed: &Passed<'_>) -> Result<Feed, OutOfMemory>
-        ensures { IfOk result (λ feed. content_of feed ≡ content_of_dataset passed.now) }
+        ensures content { IfOk result
+            (λ feed. content_of feed ≡ content_of_dataset passed.now) }
+        ensures headsigns { IfOk result
+            (λ feed. feed.headsigns ≡ headsigns_in (content_of_dataset passed.now)) }
     {
         let rows = FeedRows::new(alloc, passed)?;
         let trips = rows.trips.as_slice().len();

@@ -23,7 +23,9 @@ impl Feed {
     /// `OutOfMemory` where memory is refused.
     pub fn trimmed(&self, alloc: Global, random: RandomState, cut: Cut) -> Result<Feed, OutOfMemory>
         requires { is_service_day (cut_day cut) ≡ true }
-        ensures { IfOk result (λ feed. content_of feed ≡ trimmed cut (content_of self.now)) }
+        ensures content { IfOk result
+            (λ feed. content_of feed ≡ trimmed cut (content_of self.now)) }
+        ensures parts { IfOk result (λ feed. feed ≡ trimmed_parts cut self.now) }
     {
         let parts = trimmed_parts(alloc, self.parts(), &cut)?;
         Feed::assemble(alloc, random, parts)

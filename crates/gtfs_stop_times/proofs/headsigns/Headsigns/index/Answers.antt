@@ -15,10 +15,10 @@ index_of_plain-requires-else-has_control c = let none : has_control c.args.text.
 pub returns-clause-index : goal.returns-clause-index
 returns-clause-index c = elim c.if-has_control.branch [
   | then-has_control+in_ok-text+in_ok-index w ↦
-      ap (λ us. slice_get us c.if-has_control.index) (c.self-2.view_is ∙ w.self-is) ∙ ap (slice_get w.index_of_plain.new.self) w.index-is
+      ap (λ v. slice_get v.texts c.if-has_control.index) (c.self-2.view_is ∙ w.self-is) ∙ ap (slice_get w.index_of_plain.new.self.texts) w.index-is
       ∙ w.in_ok-index.ensures.index ∙ ap Some (w.as_str.ensures.value ∙ w.in_ok-text.ensures)
   | else-has_control+in_ok-index-2 w ↦
       let none : has_control c.args.text.now ≡ false = search rules in
-      ap (λ us. slice_get us c.if-has_control.index) (c.self-2.view_is ∙ w.self-is) ∙ ap (slice_get w.index_of_plain-else-has_control.new.self) w.index-is
+      ap (λ v. slice_get v.texts c.if-has_control.index) (c.self-2.view_is ∙ w.self-is) ∙ ap (slice_get w.index_of_plain-else-has_control.new.self.texts) w.index-is
       ∙ w.in_ok-index-2.ensures.index ∙ ap Some (sym (plain-itself c.args.text.now none))
 ]

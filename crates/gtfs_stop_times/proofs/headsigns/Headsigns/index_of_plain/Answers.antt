@@ -30,7 +30,7 @@ pub returns-clause-kept : goal.returns-clause-kept
 returns-clause-kept c =
     let ts = map string_bytes c.self.inside.texts.keys in
     let more = texts-more string_bytes c.args.text.now c.self.inside.texts.keys c.insert.new.self.keys c.in_ok-from_str.field-0 c.in_ok-from_str.ensures.ok c.in_default.ensures.found c.in_ok-insert.ensures.keys in
-    subst (λ old. KeepsHeadsigns old (map string_bytes c.insert.new.self.keys)) c.self.view_is (subst (KeepsHeadsigns ts) (sym more) (kept-append ts (c.args.text.now ∷ [])))
+    subst (λ old. KeepsHeadsigns old.texts (map string_bytes c.insert.new.self.keys)) c.self.view_is (subst (KeepsHeadsigns ts) (sym more) (kept-append ts (c.args.text.now ∷ [])))
 
 pub returns-clause-added : goal.returns-clause-added
 returns-clause-added c =
@@ -38,5 +38,5 @@ returns-clause-added c =
     let ts = map string_bytes keys in
     let more = texts-more string_bytes c.args.text.now keys c.insert.new.self.keys c.in_ok-from_str.field-0 c.in_ok-from_str.ensures.ok c.in_default.ensures.found c.in_ok-insert.ensures.keys in
     let at : length ts ≡ c.len-index.result = length-map keys string_bytes ∙ sym c.len-index.ensures.len in
-    subst (λ old. AddsOnly old (map string_bytes c.insert.new.self.keys) (Some c.len-index.result)) c.self.view_is
+    subst (λ old. AddsOnly old.texts (map string_bytes c.insert.new.self.keys) (Some c.len-index.result)) c.self.view_is
     (subst (λ new. AddsOnly ts new (Some c.len-index.result)) (sym more) (subst (λ k. AddsOnly ts (ts ++ c.args.text.now ∷ []) (Some k)) at (last-added ts c.args.text.now)))
