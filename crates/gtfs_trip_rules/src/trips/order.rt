@@ -114,7 +114,7 @@ fn order(a: &StopTime, b: &StopTime) -> Ordering
 }
 
 // A number that grows with the trip, and within a trip with the sequence: one comparison in place of two.
-fn rank(row: &StopTime) -> u64
+pub(super) fn rank(row: &StopTime) -> u64
     ensures value { result ≡ rank row.now }
     ensures sequence { row.now.stop_sequence < 2 ^ 32 }
 {
