@@ -41,7 +41,10 @@ impl Drop for Feed {
 impl Feed {
     /// The feed of these rows: ids get their numbers in the order of their bytes.
     ///
-    /// Where memory is refused, the parts are let go. No answer of a feed depends on the random state.
+    /// The ids are hashed by the random state, on which no answer of the feed depends.
+    ///
+    /// # Errors
+    /// `OutOfMemory` where memory is refused. Then the parts are let go.
     pub fn assemble(alloc: Global, random: RandomState, parts: Parts) -> Result<Feed, OutOfMemory>
         requires { IsSoundParts parts }
         ensures { IfOk result (λ feed. feed ≡ parts) }

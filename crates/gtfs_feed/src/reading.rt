@@ -20,8 +20,10 @@ impl Feed {
     /// The feed of a dataset that passed the validator: its content with numbers in place of ids (GTFS Schedule
     /// Reference, "Dataset Files").
     ///
-    /// Stop times were read when the dataset was checked, and are not read again. The dataset is lent and not changed, and
-    /// the feed lends nothing of it. No answer of the feed depends on the random state.
+    /// Headsigns of stop times have their numbers in the order in which the stop times first name them, trip after trip and
+    /// in each trip by sequence. Stop times were read when the dataset was checked, and are not read again. The dataset is
+    /// lent and not changed, and the feed lends nothing of it. Ids and headsigns are hashed by the random state, on which no
+    /// answer of the feed depends.
     ///
     /// # Errors
     /// `OutOfMemory` where memory is refused, and where stop times have more than 4,294,967,295 different headsigns.

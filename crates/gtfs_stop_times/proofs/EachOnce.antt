@@ -1,17 +1,20 @@
 -- A list with each text once, to which one is added; and the parts of a list, one after the other.
-use Rattle.std.proofs.Common.{◌≡◌, ◌≤◌, ◌+◌, ◌-◌, ◌∙◌, ◌++◌, ◌∷◌, [], ℕ, List, length, take, drop, get_or, Bool, true, false, bytes_eq, Option, Some, None, refl, sym, ap, arith, append-nil, inl, inr}
-use Rattle.std.specs.Prelude.{filter, filter_map, flat_map, if◌then◌else◌, not}
-use Rattle.std.specs.List.{list_any}
+use Rattle.std.proofs.Common.{◌≡◌, ◌≤◌, ◌+◌, ◌-◌, ◌∙◌, ◌++◌, ◌∷◌, [], ℕ, zero, suc, List, length, take, drop, get_or, Bool, true, false, bytes_eq, Option, Some, None, refl, sym, ap, subst, arith, append-nil, inl, inr}
+use Rattle.std.specs.Prelude.{filter, filter_map, flat_map, if◌then◌else◌, not, unwrap_or}
+use Rattle.std.specs.List.{list_any, slice_get}
 use Rattle.std.proofs.Math.Seq.{drop-length}
-use Rattle.std.proofs.lemmas.Bool.{cases_Bool}
+use Rattle.std.proofs.lemmas.Bool.{cases_Bool, or_left, or_right}
 use Rattle.std.proofs.lemmas.List.{drop-drop, length-drop, take-append-drop, take_all}
 use Rattle.std.proofs.lemmas.List.Elements.{filter-append, filter_map-append}
 use Rattle.std.proofs.lemmas.Map.Views.{any-filter_same}
+use Rattle.std.proofs.lemmas.Option.{get_or_from_slice_get, slice_get_within}
 use Rattle.csv.specs.Records.{Rising}
 use Rattle.gtfs_table.specs.Parts.{parts}
+use Rattle.gtfs_columns.specs.Values.{plain}
 use Rattle.gtfs_columns.proofs.NamedFacts.{text_turned}
 use Rattle.gtfs_columns.proofs.SiteFacts.{text_is, text_itself}
 use Rattle.indexmap.specs.IndexSet.{insert_key}
+use Rattle.gtfs_rows.specs.Headsigns.{ArePlain}
 use Rattle.gtfs_stop_times.specs.FirstNamed.{each_once}
 use Rattle.gtfs_stop_times.specs.HeadsignIndex.{with_headsign}
 
@@ -54,6 +57,26 @@ once-more (u ∷ ts) t = ap (λ es. u ∷ others u es) (once-more ts t) ∙ elim
         → u ∷ (if b then es else es ++ t ∷ []) ≡ (if b then u ∷ es else (u ∷ es) ++ t ∷ [])
     pushed-on u es t true = refl
     pushed-on u es t false = refl
+
+-- a headsign that has a number, and one that has none
+pub known-headsign : (ts : List (List ℕ)) (k : ℕ) (t : List ℕ) → slice_get ts k ≡ Some t → ts ≡ with_headsign ts (Some t)
+known-headsign ts k t at =
+    let there : list_any (bytes_eq t) ts ≡ true = any-at ts k t at in ap (λ b. if b then ts else ts ++ t ∷ []) (sym there)
+  where
+    any-at : (ts : List (List ℕ)) (k : ℕ) (t : List ℕ) → slice_get ts k ≡ Some t → list_any (bytes_eq t) ts ≡ true
+    any-at [] k t at = cc at
+    any-at (s ∷ ts) zero t at =
+        let same : s ≡ t = ap (λ o. unwrap_or o t) at in
+        or_left (bytes_eq t s) (list_any (bytes_eq t) ts) (ap (bytes_eq t) same ∙ text_itself t)
+    any-at (s ∷ ts) (suc k) t at = or_right (bytes_eq t s) (list_any (bytes_eq t) ts) (any-at ts k t at)
+
+pub plain-headsign : (ts : List (List ℕ)) → ArePlain ts → (k : ℕ) (t : List ℕ) → slice_get ts k ≡ Some t → ts ≡ with_headsign ts (Some (plain t))
+plain-headsign ts all k t at =
+    let itself : plain t ≡ t = subst (λ s. plain s ≡ s) (get_or_from_slice_get ts k t t at) (all k t (slice_get_within ts k t at)) in
+    known-headsign ts k (plain t) (at ∙ ap Some (sym itself))
+
+pub new-headsign : (ts : List (List ℕ)) (t : List ℕ) → list_any (bytes_eq t) ts ≡ false → ts ++ t ∷ [] ≡ with_headsign ts (Some t)
+new-headsign ts t absent = ap (λ b. if b then ts else ts ++ t ∷ []) (sym absent)
 
 -- a row that names a headsign, or none
 pub headsigns-more : {X : Type 0} (h : X → Option (List ℕ)) (xs : List X) (x : X)
