@@ -1,6 +1,6 @@
 //! `gtfs_feed`.
 
-use gtfs_days::Service;
+use gtfs_days::{Cut, Service};
 use gtfs_feed::{
     Agency, AgencyNo, Feed, Frequency, Parts, Route, RouteNo, ServiceNo, Stop, StopNo, StopRow,
     Transfer, Trip, TripNo,
@@ -13,6 +13,8 @@ use std::hash::RandomState;
 
 fn makers(
     _new: fn(Global, RandomState, &Passed<'_>) -> Result<Feed, OutOfMemory>,
+    _assemble: fn(Global, RandomState, Parts) -> Result<Feed, OutOfMemory>,
+    _trimmed: fn(&Feed, Global, RandomState, Cut) -> Result<Feed, OutOfMemory>,
     _to_tables: fn(&Feed, Global) -> Result<Tables, OutOfMemory>,
 ) {}
 
@@ -44,11 +46,20 @@ fn rows(
     _transfers: fn(&Feed) -> &[Transfer],
 ) {}
 
-fn parts(_assemble: fn(Global, RandomState, Parts) -> Result<Feed, OutOfMemory>) {}
+// Each number is one of a list.
+fn places(
+    agency: AgencyNo,
+    stop: StopNo,
+    route: RouteNo,
+    service: ServiceNo,
+    trip: TripNo,
+) -> [usize; 5] {
+    [agency.0, stop.0, route.0, service.0, trip.0]
+}
 
 #[test]
 fn the_calls_are_these() {
-    makers(Feed::new, Feed::to_tables);
+    makers(Feed::new, Feed::assemble, Feed::trimmed, Feed::to_tables);
     ids(
         Feed::agency,
         Feed::stop,
@@ -74,5 +85,4 @@ fn the_calls_are_these() {
         Feed::trip_frequencies,
         Feed::transfers,
     );
-    parts(Feed::assemble);
 }

@@ -3,9 +3,39 @@
 use gtfs_feed::{Feed, RouteNo, ServiceNo, StopNo, TripNo};
 use gtfs_field::{List, OutOfMemory};
 use gtfs_runs::{
-    Event, Lane, ListLane, Pattern, Seek, StepLane, Steps, StopLanes, Times, patterns,
+    Event, FilledLane, Lane, ListLane, Pattern, Seek, StepLane, Steps, StopLanes, Times,
+    flat_events, patterns,
 };
 use std::alloc::Global;
+
+// Lanes of every kind.
+fn lane<L: Lane>(
+    _first_after: fn(&L, &Feed, &Seek<'_>, &mut Steps) -> Option<Event>,
+    _next: fn(&L, &Feed, &Event, &mut Steps) -> Option<Event>,
+    _service: fn(&L) -> ServiceNo,
+) {}
+
+fn is_lane<L: Lane>() {
+    lane::<L>(L::first_after, L::next, L::service);
+}
+
+fn stop_lanes(
+    _build: fn(Global, &Feed, StopNo, Times) -> Result<(StopLanes, Steps), OutOfMemory>,
+    _lists: fn(&StopLanes) -> &[ListLane],
+    _periods: fn(&StopLanes) -> &[StepLane],
+    _filled: fn(&StopLanes) -> &[FilledLane],
+    _greatest: fn(&StopLanes) -> u32,
+    _count: fn(&Steps) -> u64,
+) {
+    is_lane::<ListLane>();
+    is_lane::<StepLane>();
+    is_lane::<FilledLane>();
+}
+
+fn lists(
+    _flat_events: fn(Global, &Feed, StopNo, Times) -> Result<Vec<(ServiceNo, Event)>, OutOfMemory>,
+    _patterns: fn(Global, &Feed, RouteNo) -> Result<Vec<Pattern>, OutOfMemory>,
+) {}
 
 fn event(event: Event) -> (u32, TripNo, u32, u32, usize) {
     let Event {
@@ -23,7 +53,7 @@ fn seek<'a>(seek: Seek<'a>) -> (i64, &'a str, u32, i64) {
     (at, trip, run, seq)
 }
 
-fn pattern(pattern: Pattern) -> (Option<u8>, List<StopNo>, List<TripNo>) {
+fn pattern(pattern: &Pattern) -> (&Option<u8>, &List<StopNo>, &List<TripNo>) {
     let Pattern {
         direction,
         stops,
@@ -32,32 +62,25 @@ fn pattern(pattern: Pattern) -> (Option<u8>, List<StopNo>, List<TripNo>) {
     (direction, stops, trips)
 }
 
-fn lane<L: Lane>(lane: &L, feed: &Feed, seek: &Seek<'_>, steps: &mut Steps) -> Option<Event> {
-    let event = lane.first_after(feed, seek, steps)?;
-    lane.next(feed, &event, steps)
+fn is_given(times: Times) -> bool {
+    match times {
+        Times::Given => true,
+        Times::Interpolated => false,
+    }
 }
 
-fn service<L: Lane>(lane: &L) -> ServiceNo {
-    lane.service()
-}
-
-fn lanes(
-    _build: fn(Global, &Feed, StopNo, Times) -> Result<(StopLanes, Steps), OutOfMemory>,
-    _lists: fn(&StopLanes) -> &[ListLane],
-    _periods: fn(&StopLanes) -> &[StepLane],
-    _greatest: fn(&StopLanes) -> u32,
-    _count: fn(&Steps) -> u64,
-    _patterns: fn(Global, &Feed, RouteNo) -> Result<Vec<Pattern>, OutOfMemory>,
-) {}
+fn is_ordered<T: Ord>() {}
 
 #[test]
 fn the_calls_are_these() {
-    lanes(
+    stop_lanes(
         StopLanes::build,
         StopLanes::lists,
         StopLanes::periods,
+        StopLanes::filled,
         StopLanes::greatest,
         Steps::count,
-        patterns,
     );
+    lists(flat_events, patterns);
+    is_ordered::<Event>();
 }
