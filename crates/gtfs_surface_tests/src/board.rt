@@ -1,4 +1,5 @@
 //! `gtfs_board`.
+ghost use Rattle.gtfs_days.specs.Zone.{IsInstant};
 
 use gtfs_board::{
     Board, BoardFault, Departure, Feed, Key, Mark, PageFault, Sheet, Span, TableFault, Times,
@@ -38,29 +39,48 @@ fn counts(board: &Board<'_>) -> (usize, u64) {
 }
 
 // Outputs of every kind.
-fn pages<O: Out>(_write_page: fn(Global, &mut Board<'_>, u64, &mut O) -> Result<u64, PageFault>) {}
-
-fn have_pages<O: Out>() {
-    pages::<O>(write_page);
+fn page<O: Out>(
+    alloc: Global,
+    board: &mut Board<'_>,
+    limit: u64,
+    out: &mut O,
+) -> Result<u64, PageFault> {
+    write_page(alloc, board, limit, out)
 }
 
-fn texts(
-    _read_key: fn(&str) -> Result<Key<'_>, FieldFault>,
-    _push_key: fn(Global, &mut String, &Key<'_>) -> Result<(), OutOfMemory>,
-    _push_line: fn(Global, &mut String, &Zone, &Departure<'_>) -> Result<(), OutOfMemory>,
-    _push_sheet: fn(Global, &mut String, &Sheet<'_>) -> Result<(), OutOfMemory>,
-) {}
+fn read<'a>(text: &'a str) -> Result<Key<'a>, FieldFault> {
+    read_key(text)
+}
 
-fn timetables(
-    _timetable: for<'a, 'b> fn(
-        Global,
-        &'a Feed,
-        &'b str,
-        Option<u8>,
-        Day,
-        Times,
-    ) -> Result<Vec<Sheet<'a>>, TableFault>,
-) {}
+fn key_text(alloc: Global, text: &mut String, key: &Key<'_>) -> Result<(), OutOfMemory> {
+    push_key(alloc, text, key)
+}
+
+fn line(
+    alloc: Global,
+    text: &mut String,
+    zone: &Zone,
+    departure: &Departure<'_>,
+) -> Result<(), OutOfMemory>
+    requires { IsInstant departure.now.key.instant }
+{
+    push_line(alloc, text, zone, departure)
+}
+
+fn sheets<'a>(
+    alloc: Global,
+    feed: &'a Feed,
+    route: &str,
+    direction: Option<u8>,
+    day: Day,
+    times: Times,
+) -> Result<Vec<Sheet<'a>>, TableFault> {
+    timetable(alloc, feed, route, direction, day, times)
+}
+
+fn sheet_text(alloc: Global, text: &mut String, sheet: &Sheet<'_>) -> Result<(), OutOfMemory> {
+    push_sheet(alloc, text, sheet)
+}
 
 fn is_ordered<T: Ord>() {}
 
@@ -133,7 +153,5 @@ fn is_memory(board: BoardFault, table: TableFault) -> bool {
 
 #[test]
 fn the_calls_are_these() {
-    texts(read_key, push_key, push_line, push_sheet);
-    timetables(timetable);
     is_ordered::<Key<'static>>();
 }

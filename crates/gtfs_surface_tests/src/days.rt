@@ -12,10 +12,12 @@ fn services(
     _new: fn(Global, Option<Week>, &[(Day, Exception)]) -> Result<Service, OutOfMemory>,
     _active: fn(&Service, Day) -> bool,
     _next_active: fn(&Service, Day) -> Option<Day>,
-    _week: fn(&Service) -> Option<&Week>,
-    _exceptions: fn(&Service) -> &[(Day, Exception)],
     _trim: fn(&Service, Global, Cut) -> Result<Service, OutOfMemory>,
 ) {}
+
+fn lent(service: &Service) -> (Option<&Week>, &[(Day, Exception)]) {
+    (service.week(), service.exceptions())
+}
 
 fn zones(
     _read: fn(Global, &[u8]) -> Result<Zone, ZoneFault>,
@@ -68,8 +70,6 @@ fn the_calls_are_these() {
         Service::new,
         Service::active,
         Service::next_active,
-        Service::week,
-        Service::exceptions,
         Service::trim,
     );
     zones(Zone::read, Zone::origin, Zone::civil);

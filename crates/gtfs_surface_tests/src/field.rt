@@ -26,13 +26,16 @@ fn writers(
     _coord: fn(Global, &mut String, Coord) -> Result<(), OutOfMemory>,
 ) {}
 
+fn texts(_new: fn(String) -> Text) {}
+
 // A list takes items of every type.
-fn lists<T>(
-    _text: fn(String) -> Text,
-    _as_str: fn(&Text) -> &str,
-    _list: fn(Vec<T>) -> List<T>,
-    _as_slice: fn(&List<T>) -> &[T],
-) {}
+fn list<T>(items: Vec<T>) -> List<T> {
+    List::new(items)
+}
+
+fn lent<'a, T>(text: &'a Text, list: &'a List<T>) -> (&'a str, &'a [T]) {
+    (text.as_str(), list.as_slice())
+}
 
 fn is_named(fault: FieldFault, axis: Axis) -> bool {
     match (fault, axis) {
@@ -51,5 +54,5 @@ fn the_calls_are_these() {
         read_coord,
     );
     writers(push_time, push_date, push_colour, push_count, push_coord);
-    lists::<Text>(Text::new, Text::as_str, List::new, List::as_slice);
+    texts(Text::new);
 }

@@ -14,11 +14,16 @@ const _: () = prove!(
 
 fn calls(
     _merge: fn(Global, RandomState, &Feed, &Feed, &Options) -> Result<Merged, MergeFault>,
-    _of: for<'a, 'b> fn(&'a Names, Side, Kind, &'b str) -> Option<&'a str>,
-    _joined: fn(&Names, Kind) -> &[Text],
-    _near: fn(&Names) -> &[(Text, Text)],
     _options: fn() -> Options,
 ) {}
+
+fn of<'a>(names: &'a Names, side: Side, kind: Kind, id: &str) -> Option<&'a str> {
+    names.of(side, kind, id)
+}
+
+fn joined_and_near(names: &Names, kind: Kind) -> (&[Text], &[(Text, Text)]) {
+    (names.joined(kind), names.near())
+}
 
 fn merged(merged: &Merged) -> (&Feed, &Names) {
     let Merged { feed, names } = merged;
@@ -56,11 +61,5 @@ fn is_memory(fault: MergeFault) -> bool {
 
 #[test]
 fn the_calls_are_these() {
-    calls(
-        merge,
-        Names::of,
-        Names::joined,
-        Names::near,
-        Options::default,
-    );
+    calls(merge, Options::default);
 }

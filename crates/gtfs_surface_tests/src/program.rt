@@ -6,10 +6,13 @@ use std::alloc::Global;
 use std::hash::RandomState;
 
 // Folders and outputs of every kind.
-fn calls<F: Folders, O: Out, E: Out>(
-    _run: fn(Global, RandomState, &[String], &mut F, &mut O, &mut E) -> u8,
-) {}
-
-fn are_these<F: Folders, O: Out, E: Out>() {
-    calls::<F, O, E>(run);
+fn ended<F: Folders, O: Out, E: Out>(
+    alloc: Global,
+    random: RandomState,
+    words: &[String],
+    folders: &mut F,
+    out: &mut O,
+    err: &mut E,
+) -> u8 {
+    run(alloc, random, words, folders, out, err)
 }

@@ -9,27 +9,35 @@ use gtfs_runs::{
 use std::alloc::Global;
 
 // Lanes of every kind.
-fn lane<L: Lane>(
-    _first_after: fn(&L, &Feed, &Seek<'_>, &mut Steps) -> Option<Event>,
-    _next: fn(&L, &Feed, &Event, &mut Steps) -> Option<Event>,
-    _service: fn(&L) -> ServiceNo,
-) {}
-
-fn is_lane<L: Lane>() {
-    lane::<L>(L::first_after, L::next, L::service);
+fn first_after<L: Lane>(
+    lane: &L,
+    feed: &Feed,
+    seek: &Seek<'_>,
+    steps: &mut Steps,
+) -> Option<Event> {
+    lane.first_after(feed, seek, steps)
 }
+
+fn next<L: Lane>(lane: &L, feed: &Feed, event: &Event, steps: &mut Steps) -> Option<Event> {
+    lane.next(feed, event, steps)
+}
+
+fn service<L: Lane>(lane: &L) -> ServiceNo {
+    lane.service()
+}
+
+fn are_lanes<A: Lane, B: Lane, C: Lane>() {}
 
 fn stop_lanes(
     _build: fn(Global, &Feed, StopNo, Times) -> Result<(StopLanes, Steps), OutOfMemory>,
-    _lists: fn(&StopLanes) -> &[ListLane],
-    _periods: fn(&StopLanes) -> &[StepLane],
-    _filled: fn(&StopLanes) -> &[FilledLane],
     _greatest: fn(&StopLanes) -> u32,
     _count: fn(&Steps) -> u64,
 ) {
-    is_lane::<ListLane>();
-    is_lane::<StepLane>();
-    is_lane::<FilledLane>();
+    are_lanes::<ListLane, StepLane, FilledLane>();
+}
+
+fn lanes(lanes: &StopLanes) -> (&[ListLane], &[StepLane], &[FilledLane]) {
+    (lanes.lists(), lanes.periods(), lanes.filled())
 }
 
 fn lists(
@@ -73,14 +81,7 @@ fn is_ordered<T: Ord>() {}
 
 #[test]
 fn the_calls_are_these() {
-    stop_lanes(
-        StopLanes::build,
-        StopLanes::lists,
-        StopLanes::periods,
-        StopLanes::filled,
-        StopLanes::greatest,
-        Steps::count,
-    );
+    stop_lanes(StopLanes::build, StopLanes::greatest, Steps::count);
     lists(flat_events, patterns);
     is_ordered::<Event>();
 }

@@ -17,30 +17,48 @@ const _: () = prove!(
         && FolderFault::Write as u8 == 5
 );
 
-// Folders of every kind, and outputs of every kind.
-fn devices<F: Folders, O: Out>(
-    _names: fn(&mut F, Global, &str) -> Result<Vec<Text>, FolderFault>,
-    _read: fn(&mut F, Global, &str, &str) -> Result<Option<Vec<u8>>, FolderFault>,
-    _write: fn(&mut F, Global, &str, &str, &[u8]) -> Result<(), FolderFault>,
-    _failures: fn(&F) -> u64,
-    _send: fn(&mut O, &[u8]) -> Result<usize, Failed>,
-    _failed: fn(&O) -> u64,
-    _write_text: fn(&mut O, &[u8]) -> Result<(), OutFault>,
-    _tables: fn(Global, &mut F, &str) -> Result<Tables, FolderFault>,
-) {}
-
-fn are_devices<F: Folders, O: Out>() {
-    devices::<F, O>(
-        F::names,
-        F::read,
-        F::write,
-        F::failures,
-        O::write,
-        O::failures,
-        write_text,
-        Tables::read,
-    );
+// Folders of every kind.
+fn names<F: Folders>(folders: &mut F, alloc: Global, dir: &str) -> Result<Vec<Text>, FolderFault> {
+    folders.names(alloc, dir)
 }
+
+fn read<F: Folders>(
+    folders: &mut F,
+    alloc: Global,
+    dir: &str,
+    name: &str,
+) -> Result<Option<Vec<u8>>, FolderFault> {
+    folders.read(alloc, dir, name)
+}
+
+fn write<F: Folders>(
+    folders: &mut F,
+    alloc: Global,
+    dir: &str,
+    name: &str,
+    bytes: &[u8],
+) -> Result<(), FolderFault> {
+    folders.write(alloc, dir, name, bytes)
+}
+
+fn tables<F: Folders>(alloc: Global, folders: &mut F, dir: &str) -> Result<Tables, FolderFault> {
+    Tables::read(alloc, folders, dir)
+}
+
+fn failures<F: Folders, O: Out>(folders: &F, out: &O) -> (u64, u64) {
+    (folders.failures(), out.failures())
+}
+
+// Outputs of every kind.
+fn send<O: Out>(out: &mut O, text: &[u8]) -> Result<usize, Failed> {
+    out.write(text)
+}
+
+fn send_all<O: Out>(out: &mut O, text: &[u8]) -> Result<(), OutFault> {
+    write_text(out, text)
+}
+
+fn are_devices<F: Folders, O: Out>() {}
 
 fn on_disk<'a, R: Files + Alloc + Clone + Drop>(rt: &'a R) -> DiskFolders<'a, R> {
     DiskFolders::new(rt)
@@ -59,19 +77,31 @@ fn in_memory(
     _put_folder: fn(&mut MemoryFolders, &str) -> Result<(), OutOfMemory>,
     _put: fn(&mut MemoryFolders, &str, &str, &[u8]) -> Result<(), OutOfMemory>,
     _out: fn(Global, usize) -> Result<MemoryOut, OutOfMemory>,
-    _bytes: fn(&MemoryOut) -> &[u8],
 ) {
     are_devices::<MemoryFolders, MemoryOut>();
+}
+
+fn bytes(out: &MemoryOut) -> &[u8] {
+    out.bytes()
 }
 
 fn readers(
     _state: fn(&Tables, File) -> State,
     _records: fn(&Tables, File) -> usize,
     _fields: fn(&Tables, File, usize) -> usize,
-    _field: fn(&Tables, File, usize, usize) -> &str,
-    _value: for<'a, 'b> fn(&'a Tables, File, usize, &'b str) -> &'a str,
-    _others: fn(&Tables) -> &[Text],
 ) {}
+
+fn field(tables: &Tables, file: File, row: usize, n: usize) -> &str {
+    tables.field(file, row, n)
+}
+
+fn value<'a>(tables: &'a Tables, file: File, row: usize, column: &str) -> &'a str {
+    tables.value(file, row, column)
+}
+
+fn others(tables: &Tables) -> &[Text] {
+    tables.others()
+}
 
 fn writers(
     _empty: fn(Global) -> Tables,
@@ -113,16 +143,8 @@ fn the_calls_are_these() {
         MemoryFolders::put_folder,
         MemoryFolders::put,
         MemoryOut::new,
-        MemoryOut::bytes,
     );
-    readers(
-        Tables::state,
-        Tables::records,
-        Tables::fields,
-        Tables::field,
-        Tables::value,
-        Tables::others,
-    );
+    readers(Tables::state, Tables::records, Tables::fields);
     writers(
         Tables::empty,
         Tables::push_record,
