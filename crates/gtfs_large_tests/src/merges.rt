@@ -2,7 +2,7 @@
 
 use crate::assertions::assert_is;
 use gtfs_feed::Feed;
-use gtfs_field::{OutOfMemory, push_count, read_date};
+use gtfs_field::{Day, OutOfMemory, push_count};
 use gtfs_fixtures::read_feed;
 use gtfs_merge::{Kind, Merged, Options, merge};
 use gtfs_table::MemoryFolders;
@@ -13,6 +13,9 @@ use std::random::RandomSource;
 use std::test::Fail;
 
 const MANY: u32 = 70_000;
+
+// No file of the feed or of a merge has so many bytes.
+const LIMIT: u64 = 100_000_000;
 
 // Each file by its name, its header, and what stands before and between the numbers of a row.
 const FILES: &[(&str, &str, &[&str])] = &[
@@ -97,7 +100,7 @@ fn rows_of(alloc: Global, header: &str, parts: &[&str]) -> Result<String, OutOfM
 }
 
 fn large_folders(alloc: Global) -> Result<MemoryFolders, OutOfMemory> {
-    let mut folders = MemoryFolders::new(alloc, 10_000_000, None);
+    let mut folders = MemoryFolders::new(alloc, LIMIT, None);
     for (name, header, parts) in FILES {
         let text = rows_of(alloc, header, parts)?;
         folders.put("f1", name, text.as_bytes())?;
@@ -105,44 +108,50 @@ fn large_folders(alloc: Global) -> Result<MemoryFolders, OutOfMemory> {
     Ok(folders)
 }
 
-// All rows of both feeds are there, and these of each kind of id are joined.
-fn assert_merged(rt: &impl Abort, merged: &Merged, joined: [usize; 5]) {
+// What a merge has: so many rows and so many joined ids of each kind.
+fn assert_merged(rt: &impl Abort, merged: &Merged, rows: [usize; 5], joined: [usize; 5]) {
     let feed = &merged.feed;
-    let counts = [
+    let found = [
         feed.agency_count(),
         feed.stop_count(),
         feed.route_count(),
         feed.service_count(),
         feed.trip_count(),
     ];
-    for ((kind, count), joined) in Kind::ALL.into_iter().zip(counts).zip(joined) {
-        let found = merged.names.joined(kind).len();
-        assert_is(
-            rt,
-            (found, count),
-            (joined, 140_000_usize.saturating_sub(joined)),
-            kind.name(),
-        );
-    }
+    assert_is(rt, found, rows, "rows");
+    let names = &merged.names;
+    let found = [
+        names.joined(Kind::Agency).len(),
+        names.joined(Kind::Stop).len(),
+        names.joined(Kind::Route).len(),
+        names.joined(Kind::Service).len(),
+        names.joined(Kind::Trip).len(),
+    ];
+    assert_is(rt, found, joined, "joined ids");
 }
 
-// Merged with itself, each id is joined. With a cutoff between, each service has a part of its own in each feed, and so each
-// trip.
-fn assert_merges<R: Abort + RandomSource>(rt: &R, alloc: Global, feed: &Feed) -> Result<(), Fail> {
-    let merged = merge(
-        alloc,
-        RandomState::new(rt)?,
-        feed,
-        feed,
-        &Options::default(),
-    )?;
-    assert_merged(rt, &merged, [70_000; 5]);
-    let cut = Options {
-        cutoff: Some(read_date("20240402")?),
-        ..Options::default()
+// All ids are joined.
+fn assert_whole<R: Abort + RandomSource>(rt: &R, alloc: Global, feed: &Feed) -> Result<(), Fail> {
+    let options = Options {
+        file_limit: LIMIT,
+        near: None,
+        cutoff: None,
     };
-    let merged = merge(alloc, RandomState::new(rt)?, feed, feed, &cut)?;
-    assert_merged(rt, &merged, [70_000, 70_000, 70_000, 0, 0]);
+    let merged = merge(alloc, RandomState::new(rt)?, feed, feed, &options)?;
+    assert_merged(rt, &merged, [70_000; 5], [70_000; 5]);
+    Ok(())
+}
+
+// From 2 April on each service has another part, and so each trip has another service.
+fn assert_cut<R: Abort + RandomSource>(rt: &R, alloc: Global, feed: &Feed) -> Result<(), Fail> {
+    let options = Options {
+        file_limit: LIMIT,
+        near: None,
+        cutoff: Some(Day::from_number(19_815)),
+    };
+    let merged = merge(alloc, RandomState::new(rt)?, feed, feed, &options)?;
+    let rows = [70_000, 70_000, 70_000, 140_000, 140_000];
+    assert_merged(rt, &merged, rows, [70_000, 70_000, 70_000, 0, 0]);
     Ok(())
 }
 
@@ -151,5 +160,6 @@ fn a_large_feed_is_merged_with_itself(rt: HostRuntime) -> Result<(), Fail> {
     let mut folders = large_folders(rt.alloc())?;
     let random = RandomState::new(&rt)?;
     let feed = read_feed(rt.alloc(), random, &mut folders, "f1")?;
-    assert_merges(&rt, rt.alloc(), &feed)
+    assert_whole(&rt, rt.alloc(), &feed)?;
+    assert_cut(&rt, rt.alloc(), &feed)
 }
