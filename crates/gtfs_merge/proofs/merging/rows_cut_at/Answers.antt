@@ -7,4 +7,4 @@ pub returns : goal.returns
 returns c =
     let sides = c.args.sides.now in
     rows-of-trimmed sides.near c.args.day (content_a sides) (content_b sides) (content_of_parts c.in_ok-first.first) (content_of_parts c.in_ok-second.second)
-    c.in_ok-first.ensures.content c.in_ok-second.ensures.content c.whole_rows.result c.whole_rows.ensures
+    c.in_ok-first.ensures c.in_ok-second.ensures c.whole_rows.result c.whole_rows.ensures
