@@ -37,10 +37,10 @@ fn next_instant(rt: &impl Abort, board: &mut Board<'_>) -> i64 {
     }
 }
 
-// Takes departures a second apart, and gives the instant after the last.
-fn take(rt: &impl Abort, board: &mut Board<'_>) -> i64 {
+// Takes so many departures a second apart, and gives the instant after the last.
+fn take(rt: &impl Abort, board: &mut Board<'_>, count: u64) -> i64 {
     let mut wanted = SPAN.from;
-    for _ in 0..DEPARTURES {
+    for _ in 0..count {
         let instant = next_instant(rt, board);
         assert_that(rt, instant == wanted, "each second has a departure");
         wanted = wanted.saturating_add(1);
@@ -53,7 +53,8 @@ fn many_departures_are_taken_from_one_board(rt: HostRuntime) -> Result<(), Fail>
     let feed = feed_with(&rt, rt.alloc(), &EACH_SECOND)?;
     let zone = Clocks::Utc.zone(rt.alloc())?;
     let mut board = Board::open(rt.alloc(), &feed, &zone, "S1", SPAN, None, Times::Given)?;
-    assert_is(&rt, take(&rt, &mut board), -2_188_988_800, "last instant");
+    let after = take(&rt, &mut board, DEPARTURES);
+    assert_is(&rt, after, -2_188_988_800, "the instant after the last");
     assert_that(&rt, board.held() <= 4, "four or fewer wait");
     Ok(())
 }

@@ -16,17 +16,17 @@ fn name_of(alloc: Global, number: u32) -> Result<String, OutOfMemory> {
     Ok(name)
 }
 
-fn many_folders(alloc: Global) -> Result<MemoryFolders, OutOfMemory> {
-    let mut folders = MemoryFolders::new(alloc, 100, None);
+fn put_folders(alloc: Global, folders: &mut MemoryFolders) -> Result<(), OutOfMemory> {
     for number in 0..MANY {
         folders.put_folder(name_of(alloc, number)?.as_str())?;
     }
-    Ok(folders)
+    Ok(())
 }
 
 #[test]
 fn many_folders_are_put(rt: HostRuntime) -> Result<(), Fail> {
-    let mut folders = many_folders(rt.alloc())?;
+    let mut folders = MemoryFolders::new(rt.alloc(), 100, None);
+    put_folders(rt.alloc(), &mut folders)?;
     for dir in ["0", "69999"] {
         assert_is(&rt, folders.names(rt.alloc(), dir)?.len(), 0, dir);
     }
@@ -34,13 +34,12 @@ fn many_folders_are_put(rt: HostRuntime) -> Result<(), Fail> {
     Ok(())
 }
 
-// A folder whose files are none of a feed.
-fn other_files(alloc: Global) -> Result<MemoryFolders, OutOfMemory> {
-    let mut folders = MemoryFolders::new(alloc, 100, None);
+// Files that are none of a feed.
+fn put_others(alloc: Global, folders: &mut MemoryFolders) -> Result<(), OutOfMemory> {
     for number in 0..MANY {
         folders.put("f1", name_of(alloc, number)?.as_str(), b"")?;
     }
-    Ok(folders)
+    Ok(())
 }
 
 // How many files are told to be none of a feed.
@@ -57,7 +56,8 @@ fn other_count(alloc: Global, tables: &Tables) -> Result<usize, OutOfMemory> {
 
 #[test]
 fn many_other_files_are_told(rt: HostRuntime) -> Result<(), Fail> {
-    let mut folders = other_files(rt.alloc())?;
+    let mut folders = MemoryFolders::new(rt.alloc(), 100, None);
+    put_others(rt.alloc(), &mut folders)?;
     let tables = Tables::read(rt.alloc(), &mut folders, "f1")?;
     assert_is(&rt, tables.others().len(), 70_000, "names");
     assert_is(&rt, other_count(rt.alloc(), &tables)?, 70_000, "problems");

@@ -99,13 +99,12 @@ fn rows_of(alloc: Global, header: &str, parts: &[&str]) -> Result<String, OutOfM
     Ok(text)
 }
 
-fn large_folders(alloc: Global) -> Result<MemoryFolders, OutOfMemory> {
-    let mut folders = MemoryFolders::new(alloc, LIMIT, None);
+fn put_files(alloc: Global, folders: &mut MemoryFolders) -> Result<(), OutOfMemory> {
     for (name, header, parts) in FILES {
         let text = rows_of(alloc, header, parts)?;
         folders.put("f1", name, text.as_bytes())?;
     }
-    Ok(folders)
+    Ok(())
 }
 
 // What a merge has: so many rows and so many joined ids of each kind.
@@ -157,7 +156,8 @@ fn assert_cut<R: Abort + RandomSource>(rt: &R, alloc: Global, feed: &Feed) -> Re
 
 #[test]
 fn a_large_feed_is_merged_with_itself(rt: HostRuntime) -> Result<(), Fail> {
-    let mut folders = large_folders(rt.alloc())?;
+    let mut folders = MemoryFolders::new(rt.alloc(), LIMIT, None);
+    put_files(rt.alloc(), &mut folders)?;
     let random = RandomState::new(&rt)?;
     let feed = read_feed(rt.alloc(), random, &mut folders, "f1")?;
     assert_whole(&rt, rt.alloc(), &feed)?;

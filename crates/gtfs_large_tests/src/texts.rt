@@ -14,6 +14,11 @@ use std::test::Fail;
 // Three bytes count as far as 16,777,215.
 const LONG: usize = 20_000_000;
 
+// A letter so many times. (The length is that of a call, so that no proof computes the text.)
+fn long_text(alloc: Global, letter: &str, len: usize) -> Result<String, OutOfMemory> {
+    letter.repeat(alloc, len)
+}
+
 // What is appended, and how it ends then.
 const ENDING: &str = "x23:59:5920240401FF80002147483647-13.4";
 
@@ -28,7 +33,7 @@ fn push_values(alloc: Global, text: &mut String) -> Result<(), OutOfMemory> {
 
 #[test]
 fn values_are_appended_to_a_long_text(rt: HostRuntime) -> Result<(), Fail> {
-    let mut text = "x".repeat(rt.alloc(), LONG)?;
+    let mut text = long_text(rt.alloc(), "x", LONG)?;
     push_values(rt.alloc(), &mut text)?;
     assert_is(&rt, text.len(), LONG + 37, "length");
     assert_that(&rt, text.as_str().ends_with(ENDING), "each value is there");
@@ -50,7 +55,7 @@ fn key_of(trip: &str) -> Key<'_> {
 
 #[test]
 fn a_key_has_a_long_id(rt: HostRuntime) -> Result<(), Fail> {
-    let trip = "T".repeat(rt.alloc(), LONG)?;
+    let trip = long_text(rt.alloc(), "T", LONG)?;
     let key = key_of(trip.as_str());
     let mut text = String::new(rt.alloc());
     push_key(rt.alloc(), &mut text, &key)?;
@@ -61,7 +66,7 @@ fn a_key_has_a_long_id(rt: HostRuntime) -> Result<(), Fail> {
 
 #[test]
 fn a_line_has_long_texts(rt: HostRuntime) -> Result<(), Fail> {
-    let long = "H".repeat(rt.alloc(), LONG)?;
+    let long = long_text(rt.alloc(), "H", LONG)?;
     let departure = Departure {
         key: Key {
             instant: EIGHT,
