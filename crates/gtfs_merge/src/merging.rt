@@ -237,7 +237,15 @@ fn trimmed(
     ensures { IfOk result (λ left.
         content_of left ≡ trimmed cut (content_of (cow_value feed.entry))) }
 {
-    feed.as_ref().trimmed(alloc, random, cut)
+    left_of(alloc, random, feed.as_ref(), cut)
+}
+
+// What is left of a feed that is lent.
+fn left_of(alloc: Global, random: RandomState, feed: &Feed, cut: Cut) -> Result<Feed, OutOfMemory>
+    requires { is_service_day (cut_day cut) ≡ true }
+    ensures { IfOk result (λ left. content_of left ≡ trimmed cut (content_of feed.now)) }
+{
+    feed.trimmed(alloc, random, cut)
 }
 
 // The same of both feeds as they are.
