@@ -18,7 +18,7 @@ use Rattle.gtfs_merge.specs.declared.merging.MergeFault.TheVariants as fault
 -- what was told of the zones of feeds that are lent on is told of the feeds
 pub zone-told : (a b r s : Parts) (answer : Bool) → r ≡ a → s ≡ b → answer ≡ zones_differ (content_of_parts r) (content_of_parts s) → answer ≡ false
     → zones_differ (content_of_parts a) (content_of_parts b) ≡ false
-zone-told a b r s answer is-a is-b told no = (λ i. zones_differ (content_of_parts (sym is-a i)) (content_of_parts (sym is-b i))) ∙ sym told ∙ no
+zone-told a b r s answer is-a is-b told one = (λ i. zones_differ (content_of_parts (sym is-a i)) (content_of_parts (sym is-b i))) ∙ sym told ∙ one
 
 module _ (random : RandomState) (near : Option ℕ) (day : ℤ) (a b first second : Content) (is_first : first ≡ trimmed (Before day) a) (is_second : second ≡ trimmed (From day) b) where
   of-trimmed : (rows : Parts × AllNames) → AreRowsOfMerge random near None first second rows → AreRowsOfMerge random near (Some day) a b rows
