@@ -1,5 +1,5 @@
 -- The merge of two trimmed feeds is that of both feeds with a cutoff, and the feed of its rows is the merged feed.
-use Rattle.std.proofs.Common.{◌≡◌, ◌∙◌, ℕ, false, Option, Some, None, ap, sym, subst, ℤ}
+use Rattle.std.proofs.Common.{◌≡◌, ◌∙◌, ℕ, Bool, false, Option, Some, None, ap, sym, subst, ℤ}
 use Rattle.std.specs.Prelude.{IfErr, IfOk, Result, Ok, Err}
 use Rattle.std.specs.declared.random_state.RandomState.{RandomState}
 use Rattle.gtfs_days.specs.declared.cut.Cut.TheVariants.{Before, From}
@@ -14,6 +14,11 @@ use Rattle.gtfs_merge.specs.Near.{nearness}
 use Rattle.gtfs_merge.specs.declared.merging.Merged.{Merged}
 use Rattle.gtfs_merge.specs.declared.merging.MergeFault.{MergeFault}
 use Rattle.gtfs_merge.specs.declared.merging.MergeFault.TheVariants as fault
+
+-- what was told of the zones of feeds that are lent on is told of the feeds
+pub zone-told : (a b r s : Parts) (answer : Bool) → r ≡ a → s ≡ b → answer ≡ zones_differ (content_of_parts r) (content_of_parts s) → answer ≡ false
+    → zones_differ (content_of_parts a) (content_of_parts b) ≡ false
+zone-told a b r s answer is-a is-b told one = (λ i. zones_differ (content_of_parts (sym is-a i)) (content_of_parts (sym is-b i))) ∙ sym told ∙ one
 
 module _ (random : RandomState) (near : Option ℕ) (day : ℤ) (a b first second : Content) (is_first : first ≡ trimmed (Before day) a) (is_second : second ≡ trimmed (From day) b) where
   of-trimmed : (rows : Parts × AllNames) → AreRowsOfMerge random near None first second rows → AreRowsOfMerge random near (Some day) a b rows

@@ -175,9 +175,9 @@ fn judged(
 ) -> Result<Merged, MergeFault>
     requires { IfSome options.now.cutoff (λ d. is_service_day d ≡ true) }
     ensures merged { IfOk result (IsMergeOf options.now.near options.now.cutoff
-        (content_of (cow_value a)) (content_of (cow_value b)) options.now.file_limit) }
+        (content_of (cow_value a.entry)) (content_of (cow_value b.entry)) options.now.file_limit) }
     ensures refused { IfErr result (IsRefusal options.now.near options.now.cutoff
-        (content_of (cow_value a)) (content_of (cow_value b)) options.now.file_limit) }
+        (content_of (cow_value a.entry)) (content_of (cow_value b.entry)) options.now.file_limit) }
     ensures hashed { IfOk result (λ merged. AreHashedBy random merged.names) }
 {
     if zones_differ(a.as_ref(), b.as_ref()) {
@@ -198,7 +198,7 @@ fn rows_of(
     requires zone { zones_differ (content_of (cow_value a)) (content_of (cow_value b)) ≡ false }
     requires cutoff { IfSome options.now.cutoff (λ d. is_service_day d ≡ true) }
     ensures { IfOk result (AreRowsOfMerge random options.now.near options.now.cutoff
-        (content_of (cow_value a)) (content_of (cow_value b))) }
+        (content_of (cow_value a.entry)) (content_of (cow_value b.entry))) }
 {
     match options.cutoff {
         Some(day) => rows_cut_at(alloc, random, a, b, day, options.near),
@@ -219,7 +219,7 @@ fn rows_cut_at(
     requires zone { zones_differ (content_of (cow_value a)) (content_of (cow_value b)) ≡ false }
     requires day { is_service_day day ≡ true }
     ensures { IfOk result (AreRowsOfMerge random near (Some day)
-        (content_of (cow_value a)) (content_of (cow_value b))) }
+        (content_of (cow_value a.entry)) (content_of (cow_value b.entry))) }
 {
     let first = trimmed(alloc, random, a, Cut::Before(day))?;
     let second = trimmed(alloc, random, b, Cut::From(day))?;
@@ -234,9 +234,18 @@ fn trimmed(
     cut: Cut,
 ) -> Result<Feed, OutOfMemory>
     requires { is_service_day (cut_day cut) ≡ true }
-    ensures { IfOk result (λ left. content_of left ≡ trimmed cut (content_of (cow_value feed))) }
+    ensures { IfOk result (λ left.
+        content_of left ≡ trimmed cut (content_of (cow_value feed.entry))) }
 {
-    feed.as_ref().trimmed(alloc, random, cut)
+    left_of(alloc, random, feed.as_ref(), cut)
+}
+
+// What is left of a feed that is lent.
+fn left_of(alloc: Global, random: RandomState, feed: &Feed, cut: Cut) -> Result<Feed, OutOfMemory>
+    requires { is_service_day (cut_day cut) ≡ true }
+    ensures { IfOk result (λ left. content_of left ≡ trimmed cut (content_of feed.now)) }
+{
+    feed.trimmed(alloc, random, cut)
 }
 
 // The same of both feeds as they are.
@@ -249,7 +258,7 @@ fn rows_of_pair(
 ) -> Result<(Parts, Names), OutOfMemory>
     requires { zones_differ (content_of (cow_value a)) (content_of (cow_value b)) ≡ false }
     ensures { IfOk result (AreRowsOfMerge random near None
-        (content_of (cow_value a)) (content_of (cow_value b))) }
+        (content_of (cow_value a.entry)) (content_of (cow_value b.entry))) }
 {
     let sides = Sides {
         a: a.as_ref(),
