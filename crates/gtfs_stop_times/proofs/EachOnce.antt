@@ -1,5 +1,5 @@
 -- A list with each text once, to which one is added; and the parts of a list, one after the other.
-use Rattle.std.proofs.Common.{◌≡◌, ◌≤◌, ◌+◌, ◌-◌, ◌∙◌, ◌++◌, ◌∷◌, [], ℕ, zero, suc, List, length, take, drop, get_or, Bool, true, false, bytes_eq, Option, Some, None, refl, sym, ap, subst, arith, append-nil, inl, inr}
+use Rattle.std.proofs.Common.{◌≡◌, ◌+◌, ◌-◌, ◌∙◌, ◌++◌, ◌∷◌, [], ℕ, zero, suc, List, length, take, drop, get_or, Bool, true, false, bytes_eq, Option, Some, None, refl, sym, ap, subst, arith, append-nil, inl, inr}
 use Rattle.std.specs.Prelude.{filter, filter_map, flat_map, if◌then◌else◌, not, unwrap_or}
 use Rattle.std.specs.List.{list_any, slice_get}
 use Rattle.std.proofs.Math.Seq.{drop-length}

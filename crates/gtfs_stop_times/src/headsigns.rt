@@ -34,8 +34,8 @@ impl Model for Headsigns {
     ghost Value = { HeadsignIndex };
 
     ghost view = { λ h. record {
-        texts = map string_bytes h.texts.keys;
-        random = hasher_of h.texts;
+      texts = map string_bytes h.texts.keys;
+      random = hasher_of h.texts;
     } };
 
     ghost invariant = { λ h. ArePlain (map string_bytes h.texts.keys) };
