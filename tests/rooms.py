@@ -16,7 +16,7 @@ MEMORY = 4_096
 BOARD = "board f1 --zone z1 --stop S1 --from 20240401 --until 20240402".split()
 LINE = b"@1711958400/T1/28800/1/20240401\t2024-04-01 08:00:00+00:00\tS1\t10\t\ts\n"
 BOARDS = "boards f1 --zone z1 --requests requests".split()
-LINES = b"== S2 20240401 20240402\n== S1 20240401 20240402\n" + LINE
+LISTED = b"== S2 20240401 20240402\n== S1 20240401 20240402\n" + LINE
 CHECK = "check f1".split()
 REPORT = b"errors 0 warnings 0\n"
 TIMETABLE = "timetable f1 --route R1 --date 20240401".split()
@@ -29,7 +29,7 @@ REQUESTS = b"S2\t20240401\t20240402\nS1\t20240401\t20240402\n"
 REFUSED = REQUESTS.replace(b"S1", b"S9")
 
 # What each command prints.
-ANSWERS = [(BOARD, LINE), (BOARDS, LINES), (CHECK, REPORT), (TIMETABLE, SHEET), (MERGE, COUNTS)]
+ANSWERS = [(BOARD, LINE), (BOARDS, LISTED), (CHECK, REPORT), (TIMETABLE, SHEET), (MERGE, COUNTS)]
 
 # What each refuses, with the status and the line.
 REFUSALS = [
