@@ -31,3 +31,5 @@ pub mod TimedTrips
 pub mod Tallies
 pub mod TripIds
 mod SeekOrder
+mod EntryFacts
+mod IndexFacts

@@ -5,3 +5,4 @@ pub mod Lists
 pub mod Apart
 pub mod Whole
 pub mod Numbers
+pub mod Entries
