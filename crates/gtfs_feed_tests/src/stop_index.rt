@@ -81,11 +81,11 @@ fn shown(alloc: Global, feed: &Feed, times: Times) -> Result<String, Fail> {
 fn push_stop(
     alloc: Global,
     feed: &Feed,
-    index: &StopIndex,
+    index: &StopIndex<'_>,
     stop: StopNo,
     text: &mut String,
 ) -> Result<(), Fail>
-    requires { stop.0 < length index.now }
+    requires { stop.0 < length index.now.feed.stops }
 {
     for row in index.rows(stop) {
         let line = format!(in alloc;

@@ -27,6 +27,12 @@ departure_row_cmp = then_cmp (on (λ x. x.trip) nat_cmp) (on (λ x. x.row) nat_c
 abbrev pub is_row : ℕ → ℕ → DepartureRow → Bool
 is_row trip row x = (trip == x.trip) && (row == x.row)
 
+-- what contracts see of an index: of which feed it is, under which times, and the departure rows at each stop, by its number
+pub record StopIndexValue : Type 0 where
+  pub feed : Parts
+  pub times : Times
+  pub rows : List (List DepartureRow)
+
 -- for each stop, by its number, every departure row there and no other, each once, in their order
 pub record AreDepartureRows (times : Times) (p : Parts) (index : List (List DepartureRow)) : Type 0 where
   pub counted : length index ≡ length p.stops

@@ -6,3 +6,5 @@ pub mod Apart
 pub mod Whole
 pub mod Numbers
 pub mod Entries
+pub mod Children
+pub mod Places

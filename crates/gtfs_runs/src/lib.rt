@@ -8,7 +8,7 @@
 //!   does not list.
 //! - A [`Pattern`] has the trips of a route that go in one direction along one list of stops; [`patterns`] has them all.
 //! - [`StopLanes`] are the lanes of a stop. [`flat_events`] lists all of its events one by one, for tests.
-//! - A [`StopIndex`] has for each stop the departure rows there.
+//! - A [`StopIndex`] has for each stop the departure rows there, and makes the lanes of one stop after another cheap.
 //! - [`Steps`] counts how often a lane was asked.
 //!
 //! Each is made under a choice of [`Times`]: those of the file alone, or others where the file has none.

@@ -1,26 +1,21 @@
-ghost use Rattle.std.specs.Prelude.{◌≡◌, ◌<◌, IfOk, Some, length, slice_get};
+ghost use Rattle.std.specs.Prelude.{◌≡◌, ◌<◌, ◌==◌, ℕ, IfOk, Some, cond, length, slice_get};
+ghost use Rattle.gtfs_runs.specs.Counts.{tally};
 ghost use Rattle.gtfs_runs.specs.StopIndex.{AreDepartureRows};
+ghost use Rattle.gtfs_runs.specs.steps.Children.{is_child};
 
-// How lanes are to be made of the index, in time that depends on the rows of the place alone.
-//
-// `StopLanes::build` is `whole`, `latest` and `split`; `whole` is `Place::of_stop`, `Found::at_place`,
-// `numbered`, `sorted` and `lists`. All but two of these see only the rows of the place, and serve as
-// they are. The two that look at the whole feed are `Place::of_stop`, which asks each stop, and
-// `Found::at_place`, which asks each trip.
-//
-// In their stead: the stops of the place, from an index of children by parent; their `rows`, merged by
-// trip and position, so that the events of a trip stand together, as `firsts` wants for its speed; and
-// for each trip its `Passing`s of these rows, then `add_listed` or `add_periods` as `add_trip` calls
-// them. What results has to be `AreFound`, the contract of `Found::at_place`.
-
+mod children;
 mod entries;
+mod place_rows;
+mod rows_by_stop;
 mod starts;
 
-use crate::stop_index::entries::entries;
-use crate::stop_index::starts::{departure_rows, starts};
+pub(crate) use crate::stop_index::place_rows::place_rows;
+
+use crate::stop_index::children::{Child, Children};
+use crate::stop_index::rows_by_stop::RowsByStop;
 use gtfs_feed::Feed;
 use gtfs_field::OutOfMemory;
-use gtfs_rows::{StopNo, TripNo, stretch};
+use gtfs_rows::{StopNo, TripNo};
 use gtfs_times::Times;
 use std::alloc::Global;
 use std::marker::Model;
@@ -55,55 +50,93 @@ impl DepartureRow {
     }
 }
 
-/// The departure rows of a feed by stop: for each stop those at the stop itself, whatever its parent.
+/// The departure rows of a feed by stop, of which the lanes of any stop can be made without a look at the other trips.
 ///
-/// It keeps eight bytes for each departure row, and eight for each stop.
+/// It keeps eight bytes for each departure row, eight for each stop, and eight for each stop or platform with a parent.
 #[derive(Drop)]
-pub struct StopIndex {
-    starts: Vec<usize>,
-    rows: Vec<DepartureRow>,
+pub struct StopIndex<'a> {
+    feed: &'a Feed,
+    times: Times,
+    rows: RowsByStop,
+    children: Children,
 }
 
-impl Model for StopIndex {
-    ghost use Rattle.std.specs.Prelude.{List, length};
-    ghost use Rattle.csv.specs.Records.{Rising};
-    ghost use Rattle.gtfs_table.specs.Parts.{parts};
-    ghost use Rattle.gtfs_runs.specs.declared.stop_index.DepartureRow.{DepartureRow as RowValue};
+impl<'a> Model for StopIndex<'a> {
+    ghost use Rattle.gtfs_runs.specs.StopIndex.{StopIndexValue};
+    ghost use Rattle.gtfs_runs.specs.steps.Children.{IsIndex};
 
-    ghost Value = { List (List RowValue) };
+    ghost Value = { StopIndexValue };
 
-    ghost view = { λ x. parts x.starts.items x.rows.items };
+    ghost view = { λ x. record { feed = x.feed.now; times = x.times; rows = x.rows } };
 
-    ghost invariant = { λ x. Rising 0 x.starts.items (length x.rows.items) };
+    ghost invariant = { λ x. IsIndex x.times x.feed.now x.rows x.children };
 }
 
-impl StopIndex {
+impl<'a> StopIndex<'a> {
     /// The index of a feed under a choice of times. Under [`Times::Interpolated`] stop times whose times are filled are
     /// departure rows too.
     ///
-    /// It looks at each stop time of the feed once, and sorts the departure rows. A trip with times to fill is copied for as
-    /// long as it is looked at.
+    /// It looks at each stop and each stop time of the feed once, and sorts the departure rows. A trip with times to fill is
+    /// copied for as long as it is looked at.
     ///
-    /// GTFS Schedule Reference, `stop_times.txt`.
+    /// GTFS Schedule Reference, `stop_times.txt`, and `parent_station` of `stops.txt`.
     ///
     /// # Errors
     /// [`OutOfMemory`] where memory ran out, or where the feed has more than 4,294,967,296 stops, trips or stop times of a trip.
-    pub fn build(alloc: Global, feed: &Feed, times: Times) -> Result<StopIndex, OutOfMemory>
-        ensures { IfOk result (λ index. AreDepartureRows times feed.now index) }
+    pub fn build(
+        alloc: Global,
+        feed: &'a Feed,
+        times: Times,
+    ) -> Result<StopIndex<'a>, OutOfMemory>
+        ensures feed { IfOk result (λ index. index.feed ≡ feed.now) }
+        ensures times { IfOk result (λ index. index.times ≡ times) }
     {
-        feed.soundness();
-        let sorted = entries(alloc, feed, times)?;
-        let starts = starts(alloc, &sorted, feed.stop_count())?;
-        let rows = departure_rows(alloc, &sorted)?;
-        Ok(StopIndex { starts, rows })
+        let rows = RowsByStop::build(alloc, feed, times)?;
+        let children = Children::build(alloc, feed)?;
+        Ok(StopIndex {
+            feed,
+            times,
+            rows,
+            children,
+        })
     }
 
-    /// The departure rows at a stop, by trip and position. The stop's number is below [`Feed::stop_count`] of the feed that
-    /// the index was made of.
-    pub fn rows(&self, stop: StopNo) -> &[DepartureRow]
-        requires { stop.0 < length self.now }
-        ensures { slice_get self.now stop.0 ≡ Some result.now }
+    /// The feed.
+    pub fn feed(&self) -> &'a Feed
+        ensures { result.now ≡ self.now.feed }
     {
-        stretch(self.rows.as_slice(), self.starts.as_slice(), stop.0)
+        self.feed
+    }
+
+    /// The choice of times.
+    pub fn times(&self) -> Times
+        ensures { result ≡ self.now.times }
+    {
+        self.times
+    }
+
+    /// The departure rows at a stop itself, whatever its parent, by trip and position. The stop's number is below
+    /// [`Feed::stop_count`] of the feed.
+    pub fn rows(&self, stop: StopNo) -> &[DepartureRow]
+        requires { stop.0 < length self.now.feed.stops }
+        ensures { slice_get self.now.rows stop.0 ≡ Some result.now }
+    {
+        self.rows.at(stop)
+    }
+
+    /// What each index keeps, for proofs: it has exactly the departure rows of its feed. It does nothing.
+    pub fn soundness(&self)
+        ensures { AreDepartureRows self.now.times self.now.feed self.now.rows }
+    {
+        let _rows = &self.rows;
+    }
+
+    // The stops and platforms whose parent a stop is, each once, but not the stop itself.
+    pub(crate) fn children(&self, stop: StopNo) -> &[Child]
+        requires { stop.0 < length self.now.feed.stops }
+        ensures { (n : ℕ) → tally (λ x. x.stop == n) result.now
+            ≡ cond (is_child self.now.feed stop.0 n) 1 0 }
+    {
+        self.children.of(stop, self.feed.stop_count())
     }
 }

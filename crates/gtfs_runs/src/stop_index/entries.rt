@@ -120,8 +120,8 @@ fn entry_at(trip: TripNo, rows: &[StopRow], position: usize) -> Result<Entry, Ou
     })
 }
 
-// A number as an entry keeps it. No number is left for more than 4,294,967,296 stops, trips or stop times of a trip.
-fn small_number(number: usize) -> Result<u32, OutOfMemory>
+// A number as the index keeps it. No number is left for more than 4,294,967,296 stops, trips or stop times of a trip.
+pub(crate) fn small_number(number: usize) -> Result<u32, OutOfMemory>
     ensures { IfOk result (λ small. small ≡ number) }
 {
     match u32::try_from(number) {

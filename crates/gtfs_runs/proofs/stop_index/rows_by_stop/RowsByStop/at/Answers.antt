@@ -1,6 +1,6 @@
 use Rattle.std.proofs.Common.{◌≡◌, ◌∙◌, length, sym, ap, arith}
 use Rattle.gtfs_table.proofs.PartFacts.{length-parts}
-use Rattle.gtfs_runs.proofs.stop_index.StopIndex.rows.Goals as goal
+use Rattle.gtfs_runs.proofs.stop_index.rows_by_stop.RowsByStop.at.Goals as goal
 
 pub stretch-requires-clause-within : goal.stretch-requires-clause-within
 stretch-requires-clause-within c =

@@ -2,7 +2,7 @@ use Rattle.std.proofs.Common.{◌∙◌, length, map, ap}
 use Rattle.std.specs.List.{range_with_len}
 use Rattle.gtfs_runs.specs.steps.Entries.{below_stop, row_of}
 use Rattle.gtfs_runs.proofs.IndexFacts.{are-departure-rows, index_rises}
-use Rattle.gtfs_runs.proofs.stop_index.StopIndex.build.Goals as goal
+use Rattle.gtfs_runs.proofs.stop_index.rows_by_stop.RowsByStop.build.Goals as goal
 
 pub invariant_of-result : goal.invariant_of-result
 invariant_of-result c =
