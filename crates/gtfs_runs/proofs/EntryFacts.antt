@@ -113,7 +113,7 @@ module _ (p : Parts) (sound : IsSoundParts p) where
 
   module _ (t : ℕ) (u : Trip) (rows : List StopRow) (fs : List Frequency) (at_trip : slice_get p.trips t ≡ Some u) (at_rows : slice_get (stop_rows_by_trip p) t ≡ Some rows)
       (at_periods : slice_get (frequencies_by_trip p) t ≡ Some fs) (known : All (λ r. r.stop_id.0 < length p.stops) rows) where
-    own_rows : (s r : ℕ) → if_there (slice_get rows r) (leaves_stop p u rows fs s) ≡ departs_of p s t r
+    pub own_rows : (s r : ℕ) → if_there (slice_get rows r) (leaves_stop p u rows fs s) ≡ departs_of p s t r
     own_rows s r =
         let c = content_of_parts p in
         let id = text_of_number (stop_ids p) s in

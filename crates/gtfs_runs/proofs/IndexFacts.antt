@@ -16,8 +16,7 @@ use Rattle.csv.specs.Records.{Rising}
 use Rattle.gtfs_field.proofs.ListFacts.{any_mapped}
 use Rattle.gtfs_table.specs.Parts.{parts}
 use Rattle.gtfs_table.proofs.PartFacts.{length-parts, part-at}
-use Rattle.gtfs_rows.proofs.Held.{filter_none}
-use Rattle.gtfs_rows.proofs.SameElements.{pairs-head, pairs-map, pairs-tail}
+use Rattle.gtfs_rows.proofs.SameElements.{pairs-map}
 use Rattle.gtfs_rows.specs.Order.{Ascends}
 use Rattle.gtfs_times.proofs.TimedContent.{content-timed}
 use Rattle.gtfs_times.specs.TimedRows.{timed_parts}
@@ -30,7 +29,8 @@ use Rattle.gtfs_runs.specs.declared.stop_index.DepartureRow.{DepartureRow}
 use Rattle.gtfs_runs.specs.declared.stop_index.entries.Entry.{Entry}
 use Rattle.gtfs_runs.specs.steps.Entries.{AreEntries, below_stop, departs_of, entry_cmp, is_entry, row_of}
 use Rattle.gtfs_runs.proofs.EntryFacts.{entry_itself, stops_rise}
-use Rattle.gtfs_runs.proofs.Tallies.{any-tally, counted, one_at, tally-none}
+use Rattle.gtfs_runs.proofs.NumberParts.{Rises, together}
+use Rattle.gtfs_runs.proofs.Tallies.{any-tally, counted, one_at}
 
 -- ---- how many are of lower stops
 
@@ -63,69 +63,8 @@ rising_from xs a (suc m) s from = (from, rising_from xs (a + 1) m (below_stop xs
 
 -- ---- those of one stop stand together
 
-abbrev Rises : List Entry → Type 0
-Rises = AllPairs (λ x y. x.stop ≤ y.stop)
-
-pub rises : (xs : List Entry) → IsSorted entry_cmp xs → Rises xs
+pub rises : (xs : List Entry) → IsSorted entry_cmp xs → Rises (λ x. x.stop) xs
 rises xs up i j d before within = stops_rise xs up i j d (omega (arith, before)) within
-
-none_lower : (xs : List Entry) (s : ℕ) → All (λ y. s ≤ y.stop) xs → tally (λ x. nat_lt x.stop s) xs ≡ 0
-none_lower xs s all = tally-none (λ x. nat_lt x.stop s) xs (λ k d within. le-ltb (get_or xs k d).stop s (all k d within))
-
--- of a number below all stops nothing is taken
-taken_none : (a b : ℕ) (xs : List Entry) → a ≡ 0 → b ≡ 0 → take (b - a) (drop a xs) ≡ []
-taken_none a b xs none none_too = rw (none, none_too) refl
-
-one_more : (x : Entry) (xs : List Entry) (a b : ℕ) (ys : List Entry) → a ≡ 0 → take (b - a) (drop a xs) ≡ ys → take (1 + b - (0 + a)) (drop (0 + a) (x ∷ xs)) ≡ x ∷ ys
-one_more x xs a b ys none is =
-    let more : 1 + b - (0 + a) ≡ suc b = omega (arith, none) in
-    let at : 0 + a ≡ 0 = omega (arith, none) in
-    let left : b - a ≡ b = omega (arith, none) in
-    rw (more, at) (ap (λ l. x ∷ l) ((λ i. take (sym left i) (drop (sym none i) xs)) ∙ is))
-
-skip_one : (x : Entry) (xs : List Entry) (a b : ℕ) → take (1 + b - (1 + a)) (drop (1 + a) (x ∷ xs)) ≡ take (b - a) (drop a xs)
-skip_one x xs a b =
-    let less : 1 + b - (1 + a) ≡ b - a = omega arith in
-    let at : 1 + a ≡ suc a = omega arith in
-    rw (less, at) refl
-
-together : (xs : List Entry) (s : ℕ) → Rises xs → take (below_stop xs (s + 1) - below_stop xs s) (drop (below_stop xs s) xs) ≡ filter (λ x. x.stop == s) xs
-together [] s up = refl
-together (x ∷ xs) s up =
-    let rest = together xs s (pairs-tail (λ a b. a.stop ≤ b.stop) x xs up) in
-    let above = pairs-head (λ a b. a.stop ≤ b.stop) x xs up in
-    elim (cases_Bool (nat_lt x.stop s)) [
-      | inl lower ↦
-          let less = ltb-true x.stop s lower in
-          let next : nat_lt x.stop (s + 1) ≡ true = lt-ltb x.stop (s + 1) (omega (arith, less)) in
-          let other : (x.stop == s) ≡ false = unlike x.stop s (λ same. omega (arith, less, same)) in
-          rw (lower, next, other) (skip_one x xs (below_stop xs s) (below_stop xs (s + 1)) ∙ rest)
-      | inr not_lower ↦
-          let from : s ≤ x.stop = ltb-false x.stop s not_lower in
-          let none : below_stop xs s ≡ 0 = none_lower xs s (λ k d within. let up = above k d within in omega (arith, from, up)) in
-          elim (cases_Bool (x.stop == s)) [
-            | inl same ↦
-                let here = eqb-true x.stop s same in
-                let next : nat_lt x.stop (s + 1) ≡ true = lt-ltb x.stop (s + 1) (omega (arith, here)) in
-                rw (not_lower, next, same) (one_more x xs (below_stop xs s) (below_stop xs (s + 1)) (filter (λ y. y.stop == s) xs) none rest)
-            | inr other ↦
-                let past : s + 1 ≤ x.stop = beyond x.stop s from other in
-                let next : nat_lt x.stop (s + 1) ≡ false = le-ltb x.stop (s + 1) past in
-                let later = none_lower xs (s + 1) (λ k d within. let up = above k d within in omega (arith, past, up)) in
-                let nothing : filter (λ y. y.stop == s) xs ≡ [] =
-                filter_none (λ y. y.stop == s) xs (λ k d within. let up = above k d within in unlike (get_or xs k d).stop s (λ same. omega (arith, past, up, same))) in
-                rw (not_lower, next, other, nothing) (taken_none (0 + below_stop xs s) (0 + below_stop xs (s + 1)) (x ∷ xs) (omega (arith, none)) (omega (arith, later)))
-          ]
-    ]
-  where
-    unlike : (m n : ℕ) → (m ≡ n → ⊥) → (m == n) ≡ false
-    unlike m n apart = elim (cases_Bool (m == n)) [
-      | inl same ↦ absurd (apart (eqb-true m n same))
-      | inr other ↦ other
-    ]
-
-    beyond : (m n : ℕ) → n ≤ m → (m == n) ≡ false → n + 1 ≤ m
-    beyond m n from other = grind (arith, nat_tests)
 
 -- ---- the part of a stop
 
@@ -164,10 +103,10 @@ module _ (p : Parts) (xs : List Entry) (are : AreEntries p xs) (up : IsSorted en
       ∙ (λ i. take (ends_at s within i - here i) (drop (here i) (map row_of xs)))
       ∙ ap (take (below_stop xs (s + 1) - below_stop xs s)) (drop-map row_of (below_stop xs s) xs)
       ∙ take-map row_of (below_stop xs (s + 1) - below_stop xs s) (drop (below_stop xs s) xs)
-      ∙ ap (map row_of) (together xs s (rises xs up))
+      ∙ ap (map row_of) (together (λ x. x.stop) xs s (rises xs up))
 
 -- what is asked of those that are kept
-any_kept : {X : Type 0} (q f : X → Bool) (xs : List X) → list_any q (filter f xs) ≡ list_any (λ x. q x && f x) xs
+pub any_kept : {X : Type 0} (q f : X → Bool) (xs : List X) → list_any q (filter f xs) ≡ list_any (λ x. q x && f x) xs
 any_kept q f [] = refl
 any_kept q f (x ∷ xs) = elim (cases_Bool (f x)) [
   | inl kept ↦ rw kept (λ i. sym (alone (q x)) i || any_kept q f xs i)

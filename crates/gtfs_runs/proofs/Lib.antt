@@ -33,3 +33,7 @@ pub mod TripIds
 mod SeekOrder
 mod EntryFacts
 mod IndexFacts
+mod NumberParts
+mod ChildFacts
+mod PlaceRows
+mod PlaceFinds

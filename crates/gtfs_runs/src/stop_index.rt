@@ -134,7 +134,7 @@ impl<'a> StopIndex<'a> {
     // The stops and platforms whose parent a stop is, each once, but not the stop itself.
     pub(crate) fn children(&self, stop: StopNo) -> &[Child]
         requires { stop.0 < length self.now.feed.stops }
-        ensures { (n : ℕ) → tally (λ x. x.stop == n) result.now
+        ensures { (n : ℕ) → tally (λ x. n == x.stop) result.now
             ≡ cond (is_child self.now.feed stop.0 n) 1 0 }
     {
         self.children.of(stop, self.feed.stop_count())

@@ -24,7 +24,7 @@ child_cmp = then_cmp (on (λ x. x.parent) nat_cmp) (on (λ x. x.stop) nat_cmp)
 
 -- that of this parent and this number
 abbrev pub is_pair : ℕ → ℕ → Child → Bool
-is_pair s n x = (x.stop == n) && (x.parent == s)
+is_pair s n x = (n == x.stop) && (x.parent == s)
 
 -- all of a feed, each once, by parent
 pub record AreChildren (p : Parts) (xs : List Child) : Type 0 where

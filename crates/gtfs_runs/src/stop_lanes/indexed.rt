@@ -72,11 +72,12 @@ fn add_trip<'a>(
 ) -> Result<usize, OutOfMemory>
     requires some { 0 < length rows.now }
     requires rows { ArePlaceRows (timed_parts index.now.times index.now.feed) stop.0
-        (first_trip 0 rows.now) rows.now }
+        (first_trip (length index.now.feed.trips) rows.now) rows.now }
     ensures some { IfOk result (λ n. 0 < n) }
     ensures upto { IfOk result (λ n. n ≤ length rows.now) }
     ensures found { IfOk result (λ n.
-        AreFound (timed_parts index.now.times index.now.feed) stop.0 (first_trip 0 rows.now)
+        AreFound (timed_parts index.now.times index.now.feed) stop.0
+        (first_trip (length index.now.feed.trips) rows.now)
         (map stopping_of listed.old.items) (map period_value periods.old.items)
         → AreFound (timed_parts index.now.times index.now.feed) stop.0
         (first_trip (length index.now.feed.trips) (drop n rows.now))
