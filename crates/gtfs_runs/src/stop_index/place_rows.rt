@@ -38,7 +38,8 @@ fn gathered(
     index.feed().soundness();
     let mut found = Vec::new(alloc);
     found.extend_from_slice(index.rows(stop))?;
-    for child in index.children(stop) {
+    let children = index.children(stop);
+    for child in children {
         found.extend_from_slice(index.rows(child.stop()))?;
     }
     Ok(found)
