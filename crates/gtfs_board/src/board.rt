@@ -207,12 +207,13 @@ impl<'a> Board<'a> {
             (text_of_number (stop_ids index.now.feed) stop.0) span
             (option_map (λ k. plain_key k.now) after.entry)) }
     {
-        if !span.is_valid() {
-            return Err(BoardFault::BadSpan);
-        }
-        match Board::of_stop_indexed(alloc, index, zone, stop, span, after) {
-            Ok(board) => Ok(board),
-            Err(_) => Err(BoardFault::OutOfMemory),
+        if span.is_valid() {
+            match Board::of_stop_indexed(alloc, index, zone, stop, span, after) {
+                Ok(board) => Ok(board),
+                Err(_) => Err(BoardFault::OutOfMemory),
+            }
+        } else {
+            Err(BoardFault::BadSpan)
         }
     }
 

@@ -1,5 +1,5 @@
 -- The departure rows at the place of a stop: of its stops put together, and cut by trip.
-use Rattle.std.proofs.Common.{◌≡◌, ◌≤◌, ◌<◌, ◌+◌, ◌∙◌, ◌&&◌, ◌||◌, ◌==◌, ℕ, zero, suc, Bool, true, false, not, cond, List, [], ◌∷◌, length, map, filter, take, drop, get_or, Option, Some, None, nat_lt, nat_le, refl, sym, ap, subst, arith, rules, inl, inr}
+use Rattle.std.proofs.Common.{◌≡◌, ◌≤◌, ◌<◌, ◌+◌, ◌++◌, ◌∙◌, ◌&&◌, ◌||◌, ◌==◌, ℕ, zero, suc, Bool, true, false, not, cond, List, [], ◌∷◌, length, map, filter, take, drop, add-one, get_or, Option, Some, None, nat_lt, nat_le, refl, sym, ap, subst, arith, rules, inl, inr}
 use Rattle.std.specs.Prelude.{option_map}
 use Rattle.std.specs.List.{All, list_any, slice_get}
 use Rattle.std.specs.List.Sorted.{IsPartitionedBy, IsPermutation, IsSorted}
@@ -12,6 +12,7 @@ use Rattle.std.specs.Ordering.{is_lt, nat_cmp, ordering_reverse, ordering_then}
 use Rattle.std.proofs.lemmas.Cmp.{nat_cmp_total}
 use Rattle.std.proofs.lemmas.Bool.{and_parts, cases_Bool, eqb-true, false≢true, true≢false, le-leb, leb-true, lt-ltb, ltb-true, ltb-false, ne_eqb}
 use Rattle.std.proofs.lemmas.Bool.Decides.{nat_tests}
+use Rattle.std.proofs.Math.Seq.{take-suc}
 use Rattle.std.proofs.lemmas.List.Elements.{All-cons}
 use Rattle.std.proofs.lemmas.List.Kept.{AllPairs-filter}
 use Rattle.std.proofs.lemmas.List.Sorted.{ranks_by, sorted_far}
@@ -55,7 +56,7 @@ use Rattle.gtfs_runs.proofs.IndexFacts.{any_kept}
 use Rattle.gtfs_runs.proofs.LaneTallies.{tally-nothing}
 use Rattle.gtfs_runs.proofs.NumberParts.{first_run}
 use Rattle.gtfs_runs.proofs.PlaceFacts.{place_at}
-use Rattle.gtfs_runs.proofs.Tallies.{any-tally, tally-none, tally-permutation, tally-same, two_at}
+use Rattle.gtfs_runs.proofs.Tallies.{any-tally, tally-append, tally-none, tally-permutation, tally-push, tally-same, two_at}
 
 -- ---- what is asked of a stop time
 
@@ -161,6 +162,24 @@ told_at choice p sound index are s t r xs within at =
     ∙ ap (λ l. cond (list_any (is_row t r) l) 1 0) (sym (get_or_from_slice_get index s xs [] at))
     ∙ ap (λ b. cond b 1 0)
     (are.all s t r within ∙ ap (λ c. departs_at c id t r) (sym (content-timed choice p sound)) ∙ ap (λ b. b && departs_at (content_of_parts q) id t r) (sym known))
+
+-- the steps of the code: first those of the stop, and then those of each child
+pub stop_first : {X Y : Type 0} (f : Y → Bool) (q : X → Bool) (b : Bool) (old new xs : List X) (ys : List Y) → old ≡ [] → new ≡ old ++ xs → tally q xs ≡ cond b 1 0
+    → tally q new ≡ cond b 1 0 + tally f (take 0 ys)
+stop_first f q b old new xs ys none pushed told = ap (tally q) (pushed ∙ ap (λ l. l ++ xs) none) ∙ told ∙ nothing (cond b 1 0)
+  where
+    nothing : (n : ℕ) → n ≡ n + 0
+    nothing n = omega arith
+
+pub children_more : {X Y : Type 0} (f : Y → Bool) (q : X → Bool) (a k : ℕ) (y : Y) (old new xs : List X) (ys : List Y) → k < length ys → y ≡ get_or ys k y
+    → tally q old ≡ a + tally f (take k ys) → new ≡ old ++ xs → tally q xs ≡ cond (f y) 1 0 → tally q new ≡ a + tally f (take (k + 1) ys)
+children_more f q a k y old new xs ys within item so_far pushed told =
+    rw (add-one, take-suc ys k y within)
+    (ap (tally q) pushed ∙ tally-append q old xs ∙ (λ i. so_far i + (told ∙ ap (λ z. cond (f z) 1 0) item) i) ∙ assoc a (tally f (take k ys)) (cond (f (get_or ys k y)) 1 0)
+    ∙ ap (λ n. a + n) (sym (tally-push f (take k ys) (get_or ys k y))))
+  where
+    assoc : (l m n : ℕ) → l + m + n ≡ l + (m + n)
+    assoc l m n = omega arith
 
 -- a stop time is at the place where it is at the stop, or at a child
 one_place : (a b e : Bool) → cond a 1 0 + cond (b && not a && e) 1 0 ≡ cond (a || (b && e)) 1 0

@@ -11,9 +11,9 @@ ghost use Rattle.gtfs_times.specs.TimedRows.{timed_parts};
 
 use crate::step_lane::StepLane;
 use crate::stop_index::{DepartureRow, StopIndex, place_rows};
+use crate::stop_lanes::at_rows::passings_at;
 use crate::stop_lanes::found::{Found, add_passings};
 use crate::stop_lanes::listed::Listed;
-use crate::stop_lanes::passing::passings_at;
 use gtfs_field::OutOfMemory;
 use gtfs_rows::{StopNo, TripNo};
 use std::alloc::Global;

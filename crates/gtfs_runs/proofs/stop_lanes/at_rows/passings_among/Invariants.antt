@@ -2,7 +2,7 @@ use Rattle.std.proofs.Common.{◌≡◌, ◌≤◌, map, take}
 use Rattle.std.specs.List.{All}
 use Rattle.gtfs_rows.specs.declared.stop_row.StopRow.{StopRow}
 use Rattle.gtfs_runs.specs.steps.Places.{passing_of}
-use Rattle.gtfs_runs.proofs.stop_lanes.passing.passings_among.Given as goal
+use Rattle.gtfs_runs.proofs.stop_lanes.at_rows.passings_among.Given as goal
 
 -- those of the departure rows so far
 abbrev pub invariant-loop-row : goal.invariant-loop-row

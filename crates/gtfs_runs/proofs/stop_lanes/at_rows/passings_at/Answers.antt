@@ -2,7 +2,7 @@ use Rattle.std.proofs.Common.{◌∙◌, length, refl, sym}
 use Rattle.std.proofs.lemmas.Result.{IfOk-weaker}
 use Rattle.gtfs_runs.proofs.Pushes.{none-made}
 use Rattle.gtfs_runs.proofs.TimedTrips.{filled_under, passed_at, rows_timed, times_of}
-use Rattle.gtfs_runs.proofs.stop_lanes.passing.passings_at.Goals as goal
+use Rattle.gtfs_runs.proofs.stop_lanes.at_rows.passings_at.Goals as goal
 
 pub passings_among-requires-clause-within : goal.passings_among-requires-clause-within
 passings_among-requires-clause-within c =
