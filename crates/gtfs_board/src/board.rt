@@ -231,7 +231,8 @@ impl<'a> Board<'a> {
             (text_of_number (stop_ids index.now.feed) stop.0) span
             (option_map (λ k. plain_key k.now) after.entry)) }
     {
-        let (feed, times) = (index.feed(), index.times());
+        let feed = index.feed();
+        let times = index.times();
         let (lanes, steps) = StopLanes::from_index(alloc, index, stop)?;
         Board::of_lanes(alloc, feed, zone, stop, span, after, times, lanes, steps)
     }

@@ -169,14 +169,6 @@ fn a_span_does_not_end_before_it_begins(rt: HostRuntime) -> Result<(), Fail> {
 }
 
 #[test]
-fn a_span_has_its_first_instant_and_not_its_last(rt: HostRuntime) {
-    let span = Span { from: -5, until: 7 };
-    for (instant, is_within) in [(-6, false), (-5, true), (0, true), (6, true), (7, false)] {
-        assert_is(&rt, span.contains(instant), is_within, instant);
-    }
-}
-
-#[test]
 fn faults_have_lines_and_numbers(rt: HostRuntime) -> Result<(), Fail> {
     for (fault, number, line) in [
         (BoardFault::UnknownStop, 1, "unknown stop"),

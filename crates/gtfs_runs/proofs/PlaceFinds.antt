@@ -1,6 +1,6 @@
 -- What leaves a place, by its departure rows: those of a trip are the stop times that it passes there, and a trip without any
 -- adds nothing.
-use Rattle.std.proofs.Common.{◌≡◌, ◌≤◌, ◌<◌, ◌+◌, ◌*◌, ◌-◌, ◌++◌, ◌∙◌, ◌&&◌, ◌||◌, ◌==◌, ℕ, zero, suc, Bool, true, false, cond, List, [], ◌∷◌, length, map, filter, get_or, Option, Some, None, nat_lt, nat_le, refl, sym, ap, subst, arith, inl, inr, zero-add}
+use Rattle.std.proofs.Common.{◌≡◌, ◌≤◌, ◌<◌, ◌+◌, ◌*◌, ◌-◌, ◌++◌, ◌∙◌, ◌&&◌, ◌||◌, ◌==◌, ℕ, zero, suc, Bool, true, false, cond, List, [], ◌∷◌, length, map, filter, drop, get_or, Option, Some, None, nat_lt, nat_le, refl, sym, ap, subst, arith, inl, inr, zero-add}
 use Rattle.std.specs.Prelude.{option_map}
 use Rattle.std.specs.List.{All, AllPairs, enumerate_from, list_any, slice_get}
 use Rattle.std.specs.Cmp.{ranked, tied_itself}
@@ -36,6 +36,7 @@ use Rattle.gtfs_runs.specs.steps.Passings.{ArePassings, first_left, leaves, pass
 use Rattle.gtfs_runs.specs.steps.Places.{ArePlaceRows, departs_in_place, first_trip, passing_of}
 use Rattle.gtfs_runs.proofs.EntryFacts.{asked_within}
 use Rattle.gtfs_runs.proofs.PlaceRows.{first_lowest, in_place_of, place_within}
+use Rattle.gtfs_runs.proofs.Tallies.{no_trips}
 use Rattle.gtfs_runs.proofs.TripFinds.{listed_found, periods_found}
 
 -- ---- elements with their positions, by which they are those that pass
@@ -173,7 +174,7 @@ module _ (p : Parts) (sound : IsSoundParts p) (s t : ℕ) (u : Trip) (rows : Lis
 
 none_passed : (t : ℕ) (e : Event) (fs : List Frequency) → times_passed_in t e [] fs ≡ 0
 none_passed t e [] = refl
-none_passed t e (f ∷ fs) = none_passed t e fs
+none_passed t e (f ∷ fs) = ap (λ n. 0 + n) (none_passed t e fs)
 
 module _ (p : Parts) (sound : IsSoundParts p) (s : ℕ) where
   module _ (t : ℕ) (within : t < length p.trips) where
@@ -301,3 +302,31 @@ module _ (p : Parts) (sound : IsSoundParts p) (s : ℕ) where
             silent t r below ∙ ap (λ b. b && departs_in_place p s t r) (sym isnt)
       ];
     }
+
+-- ---- the steps of the code
+
+pub nothing_found : (p : Parts) (s : ℕ) → AreFound p s 0 [] []
+nothing_found p s = record {
+  exact = λ k e within. no_trips e.trip.0 _;
+  known = λ k d within. absurd (omega arith);
+  own = λ k d within. absurd (omega arith);
+  within = λ k d within. absurd (omega arith);
+  runs = λ k d within. absurd (omega arith);
+  courses = refl;
+  counted = refl;
+}
+
+pub nothing_left : {X : Type 0} (xs : List X) (n : ℕ) → length xs ≤ n → drop n xs ≡ []
+nothing_left [] zero past = refl
+nothing_left [] (suc n) past = refl
+nothing_left (x ∷ xs) zero past = absurd (omega arith)
+nothing_left (x ∷ xs) (suc n) past = nothing_left xs n (omega arith)
+
+-- the trip of the first is one of the feed
+pub first_within : (p : Parts) (s t : ℕ) (xs : List DepartureRow) → ArePlaceRows p s t xs → first_trip (length p.trips) xs ≡ t → 0 < length xs → t < length p.trips
+first_within p s t [] are is some = absurd (omega arith)
+first_within p s t (x ∷ xs) are is some =
+    let here : is_row x.trip x.row x ≡ true = rw (itself x.trip, itself x.row) refl in
+    let both = and_parts (nat_le t x.trip) (departs_in_place p s x.trip x.row) (sym (are.all x.trip x.row) ∙ ap (λ b. b || list_any (is_row x.trip x.row) xs) here) in
+    let inside = place_within p s x.trip x.row both.1 in
+    omega (arith, inside, is)

@@ -294,6 +294,11 @@ first_parted xs t up from i j d before within is = elim (cases_Bool (nat_lt i j)
   | inr not_lower ↦ let same : i ≡ j = omega (arith, before, ltb-false i j not_lower) in ap (λ k. (get_or xs k d).trip == t) same ∙ is
 ]
 
+-- and there is one of them
+pub first_counted : (n : ℕ) (xs : List DepartureRow) (t : ℕ) → first_trip n xs ≡ t → 0 < length xs → 0 < tally (λ x. x.trip == t) xs
+first_counted n [] t is some = absurd (omega arith)
+first_counted n (x ∷ xs) t is some = let here : (x.trip == t) ≡ true = ap (λ k. k == t) is ∙ itself t in rw here (omega arith)
+
 -- of a trip's number and a later one
 pub other_row : (t v r : ℕ) (x : DepartureRow) → (v == t) ≡ false → (is_row v r x && not (x.trip == t)) ≡ is_row v r x
 other_row t v r x other = elim (cases_Bool (v == x.trip)) [
@@ -331,7 +336,7 @@ none_left t r x = elim (cases_Bool (t == x.trip)) [
     never true = refl
     never false = refl
 
-module _ (p : Parts) (s t : ℕ) (xs : List DepartureRow) (are : ArePlaceRows p s t xs) where
+module _ (p : Parts) (s t n : ℕ) (xs : List DepartureRow) (are : ArePlaceRows p s t xs) (is : n ≡ tally (λ x. x.trip == t) xs) where
   low : All (λ x. t ≤ x.trip) xs
   low k d within =
       let x = get_or xs k d in
@@ -347,19 +352,13 @@ module _ (p : Parts) (s t : ℕ) (xs : List DepartureRow) (are : ArePlaceRows p 
           or_true true = refl
           or_true false = refl
 
-  abbrev pub count : ℕ
-  count = tally (λ x. x.trip == t) xs
+  cut : (take n xs ≡ filter (λ x. x.trip == t) xs) × (drop n xs ≡ filter (λ x. not (x.trip == t)) xs)
+  cut = subst (λ m. (take m xs ≡ filter (λ x. x.trip == t) xs) × (drop m xs ≡ filter (λ x. not (x.trip == t)) xs)) (sym is) (first_run (λ x. x.trip) xs t (trips_rise xs are.in_order) low)
 
-  cut : (take count xs ≡ filter (λ x. x.trip == t) xs) × (drop count xs ≡ filter (λ x. not (x.trip == t)) xs)
-  cut = first_run (λ x. x.trip) xs t (trips_rise xs are.in_order) low
-
-  pub parted : IsPartitionedBy (λ x. x.trip == t) xs
-  parted = first_parted xs t are.in_order low
-
-  pub own_up : Ascends departure_row_cmp (take count xs)
+  pub own_up : Ascends departure_row_cmp (take n xs)
   own_up = subst (Ascends departure_row_cmp) (sym cut.0) (AllPairs-filter (λ x y. departure_row_cmp x y ≡ Less) (λ x. x.trip == t) xs are.in_order)
 
-  pub own_trip : All (λ x. x.trip ≡ t) (take count xs)
+  pub own_trip : All (λ x. x.trip ≡ t) (take n xs)
   own_trip = subst (All (λ x. x.trip ≡ t)) (sym cut.0) (kept_pass xs)
     where
       kept_pass : (ys : List DepartureRow) → All (λ x. x.trip ≡ t) (filter (λ x. x.trip == t) ys)
@@ -369,12 +368,12 @@ module _ (p : Parts) (s t : ℕ) (xs : List DepartureRow) (are : ArePlaceRows p 
         | inr isnt ↦ rw isnt (kept_pass ys)
       ]
 
-  pub own_all : (r : ℕ) → list_any (is_row t r) (take count xs) ≡ departs_in_place p s t r
+  pub own_all : (r : ℕ) → list_any (is_row t r) (take n xs) ≡ departs_in_place p s t r
   own_all r =
       ap (list_any (is_row t r)) cut.0 ∙ any_kept (is_row t r) (λ x. x.trip == t) xs ∙ any_alike (λ x. is_row t r x && (x.trip == t)) (is_row t r) xs (own_row t r)
       ∙ are.all t r ∙ ap (λ b. b && departs_in_place p s t r) (le-leb t t (omega arith))
 
-  pub left_rows : ArePlaceRows p s (t + 1) (drop count xs)
+  pub left_rows : ArePlaceRows p s (t + 1) (drop n xs)
   left_rows = record {
     in_order = subst (Ascends departure_row_cmp) (sym cut.1) (AllPairs-filter (λ x y. departure_row_cmp x y ≡ Less) (λ x. not (x.trip == t)) xs are.in_order);
     all = λ v r.

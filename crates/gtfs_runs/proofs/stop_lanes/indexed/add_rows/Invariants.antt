@@ -10,10 +10,10 @@ use Rattle.gtfs_runs.proofs.stop_lanes.indexed.add_rows.Given as goal
 abbrev pub invariant-loop-at : goal.invariant-loop-at
 invariant-loop-at l = record {
   upto : l.at ≤ length l.rows;
-  found : AreFound (timed_parts l.index.times l.index.feed) l.stop.0 0 (map stopping_of l.fn.listed.items) (map period_value l.fn.periods.items)
-      → AreFound (timed_parts l.index.times l.index.feed) l.stop.0 (first_trip (length l.index.feed.trips) (drop l.at l.rows))
+  found : AreFound (timed_parts l.times l.feed) l.stop.0 0 (map stopping_of l.fn.listed.items) (map period_value l.fn.periods.items)
+      → AreFound (timed_parts l.times l.feed) l.stop.0 (first_trip (length l.feed.trips) (drop l.at l.rows))
       (map stopping_of l.listed.items) (map period_value l.periods.items);
-  left : ArePlaceRows (timed_parts l.index.times l.index.feed) l.stop.0 (first_trip (length l.index.feed.trips) (drop l.at l.rows)) (drop l.at l.rows);
+  left : ArePlaceRows (timed_parts l.times l.feed) l.stop.0 (first_trip (length l.feed.trips) (drop l.at l.rows)) (drop l.at l.rows);
 }
 
 abbrev pub decreases-loop-at : goal.decreases-loop-at

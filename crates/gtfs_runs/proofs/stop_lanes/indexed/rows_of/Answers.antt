@@ -5,8 +5,8 @@ use Rattle.gtfs_runs.proofs.PlaceRows.{first_parted}
 use Rattle.gtfs_runs.proofs.Ranks.{parted_tally}
 use Rattle.gtfs_runs.proofs.stop_lanes.indexed.rows_of.Goals as goal
 
-pub returns : goal.returns
-returns c =
+pub returns-clause-value : goal.returns-clause-value
+returns-clause-value c =
     let xs : List DepartureRow = c.args.rows.now in
     let t = c.args.trip.0 in
     let test : DepartureRow → Bool = λ x. x.trip == t in
