@@ -5,7 +5,7 @@ ghost use Rattle.gtfs_board.specs.Span.{is_span, is_writable};
 const TOO_WIDE: u64 = 1_000_000_000_000;
 
 /// A span of instants in seconds since 1970-01-01T00:00:00Z.
-#[derive(Clone, Copy)]
+#[derive(Clone, Copy, Debug)]
 pub struct Span {
     /// The first instant of the span.
     pub from: i64,

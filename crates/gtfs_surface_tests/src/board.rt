@@ -1,8 +1,8 @@
 //! `gtfs_board`.
 
 use gtfs_board::{
-    Board, BoardFault, Departure, Feed, Key, Mark, PageFault, Sheet, Span, TableFault, Times,
-    push_key, push_line, push_sheet, read_key, timetable, write_page,
+    Board, BoardFault, Departure, Feed, Key, Mark, PageFault, Sheet, Span, StopIndex, TableFault,
+    Times, push_key, push_line, push_sheet, read_key, timetable, write_page,
 };
 use gtfs_days::Zone;
 use gtfs_field::{Clock, Day, FieldFault, List, OutOfMemory};
@@ -62,6 +62,16 @@ fn open<'a>(
     after: Option<&Key<'a>>,
 ) -> Result<Board<'a>, BoardFault> {
     Board::open(alloc, feed, zone, "S1", span, after, Times::Given)
+}
+
+fn open_indexed<'a>(
+    alloc: Global,
+    index: &StopIndex<'a>,
+    zone: &'a Zone,
+    span: Span,
+    after: Option<&Key<'a>>,
+) -> Result<Board<'a>, BoardFault> {
+    Board::open_indexed(alloc, index, zone, "S1", span, after)
 }
 
 fn next<'a>(board: &mut Board<'a>) -> Result<Option<Departure<'a>>, OutOfMemory> {

@@ -3,7 +3,8 @@
 use gtfs_feed::{Feed, RouteNo, ServiceNo, StopNo, TripNo};
 use gtfs_field::{List, OutOfMemory};
 use gtfs_runs::{
-    Event, Lane, ListLane, Pattern, Seek, StepLane, Steps, StopLanes, Times, patterns,
+    DepartureRow, Event, Lane, ListLane, Pattern, Seek, StepLane, Steps, StopIndex, StopLanes,
+    Times, patterns,
 };
 use std::alloc::Global;
 
@@ -39,6 +40,18 @@ fn lane<L: Lane>(lane: &L, feed: &Feed, seek: &Seek<'_>, steps: &mut Steps) -> O
 
 fn service<L: Lane>(lane: &L) -> ServiceNo {
     lane.service()
+}
+
+fn index<'a>(alloc: Global, feed: &'a Feed) -> Result<StopIndex<'a>, OutOfMemory> {
+    StopIndex::build(alloc, feed, Times::Given)
+}
+
+fn made_of<'a>(index: &StopIndex<'a>) -> (&'a Feed, Times) {
+    (index.feed(), index.times())
+}
+
+fn departure_row(row: &DepartureRow) -> (TripNo, usize) {
+    (row.trip(), row.row())
 }
 
 fn lanes(
