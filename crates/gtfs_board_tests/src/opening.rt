@@ -235,9 +235,7 @@ impl<'a> Opening<'a> {
         index: &StopIndex<'a>,
         after: Option<&Key<'_>>,
     ) -> Result<Board<'a>, Fail> {
-        Ok(Board::open_indexed(
-            alloc, index, self.zone, self.stop, self.span, after,
-        )?)
+        Ok(Board::open_indexed(alloc, index, self.zone, self.stop, self.span, after)?)
     }
 
     fn keys_above(

@@ -9,9 +9,8 @@ mod place_rows;
 mod rows_by_stop;
 mod starts;
 
-pub(crate) use crate::stop_index::place_rows::place_rows;
-
 use crate::stop_index::children::{Child, Children};
+pub(crate) use crate::stop_index::place_rows::place_rows;
 use crate::stop_index::rows_by_stop::RowsByStop;
 use gtfs_feed::Feed;
 use gtfs_field::OutOfMemory;
@@ -83,11 +82,7 @@ impl<'a> StopIndex<'a> {
     ///
     /// # Errors
     /// [`OutOfMemory`] where memory ran out, or where the feed has more than 4,294,967,296 stops, trips or stop times of a trip.
-    pub fn build(
-        alloc: Global,
-        feed: &'a Feed,
-        times: Times,
-    ) -> Result<StopIndex<'a>, OutOfMemory>
+    pub fn build(alloc: Global, feed: &'a Feed, times: Times) -> Result<StopIndex<'a>, OutOfMemory>
         ensures feed { IfOk result (λ index. index.feed ≡ feed.now) }
         ensures times { IfOk result (λ index. index.times ≡ times) }
     {

@@ -94,14 +94,22 @@ fn add_child(feed: &Feed, stop: StopNo, found: &mut Vec<Child>) -> Result<(), Ou
         ≡ tally (is_pair s n) found.old.items
         + cond ((n == stop.0) && is_child feed.now s n) 1 0) }
 {
-    if let Some(parent) = parent_of(feed, stop) {
-        let child = Child {
-            parent: small_number(parent.0)?,
-            stop: small_number(stop.0)?,
-        };
-        found.push(child)?;
-    }
+    let Some(parent) = parent_of(feed, stop) else {
+        return Ok(());
+    };
+    let child = child_of(parent, stop)?;
+    found.push(child)?;
     Ok(())
+}
+
+// A stop or platform under its parent.
+fn child_of(parent: StopNo, stop: StopNo) -> Result<Child, OutOfMemory>
+    ensures { IfOk result (λ child. child ≡ record { parent = parent.0; stop = stop.0 }) }
+{
+    Ok(Child {
+        parent: small_number(parent.0)?,
+        stop: small_number(stop.0)?,
+    })
 }
 
 // The parent of a stop or platform, unless it is its own.
@@ -111,7 +119,9 @@ fn parent_of(feed: &Feed, stop: StopNo) -> Option<StopNo>
         ≡ is_child feed.now s stop.0 }
 {
     let row = feed.stop_by_number(stop);
-    let parent = row.parent_station?;
+    let Some(parent) = row.parent_station else {
+        return None;
+    };
     if row.location_type.number() == 0 && parent.0 != stop.0 {
         Some(parent)
     } else {

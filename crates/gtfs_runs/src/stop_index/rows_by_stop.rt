@@ -34,11 +34,7 @@ impl Model for RowsByStop {
 
 impl RowsByStop {
     // Those of a feed under a choice of times.
-    pub(crate) fn build(
-        alloc: Global,
-        feed: &Feed,
-        times: Times,
-    ) -> Result<RowsByStop, OutOfMemory>
+    pub(crate) fn build(alloc: Global, feed: &Feed, times: Times) -> Result<RowsByStop, OutOfMemory>
         ensures { IfOk result (λ rows. AreDepartureRows times feed.now rows) }
     {
         feed.soundness();

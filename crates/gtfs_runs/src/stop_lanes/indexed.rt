@@ -36,15 +36,7 @@ pub(crate) fn found_in_index<'a>(
     let mut listed = Vec::new(alloc);
     let mut periods = Vec::new(alloc);
     let times = index.times();
-    add_rows(
-        alloc,
-        feed,
-        stop,
-        times,
-        &rows,
-        &mut listed,
-        &mut periods,
-    )?;
+    add_rows(alloc, feed, stop, times, &rows, &mut listed, &mut periods)?;
     Ok(Found { listed, periods })
 }
 
