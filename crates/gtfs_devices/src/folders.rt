@@ -1,6 +1,6 @@
 ghost use Rattle.std.specs.Prelude.{◌≡◌, ◌≤◌, ℕ, Option, None, option_map, vec_len, IfOk, IfErr, IfSome, IsErrOf, OnOk};
 ghost use Rattle.gtfs_devices.specs.Device.{Calls, FailsAtLast, MakesCalls};
-ghost use Rattle.gtfs_devices.specs.Folder.{Store, IsByBytes, Lists, Finds, Writes, RefusesNames, RefusesRead, RefusesWrite};
+ghost use Rattle.gtfs_devices.specs.Folder.{Store, CountsFault, IsByBytes, Lists, Finds, Writes, RefusesNames, RefusesRead, RefusesWrite};
 
 use gtfs_field::{OutOfMemory, Text};
 use std::alloc::{AllocFailed, Global};
@@ -52,7 +52,7 @@ impl<T: Drop> From<AllocFailed<T>> for FolderFault {
 /// folder under a name, and is a list of bytes.
 ///
 /// A device counts its failures. It answers Read and Write only where that count rose in the very call,
-/// and a call that succeeds leaves the count as it was; a count at 2^64 - 1 stays there and counts as
+/// and a call that ends otherwise leaves the count as it was; a count at 2^64 - 1 stays there and counts as
 /// risen. A device has a limit, the greatest length in bytes of a file that it reads, which never changes.
 /// A device may count its calls too. The contents of a device may be unknown, as those of a disk are: the
 /// clauses on its contents say nothing then.
@@ -67,7 +67,9 @@ pub trait Folders {
 
     /// The names of what lies in a folder, in byte order.
     ///
-    /// Refused with Read, with NoFolder where there is no such folder, and with OutOfMemory.
+    /// # Errors
+    /// `Read` where the device failed, `NoFolder` where there is no such folder, and `OutOfMemory` where
+    /// memory is refused.
     fn names(&mut self, alloc: Global, dir: &str) -> Result<Vec<Text>, FolderFault>
         ensures lists { IfOk result
             (λ names. Lists (held self.old) dir.now names.items) }
@@ -78,14 +80,17 @@ pub trait Folders {
         ensures unchanged { held self.new ≡ held self.old }
         ensures grows { failure_count self.old ≤ failure_count self.new }
         ensures no_failure { OnOk result (failure_count self.new ≡ failure_count self.old) }
+        ensures counts_fault { IfErr result
+            (λ fault. CountsFault fault (failure_count self.old) (failure_count self.new)) }
         ensures same_limit { limit self.new ≡ limit self.old }
         ensures called { MakesCalls 1 (calls self.old) (calls self.new) }
         ensures ends { IsErrOf result FolderFault.Read → FailsAtLast (calls self.new) };
 
     /// The bytes of a folder's file, or None where the folder has no such file.
     ///
-    /// Refused with Read, with TooLarge where the file is longer than the device's limit, with NoFolder
-    /// where there is no such folder, and with OutOfMemory.
+    /// # Errors
+    /// `Read` where the device failed, `TooLarge` where the file is longer than the device's limit,
+    /// `NoFolder` where there is no such folder, and `OutOfMemory` where memory is refused.
     fn read(&mut self, alloc: Global, dir: &str, name: &str) -> Result<Option<Vec<u8>>, FolderFault>
         ensures finds { IfOk result
             (λ file. Finds (held self.old) dir.now name.now
@@ -98,6 +103,8 @@ pub trait Folders {
         ensures unchanged { held self.new ≡ held self.old }
         ensures grows { failure_count self.old ≤ failure_count self.new }
         ensures no_failure { OnOk result (failure_count self.new ≡ failure_count self.old) }
+        ensures counts_fault { IfErr result
+            (λ fault. CountsFault fault (failure_count self.old) (failure_count self.new)) }
         ensures same_limit { limit self.new ≡ limit self.old }
         ensures called { MakesCalls 1 (calls self.old) (calls self.new) }
         ensures ends { IsErrOf result FolderFault.Read → FailsAtLast (calls self.new) };
@@ -105,8 +112,9 @@ pub trait Folders {
     /// Makes these bytes the whole of a folder's file. Makes the folder where it is absent, and takes the
     /// place of a file that was there. It judges no limit.
     ///
-    /// Refused with OutOfMemory, which leaves all as it was, and with Write, after which the content of
-    /// that one file is open.
+    /// # Errors
+    /// `Write` where the device failed; the content of that one file is then open. `OutOfMemory` where
+    /// memory is refused; all is then as it was.
     fn write(
         &mut self,
         alloc: Global,
@@ -121,6 +129,8 @@ pub trait Folders {
             (failure_count self.old) (failure_count self.new)) }
         ensures grows { failure_count self.old ≤ failure_count self.new }
         ensures no_failure { OnOk result (failure_count self.new ≡ failure_count self.old) }
+        ensures counts_fault { IfErr result
+            (λ fault. CountsFault fault (failure_count self.old) (failure_count self.new)) }
         ensures same_limit { limit self.new ≡ limit self.old }
         ensures called { MakesCalls 1 (calls self.old) (calls self.new) }
         ensures ends { IsErrOf result FolderFault.Write → FailsAtLast (calls self.new) };
