@@ -36,6 +36,6 @@ abbrev pub below_parent : List Child → ℕ → ℕ
 below_parent xs s = tally (λ x. nat_lt x.parent s) xs
 
 -- what an index of a feed keeps
-pub record IsIndex (times : Times) (p : Parts) (rows : List (List DepartureRow)) (children : List Child) : Type 0 where
-  pub rows : AreDepartureRows times p rows
-  pub children : AreChildren p children
+pub record IsIndex (times : Times) (p : Parts) (index : List (List DepartureRow)) (xs : List Child) : Type 0 where
+  pub rows : AreDepartureRows times p index
+  pub children : AreChildren p xs

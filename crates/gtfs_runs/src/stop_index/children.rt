@@ -70,7 +70,8 @@ impl Children {
 // How many have a parent with a lower number than this.
 fn start_of(children: &[Child], stop: usize) -> usize
     requires { IsSorted child_cmp children.now }
-    ensures { result ≡ below_parent children.now stop }
+    ensures value { result ≡ below_parent children.now stop }
+    ensures upto { result ≤ length children.now }
 {
     children.partition_point(|child| (child.parent as usize) < stop)
 }

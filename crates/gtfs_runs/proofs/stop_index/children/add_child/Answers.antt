@@ -1,8 +1,8 @@
 use Rattle.gtfs_runs.proofs.ChildFacts.{child_added, child_passed}
 use Rattle.gtfs_runs.proofs.stop_index.children.add_child.Goals as goal
 
-pub returns-in-None : goal.returns-in-None
-returns-in-None c = λ s n. child_passed c.args.feed.now c.args.stop.0 c.parent_of.result c.args.found.now.items c.parent_of.ensures c.in-None.is s n
+pub returns-in_default : goal.returns-in_default
+returns-in_default c = λ s n. child_passed c.args.feed.now c.args.stop.0 c.parent_of.result c.args.found.now.items c.parent_of.ensures c.in_default.is s n
 
 pub returns : goal.returns
 returns c = λ s n.

@@ -5,8 +5,8 @@ use Rattle.gtfs_runs.proofs.ChildFacts.{lower_first}
 use Rattle.gtfs_runs.proofs.Ranks.{parted_tally}
 use Rattle.gtfs_runs.proofs.stop_index.children.start_of.Goals as goal
 
-pub returns : goal.returns
-returns c =
+pub returns-clause-value : goal.returns-clause-value
+returns-clause-value c =
     let xs : List Child = c.args.children.now in
     let test : Child → Bool = λ x. nat_lt x.parent c.args.stop in
     let n = c.partition_point.result in

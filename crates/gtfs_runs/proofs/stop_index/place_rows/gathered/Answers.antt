@@ -1,5 +1,5 @@
-use Rattle.std.proofs.Common.{◌≡◌, ◌<◌, ◌≤◌, ◌∙◌, ◌+◌, length, cond, ap, subst, sym, arith}
-use Rattle.std.proofs.lemmas.List.{take_all}
+use Rattle.std.proofs.Common.{◌≡◌, ◌<◌, ◌≤◌, ◌∙◌, ◌+◌, length, cond, get_or, ap, subst, sym, arith}
+use Rattle.std.proofs.lemmas.List.{get_or_default, take_all}
 use Rattle.gtfs_rows.specs.Views.{IsSoundParts}
 use Rattle.gtfs_times.proofs.FilledContent.{sound-timed}
 use Rattle.gtfs_times.specs.TimedRows.{timed_parts}
@@ -11,12 +11,12 @@ use Rattle.gtfs_runs.proofs.ChildFacts.{children_within}
 use Rattle.gtfs_runs.proofs.PlaceRows.{children_more, place_sum, stop_first, told_at}
 use Rattle.gtfs_runs.proofs.stop_index.place_rows.gathered.Goals as goal
 
-pub rows-requires-2 : goal.rows-requires-2
-rows-requires-2 c =
+pub rows-requires-in-loop-child : goal.rows-requires-in-loop-child
+rows-requires-in-loop-child c =
     let p = c.args.index.now.feed in
-    let item = c.child-item.result in
-    let at = children_within p c.children-children.result.now c.args.stop.0 c.children-children.ensures c.loop-child.child-index item c.loop-child-test.true in
-    subst (λ n. n < length p.stops) (sym (c.stop.ensures ∙ ap (λ (x : Child). x.stop) c.child-item.is)) at
+    let none : Child = record { parent = 0; stop = 0 } in
+    let at = children_within p c.children-children.result.now c.args.stop.0 c.children-children.ensures c.loop-child.child-index none c.loop-child-test.true in
+    subst (λ n. n < length p.stops) (sym c.stop.ensures) at
 
 pub loop-child-init : goal.loop-child-init
 loop-child-init c = λ t r.
@@ -32,14 +32,16 @@ loop-child-preserved c = λ t r.
     let p = c.args.index.now.feed in
     let q = timed_parts choice p in
     let sound = subst IsSoundParts c.feed.ensures c.soundness-2.ensures in
-    let item = c.child-item.result in
     let children = c.children-children.result.now in
-    let at = children_within p children c.args.stop.0 c.children-children.ensures c.loop-child.child-index item c.loop-child-test.true in
+    let k = c.loop-child.child-index in
+    let none : Child = record { parent = 0; stop = 0 } in
+    let item : Child = get_or children k none in
+    let at = children_within p children c.args.stop.0 c.children-children.ensures k none c.loop-child-test.true in
     let named : c.stop.result.0 ≡ item.stop = c.stop.ensures in
-    let inside : c.stop.result.0 < length p.stops = subst (λ n. n < length p.stops) (sym (named ∙ ap (λ (x : Child). x.stop) c.child-item.is)) at in
-    children_more (λ (x : Child). departs_of q x.stop t r) (is_row t r) (cond (departs_of q c.args.stop.0 t r) 1 0) c.loop-child.child-index item
-    _ _ _ children c.loop-child-test.true c.child-item.is (c.loop-child.invariant t r) c.in_ok-extend_from_slice-2.ensures.items
-    (told_at choice p sound c.args.index.now.rows c.soundness.ensures c.stop.result.0 t r c.rows-2.result.now inside c.rows-2.ensures ∙ ap (λ n. cond (departs_of q n t r) 1 0) named)
+    let inside : c.stop.result.0 < length p.stops = subst (λ n. n < length p.stops) (sym named) at in
+    children_more (λ (x : Child). departs_of q x.stop t r) (is_row t r) (cond (departs_of q c.args.stop.0 t r) 1 0) k item
+    _ _ _ children c.loop-child-test.true (get_or_default children k none item c.loop-child-test.true) (c.loop-child.invariant t r) c.in_ok-extend_from_slice-2.ensures.items
+    (told_at choice p sound c.args.index.now.rows c.soundness.ensures c.stop.result.0 t r c.rows-in-loop-child.result.now inside c.rows-in-loop-child.ensures ∙ ap (λ n. cond (departs_of q n t r) 1 0) named)
 
 pub returns : goal.returns
 returns c = λ t r.

@@ -8,5 +8,5 @@ use Rattle.gtfs_runs.proofs.stop_index.place_rows.gathered.Given as goal
 -- those of the stop and of the children so far
 abbrev pub invariant-loop-child : goal.invariant-loop-child
 invariant-loop-child l = (t r : ℕ) → tally (is_row t r) l.found.items
-    ≡ cond (departs_of (timed_parts l.index.times l.index.feed) l.stop.0 t r) 1 0
+    ≡ cond (departs_of (timed_parts l.index.times l.index.feed) l.fn.stop.0 t r) 1 0
     + tally (λ x. departs_of (timed_parts l.index.times l.index.feed) x.stop t r) (take l.child-index l.children)

@@ -20,4 +20,4 @@ returns c =
     let none : AreFound q c.args.stop.0 0 (map stopping_of c.new-listed.result.items) (map period_value c.new-periods.result.items) =
     subst (λ l. AreFound q c.args.stop.0 0 (map stopping_of l) (map period_value c.new-periods.result.items)) (sym c.new-listed.ensures.items)
     (subst (λ l. AreFound q c.args.stop.0 0 [] (map period_value l)) (sym c.new-periods.ensures.items) (nothing_found q c.args.stop.0)) in
-    subst (λ (r : Times × Parts). AreFound (timed_parts r.0 r.1) c.args.stop.0 (length r.1.trips) _ _) (λ i. (c.times-times.ensures i, c.feed-feed.ensures i)) (c.in_ok-add_rows.ensures none)
+    subst (λ (r : Times × Parts). AreFound (timed_parts r.0 r.1) c.args.stop.0 (length r.1.trips) (map stopping_of c.add_rows.new.listed.items) (map period_value c.add_rows.new.periods.items)) (λ i. (c.times-times.ensures i, c.feed-feed.ensures i)) (c.in_ok-add_rows.ensures none)
