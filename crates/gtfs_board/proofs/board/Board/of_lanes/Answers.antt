@@ -14,14 +14,14 @@ use Rattle.gtfs_board.specs.declared.merge.candidate.Candidate.{Candidate}
 use Rattle.gtfs_board.specs.merge.Candidates.{HasSettings, candidate_lt, reach, rest_above}
 use Rattle.gtfs_board.proofs.Opened.{from_none, start_low, until_less}
 use Rattle.gtfs_board.proofs.TimedBoards.{opened_board, timely-timed}
-use Rattle.gtfs_board.proofs.board.Board.of_stop.Goals as goal
+use Rattle.gtfs_board.proofs.board.Board.of_lanes.Goals as goal
 
 pub new-days-requires-clause-served : goal.new-days-requires-clause-served
-new-days-requires-clause-served c = λ k d within. omega (arith, c.in_ok-lanes.ensures.lanes.within k d within, length-map c.args.feed.now.services (λ s. s.service_id))
+new-days-requires-clause-served c = λ k d within. omega (arith, c.requires.lanes.within k d within, length-map c.args.feed.now.services (λ s. s.service_id))
 
 pub new-days-requires-clause-timely : goal.new-days-requires-clause-timely
 new-days-requires-clause-timely c =
-    timely-timed c.args.times c.args.feed.now c.soundness.ensures (text_of_number (stop_ids c.args.feed.now) c.args.stop.0) c.in_ok-lanes.lanes c.in_ok-lanes.ensures.lanes c.in_ok-lanes.ensures.greatest
+    timely-timed c.args.times c.args.feed.now c.soundness.ensures (text_of_number (stop_ids c.args.feed.now) c.args.stop.0) c.args.lanes c.requires.lanes c.requires.greatest
 
 pub open-requires-clause-instant : goal.open-requires-clause-instant
 open-requires-clause-instant c =
@@ -42,7 +42,7 @@ invariant_of-result c =
     let span = c.args.span in
     let after : Option Key = option_map (λ k. plain_key k.now) c.args.after in
     let s = text_of_number (stop_ids p) c.args.stop.0 in
-    let lanes = c.in_ok-lanes.lanes in
+    let lanes = c.args.lanes in
     let floor = c.floor_of-floor.result in
     let v = c.in_ok-departures.departures in
     let end = c.new-days.result.end in
@@ -64,8 +64,8 @@ invariant_of-result c =
     let above : (x : Candidate) → IsNumbered p (length (lanes_of lanes)) x → candidate_lt floor x ≡ is_from p span.from after x =
     λ x known. c.floor_of-floor.ensures.value x (subst (λ n. IsNumbered p n x) (sym count) known) ∙ ap (λ y. is_from p y after x) from_is in
     let settings : HasSettings (length (lanes_of lanes)) lanes.greatest floor.instant end _ v = subst (λ (l : StopLanesValue). HasSettings (length (lanes_of l)) l.greatest floor.instant end _ v) lanes_is c.in_ok-departures.ensures.settings in
-    let steps : v.steps ≤ v.lanes * reach v = from_none v.steps (v.lanes * reach v) (subst (λ n. v.steps ≤ n + v.lanes * reach v) c.in_ok-lanes.ensures.steps c.in_ok-departures.ensures.steps) in
-    (opened_board c.args.times p c.soundness.ensures s lanes c.in_ok-lanes.ensures.lanes c.args.zone.now end span after floor v ends rest above c.in_ok-lanes.ensures.greatest start settings c.in_ok-departures.ensures.queued steps).0
+    let steps : v.steps ≤ v.lanes * reach v = from_none v.steps (v.lanes * reach v) (subst (λ n. v.steps ≤ n + v.lanes * reach v) c.requires.steps c.in_ok-departures.ensures.steps) in
+    (opened_board c.args.times p c.soundness.ensures s lanes c.requires.lanes c.args.zone.now end span after floor v ends rest above c.requires.greatest start settings c.in_ok-departures.ensures.queued steps).0
 
 pub returns : goal.returns
 returns c =
@@ -73,7 +73,7 @@ returns c =
     let span = c.args.span in
     let after : Option Key = option_map (λ k. plain_key k.now) c.args.after in
     let s = text_of_number (stop_ids p) c.args.stop.0 in
-    let lanes = c.in_ok-lanes.lanes in
+    let lanes = c.args.lanes in
     let floor = c.floor_of-floor.result in
     let v = c.in_ok-departures.departures in
     let end = c.new-days.result.end in
@@ -95,5 +95,5 @@ returns c =
     let above : (x : Candidate) → IsNumbered p (length (lanes_of lanes)) x → candidate_lt floor x ≡ is_from p span.from after x =
     λ x known. c.floor_of-floor.ensures.value x (subst (λ n. IsNumbered p n x) (sym count) known) ∙ ap (λ y. is_from p y after x) from_is in
     let settings : HasSettings (length (lanes_of lanes)) lanes.greatest floor.instant end _ v = subst (λ (l : StopLanesValue). HasSettings (length (lanes_of l)) l.greatest floor.instant end _ v) lanes_is c.in_ok-departures.ensures.settings in
-    let steps : v.steps ≤ v.lanes * reach v = from_none v.steps (v.lanes * reach v) (subst (λ n. v.steps ≤ n + v.lanes * reach v) c.in_ok-lanes.ensures.steps c.in_ok-departures.ensures.steps) in
-    (opened_board c.args.times p c.soundness.ensures s lanes c.in_ok-lanes.ensures.lanes c.args.zone.now end span after floor v ends rest above c.in_ok-lanes.ensures.greatest start settings c.in_ok-departures.ensures.queued steps).1
+    let steps : v.steps ≤ v.lanes * reach v = from_none v.steps (v.lanes * reach v) (subst (λ n. v.steps ≤ n + v.lanes * reach v) c.requires.steps c.in_ok-departures.ensures.steps) in
+    (opened_board c.args.times p c.soundness.ensures s lanes c.requires.lanes c.args.zone.now end span after floor v ends rest above c.requires.greatest start settings c.in_ok-departures.ensures.queued steps).1
