@@ -27,6 +27,7 @@ mod moments;
 mod names;
 mod paths;
 mod refusal;
+mod request_fault;
 mod send;
 mod times;
 mod timetable;
