@@ -1,5 +1,5 @@
 -- Words that `clap` takes ask for one of the commands.
-use Rattle.std.proofs.Common.{◌≡◌, ◌⊎◌, inl, inr, refl, ℕ, true, List, Option, Some, None}
+use Rattle.std.proofs.Common.{◌≡◌, ◌⊎◌, inl, inr, refl, true, List, Option, Some, None}
 use Rattle.std.specs.Prelude.{codes, IsSome}
 use Rattle.clap.specs.Words.{Row, Text, first_of, subcommand_of, takes}
 use Rattle.gtfs_words.specs.Asked.{is_flagged, ForBoard, ForCheck, ForMerge, ForTimetable, HasBoard, HasMerge, HasTimetable, IsBoardOf, IsMergeOf, IsTimetableOf, IsWhole}

@@ -1,5 +1,5 @@
 -- How many calls of the folders each command makes is how many the command makes that the words ask for.
-use Rattle.std.proofs.Common.{◌≡◌, ◌≢◌, ◌∙◌, refl, sym, true≢false, true, false, Bool, ℕ, List, Option, Result, codes}
+use Rattle.std.proofs.Common.{◌≡◌, ◌≢◌, ◌∙◌, refl, sym, true≢false, true, false, Bool, ℕ, List, Option, Result}
 use Rattle.std.specs.Borrow.{Bor}
 use Rattle.std.specs.Prelude.{is_ok, IsErrAnd, OnOk}
 use Rattle.clap.specs.Words.{Text, subcommand_of, takes}

@@ -16,7 +16,7 @@ use Rattle.gtfs_cli.specs.Messages.{message}
 use Rattle.gtfs_cli.specs.Refusals.{status_in, IsCauseInWords}
 use Rattle.gtfs_cli.specs.Running.{FailedNowhere, Failures}
 use Rattle.gtfs_cli.specs.Sending.{Output, Sends}
-use Rattle.gtfs_cli.specs.UntakenWords.{text_for_output, IsRefusedBy}
+use Rattle.gtfs_cli.specs.UntakenWords.{text_for_output, AnswersRefused}
 use Rattle.gtfs_cli.specs.WordsRun.{IsAnswered, IsUntakenRun, SendsAnswer}
 use Rattle.gtfs_cli.specs.declared.commands.refusal.Refusal.{Refusal}
 use Rattle.gtfs_cli.specs.declared.commands.refusal.Refusal.TheVariants.{OutOfMemory}
@@ -49,7 +49,7 @@ module _ (texts : List Text) (before after : Failures) (old new : Option (List �
 -- ---- what went out for help and for the version
 
 pub answer-sent : (texts : List Text) (old new : Option (List ℕ)) (r : Result Bool Refusal) (fault : WordsFault) → IsFaultOf texts fault
-    → OnOk r (IfSome (text_for_output fault) (λ text. Appends old new text)) → IsRefusedBy fault r → (fault ≡ no_memory → IsErrAnd r (λ x. x ≡ OutOfMemory))
+    → OnOk r (IfSome (text_for_output fault) (λ text. Appends old new text)) → AnswersRefused fault r → (fault ≡ no_memory → IsErrAnd r (λ x. x ≡ OutOfMemory))
     → OnOk r (SendsAnswer texts old new)
 answer-sent texts old new (Err e) fault is whole said memory = tt
 answer-sent texts old new (Ok x) (faults.Help text) is whole said memory =

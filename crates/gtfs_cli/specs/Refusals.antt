@@ -1,5 +1,5 @@
 -- Why a command was not done: each refusal, its status and when it comes.
-use Rattle.std.specs.Prelude.{◌≡◌, ◌⊎◌, ◌<◌, ◌≤◌, ◌^◌, ℕ, Bool, true, cond, List, Option, Some, Result, Ok, Err, unsigned_abs, ⊤}
+use Rattle.std.specs.Prelude.{◌≡◌, ◌⊎◌, ◌<◌, ◌^◌, ℕ, Bool, true, cond, List, Option, Some, Result, Ok, Err, unsigned_abs, ⊤}
 use Rattle.clap.specs.Words.{Text}
 use Rattle.gtfs_days.specs.Service.{is_service_day}
 use Rattle.gtfs_devices.specs.Device.{Rises}

@@ -1,4 +1,4 @@
-use Rattle.std.proofs.Common.{◌≡◌, ◌<◌, ◌∙◌, ap, arith, length, refl, sym, subst, Err}
+use Rattle.std.proofs.Common.{◌<◌, ◌∙◌, ap, arith, length, refl, sym, subst, Err}
 use Rattle.std.proofs.lemmas.Bool.{eqb-false}
 use Rattle.gtfs_devices.specs.Folder.{RefusesRead}
 use Rattle.gtfs_devices.specs.declared.folders.FolderFault.{FolderFault}
