@@ -1,5 +1,5 @@
 -- Why two folders are not merged, and what is left then.
-use Rattle.std.proofs.Common.{◌≡◌, ◌∙◌, ap, refl, subst, ℕ, ◌<◌, ◌≤◌, length, ◌⊎◌, inl, inr, true, false, List, [], Option, Result, Ok, Err, arith}
+use Rattle.std.proofs.Common.{◌≡◌, ◌∙◌, ap, refl, subst, ℕ, ◌<◌, length, ◌⊎◌, inl, inr, true, false, List, [], Option, Result, Ok, Err}
 use Rattle.std.specs.Prelude.{IfErr, OnErr}
 use Rattle.std.specs.Io.KnownBytes.{Appends, Keeps}
 use Rattle.gtfs_devices.specs.Device.{Rises}
@@ -21,15 +21,13 @@ use Rattle.gtfs_cli.specs.MergeParts.{HoldsMerge, IsFirstBadMerge}
 use Rattle.gtfs_cli.specs.Merges.{file_limit, merge_of, report_for, CanMerge, EndsMerge, HoldsFiles, IsFolderMerge, IsMergeCause, IsMergeFault, IsMergingCause, IsUntouched, IsWritingEnd, IsWritten, MergeSetting, ReadsAgain, StopsAtOne}
 use Rattle.gtfs_cli.specs.NamesReport.{names_report}
 use Rattle.gtfs_cli.specs.Refusals.{IsReadingCause}
-use Rattle.gtfs_cli.specs.Running.{Failures}
+use Rattle.gtfs_cli.specs.Running.{FailedNowhere, Failures}
 use Rattle.gtfs_cli.specs.Sending.{SendsBeginning}
 use Rattle.gtfs_cli.specs.declared.commands.refusal.Refusal.{Refusal}
-use Rattle.gtfs_cli.specs.declared.commands.refusal.Refusal.TheVariants.{Words, BadValue, NotThere, Unreadable, OverLimit, HasErrors, NoZone, UnknownStop, UnknownRoute, UntilBeforeFrom, ZonesDiffer, MergeTooLarge, Unwritable, OutputFailed, OutOfMemory}
+use Rattle.gtfs_cli.specs.declared.commands.refusal.Refusal.TheVariants.{BadValue, NotThere, Unreadable, OverLimit, HasErrors, ZonesDiffer, MergeTooLarge, Unwritable, OutputFailed, OutOfMemory}
+use Rattle.gtfs_cli.proofs.Endings.{counts}
 use Rattle.gtfs_cli.proofs.NamesTold.{report-told}
 use Rattle.gtfs_cli.proofs.Printed.{has-passing}
-
-rises-around : (a b c d : ℕ) → a ≤ b → c ≤ d → Rises b c → Rises a d
-rises-around a b c d low high up = omega (arith, low, high, up)
 
 -- what went out, and why no more did
 pub both-err : {A : Type 0} (r : Result A Refusal) (P : Type 0) (Q R : Refusal → Type 0) → (P → (e : Refusal) → Q e → R e) → OnErr r P → IfErr r Q → IfErr r R
@@ -38,81 +36,37 @@ both-err (Err e) P Q R f p q = f p e q
 
 -- the refusal keeps two folders from being merged, whatever the output did
 abbrev pub MergingAside : ℕ → Option Store → MergeTexts → ℕ → ℕ → Refusal → Type 0
-MergingAside limit held asked x y r = (before after : Failures) → before.folders ≤ x → y ≤ after.folders → IsMergingCause limit held asked before after r
+MergingAside limit held asked x y r = (output : ℕ) → IsMergingCause limit held asked (counts x output) (counts y output) r
 
 module _ (limit : ℕ) (held : Option Store) (asked : MergeTexts) where
   -- ---- the values of the options
 
   pub bad-merge-cause : (before after : Failures) (r : Refusal) → IsFirstBadMerge asked r → IsMergeCause limit held asked before after r
-  bad-merge-cause before after (Words text) h = absurd h
   bad-merge-cause before after (BadValue option) h = h
-  bad-merge-cause before after (NotThere path) h = absurd h
-  bad-merge-cause before after (Unreadable path) h = absurd h
-  bad-merge-cause before after (OverLimit path) h = absurd h
-  bad-merge-cause before after (HasErrors path) h = absurd h
-  bad-merge-cause before after (NoZone path) h = absurd h
-  bad-merge-cause before after UnknownStop h = absurd h
-  bad-merge-cause before after UnknownRoute h = absurd h
-  bad-merge-cause before after UntilBeforeFrom h = absurd h
-  bad-merge-cause before after ZonesDiffer h = absurd h
-  bad-merge-cause before after MergeTooLarge h = absurd h
-  bad-merge-cause before after (Unwritable path) h = absurd h
-  bad-merge-cause before after OutputFailed h = absurd h
-  bad-merge-cause before after OutOfMemory h = absurd h
+  bad-merge-cause before after _ h = absurd h
 
   pub bad-merge-ends : (old new : Option (List ℕ)) → Keeps old new → (r : Refusal) → IsFirstBadMerge asked r → EndsMerge limit held asked held old new r
-  bad-merge-ends old new keeps (Words text) h = absurd h
   bad-merge-ends old new keeps (BadValue option) h = (refl, keeps)
-  bad-merge-ends old new keeps (NotThere path) h = absurd h
-  bad-merge-ends old new keeps (Unreadable path) h = absurd h
-  bad-merge-ends old new keeps (OverLimit path) h = absurd h
-  bad-merge-ends old new keeps (HasErrors path) h = absurd h
-  bad-merge-ends old new keeps (NoZone path) h = absurd h
-  bad-merge-ends old new keeps UnknownStop h = absurd h
-  bad-merge-ends old new keeps UnknownRoute h = absurd h
-  bad-merge-ends old new keeps UntilBeforeFrom h = absurd h
-  bad-merge-ends old new keeps ZonesDiffer h = absurd h
-  bad-merge-ends old new keeps MergeTooLarge h = absurd h
-  bad-merge-ends old new keeps (Unwritable path) h = absurd h
-  bad-merge-ends old new keeps OutputFailed h = absurd h
-  bad-merge-ends old new keeps OutOfMemory h = absurd h
+  bad-merge-ends old new keeps _ h = absurd h
 
   -- ---- the folders that are read
 
   pub first-unread : (before after : Failures) (r : Refusal) → IsReadingCause limit held asked.a before after r → IsMergingCause limit held asked before after r
-  first-unread before after (Words text) h = absurd h
-  first-unread before after (BadValue option) h = absurd h
   first-unread before after (NotThere path) h = inl h
   first-unread before after (Unreadable path) h = inl h
   first-unread before after (OverLimit path) h = inl h
   first-unread before after (HasErrors path) h = inl h
-  first-unread before after (NoZone path) h = absurd h
-  first-unread before after UnknownStop h = absurd h
-  first-unread before after UnknownRoute h = absurd h
-  first-unread before after UntilBeforeFrom h = absurd h
-  first-unread before after ZonesDiffer h = absurd h
-  first-unread before after MergeTooLarge h = absurd h
-  first-unread before after (Unwritable path) h = absurd h
-  first-unread before after OutputFailed h = absurd h
-  first-unread before after OutOfMemory h = tt
+  first-unread before after OutOfMemory h = h
+  first-unread before after _ h = absurd h
 
   pub second-unread : (before after : Failures) (feed : Feed) → HoldsFeed limit held asked.a feed → (r : Refusal) → IsReadingCause limit held asked.b before after r
       → IsMergingCause limit held asked before after r
-  second-unread before after feed holds (Words text) h = absurd h
-  second-unread before after feed holds (BadValue option) h = absurd h
   second-unread before after feed holds (NotThere path) h = inr (h.0, has-passing limit held asked.a feed holds, h.1)
   second-unread before after feed holds (Unreadable path) h = inr (h.0, has-passing limit held asked.a feed holds, h.1)
   second-unread before after feed holds (OverLimit path) h = inr (h.0, has-passing limit held asked.a feed holds, h.1)
   second-unread before after feed holds (HasErrors path) h = inr (h.0, has-passing limit held asked.a feed holds, h.1)
-  second-unread before after feed holds (NoZone path) h = absurd h
-  second-unread before after feed holds UnknownStop h = absurd h
-  second-unread before after feed holds UnknownRoute h = absurd h
-  second-unread before after feed holds UntilBeforeFrom h = absurd h
-  second-unread before after feed holds ZonesDiffer h = absurd h
-  second-unread before after feed holds MergeTooLarge h = absurd h
-  second-unread before after feed holds (Unwritable path) h = absurd h
-  second-unread before after feed holds OutputFailed h = absurd h
-  second-unread before after feed holds OutOfMemory h = tt
+  second-unread before after feed holds OutOfMemory h = h
+  second-unread before after feed holds _ h = absurd h
 
   -- ---- the feeds that are merged
 
@@ -133,26 +87,15 @@ module _ (limit : ℕ) (held : Option Store) (asked : MergeTexts) where
     of_datasets : (P : Content → Content → Type 0) → P (content_of_feed a) (content_of_feed b) → P (content_of first.dataset) (content_of second.dataset)
     of_datasets P h = subst (λ (f : Content). P f (content_of second.dataset)) first.is_feed.1 (subst (λ (f : Content). P (content_of_feed a) f) second.is_feed.1 h)
 
-    pub unmerged : (before after : Failures) (r : Refusal) → IsMergeFault q (content_of_feed a) (content_of_feed b) r → IsMergingCause limit held asked before after r
-    unmerged before after (Words text) h = absurd h
-    unmerged before after (BadValue option) h = absurd h
-    unmerged before after (NotThere path) h = absurd h
-    unmerged before after (Unreadable path) h = absurd h
-    unmerged before after (OverLimit path) h = absurd h
-    unmerged before after (HasErrors path) h = absurd h
-    unmerged before after (NoZone path) h = absurd h
-    unmerged before after UnknownStop h = absurd h
-    unmerged before after UnknownRoute h = absurd h
-    unmerged before after UntilBeforeFrom h = absurd h
-    unmerged before after ZonesDiffer h = (setting, of_datasets (λ f g. zones_differ f g ≡ true) h)
-    unmerged before after MergeTooLarge h = (
+    pub unmerged : (before after : Failures) → FailedNowhere before after → (r : Refusal) → IsMergeFault q (content_of_feed a) (content_of_feed b) r → IsMergingCause limit held asked before after r
+    unmerged before after nowhere ZonesDiffer h = (setting, of_datasets (λ f g. zones_differ f g ≡ true) h)
+    unmerged before after nowhere MergeTooLarge h = (
       setting,
       of_datasets (λ f g. zones_differ f g ≡ false) h.0,
       of_datasets (λ f g. is_too_large file_limit (merge_of q f g) ≡ true) h.1,
     )
-    unmerged before after (Unwritable path) h = absurd h
-    unmerged before after OutputFailed h = absurd h
-    unmerged before after OutOfMemory h = tt
+    unmerged before after nowhere OutOfMemory h = nowhere
+    unmerged before after nowhere _ h = absurd h
 
     pub is-merged : (m : Merged) → IsMergeOf q.near q.cutoff (content_of_feed a) (content_of_feed b) file_limit m
         → KeepsDepartures q.near q.cutoff (content_of_feed a) (content_of_feed b) → HoldsMerge limit held asked q.near m
@@ -170,124 +113,58 @@ module _ (limit : ℕ) (held : Option Store) (asked : MergeTexts) where
 
   pub merging-cause : HasMergeValues asked → (before after : Failures) (r : Refusal) → IsMergingCause limit held asked before after r
       → IsMergeCause limit held asked before after r
-  merging-cause values before after (Words text) h = absurd h
-  merging-cause values before after (BadValue option) h = absurd h
   merging-cause values before after (NotThere path) h = (values, h)
   merging-cause values before after (Unreadable path) h = (values, h)
   merging-cause values before after (OverLimit path) h = (values, h)
   merging-cause values before after (HasErrors path) h = (values, h)
-  merging-cause values before after (NoZone path) h = absurd h
-  merging-cause values before after UnknownStop h = absurd h
-  merging-cause values before after UnknownRoute h = absurd h
-  merging-cause values before after UntilBeforeFrom h = absurd h
   merging-cause values before after ZonesDiffer h = (values, h)
   merging-cause values before after MergeTooLarge h = (values, h)
-  merging-cause values before after (Unwritable path) h = absurd h
-  merging-cause values before after OutputFailed h = absurd h
-  merging-cause values before after OutOfMemory h = tt
+  merging-cause values before after OutOfMemory h = h
+  merging-cause values before after _ h = absurd h
 
   pub merging-ends : (before after : Failures) (now : Option Store) (old new : Option (List ℕ)) → IsUntouched held now old new → (r : Refusal)
       → IsMergingCause limit held asked before after r → EndsMerge limit held asked now old new r
-  merging-ends before after now old new same (Words text) h = same
-  merging-ends before after now old new same (BadValue option) h = same
-  merging-ends before after now old new same (NotThere path) h = same
-  merging-ends before after now old new same (Unreadable path) h = same
-  merging-ends before after now old new same (OverLimit path) h = same
-  merging-ends before after now old new same (HasErrors path) h = same
-  merging-ends before after now old new same (NoZone path) h = same
-  merging-ends before after now old new same UnknownStop h = same
-  merging-ends before after now old new same UnknownRoute h = same
-  merging-ends before after now old new same UntilBeforeFrom h = same
-  merging-ends before after now old new same ZonesDiffer h = same
-  merging-ends before after now old new same MergeTooLarge h = same
   merging-ends before after now old new same (Unwritable path) h = absurd h
   merging-ends before after now old new same OutputFailed h = absurd h
   merging-ends before after now old new same OutOfMemory h = inl same
+  merging-ends before after now old new same _ h = same
 
   -- ---- the files that are not written, and the report that is not printed
 
   module _ (c : Content) (report : List ℕ) (is : IsFolderMerge limit held asked c report) where
-    unwritten : (before after : Failures) (mid now : Option Store) (x y : ℕ) → before.folders ≤ x → y ≤ after.folders → (path : List ℕ) → path ≡ asked.out
-        → ((asked.out ≡ []) × (now ≡ mid)) ⊎ ((0 < length asked.out) × Rises x y × StopsAtOne mid now asked.out c)
+    unwritten : (before after : Failures) (mid now : Option Store) (x : ℕ) → x ≡ before.folders → (path : List ℕ) → path ≡ asked.out
+        → ((asked.out ≡ []) × (now ≡ mid)) ⊎ ((0 < length asked.out) × Rises x after.folders × StopsAtOne mid now asked.out c)
         → (path ≡ asked.out) × CanMerge limit held asked × ((asked.out ≡ []) ⊎ Rises before.folders after.folders)
-    unwritten before after mid now x y low high path at (inl h) = (at, (c, report, is), inl h.0)
-    unwritten before after mid now x y low high path at (inr h) = (at, (c, report, is), inr (rises-around before.folders x y after.folders low high h.1))
+    unwritten before after mid now x since path at (inl h) = (at, (c, report, is), inl h.0)
+    unwritten before after mid now x since path at (inr h) = (at, (c, report, is), inr (subst (λ (n : ℕ). Rises n after.folders) since h.1))
 
     ended : (x y : ℕ) (now : Option Store) → ((asked.out ≡ []) × (now ≡ held)) ⊎ ((0 < length asked.out) × Rises x y × StopsAtOne held now asked.out c)
         → ((asked.out ≡ []) × (now ≡ held)) ⊎ ((0 < length asked.out) × StopsAtOne held now asked.out c)
     ended x y now (inl h) = inl h
     ended x y now (inr h) = inr (h.0, h.2)
 
-    pub writing-cause : (before after : Failures) (mid now : Option Store) (x y : ℕ) → before.folders ≤ x → y ≤ after.folders → (r : Refusal)
-        → IsWritingEnd mid now x y asked.out c r → IsMergeCause limit held asked before after r
-    writing-cause before after mid now x y low high (Words text) h = absurd h
-    writing-cause before after mid now x y low high (BadValue option) h = absurd h
-    writing-cause before after mid now x y low high (NotThere path) h = absurd h
-    writing-cause before after mid now x y low high (Unreadable path) h = absurd h
-    writing-cause before after mid now x y low high (OverLimit path) h = absurd h
-    writing-cause before after mid now x y low high (HasErrors path) h = absurd h
-    writing-cause before after mid now x y low high (NoZone path) h = absurd h
-    writing-cause before after mid now x y low high UnknownStop h = absurd h
-    writing-cause before after mid now x y low high UnknownRoute h = absurd h
-    writing-cause before after mid now x y low high UntilBeforeFrom h = absurd h
-    writing-cause before after mid now x y low high ZonesDiffer h = absurd h
-    writing-cause before after mid now x y low high MergeTooLarge h = absurd h
-    writing-cause before after mid now x y low high (Unwritable path) h = unwritten before after mid now x y low high path.now h.0 h.1
-    writing-cause before after mid now x y low high OutputFailed h = absurd h
-    writing-cause before after mid now x y low high OutOfMemory h = tt
+    pub writing-cause : (before after : Failures) → after.output ≡ before.output → (mid now : Option Store) (x : ℕ) → x ≡ before.folders → (r : Refusal)
+        → IsWritingEnd mid now x after.folders asked.out c r → IsMergeCause limit held asked before after r
+    writing-cause before after quiet mid now x since (Unwritable path) h = unwritten before after mid now x since path.now h.0 h.1
+    writing-cause before after quiet mid now x since OutOfMemory h = (h.1 ∙ since, quiet)
+    writing-cause before after quiet mid now x since _ h = absurd h
 
     pub writing-ends : (x y : ℕ) (now : Option Store) (old new : Option (List ℕ)) → Keeps old new → (r : Refusal) → IsWritingEnd held now x y asked.out c r
         → EndsMerge limit held asked now old new r
-    writing-ends x y now old new keeps (Words text) h = absurd h
-    writing-ends x y now old new keeps (BadValue option) h = absurd h
-    writing-ends x y now old new keeps (NotThere path) h = absurd h
-    writing-ends x y now old new keeps (Unreadable path) h = absurd h
-    writing-ends x y now old new keeps (OverLimit path) h = absurd h
-    writing-ends x y now old new keeps (HasErrors path) h = absurd h
-    writing-ends x y now old new keeps (NoZone path) h = absurd h
-    writing-ends x y now old new keeps UnknownStop h = absurd h
-    writing-ends x y now old new keeps UnknownRoute h = absurd h
-    writing-ends x y now old new keeps UntilBeforeFrom h = absurd h
-    writing-ends x y now old new keeps ZonesDiffer h = absurd h
-    writing-ends x y now old new keeps MergeTooLarge h = absurd h
     writing-ends x y now old new keeps (Unwritable path) h = record { content = c; report = report; merges = is; ends = ended x y now h.1; nothing = keeps }
-    writing-ends x y now old new keeps OutputFailed h = absurd h
-    writing-ends x y now old new keeps OutOfMemory h = inr (inl (record { content = c; report = report; merges = is; ends = h; nothing = keeps }))
+    writing-ends x y now old new keeps OutOfMemory h = inr (inl (record { content = c; report = report; merges = is; ends = h.0; nothing = keeps }))
+    writing-ends x y now old new keeps _ h = absurd h
 
-    pub printing-cause : (before after : Failures) (r : Refusal) → IsSendingCause before.output after.output r → IsMergeCause limit held asked before after r
-    printing-cause before after (Words text) h = absurd h
-    printing-cause before after (BadValue option) h = absurd h
-    printing-cause before after (NotThere path) h = absurd h
-    printing-cause before after (Unreadable path) h = absurd h
-    printing-cause before after (OverLimit path) h = absurd h
-    printing-cause before after (HasErrors path) h = absurd h
-    printing-cause before after (NoZone path) h = absurd h
-    printing-cause before after UnknownStop h = absurd h
-    printing-cause before after UnknownRoute h = absurd h
-    printing-cause before after UntilBeforeFrom h = absurd h
-    printing-cause before after ZonesDiffer h = absurd h
-    printing-cause before after MergeTooLarge h = absurd h
-    printing-cause before after (Unwritable path) h = absurd h
-    printing-cause before after OutputFailed h = ((c, report, is), h)
-    printing-cause before after OutOfMemory h = tt
+    pub printing-cause : (before after : Failures) → after.folders ≡ before.folders → (r : Refusal) → IsSendingCause before.output after.output r → IsMergeCause limit held asked before after r
+    printing-cause before after same OutputFailed h = ((c, report, is), h)
+    printing-cause before after same OutOfMemory h = (same, h)
+    printing-cause before after same _ h = absurd h
 
     module _ (now : Option Store) (old new : Option (List ℕ)) (named : 0 < length asked.out) (files : HoldsFiles held now asked.out c kept_files) (again : ReadsAgain held now asked.out c) where
       pub all-printed : Appends old new report → IsWritten limit held asked now (λ text. Appends old new text)
       all-printed sent = record { content = c; report = report; merges = is; named = named; files = files; again = again; sent = sent }
 
       pub printing-ends : (x y : ℕ) → SendsBeginning old new report → (r : Refusal) → IsSendingCause x y r → EndsMerge limit held asked now old new r
-      printing-ends x y begun (Words text) h = absurd h
-      printing-ends x y begun (BadValue option) h = absurd h
-      printing-ends x y begun (NotThere path) h = absurd h
-      printing-ends x y begun (Unreadable path) h = absurd h
-      printing-ends x y begun (OverLimit path) h = absurd h
-      printing-ends x y begun (HasErrors path) h = absurd h
-      printing-ends x y begun (NoZone path) h = absurd h
-      printing-ends x y begun UnknownStop h = absurd h
-      printing-ends x y begun UnknownRoute h = absurd h
-      printing-ends x y begun UntilBeforeFrom h = absurd h
-      printing-ends x y begun ZonesDiffer h = absurd h
-      printing-ends x y begun MergeTooLarge h = absurd h
-      printing-ends x y begun (Unwritable path) h = absurd h
       printing-ends x y begun OutputFailed h = record { content = c; report = report; merges = is; named = named; files = files; again = again; sent = begun }
       printing-ends x y begun OutOfMemory h = inr (inr (record { content = c; report = report; merges = is; named = named; files = files; again = again; sent = begun }))
+      printing-ends x y begun _ h = absurd h

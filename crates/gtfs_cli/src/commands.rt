@@ -1,19 +1,20 @@
 //! The commands of the program, and how each ends.
-ghost use Rattle.std.specs.Prelude.{◌≡◌, ◌≤◌, List, ℕ, false, map, IfOk, IfErr, IfSome, IsErrAnd, OnOk};
+ghost use Rattle.std.specs.Prelude.{◌≡◌, ◌≢◌, ◌≤◌, List, ℕ, false, true, is_ok, map, IfOk, IfErr, IfSome, IsErrAnd, OnOk};
 ghost use Rattle.std.specs.Io.KnownBytes.{Appends, Keeps};
 ghost use Rattle.clap.specs.Words.{Text, takes};
 ghost use Rattle.gtfs_words.specs.Words.{gtfs_app, no_memory, AreRefused, AsksBoardOf, AsksCheckOf, AsksTimetableOf, BoardTexts, IsFaultOf, TimetableTexts, AsksMergeOf, MergeTexts};
 ghost use Rattle.gtfs_cli.specs.BoardRun.{IsBoardRun};
+ghost use Rattle.gtfs_cli.specs.Calls.{AreCalls};
 ghost use Rattle.gtfs_cli.specs.CheckRun.{IsCheckRun};
 ghost use Rattle.gtfs_cli.specs.CommandEnd.{answer_of, EndsCommand};
 ghost use Rattle.gtfs_cli.specs.MergeRun.{AsksNoMerge, IsMergeRun};
 ghost use Rattle.gtfs_cli.specs.Messages.{message};
-ghost use Rattle.gtfs_cli.specs.Refusals.{status_in, IsCauseInWords, UnlessGrave};
+ghost use Rattle.gtfs_cli.specs.Refusals.{status_in, IsCauseInWords, TellsOutput};
 ghost use Rattle.gtfs_cli.specs.Running.{FailedNowhere, IsBadUsage, IsDeviceFault};
 ghost use Rattle.gtfs_cli.specs.Sending.{Sends};
 ghost use Rattle.gtfs_cli.specs.TimetableRun.{IsTimetableRun};
-ghost use Rattle.gtfs_cli.specs.WordsRun.{IsAnswered, IsUntakenRun};
-ghost use Rattle.gtfs_cli.specs.UntakenWords.{text_for_output, IsRefusedBy};
+ghost use Rattle.gtfs_cli.specs.WordsRun.{AsksOne, IsAnswered, IsUntakenRun};
+ghost use Rattle.gtfs_cli.specs.UntakenWords.{text_for_output, AnswersRefused};
 ghost use Rattle.gtfs_cli.specs.declared.commands.refusal.Refusal.TheVariants.{OutOfMemory};
 
 mod board;
@@ -27,6 +28,7 @@ mod moments;
 mod names;
 mod paths;
 mod refusal;
+mod request_fault;
 mod send;
 mod times;
 mod timetable;
@@ -43,9 +45,9 @@ use std::hash::RandomState;
 /// Does what the words of a command line ask for, of which the first is the program's name, and answers the status with
 /// which the program is to end.
 ///
-/// What the command prints goes to `out`, as does the help or the version that was asked for. Where the status is not 0,
-/// `err` is told why: by `clap`'s text where it does not take the words, and else by one line that begins `gtfs: `. A
-/// failure of `err` changes nothing.
+/// What the command prints goes to `out`, as does the help or the version that was asked for. Where the command is not done,
+/// `err` is told why: by `clap`'s text where it does not take the words, and else by one line that begins `gtfs: `. A check
+/// with status 1 is done: its report says why, and `err` is told nothing. A failure of `err` changes nothing.
 ///
 /// The words are judged first, then the values of the options in the order of the usage, then the folder, its feed, the
 /// zone file, the stop and the span, or the route. A merge judges its first folder and the feed in it, then the second
@@ -59,7 +61,7 @@ use std::hash::RandomState;
 ///   `--direction` is neither 0 nor 1, that of `--cutoff` is no service day, or the board would end before it begins.
 /// - 3: the folder, the zone file or its folder is not there, cannot be read or holds a file over the limit, the zone file
 ///   is none, the folder of the merged feed or a file in it cannot be written, or the output failed.
-/// - 4: memory ran out.
+/// - 4: memory ran out, and neither the folders nor `out` failed.
 ///
 /// A check ends with 0 or 1 only where its whole report went out, and else with what went out of it before. A board ends
 /// with 0 only where a page of it went out: all its lines, or as many as `--limit` says. A timetable ends with 0 only where
@@ -69,7 +71,11 @@ use std::hash::RandomState;
 /// second feed from it on. Where a file could not be written, those before it were and no later one. Nothing is written but
 /// by a merge. What is printed does not depend on the random state.
 ///
-/// A run that ends with 0, 1 or 2 met no failure of the folders or of `out`: after one it ends with 3 or 4.
+/// The folders and `out` fail only in a run that ends with 3, and what failed is what `err` is told: after a failed call of
+/// the folders none is made and no later cause is told.
+///
+/// A check and a timetable make at most 10 calls of the folders, a board 11 and a merge 29, of which the last nine write:
+/// exactly so many where they are done. For help, the version and words that are refused there is none.
 pub fn run<S: AsStr, F: Folders, O: Out, E: Out>(
     alloc: Global,
     random: RandomState,
@@ -124,9 +130,14 @@ pub fn run<S: AsStr, F: Folders, O: Out, E: Out>(
         → F.held folders.new ≡ F.held folders.old }
     ensures folders_grow { F.failure_count folders.old ≤ F.failure_count folders.new }
     ensures output_grows { O.failure_count out.old ≤ O.failure_count out.new }
-    ensures no_failure { result ≤ 2 → FailedNowhere
+    ensures no_failure { result ≢ 3 → FailedNowhere
         (record { folders = F.failure_count folders.old; output = O.failure_count out.old })
         (record { folders = F.failure_count folders.new; output = O.failure_count out.new }) }
+    ensures called { AreCalls (map S.text words.now) (result ≤ 1) (result ≡ 0)
+        (F.failure_count folders.old) (F.failure_count folders.new)
+        (F.calls folders.old) (F.calls folders.new) }
+    ensures taken { takes gtfs_app (map S.text words.now) ≡ true
+        → AsksOne (map S.text words.now) }
 {
     let ended = command(alloc, random, words, folders, out);
     finish(ended, err)
@@ -160,11 +171,15 @@ fn command<'w, S: AsStr, F: Folders, O: Out>(
     folders: &mut F,
     out: &mut O,
 ) -> Result<bool, Refusal<'w>>
-    ensures { EndsCommand (map S.text words.entry.now) (F.limit folders.old) (F.held folders.old)
-        (F.held folders.new)
+    ensures ends { EndsCommand (map S.text words.entry.now)
+        (F.limit folders.old) (F.held folders.old) (F.held folders.new)
         (record { folders = F.failure_count folders.old; output = O.failure_count out.old })
         (record { folders = F.failure_count folders.new; output = O.failure_count out.new })
         (O.told out.old) (O.told out.new) result }
+    ensures called { AreCalls (map S.text words.entry.now)
+        (is_ok result ≡ true) (is_ok result ≡ true)
+        (F.failure_count folders.old) (F.failure_count folders.new)
+        (F.calls folders.old) (F.calls folders.new) }
 {
     match read_words(alloc, words) {
         Ok(Command::Check(dir)) => check::print_report(alloc, dir, folders, out),
@@ -201,12 +216,12 @@ fn answer_fault<'w, O: Out>(fault: WordsFault, out: &mut O) -> Result<bool, Refu
         → Keeps (O.told out.old) (O.told out.new) }
     ensures whole { OnOk result (IfSome (text_for_output fault)
         (λ text. Appends (O.told out.old) (O.told out.new) text)) }
-    ensures said { IsRefusedBy fault result }
+    ensures said { AnswersRefused fault result }
     ensures memory { fault ≡ no_memory → IsErrAnd result (λ refusal. refusal ≡ OutOfMemory) }
     ensures unsent { fault ≡ no_memory → Keeps (O.told out.old) (O.told out.new) }
     ensures grows { O.failure_count out.old ≤ O.failure_count out.new }
-    ensures no_failure { UnlessGrave result
-        (O.failure_count out.new ≡ O.failure_count out.old) }
+    ensures no_failure { OnOk result (O.failure_count out.new ≡ O.failure_count out.old) }
+    ensures told { IfErr result (TellsOutput (O.failure_count out.old) (O.failure_count out.new)) }
 {
     match fault {
         WordsFault::Help(help) => {

@@ -1,12 +1,14 @@
-ghost use Rattle.std.specs.Prelude.{◌≡◌, ◌≤◌, ℕ, Option, IfOk, IfErr, OnOk};
+ghost use Rattle.std.specs.Prelude.{◌≡◌, ◌≢◌, ◌≤◌, ℕ, Option, IfOk, IfErr, OnOk};
 ghost use Rattle.gtfs_days.specs.Zone.{IsZoneOf};
 ghost use Rattle.gtfs_rows.specs.Views.{content_of_parts as content_of};
+ghost use Rattle.gtfs_devices.specs.Device.{FailsAtLast, MakesCalls};
 ghost use Rattle.gtfs_devices.specs.Folder.{Store};
 ghost use Rattle.gtfs_board.specs.Page.{IsPage};
 ghost use Rattle.gtfs_cli.specs.Boards.{request_of, AreValues, EndsBoard, EndsLines, IsLinesCause, IsOpeningCause, ListsBoard, OfBoard, PrintsBoard};
+ghost use Rattle.gtfs_cli.specs.Calls.{MakesAtMost};
 ghost use Rattle.gtfs_words.specs.Words.{texts_of};
 ghost use Rattle.gtfs_cli.specs.Running.{FailedNowhere, Failures, FitsZone, HasValues, HoldsBytes, HoldsPassing, HoldsZone};
-ghost use Rattle.gtfs_cli.specs.Refusals.{IsCause, UnlessGrave};
+ghost use Rattle.gtfs_cli.specs.Refusals.{IsCause, TellsFailure, TellsFolders, TellsOutput};
 
 use crate::commands::feed::read_feed;
 use crate::commands::folder::of_folder;
@@ -42,9 +44,16 @@ pub(super) fn print_board<'w, F: Folders, O: Out>(
     ensures unchanged { F.held folders.new ≡ F.held folders.old }
     ensures folders_grow { F.failure_count folders.old ≤ F.failure_count folders.new }
     ensures output_grows { O.failure_count out.old ≤ O.failure_count out.new }
-    ensures no_failure { UnlessGrave result (FailedNowhere
+    ensures no_failure { OnOk result (FailedNowhere
         (record { folders = F.failure_count folders.old; output = O.failure_count out.old })
         (record { folders = F.failure_count folders.new; output = O.failure_count out.new })) }
+    ensures told { IfErr result (TellsFailure
+        (record { folders = F.failure_count folders.old; output = O.failure_count out.old })
+        (record { folders = F.failure_count folders.new; output = O.failure_count out.new })) }
+    ensures called { OnOk result (MakesCalls 11 (F.calls folders.old) (F.calls folders.new)) }
+    ensures few { MakesAtMost 11 (F.calls folders.old) (F.calls folders.new) }
+    ensures last { F.failure_count folders.new ≢ F.failure_count folders.old
+        → FailsAtLast (F.calls folders.new) }
 {
     let values = read_values(words)?;
     let feed = read_feed(alloc, random, folders, words.dir)?;
@@ -60,16 +69,21 @@ fn read_zone<'w, F: Folders>(
 ) -> Result<Zone, Refusal<'w>>
     ensures read { IfOk result
         (HoldsZone (F.limit folders.old) (F.held folders.old) words.now.zone.now) }
-    ensures refused { IfErr result (λ refusal. (before after : Failures)
-        → before.folders ≤ F.failure_count folders.old → F.failure_count folders.new ≤ after.folders
-        → HasValues (texts_of words.now)
+    ensures refused { IfErr result (λ refusal. (output : ℕ) → HasValues (texts_of words.now)
         → HoldsPassing (F.limit folders.old) (F.held folders.old) words.now.dir.now
         → IsCause (F.limit folders.old) (F.held folders.old) (texts_of words.now)
-        before after refusal) }
+        (record { folders = F.failure_count folders.old; output = output })
+        (record { folders = F.failure_count folders.new; output = output }) refusal) }
     ensures unchanged { F.held folders.new ≡ F.held folders.old }
     ensures grows { F.failure_count folders.old ≤ F.failure_count folders.new }
-    ensures no_failure { UnlessGrave result
+    ensures no_failure { OnOk result
         (F.failure_count folders.new ≡ F.failure_count folders.old) }
+    ensures told { IfErr result
+        (TellsFolders (F.failure_count folders.old) (F.failure_count folders.new)) }
+    ensures called { OnOk result (MakesCalls 1 (F.calls folders.old) (F.calls folders.new)) }
+    ensures few { MakesAtMost 1 (F.calls folders.old) (F.calls folders.new) }
+    ensures last { F.failure_count folders.new ≢ F.failure_count folders.old
+        → FailsAtLast (F.calls folders.new) }
 {
     let (folder, name) = cut_path(words.zone);
     if name.is_empty() {
@@ -89,7 +103,7 @@ fn zone_of<'w>(alloc: Global, bytes: &[u8], words: &BoardWords<'w>) -> Result<Zo
     ensures refused { IfErr result
         (λ refusal. (limit : ℕ) (held : Option Store) (before after : Failures)
         → HasValues (texts_of words.now) → HoldsPassing limit held words.now.dir.now
-        → HoldsBytes limit held words.now.zone.now bytes.now
+        → HoldsBytes limit held words.now.zone.now bytes.now → FailedNowhere before after
         → IsCause limit held (texts_of words.now) before after refusal) }
 {
     match Zone::read(alloc, bytes) {
@@ -117,8 +131,8 @@ fn print_lines<'w, O: Out>(
     ensures refused { IfErr result (IsLinesCause (content_of feed.now) zone.now words.now.stop.now
         (request_of values.now) (O.failure_count out.old) (O.failure_count out.new)) }
     ensures grows { O.failure_count out.old ≤ O.failure_count out.new }
-    ensures no_failure { UnlessGrave result
-        (O.failure_count out.new ≡ O.failure_count out.old) }
+    ensures no_failure { OnOk result (O.failure_count out.new ≡ O.failure_count out.old) }
+    ensures told { IfErr result (TellsOutput (O.failure_count out.old) (O.failure_count out.new)) }
 {
     let mut board = open(alloc, feed, zone, words, values)?;
     match write_page(alloc, &mut board, values.limit, out) {
