@@ -1,10 +1,9 @@
 -- The stops and platforms that have a parent: what one stop adds, and those of one parent.
-use Rattle.std.proofs.Common.{◌≡◌, ◌≤◌, ◌<◌, ◌+◌, ◌-◌, ◌++◌, ◌∙◌, ◌&&◌, ◌==◌, ◌||◌, ℕ, Bool, true, false, not, cond, List, [], ◌∷◌, length, filter, take, drop, get_or, Option, Some, None, nat_lt, refl, sym, ap, arith, rules, inl, inr}
+use Rattle.std.proofs.Common.{◌≡◌, ◌≤◌, ◌<◌, ◌+◌, ◌-◌, ◌++◌, ◌∙◌, ◌&&◌, ◌==◌, ℕ, Bool, true, false, not, cond, List, [], ◌∷◌, length, filter, take, drop, get_or, Option, Some, None, nat_lt, refl, sym, ap, arith, rules, inl, inr}
 use Rattle.std.specs.Prelude.{option_map}
 use Rattle.std.specs.List.{All, slice_get}
 use Rattle.std.specs.List.Sorted.{IsPartitionedBy, IsPermutation, IsSorted}
-use Rattle.std.specs.Cmp.{IsTotalOrder, ranked}
-use Rattle.std.specs.Cmp.Derive.{both_true}
+use Rattle.std.specs.Cmp.{IsTotalOrder}
 use Rattle.std.specs.Cmp.Rules.{comparing}
 use Rattle.std.specs.Ordering.{is_lt}
 use Rattle.std.proofs.lemmas.Bool.{cases_Bool, eqb-true, false≢true, lt-ltb, ltb-true, ltb-false, ne_eqb}
@@ -20,7 +19,7 @@ use Rattle.gtfs_rows.specs.declared.stop.Stop.{Stop}
 use Rattle.gtfs_runs.specs.Counts.{tally}
 use Rattle.gtfs_runs.specs.declared.stop_index.children.Child.{Child}
 use Rattle.gtfs_runs.specs.steps.Children.{AreChildren, below_parent, child_cmp, is_child, is_pair}
-use Rattle.gtfs_runs.proofs.NumberParts.{Rises, together}
+use Rattle.gtfs_runs.proofs.NumberParts.{together}
 use Rattle.gtfs_runs.proofs.Tallies.{kept, one_at, tally-permutation, tally-push}
 
 -- ---- one stop

@@ -1,5 +1,5 @@
 -- Lists in which the numbers of elements rise: those of one number stand together, after those of lower ones.
-use Rattle.std.proofs.Common.{◌≡◌, ◌≤◌, ◌<◌, ◌+◌, ◌-◌, ◌∙◌, ◌==◌, ℕ, suc, Bool, true, false, not, List, [], ◌∷◌, length, filter, take, drop, get_or, nat_lt, refl, sym, ap, arith, inl, inr}
+use Rattle.std.proofs.Common.{◌≡◌, ◌≤◌, ◌+◌, ◌-◌, ◌∙◌, ◌==◌, ℕ, suc, Bool, true, false, not, List, [], ◌∷◌, filter, take, drop, get_or, nat_lt, refl, sym, ap, arith, inl, inr}
 use Rattle.std.specs.List.{All, AllPairs}
 use Rattle.std.proofs.lemmas.Bool.{cases_Bool, eqb-true, lt-ltb, ltb-true, ltb-false, le-ltb}
 use Rattle.std.proofs.lemmas.Bool.Decides.{nat_tests}

@@ -1,13 +1,11 @@
-use Rattle.std.proofs.Common.{◌<◌, ◌+◌, ◌++◌, ◌∙◌, ◌==◌, ◌*◌, Some, cond, [], length, map, get_or, refl, sym, ap, subst}
-use Rattle.std.specs.List.{All}
+use Rattle.std.proofs.Common.{◌+◌, ◌++◌, ◌∙◌, ◌==◌, ◌*◌, Some, cond, [], length, map, get_or, refl, sym, ap}
 use Rattle.std.proofs.lemmas.List.{length-map}
 use Rattle.gtfs_rows.specs.Trips.{stop_rows_by_trip}
 use Rattle.gtfs_times.proofs.FilledContent.{sound-timed}
 use Rattle.gtfs_times.specs.TimedRows.{timed_parts, timed_stop_times}
-use Rattle.gtfs_runs.specs.Kinds.{IsPeriodLane}
 use Rattle.gtfs_runs.specs.StopLanes.{period_value}
 use Rattle.gtfs_runs.specs.steps.Courses.{stopping_of}
-use Rattle.gtfs_runs.specs.steps.Finds.{AreFound, stopping_at, times_passed_in, times_told}
+use Rattle.gtfs_runs.specs.steps.Finds.{stopping_at, times_passed_in, times_told}
 use Rattle.gtfs_runs.proofs.TripFinds.{listed_found, periods_found}
 use Rattle.gtfs_runs.proofs.TimedTrips.{first_timed, rows_timed, stops_timed}
 use Rattle.gtfs_runs.proofs.TripTimes.{none_left, periods_run, rows_at, some_left}

@@ -1,9 +1,9 @@
-use Rattle.std.proofs.Common.{◌≡◌, ◌∙◌, [], length, map, sym, ap, subst}
+use Rattle.std.proofs.Common.{[], length, map, sym, subst}
 use Rattle.gtfs_rows.specs.declared.parts.Parts.{Parts}
 use Rattle.gtfs_times.specs.TimedRows.{timed_parts}
 use Rattle.gtfs_times.specs.declared.times.Times.{Times}
-use Rattle.gtfs_runs.specs.StopLanes.{LaneValue, period_value}
-use Rattle.gtfs_runs.specs.steps.Courses.{Stopping, stopping_of}
+use Rattle.gtfs_runs.specs.StopLanes.{period_value}
+use Rattle.gtfs_runs.specs.steps.Courses.{stopping_of}
 use Rattle.gtfs_runs.specs.steps.Finds.{AreFound}
 use Rattle.gtfs_runs.specs.steps.Places.{ArePlaceRows}
 use Rattle.gtfs_runs.proofs.PlaceFinds.{nothing_found}

@@ -1,4 +1,4 @@
-use Rattle.std.proofs.Common.{◌≡◌, ◌≤◌, ◌∙◌, ◌-◌, ◌==◌, ◌+◌, length, filter, take, drop, ap, sym, subst, arith}
+use Rattle.std.proofs.Common.{◌∙◌, ◌-◌, ◌==◌, ◌+◌, filter, take, drop, ap, sym, subst, arith}
 use Rattle.std.specs.List.Sorted.{IsSorted}
 use Rattle.gtfs_runs.specs.declared.stop_index.children.Child.{Child}
 use Rattle.gtfs_runs.specs.steps.Children.{child_cmp}
