@@ -31,3 +31,5 @@ mod OneBoard
 mod OneMerge
 mod RunOutcomes
 mod Told
+mod RequestFields
+mod RequestFaults

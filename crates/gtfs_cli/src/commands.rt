@@ -19,6 +19,7 @@ ghost use Rattle.gtfs_cli.specs.declared.commands.refusal.Refusal.TheVariants.{O
 mod board;
 mod check;
 mod feed;
+mod files;
 mod folder;
 mod merge;
 mod merge_values;
@@ -27,11 +28,13 @@ mod moments;
 mod names;
 mod paths;
 mod refusal;
+mod requests;
 mod send;
 mod times;
 mod timetable;
 mod timetable_values;
 mod values;
+mod zone_file;
 
 use gtfs_table::{Folders, Out, write_text};
 use gtfs_words::{Command, WordsFault, read_words};

@@ -1,9 +1,9 @@
 ghost use Rattle.std.specs.Prelude.{◌≡◌, ◌<◌, ◌≤◌, ℕ, length, Option, IfOk, IfErr};
 ghost use Rattle.gtfs_devices.specs.Folder.{Store};
 ghost use Rattle.gtfs_table.specs.Reading.{HoldsDataset, RefusesDataset};
-ghost use Rattle.gtfs_words.specs.Words.{BoardTexts};
-ghost use Rattle.gtfs_cli.specs.Running.{Failures, HasValues, HoldsPassing, HoldsTables};
-ghost use Rattle.gtfs_cli.specs.Refusals.{IsCause, IsCheckCause, IsFileCause, IsGrave, UnlessGrave};
+ghost use Rattle.gtfs_cli.specs.FileRead.{IsPathCause};
+ghost use Rattle.gtfs_cli.specs.Running.{Failures, HoldsTables};
+ghost use Rattle.gtfs_cli.specs.Refusals.{IsCheckCause, IsFileCause, IsGrave, UnlessGrave};
 
 use crate::commands::refusal::Refusal;
 use gtfs_table::{FolderFault, Folders, Tables};
@@ -40,10 +40,9 @@ pub(super) fn read_tables<'w, F: Folders>(
 
 // What a fault of the folders means for the path that was asked for.
 pub(super) fn of_folder(fault: FolderFault, path: &str) -> Refusal<'_>
-    ensures board { (limit : ℕ) (held : Option Store) (asked : BoardTexts) (before after : Failures)
-        → path.now ≡ asked.zone → HasValues asked → HoldsPassing limit held asked.dir
-        → IsFileCause limit held asked.zone before after fault
-        → IsCause limit held asked before after result }
+    ensures file { (limit : ℕ) (held : Option Store) (before after : ℕ)
+        → IsFileCause limit held path.now before after fault
+        → IsPathCause limit held path.now before after result }
     ensures check { (limit : ℕ) (held : Option Store) (before after : Failures)
         → 0 < length path.now
         → RefusesDataset fault limit held path.now before.folders after.folders
