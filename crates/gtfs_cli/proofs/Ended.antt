@@ -11,7 +11,8 @@ use Rattle.gtfs_cli.specs.Refusals.{status_in, status_of}
 use Rattle.gtfs_cli.specs.Running.{Failures}
 use Rattle.gtfs_cli.specs.Sending.{Output, Sends, SendsBeginning}
 use Rattle.gtfs_cli.specs.declared.commands.refusal.Refusal.{Refusal}
-use Rattle.gtfs_cli.specs.declared.commands.refusal.Refusal.TheVariants.{Words, BadValue, NotThere, Unreadable, OverLimit, HasErrors, NoZone, UnknownStop, UnknownRoute, UntilBeforeFrom, ZonesDiffer, MergeTooLarge, Unwritable, OutputFailed, OutOfMemory}
+use Rattle.gtfs_cli.specs.declared.commands.refusal.Refusal.TheVariants.{Line}
+use Rattle.gtfs_cli.specs.declared.commands.request_fault.RequestFault.TheVariants as requests
 
 pub is-some : {A : Type 0} (o : Option A) (x : A) → o ≡ Some x → IsSome o
 is-some None x e = cc e
@@ -19,21 +20,10 @@ is-some (Some y) x e = refl
 
 -- no refusal ends well
 pub not_well : (r : Refusal) → status_of r ≡ 0 → ⊥
-not_well (Words text) e = cc e
-not_well (BadValue option) e = cc e
-not_well (NotThere path) e = cc e
-not_well (Unreadable path) e = cc e
-not_well (OverLimit path) e = cc e
-not_well (HasErrors path) e = cc e
-not_well (NoZone path) e = cc e
-not_well UnknownStop e = cc e
-not_well UnknownRoute e = cc e
-not_well ZonesDiffer e = cc e
-not_well MergeTooLarge e = cc e
-not_well (Unwritable path) e = cc e
-not_well UntilBeforeFrom e = cc e
-not_well OutputFailed e = cc e
-not_well OutOfMemory e = cc e
+not_well (Line (requests.BadRequest number)) e = cc e
+not_well (Line (requests.UnknownStop number)) e = cc e
+not_well (Line (requests.UntilBeforeFrom number)) e = cc e
+not_well _ e = cc e
 
 pub sends : {A B : Type 0} (r : Result A B) (err told : Output) (text : List ℕ) → OnOk r (Appends err.told told.told text)
     → OnErr r (SendsBeginning err.told told.told text) → OnErr r (Rises err.failures told.failures) → Sends err told text

@@ -2,18 +2,19 @@
 use Rattle.std.proofs.Common.{◌≡◌, ℕ, ◌<◌, ◌≤◌, length, inl, inr, Bool, true, false, List, Option, Result, Ok, Err, sym, subst, ◌∙◌, arith}
 use Rattle.std.specs.Prelude.{IfErr, IsErrAnd}
 use Rattle.gtfs_devices.specs.Device.{Rises}
-use Rattle.gtfs_devices.specs.Folder.{Store, RefusesRead}
+use Rattle.gtfs_devices.specs.Folder.{Store}
 use Rattle.gtfs_table.specs.Reading.{RefusesDataset}
 use Rattle.gtfs_devices.specs.declared.folders.FolderFault.{FolderFault}
 use Rattle.gtfs_devices.specs.declared.folders.FolderFault.TheVariants as faults
 use Rattle.clap.specs.Words.{Text}
-use Rattle.gtfs_cli.specs.Running.{AsksCheck, AsksFor, AsksTimetable, Failures, IsBadUsage, IsDeviceFault, IsFileOf, HasValues, KeepsFromReading}
+use Rattle.gtfs_cli.specs.Running.{AsksCheck, AsksFor, AsksTimetable, Failures, IsBadUsage, IsDeviceFault, HasValues, KeepsFromReading}
 use Rattle.gtfs_words.specs.Words.{texts_of, BoardTexts, TimetableTexts}
 use Rattle.gtfs_cli.specs.TimetableOptions.{HasTimetableValues}
 use Rattle.gtfs_cli.specs.Timetables.{IsTimetableCause}
-use Rattle.gtfs_cli.specs.Refusals.{status_in, status_of, IsCause, IsCauseInWords, IsCauseOf, IsCheckCause, IsFileCause, IsReadingCause}
+use Rattle.gtfs_cli.specs.Refusals.{status_in, status_of, IsCause, IsCauseInWords, IsCauseOf, IsCheckCause, IsReadingCause}
 use Rattle.gtfs_cli.specs.declared.commands.refusal.Refusal.{Refusal}
-use Rattle.gtfs_cli.specs.declared.commands.refusal.Refusal.TheVariants.{Words, BadValue, NotThere, Unreadable, OverLimit, HasErrors, NoZone, UnknownStop, UnknownRoute, UntilBeforeFrom, ZonesDiffer, MergeTooLarge, Unwritable, OutputFailed, OutOfMemory}
+use Rattle.gtfs_cli.specs.declared.commands.refusal.Refusal.TheVariants.{Words, BadValue, NotThere, Unreadable, OverLimit, HasErrors, NoZone, UnknownStop, UnknownRoute, UntilBeforeFrom, Line, OutputFailed, OutOfMemory}
+use Rattle.gtfs_cli.specs.declared.commands.request_fault.RequestFault.TheVariants as requests
 use Rattle.gtfs_cli.proofs.Ended.{is-some}
 use Rattle.gtfs_cli.proofs.MergeEnded.{device-by-merge, usage-by-merge}
 
@@ -38,67 +39,32 @@ folders_alone counts = record { folders = counts.folders; output = 0 }
 -- what keeps the tables of a folder from being read, whatever the output did, keeps its feed from being read
 pub reading-cause : (limit : ℕ) (held : Option Store) (dir : List ℕ) (x y : ℕ) (before after : Failures) (r : Refusal) → before.folders ≤ x → y ≤ after.folders
     → ((b a : Failures) → b.folders ≤ x → y ≤ a.folders → IsCheckCause limit held dir b a r) → IsReadingCause limit held dir before after r
-reading-cause limit held dir x y before after (Words text) first last h = absurd (h before after first last)
-reading-cause limit held dir x y before after (BadValue option) first last h = absurd (h before after first last)
 reading-cause limit held dir x y before after (NotThere path) first last h = h before after first last
 reading-cause limit held dir x y before after (Unreadable path) first last h = h before after first last
 reading-cause limit held dir x y before after (OverLimit path) first last h = h before after first last
-reading-cause limit held dir x y before after (HasErrors path) first last h = absurd (h before after first last)
-reading-cause limit held dir x y before after (NoZone path) first last h = absurd (h before after first last)
-reading-cause limit held dir x y before after UnknownStop first last h = absurd (h before after first last)
-reading-cause limit held dir x y before after UnknownRoute first last h = absurd (h before after first last)
-reading-cause limit held dir x y before after ZonesDiffer first last h = absurd (h before after first last)
-reading-cause limit held dir x y before after MergeTooLarge first last h = absurd (h before after first last)
-reading-cause limit held dir x y before after (Unwritable path) first last h = absurd (h before after first last)
-reading-cause limit held dir x y before after UntilBeforeFrom first last h = absurd (h before after first last)
 reading-cause limit held dir x y before after OutputFailed first last h = absurd (omega (arith, h (folders_alone before) (folders_alone after) first last))
 reading-cause limit held dir x y before after OutOfMemory first last h = tt
+reading-cause limit held dir x y before after _ first last h = absurd (h before after first last)
 
 -- what keeps the feed of a folder from being read keeps it from its board, where the options have values
 pub board-cause : (limit : ℕ) (held : Option Store) (asked : BoardTexts) (before after : Failures) (r : Refusal) → HasValues asked → IsReadingCause limit held asked.dir before after r
     → IsCause limit held asked before after r
-board-cause limit held asked before after (Words text) v h = absurd h
-board-cause limit held asked before after (BadValue option) v h = absurd h
 board-cause limit held asked before after (NotThere path) v h = (v, inl h)
 board-cause limit held asked before after (Unreadable path) v h = (v, inl h)
 board-cause limit held asked before after (OverLimit path) v h = (v, inl h)
 board-cause limit held asked before after (HasErrors path) v h = (v, h.0, h.1)
-board-cause limit held asked before after (NoZone path) v h = absurd h
-board-cause limit held asked before after UnknownStop v h = absurd h
-board-cause limit held asked before after UnknownRoute v h = absurd h
-board-cause limit held asked before after ZonesDiffer v h = absurd h
-board-cause limit held asked before after MergeTooLarge v h = absurd h
-board-cause limit held asked before after (Unwritable path) v h = absurd h
-board-cause limit held asked before after UntilBeforeFrom v h = absurd h
-board-cause limit held asked before after OutputFailed v h = absurd h
 board-cause limit held asked before after OutOfMemory v h = tt
+board-cause limit held asked before after _ v h = absurd h
 
 -- and from its timetable
 pub timetable-cause : (limit : ℕ) (held : Option Store) (asked : TimetableTexts) (before after : Failures) (r : Refusal) → HasTimetableValues asked
     → IsReadingCause limit held asked.dir before after r → IsTimetableCause limit held asked before after r
-timetable-cause limit held asked before after (Words text) v h = absurd h
-timetable-cause limit held asked before after (BadValue option) v h = absurd h
 timetable-cause limit held asked before after (NotThere path) v h = (v, h.0, h.1)
 timetable-cause limit held asked before after (Unreadable path) v h = (v, h.0, h.1)
 timetable-cause limit held asked before after (OverLimit path) v h = (v, h.0, h.1)
 timetable-cause limit held asked before after (HasErrors path) v h = (v, h.0, h.1)
-timetable-cause limit held asked before after (NoZone path) v h = absurd h
-timetable-cause limit held asked before after UnknownStop v h = absurd h
-timetable-cause limit held asked before after UnknownRoute v h = absurd h
-timetable-cause limit held asked before after ZonesDiffer v h = absurd h
-timetable-cause limit held asked before after MergeTooLarge v h = absurd h
-timetable-cause limit held asked before after (Unwritable path) v h = absurd h
-timetable-cause limit held asked before after UntilBeforeFrom v h = absurd h
-timetable-cause limit held asked before after OutputFailed v h = absurd h
 timetable-cause limit held asked before after OutOfMemory v h = tt
-
-pub cause-file : (limit : ℕ) (held : Option Store) (path : List ℕ) (before after : Failures) (x y : ℕ) (folder name : List ℕ) (fault : FolderFault) → before.folders ≤ x → y ≤ after.folders
-    → IsFileOf path folder name → 0 < length name → RefusesRead fault limit held folder name x y → IsFileCause limit held path before after fault
-cause-file limit held path before after x y folder name faults.Read first last of named h = rises-longer before.folders x y after.folders first h last
-cause-file limit held path before after x y folder name faults.TooLarge first last of named h = record { folder = folder; name = name; file = of; fact = (named, h) }
-cause-file limit held path before after x y folder name faults.OutOfMemory first last of named h = h
-cause-file limit held path before after x y folder name faults.NoFolder first last of named h = record { folder = folder; name = name; file = of; fact = (named, inl h) }
-cause-file limit held path before after x y folder name faults.Write first last of named h = h
+timetable-cause limit held asked before after _ v h = absurd h
 
 -- ---- what statuses tell
 
@@ -107,40 +73,19 @@ TellsUsage texts limit held refusal = status_of refusal ≡ 2 → IsBadUsage tex
 
 usage_by_words : (texts : List Text) (limit : ℕ) (held : Option Store) (before after : Failures) (r : Refusal) → IsCauseInWords texts before.output after.output r → TellsUsage texts limit held r
 usage_by_words texts limit held before after (Words text) h e = inl h
-usage_by_words texts limit held before after (BadValue option) h e = absurd h
-usage_by_words texts limit held before after (NotThere path) h e = absurd h
-usage_by_words texts limit held before after (Unreadable path) h e = absurd h
-usage_by_words texts limit held before after (OverLimit path) h e = absurd h
-usage_by_words texts limit held before after (HasErrors path) h e = absurd h
-usage_by_words texts limit held before after (NoZone path) h e = absurd h
-usage_by_words texts limit held before after UnknownStop h e = absurd h
-usage_by_words texts limit held before after UnknownRoute h e = absurd h
-usage_by_words texts limit held before after ZonesDiffer h e = absurd h
-usage_by_words texts limit held before after MergeTooLarge h e = absurd h
-usage_by_words texts limit held before after (Unwritable path) h e = absurd h
-usage_by_words texts limit held before after UntilBeforeFrom h e = absurd h
 usage_by_words texts limit held before after OutputFailed h e = absurd (omega (arith, e))
 usage_by_words texts limit held before after OutOfMemory h e = absurd (omega (arith, e))
+usage_by_words texts limit held before after _ h e = absurd h
 
 usage_by_check : (texts : List Text) (limit : ℕ) (held : Option Store) (before after : Failures) (r : Refusal) → AsksCheck texts (λ dir. IsCheckCause limit held dir before after r) → TellsUsage texts limit held r
-usage_by_check texts limit held before after (Words text) h e = absurd h.fact
-usage_by_check texts limit held before after (BadValue option) h e = absurd h.fact
 usage_by_check texts limit held before after (NotThere path) h e = absurd (omega (arith, e))
 usage_by_check texts limit held before after (Unreadable path) h e = absurd (omega (arith, e))
 usage_by_check texts limit held before after (OverLimit path) h e = absurd (omega (arith, e))
-usage_by_check texts limit held before after (HasErrors path) h e = absurd h.fact
-usage_by_check texts limit held before after (NoZone path) h e = absurd h.fact
-usage_by_check texts limit held before after UnknownStop h e = absurd h.fact
-usage_by_check texts limit held before after UnknownRoute h e = absurd h.fact
-usage_by_check texts limit held before after ZonesDiffer h e = absurd h.fact
-usage_by_check texts limit held before after MergeTooLarge h e = absurd h.fact
-usage_by_check texts limit held before after (Unwritable path) h e = absurd h.fact
-usage_by_check texts limit held before after UntilBeforeFrom h e = absurd h.fact
 usage_by_check texts limit held before after OutputFailed h e = absurd (omega (arith, e))
 usage_by_check texts limit held before after OutOfMemory h e = absurd (omega (arith, e))
+usage_by_check texts limit held before after _ h e = absurd h.fact
 
 usage_by_board : (texts : List Text) (limit : ℕ) (held : Option Store) (before after : Failures) (r : Refusal) → AsksFor texts (λ asked. IsCause limit held asked before after r) → TellsUsage texts limit held r
-usage_by_board texts limit held before after (Words text) h e = absurd h.fact
 usage_by_board texts limit held before after (BadValue option) h e = inr (inl (record { words = h.words; taken = h.taken; asks = h.asks; fact = inl (is-some _ option.now h.fact) }))
 usage_by_board texts limit held before after (NotThere path) h e = absurd (omega (arith, e))
 usage_by_board texts limit held before after (Unreadable path) h e = absurd (omega (arith, e))
@@ -148,30 +93,21 @@ usage_by_board texts limit held before after (OverLimit path) h e = absurd (omeg
 usage_by_board texts limit held before after (HasErrors path) h e = absurd (omega (arith, e))
 usage_by_board texts limit held before after (NoZone path) h e = absurd (omega (arith, e))
 usage_by_board texts limit held before after UnknownStop h e = absurd (omega (arith, e))
-usage_by_board texts limit held before after UnknownRoute h e = absurd h.fact
-usage_by_board texts limit held before after ZonesDiffer h e = absurd h.fact
-usage_by_board texts limit held before after MergeTooLarge h e = absurd h.fact
-usage_by_board texts limit held before after (Unwritable path) h e = absurd h.fact
 usage_by_board texts limit held before after UntilBeforeFrom h e = inr (inl (record { words = h.words; taken = h.taken; asks = h.asks; fact = inr h.fact }))
 usage_by_board texts limit held before after OutputFailed h e = absurd (omega (arith, e))
 usage_by_board texts limit held before after OutOfMemory h e = absurd (omega (arith, e))
+usage_by_board texts limit held before after _ h e = absurd h.fact
 
 usage_by_timetable : (texts : List Text) (limit : ℕ) (held : Option Store) (before after : Failures) (r : Refusal) → AsksTimetable texts (λ asked. IsTimetableCause limit held asked before after r) → TellsUsage texts limit held r
-usage_by_timetable texts limit held before after (Words text) h e = absurd h.fact
 usage_by_timetable texts limit held before after (BadValue option) h e = inr (inr (inl (record { words = h.words; taken = h.taken; asks = h.asks; fact = is-some _ option.now h.fact })))
 usage_by_timetable texts limit held before after (NotThere path) h e = absurd (omega (arith, e))
 usage_by_timetable texts limit held before after (Unreadable path) h e = absurd (omega (arith, e))
 usage_by_timetable texts limit held before after (OverLimit path) h e = absurd (omega (arith, e))
 usage_by_timetable texts limit held before after (HasErrors path) h e = absurd (omega (arith, e))
-usage_by_timetable texts limit held before after (NoZone path) h e = absurd h.fact
-usage_by_timetable texts limit held before after UnknownStop h e = absurd h.fact
 usage_by_timetable texts limit held before after UnknownRoute h e = absurd (omega (arith, e))
-usage_by_timetable texts limit held before after ZonesDiffer h e = absurd h.fact
-usage_by_timetable texts limit held before after MergeTooLarge h e = absurd h.fact
-usage_by_timetable texts limit held before after (Unwritable path) h e = absurd h.fact
-usage_by_timetable texts limit held before after UntilBeforeFrom h e = absurd h.fact
 usage_by_timetable texts limit held before after OutputFailed h e = absurd (omega (arith, e))
 usage_by_timetable texts limit held before after OutOfMemory h e = absurd (omega (arith, e))
+usage_by_timetable texts limit held before after _ h e = absurd h.fact
 
 pub usage-from : (texts : List Text) (limit : ℕ) (held : Option Store) (before after : Failures) (r : Refusal) (status : ℕ) → status ≡ status_of r → IsCauseOf texts limit held before after r → status ≡ 2 → IsBadUsage texts limit held
 usage-from texts limit held before after r status is (inl h) e = usage_by_words texts limit held before after r h (sym is ∙ e)
@@ -185,37 +121,17 @@ TellsDevice texts limit held before after refusal = status_of refusal ≡ 3 → 
 
 device_by_words : (texts : List Text) (limit : ℕ) (held : Option Store) (before after : Failures) (r : Refusal) → IsCauseInWords texts before.output after.output r → TellsDevice texts limit held before after r
 device_by_words texts limit held before after (Words text) h e = absurd (omega (arith, e))
-device_by_words texts limit held before after (BadValue option) h e = absurd h
-device_by_words texts limit held before after (NotThere path) h e = absurd h
-device_by_words texts limit held before after (Unreadable path) h e = absurd h
-device_by_words texts limit held before after (OverLimit path) h e = absurd h
-device_by_words texts limit held before after (HasErrors path) h e = absurd h
-device_by_words texts limit held before after (NoZone path) h e = absurd h
-device_by_words texts limit held before after UnknownStop h e = absurd h
-device_by_words texts limit held before after UnknownRoute h e = absurd h
-device_by_words texts limit held before after ZonesDiffer h e = absurd h
-device_by_words texts limit held before after MergeTooLarge h e = absurd h
-device_by_words texts limit held before after (Unwritable path) h e = absurd h
-device_by_words texts limit held before after UntilBeforeFrom h e = absurd h
 device_by_words texts limit held before after OutputFailed h e = inl (inr h.1)
 device_by_words texts limit held before after OutOfMemory h e = absurd (omega (arith, e))
+device_by_words texts limit held before after _ h e = absurd h
 
 device_by_check : (texts : List Text) (limit : ℕ) (held : Option Store) (before after : Failures) (r : Refusal) → AsksCheck texts (λ dir. IsCheckCause limit held dir before after r) → TellsDevice texts limit held before after r
-device_by_check texts limit held before after (Words text) h e = absurd h.fact
-device_by_check texts limit held before after (BadValue option) h e = absurd h.fact
 device_by_check texts limit held before after (NotThere path) h e = inr (inl (record { dir = h.dir; taken = h.taken; asks = h.asks; fact = inl h.fact.1 }))
 device_by_check texts limit held before after (Unreadable path) h e = inl (inl h.fact.1)
 device_by_check texts limit held before after (OverLimit path) h e = inr (inl (record { dir = h.dir; taken = h.taken; asks = h.asks; fact = inr h.fact.1 }))
-device_by_check texts limit held before after (HasErrors path) h e = absurd h.fact
-device_by_check texts limit held before after (NoZone path) h e = absurd h.fact
-device_by_check texts limit held before after UnknownStop h e = absurd h.fact
-device_by_check texts limit held before after UnknownRoute h e = absurd h.fact
-device_by_check texts limit held before after ZonesDiffer h e = absurd h.fact
-device_by_check texts limit held before after MergeTooLarge h e = absurd h.fact
-device_by_check texts limit held before after (Unwritable path) h e = absurd h.fact
-device_by_check texts limit held before after UntilBeforeFrom h e = absurd h.fact
 device_by_check texts limit held before after OutputFailed h e = inl (inr h.fact)
 device_by_check texts limit held before after OutOfMemory h e = absurd (omega (arith, e))
+device_by_check texts limit held before after _ h e = absurd h.fact
 
 -- the words ask for a board that something keeps them from
 kept : (texts : List Text) (limit : ℕ) (held : Option Store) (before after : Failures) (r : Refusal) (h : AsksFor texts (λ asked. IsCause limit held asked before after r))
@@ -223,7 +139,6 @@ kept : (texts : List Text) (limit : ℕ) (held : Option Store) (before after : F
 kept texts limit held before after r h fact = inr (inr (inl (record { words = h.words; taken = h.taken; asks = h.asks; fact = fact })))
 
 device_by_board : (texts : List Text) (limit : ℕ) (held : Option Store) (before after : Failures) (r : Refusal) → AsksFor texts (λ asked. IsCause limit held asked before after r) → TellsDevice texts limit held before after r
-device_by_board texts limit held before after (Words text) h e = absurd h.fact
 device_by_board texts limit held before after (BadValue option) h e = absurd (omega (arith, e))
 device_by_board texts limit held before after (NotThere path) h e =
     kept texts limit held before after (NotThere path) h (elim h.fact.1 [ inl x ↦ inl x.1 | inr x ↦ inr (inr (inl x.2)) ])
@@ -237,30 +152,21 @@ device_by_board texts limit held before after (OverLimit path) h e =
 device_by_board texts limit held before after (HasErrors path) h e = absurd (omega (arith, e))
 device_by_board texts limit held before after (NoZone path) h e = kept texts limit held before after (NoZone path) h (inr (inr (inr (inr (inr h.fact.3)))))
 device_by_board texts limit held before after UnknownStop h e = absurd (omega (arith, e))
-device_by_board texts limit held before after UnknownRoute h e = absurd h.fact
-device_by_board texts limit held before after ZonesDiffer h e = absurd h.fact
-device_by_board texts limit held before after MergeTooLarge h e = absurd h.fact
-device_by_board texts limit held before after (Unwritable path) h e = absurd h.fact
 device_by_board texts limit held before after UntilBeforeFrom h e = absurd (omega (arith, e))
 device_by_board texts limit held before after OutputFailed h e = inl (inr h.fact)
 device_by_board texts limit held before after OutOfMemory h e = absurd (omega (arith, e))
+device_by_board texts limit held before after _ h e = absurd h.fact
 
 device_by_timetable : (texts : List Text) (limit : ℕ) (held : Option Store) (before after : Failures) (r : Refusal) → AsksTimetable texts (λ asked. IsTimetableCause limit held asked before after r) → TellsDevice texts limit held before after r
-device_by_timetable texts limit held before after (Words text) h e = absurd h.fact
 device_by_timetable texts limit held before after (BadValue option) h e = absurd (omega (arith, e))
 device_by_timetable texts limit held before after (NotThere path) h e = inr (inr (inr (inl (record { words = h.words; taken = h.taken; asks = h.asks; fact = inl h.fact.2 }))))
 device_by_timetable texts limit held before after (Unreadable path) h e = inl (inl h.fact.2)
 device_by_timetable texts limit held before after (OverLimit path) h e = inr (inr (inr (inl (record { words = h.words; taken = h.taken; asks = h.asks; fact = inr h.fact.2 }))))
 device_by_timetable texts limit held before after (HasErrors path) h e = absurd (omega (arith, e))
-device_by_timetable texts limit held before after (NoZone path) h e = absurd h.fact
-device_by_timetable texts limit held before after UnknownStop h e = absurd h.fact
 device_by_timetable texts limit held before after UnknownRoute h e = absurd (omega (arith, e))
-device_by_timetable texts limit held before after ZonesDiffer h e = absurd h.fact
-device_by_timetable texts limit held before after MergeTooLarge h e = absurd h.fact
-device_by_timetable texts limit held before after (Unwritable path) h e = absurd h.fact
-device_by_timetable texts limit held before after UntilBeforeFrom h e = absurd h.fact
 device_by_timetable texts limit held before after OutputFailed h e = inl (inr h.fact)
 device_by_timetable texts limit held before after OutOfMemory h e = absurd (omega (arith, e))
+device_by_timetable texts limit held before after _ h e = absurd h.fact
 
 pub device-from : (texts : List Text) (limit : ℕ) (held : Option Store) (before after : Failures) (r : Refusal) (status : ℕ) → status ≡ status_of r → IsCauseOf texts limit held before after r → status ≡ 3 → IsDeviceFault texts limit held before after
 device-from texts limit held before after r status is (inl h) e = device_by_words texts limit held before after r h (sym is ∙ e)
@@ -270,21 +176,10 @@ device-from texts limit held before after r status is (inr (inr (inr (inl h)))) 
 device-from texts limit held before after r status is (inr (inr (inr (inr h)))) e = device-by-merge texts limit held before after r h (sym is ∙ e)
 
 pub statuses-from : (r : Refusal) (status : ℕ) → status ≡ status_of r → status ≤ 4
-statuses-from (Words text) status is = omega (arith, is)
-statuses-from (BadValue option) status is = omega (arith, is)
-statuses-from (NotThere path) status is = omega (arith, is)
-statuses-from (Unreadable path) status is = omega (arith, is)
-statuses-from (OverLimit path) status is = omega (arith, is)
-statuses-from (HasErrors path) status is = omega (arith, is)
-statuses-from (NoZone path) status is = omega (arith, is)
-statuses-from UnknownStop status is = omega (arith, is)
-statuses-from UnknownRoute status is = omega (arith, is)
-statuses-from ZonesDiffer status is = omega (arith, is)
-statuses-from MergeTooLarge status is = omega (arith, is)
-statuses-from (Unwritable path) status is = omega (arith, is)
-statuses-from UntilBeforeFrom status is = omega (arith, is)
-statuses-from OutputFailed status is = omega (arith, is)
-statuses-from OutOfMemory status is = omega (arith, is)
+statuses-from (Line (requests.BadRequest number)) status is = omega (arith, is)
+statuses-from (Line (requests.UnknownStop number)) status is = omega (arith, is)
+statuses-from (Line (requests.UntilBeforeFrom number)) status is = omega (arith, is)
+statuses-from _ status is = omega (arith, is)
 
 -- ---- from what the command ended with
 

@@ -10,7 +10,7 @@ use Rattle.gtfs_table.proofs.FolderFacts.{rises-from}
 use Rattle.gtfs_rows.specs.Content.{Content}
 use Rattle.gtfs_cli.specs.Merges.{file_text, with_files, DisturbsAfter, HoldsFiles, IsFileEnd, IsWritingEnd}
 use Rattle.gtfs_cli.specs.declared.commands.refusal.Refusal.{Refusal}
-use Rattle.gtfs_cli.specs.declared.commands.refusal.Refusal.TheVariants.{Words, BadValue, NotThere, Unreadable, OverLimit, HasErrors, NoZone, UnknownStop, UnknownRoute, UntilBeforeFrom, ZonesDiffer, MergeTooLarge, Unwritable, OutputFailed, OutOfMemory}
+use Rattle.gtfs_cli.specs.declared.commands.refusal.Refusal.TheVariants.{Unwritable, OutOfMemory}
 use Rattle.gtfs_cli.proofs.Sequences.{items-split}
 
 module _ (c : Content) (dir : List ℕ) where
@@ -47,18 +47,6 @@ module _ (c : Content) (dir : List ℕ) where
   -- the files before one that was not written
   pub file-ends : (old mid new : Option Store) (first before end : ℕ) (i : ℕ) (x : File) → 0 < length dir → i < length kept_files → HoldsFiles old mid dir c (take i kept_files)
       → first ≤ before → (r : Refusal) → IsFileEnd mid new before end dir (get_or kept_files i x) r → IsWritingEnd old new first end dir c r
-  file-ends old mid new first before end i x named inside holds grows (Words text) h = absurd h
-  file-ends old mid new first before end i x named inside holds grows (BadValue option) h = absurd h
-  file-ends old mid new first before end i x named inside holds grows (NotThere path) h = absurd h
-  file-ends old mid new first before end i x named inside holds grows (Unreadable path) h = absurd h
-  file-ends old mid new first before end i x named inside holds grows (OverLimit path) h = absurd h
-  file-ends old mid new first before end i x named inside holds grows (HasErrors path) h = absurd h
-  file-ends old mid new first before end i x named inside holds grows (NoZone path) h = absurd h
-  file-ends old mid new first before end i x named inside holds grows UnknownStop h = absurd h
-  file-ends old mid new first before end i x named inside holds grows UnknownRoute h = absurd h
-  file-ends old mid new first before end i x named inside holds grows UntilBeforeFrom h = absurd h
-  file-ends old mid new first before end i x named inside holds grows ZonesDiffer h = absurd h
-  file-ends old mid new first before end i x named inside holds grows MergeTooLarge h = absurd h
   file-ends old mid new first before end i x named inside holds grows (Unwritable path) h = (
     h.0,
     inr (
@@ -73,10 +61,10 @@ module _ (c : Content) (dir : List ℕ) where
       },
     ),
   )
-  file-ends old mid new first before end i x named inside holds grows OutputFailed h = absurd h
   file-ends old mid new first before end i x named inside holds grows OutOfMemory h = record {
     files = take i kept_files;
     left = drop i kept_files;
     order = sym (take-append-drop i kept_files);
     holds = subst (λ (m : Option Store). HoldsFiles old m dir c (take i kept_files)) (sym h) holds;
   }
+  file-ends old mid new first before end i x named inside holds grows _ h = absurd h

@@ -4,7 +4,7 @@ use Rattle.std.specs.Prelude.{IfErr, IsErrAnd, OnOk}
 use Rattle.gtfs_cli.specs.Checking.{IsSendingCause}
 use Rattle.gtfs_cli.specs.Refusals.{status_in, status_of, IsGrave, UnlessGrave}
 use Rattle.gtfs_cli.specs.declared.commands.refusal.Refusal.{Refusal}
-use Rattle.gtfs_cli.specs.declared.commands.refusal.Refusal.TheVariants.{Words, BadValue, NotThere, Unreadable, OverLimit, HasErrors, NoZone, UnknownStop, UnknownRoute, UntilBeforeFrom, ZonesDiffer, MergeTooLarge, Unwritable, OutputFailed, OutOfMemory}
+use Rattle.gtfs_cli.specs.declared.commands.refusal.Refusal.TheVariants.{OutputFailed, OutOfMemory}
 
 -- what holds, holds of any call
 pub of-any : {A : Type 0} (r : Result A Refusal) (P : Type 0) → P → UnlessGrave r P
@@ -28,21 +28,9 @@ unless-ended (Err e) status P gives h light = h (subst (λ n. n ≤ 2) gives lig
 -- ---- lines that are sent out
 
 sending-grave : (before after : ℕ) (e : Refusal) → IsSendingCause before after e → IsGrave e
-sending-grave before after (Words text) cause = absurd cause
-sending-grave before after (BadValue option) cause = absurd cause
-sending-grave before after (NotThere path) cause = absurd cause
-sending-grave before after (Unreadable path) cause = absurd cause
-sending-grave before after (OverLimit path) cause = absurd cause
-sending-grave before after (HasErrors path) cause = absurd cause
-sending-grave before after (NoZone path) cause = absurd cause
-sending-grave before after UnknownStop cause = absurd cause
-sending-grave before after UnknownRoute cause = absurd cause
-sending-grave before after UntilBeforeFrom cause = absurd cause
-sending-grave before after ZonesDiffer cause = absurd cause
-sending-grave before after MergeTooLarge cause = absurd cause
-sending-grave before after (Unwritable path) cause = absurd cause
 sending-grave before after OutputFailed cause = omega arith
 sending-grave before after OutOfMemory cause = omega arith
+sending-grave before after _ cause = absurd cause
 
 -- where they are not, the refusal is grave
 pub unless-sent : {A : Type 0} (r : Result A Refusal) (before after : ℕ) (P : Type 0) → IfErr r (IsSendingCause before after) → OnOk r P → UnlessGrave r P

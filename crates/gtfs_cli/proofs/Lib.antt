@@ -33,3 +33,7 @@ mod RunOutcomes
 mod Told
 mod RequestFields
 mod RequestFaults
+mod RequestLines
+mod RequestBoards
+mod FilesRead
+mod ManyBoards

@@ -13,7 +13,7 @@ use Rattle.gtfs_cli.specs.Refusals.{status_in, status_of}
 use Rattle.gtfs_cli.specs.Running.{AsksMerge, Failures, HoldsKeptFile, IsBadUsage, IsDeviceFault, KeepsFromMerging, LacksFeed}
 use Rattle.gtfs_cli.specs.Sending.{Output, Sends}
 use Rattle.gtfs_cli.specs.declared.commands.refusal.Refusal.{Refusal}
-use Rattle.gtfs_cli.specs.declared.commands.refusal.Refusal.TheVariants.{Words, BadValue, NotThere, Unreadable, OverLimit, HasErrors, NoZone, UnknownStop, UnknownRoute, UntilBeforeFrom, ZonesDiffer, MergeTooLarge, Unwritable, OutputFailed, OutOfMemory}
+use Rattle.gtfs_cli.specs.declared.commands.refusal.Refusal.TheVariants.{BadValue, NotThere, Unreadable, OverLimit, HasErrors, ZonesDiffer, MergeTooLarge, Unwritable, OutputFailed, OutOfMemory}
 use Rattle.gtfs_cli.proofs.Ended.{at_zero, is-some, not_well}
 
 -- ---- the status and the error output
@@ -37,22 +37,18 @@ module _ (limit : ℕ) (held : Option Store) (asked : MergeTexts) (before after 
 
 pub usage-by-merge : (texts : List Text) (limit : ℕ) (held : Option Store) (before after : Failures) (r : Refusal)
     → AsksMerge texts (λ asked. IsMergeCause limit held asked before after r) → status_of r ≡ 2 → IsBadUsage texts limit held
-usage-by-merge texts limit held before after (Words text) h e = absurd h.fact.1
 usage-by-merge texts limit held before after (BadValue option) h e =
     inr (inr (inr (record { words = h.words; taken = h.taken; asks = h.asks; fact = is-some _ option.now h.fact })))
 usage-by-merge texts limit held before after (NotThere path) h e = absurd (omega (arith, e))
 usage-by-merge texts limit held before after (Unreadable path) h e = absurd (omega (arith, e))
 usage-by-merge texts limit held before after (OverLimit path) h e = absurd (omega (arith, e))
 usage-by-merge texts limit held before after (HasErrors path) h e = absurd (omega (arith, e))
-usage-by-merge texts limit held before after (NoZone path) h e = absurd (omega (arith, e))
-usage-by-merge texts limit held before after UnknownStop h e = absurd (omega (arith, e))
-usage-by-merge texts limit held before after UnknownRoute h e = absurd (omega (arith, e))
-usage-by-merge texts limit held before after UntilBeforeFrom h e = absurd h.fact.1
 usage-by-merge texts limit held before after ZonesDiffer h e = absurd (omega (arith, e))
 usage-by-merge texts limit held before after MergeTooLarge h e = absurd (omega (arith, e))
 usage-by-merge texts limit held before after (Unwritable path) h e = absurd (omega (arith, e))
 usage-by-merge texts limit held before after OutputFailed h e = absurd (omega (arith, e))
 usage-by-merge texts limit held before after OutOfMemory h e = absurd (omega (arith, e))
+usage-by-merge texts limit held before after _ h e = absurd h.fact.1
 
 module _ (limit : ℕ) (held : Option Store) (asked : MergeTexts) where
   either_lacks : (path : List ℕ) → OfEither limit held asked path (LacksFeed held) → KeepsFromMerging limit held asked
@@ -78,18 +74,14 @@ module _ (texts : List Text) (limit : ℕ) (held : Option Store) (before after :
 
   pub device-by-merge : (r : Refusal) → AsksMerge texts (λ asked. IsMergeCause limit held asked before after r) → status_of r ≡ 3
       → IsDeviceFault texts limit held before after
-  device-by-merge (Words text) h e = absurd h.fact.1
   device-by-merge (BadValue option) h e = absurd (omega (arith, e))
   device-by-merge (NotThere path) h e = kept_from (record { words = h.words; taken = h.taken; asks = h.asks; fact = either_lacks limit held (merge_texts_of h.words) path.now h.fact.1 })
   device-by-merge (Unreadable path) h e = inl (inl (either_rises limit held (merge_texts_of h.words) path.now (Rises before.folders after.folders) h.fact.1))
   device-by-merge (OverLimit path) h e = kept_from (record { words = h.words; taken = h.taken; asks = h.asks; fact = either_over limit held (merge_texts_of h.words) path.now h.fact.1 })
   device-by-merge (HasErrors path) h e = absurd (omega (arith, e))
-  device-by-merge (NoZone path) h e = absurd h.fact.1
-  device-by-merge UnknownStop h e = absurd h.fact.1
-  device-by-merge UnknownRoute h e = absurd h.fact.1
-  device-by-merge UntilBeforeFrom h e = absurd h.fact.1
   device-by-merge ZonesDiffer h e = absurd (omega (arith, e))
   device-by-merge MergeTooLarge h e = absurd (omega (arith, e))
   device-by-merge (Unwritable path) h e = unwritten (Unwritable path) h h.fact.2
   device-by-merge OutputFailed h e = inl (inr h.fact.1)
   device-by-merge OutOfMemory h e = absurd (omega (arith, e))
+  device-by-merge _ h e = absurd h.fact.1

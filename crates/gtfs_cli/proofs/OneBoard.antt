@@ -22,7 +22,7 @@ use Rattle.gtfs_cli.specs.Outcomes.{none_failed, IsBoarded, IsBoardOutcome, Outc
 use Rattle.gtfs_cli.specs.Refusals.{status_of, IsCause}
 use Rattle.gtfs_cli.specs.Running.{first_bad, instant_at, EndsBeforeItBegins, HasValues, IsRequest, LacksStop, LiesBefore, Request, Setting}
 use Rattle.gtfs_cli.specs.declared.commands.refusal.Refusal.{Refusal}
-use Rattle.gtfs_cli.specs.declared.commands.refusal.Refusal.TheVariants.{Words, BadValue, NotThere, Unreadable, OverLimit, HasErrors, NoZone, UnknownStop, UnknownRoute, UntilBeforeFrom, ZonesDiffer, MergeTooLarge, Unwritable, OutputFailed, OutOfMemory}
+use Rattle.gtfs_cli.specs.declared.commands.refusal.Refusal.TheVariants.{BadValue, NotThere, Unreadable, OverLimit, HasErrors, NoZone, UnknownStop, UntilBeforeFrom, OutputFailed, OutOfMemory}
 use Rattle.gtfs_cli.proofs.Apart.{either, one_as, Apart, EndsAs, One}
 use Rattle.gtfs_cli.proofs.FolderEnds.{has_errors, one_folder, FolderEnd}
 use Rattle.gtfs_cli.proofs.OnePage.{one_list, one_page}
@@ -114,7 +114,6 @@ module _ (limit : ℕ) (store : Store) (asked : BoardTexts) where
 
   refused_board : (o : Outcome) (r : Refusal) → IsCause limit (Some store) asked none_failed none_failed r → r ≢ OutOfMemory → o.text ≡ []
       → o.told ≡ message r → o.status ≡ status_of r → BoardEnds o
-  refused_board o (Words text) cause enough printed told status = absurd cause
   refused_board o (BadValue option) cause enough printed told status = inl (option.now, cause, alike o (bad_value option.now) printed told status)
   refused_board o (NotThere path) (values, inl at) enough printed told status =
       inr (values, inl (at.1, alike o (not_there limit store asked.dir) printed (told ∙ told-of path.now asked.dir (codes " is not there") at.0) status))
@@ -137,13 +136,10 @@ module _ (limit : ℕ) (store : Store) (asked : BoardTexts) where
       let end = alike o (no_zone limit store asked.zone) printed (told ∙ told-of path.now asked.zone (codes " is no zone file") cause.1) status in
       inr (cause.0, inr (inr (inr (cause.2, inr (inr (inr (inl (cause.3, end))))))))
   refused_board o UnknownStop cause enough printed told status = judged cause.0 o (inl (cause, alike o unknown_stop printed told status))
-  refused_board o UnknownRoute cause enough printed told status = absurd cause
   refused_board o UntilBeforeFrom cause enough printed told status = judged cause.0 o (inr (inl (cause, alike o until_before_from printed told status)))
-  refused_board o ZonesDiffer cause enough printed told status = absurd cause
-  refused_board o MergeTooLarge cause enough printed told status = absurd cause
-  refused_board o (Unwritable path) cause enough printed told status = absurd cause
   refused_board o OutputFailed cause enough printed told status = absurd (omega (arith, cause))
   refused_board o OutOfMemory cause enough printed told status = absurd (enough refl)
+  refused_board o _ cause enough printed told status = absurd cause
 
   board_ends : (o : Outcome) → IsBoardOutcome limit (Some store) asked o → BoardEnds o
   board_ends o (inl boarded) = judged boarded.text.0 o (inr (inr boarded))

@@ -15,7 +15,7 @@ use Rattle.gtfs_cli.specs.Messages.{line_of, message}
 use Rattle.gtfs_cli.specs.Outcomes.{none_failed, IsMergeMade, IsMergeOutcome, MergeOutcome, Outcome}
 use Rattle.gtfs_cli.specs.Refusals.{status_of}
 use Rattle.gtfs_cli.specs.declared.commands.refusal.Refusal.{Refusal}
-use Rattle.gtfs_cli.specs.declared.commands.refusal.Refusal.TheVariants.{Words, BadValue, NotThere, Unreadable, OverLimit, HasErrors, NoZone, UnknownStop, UnknownRoute, UntilBeforeFrom, ZonesDiffer, MergeTooLarge, Unwritable, OutputFailed, OutOfMemory}
+use Rattle.gtfs_cli.specs.declared.commands.refusal.Refusal.TheVariants.{BadValue, NotThere, Unreadable, OverLimit, HasErrors, ZonesDiffer, MergeTooLarge, Unwritable, OutputFailed, OutOfMemory}
 use Rattle.gtfs_cli.proofs.Apart.{either, one_as, Apart, EndsAs, One}
 use Rattle.gtfs_cli.proofs.FolderEnds.{has_errors, one_folder, FolderEnd}
 use Rattle.gtfs_cli.proofs.Outcomes.{alike, not_there, one_dataset, over_limit, refused, told-of}
@@ -106,7 +106,6 @@ module _ (limit : ℕ) (store : Store) (asked : MergeTexts) where
 
   refused_merge : (o : MergeOutcome) → Some o.folders ≡ Some store → (r : Refusal) → IsMergeCause limit (Some store) asked none_failed none_failed r → r ≢ OutOfMemory
       → o.ended.text ≡ [] → o.ended.told ≡ message r → o.ended.status ≡ status_of r → MergeEnds o
-  refused_merge o same (Words text) cause enough printed told status = absurd cause.1
   refused_merge o same (BadValue option) cause enough printed told status =
       let end = alike o.ended (bad_value option.now) printed told status in
       inl (option.now, cause, nothing_changed o same (bad_value option.now) end)
@@ -130,10 +129,6 @@ module _ (limit : ℕ) (store : Store) (asked : MergeTexts) where
   refused_merge o same (HasErrors path) (values, inr at) enough printed told status =
       let end = alike o.ended (has_errors asked.b) printed (told ∙ told-of path.now asked.b (codes " has errors") at.0) status in
       inr (values, inr (inr (inr (at.1, inr (inr (inl (at.2, nothing_changed o same (has_errors asked.b) end)))))))
-  refused_merge o same (NoZone path) cause enough printed told status = absurd cause.1
-  refused_merge o same UnknownStop cause enough printed told status = absurd cause.1
-  refused_merge o same UnknownRoute cause enough printed told status = absurd cause.1
-  refused_merge o same UntilBeforeFrom cause enough printed told status = absurd cause.1
   refused_merge o same ZonesDiffer cause enough printed told status =
       let end = alike o.ended zones_differ_line printed told status in
       judged cause.1.0 o (inl (cause.1, nothing_changed o same zones_differ_line end))
@@ -146,6 +141,7 @@ module _ (limit : ℕ) (store : Store) (asked : MergeTexts) where
   refused_merge o same (Unwritable path) (at, can, inr rises) enough printed told status = absurd (omega (arith, rises))
   refused_merge o same OutputFailed cause enough printed told status = absurd (omega (arith, cause.1))
   refused_merge o same OutOfMemory cause enough printed told status = absurd (enough refl)
+  refused_merge o same _ cause enough printed told status = absurd cause.1
 
   merge_ends : (o : MergeOutcome) → IsMergeOutcome limit (Some store) asked o → MergeEnds o
   merge_ends o (inl made) = judged made.written.merges.setting o (inr (inr (inr made)))

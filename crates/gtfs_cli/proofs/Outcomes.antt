@@ -24,7 +24,7 @@ use Rattle.gtfs_cli.specs.Running.{HoldsErrors, HoldsKeptFile, HoldsTables, Lack
 use Rattle.gtfs_cli.specs.TimetableOptions.{first_bad_timetable, HasTimetableValues, IsTimetableRequest, TimetableRequest}
 use Rattle.gtfs_cli.specs.Timetables.{timetable_text, IsTimetableCause, IsTimetableText, LacksRoute}
 use Rattle.gtfs_cli.specs.declared.commands.refusal.Refusal.{Refusal}
-use Rattle.gtfs_cli.specs.declared.commands.refusal.Refusal.TheVariants.{Words, BadValue, NotThere, Unreadable, OverLimit, HasErrors, NoZone, UnknownStop, UnknownRoute, UntilBeforeFrom, ZonesDiffer, MergeTooLarge, Unwritable, OutputFailed, OutOfMemory}
+use Rattle.gtfs_cli.specs.declared.commands.refusal.Refusal.TheVariants.{BadValue, NotThere, Unreadable, OverLimit, HasErrors, UnknownRoute, OutputFailed, OutOfMemory}
 
 -- the outcome of a line and a status, where nothing is printed
 abbrev pub refused : List ℕ → ℕ → Outcome
@@ -90,21 +90,12 @@ module _ (limit : ℕ) (store : Store) (dir : List ℕ) where
 
   refused_check : (o : Outcome) (r : Refusal) → IsCheckCause limit (Some store) dir none_failed none_failed r → r ≢ OutOfMemory → o.text ≡ [] → o.told ≡ message r
       → o.status ≡ status_of r → CheckEnds o
-  refused_check o (Words text) cause enough printed told status = absurd cause
-  refused_check o (BadValue option) cause enough printed told status = absurd cause
   refused_check o (NotThere path) cause enough printed told status = inr (inl (cause.1, alike o not_there printed (told ∙ told-of path.now dir (codes " is not there") cause.0) status))
   refused_check o (Unreadable path) cause enough printed told status = absurd (omega (arith, cause.1))
   refused_check o (OverLimit path) cause enough printed told status = inr (inr (cause.1, alike o over_limit printed (told ∙ told-of path.now dir (codes " holds a file over the limit") cause.0) status))
-  refused_check o (HasErrors path) cause enough printed told status = absurd cause
-  refused_check o (NoZone path) cause enough printed told status = absurd cause
-  refused_check o UnknownStop cause enough printed told status = absurd cause
-  refused_check o UnknownRoute cause enough printed told status = absurd cause
-  refused_check o UntilBeforeFrom cause enough printed told status = absurd cause
-  refused_check o ZonesDiffer cause enough printed told status = absurd cause
-  refused_check o MergeTooLarge cause enough printed told status = absurd cause
-  refused_check o (Unwritable path) cause enough printed told status = absurd cause
   refused_check o OutputFailed cause enough printed told status = absurd (omega (arith, cause))
   refused_check o OutOfMemory cause enough printed told status = absurd (enough refl)
+  refused_check o _ cause enough printed told status = absurd cause
 
   check_ends : (o : Outcome) → IsCheckOutcome limit (Some store) dir o → CheckEnds o
   check_ends o (inl reported) = inl reported
@@ -183,21 +174,15 @@ module _ (limit : ℕ) (store : Store) (asked : TimetableTexts) where
 
   refused_timetable : (o : Outcome) (r : Refusal) → IsTimetableCause limit (Some store) asked none_failed none_failed r → r ≢ OutOfMemory → o.text ≡ []
       → o.told ≡ message r → o.status ≡ status_of r → TimetableEnds o
-  refused_timetable o (Words text) cause enough printed told status = absurd cause
   refused_timetable o (BadValue option) cause enough printed told status = inl (option.now, cause, alike o (bad_value option.now) printed told status)
   refused_timetable o (NotThere path) cause enough printed told status = inr (cause.0, inl (cause.2, alike o (not_there limit store dir) printed (told ∙ told-of path.now dir (codes " is not there") cause.1) status))
   refused_timetable o (Unreadable path) cause enough printed told status = absurd (omega (arith, cause.2))
   refused_timetable o (OverLimit path) cause enough printed told status = inr (cause.0, inr (inl (cause.2, alike o (over_limit limit store dir) printed (told ∙ told-of path.now dir (codes " holds a file over the limit") cause.1) status)))
   refused_timetable o (HasErrors path) cause enough printed told status = inr (cause.0, inr (inr (inl (cause.2, alike o has_errors printed (told ∙ told-of path.now dir (codes " has errors") cause.1) status))))
-  refused_timetable o (NoZone path) cause enough printed told status = absurd cause
-  refused_timetable o UnknownStop cause enough printed told status = absurd cause
   refused_timetable o UnknownRoute cause enough printed told status = inr ((cause.0.request, cause.0.is_request), inr (inr (inr (inl (cause, alike o unknown_route printed told status)))))
-  refused_timetable o UntilBeforeFrom cause enough printed told status = absurd cause
-  refused_timetable o ZonesDiffer cause enough printed told status = absurd cause
-  refused_timetable o MergeTooLarge cause enough printed told status = absurd cause
-  refused_timetable o (Unwritable path) cause enough printed told status = absurd cause
   refused_timetable o OutputFailed cause enough printed told status = absurd (omega (arith, cause))
   refused_timetable o OutOfMemory cause enough printed told status = absurd (enough refl)
+  refused_timetable o _ cause enough printed told status = absurd cause
 
   timetable_ends : (o : Outcome) → IsTimetableOutcome limit (Some store) asked o → TimetableEnds o
   timetable_ends o (inl made) =

@@ -15,7 +15,7 @@ use Rattle.gtfs_cli.specs.Refusals.{IsCause, IsFirstBad, IsReadingCause}
 use Rattle.gtfs_cli.specs.Running.{after_of, first_bad, limit_of, moment_of, Failures, HasValues, HoldsPassing, HoldsTables, HoldsZone, Request, Setting}
 use Rattle.gtfs_cli.specs.declared.commands.moments.Moment.{Moment}
 use Rattle.gtfs_cli.specs.declared.commands.refusal.Refusal.{Refusal}
-use Rattle.gtfs_cli.specs.declared.commands.refusal.Refusal.TheVariants.{Words, BadValue, NotThere, Unreadable, OverLimit, HasErrors, NoZone, UnknownStop, UnknownRoute, UntilBeforeFrom, ZonesDiffer, MergeTooLarge, Unwritable, OutputFailed, OutOfMemory}
+use Rattle.gtfs_cli.specs.declared.commands.refusal.Refusal.TheVariants.{BadValue, HasErrors, UnknownStop, UntilBeforeFrom, OutputFailed, OutOfMemory}
 use Rattle.gtfs_cli.specs.declared.commands.values.Values.{Values}
 
 -- nothing went out
@@ -26,21 +26,8 @@ kept (Some xs) = refl
 -- ---- values of options
 
 pub first-bad-cause : (limit : ℕ) (held : Option Store) (asked : BoardTexts) (before after : Failures) (r : Refusal) → IsFirstBad asked r → IsCause limit held asked before after r
-first-bad-cause limit held asked before after (Words text) h = absurd h
 first-bad-cause limit held asked before after (BadValue option) h = h
-first-bad-cause limit held asked before after (NotThere path) h = absurd h
-first-bad-cause limit held asked before after (Unreadable path) h = absurd h
-first-bad-cause limit held asked before after (OverLimit path) h = absurd h
-first-bad-cause limit held asked before after (HasErrors path) h = absurd h
-first-bad-cause limit held asked before after (NoZone path) h = absurd h
-first-bad-cause limit held asked before after UnknownStop h = absurd h
-first-bad-cause limit held asked before after UnknownRoute h = absurd h
-first-bad-cause limit held asked before after ZonesDiffer h = absurd h
-first-bad-cause limit held asked before after MergeTooLarge h = absurd h
-first-bad-cause limit held asked before after (Unwritable path) h = absurd h
-first-bad-cause limit held asked before after UntilBeforeFrom h = absurd h
-first-bad-cause limit held asked before after OutputFailed h = absurd h
-first-bad-cause limit held asked before after OutOfMemory h = absurd h
+first-bad-cause limit held asked before after _ h = absurd h
 
 -- ---- what went out
 
@@ -57,21 +44,9 @@ same n = omega arith
 -- then nothing went out
 pub none-out : (limit : ℕ) (held : Option Store) (asked : BoardTexts) (x y : ℕ) (r : Refusal) (old new : Option (List ℕ)) → CauseAside limit held asked x y r → Keeps old new
     → EndsBoard limit held asked old new r
-none-out limit held asked x y (Words text) old new h keeps = keeps
-none-out limit held asked x y (BadValue option) old new h keeps = keeps
-none-out limit held asked x y (NotThere path) old new h keeps = keeps
-none-out limit held asked x y (Unreadable path) old new h keeps = keeps
-none-out limit held asked x y (OverLimit path) old new h keeps = keeps
-none-out limit held asked x y (HasErrors path) old new h keeps = keeps
-none-out limit held asked x y (NoZone path) old new h keeps = keeps
-none-out limit held asked x y UnknownStop old new h keeps = keeps
-none-out limit held asked x y UnknownRoute old new h keeps = keeps
-none-out limit held asked x y ZonesDiffer old new h keeps = keeps
-none-out limit held asked x y MergeTooLarge old new h keeps = keeps
-none-out limit held asked x y (Unwritable path) old new h keeps = keeps
-none-out limit held asked x y UntilBeforeFrom old new h keeps = keeps
 none-out limit held asked x y OutputFailed old new h keeps = absurd (omega (arith, h (counts x) (counts y) (same x) (same y)))
 none-out limit held asked x y OutOfMemory old new h keeps = inl keeps
+none-out limit held asked x y _ old new h keeps = keeps
 
 -- ---- what was judged before
 
@@ -108,98 +83,41 @@ module _ (limit : ℕ) (held : Option Store) (asked : BoardTexts) (feed : Feed) 
   lists-of Out old new out = (setting, subst (λ (f : Content). OfBoard Out f z asked.stop (request_of v) old new) h.is_feed.1 out)
 
   pub ends-of : (old new : Option (List ℕ)) (r : Refusal) → EndsLines (content_of_feed feed) z asked.stop (request_of v) old new r → EndsBoard limit held asked old new r
-  ends-of old new (Words text) e = e
-  ends-of old new (BadValue option) e = e
-  ends-of old new (NotThere path) e = e
-  ends-of old new (Unreadable path) e = e
-  ends-of old new (OverLimit path) e = e
-  ends-of old new (HasErrors path) e = e
-  ends-of old new (NoZone path) e = e
-  ends-of old new UnknownStop e = e
-  ends-of old new UnknownRoute e = e
-  ends-of old new ZonesDiffer e = e
-  ends-of old new MergeTooLarge e = e
-  ends-of old new (Unwritable path) e = e
-  ends-of old new UntilBeforeFrom e = e
   ends-of old new OutputFailed e = lists-of IsCutShort old new e
   ends-of old new OutOfMemory (inl e) = inl e
   ends-of old new OutOfMemory (inr e) = inr (lists-of IsStopped old new e)
+  ends-of old new _ e = e
 
   pub cause-of : (before after : Failures) (r : Refusal) → IsLinesCause (content_of_feed feed) z asked.stop (request_of v) before.output after.output r
       → IsCause limit held asked before after r
-  cause-of before after (Words text) e = absurd e
-  cause-of before after (BadValue option) e = absurd e
-  cause-of before after (NotThere path) e = absurd e
-  cause-of before after (Unreadable path) e = absurd e
-  cause-of before after (OverLimit path) e = absurd e
-  cause-of before after (HasErrors path) e = absurd e
-  cause-of before after (NoZone path) e = absurd e
   cause-of before after UnknownStop e = (setting, subst (λ (f : Content). is_stop f asked.stop ≡ false) h.is_feed.1 e)
-  cause-of before after UnknownRoute e = absurd e
-  cause-of before after ZonesDiffer e = absurd e
-  cause-of before after MergeTooLarge e = absurd e
-  cause-of before after (Unwritable path) e = absurd e
   cause-of before after UntilBeforeFrom e = (setting, subst (λ (f : Content). is_stop f asked.stop ≡ true) h.is_feed.1 e.0, e.1)
   cause-of before after OutputFailed e = e
   cause-of before after OutOfMemory e = tt
+  cause-of before after _ e = absurd e
 
 -- ---- where no board is opened
 
 pub opening-ends : (f : Content) (z : Zone) (stop : List ℕ) (r : Request) (old new : Option (List ℕ)) (refusal : Refusal) → IsOpeningCause f z stop r refusal → Keeps old new
     → EndsLines f z stop r old new refusal
-opening-ends f z stop r old new (Words text) e keeps = absurd e
-opening-ends f z stop r old new (BadValue option) e keeps = absurd e
-opening-ends f z stop r old new (NotThere path) e keeps = absurd e
-opening-ends f z stop r old new (Unreadable path) e keeps = absurd e
-opening-ends f z stop r old new (OverLimit path) e keeps = absurd e
-opening-ends f z stop r old new (HasErrors path) e keeps = absurd e
-opening-ends f z stop r old new (NoZone path) e keeps = absurd e
 opening-ends f z stop r old new UnknownStop e keeps = keeps
-opening-ends f z stop r old new UnknownRoute e keeps = absurd e
-opening-ends f z stop r old new ZonesDiffer e keeps = absurd e
-opening-ends f z stop r old new MergeTooLarge e keeps = absurd e
-opening-ends f z stop r old new (Unwritable path) e keeps = absurd e
 opening-ends f z stop r old new UntilBeforeFrom e keeps = keeps
-opening-ends f z stop r old new OutputFailed e keeps = absurd e
 opening-ends f z stop r old new OutOfMemory e keeps = inl keeps
+opening-ends f z stop r old new _ e keeps = absurd e
 
 pub opening-cause : (f : Content) (z : Zone) (stop : List ℕ) (r : Request) (before after : ℕ) (refusal : Refusal) → IsOpeningCause f z stop r refusal
     → IsLinesCause f z stop r before after refusal
-opening-cause f z stop r before after (Words text) e = e
-opening-cause f z stop r before after (BadValue option) e = e
-opening-cause f z stop r before after (NotThere path) e = e
-opening-cause f z stop r before after (Unreadable path) e = e
-opening-cause f z stop r before after (OverLimit path) e = e
-opening-cause f z stop r before after (HasErrors path) e = e
-opening-cause f z stop r before after (NoZone path) e = e
-opening-cause f z stop r before after UnknownStop e = e
-opening-cause f z stop r before after UnknownRoute e = e
-opening-cause f z stop r before after ZonesDiffer e = e
-opening-cause f z stop r before after MergeTooLarge e = e
-opening-cause f z stop r before after (Unwritable path) e = e
-opening-cause f z stop r before after UntilBeforeFrom e = e
 opening-cause f z stop r before after OutputFailed e = absurd e
 opening-cause f z stop r before after OutOfMemory e = tt
+opening-cause f z stop r before after _ e = e
 
 -- ---- where there is no feed
 
 pub feed-cause : (limit : ℕ) (held : Option Store) (dir : List ℕ) (before after : Failures) (d : Dataset) (r : Refusal) → HoldsTables limit held dir d
     → IsFeedCause d dir r → IsReadingCause limit held dir before after r
-feed-cause limit held dir before after d (Words text) holds e = absurd e
-feed-cause limit held dir before after d (BadValue option) holds e = absurd e
-feed-cause limit held dir before after d (NotThere path) holds e = absurd e
-feed-cause limit held dir before after d (Unreadable path) holds e = absurd e
-feed-cause limit held dir before after d (OverLimit path) holds e = absurd e
 feed-cause limit held dir before after d (HasErrors path) holds e = (e.0, (d, holds, e.1))
-feed-cause limit held dir before after d (NoZone path) holds e = absurd e
-feed-cause limit held dir before after d UnknownStop holds e = absurd e
-feed-cause limit held dir before after d UnknownRoute holds e = absurd e
-feed-cause limit held dir before after d ZonesDiffer holds e = absurd e
-feed-cause limit held dir before after d MergeTooLarge holds e = absurd e
-feed-cause limit held dir before after d (Unwritable path) holds e = absurd e
-feed-cause limit held dir before after d UntilBeforeFrom holds e = absurd e
-feed-cause limit held dir before after d OutputFailed holds e = absurd e
 feed-cause limit held dir before after d OutOfMemory holds e = tt
+feed-cause limit held dir before after d _ holds e = absurd e
 
 pub first-bad-ends : (limit : ℕ) (held : Option Store) (asked : BoardTexts) (r : Refusal) (old new : Option (List ℕ)) → IsFirstBad asked r → Keeps old new → EndsBoard limit held asked old new r
 first-bad-ends limit held asked r old new h keeps = none-out limit held asked 0 0 r old new (λ before after _ _. first-bad-cause limit held asked before after r h) keeps

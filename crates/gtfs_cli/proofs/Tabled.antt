@@ -24,7 +24,7 @@ use Rattle.gtfs_cli.specs.TimetableOptions.{IsTimetableRequest, TimetableRequest
 use Rattle.gtfs_cli.specs.TimetableRun.{IsTabled, IsTimetableRun, IsUntabled}
 use Rattle.gtfs_cli.specs.Timetables.{timetable_text, BeginsSheets, BeginsTimetable, EndsSheets, EndsTimetable, IsFirstBadTimetable, IsSheetsCause, IsTimetableCause, IsTimetableText, PrintsTimetable, TimetableSetting}
 use Rattle.gtfs_cli.specs.declared.commands.refusal.Refusal.{Refusal}
-use Rattle.gtfs_cli.specs.declared.commands.refusal.Refusal.TheVariants.{Words, BadValue, NotThere, Unreadable, OverLimit, HasErrors, NoZone, UnknownStop, UnknownRoute, UntilBeforeFrom, ZonesDiffer, MergeTooLarge, Unwritable, OutputFailed, OutOfMemory}
+use Rattle.gtfs_cli.specs.declared.commands.refusal.Refusal.TheVariants.{BadValue, UnknownRoute, OutputFailed, OutOfMemory}
 use Rattle.gtfs_cli.proofs.Ended.{at_zero, not_well}
 use Rattle.gtfs_cli.proofs.Parts.{Leaves, one-cut}
 
@@ -32,39 +32,13 @@ use Rattle.gtfs_cli.proofs.Parts.{Leaves, one-cut}
 
 pub bad-timetable-cause : (limit : ℕ) (held : Option Store) (asked : TimetableTexts) (before after : Failures) (r : Refusal) → IsFirstBadTimetable asked r
     → IsTimetableCause limit held asked before after r
-bad-timetable-cause limit held asked before after (Words text) h = absurd h
 bad-timetable-cause limit held asked before after (BadValue option) h = h
-bad-timetable-cause limit held asked before after (NotThere path) h = absurd h
-bad-timetable-cause limit held asked before after (Unreadable path) h = absurd h
-bad-timetable-cause limit held asked before after (OverLimit path) h = absurd h
-bad-timetable-cause limit held asked before after (HasErrors path) h = absurd h
-bad-timetable-cause limit held asked before after (NoZone path) h = absurd h
-bad-timetable-cause limit held asked before after UnknownStop h = absurd h
-bad-timetable-cause limit held asked before after UnknownRoute h = absurd h
-bad-timetable-cause limit held asked before after ZonesDiffer h = absurd h
-bad-timetable-cause limit held asked before after MergeTooLarge h = absurd h
-bad-timetable-cause limit held asked before after (Unwritable path) h = absurd h
-bad-timetable-cause limit held asked before after UntilBeforeFrom h = absurd h
-bad-timetable-cause limit held asked before after OutputFailed h = absurd h
-bad-timetable-cause limit held asked before after OutOfMemory h = absurd h
+bad-timetable-cause limit held asked before after _ h = absurd h
 
 pub bad-timetable-ends : (limit : ℕ) (held : Option Store) (asked : TimetableTexts) (old new : Option (List ℕ)) (r : Refusal) → IsFirstBadTimetable asked r → Keeps old new
     → EndsTimetable limit held asked old new r
-bad-timetable-ends limit held asked old new (Words text) h keeps = absurd h
 bad-timetable-ends limit held asked old new (BadValue option) h keeps = keeps
-bad-timetable-ends limit held asked old new (NotThere path) h keeps = absurd h
-bad-timetable-ends limit held asked old new (Unreadable path) h keeps = absurd h
-bad-timetable-ends limit held asked old new (OverLimit path) h keeps = absurd h
-bad-timetable-ends limit held asked old new (HasErrors path) h keeps = absurd h
-bad-timetable-ends limit held asked old new (NoZone path) h keeps = absurd h
-bad-timetable-ends limit held asked old new UnknownStop h keeps = absurd h
-bad-timetable-ends limit held asked old new UnknownRoute h keeps = absurd h
-bad-timetable-ends limit held asked old new ZonesDiffer h keeps = absurd h
-bad-timetable-ends limit held asked old new MergeTooLarge h keeps = absurd h
-bad-timetable-ends limit held asked old new (Unwritable path) h keeps = absurd h
-bad-timetable-ends limit held asked old new UntilBeforeFrom h keeps = absurd h
-bad-timetable-ends limit held asked old new OutputFailed h keeps = absurd h
-bad-timetable-ends limit held asked old new OutOfMemory h keeps = absurd h
+bad-timetable-ends limit held asked old new _ h keeps = absurd h
 
 -- ---- what went out
 
@@ -72,21 +46,9 @@ bad-timetable-ends limit held asked old new OutOfMemory h keeps = absurd h
 pub none-tabled : (limit : ℕ) (held : Option Store) (asked : TimetableTexts) (x y : ℕ) (r : Refusal) (old new : Option (List ℕ))
     → ((before after : Failures) → before.folders ≤ x → y ≤ after.folders → IsTimetableCause limit held asked before after r) → Keeps old new
     → EndsTimetable limit held asked old new r
-none-tabled limit held asked x y (Words text) old new h keeps = keeps
-none-tabled limit held asked x y (BadValue option) old new h keeps = keeps
-none-tabled limit held asked x y (NotThere path) old new h keeps = keeps
-none-tabled limit held asked x y (Unreadable path) old new h keeps = keeps
-none-tabled limit held asked x y (OverLimit path) old new h keeps = keeps
-none-tabled limit held asked x y (HasErrors path) old new h keeps = keeps
-none-tabled limit held asked x y (NoZone path) old new h keeps = keeps
-none-tabled limit held asked x y UnknownStop old new h keeps = keeps
-none-tabled limit held asked x y UnknownRoute old new h keeps = keeps
-none-tabled limit held asked x y ZonesDiffer old new h keeps = keeps
-none-tabled limit held asked x y MergeTooLarge old new h keeps = keeps
-none-tabled limit held asked x y (Unwritable path) old new h keeps = keeps
-none-tabled limit held asked x y UntilBeforeFrom old new h keeps = keeps
 none-tabled limit held asked x y OutputFailed old new h keeps = absurd (omega (arith, h (record { folders = x; output = 0 }) (record { folders = y; output = 0 }) (omega arith) (omega arith)))
 none-tabled limit held asked x y OutOfMemory old new h keeps = inl keeps
+none-tabled limit held asked x y _ old new h keeps = keeps
 
 abbrev pub texts : List Sheet → List ℕ
 texts ss = flat_map sheet_text (map plain_sheet ss)
@@ -136,39 +98,15 @@ pub known-route : (f : Content) (route : List ℕ) → (is_route f route ≡ fal
 known-route f route never = true_from_ne_false (is_route f route) never
 
 pub sending-cause : (f : Content) (route : List ℕ) (before after : ℕ) (r : Refusal) → IsSendingCause before after r → IsSheetsCause f route before after r
-sending-cause f route before after (Words text) h = absurd h
-sending-cause f route before after (BadValue option) h = absurd h
-sending-cause f route before after (NotThere path) h = absurd h
-sending-cause f route before after (Unreadable path) h = absurd h
-sending-cause f route before after (OverLimit path) h = absurd h
-sending-cause f route before after (HasErrors path) h = absurd h
-sending-cause f route before after (NoZone path) h = absurd h
-sending-cause f route before after UnknownStop h = absurd h
-sending-cause f route before after UnknownRoute h = absurd h
-sending-cause f route before after ZonesDiffer h = absurd h
-sending-cause f route before after MergeTooLarge h = absurd h
-sending-cause f route before after (Unwritable path) h = absurd h
-sending-cause f route before after UntilBeforeFrom h = absurd h
 sending-cause f route before after OutputFailed h = h
 sending-cause f route before after OutOfMemory h = tt
+sending-cause f route before after _ h = absurd h
 
 sending-ends : (f : Content) (route : List ℕ) (q : TimetableRequest) (x y : ℕ) (old new : Option (List ℕ)) (r : Refusal) → IsSendingCause x y r
     → BeginsSheets f route q old new → EndsSheets f route q old new r
-sending-ends f route q x y old new (Words text) h begun = absurd h
-sending-ends f route q x y old new (BadValue option) h begun = absurd h
-sending-ends f route q x y old new (NotThere path) h begun = absurd h
-sending-ends f route q x y old new (Unreadable path) h begun = absurd h
-sending-ends f route q x y old new (OverLimit path) h begun = absurd h
-sending-ends f route q x y old new (HasErrors path) h begun = absurd h
-sending-ends f route q x y old new (NoZone path) h begun = absurd h
-sending-ends f route q x y old new UnknownStop h begun = absurd h
-sending-ends f route q x y old new UnknownRoute h begun = absurd h
-sending-ends f route q x y old new ZonesDiffer h begun = absurd h
-sending-ends f route q x y old new MergeTooLarge h begun = absurd h
-sending-ends f route q x y old new (Unwritable path) h begun = absurd h
-sending-ends f route q x y old new UntilBeforeFrom h begun = absurd h
 sending-ends f route q x y old new OutputFailed h begun = begun
 sending-ends f route q x y old new OutOfMemory h begun = inr begun
+sending-ends f route q x y old new _ h begun = absurd h
 
 -- the text of sheets was sent, or a beginning of it
 pub sent-ends : {A : Type 0} (f : Content) (route : List ℕ) (q : TimetableRequest) (x y : ℕ) (old new : Option (List ℕ)) (r : Result A Refusal)
@@ -179,21 +117,9 @@ sent-ends f route q x y old new (Err refusal) known cause begun = sending-ends f
 -- where the refusal has a cause whatever the output did, nothing was sent
 pub no-sheets : (f : Content) (route : List ℕ) (q : TimetableRequest) (old new : Option (List ℕ)) (r : Refusal)
     → ((before after : ℕ) → IsSheetsCause f route before after r) → Keeps old new → EndsSheets f route q old new r
-no-sheets f route q old new (Words text) h keeps = keeps
-no-sheets f route q old new (BadValue option) h keeps = keeps
-no-sheets f route q old new (NotThere path) h keeps = keeps
-no-sheets f route q old new (Unreadable path) h keeps = keeps
-no-sheets f route q old new (OverLimit path) h keeps = keeps
-no-sheets f route q old new (HasErrors path) h keeps = keeps
-no-sheets f route q old new (NoZone path) h keeps = keeps
-no-sheets f route q old new UnknownStop h keeps = keeps
-no-sheets f route q old new UnknownRoute h keeps = keeps
-no-sheets f route q old new ZonesDiffer h keeps = keeps
-no-sheets f route q old new MergeTooLarge h keeps = keeps
-no-sheets f route q old new (Unwritable path) h keeps = keeps
-no-sheets f route q old new UntilBeforeFrom h keeps = keeps
 no-sheets f route q old new OutputFailed h keeps = absurd (omega (arith, h 0 0))
 no-sheets f route q old new OutOfMemory h keeps = inl keeps
+no-sheets f route q old new _ h keeps = keeps
 
 -- ---- from a feed to what the folder holds
 
@@ -217,40 +143,17 @@ module _ (limit : ℕ) (held : Option Store) (asked : TimetableTexts) (feed : Fe
   begun-of old new begun = (timetable_text (content_of_feed feed) asked.route q, timetable_is begun.0, begun.1)
 
   pub tabled-ends : (old new : Option (List ℕ)) (r : Refusal) → EndsSheets (content_of_feed feed) asked.route q old new r → EndsTimetable limit held asked old new r
-  tabled-ends old new (Words text) e = e
-  tabled-ends old new (BadValue option) e = e
-  tabled-ends old new (NotThere path) e = e
-  tabled-ends old new (Unreadable path) e = e
-  tabled-ends old new (OverLimit path) e = e
-  tabled-ends old new (HasErrors path) e = e
-  tabled-ends old new (NoZone path) e = e
-  tabled-ends old new UnknownStop e = e
-  tabled-ends old new UnknownRoute e = e
-  tabled-ends old new ZonesDiffer e = e
-  tabled-ends old new MergeTooLarge e = e
-  tabled-ends old new (Unwritable path) e = e
-  tabled-ends old new UntilBeforeFrom e = e
   tabled-ends old new OutputFailed e = begun-of old new e
   tabled-ends old new OutOfMemory (inl e) = inl e
   tabled-ends old new OutOfMemory (inr e) = inr (begun-of old new e)
+  tabled-ends old new _ e = e
 
   pub tabled-cause : (before after : Failures) (r : Refusal) → IsSheetsCause (content_of_feed feed) asked.route before.output after.output r
       → IsTimetableCause limit held asked before after r
-  tabled-cause before after (Words text) e = absurd e
-  tabled-cause before after (BadValue option) e = absurd e
-  tabled-cause before after (NotThere path) e = absurd e
-  tabled-cause before after (Unreadable path) e = absurd e
-  tabled-cause before after (OverLimit path) e = absurd e
-  tabled-cause before after (HasErrors path) e = absurd e
-  tabled-cause before after (NoZone path) e = absurd e
-  tabled-cause before after UnknownStop e = absurd e
   tabled-cause before after UnknownRoute e = (tabled_setting, subst (λ (f : Content). is_route f asked.route ≡ false) h.is_feed.1 e)
-  tabled-cause before after ZonesDiffer e = absurd e
-  tabled-cause before after MergeTooLarge e = absurd e
-  tabled-cause before after (Unwritable path) e = absurd e
-  tabled-cause before after UntilBeforeFrom e = absurd e
   tabled-cause before after OutputFailed e = e
   tabled-cause before after OutOfMemory e = tt
+  tabled-cause before after _ e = absurd e
 
 -- ---- how a run of `gtfs timetable` ends
 

@@ -10,26 +10,17 @@ use Rattle.gtfs_cli.specs.Messages.{message}
 use Rattle.gtfs_cli.specs.Running.{Failures}
 use Rattle.gtfs_cli.specs.Sending.{Output, Sends}
 use Rattle.gtfs_cli.specs.declared.commands.refusal.Refusal.{Refusal}
-use Rattle.gtfs_cli.specs.declared.commands.refusal.Refusal.TheVariants.{Words, BadValue, NotThere, Unreadable, OverLimit, HasErrors, NoZone, UnknownStop, UnknownRoute, UntilBeforeFrom, ZonesDiffer, MergeTooLarge, Unwritable, OutputFailed, OutOfMemory}
+use Rattle.gtfs_cli.specs.declared.commands.refusal.Refusal.TheVariants.{NotThere, Unreadable, OverLimit, OutputFailed, OutOfMemory}
 
 module _ (limit : ℕ) (held : Option Store) (dir : List ℕ) (before after : Failures) where
   -- none has the status of a report that went out, nor that of usage
   late : (r : Refusal) → IsCheckCause limit held dir before after r → 3 ≤ status_of r
-  late (Words text) h = absurd h
-  late (BadValue option) h = absurd h
   late (NotThere path) h = omega arith
   late (Unreadable path) h = omega arith
   late (OverLimit path) h = omega arith
-  late (HasErrors path) h = absurd h
-  late (NoZone path) h = absurd h
-  late UnknownStop h = absurd h
-  late UnknownRoute h = absurd h
-  late UntilBeforeFrom h = absurd h
-  late ZonesDiffer h = absurd h
-  late MergeTooLarge h = absurd h
-  late (Unwritable path) h = absurd h
   late OutputFailed h = omega arith
   late OutOfMemory h = omega arith
+  late _ h = absurd h
 
   pub check-ended : (old new : Option (List ℕ)) (ended : Result Bool Refusal) (status : ℕ) (err told : Output) → status ≡ status_in ended
       → IfOk ended (IsReportOf limit held dir old new) → IfErr ended (IsUnchecked limit held dir before after old new)

@@ -24,7 +24,7 @@ use Rattle.gtfs_cli.specs.Refusals.{IsReadingCause}
 use Rattle.gtfs_cli.specs.Running.{Failures}
 use Rattle.gtfs_cli.specs.Sending.{SendsBeginning}
 use Rattle.gtfs_cli.specs.declared.commands.refusal.Refusal.{Refusal}
-use Rattle.gtfs_cli.specs.declared.commands.refusal.Refusal.TheVariants.{Words, BadValue, NotThere, Unreadable, OverLimit, HasErrors, NoZone, UnknownStop, UnknownRoute, UntilBeforeFrom, ZonesDiffer, MergeTooLarge, Unwritable, OutputFailed, OutOfMemory}
+use Rattle.gtfs_cli.specs.declared.commands.refusal.Refusal.TheVariants.{BadValue, NotThere, Unreadable, OverLimit, HasErrors, ZonesDiffer, MergeTooLarge, Unwritable, OutputFailed, OutOfMemory}
 use Rattle.gtfs_cli.proofs.NamesTold.{report-told}
 use Rattle.gtfs_cli.proofs.Printed.{has-passing}
 
@@ -44,75 +44,31 @@ module _ (limit : ℕ) (held : Option Store) (asked : MergeTexts) where
   -- ---- the values of the options
 
   pub bad-merge-cause : (before after : Failures) (r : Refusal) → IsFirstBadMerge asked r → IsMergeCause limit held asked before after r
-  bad-merge-cause before after (Words text) h = absurd h
   bad-merge-cause before after (BadValue option) h = h
-  bad-merge-cause before after (NotThere path) h = absurd h
-  bad-merge-cause before after (Unreadable path) h = absurd h
-  bad-merge-cause before after (OverLimit path) h = absurd h
-  bad-merge-cause before after (HasErrors path) h = absurd h
-  bad-merge-cause before after (NoZone path) h = absurd h
-  bad-merge-cause before after UnknownStop h = absurd h
-  bad-merge-cause before after UnknownRoute h = absurd h
-  bad-merge-cause before after UntilBeforeFrom h = absurd h
-  bad-merge-cause before after ZonesDiffer h = absurd h
-  bad-merge-cause before after MergeTooLarge h = absurd h
-  bad-merge-cause before after (Unwritable path) h = absurd h
-  bad-merge-cause before after OutputFailed h = absurd h
-  bad-merge-cause before after OutOfMemory h = absurd h
+  bad-merge-cause before after _ h = absurd h
 
   pub bad-merge-ends : (old new : Option (List ℕ)) → Keeps old new → (r : Refusal) → IsFirstBadMerge asked r → EndsMerge limit held asked held old new r
-  bad-merge-ends old new keeps (Words text) h = absurd h
   bad-merge-ends old new keeps (BadValue option) h = (refl, keeps)
-  bad-merge-ends old new keeps (NotThere path) h = absurd h
-  bad-merge-ends old new keeps (Unreadable path) h = absurd h
-  bad-merge-ends old new keeps (OverLimit path) h = absurd h
-  bad-merge-ends old new keeps (HasErrors path) h = absurd h
-  bad-merge-ends old new keeps (NoZone path) h = absurd h
-  bad-merge-ends old new keeps UnknownStop h = absurd h
-  bad-merge-ends old new keeps UnknownRoute h = absurd h
-  bad-merge-ends old new keeps UntilBeforeFrom h = absurd h
-  bad-merge-ends old new keeps ZonesDiffer h = absurd h
-  bad-merge-ends old new keeps MergeTooLarge h = absurd h
-  bad-merge-ends old new keeps (Unwritable path) h = absurd h
-  bad-merge-ends old new keeps OutputFailed h = absurd h
-  bad-merge-ends old new keeps OutOfMemory h = absurd h
+  bad-merge-ends old new keeps _ h = absurd h
 
   -- ---- the folders that are read
 
   pub first-unread : (before after : Failures) (r : Refusal) → IsReadingCause limit held asked.a before after r → IsMergingCause limit held asked before after r
-  first-unread before after (Words text) h = absurd h
-  first-unread before after (BadValue option) h = absurd h
   first-unread before after (NotThere path) h = inl h
   first-unread before after (Unreadable path) h = inl h
   first-unread before after (OverLimit path) h = inl h
   first-unread before after (HasErrors path) h = inl h
-  first-unread before after (NoZone path) h = absurd h
-  first-unread before after UnknownStop h = absurd h
-  first-unread before after UnknownRoute h = absurd h
-  first-unread before after UntilBeforeFrom h = absurd h
-  first-unread before after ZonesDiffer h = absurd h
-  first-unread before after MergeTooLarge h = absurd h
-  first-unread before after (Unwritable path) h = absurd h
-  first-unread before after OutputFailed h = absurd h
   first-unread before after OutOfMemory h = tt
+  first-unread before after _ h = absurd h
 
   pub second-unread : (before after : Failures) (feed : Feed) → HoldsFeed limit held asked.a feed → (r : Refusal) → IsReadingCause limit held asked.b before after r
       → IsMergingCause limit held asked before after r
-  second-unread before after feed holds (Words text) h = absurd h
-  second-unread before after feed holds (BadValue option) h = absurd h
   second-unread before after feed holds (NotThere path) h = inr (h.0, has-passing limit held asked.a feed holds, h.1)
   second-unread before after feed holds (Unreadable path) h = inr (h.0, has-passing limit held asked.a feed holds, h.1)
   second-unread before after feed holds (OverLimit path) h = inr (h.0, has-passing limit held asked.a feed holds, h.1)
   second-unread before after feed holds (HasErrors path) h = inr (h.0, has-passing limit held asked.a feed holds, h.1)
-  second-unread before after feed holds (NoZone path) h = absurd h
-  second-unread before after feed holds UnknownStop h = absurd h
-  second-unread before after feed holds UnknownRoute h = absurd h
-  second-unread before after feed holds UntilBeforeFrom h = absurd h
-  second-unread before after feed holds ZonesDiffer h = absurd h
-  second-unread before after feed holds MergeTooLarge h = absurd h
-  second-unread before after feed holds (Unwritable path) h = absurd h
-  second-unread before after feed holds OutputFailed h = absurd h
   second-unread before after feed holds OutOfMemory h = tt
+  second-unread before after feed holds _ h = absurd h
 
   -- ---- the feeds that are merged
 
@@ -134,25 +90,14 @@ module _ (limit : ℕ) (held : Option Store) (asked : MergeTexts) where
     of_datasets P h = subst (λ (f : Content). P f (content_of second.dataset)) first.is_feed.1 (subst (λ (f : Content). P (content_of_feed a) f) second.is_feed.1 h)
 
     pub unmerged : (before after : Failures) (r : Refusal) → IsMergeFault q (content_of_feed a) (content_of_feed b) r → IsMergingCause limit held asked before after r
-    unmerged before after (Words text) h = absurd h
-    unmerged before after (BadValue option) h = absurd h
-    unmerged before after (NotThere path) h = absurd h
-    unmerged before after (Unreadable path) h = absurd h
-    unmerged before after (OverLimit path) h = absurd h
-    unmerged before after (HasErrors path) h = absurd h
-    unmerged before after (NoZone path) h = absurd h
-    unmerged before after UnknownStop h = absurd h
-    unmerged before after UnknownRoute h = absurd h
-    unmerged before after UntilBeforeFrom h = absurd h
     unmerged before after ZonesDiffer h = (setting, of_datasets (λ f g. zones_differ f g ≡ true) h)
     unmerged before after MergeTooLarge h = (
       setting,
       of_datasets (λ f g. zones_differ f g ≡ false) h.0,
       of_datasets (λ f g. is_too_large file_limit (merge_of q f g) ≡ true) h.1,
     )
-    unmerged before after (Unwritable path) h = absurd h
-    unmerged before after OutputFailed h = absurd h
     unmerged before after OutOfMemory h = tt
+    unmerged before after _ h = absurd h
 
     pub is-merged : (m : Merged) → IsMergeOf q.near q.cutoff (content_of_feed a) (content_of_feed b) file_limit m
         → KeepsDepartures q.near q.cutoff (content_of_feed a) (content_of_feed b) → HoldsMerge limit held asked q.near m
@@ -170,39 +115,21 @@ module _ (limit : ℕ) (held : Option Store) (asked : MergeTexts) where
 
   pub merging-cause : HasMergeValues asked → (before after : Failures) (r : Refusal) → IsMergingCause limit held asked before after r
       → IsMergeCause limit held asked before after r
-  merging-cause values before after (Words text) h = absurd h
-  merging-cause values before after (BadValue option) h = absurd h
   merging-cause values before after (NotThere path) h = (values, h)
   merging-cause values before after (Unreadable path) h = (values, h)
   merging-cause values before after (OverLimit path) h = (values, h)
   merging-cause values before after (HasErrors path) h = (values, h)
-  merging-cause values before after (NoZone path) h = absurd h
-  merging-cause values before after UnknownStop h = absurd h
-  merging-cause values before after UnknownRoute h = absurd h
-  merging-cause values before after UntilBeforeFrom h = absurd h
   merging-cause values before after ZonesDiffer h = (values, h)
   merging-cause values before after MergeTooLarge h = (values, h)
-  merging-cause values before after (Unwritable path) h = absurd h
-  merging-cause values before after OutputFailed h = absurd h
   merging-cause values before after OutOfMemory h = tt
+  merging-cause values before after _ h = absurd h
 
   pub merging-ends : (before after : Failures) (now : Option Store) (old new : Option (List ℕ)) → IsUntouched held now old new → (r : Refusal)
       → IsMergingCause limit held asked before after r → EndsMerge limit held asked now old new r
-  merging-ends before after now old new same (Words text) h = same
-  merging-ends before after now old new same (BadValue option) h = same
-  merging-ends before after now old new same (NotThere path) h = same
-  merging-ends before after now old new same (Unreadable path) h = same
-  merging-ends before after now old new same (OverLimit path) h = same
-  merging-ends before after now old new same (HasErrors path) h = same
-  merging-ends before after now old new same (NoZone path) h = same
-  merging-ends before after now old new same UnknownStop h = same
-  merging-ends before after now old new same UnknownRoute h = same
-  merging-ends before after now old new same UntilBeforeFrom h = same
-  merging-ends before after now old new same ZonesDiffer h = same
-  merging-ends before after now old new same MergeTooLarge h = same
   merging-ends before after now old new same (Unwritable path) h = absurd h
   merging-ends before after now old new same OutputFailed h = absurd h
   merging-ends before after now old new same OutOfMemory h = inl same
+  merging-ends before after now old new same _ h = same
 
   -- ---- the files that are not written, and the report that is not printed
 
@@ -220,74 +147,26 @@ module _ (limit : ℕ) (held : Option Store) (asked : MergeTexts) where
 
     pub writing-cause : (before after : Failures) (mid now : Option Store) (x y : ℕ) → before.folders ≤ x → y ≤ after.folders → (r : Refusal)
         → IsWritingEnd mid now x y asked.out c r → IsMergeCause limit held asked before after r
-    writing-cause before after mid now x y low high (Words text) h = absurd h
-    writing-cause before after mid now x y low high (BadValue option) h = absurd h
-    writing-cause before after mid now x y low high (NotThere path) h = absurd h
-    writing-cause before after mid now x y low high (Unreadable path) h = absurd h
-    writing-cause before after mid now x y low high (OverLimit path) h = absurd h
-    writing-cause before after mid now x y low high (HasErrors path) h = absurd h
-    writing-cause before after mid now x y low high (NoZone path) h = absurd h
-    writing-cause before after mid now x y low high UnknownStop h = absurd h
-    writing-cause before after mid now x y low high UnknownRoute h = absurd h
-    writing-cause before after mid now x y low high UntilBeforeFrom h = absurd h
-    writing-cause before after mid now x y low high ZonesDiffer h = absurd h
-    writing-cause before after mid now x y low high MergeTooLarge h = absurd h
     writing-cause before after mid now x y low high (Unwritable path) h = unwritten before after mid now x y low high path.now h.0 h.1
-    writing-cause before after mid now x y low high OutputFailed h = absurd h
     writing-cause before after mid now x y low high OutOfMemory h = tt
+    writing-cause before after mid now x y low high _ h = absurd h
 
     pub writing-ends : (x y : ℕ) (now : Option Store) (old new : Option (List ℕ)) → Keeps old new → (r : Refusal) → IsWritingEnd held now x y asked.out c r
         → EndsMerge limit held asked now old new r
-    writing-ends x y now old new keeps (Words text) h = absurd h
-    writing-ends x y now old new keeps (BadValue option) h = absurd h
-    writing-ends x y now old new keeps (NotThere path) h = absurd h
-    writing-ends x y now old new keeps (Unreadable path) h = absurd h
-    writing-ends x y now old new keeps (OverLimit path) h = absurd h
-    writing-ends x y now old new keeps (HasErrors path) h = absurd h
-    writing-ends x y now old new keeps (NoZone path) h = absurd h
-    writing-ends x y now old new keeps UnknownStop h = absurd h
-    writing-ends x y now old new keeps UnknownRoute h = absurd h
-    writing-ends x y now old new keeps UntilBeforeFrom h = absurd h
-    writing-ends x y now old new keeps ZonesDiffer h = absurd h
-    writing-ends x y now old new keeps MergeTooLarge h = absurd h
     writing-ends x y now old new keeps (Unwritable path) h = record { content = c; report = report; merges = is; ends = ended x y now h.1; nothing = keeps }
-    writing-ends x y now old new keeps OutputFailed h = absurd h
     writing-ends x y now old new keeps OutOfMemory h = inr (inl (record { content = c; report = report; merges = is; ends = h; nothing = keeps }))
+    writing-ends x y now old new keeps _ h = absurd h
 
     pub printing-cause : (before after : Failures) (r : Refusal) → IsSendingCause before.output after.output r → IsMergeCause limit held asked before after r
-    printing-cause before after (Words text) h = absurd h
-    printing-cause before after (BadValue option) h = absurd h
-    printing-cause before after (NotThere path) h = absurd h
-    printing-cause before after (Unreadable path) h = absurd h
-    printing-cause before after (OverLimit path) h = absurd h
-    printing-cause before after (HasErrors path) h = absurd h
-    printing-cause before after (NoZone path) h = absurd h
-    printing-cause before after UnknownStop h = absurd h
-    printing-cause before after UnknownRoute h = absurd h
-    printing-cause before after UntilBeforeFrom h = absurd h
-    printing-cause before after ZonesDiffer h = absurd h
-    printing-cause before after MergeTooLarge h = absurd h
-    printing-cause before after (Unwritable path) h = absurd h
     printing-cause before after OutputFailed h = ((c, report, is), h)
     printing-cause before after OutOfMemory h = tt
+    printing-cause before after _ h = absurd h
 
     module _ (now : Option Store) (old new : Option (List ℕ)) (named : 0 < length asked.out) (files : HoldsFiles held now asked.out c kept_files) (again : ReadsAgain held now asked.out c) where
       pub all-printed : Appends old new report → IsWritten limit held asked now (λ text. Appends old new text)
       all-printed sent = record { content = c; report = report; merges = is; named = named; files = files; again = again; sent = sent }
 
       pub printing-ends : (x y : ℕ) → SendsBeginning old new report → (r : Refusal) → IsSendingCause x y r → EndsMerge limit held asked now old new r
-      printing-ends x y begun (Words text) h = absurd h
-      printing-ends x y begun (BadValue option) h = absurd h
-      printing-ends x y begun (NotThere path) h = absurd h
-      printing-ends x y begun (Unreadable path) h = absurd h
-      printing-ends x y begun (OverLimit path) h = absurd h
-      printing-ends x y begun (HasErrors path) h = absurd h
-      printing-ends x y begun (NoZone path) h = absurd h
-      printing-ends x y begun UnknownStop h = absurd h
-      printing-ends x y begun UnknownRoute h = absurd h
-      printing-ends x y begun UntilBeforeFrom h = absurd h
-      printing-ends x y begun ZonesDiffer h = absurd h
-      printing-ends x y begun MergeTooLarge h = absurd h
-      printing-ends x y begun (Unwritable path) h = absurd h
       printing-ends x y begun OutputFailed h = record { content = c; report = report; merges = is; named = named; files = files; again = again; sent = begun }
       printing-ends x y begun OutOfMemory h = inr (inr (record { content = c; report = report; merges = is; named = named; files = files; again = again; sent = begun }))
+      printing-ends x y begun _ h = absurd h

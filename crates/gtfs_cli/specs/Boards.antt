@@ -22,7 +22,7 @@ use Rattle.gtfs_words.specs.Words.{BoardTexts}
 use Rattle.gtfs_cli.specs.Refusals.{IsSound}
 use Rattle.gtfs_cli.specs.Running.{instant_at, HoldsTables, IsRequest, LiesBefore, Request, Setting}
 use Rattle.gtfs_cli.specs.declared.commands.refusal.Refusal.{Refusal}
-use Rattle.gtfs_cli.specs.declared.commands.refusal.Refusal.TheVariants.{Words, BadValue, NotThere, Unreadable, OverLimit, HasErrors, NoZone, UnknownStop, UnknownRoute, UntilBeforeFrom, ZonesDiffer, MergeTooLarge, Unwritable, OutputFailed, OutOfMemory}
+use Rattle.gtfs_cli.specs.declared.commands.refusal.Refusal.TheVariants.{HasErrors, UnknownStop, UntilBeforeFrom, OutputFailed, OutOfMemory}
 use Rattle.gtfs_cli.specs.declared.commands.values.Values.{Values}
 
 -- ---- of a feed, a zone and the values of the options
@@ -51,57 +51,24 @@ pub record OfBoard (Out : GoesOut) (f : Content) (z : Zone) (stop : List ℕ) (r
 -- what went out where a refusal came: lines of the board and a beginning of the next where the output failed, whole lines or nothing
 -- where memory ran out, and else nothing
 abbrev pub EndsLines : Content → Zone → List ℕ → Request → Option (List ℕ) → Option (List ℕ) → Refusal → Type 0
-EndsLines f z stop r before after (Words text) = Keeps before after
-EndsLines f z stop r before after (BadValue option) = Keeps before after
-EndsLines f z stop r before after (NotThere path) = Keeps before after
-EndsLines f z stop r before after (Unreadable path) = Keeps before after
-EndsLines f z stop r before after (OverLimit path) = Keeps before after
-EndsLines f z stop r before after (HasErrors path) = Keeps before after
-EndsLines f z stop r before after (NoZone path) = Keeps before after
-EndsLines f z stop r before after UnknownStop = Keeps before after
-EndsLines f z stop r before after UnknownRoute = Keeps before after
-EndsLines f z stop r before after ZonesDiffer = Keeps before after
-EndsLines f z stop r before after MergeTooLarge = Keeps before after
-EndsLines f z stop r before after (Unwritable path) = Keeps before after
-EndsLines f z stop r before after UntilBeforeFrom = Keeps before after
 EndsLines f z stop r before after OutputFailed = OfBoard IsCutShort f z stop r before after
 EndsLines f z stop r before after OutOfMemory = Keeps before after ⊎ OfBoard IsStopped f z stop r before after
+EndsLines f z stop r before after _ = Keeps before after
 
 -- when a refusal comes; the counts are those of the output's failures, before and after
 abbrev pub IsLinesCause : Content → Zone → List ℕ → Request → ℕ → ℕ → Refusal → Type 0
-IsLinesCause f z stop r before after (Words text) = ⊥
-IsLinesCause f z stop r before after (BadValue option) = ⊥
-IsLinesCause f z stop r before after (NotThere path) = ⊥
-IsLinesCause f z stop r before after (Unreadable path) = ⊥
-IsLinesCause f z stop r before after (OverLimit path) = ⊥
-IsLinesCause f z stop r before after (HasErrors path) = ⊥
-IsLinesCause f z stop r before after (NoZone path) = ⊥
 IsLinesCause f z stop r before after UnknownStop = is_stop f stop ≡ false
-IsLinesCause f z stop r before after UnknownRoute = ⊥
-IsLinesCause f z stop r before after ZonesDiffer = ⊥
-IsLinesCause f z stop r before after MergeTooLarge = ⊥
-IsLinesCause f z stop r before after (Unwritable path) = ⊥
 IsLinesCause f z stop r before after UntilBeforeFrom = (is_stop f stop ≡ true) × LiesBefore z r
 IsLinesCause f z stop r before after OutputFailed = Rises before after
 IsLinesCause f z stop r before after OutOfMemory = ⊤
+IsLinesCause f z stop r before after _ = ⊥
 
 -- why no board is opened
 abbrev pub IsOpeningCause : Content → Zone → List ℕ → Request → Refusal → Type 0
-IsOpeningCause f z stop r (Words text) = ⊥
-IsOpeningCause f z stop r (BadValue option) = ⊥
-IsOpeningCause f z stop r (NotThere path) = ⊥
-IsOpeningCause f z stop r (Unreadable path) = ⊥
-IsOpeningCause f z stop r (OverLimit path) = ⊥
-IsOpeningCause f z stop r (HasErrors path) = ⊥
-IsOpeningCause f z stop r (NoZone path) = ⊥
 IsOpeningCause f z stop r UnknownStop = is_stop f stop ≡ false
-IsOpeningCause f z stop r UnknownRoute = ⊥
-IsOpeningCause f z stop r ZonesDiffer = ⊥
-IsOpeningCause f z stop r MergeTooLarge = ⊥
-IsOpeningCause f z stop r (Unwritable path) = ⊥
 IsOpeningCause f z stop r UntilBeforeFrom = (is_stop f stop ≡ true) × LiesBefore z r
-IsOpeningCause f z stop r OutputFailed = ⊥
 IsOpeningCause f z stop r OutOfMemory = ⊤
+IsOpeningCause f z stop r _ = ⊥
 
 -- ---- of a folder and a zone file
 
@@ -115,21 +82,9 @@ PrintsBoard limit held asked before after = Lists IsPage limit held asked before
 
 -- what went out where a refusal came
 abbrev pub EndsBoard : ℕ → Option Store → BoardTexts → Option (List ℕ) → Option (List ℕ) → Refusal → Type 0
-EndsBoard limit held asked before after (Words text) = Keeps before after
-EndsBoard limit held asked before after (BadValue option) = Keeps before after
-EndsBoard limit held asked before after (NotThere path) = Keeps before after
-EndsBoard limit held asked before after (Unreadable path) = Keeps before after
-EndsBoard limit held asked before after (OverLimit path) = Keeps before after
-EndsBoard limit held asked before after (HasErrors path) = Keeps before after
-EndsBoard limit held asked before after (NoZone path) = Keeps before after
-EndsBoard limit held asked before after UnknownStop = Keeps before after
-EndsBoard limit held asked before after UnknownRoute = Keeps before after
-EndsBoard limit held asked before after ZonesDiffer = Keeps before after
-EndsBoard limit held asked before after MergeTooLarge = Keeps before after
-EndsBoard limit held asked before after (Unwritable path) = Keeps before after
-EndsBoard limit held asked before after UntilBeforeFrom = Keeps before after
 EndsBoard limit held asked before after OutputFailed = Lists IsCutShort limit held asked before after
 EndsBoard limit held asked before after OutOfMemory = Keeps before after ⊎ Lists IsStopped limit held asked before after
+EndsBoard limit held asked before after _ = Keeps before after
 
 -- ---- what the parts of the work give
 
@@ -145,21 +100,9 @@ pub record HoldsFeed (limit : ℕ) (held : Option Store) (dir : List ℕ) (feed 
 
 -- why there is no feed of a dataset
 abbrev pub IsFeedCause : Dataset → List ℕ → Refusal → Type 0
-IsFeedCause d dir (Words text) = ⊥
-IsFeedCause d dir (BadValue option) = ⊥
-IsFeedCause d dir (NotThere path) = ⊥
-IsFeedCause d dir (Unreadable path) = ⊥
-IsFeedCause d dir (OverLimit path) = ⊥
 IsFeedCause d dir (HasErrors path) = (path.now ≡ dir) × (Passes d → ⊥)
-IsFeedCause d dir (NoZone path) = ⊥
-IsFeedCause d dir UnknownStop = ⊥
-IsFeedCause d dir UnknownRoute = ⊥
-IsFeedCause d dir ZonesDiffer = ⊥
-IsFeedCause d dir MergeTooLarge = ⊥
-IsFeedCause d dir (Unwritable path) = ⊥
-IsFeedCause d dir UntilBeforeFrom = ⊥
-IsFeedCause d dir OutputFailed = ⊥
 IsFeedCause d dir OutOfMemory = ⊤
+IsFeedCause d dir _ = ⊥
 
 -- the request that values are
 abbrev pub request_of : Values → Request

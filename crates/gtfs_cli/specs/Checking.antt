@@ -9,7 +9,7 @@ use Rattle.gtfs_columns.specs.Problems.{Problem, name_bytes, passes, IsReport}
 use Rattle.gtfs_rules.specs.Report.{report_text}
 use Rattle.gtfs_cli.specs.Running.{HoldsTables}
 use Rattle.gtfs_cli.specs.declared.commands.refusal.Refusal.{Refusal}
-use Rattle.gtfs_cli.specs.declared.commands.refusal.Refusal.TheVariants.{Words, BadValue, NotThere, Unreadable, OverLimit, HasErrors, NoZone, UnknownStop, UnknownRoute, UntilBeforeFrom, ZonesDiffer, MergeTooLarge, Unwritable, OutputFailed, OutOfMemory}
+use Rattle.gtfs_cli.specs.declared.commands.refusal.Refusal.TheVariants.{OutputFailed, OutOfMemory}
 
 -- how many bytes of a problem's line are names or texts of its code
 abbrev pub names_len : Problem → ℕ
@@ -34,18 +34,6 @@ pub record IsReportOf (limit : ℕ) (held : Option Store) (dir : List ℕ) (befo
 
 -- why lines were not sent out; the counts are those of the output's failures, before and after
 abbrev pub IsSendingCause : ℕ → ℕ → Refusal → Type 0
-IsSendingCause before after (Words text) = ⊥
-IsSendingCause before after (BadValue option) = ⊥
-IsSendingCause before after (NotThere path) = ⊥
-IsSendingCause before after (Unreadable path) = ⊥
-IsSendingCause before after (OverLimit path) = ⊥
-IsSendingCause before after (HasErrors path) = ⊥
-IsSendingCause before after (NoZone path) = ⊥
-IsSendingCause before after UnknownStop = ⊥
-IsSendingCause before after UnknownRoute = ⊥
-IsSendingCause before after ZonesDiffer = ⊥
-IsSendingCause before after MergeTooLarge = ⊥
-IsSendingCause before after (Unwritable path) = ⊥
-IsSendingCause before after UntilBeforeFrom = ⊥
 IsSendingCause before after OutputFailed = Rises before after
 IsSendingCause before after OutOfMemory = ⊤
+IsSendingCause before after _ = ⊥

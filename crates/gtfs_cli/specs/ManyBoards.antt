@@ -1,10 +1,10 @@
 -- What `gtfs boards` prints: for each request of a file, in their order, its heading and then the lines of its board.
-use Rattle.std.specs.Prelude.{◌≡◌, ◌⊎◌, ⊤, ℕ, List, [], ◌∷◌, ◌++◌, Option, Some, Result, Ok, Err}
+use Rattle.std.specs.Prelude.{◌≡◌, ◌⊎◌, ⊤, ℕ, List, [], ◌∷◌, ◌++◌, Option, Some, Result, Err, IsOkAnd, IsUtf8}
 use Rattle.std.specs.Io.KnownBytes.{Appends, Keeps}
 use Rattle.gtfs_days.specs.Zone.{zone_origin}
 use Rattle.gtfs_days.specs.declared.zone.Zone.{Zone}
 use Rattle.gtfs_devices.specs.Folder.{Store}
-use Rattle.gtfs_table.specs.Tables.{Dataset}
+use Rattle.gtfs_table.specs.Tables.{without_marks, Dataset}
 use Rattle.gtfs_columns.specs.Problems.{Passes}
 use Rattle.gtfs_rows.specs.Content.{Content}
 use Rattle.gtfs_rows.specs.Reading.{content_of}
@@ -45,7 +45,7 @@ abbrev pub BeginsWhole : Content → Zone → StopRequest → List ℕ → Type 
 BeginsWhole f z q part = (part ≡ []) ⊎ ((lines : List ℕ) × (part ≡ heading_of q.texts ++ lines) × IsTextOf IsStopped f z q lines)
 
 -- the boards of some first requests went out whole, and of the next one this much
-pub record StopsIn (Part : StopRequest → List ℕ → Type 0) (f : Content) (z : Zone) (qs : List StopRequest) (before after : Option (List ℕ)) : Type 0 where
+pub record StopsIn (Part : Content → Zone → StopRequest → List ℕ → Type 0) (f : Content) (z : Zone) (qs : List StopRequest) (before after : Option (List ℕ)) : Type 0 where
   pub done : List StopRequest
   pub next : StopRequest
   pub others : List StopRequest
@@ -53,7 +53,7 @@ pub record StopsIn (Part : StopRequest → List ℕ → Type 0) (f : Content) (z
   pub part : List ℕ
   pub split : qs ≡ done ++ next ∷ others
   pub are_boards : AreBoards f z done text
-  pub is_part : Part next part
+  pub is_part : Part f z next part
   pub out : Appends before after (text ++ part)
 
 -- ---- of a folder, a zone file and a requests' file
@@ -73,28 +73,31 @@ pub record BoardsSetting (limit : ℕ) (held : Option Store) (asked : BoardsText
 abbrev pub requests_at : (limit : ℕ) (held : Option Store) (asked : BoardsTexts) → BoardsSetting limit held asked → Result (List StopRequest) RequestFault
 requests_at limit held asked s = requests_of (content_of s.dataset) (zone_origin s.zone) (times_of asked.interpolate) s.bytes
 
--- no line is refused, and this is so of the requests
-pub record OfRequests (Fact : Content → Zone → List StopRequest → Type 0) (limit : ℕ) (held : Option Store) (asked : BoardsTexts) : Type 0 where
-  pub setting : BoardsSetting limit held asked
-  pub requests : List StopRequest
-  pub accepted : requests_at limit held asked setting ≡ Ok requests
-  pub fact : Fact (content_of setting.dataset) setting.zone requests
-
--- the text of all boards that the words ask for
-abbrev pub IsBoardsText : ℕ → Option Store → BoardsTexts → List ℕ → Type 0
-IsBoardsText limit held asked text = OfRequests (λ f z qs. AreBoards f z qs text) limit held asked
-
--- it went out
-abbrev pub PrintsBoards : ℕ → Option Store → BoardsTexts → Option (List ℕ) → Option (List ℕ) → Type 0
-PrintsBoards limit held asked before after = (text : List ℕ) × IsBoardsText limit held asked text × Appends before after text
+-- no line is refused, and the text of all boards went out
+abbrev pub PrintsRequests : Content → Zone → Result (List StopRequest) RequestFault → Option (List ℕ) → Option (List ℕ) → Type 0
+PrintsRequests f z asked before after = IsOkAnd asked (λ qs. (text : List ℕ) × AreBoards f z qs text × Appends before after text)
 
 -- what went out where a refusal came: a beginning of that text where the output failed, whole lines or nothing where memory ran out, and
 -- else nothing
+abbrev pub EndsRequests : Content → Zone → Result (List StopRequest) RequestFault → Option (List ℕ) → Option (List ℕ) → Refusal → Type 0
+EndsRequests f z asked before after OutputFailed = IsOkAnd asked (λ qs. StopsIn BeginsBoard f z qs before after)
+EndsRequests f z asked before after OutOfMemory = Keeps before after ⊎ IsOkAnd asked (λ qs. StopsIn BeginsWhole f z qs before after)
+EndsRequests f z asked before after _ = Keeps before after
+
+-- the text of all boards that the words ask for went out
+abbrev pub PrintsBoards : ℕ → Option Store → BoardsTexts → Option (List ℕ) → Option (List ℕ) → Type 0
+PrintsBoards limit held asked before after =
+    (s : BoardsSetting limit held asked) × PrintsRequests (content_of s.dataset) s.zone (requests_at limit held asked s) before after
+
+-- no line of the file is refused, and its boards went out so
+abbrev pub StopsInBoards : (Content → Zone → StopRequest → List ℕ → Type 0) → ℕ → Option Store → BoardsTexts → Option (List ℕ) → Option (List ℕ) → Type 0
+StopsInBoards Part limit held asked before after = (s : BoardsSetting limit held asked)
+    × IsOkAnd (requests_at limit held asked s) (λ qs. StopsIn Part (content_of s.dataset) s.zone qs before after)
+
+-- what of it went out where a refusal came
 abbrev pub EndsBoards : ℕ → Option Store → BoardsTexts → Option (List ℕ) → Option (List ℕ) → Refusal → Type 0
-EndsBoards limit held asked before after OutputFailed =
-    OfRequests (λ f z qs. StopsIn (BeginsBoard f z) f z qs before after) limit held asked
-EndsBoards limit held asked before after OutOfMemory =
-    Keeps before after ⊎ OfRequests (λ f z qs. StopsIn (BeginsWhole f z) f z qs before after) limit held asked
+EndsBoards limit held asked before after OutputFailed = StopsInBoards BeginsBoard limit held asked before after
+EndsBoards limit held asked before after OutOfMemory = Keeps before after ⊎ StopsInBoards BeginsWhole limit held asked before after
 EndsBoards limit held asked before after _ = Keeps before after
 
 -- ---- why boards are not printed
@@ -117,6 +120,28 @@ IsBoardsCause limit held asked before after refusal =
     IsReadingCause limit held asked.dir before after refusal
     ⊎ ((HoldsPassing limit held asked.dir × IsZoneCause limit held asked.zone before.folders after.folders refusal)
     ⊎ ((HoldsPassing limit held asked.dir × HoldsSomeZone limit held asked.zone
-        × IsRequestsCause limit held asked.requests before.folders after.folders refusal)
+    × IsRequestsCause limit held asked.requests before.folders after.folders refusal)
     ⊎ (IsLineCause limit held asked refusal
     ⊎ IsSendingCause before.output after.output refusal)))
+
+-- ---- what the parts of the work give
+
+-- the heading and the page of one request went out
+abbrev pub PrintsOne : Content → Zone → StopRequest → Option (List ℕ) → Option (List ℕ) → Type 0
+PrintsOne f z q before after = (page : List ℕ) × IsTextOf IsPage f z q page × Appends before after (heading_of q.texts ++ page)
+
+-- what of it went out where a refusal came
+abbrev pub EndsOne : Content → Zone → StopRequest → Option (List ℕ) → Option (List ℕ) → Refusal → Type 0
+EndsOne f z q before after OutputFailed = (part : List ℕ) × BeginsBoard f z q part × Appends before after part
+EndsOne f z q before after OutOfMemory = (part : List ℕ) × BeginsWhole f z q part × Appends before after part
+EndsOne f z q before after _ = ⊥
+
+-- why the boards of lines are not printed; the counts are those of the output's failures, before and after
+abbrev pub IsRequestsFault : Result (List StopRequest) RequestFault → ℕ → ℕ → Refusal → Type 0
+IsRequestsFault asked before after (Line fault) = asked ≡ Err fault
+IsRequestsFault asked before after refusal = IsSendingCause before after refusal
+
+-- the same, or the bytes of the file of this path are no text
+abbrev pub IsFileFault : List ℕ → List ℕ → Result (List StopRequest) RequestFault → ℕ → ℕ → Refusal → Type 0
+IsFileFault path bytes asked before after (Unreadable named) = (named.now ≡ path) × (IsUtf8 (without_marks bytes) → ⊥)
+IsFileFault path bytes asked before after refusal = IsUtf8 (without_marks bytes) × IsRequestsFault asked before after refusal

@@ -4,8 +4,6 @@ use Rattle.clap.specs.Words.{Text}
 use Rattle.gtfs_days.specs.Service.{is_service_day}
 use Rattle.gtfs_devices.specs.Device.{Rises}
 use Rattle.gtfs_devices.specs.Folder.{Store}
-use Rattle.gtfs_devices.specs.declared.folders.FolderFault.{FolderFault}
-use Rattle.gtfs_devices.specs.declared.folders.FolderFault.TheVariants as faults
 use Rattle.gtfs_words.specs.Words.{AreForHelpOrVersion, AreRefused, BoardTexts}
 use Rattle.gtfs_cli.specs.Running.{first_bad, AsksCheck, AsksFor, AsksMerge, AsksTimetable, EndsBeforeItBegins, Failures, HasValues, HoldsErrors, HoldsFile, HoldsKeptFile, HoldsNoZone, HoldsPassing, LacksFeed, LacksFile, LacksStop, NamesNoFile}
 use Rattle.gtfs_cli.specs.Merges.{IsMergeCause}
@@ -13,7 +11,15 @@ use Rattle.gtfs_cli.specs.Timetables.{IsTimetableCause}
 use Rattle.gtfs_cli.specs.declared.commands.moments.Moment.{Moment}
 use Rattle.gtfs_cli.specs.declared.commands.moments.Moment.TheVariants.{Instant, ServiceDay}
 use Rattle.gtfs_cli.specs.declared.commands.refusal.Refusal.{Refusal}
-use Rattle.gtfs_cli.specs.declared.commands.refusal.Refusal.TheVariants.{Words, BadValue, NotThere, Unreadable, OverLimit, HasErrors, NoZone, UnknownStop, UnknownRoute, UntilBeforeFrom, ZonesDiffer, MergeTooLarge, Unwritable, OutputFailed, OutOfMemory}
+use Rattle.gtfs_cli.specs.declared.commands.refusal.Refusal.TheVariants.{Words, BadValue, NotThere, Unreadable, OverLimit, HasErrors, NoZone, UnknownStop, UnknownRoute, UntilBeforeFrom, ZonesDiffer, MergeTooLarge, Unwritable, Line, OutputFailed, OutOfMemory}
+use Rattle.gtfs_cli.specs.declared.commands.request_fault.RequestFault.{RequestFault}
+use Rattle.gtfs_cli.specs.declared.commands.request_fault.RequestFault.TheVariants as requests
+
+-- the status for the line of a requests' file that is at fault
+abbrev pub request_status : RequestFault → ℕ
+request_status (requests.BadRequest number) = 2
+request_status (requests.UnknownStop number) = 1
+request_status (requests.UntilBeforeFrom number) = 2
 
 abbrev pub status_of : Refusal → ℕ
 status_of (Words text) = 2
@@ -29,6 +35,7 @@ status_of ZonesDiffer = 1
 status_of MergeTooLarge = 1
 status_of (Unwritable path) = 3
 status_of UntilBeforeFrom = 2
+status_of (Line fault) = request_status fault
 status_of OutputFailed = 3
 status_of OutOfMemory = 4
 
@@ -49,7 +56,6 @@ UnlessGrave (Err refusal) P = status_of refusal ≤ 2 → P
 -- when a refusal comes where the words ask for a board: that it names the option or the path that is at fault, and that all that is
 -- judged before was found good
 abbrev pub IsCause : ℕ → Option Store → BoardTexts → Failures → Failures → Refusal → Type 0
-IsCause limit held asked before after (Words text) = ⊥
 IsCause limit held asked before after (BadValue option) = first_bad asked ≡ Some option.now
 IsCause limit held asked before after (NotThere path) = HasValues asked × (
     ((path.now ≡ asked.dir) × LacksFeed held asked.dir)
@@ -64,68 +70,36 @@ IsCause limit held asked before after (HasErrors path) = HasValues asked × (pat
 IsCause limit held asked before after (NoZone path) =
     HasValues asked × (path.now ≡ asked.zone) × HoldsPassing limit held asked.dir × HoldsNoZone limit held asked.zone
 IsCause limit held asked before after UnknownStop = LacksStop limit held asked
-IsCause limit held asked before after UnknownRoute = ⊥
-IsCause limit held asked before after ZonesDiffer = ⊥
-IsCause limit held asked before after MergeTooLarge = ⊥
-IsCause limit held asked before after (Unwritable path) = ⊥
 IsCause limit held asked before after UntilBeforeFrom = EndsBeforeItBegins limit held asked
 IsCause limit held asked before after OutputFailed = Rises before.output after.output
 IsCause limit held asked before after OutOfMemory = ⊤
+IsCause limit held asked before after _ = ⊥
 
 -- when a refusal comes where the folder is to be checked, and that it names that folder
 abbrev pub IsCheckCause : ℕ → Option Store → List ℕ → Failures → Failures → Refusal → Type 0
-IsCheckCause limit held dir before after (Words text) = ⊥
-IsCheckCause limit held dir before after (BadValue option) = ⊥
 IsCheckCause limit held dir before after (NotThere path) = (path.now ≡ dir) × LacksFeed held dir
 IsCheckCause limit held dir before after (Unreadable path) = (path.now ≡ dir) × Rises before.folders after.folders
 IsCheckCause limit held dir before after (OverLimit path) = (path.now ≡ dir) × HoldsKeptFile limit held dir
-IsCheckCause limit held dir before after (HasErrors path) = ⊥
-IsCheckCause limit held dir before after (NoZone path) = ⊥
-IsCheckCause limit held dir before after UnknownStop = ⊥
-IsCheckCause limit held dir before after UnknownRoute = ⊥
-IsCheckCause limit held dir before after ZonesDiffer = ⊥
-IsCheckCause limit held dir before after MergeTooLarge = ⊥
-IsCheckCause limit held dir before after (Unwritable path) = ⊥
-IsCheckCause limit held dir before after UntilBeforeFrom = ⊥
 IsCheckCause limit held dir before after OutputFailed = Rises before.output after.output
 IsCheckCause limit held dir before after OutOfMemory = ⊤
+IsCheckCause limit held dir before after _ = ⊥
 
 -- when a refusal comes where the feed of a folder is to be read, and that it names that folder
 abbrev pub IsReadingCause : ℕ → Option Store → List ℕ → Failures → Failures → Refusal → Type 0
-IsReadingCause limit held dir before after (Words text) = ⊥
-IsReadingCause limit held dir before after (BadValue option) = ⊥
 IsReadingCause limit held dir before after (NotThere path) = (path.now ≡ dir) × LacksFeed held dir
 IsReadingCause limit held dir before after (Unreadable path) = (path.now ≡ dir) × Rises before.folders after.folders
 IsReadingCause limit held dir before after (OverLimit path) = (path.now ≡ dir) × HoldsKeptFile limit held dir
 IsReadingCause limit held dir before after (HasErrors path) = (path.now ≡ dir) × HoldsErrors limit held dir
-IsReadingCause limit held dir before after (NoZone path) = ⊥
-IsReadingCause limit held dir before after UnknownStop = ⊥
-IsReadingCause limit held dir before after UnknownRoute = ⊥
-IsReadingCause limit held dir before after ZonesDiffer = ⊥
-IsReadingCause limit held dir before after MergeTooLarge = ⊥
-IsReadingCause limit held dir before after (Unwritable path) = ⊥
-IsReadingCause limit held dir before after UntilBeforeFrom = ⊥
-IsReadingCause limit held dir before after OutputFailed = ⊥
 IsReadingCause limit held dir before after OutOfMemory = ⊤
+IsReadingCause limit held dir before after _ = ⊥
 
 -- when a refusal comes for words alone, which ask for help or the version, or are no usage; the counts are those of the output's failures,
 -- before and after
 abbrev pub IsCauseInWords : List Text → ℕ → ℕ → Refusal → Type 0
 IsCauseInWords texts before after (Words text) = AreRefused texts
-IsCauseInWords texts before after (BadValue option) = ⊥
-IsCauseInWords texts before after (NotThere path) = ⊥
-IsCauseInWords texts before after (Unreadable path) = ⊥
-IsCauseInWords texts before after (OverLimit path) = ⊥
-IsCauseInWords texts before after (HasErrors path) = ⊥
-IsCauseInWords texts before after (NoZone path) = ⊥
-IsCauseInWords texts before after UnknownStop = ⊥
-IsCauseInWords texts before after UnknownRoute = ⊥
-IsCauseInWords texts before after ZonesDiffer = ⊥
-IsCauseInWords texts before after MergeTooLarge = ⊥
-IsCauseInWords texts before after (Unwritable path) = ⊥
-IsCauseInWords texts before after UntilBeforeFrom = ⊥
 IsCauseInWords texts before after OutputFailed = AreForHelpOrVersion texts × Rises before after
 IsCauseInWords texts before after OutOfMemory = ⊤
+IsCauseInWords texts before after _ = ⊥
 
 -- when a refusal comes
 abbrev pub IsCauseOf : List Text → ℕ → Option Store → Failures → Failures → Refusal → Type 0
@@ -135,14 +109,6 @@ IsCauseOf texts limit held before after refusal =
     ⊎ (AsksTimetable texts (λ asked. IsTimetableCause limit held asked before after refusal)
     ⊎ AsksMerge texts (λ asked. IsMergeCause limit held asked before after refusal))))
 
--- why the file of a path is not read
-abbrev pub IsFileCause : ℕ → Option Store → List ℕ → Failures → Failures → FolderFault → Type 0
-IsFileCause limit held path before after faults.Read = Rises before.folders after.folders
-IsFileCause limit held path before after faults.TooLarge = HoldsFile limit held path
-IsFileCause limit held path before after faults.OutOfMemory = ⊤
-IsFileCause limit held path before after faults.NoFolder = LacksFile held path
-IsFileCause limit held path before after faults.Write = ⊥
-
 -- an instant of at most twelve digits, or a service day
 abbrev pub IsSound : Moment → Type 0
 IsSound (Instant x) = unsigned_abs x < 10 ^ 12
@@ -150,18 +116,5 @@ IsSound (ServiceDay d) = is_service_day d ≡ true
 
 -- the refusal is for the first option whose value is bad
 abbrev pub IsFirstBad : BoardTexts → Refusal → Type 0
-IsFirstBad asked (Words text) = ⊥
 IsFirstBad asked (BadValue option) = first_bad asked ≡ Some option.now
-IsFirstBad asked (NotThere path) = ⊥
-IsFirstBad asked (Unreadable path) = ⊥
-IsFirstBad asked (OverLimit path) = ⊥
-IsFirstBad asked (HasErrors path) = ⊥
-IsFirstBad asked (NoZone path) = ⊥
-IsFirstBad asked UnknownStop = ⊥
-IsFirstBad asked UnknownRoute = ⊥
-IsFirstBad asked ZonesDiffer = ⊥
-IsFirstBad asked MergeTooLarge = ⊥
-IsFirstBad asked (Unwritable path) = ⊥
-IsFirstBad asked UntilBeforeFrom = ⊥
-IsFirstBad asked OutputFailed = ⊥
-IsFirstBad asked OutOfMemory = ⊥
+IsFirstBad asked _ = ⊥

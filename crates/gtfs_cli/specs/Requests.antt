@@ -11,9 +11,8 @@ use Rattle.gtfs_rows.specs.Departures.{Origins}
 use Rattle.gtfs_board.specs.Board.{is_stop}
 use Rattle.gtfs_times.specs.declared.times.Times.{Times}
 use Rattle.gtfs_cli.specs.Running.{after_of, instant_at, limit_of, moment_of, Request}
-use Rattle.gtfs_cli.specs.declared.commands.requests.RequestFault.{RequestFault}
-use Rattle.gtfs_cli.specs.declared.commands.requests.RequestTexts.{RequestTexts as Lent}
-use Rattle.gtfs_cli.specs.declared.commands.requests.RequestFault.TheVariants.{BadRequest, UnknownStop, UntilBeforeFrom}
+use Rattle.gtfs_cli.specs.declared.commands.request_fault.RequestFault.{RequestFault}
+use Rattle.gtfs_cli.specs.declared.commands.request_fault.RequestFault.TheVariants.{BadRequest, UnknownStop, UntilBeforeFrom}
 
 -- ---- lines and fields
 
@@ -32,16 +31,6 @@ pub record RequestTexts : Type 0 where
   pub until : List ℕ
   pub limit : Option (List ℕ)
   pub after : Option (List ℕ)
-
--- those that the code has of a line
-abbrev pub request_texts_of : Lent → RequestTexts
-request_texts_of t = record {
-  stop = t.stop.now;
-  from = t.from.now;
-  until = t.until.now;
-  limit = option_map (λ x. x.now) t.limit;
-  after = option_map (λ x. x.now) t.after;
-}
 
 -- an empty text is none
 abbrev pub text_if_any : List ℕ → Option (List ℕ)

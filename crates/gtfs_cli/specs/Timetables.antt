@@ -15,7 +15,7 @@ use Rattle.gtfs_cli.specs.Running.{Failures, HoldsErrors, HoldsKeptFile, HoldsTa
 use Rattle.gtfs_cli.specs.Sending.{SendsBeginning}
 use Rattle.gtfs_cli.specs.TimetableOptions.{first_bad_timetable, HasTimetableValues, IsTimetableRequest, TimetableRequest}
 use Rattle.gtfs_cli.specs.declared.commands.refusal.Refusal.{Refusal}
-use Rattle.gtfs_cli.specs.declared.commands.refusal.Refusal.TheVariants.{Words, BadValue, NotThere, Unreadable, OverLimit, HasErrors, NoZone, UnknownStop, UnknownRoute, UntilBeforeFrom, ZonesDiffer, MergeTooLarge, Unwritable, OutputFailed, OutOfMemory}
+use Rattle.gtfs_cli.specs.declared.commands.refusal.Refusal.TheVariants.{BadValue, NotThere, Unreadable, OverLimit, HasErrors, UnknownRoute, OutputFailed, OutOfMemory}
 use Rattle.gtfs_cli.specs.declared.commands.timetable_values.TimetableValues.{TimetableValues}
 
 -- ---- the values of the options
@@ -61,79 +61,37 @@ BeginsTimetable limit held asked before after = (text : List ℕ) × IsTimetable
 -- what went out where a refusal came: a beginning of the text where the output failed, the same or nothing where memory ran out, and else
 -- nothing
 abbrev pub EndsTimetable : ℕ → Option Store → TimetableTexts → Option (List ℕ) → Option (List ℕ) → Refusal → Type 0
-EndsTimetable limit held asked before after (Words text) = Keeps before after
-EndsTimetable limit held asked before after (BadValue option) = Keeps before after
-EndsTimetable limit held asked before after (NotThere path) = Keeps before after
-EndsTimetable limit held asked before after (Unreadable path) = Keeps before after
-EndsTimetable limit held asked before after (OverLimit path) = Keeps before after
-EndsTimetable limit held asked before after (HasErrors path) = Keeps before after
-EndsTimetable limit held asked before after (NoZone path) = Keeps before after
-EndsTimetable limit held asked before after UnknownStop = Keeps before after
-EndsTimetable limit held asked before after UnknownRoute = Keeps before after
-EndsTimetable limit held asked before after ZonesDiffer = Keeps before after
-EndsTimetable limit held asked before after MergeTooLarge = Keeps before after
-EndsTimetable limit held asked before after (Unwritable path) = Keeps before after
-EndsTimetable limit held asked before after UntilBeforeFrom = Keeps before after
 EndsTimetable limit held asked before after OutputFailed = BeginsTimetable limit held asked before after
 EndsTimetable limit held asked before after OutOfMemory = Keeps before after ⊎ BeginsTimetable limit held asked before after
+EndsTimetable limit held asked before after _ = Keeps before after
 
 -- when a refusal comes where the words ask for a timetable: that it names the option or the path that is at fault, and that all that is
 -- judged before was found good
 abbrev pub IsTimetableCause : ℕ → Option Store → TimetableTexts → Failures → Failures → Refusal → Type 0
-IsTimetableCause limit held asked before after (Words text) = ⊥
 IsTimetableCause limit held asked before after (BadValue option) = first_bad_timetable asked ≡ Some option.now
 IsTimetableCause limit held asked before after (NotThere path) = HasTimetableValues asked × (path.now ≡ asked.dir) × LacksFeed held asked.dir
 IsTimetableCause limit held asked before after (Unreadable path) =
     HasTimetableValues asked × (path.now ≡ asked.dir) × Rises before.folders after.folders
 IsTimetableCause limit held asked before after (OverLimit path) = HasTimetableValues asked × (path.now ≡ asked.dir) × HoldsKeptFile limit held asked.dir
 IsTimetableCause limit held asked before after (HasErrors path) = HasTimetableValues asked × (path.now ≡ asked.dir) × HoldsErrors limit held asked.dir
-IsTimetableCause limit held asked before after (NoZone path) = ⊥
-IsTimetableCause limit held asked before after UnknownStop = ⊥
 IsTimetableCause limit held asked before after UnknownRoute = LacksRoute limit held asked
-IsTimetableCause limit held asked before after ZonesDiffer = ⊥
-IsTimetableCause limit held asked before after MergeTooLarge = ⊥
-IsTimetableCause limit held asked before after (Unwritable path) = ⊥
-IsTimetableCause limit held asked before after UntilBeforeFrom = ⊥
 IsTimetableCause limit held asked before after OutputFailed = Rises before.output after.output
 IsTimetableCause limit held asked before after OutOfMemory = ⊤
+IsTimetableCause limit held asked before after _ = ⊥
 
 -- ---- what the parts of the work give
 
 -- the refusal is for the first option whose value is bad
 abbrev pub IsFirstBadTimetable : TimetableTexts → Refusal → Type 0
-IsFirstBadTimetable asked (Words text) = ⊥
 IsFirstBadTimetable asked (BadValue option) = first_bad_timetable asked ≡ Some option.now
-IsFirstBadTimetable asked (NotThere path) = ⊥
-IsFirstBadTimetable asked (Unreadable path) = ⊥
-IsFirstBadTimetable asked (OverLimit path) = ⊥
-IsFirstBadTimetable asked (HasErrors path) = ⊥
-IsFirstBadTimetable asked (NoZone path) = ⊥
-IsFirstBadTimetable asked UnknownStop = ⊥
-IsFirstBadTimetable asked UnknownRoute = ⊥
-IsFirstBadTimetable asked ZonesDiffer = ⊥
-IsFirstBadTimetable asked MergeTooLarge = ⊥
-IsFirstBadTimetable asked (Unwritable path) = ⊥
-IsFirstBadTimetable asked UntilBeforeFrom = ⊥
-IsFirstBadTimetable asked OutputFailed = ⊥
-IsFirstBadTimetable asked OutOfMemory = ⊥
+IsFirstBadTimetable asked _ = ⊥
 
 -- why the sheets of a feed are not sent out; the counts are those of the output's failures, before and after
 abbrev pub IsSheetsCause : Content → List ℕ → ℕ → ℕ → Refusal → Type 0
-IsSheetsCause f route before after (Words text) = ⊥
-IsSheetsCause f route before after (BadValue option) = ⊥
-IsSheetsCause f route before after (NotThere path) = ⊥
-IsSheetsCause f route before after (Unreadable path) = ⊥
-IsSheetsCause f route before after (OverLimit path) = ⊥
-IsSheetsCause f route before after (HasErrors path) = ⊥
-IsSheetsCause f route before after (NoZone path) = ⊥
-IsSheetsCause f route before after UnknownStop = ⊥
 IsSheetsCause f route before after UnknownRoute = is_route f route ≡ false
-IsSheetsCause f route before after ZonesDiffer = ⊥
-IsSheetsCause f route before after MergeTooLarge = ⊥
-IsSheetsCause f route before after (Unwritable path) = ⊥
-IsSheetsCause f route before after UntilBeforeFrom = ⊥
 IsSheetsCause f route before after OutputFailed = Rises before after
 IsSheetsCause f route before after OutOfMemory = ⊤
+IsSheetsCause f route before after _ = ⊥
 
 -- a beginning of the text of the sheets of a feed went out, of a route that it has
 abbrev pub BeginsSheets : Content → List ℕ → TimetableRequest → Option (List ℕ) → Option (List ℕ) → Type 0
@@ -141,18 +99,6 @@ BeginsSheets f route r before after = (is_route f route ≡ true) × SendsBeginn
 
 -- what of the sheets of a feed went out where a refusal came
 abbrev pub EndsSheets : Content → List ℕ → TimetableRequest → Option (List ℕ) → Option (List ℕ) → Refusal → Type 0
-EndsSheets f route r before after (Words text) = Keeps before after
-EndsSheets f route r before after (BadValue option) = Keeps before after
-EndsSheets f route r before after (NotThere path) = Keeps before after
-EndsSheets f route r before after (Unreadable path) = Keeps before after
-EndsSheets f route r before after (OverLimit path) = Keeps before after
-EndsSheets f route r before after (HasErrors path) = Keeps before after
-EndsSheets f route r before after (NoZone path) = Keeps before after
-EndsSheets f route r before after UnknownStop = Keeps before after
-EndsSheets f route r before after UnknownRoute = Keeps before after
-EndsSheets f route r before after ZonesDiffer = Keeps before after
-EndsSheets f route r before after MergeTooLarge = Keeps before after
-EndsSheets f route r before after (Unwritable path) = Keeps before after
-EndsSheets f route r before after UntilBeforeFrom = Keeps before after
 EndsSheets f route r before after OutputFailed = BeginsSheets f route r before after
 EndsSheets f route r before after OutOfMemory = Keeps before after ⊎ BeginsSheets f route r before after
+EndsSheets f route r before after _ = Keeps before after

@@ -17,6 +17,7 @@ ghost use Rattle.gtfs_cli.specs.UntakenWords.{text_for_output, IsRefusedBy};
 ghost use Rattle.gtfs_cli.specs.declared.commands.refusal.Refusal.TheVariants.{OutOfMemory};
 
 mod board;
+mod boards;
 mod check;
 mod feed;
 mod files;
@@ -28,6 +29,8 @@ mod moments;
 mod names;
 mod paths;
 mod refusal;
+mod request_fault;
+mod request_lines;
 mod requests;
 mod send;
 mod times;
@@ -173,6 +176,9 @@ fn command<'w, S: AsStr, F: Folders, O: Out>(
         Ok(Command::Check(dir)) => check::print_report(alloc, dir, folders, out),
         Ok(Command::Board(given)) => {
             answer(board::print_board(alloc, random, &given, folders, out))
+        }
+        Ok(Command::Boards(given)) => {
+            answer(boards::print_boards(alloc, random, &given, folders, out))
         }
         Ok(Command::Timetable(given)) => {
             answer(timetable::print_timetable(alloc, random, &given, folders, out))

@@ -68,14 +68,7 @@ fn boards_have_all_that_is_given(rt: HostRuntime) -> Result<(), Fail> {
 
 #[test]
 fn boards_may_lack_the_flag(rt: HostRuntime) -> Result<(), Fail> {
-    let words = [
-        "gtfs",
-        "boards",
-        "f1",
-        "--zone=",
-        "--requests",
-        "r1",
-    ];
+    let words = ["gtfs", "boards", "f1", "--zone=", "--requests", "r1"];
     let Ok(Command::Boards(boards)) = read_words(rt.alloc(), &words) else {
         return Err("no boards".into());
     };

@@ -1,9 +1,9 @@
 ghost use Rattle.std.specs.Prelude.{◌≡◌, ◌<◌, ◌≤◌, ℕ, length, Option, IfOk, IfErr};
 ghost use Rattle.gtfs_devices.specs.Folder.{Store};
 ghost use Rattle.gtfs_table.specs.Reading.{HoldsDataset, RefusesDataset};
-ghost use Rattle.gtfs_cli.specs.FileRead.{IsPathCause};
+ghost use Rattle.gtfs_cli.specs.FileRead.{IsFileCause, IsPathCause};
 ghost use Rattle.gtfs_cli.specs.Running.{Failures, HoldsTables};
-ghost use Rattle.gtfs_cli.specs.Refusals.{IsCheckCause, IsFileCause, IsGrave, UnlessGrave};
+ghost use Rattle.gtfs_cli.specs.Refusals.{IsCheckCause, IsGrave, UnlessGrave};
 
 use crate::commands::refusal::Refusal;
 use gtfs_table::{FolderFault, Folders, Tables};

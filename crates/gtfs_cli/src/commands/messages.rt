@@ -9,6 +9,7 @@ ghost use Rattle.gtfs_cli.specs.Sending.{SendsBeginning};
 
 use crate::commands::refusal::Refusal;
 use gtfs_table::{Out, OutFault, write_text};
+use itoa::Buffer;
 
 impl Refusal<'_> {
     // Writes what is told of the refusal: `clap`'s text, or a line that begins `gtfs: `. It takes no memory.
@@ -21,6 +22,9 @@ impl Refusal<'_> {
     {
         match self {
             Refusal::Words(text) => write_text(err, text.as_bytes()),
+            Refusal::Line(fault) => {
+                write_line(err, fault.text(), Buffer::new().format(fault.line()))
+            }
             _ => {
                 let (first, second) = self.line_texts();
                 write_line(err, first, second)
@@ -28,12 +32,13 @@ impl Refusal<'_> {
         }
     }
 
-    // The two texts of the line, after `gtfs: `. For refused words `clap`'s text stands in place of a line.
+    // The two texts of the line, after `gtfs: `, where neither is made: for refused words `clap`'s text stands in place of a line,
+    // and the number of a line of a requests' file is written by `write`.
     fn line_texts(&self) -> (&str, &str)
         ensures { HasLine self.now result.0.now result.1.now }
     {
         match self {
-            Refusal::Words(_) => ("", ""),
+            Refusal::Words(_) | Refusal::Line(_) => ("", ""),
             Refusal::BadValue(option) => ("bad value of ", option),
             Refusal::NotThere(path) => (path, " is not there"),
             Refusal::Unreadable(path) => (path, " cannot be read"),

@@ -1,6 +1,7 @@
 ghost use Rattle.std.specs.Prelude.{◌≡◌};
 ghost use Rattle.gtfs_cli.specs.Refusals.{status_of};
 
+use crate::commands::request_fault::RequestFault;
 use gtfs_field::OutOfMemory;
 use gtfs_table::OutFault;
 
@@ -27,6 +28,8 @@ pub(super) enum Refusal<'w> {
     UnknownRoute,
     // The board would end before it begins.
     UntilBeforeFrom,
+    // A line of the requests' file is at fault.
+    Line(RequestFault),
     // The zones of the feeds that are to be merged have different names.
     ZonesDiffer,
     // Some file of the merged feed would be over the limit.
@@ -79,6 +82,7 @@ impl Refusal<'_> {
             | Refusal::NoZone(_)
             | Refusal::Unwritable(_)
             | Refusal::OutputFailed => 3,
+            Refusal::Line(fault) => fault.status(),
             Refusal::OutOfMemory => 4,
         }
     }

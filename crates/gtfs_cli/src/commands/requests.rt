@@ -1,29 +1,20 @@
-ghost use Rattle.std.specs.Prelude.{◌≡◌, IfOk, IfSome, int_lt, option_map, slice_get};
+ghost use Rattle.std.specs.Prelude.{◌≡◌, map, IfOk, IfSome, int_lt, option_map, slice_get};
 ghost use Rattle.std.specs.Option.{option_and_then};
 ghost use Rattle.gtfs_days.specs.Zone.{zone_origin};
 ghost use Rattle.gtfs_rows.specs.Views.{content_of_parts as content_of};
+ghost use Rattle.gtfs_cli.specs.LentRequests.{request_texts_of, stop_request_of};
 ghost use Rattle.gtfs_cli.specs.Boards.{request_of};
 ghost use Rattle.gtfs_cli.specs.Refusals.{IsSound};
-ghost use Rattle.gtfs_cli.specs.Requests.{fault_in, fields_of, judged, request_from, request_texts, request_texts_of, stop_request, text_if_any};
+ghost use Rattle.gtfs_cli.specs.Requests.{fault_in, fields_of, judged, numbered_from, request_from, request_texts, requests_in, stop_request, text_if_any};
 ghost use Rattle.gtfs_cli.specs.Running.{instant_at};
 
 use crate::commands::moments::read_moment;
+use crate::commands::request_fault::RequestFault;
 use crate::commands::values::{Values, read_after, read_limit};
 use gtfs_board::{Feed, Times};
 use gtfs_days::Zone;
 use gtfs_field::OutOfMemory;
 use std::alloc::Global;
-
-// What is the matter with the first line of a requests' file that is refused, with the number of the line, from 1.
-#[derive(Clone, Copy, Debug, PartialEq, Eq)]
-pub(super) enum RequestFault {
-    // It has too few or too many fields, or a bad value.
-    BadRequest(usize),
-    // The feed has no stop of the id.
-    UnknownStop(usize),
-    // The board would end before it begins.
-    UntilBeforeFrom(usize),
-}
 
 // The texts of a request, as they stand in its line.
 #[derive(Clone, Copy)]
@@ -37,21 +28,29 @@ pub(super) struct RequestTexts<'w> {
     pub(super) after: Option<&'w str>,
 }
 
+// A board that a line asks for.
+#[derive(Clone, Copy)]
+pub(super) struct LineRequest<'w> {
+    pub(super) texts: RequestTexts<'w>,
+    pub(super) values: Values<'w>,
+}
+
 // What is the matter with the first line that is refused, if any is.
 pub(super) fn first_fault(
     alloc: Global,
     feed: &Feed,
     zone: &Zone,
-    text: &str,
+    lines: &[&str],
     times: Times,
-) -> Result<Option<RequestFault>, OutOfMemory> {
-    let mut number = 0;
-    for line in text.lines() {
-        number += 1;
+) -> Result<Option<RequestFault>, OutOfMemory>
+    ensures { IfOk result (λ fault. fault ≡ fault_in (requests_in (content_of feed.now)
+        (zone_origin zone.now) times (numbered_from 1 (map (λ l. l.now) lines.now)))) }
+{
+    for (index, line) in lines.iter().enumerate() {
         if line.is_empty() {
             continue;
         }
-        let fault = line_fault(alloc, feed, zone, number, line, times)?;
+        let fault = line_fault(alloc, feed, zone, index + 1, line, times)?;
         if fault.is_some() {
             return Ok(fault);
         }
@@ -71,16 +70,13 @@ fn line_fault(
     ensures { IfOk result (λ fault. fault ≡ fault_in (judged (content_of feed.now)
         (zone_origin zone.now) number (stop_request times line.now))) }
 {
-    let Some(texts) = read_texts(line) else {
+    let Some(request) = read_request(line, times) else {
         return Ok(Some(RequestFault::BadRequest(number)));
     };
-    let Some(values) = read_request_values(&texts, times) else {
-        return Ok(Some(RequestFault::BadRequest(number)));
-    };
-    if feed.stop(texts.stop).is_none() {
+    if feed.stop(request.texts.stop).is_none() {
         return Ok(Some(RequestFault::UnknownStop(number)));
     }
-    if lies_before(alloc, zone, &values)? {
+    if lies_before(alloc, zone, &request.values)? {
         return Ok(Some(RequestFault::UntilBeforeFrom(number)));
     }
     Ok(None)
@@ -99,8 +95,23 @@ fn lies_before(alloc: Global, zone: &Zone, values: &Values<'_>) -> Result<bool, 
     Ok(until < from)
 }
 
+// What a line asks for. None where it has too few or too many fields, or a bad value, so also where it is empty.
+pub(super) fn read_request<'w>(line: &'w str, times: Times) -> Option<LineRequest<'w>>
+    ensures request { option_map stop_request_of result ≡ stop_request times line.now }
+    ensures from { IfSome result (λ q. IsSound q.values.from) }
+    ensures until { IfSome result (λ q. IsSound q.values.until) }
+{
+    let Some(texts) = read_texts(line) else {
+        return None;
+    };
+    let Some(values) = read_request_values(&texts, times) else {
+        return None;
+    };
+    Some(LineRequest { texts, values })
+}
+
 // The values of the texts of a request. None where one is bad.
-pub(super) fn read_request_values<'w>(texts: &RequestTexts<'w>, times: Times) -> Option<Values<'w>>
+fn read_request_values<'w>(texts: &RequestTexts<'w>, times: Times) -> Option<Values<'w>>
     ensures values { option_map request_of result ≡ request_from times (request_texts_of texts.now) }
     ensures from { IfSome result (λ v. IsSound v.from) }
     ensures until { IfSome result (λ v. IsSound v.until) }
@@ -127,7 +138,7 @@ pub(super) fn read_request_values<'w>(texts: &RequestTexts<'w>, times: Times) ->
 }
 
 // The texts of a line of three to five fields, which stand between tabs.
-pub(super) fn read_texts<'w>(line: &'w str) -> Option<RequestTexts<'w>>
+fn read_texts<'w>(line: &'w str) -> Option<RequestTexts<'w>>
     ensures { option_map request_texts_of result ≡ request_texts line.now }
 {
     if field(line, 5).is_some() {

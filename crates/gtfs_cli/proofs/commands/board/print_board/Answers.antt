@@ -4,9 +4,11 @@ use Rattle.gtfs_table.proofs.StoreFacts.{on_ok-map}
 use Rattle.gtfs_board.specs.Page.{IsPage}
 use Rattle.gtfs_cli.specs.Boards.{EndsBoard}
 use Rattle.gtfs_words.specs.Words.{texts_of}
-use Rattle.gtfs_cli.specs.Running.{Failures, HoldsPassing, HoldsZone}
+use Rattle.gtfs_cli.specs.FileRead.{IsZoneCause}
+use Rattle.gtfs_cli.specs.Running.{Failures, HoldsZone}
 use Rattle.gtfs_cli.specs.Refusals.{IsCause}
 use Rattle.gtfs_cli.proofs.Endings.{board-cause, told-up}
+use Rattle.gtfs_cli.proofs.FilesRead.{zone-cause}
 use Rattle.gtfs_cli.proofs.Gravely.{of-any, passed-up, unless-then}
 use Rattle.gtfs_cli.proofs.Printed.{cause-of, ends-of, first-bad-cause, first-bad-ends, has-passing, has-values, kept, lists-of, moved, none-out}
 use Rattle.gtfs_cli.proofs.commands.board.print_board.Goals as goal
@@ -72,9 +74,10 @@ returns-in_err-zone-clause-refused g c =
     let after : Failures = record { folders = y; output = g.O.Out.failure_count c.args.out.now } in
     let r = c.in_err-zone.field-0.0 in
     told-up c.from_residual-in_err-zone.result r (IsCause limit held asked before after) c.from_residual-in_err-zone.ensures.1
-    (moved (λ l h. HoldsPassing l h asked.dir → IsCause l h asked before after r) _ _ _ _ c.read_feed.ensures.same_limit c.read_feed.ensures.unchanged
-    (c.in_err-zone.ensures.refused before after c.read_feed.ensures.grows (same y) (has-values asked c.in_ok-values.values c.in_ok-values.ensures.read))
-    (has-passing limit held asked.dir c.in_ok-feed.feed c.in_ok-feed.ensures.read))
+    (zone-cause limit held asked before after r (has-values asked c.in_ok-values.values c.in_ok-values.ensures.read)
+    (has-passing limit held asked.dir c.in_ok-feed.feed c.in_ok-feed.ensures.read)
+    (moved (λ l h. IsZoneCause l h asked.zone before.folders y r) _ _ _ _ c.read_feed.ensures.same_limit c.read_feed.ensures.unchanged
+    (c.in_err-zone.ensures.refused before.folders y c.read_feed.ensures.grows (same y))))
 
 pub returns-in_err-zone-clause-cut_short : goal.returns-in_err-zone-clause-cut_short
 returns-in_err-zone-clause-cut_short g c =
@@ -87,10 +90,10 @@ returns-in_err-zone-clause-cut_short g c =
     let r = c.in_err-zone.field-0.0 in
     told-up c.from_residual-in_err-zone.result r (EndsBoard limit held asked told told) c.from_residual-in_err-zone.ensures.1
     (none-out limit held asked x y r told told
-    (λ before after first last. moved (λ l h. HoldsPassing l h asked.dir → IsCause l h asked before after r) _ _ _ _
-    c.read_feed.ensures.same_limit c.read_feed.ensures.unchanged
-    (c.in_err-zone.ensures.refused before after first last (has-values asked c.in_ok-values.values c.in_ok-values.ensures.read))
-    (has-passing limit held asked.dir c.in_ok-feed.feed c.in_ok-feed.ensures.read))
+    (λ before after first last. zone-cause limit held asked before after r (has-values asked c.in_ok-values.values c.in_ok-values.ensures.read)
+    (has-passing limit held asked.dir c.in_ok-feed.feed c.in_ok-feed.ensures.read)
+    (moved (λ l h. IsZoneCause l h asked.zone before.folders after.folders r) _ _ _ _ c.read_feed.ensures.same_limit c.read_feed.ensures.unchanged
+    (c.in_err-zone.ensures.refused before.folders after.folders first last)))
     (kept told))
 
 pub returns-clause-printed : goal.returns-clause-printed
