@@ -9,7 +9,7 @@ use Rattle.gtfs_days.specs.declared.zone.Zone.{Zone}
 use Rattle.gtfs_days.specs.Zone.{zone_origin}
 use Rattle.gtfs_rows.specs.Content.{Content}
 use Rattle.gtfs_board.specs.Lines.{Listed}
-use Rattle.gtfs_board.specs.Page.{IsCutShort, IsPage, IsStopped}
+use Rattle.gtfs_board.specs.Page.{AreWritten, IsCutShort, IsPage, IsStopped}
 use Rattle.gtfs_times.specs.declared.times.Times.{Times}
 use Rattle.gtfs_cli.specs.Boards.{ListsBoard, OfBoard}
 use Rattle.gtfs_cli.specs.ManyBoards.{AreBoards, BeginsBoard, BeginsWhole, EndsOne, EndsRequests, IsTextOf, PrintsOne, PrintsRequests, StopsIn}
@@ -34,6 +34,28 @@ module _ (f : Content) (z : Zone) (q : StopRequest) where
   none_begun a = ([], inl refl, Appends-nil a)
 
   module _ (ds left : List Listed) (n : ℕ) (lists : ListsBoard f z q.texts.stop q.request ds) (a b c : Option (List ℕ)) (above : Appends a b heading) where
+    -- the same lines, with nothing before them
+    written_alone : (others : List Listed) (count : ℕ) (w : AreWritten z ds others b c count) → AreWritten z ds others (Some []) (Some w.text) count
+    written_alone others count w = record { shown = w.shown; text = w.text; split = w.split; count = w.count; are_lines = w.are_lines; out = refl }
+
+    cut_alone : (w : IsCutShort z q.request.limit ds left b c n) → IsCutShort z q.request.limit ds left (Some []) (Some (w.text ++ w.sent)) n
+    cut_alone w = record {
+      shown = w.shown;
+      text = w.text;
+      next = w.next;
+      line = w.line;
+      sent = w.sent;
+      unsent = w.unsent;
+      split = w.split;
+      count = w.count;
+      within = w.within;
+      are_lines = w.are_lines;
+      is_line = w.is_line;
+      cut = w.cut;
+      not_whole = w.not_whole;
+      out = refl;
+    }
+
     -- and then a page
     pub page_out : IsPage z q.request.limit ds left b c n → PrintsOne f z q a c
     page_out page =
@@ -44,7 +66,7 @@ module _ (f : Content) (z : Zone) (q : StopRequest) where
             left = left;
             lines = n;
             lists = lists;
-            out = record { written = record page.written { out = refl }; within = page.within; ends = page.ends };
+            out = record { written = written_alone left n page.written; within = page.within; ends = page.ends };
           },
           Appends-trans a b c heading text above page.written.out,
         )
@@ -53,7 +75,7 @@ module _ (f : Content) (z : Zone) (q : StopRequest) where
     page_cut cut =
         let lines = cut.text ++ cut.sent in (
           heading ++ lines,
-          inr (lines, refl, record { departures = ds; left = left; lines = n; lists = lists; out = record cut { out = refl } }),
+          inr (lines, refl, record { departures = ds; left = left; lines = n; lists = lists; out = cut_alone cut }),
           Appends-trans a b c heading lines above cut.out,
         )
 
@@ -69,7 +91,7 @@ module _ (f : Content) (z : Zone) (q : StopRequest) where
               left = left;
               lines = n;
               lists = lists;
-              out = record { others = stopped.others; written = record stopped.written { out = refl }; within = stopped.within; lacks = stopped.lacks };
+              out = record { others = stopped.others; written = written_alone stopped.others n stopped.written; within = stopped.within; lacks = stopped.lacks };
             },
           ),
           Appends-trans a b c heading lines above stopped.written.out,
@@ -80,18 +102,13 @@ module _ (f : Content) (z : Zone) (q : StopRequest) where
 module _ (f : Content) (z : Zone) where
   -- one more
   one_more : (qs : List StopRequest) (q : StopRequest) (text page : List ℕ) → AreBoards f z qs text → IsTextOf IsPage f z q page
-      → AreBoards f z (qs ++ q ∷ []) (text ++ heading_of q.texts ++ page)
+      → AreBoards f z (qs ++ q ∷ []) (text ++ (heading_of q.texts ++ page))
   one_more [] q text page are is =
-      (page, [], is, refl, ap (λ (t : List ℕ). t ++ heading_of q.texts ++ page) are ∙ ap (λ (t : List ℕ). heading_of q.texts ++ t) (sym (append-nil page)))
+      let past = heading_of q.texts ++ page in
+      (page, [], is, refl, ap (λ (t : List ℕ). t ++ past) are ∙ sym (append-nil past))
   one_more (p ∷ qs) q text page (first, more, is_first, are_more, whole) is =
-      let past = heading_of q.texts ++ page in (
-        first,
-        more ++ past,
-        is_first,
-        one_more qs q more page are_more is,
-        ap (λ (t : List ℕ). t ++ past) whole ∙ append_assoc (heading_of p.texts) (first ++ more) past
-            ∙ ap (λ (t : List ℕ). heading_of p.texts ++ t) (append_assoc first more past),
-      )
+      let past = heading_of q.texts ++ page in
+      (first, more ++ past, is_first, one_more qs q more page are_more is, ap (λ (t : List ℕ). t ++ past) whole ∙ append_assoc (heading_of p.texts ++ first) more past)
 
   module _ (times : Times) (texts : List (List ℕ)) (old : Option (List ℕ)) where
     -- the boards of the lines before some went out, and what these ask for is left
@@ -127,7 +144,7 @@ module _ (f : Content) (z : Zone) where
         record {
           done = p.done ++ q ∷ [];
           others = j.others;
-          text = p.text ++ heading_of q.texts ++ printed.0;
+          text = p.text ++ (heading_of q.texts ++ printed.0);
           whole = p.whole ∙ ap (λ (qs : List StopRequest). Ok (p.done ++ qs)) j.are ∙ ap (λ (qs : List StopRequest). Ok qs) (sym (append_assoc p.done (q ∷ []) j.others));
           rest = j.are_others;
           are_boards = one_more p.done q p.text printed.0 p.are_boards printed.1;

@@ -104,4 +104,4 @@ fault_in (Err fault) = Some fault
 -- ---- what goes out before a board
 
 abbrev pub heading_of : RequestTexts → List ℕ
-heading_of t = codes "== " ++ t.stop ++ 32 ∷ t.from ++ 32 ∷ t.until ++ 10 ∷ []
+heading_of t = codes "== " ++ t.stop ++ codes " " ++ t.from ++ codes " " ++ t.until ++ codes "\n"
