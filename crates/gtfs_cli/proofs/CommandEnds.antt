@@ -6,6 +6,7 @@ use Rattle.std.specs.Io.KnownBytes.{Keeps}
 use Rattle.std.proofs.lemmas.Result.{IfErr-weaker}
 use Rattle.clap.specs.Words.{Row, Text, subcommand_of, takes}
 use Rattle.gtfs_devices.specs.Folder.{Store}
+use Rattle.gtfs_table.proofs.StoreFacts.{on_ok-map}
 use Rattle.gtfs_words.specs.Asked.{ForBoard, ForCheck, ForMerge, ForTimetable}
 use Rattle.gtfs_words.specs.Words.{gtfs_app, merge_texts_of, texts_of, timetable_texts_of, AreRefused, BoardTexts, IsCommandOf, MergeTexts, TimetableTexts}
 use Rattle.gtfs_words.proofs.OneAsked.{same_board, same_check, same_merge, same_timetable}
@@ -19,13 +20,13 @@ use Rattle.gtfs_cli.specs.CheckRun.{EndsCheck}
 use Rattle.gtfs_cli.specs.Checking.{IsReportOf}
 use Rattle.gtfs_cli.specs.CommandEnd.{answer_of, EndsCommand}
 use Rattle.gtfs_cli.specs.Merges.{EndsMerge, IsMergeCause, PrintsMerge}
-use Rattle.gtfs_cli.specs.Refusals.{IsCause, IsCauseInWords, IsCheckCause, UnlessGrave}
+use Rattle.gtfs_cli.specs.Refusals.{IsCause, IsCauseInWords, IsCheckCause, TellsFailure}
 use Rattle.gtfs_cli.specs.Running.{FailedNowhere, Failures}
 use Rattle.gtfs_cli.specs.Timetables.{EndsTimetable, IsTimetableCause, PrintsTimetable}
-use Rattle.gtfs_cli.specs.WordsRun.{IsAnswered}
+use Rattle.gtfs_cli.specs.WordsRun.{IsAnswered, SendsAnswer}
 use Rattle.gtfs_cli.specs.declared.commands.refusal.Refusal.{Refusal}
 use Rattle.gtfs_cli.specs.declared.commands.refusal.Refusal.TheVariants.{OutOfMemory}
-use Rattle.gtfs_cli.proofs.Gravely.{unless-then}
+use Rattle.gtfs_cli.proofs.FailuresTold.{of-refusal}
 use Rattle.gtfs_cli.proofs.Untaken.{unread-checked, unread-listed, unread-merged, unread-tabled, unread-unchecked, unread-unlisted, unread-unmerged, unread-untabled}
 
 -- ---- words ask for one command
@@ -45,30 +46,30 @@ abbrev IsNamed : Option (Text × List Row) → Text → Type 0
 IsNamed None name = ⊥
 IsNamed (Some found) name = found.0 ≡ name
 
-named : (found : Option (Text × List Row)) (x : Command) → IsCommandOf found x → IsNamed found (name_of x)
+pub named : (found : Option (Text × List Row)) (x : Command) → IsCommandOf found x → IsNamed found (name_of x)
 named None x is = absurd is
 named (Some found) (Check dir) is = is.0
 named (Some found) (Board words) is = is.0
 named (Some found) (Timetable words) is = is.0
 named (Some found) (Merge words) is = is.0
 
-check-named : (found : Option (Text × List Row)) (dir : Text) → ForCheck found dir → IsNamed found (codes "check")
+pub check-named : (found : Option (Text × List Row)) (dir : Text) → ForCheck found dir → IsNamed found (codes "check")
 check-named None dir asks = absurd asks
 check-named (Some found) dir asks = asks.0
 
-board-named : (found : Option (Text × List Row)) (asked : BoardTexts) → ForBoard found asked → IsNamed found (codes "board")
+pub board-named : (found : Option (Text × List Row)) (asked : BoardTexts) → ForBoard found asked → IsNamed found (codes "board")
 board-named None asked asks = absurd asks
 board-named (Some found) asked asks = asks.0
 
-timetable-named : (found : Option (Text × List Row)) (asked : TimetableTexts) → ForTimetable found asked → IsNamed found (codes "timetable")
+pub timetable-named : (found : Option (Text × List Row)) (asked : TimetableTexts) → ForTimetable found asked → IsNamed found (codes "timetable")
 timetable-named None asked asks = absurd asks
 timetable-named (Some found) asked asks = asks.0
 
-merge-named : (found : Option (Text × List Row)) (asked : MergeTexts) → ForMerge found asked → IsNamed found (codes "merge")
+pub merge-named : (found : Option (Text × List Row)) (asked : MergeTexts) → ForMerge found asked → IsNamed found (codes "merge")
 merge-named None asked asks = absurd asks
 merge-named (Some found) asked asks = asks.0
 
-not-both : (found : Option (Text × List Row)) (x y : Text) → bytes_eq x x ≡ true → bytes_eq x y ≡ false → IsNamed found x → IsNamed found y → ⊥
+pub not-both : (found : Option (Text × List Row)) (x y : Text) → bytes_eq x x ≡ true → bytes_eq x y ≡ false → IsNamed found x → IsNamed found y → ⊥
 not-both None x y same differ is_x is_y = is_x
 not-both (Some found) x y same differ is_x is_y = apart x y same differ (sym is_x ∙ is_y)
 
@@ -98,19 +99,19 @@ pub answered-err : {A : Type 0} (r : Result A Refusal) (P : Refusal → Type 0) 
 answered-err (Ok x) P h = tt
 answered-err (Err e) P h = h
 
-pub answered-light : {A : Type 0} (r : Result A Refusal) (P : Type 0) → UnlessGrave r P → UnlessGrave (answer_of r) P
-answered-light (Ok x) P h = h
-answered-light (Err e) P h = h
+pub answered-done : {A : Type 0} (r : Result A Refusal) (P : Type 0) → OnOk r P → OnOk (answer_of r) P
+answered-done (Ok x) P h = h
+answered-done (Err e) P h = tt
 
-both-err : (r : Result Bool Refusal) (P Q R : Refusal → Type 0) → ((e : Refusal) → P e → Q e → R e) → IfErr r P → IfErr r Q → IfErr r R
-both-err (Ok x) P Q R f p q = tt
-both-err (Err e) P Q R f p q = f e p q
+all-err : (r : Result Bool Refusal) (P Q S R : Refusal → Type 0) → ((e : Refusal) → P e → Q e → S e → R e) → IfErr r P → IfErr r Q → IfErr r S → IfErr r R
+all-err (Ok x) P Q S R f p q s = tt
+all-err (Err e) P Q S R f p q s = f e p q s
 
 -- ---- the commands
 
 module _ (texts : List Text) (limit : ℕ) (held now : Option Store) (before after : Failures) (old new : Option (List ℕ)) (ended : Result Bool Refusal)
     (taken : takes gtfs_app texts ≡ true) (folders_grow : before.folders ≤ after.folders) (output_grows : before.output ≤ after.output)
-    (no_failure : UnlessGrave ended (FailedNowhere before after)) where
+    (no_failure : OnOk ended (FailedNowhere before after)) (told : IfErr ended (TellsFailure before after)) where
   untaken : takes gtfs_app texts ≡ false → ⊥
   untaken e = absurd (true≢false (sym taken ∙ e))
 
@@ -124,16 +125,18 @@ module _ (texts : List Text) (limit : ℕ) (held now : Option Store) (before aft
       record {
         refused = IfErr-weaker ended _ _ (λ e c. inr (inl (record { dir = dir; taken = taken; asks = is; fact = c }))) cause;
         checked = λ t asks. subst (λ (x : Text). IfOk ended (IsReportOf limit held x old new)) (same t asks.asks) printed;
-        unchecked = λ t asks. both-err ended _ _ _
-            (λ e c cut. record {
+        unchecked = λ t asks. all-err ended _ _ _ _
+            (λ e c cut t. record {
               cause = subst (λ (x : Text). IsCheckCause limit held x before after e) (same t asks.asks) c;
               ends = subst (λ (x : Text). EndsCheck limit held x old new e) (same t asks.asks) cut;
-            }) cause cut;
+              told = t;
+            }) cause cut told;
         listed = λ asked asks. absurd (not-both _ _ _ refl refl name (board-named _ asked asks.asks));
         unlisted = λ asked asks. absurd (not-both _ _ _ refl refl name (board-named _ asked asks.asks));
         tabled = λ asked asks. absurd (not-both _ _ _ refl refl name (timetable-named _ asked asks.asks));
         untabled = λ asked asks. absurd (not-both _ _ _ refl refl name (timetable-named _ asked asks.asks));
         answered = λ e. absurd (untaken e);
+        answer = λ e. absurd (untaken e);
         unanswered = λ e. absurd (untaken e);
         nothing = λ no. absurd (untaken no.untaken);
         untouched = λ e. absurd (untaken e);
@@ -143,6 +146,7 @@ module _ (texts : List Text) (limit : ℕ) (held now : Option Store) (before aft
         folders_grow = folders_grow;
         output_grows = output_grows;
         no_failure = no_failure;
+        told = told;
       }
 
   pub ends-board : (words : BoardWords) → IsCommandOf (subcommand_of gtfs_app texts) (Board words) → now ≡ held
@@ -158,14 +162,16 @@ module _ (texts : List Text) (limit : ℕ) (held now : Option Store) (before aft
         checked = λ t asks. absurd (not-both _ _ _ refl refl name (check-named _ t asks.asks));
         unchecked = λ t asks. absurd (not-both _ _ _ refl refl name (check-named _ t asks.asks));
         listed = λ t asks. subst (λ (x : BoardTexts). IfOk ended (λ failed. PrintsBoard limit held x old new × (failed ≡ false))) (same t asks.asks) printed;
-        unlisted = λ t asks. both-err ended _ _ _
-            (λ e c cut. record {
+        unlisted = λ t asks. all-err ended _ _ _ _
+            (λ e c cut t. record {
               cause = subst (λ (x : BoardTexts). IsCause limit held x before after e) (same t asks.asks) c;
               ends = subst (λ (x : BoardTexts). EndsBoard limit held x old new e) (same t asks.asks) cut;
-            }) cause cut;
+              told = t;
+            }) cause cut told;
         tabled = λ asked asks. absurd (not-both _ _ _ refl refl name (timetable-named _ asked asks.asks));
         untabled = λ asked asks. absurd (not-both _ _ _ refl refl name (timetable-named _ asked asks.asks));
         answered = λ e. absurd (untaken e);
+        answer = λ e. absurd (untaken e);
         unanswered = λ e. absurd (untaken e);
         nothing = λ no. absurd (untaken no.untaken);
         untouched = λ e. absurd (untaken e);
@@ -175,6 +181,7 @@ module _ (texts : List Text) (limit : ℕ) (held now : Option Store) (before aft
         folders_grow = folders_grow;
         output_grows = output_grows;
         no_failure = no_failure;
+        told = told;
       }
 
   pub ends-timetable : (words : TimetableWords) → IsCommandOf (subcommand_of gtfs_app texts) (Timetable words) → now ≡ held
@@ -192,12 +199,14 @@ module _ (texts : List Text) (limit : ℕ) (held now : Option Store) (before aft
         listed = λ asked asks. absurd (not-both _ _ _ refl refl name (board-named _ asked asks.asks));
         unlisted = λ asked asks. absurd (not-both _ _ _ refl refl name (board-named _ asked asks.asks));
         tabled = λ t asks. subst (λ (x : TimetableTexts). IfOk ended (λ failed. PrintsTimetable limit held x old new × (failed ≡ false))) (same t asks.asks) printed;
-        untabled = λ t asks. both-err ended _ _ _
-            (λ e c cut. record {
+        untabled = λ t asks. all-err ended _ _ _ _
+            (λ e c cut t. record {
               cause = subst (λ (x : TimetableTexts). IsTimetableCause limit held x before after e) (same t asks.asks) c;
               ends = subst (λ (x : TimetableTexts). EndsTimetable limit held x old new e) (same t asks.asks) cut;
-            }) cause cut;
+              told = t;
+            }) cause cut told;
         answered = λ e. absurd (untaken e);
+        answer = λ e. absurd (untaken e);
         unanswered = λ e. absurd (untaken e);
         nothing = λ no. absurd (untaken no.untaken);
         untouched = λ e. absurd (untaken e);
@@ -207,6 +216,7 @@ module _ (texts : List Text) (limit : ℕ) (held now : Option Store) (before aft
         folders_grow = folders_grow;
         output_grows = output_grows;
         no_failure = no_failure;
+        told = told;
       }
 
   pub ends-merge : (words : MergeWords) → IsCommandOf (subcommand_of gtfs_app texts) (Merge words)
@@ -226,44 +236,52 @@ module _ (texts : List Text) (limit : ℕ) (held now : Option Store) (before aft
         tabled = λ asked asks. absurd (not-both _ _ _ refl refl name (timetable-named _ asked asks.asks));
         untabled = λ asked asks. absurd (not-both _ _ _ refl refl name (timetable-named _ asked asks.asks));
         answered = λ e. absurd (untaken e);
+        answer = λ e. absurd (untaken e);
         unanswered = λ e. absurd (untaken e);
         nothing = λ no. absurd (untaken no.untaken);
         untouched = λ e. absurd (untaken e);
         merged = λ t asks. subst (λ (x : MergeTexts). IfOk ended (λ failed. PrintsMerge limit held x now old new × (failed ≡ false))) (same t asks.asks) printed;
-        unmerged = λ t asks. both-err ended _ _ _
-            (λ e c cut. record {
+        unmerged = λ t asks. all-err ended _ _ _ _
+            (λ e c cut t. record {
               cause = subst (λ (x : MergeTexts). IsMergeCause limit held x before after e) (same t asks.asks) c;
               ends = subst (λ (x : MergeTexts). EndsMerge limit held x now old new e) (same t asks.asks) cut;
-            }) cause cut;
+              told = t;
+            }) cause cut told;
         unchanged = λ none. absurd (none (merge_texts_of words) (record { taken = taken; asks = for-merge _ words is }));
         folders_grow = folders_grow;
         output_grows = output_grows;
         no_failure = no_failure;
+        told = told;
       }
 
 -- ---- words that name no command
 
 module _ (texts : List Text) (limit : ℕ) (held : Option Store) (before after : Failures) (old new : Option (List ℕ)) (ended : Result Bool Refusal) where
-  pub ends-words : after.folders ≡ before.folders → before.folders ≤ after.folders → before.output ≤ after.output → UnlessGrave ended (after.output ≡ before.output)
-      → IfOk ended (IsAnswered texts) → IfErr ended (IsCauseInWords texts before.output after.output) → (AreRefused texts → Keeps old new)
+  pub ends-words : after.folders ≡ before.folders → before.folders ≤ after.folders → before.output ≤ after.output → OnOk ended (after.output ≡ before.output)
+      → IfErr ended (TellsFailure before after) → IfOk ended (IsAnswered texts) → OnOk ended (SendsAnswer texts old new)
+      → IfErr ended (IsCauseInWords texts before.output after.output) → (AreRefused texts → Keeps old new)
       → (takes gtfs_app texts ≡ true → IsErrAnd ended (λ x. x ≡ OutOfMemory)) → (takes gtfs_app texts ≡ true → Keeps old new)
       → EndsCommand texts limit held held before after old new ended
-  ends-words untouched folders_grow output_grows no_failure answered cause nothing memory unsent = record {
-    refused = IfErr-weaker ended _ _ (λ e c. inl c) cause;
-    checked = λ dir asks. unread-checked limit held before after old new ended (memory asks.taken) (unsent asks.taken) dir;
-    unchecked = λ dir asks. unread-unchecked limit held before after old new ended (memory asks.taken) (unsent asks.taken) dir;
-    listed = λ asked asks. unread-listed limit held before after old new ended (memory asks.taken) (unsent asks.taken) asked;
-    unlisted = λ asked asks. unread-unlisted limit held before after old new ended (memory asks.taken) (unsent asks.taken) asked;
-    tabled = λ asked asks. unread-tabled limit held before after old new ended (memory asks.taken) (unsent asks.taken) asked;
-    untabled = λ asked asks. unread-untabled limit held before after old new ended (memory asks.taken) (unsent asks.taken) asked;
-    answered = λ _. answered;
-    unanswered = λ _. cause;
-    nothing = nothing;
-    untouched = λ _. untouched;
-    merged = λ asked asks. unread-merged limit held before after old new ended (memory asks.taken) (unsent asks.taken) asked;
-    unmerged = λ asked asks. unread-unmerged limit held before after old new ended (memory asks.taken) (unsent asks.taken) asked;
-    unchanged = λ _. refl;
-    folders_grow = folders_grow;
-    output_grows = output_grows;
-    no_failure = unless-then ended _ _ (λ same. (untouched, same)) no_failure;
-  }
+  ends-words untouched folders_grow output_grows no_failure told answered answer cause nothing memory unsent =
+      let nowhere : takes gtfs_app texts ≡ true → FailedNowhere before after = λ taken. of-refusal ended OutOfMemory (TellsFailure before after) (memory taken) told in
+      record {
+        refused = IfErr-weaker ended _ _ (λ e c. inl c) cause;
+        checked = λ dir asks. unread-checked limit held before after old new ended (memory asks.taken) (unsent asks.taken) (nowhere asks.taken) dir;
+        unchecked = λ dir asks. unread-unchecked limit held before after old new ended (memory asks.taken) (unsent asks.taken) (nowhere asks.taken) dir;
+        listed = λ asked asks. unread-listed limit held before after old new ended (memory asks.taken) (unsent asks.taken) (nowhere asks.taken) asked;
+        unlisted = λ asked asks. unread-unlisted limit held before after old new ended (memory asks.taken) (unsent asks.taken) (nowhere asks.taken) asked;
+        tabled = λ asked asks. unread-tabled limit held before after old new ended (memory asks.taken) (unsent asks.taken) (nowhere asks.taken) asked;
+        untabled = λ asked asks. unread-untabled limit held before after old new ended (memory asks.taken) (unsent asks.taken) (nowhere asks.taken) asked;
+        answered = λ _. answered;
+        answer = λ _. answer;
+        unanswered = λ _. cause;
+        nothing = nothing;
+        untouched = λ _. untouched;
+        merged = λ asked asks. unread-merged limit held before after old new ended (memory asks.taken) (unsent asks.taken) (nowhere asks.taken) asked;
+        unmerged = λ asked asks. unread-unmerged limit held before after old new ended (memory asks.taken) (unsent asks.taken) (nowhere asks.taken) asked;
+        unchanged = λ _. refl;
+        folders_grow = folders_grow;
+        output_grows = output_grows;
+        no_failure = on_ok-map ended _ _ (λ same. (untouched, same)) no_failure;
+        told = told;
+      }

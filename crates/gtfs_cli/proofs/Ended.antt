@@ -1,6 +1,6 @@
 -- How a run of `gtfs board` ends.
-use Rattle.std.proofs.Common.{◌≡◌, ◌∙◌, ap, refl, ℕ, sym, inl, inr, Bool, false, List, Option, Some, None, Result, Ok, Err, arith}
-use Rattle.std.specs.Prelude.{cond, IfErr, IfOk, IsSome, OnErr, OnOk}
+use Rattle.std.proofs.Common.{◌≡◌, ◌∙◌, ap, refl, ℕ, sym, inl, inr, Bool, false, true, List, Option, Some, None, Result, Ok, Err, arith}
+use Rattle.std.specs.Prelude.{cond, is_ok, IfErr, IfOk, IsSome, OnErr, OnOk}
 use Rattle.std.specs.Io.KnownBytes.{Appends, Keeps}
 use Rattle.gtfs_devices.specs.Device.{Rises}
 use Rattle.gtfs_devices.specs.Folder.{Store}
@@ -24,6 +24,11 @@ not_well (Line (requests.BadRequest number)) e = cc e
 not_well (Line (requests.UnknownStop number)) e = cc e
 not_well (Line (requests.UntilBeforeFrom number)) e = cc e
 not_well _ e = cc e
+
+-- a command that ends well was done
+pub well-done : (ended : Result Bool Refusal) (status : ℕ) → status ≡ status_in ended → status ≡ 0 → is_ok ended ≡ true
+well-done (Ok failed) status gives zero = refl
+well-done (Err r) status gives zero = absurd (not_well r (sym gives ∙ zero))
 
 pub sends : {A B : Type 0} (r : Result A B) (err told : Output) (text : List ℕ) → OnOk r (Appends err.told told.told text)
     → OnErr r (SendsBeginning err.told told.told text) → OnErr r (Rises err.failures told.failures) → Sends err told text

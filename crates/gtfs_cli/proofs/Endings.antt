@@ -1,9 +1,7 @@
 -- Refusals, when they come, and the status that each gives.
 use Rattle.std.proofs.Common.{◌≡◌, ℕ, ◌<◌, ◌≤◌, length, inl, inr, Bool, true, false, List, Option, Result, Ok, Err, sym, subst, ◌∙◌, arith}
 use Rattle.std.specs.Prelude.{IfErr, IsErrAnd}
-use Rattle.gtfs_devices.specs.Device.{Rises}
 use Rattle.gtfs_devices.specs.Folder.{Store}
-use Rattle.gtfs_table.specs.Reading.{RefusesDataset}
 use Rattle.gtfs_devices.specs.declared.folders.FolderFault.{FolderFault}
 use Rattle.gtfs_devices.specs.declared.folders.FolderFault.TheVariants as faults
 use Rattle.clap.specs.Words.{Text}
@@ -18,33 +16,26 @@ use Rattle.gtfs_cli.specs.declared.commands.request_fault.RequestFault.TheVarian
 use Rattle.gtfs_cli.proofs.Ended.{is-some}
 use Rattle.gtfs_cli.proofs.MergeEnded.{device-by-merge, usage-by-merge}
 
--- a count that rose within a call rose over a longer one
-pub rises-longer : (b x y a : ℕ) → b ≤ x → Rises x y → y ≤ a → Rises b a
-rises-longer b x y a first rises last = omega arith
-
 -- ---- why tables and files are not read
 
-pub refuses-longer : (limit : ℕ) (held : Option Store) (dir : List ℕ) (before after : Failures) (x y : ℕ) (fault : FolderFault) → before.folders ≤ x → y ≤ after.folders
-    → RefusesDataset fault limit held dir x y → RefusesDataset fault limit held dir before.folders after.folders
-refuses-longer limit held dir before after x y faults.Read first last h = rises-longer before.folders x y after.folders first h last
-refuses-longer limit held dir before after x y faults.TooLarge first last h = h
-refuses-longer limit held dir before after x y faults.OutOfMemory first last h = h
-refuses-longer limit held dir before after x y faults.NoFolder first last h = h
-refuses-longer limit held dir before after x y faults.Write first last h = h
+abbrev pub counts : ℕ → ℕ → Failures
+counts folders output = record { folders = folders; output = output }
 
--- the counts of the folders alone
-abbrev folders_alone : Failures → Failures
-folders_alone counts = record { folders = counts.folders; output = 0 }
+-- the refusal has a cause in the folders, whatever the count of the output, which does not change
+abbrev pub CheckAside : ℕ → Option Store → List ℕ → ℕ → ℕ → Refusal → Type 0
+CheckAside limit held dir x y r = (output : ℕ) → IsCheckCause limit held dir (counts x output) (counts y output) r
+
+abbrev pub ReadingAside : ℕ → Option Store → List ℕ → ℕ → ℕ → Refusal → Type 0
+ReadingAside limit held dir x y r = (output : ℕ) → IsReadingCause limit held dir (counts x output) (counts y output) r
 
 -- what keeps the tables of a folder from being read, whatever the output did, keeps its feed from being read
-pub reading-cause : (limit : ℕ) (held : Option Store) (dir : List ℕ) (x y : ℕ) (before after : Failures) (r : Refusal) → before.folders ≤ x → y ≤ after.folders
-    → ((b a : Failures) → b.folders ≤ x → y ≤ a.folders → IsCheckCause limit held dir b a r) → IsReadingCause limit held dir before after r
-reading-cause limit held dir x y before after (NotThere path) first last h = h before after first last
-reading-cause limit held dir x y before after (Unreadable path) first last h = h before after first last
-reading-cause limit held dir x y before after (OverLimit path) first last h = h before after first last
-reading-cause limit held dir x y before after OutputFailed first last h = absurd (omega (arith, h (folders_alone before) (folders_alone after) first last))
-reading-cause limit held dir x y before after OutOfMemory first last h = tt
-reading-cause limit held dir x y before after _ first last h = absurd (h before after first last)
+pub reading-cause : (limit : ℕ) (held : Option Store) (dir : List ℕ) (x y : ℕ) (r : Refusal) → CheckAside limit held dir x y r → ReadingAside limit held dir x y r
+reading-cause limit held dir x y (NotThere path) h = h
+reading-cause limit held dir x y (Unreadable path) h = h
+reading-cause limit held dir x y (OverLimit path) h = h
+reading-cause limit held dir x y OutputFailed h = absurd (omega (arith, h 0))
+reading-cause limit held dir x y OutOfMemory h = h
+reading-cause limit held dir x y _ h = absurd (h 0)
 
 -- what keeps the feed of a folder from being read keeps it from its board, where the options have values
 pub board-cause : (limit : ℕ) (held : Option Store) (asked : BoardTexts) (before after : Failures) (r : Refusal) → HasValues asked → IsReadingCause limit held asked.dir before after r
@@ -53,7 +44,7 @@ board-cause limit held asked before after (NotThere path) v h = (v, inl h)
 board-cause limit held asked before after (Unreadable path) v h = (v, inl h)
 board-cause limit held asked before after (OverLimit path) v h = (v, inl h)
 board-cause limit held asked before after (HasErrors path) v h = (v, h.0, h.1)
-board-cause limit held asked before after OutOfMemory v h = tt
+board-cause limit held asked before after OutOfMemory v h = h
 board-cause limit held asked before after _ v h = absurd h
 
 -- and from its timetable
@@ -63,7 +54,7 @@ timetable-cause limit held asked before after (NotThere path) v h = (v, h.0, h.1
 timetable-cause limit held asked before after (Unreadable path) v h = (v, h.0, h.1)
 timetable-cause limit held asked before after (OverLimit path) v h = (v, h.0, h.1)
 timetable-cause limit held asked before after (HasErrors path) v h = (v, h.0, h.1)
-timetable-cause limit held asked before after OutOfMemory v h = tt
+timetable-cause limit held asked before after OutOfMemory v h = h
 timetable-cause limit held asked before after _ v h = absurd h
 
 -- ---- what statuses tell

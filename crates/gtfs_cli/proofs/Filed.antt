@@ -6,7 +6,7 @@ use Rattle.gtfs_table.specs.Files.{file_name}
 use Rattle.gtfs_devices.specs.Folder.{put, Disturbs, Store, Writes}
 use Rattle.gtfs_table.specs.Reading.{kept_files}
 use Rattle.gtfs_table.specs.declared.file.File.{File}
-use Rattle.gtfs_table.proofs.FolderFacts.{rises-from}
+use Rattle.gtfs_devices.specs.Device.{Rises}
 use Rattle.gtfs_rows.specs.Content.{Content}
 use Rattle.gtfs_cli.specs.Merges.{file_text, with_files, DisturbsAfter, HoldsFiles, IsFileEnd, IsWritingEnd}
 use Rattle.gtfs_cli.specs.declared.commands.refusal.Refusal.{Refusal}
@@ -46,12 +46,12 @@ module _ (c : Content) (dir : List ℕ) where
 
   -- the files before one that was not written
   pub file-ends : (old mid new : Option Store) (first before end : ℕ) (i : ℕ) (x : File) → 0 < length dir → i < length kept_files → HoldsFiles old mid dir c (take i kept_files)
-      → first ≤ before → (r : Refusal) → IsFileEnd mid new before end dir (get_or kept_files i x) r → IsWritingEnd old new first end dir c r
-  file-ends old mid new first before end i x named inside holds grows (Unwritable path) h = (
+      → before ≡ first → (r : Refusal) → IsFileEnd mid new before end dir (get_or kept_files i x) r → IsWritingEnd old new first end dir c r
+  file-ends old mid new first before end i x named inside holds since (Unwritable path) h = (
     h.0,
     inr (
       named,
-      rises-from first before end grows h.1,
+      subst (λ (n : ℕ). Rises n end) since h.1,
       record {
         files = take i kept_files;
         one = get_or kept_files i x;
@@ -61,10 +61,13 @@ module _ (c : Content) (dir : List ℕ) where
       },
     ),
   )
-  file-ends old mid new first before end i x named inside holds grows OutOfMemory h = record {
-    files = take i kept_files;
-    left = drop i kept_files;
-    order = sym (take-append-drop i kept_files);
-    holds = subst (λ (m : Option Store). HoldsFiles old m dir c (take i kept_files)) (sym h) holds;
-  }
-  file-ends old mid new first before end i x named inside holds grows _ h = absurd h
+  file-ends old mid new first before end i x named inside holds since OutOfMemory h = (
+    record {
+      files = take i kept_files;
+      left = drop i kept_files;
+      order = sym (take-append-drop i kept_files);
+      holds = subst (λ (m : Option Store). HoldsFiles old m dir c (take i kept_files)) (sym h.0) holds;
+    },
+    h.1 ∙ since,
+  )
+  file-ends old mid new first before end i x named inside holds since _ h = absurd h

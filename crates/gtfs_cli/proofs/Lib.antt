@@ -1,7 +1,8 @@
 mod Moments
 mod Paths
 mod Endings
-mod Gravely
+mod FailuresTold
+mod CallsMade
 pub mod Counted
 pub mod Reported
 mod Parts
@@ -21,6 +22,8 @@ mod Unmerged
 mod MergeEnded
 mod Unchecked
 mod CommandEnds
+mod AskedOne
+mod CommandCalls
 mod Outcomes
 mod Apart
 mod PathCuts

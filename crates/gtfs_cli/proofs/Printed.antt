@@ -12,11 +12,12 @@ use Rattle.gtfs_board.specs.Page.{IsCutShort, IsStopped}
 use Rattle.gtfs_cli.specs.Boards.{request_of, AreValues, EndsBoard, EndsLines, GoesOut, HoldsFeed, IsFeedCause, IsLinesCause, IsOpeningCause, Lists, OfBoard}
 use Rattle.gtfs_words.specs.Words.{BoardTexts}
 use Rattle.gtfs_cli.specs.Refusals.{IsCause, IsFirstBad, IsReadingCause}
-use Rattle.gtfs_cli.specs.Running.{after_of, first_bad, limit_of, moment_of, Failures, HasValues, HoldsPassing, HoldsTables, HoldsZone, Request, Setting}
+use Rattle.gtfs_cli.specs.Running.{after_of, first_bad, limit_of, moment_of, FailedNowhere, Failures, HasValues, HoldsPassing, HoldsTables, HoldsZone, Request, Setting}
 use Rattle.gtfs_cli.specs.declared.commands.moments.Moment.{Moment}
 use Rattle.gtfs_cli.specs.declared.commands.refusal.Refusal.{Refusal}
 use Rattle.gtfs_cli.specs.declared.commands.refusal.Refusal.TheVariants.{BadValue, HasErrors, UnknownStop, UntilBeforeFrom, OutputFailed, OutOfMemory}
 use Rattle.gtfs_cli.specs.declared.commands.values.Values.{Values}
+use Rattle.gtfs_cli.proofs.Endings.{counts}
 
 -- nothing went out
 pub kept : (a : Option (List ℕ)) → Keeps a a
@@ -33,18 +34,12 @@ first-bad-cause limit held asked before after _ h = absurd h
 
 -- the refusal has a cause whatever the output did
 abbrev pub CauseAside : ℕ → Option Store → BoardTexts → ℕ → ℕ → Refusal → Type 0
-CauseAside limit held asked x y r = (before after : Failures) → before.folders ≤ x → y ≤ after.folders → IsCause limit held asked before after r
-
-abbrev counts : ℕ → Failures
-counts folders = record { folders = folders; output = 0 }
-
-same : (n : ℕ) → n ≤ n
-same n = omega arith
+CauseAside limit held asked x y r = (output : ℕ) → IsCause limit held asked (counts x output) (counts y output) r
 
 -- then nothing went out
 pub none-out : (limit : ℕ) (held : Option Store) (asked : BoardTexts) (x y : ℕ) (r : Refusal) (old new : Option (List ℕ)) → CauseAside limit held asked x y r → Keeps old new
     → EndsBoard limit held asked old new r
-none-out limit held asked x y OutputFailed old new h keeps = absurd (omega (arith, h (counts x) (counts y) (same x) (same y)))
+none-out limit held asked x y OutputFailed old new h keeps = absurd (omega (arith, h 0))
 none-out limit held asked x y OutOfMemory old new h keeps = inl keeps
 none-out limit held asked x y _ old new h keeps = keeps
 
@@ -59,10 +54,6 @@ has-passing limit held dir feed h = (h.dataset, h.holds, h.is_feed.0)
 -- what is so of folders is so of the same folders later
 pub moved : (P : ℕ → Option Store → Type 0) (l m : ℕ) (h k : Option Store) → l ≡ m → h ≡ k → P l h → P m k
 moved P l m h k same_limit same_held x = subst (λ (a : ℕ). P a k) same_limit (subst (λ (b : Option Store). P l b) same_held x)
-
--- the refusal has a cause in the folder of the feed, whatever the output did
-abbrev pub ReadingAside : ℕ → Option Store → List ℕ → ℕ → ℕ → Refusal → Type 0
-ReadingAside limit held dir x y r = (before after : Failures) → before.folders ≤ x → y ≤ after.folders → IsReadingCause limit held dir before after r
 
 -- ---- from a feed and a zone to what the folders hold
 
@@ -88,13 +79,13 @@ module _ (limit : ℕ) (held : Option Store) (asked : BoardTexts) (feed : Feed) 
   ends-of old new OutOfMemory (inr e) = inr (lists-of IsStopped old new e)
   ends-of old new _ e = e
 
-  pub cause-of : (before after : Failures) (r : Refusal) → IsLinesCause (content_of_feed feed) z asked.stop (request_of v) before.output after.output r
-      → IsCause limit held asked before after r
-  cause-of before after UnknownStop e = (setting, subst (λ (f : Content). is_stop f asked.stop ≡ false) h.is_feed.1 e)
-  cause-of before after UntilBeforeFrom e = (setting, subst (λ (f : Content). is_stop f asked.stop ≡ true) h.is_feed.1 e.0, e.1)
-  cause-of before after OutputFailed e = e
-  cause-of before after OutOfMemory e = tt
-  cause-of before after _ e = absurd e
+  pub cause-of : (before after : Failures) → after.folders ≡ before.folders → (r : Refusal)
+      → IsLinesCause (content_of_feed feed) z asked.stop (request_of v) before.output after.output r → IsCause limit held asked before after r
+  cause-of before after same UnknownStop e = (setting, subst (λ (f : Content). is_stop f asked.stop ≡ false) h.is_feed.1 e)
+  cause-of before after same UntilBeforeFrom e = (setting, subst (λ (f : Content). is_stop f asked.stop ≡ true) h.is_feed.1 e.0, e.1)
+  cause-of before after same OutputFailed e = e
+  cause-of before after same OutOfMemory e = (same, e)
+  cause-of before after same _ e = absurd e
 
 -- ---- where no board is opened
 
@@ -105,22 +96,22 @@ opening-ends f z stop r old new UntilBeforeFrom e keeps = keeps
 opening-ends f z stop r old new OutOfMemory e keeps = inl keeps
 opening-ends f z stop r old new _ e keeps = absurd e
 
-pub opening-cause : (f : Content) (z : Zone) (stop : List ℕ) (r : Request) (before after : ℕ) (refusal : Refusal) → IsOpeningCause f z stop r refusal
-    → IsLinesCause f z stop r before after refusal
-opening-cause f z stop r before after OutputFailed e = absurd e
-opening-cause f z stop r before after OutOfMemory e = tt
-opening-cause f z stop r before after _ e = e
+pub opening-cause : (f : Content) (z : Zone) (stop : List ℕ) (r : Request) (count : ℕ) (refusal : Refusal) → IsOpeningCause f z stop r refusal
+    → IsLinesCause f z stop r count count refusal
+opening-cause f z stop r count OutputFailed e = absurd e
+opening-cause f z stop r count OutOfMemory e = refl
+opening-cause f z stop r count _ e = e
 
 -- ---- where there is no feed
 
-pub feed-cause : (limit : ℕ) (held : Option Store) (dir : List ℕ) (before after : Failures) (d : Dataset) (r : Refusal) → HoldsTables limit held dir d
+pub feed-cause : (limit : ℕ) (held : Option Store) (dir : List ℕ) (before after : Failures) → FailedNowhere before after → (d : Dataset) (r : Refusal) → HoldsTables limit held dir d
     → IsFeedCause d dir r → IsReadingCause limit held dir before after r
-feed-cause limit held dir before after d (HasErrors path) holds e = (e.0, (d, holds, e.1))
-feed-cause limit held dir before after d OutOfMemory holds e = tt
-feed-cause limit held dir before after d _ holds e = absurd e
+feed-cause limit held dir before after nowhere d (HasErrors path) holds e = (e.0, (d, holds, e.1))
+feed-cause limit held dir before after nowhere d OutOfMemory holds e = nowhere
+feed-cause limit held dir before after nowhere d _ holds e = absurd e
 
 pub first-bad-ends : (limit : ℕ) (held : Option Store) (asked : BoardTexts) (r : Refusal) (old new : Option (List ℕ)) → IsFirstBad asked r → Keeps old new → EndsBoard limit held asked old new r
-first-bad-ends limit held asked r old new h keeps = none-out limit held asked 0 0 r old new (λ before after _ _. first-bad-cause limit held asked before after r h) keeps
+first-bad-ends limit held asked r old new h keeps = none-out limit held asked 0 0 r old new (λ output. first-bad-cause limit held asked (counts 0 output) (counts 0 output) r h) keeps
 
 -- the first option that is bad
 pub bad-from : (asked : BoardTexts) → moment_of asked.from ≡ None → first_bad asked ≡ Some (codes "--from")

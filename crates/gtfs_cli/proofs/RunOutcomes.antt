@@ -56,6 +56,7 @@ module _ (limit : ℕ) (store : Store) (before after : Failures) (old new : Opti
     quiet_check : (r : Refusal) → IsCheckCause limit (Some store) dir before after r → IsCheckCause limit (Some store) dir none_failed none_failed r
     quiet_check (Unreadable path) cause = absurd (nothing.folders cause.1)
     quiet_check OutputFailed cause = absurd (nothing.output cause)
+    quiet_check OutOfMemory cause = (refl, refl)
     quiet_check r cause = cause
 
     check-kept : (r : Refusal) → IsCheckCause limit (Some store) dir before after r → r ≢ OutOfMemory → EndsCheck limit (Some store) dir old new r → Keeps old new
@@ -91,6 +92,7 @@ module _ (limit : ℕ) (store : Store) (before after : Failures) (old new : Opti
     quiet_board (Unreadable path) (values, inr (at, passing, inl rises)) = absurd (nothing.folders rises)
     quiet_board (Unreadable path) (values, inr (at, passing, inr unnamed)) = (values, inr (at, passing, inr unnamed))
     quiet_board OutputFailed cause = absurd (nothing.output cause)
+    quiet_board OutOfMemory cause = (refl, refl)
     quiet_board r cause = cause
 
     board-kept : (r : Refusal) → IsCause limit (Some store) asked before after r → r ≢ OutOfMemory → EndsBoard limit (Some store) asked old new r → Keeps old new
@@ -125,6 +127,7 @@ module _ (limit : ℕ) (store : Store) (before after : Failures) (old new : Opti
     quiet_timetable : (r : Refusal) → IsTimetableCause limit (Some store) asked before after r → IsTimetableCause limit (Some store) asked none_failed none_failed r
     quiet_timetable (Unreadable path) cause = absurd (nothing.folders cause.2)
     quiet_timetable OutputFailed cause = absurd (nothing.output cause)
+    quiet_timetable OutOfMemory cause = (refl, refl)
     quiet_timetable r cause = cause
 
     timetable-kept : (r : Refusal) → IsTimetableCause limit (Some store) asked before after r → r ≢ OutOfMemory → EndsTimetable limit (Some store) asked old new r → Keeps old new
@@ -158,6 +161,7 @@ module _ (limit : ℕ) (store : Store) (before after : Failures) (old new : Opti
     quiet_merge (Unwritable path) (at, can, inl none) = (at, can, inl none)
     quiet_merge (Unwritable path) (at, can, inr rises) = absurd (nothing.folders rises)
     quiet_merge OutputFailed cause = absurd (nothing.output cause.1)
+    quiet_merge OutOfMemory cause = (refl, refl)
     quiet_merge r cause = cause
 
     nameless : asked.out ≡ [] → 0 < length asked.out → ⊥

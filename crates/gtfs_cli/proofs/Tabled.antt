@@ -26,6 +26,7 @@ use Rattle.gtfs_cli.specs.Timetables.{timetable_text, BeginsSheets, BeginsTimeta
 use Rattle.gtfs_cli.specs.declared.commands.refusal.Refusal.{Refusal}
 use Rattle.gtfs_cli.specs.declared.commands.refusal.Refusal.TheVariants.{BadValue, UnknownRoute, OutputFailed, OutOfMemory}
 use Rattle.gtfs_cli.proofs.Ended.{at_zero, not_well}
+use Rattle.gtfs_cli.proofs.Endings.{counts}
 use Rattle.gtfs_cli.proofs.Parts.{Leaves, one-cut}
 
 -- ---- values of options
@@ -44,9 +45,9 @@ bad-timetable-ends limit held asked old new _ h keeps = absurd h
 
 -- where the refusal has a cause whatever the output did, nothing went out
 pub none-tabled : (limit : ℕ) (held : Option Store) (asked : TimetableTexts) (x y : ℕ) (r : Refusal) (old new : Option (List ℕ))
-    → ((before after : Failures) → before.folders ≤ x → y ≤ after.folders → IsTimetableCause limit held asked before after r) → Keeps old new
+    → ((output : ℕ) → IsTimetableCause limit held asked (counts x output) (counts y output) r) → Keeps old new
     → EndsTimetable limit held asked old new r
-none-tabled limit held asked x y OutputFailed old new h keeps = absurd (omega (arith, h (record { folders = x; output = 0 }) (record { folders = y; output = 0 }) (omega arith) (omega arith)))
+none-tabled limit held asked x y OutputFailed old new h keeps = absurd (omega (arith, h 0))
 none-tabled limit held asked x y OutOfMemory old new h keeps = inl keeps
 none-tabled limit held asked x y _ old new h keeps = keeps
 
@@ -99,7 +100,7 @@ known-route f route never = true_from_ne_false (is_route f route) never
 
 pub sending-cause : (f : Content) (route : List ℕ) (before after : ℕ) (r : Refusal) → IsSendingCause before after r → IsSheetsCause f route before after r
 sending-cause f route before after OutputFailed h = h
-sending-cause f route before after OutOfMemory h = tt
+sending-cause f route before after OutOfMemory h = h
 sending-cause f route before after _ h = absurd h
 
 sending-ends : (f : Content) (route : List ℕ) (q : TimetableRequest) (x y : ℕ) (old new : Option (List ℕ)) (r : Refusal) → IsSendingCause x y r
@@ -116,8 +117,8 @@ sent-ends f route q x y old new (Err refusal) known cause begun = sending-ends f
 
 -- where the refusal has a cause whatever the output did, nothing was sent
 pub no-sheets : (f : Content) (route : List ℕ) (q : TimetableRequest) (old new : Option (List ℕ)) (r : Refusal)
-    → ((before after : ℕ) → IsSheetsCause f route before after r) → Keeps old new → EndsSheets f route q old new r
-no-sheets f route q old new OutputFailed h keeps = absurd (omega (arith, h 0 0))
+    → ((count : ℕ) → IsSheetsCause f route count count r) → Keeps old new → EndsSheets f route q old new r
+no-sheets f route q old new OutputFailed h keeps = absurd (omega (arith, h 0))
 no-sheets f route q old new OutOfMemory h keeps = inl keeps
 no-sheets f route q old new _ h keeps = keeps
 
@@ -148,12 +149,12 @@ module _ (limit : ℕ) (held : Option Store) (asked : TimetableTexts) (feed : Fe
   tabled-ends old new OutOfMemory (inr e) = inr (begun-of old new e)
   tabled-ends old new _ e = e
 
-  pub tabled-cause : (before after : Failures) (r : Refusal) → IsSheetsCause (content_of_feed feed) asked.route before.output after.output r
-      → IsTimetableCause limit held asked before after r
-  tabled-cause before after UnknownRoute e = (tabled_setting, subst (λ (f : Content). is_route f asked.route ≡ false) h.is_feed.1 e)
-  tabled-cause before after OutputFailed e = e
-  tabled-cause before after OutOfMemory e = tt
-  tabled-cause before after _ e = absurd e
+  pub tabled-cause : (before after : Failures) → after.folders ≡ before.folders → (r : Refusal)
+      → IsSheetsCause (content_of_feed feed) asked.route before.output after.output r → IsTimetableCause limit held asked before after r
+  tabled-cause before after same UnknownRoute e = (tabled_setting, subst (λ (f : Content). is_route f asked.route ≡ false) h.is_feed.1 e)
+  tabled-cause before after same OutputFailed e = e
+  tabled-cause before after same OutOfMemory e = (same, e)
+  tabled-cause before after same _ e = absurd e
 
 -- ---- how a run of `gtfs timetable` ends
 

@@ -1,6 +1,6 @@
 -- How a run of `gtfs check` ends, and what went out of a report that did not go out whole.
-use Rattle.std.proofs.Common.{◌≡◌, ℕ, ◌≤◌, inl, inr, Bool, true, false, List, Option, Result, Ok, Err, arith}
-use Rattle.std.specs.Prelude.{IfErr, IfOk, OnErr, OnOk}
+use Rattle.std.proofs.Common.{◌≡◌, ℕ, ◌≤◌, inl, inr, Bool, true, false, List, Option, Result, Ok, Err, refl, arith}
+use Rattle.std.specs.Prelude.{is_ok, IfErr, IfOk, OnErr, OnOk}
 use Rattle.std.specs.Io.KnownBytes.{Keeps}
 use Rattle.gtfs_devices.specs.Folder.{Store}
 use Rattle.gtfs_cli.specs.CheckRun.{BeginsReport, EndsCheck, IsCheckRun, IsUnchecked}
@@ -11,6 +11,7 @@ use Rattle.gtfs_cli.specs.Running.{Failures}
 use Rattle.gtfs_cli.specs.Sending.{Output, Sends}
 use Rattle.gtfs_cli.specs.declared.commands.refusal.Refusal.{Refusal}
 use Rattle.gtfs_cli.specs.declared.commands.refusal.Refusal.TheVariants.{NotThere, Unreadable, OverLimit, OutputFailed, OutOfMemory}
+use Rattle.gtfs_cli.proofs.Endings.{CheckAside}
 
 module _ (limit : ℕ) (held : Option Store) (dir : List ℕ) (before after : Failures) where
   -- none has the status of a report that went out, nor that of usage
@@ -21,6 +22,12 @@ module _ (limit : ℕ) (held : Option Store) (dir : List ℕ) (before after : Fa
   late OutputFailed h = omega arith
   late OutOfMemory h = omega arith
   late _ h = absurd h
+
+  -- where the status is that of a report, it went out
+  pub check-done : (old new : Option (List ℕ)) (ended : Result Bool Refusal) (status : ℕ) → status ≡ status_in ended
+      → IfErr ended (IsUnchecked limit held dir before after old new) → status ≤ 1 → is_ok ended ≡ true
+  check-done old new (Ok failed) status gives bad low = refl
+  check-done old new (Err r) status gives bad low = let later = late r bad.cause in absurd (omega (arith, later, gives, low))
 
   pub check-ended : (old new : Option (List ℕ)) (ended : Result Bool Refusal) (status : ℕ) (err told : Output) → status ≡ status_in ended
       → IfOk ended (IsReportOf limit held dir old new) → IfErr ended (IsUnchecked limit held dir before after old new)
@@ -48,14 +55,21 @@ module _ (limit : ℕ) (held : Option Store) (dir : List ℕ) (before after : Fa
         refused = λ _. record { refusal = r; unchecked = bad; gives = gives; line = line };
       }
 
+-- ---- what keeps the report from going out, where the tables of the folder were read
+
+pub checking-cause : (limit : ℕ) (held : Option Store) (dir : List ℕ) (before after : Failures) → after.folders ≡ before.folders → (r : Refusal)
+    → IsSendingCause before.output after.output r → IsCheckCause limit held dir before after r
+checking-cause limit held dir before after same OutputFailed h = h
+checking-cause limit held dir before after same OutOfMemory h = (same, h)
+checking-cause limit held dir before after same _ h = absurd h
+
 -- ---- what went out
 
 module _ (limit : ℕ) (held : Option Store) (dir : List ℕ) (old new : Option (List ℕ)) where
   -- where the refusal has a cause whatever the output did, nothing went out
-  pub none-checked : (x y : ℕ) (r : Refusal) → ((before after : Failures) → before.folders ≤ x → y ≤ after.folders → IsCheckCause limit held dir before after r)
+  pub none-checked : (x y : ℕ) (r : Refusal) → CheckAside limit held dir x y r
       → Keeps old new → EndsCheck limit held dir old new r
-  none-checked x y OutputFailed h keeps =
-      absurd (omega (arith, h (record { folders = x; output = 0 }) (record { folders = y; output = 0 }) (omega arith) (omega arith)))
+  none-checked x y OutputFailed h keeps = absurd (omega (arith, h 0))
   none-checked x y OutOfMemory h keeps = inl keeps
   none-checked x y r h keeps = keeps
 

@@ -1,5 +1,5 @@
 -- Why two folders are not merged, and what is left then.
-use Rattle.std.proofs.Common.{◌≡◌, ◌∙◌, ap, refl, subst, ℕ, ◌<◌, ◌≤◌, length, ◌⊎◌, inl, inr, true, false, List, [], Option, Result, Ok, Err, arith}
+use Rattle.std.proofs.Common.{◌≡◌, ◌∙◌, ap, refl, subst, ℕ, ◌<◌, length, ◌⊎◌, inl, inr, true, false, List, [], Option, Result, Ok, Err}
 use Rattle.std.specs.Prelude.{IfErr, OnErr}
 use Rattle.std.specs.Io.KnownBytes.{Appends, Keeps}
 use Rattle.gtfs_devices.specs.Device.{Rises}
@@ -21,15 +21,13 @@ use Rattle.gtfs_cli.specs.MergeParts.{HoldsMerge, IsFirstBadMerge}
 use Rattle.gtfs_cli.specs.Merges.{file_limit, merge_of, report_for, CanMerge, EndsMerge, HoldsFiles, IsFolderMerge, IsMergeCause, IsMergeFault, IsMergingCause, IsUntouched, IsWritingEnd, IsWritten, MergeSetting, ReadsAgain, StopsAtOne}
 use Rattle.gtfs_cli.specs.NamesReport.{names_report}
 use Rattle.gtfs_cli.specs.Refusals.{IsReadingCause}
-use Rattle.gtfs_cli.specs.Running.{Failures}
+use Rattle.gtfs_cli.specs.Running.{FailedNowhere, Failures}
 use Rattle.gtfs_cli.specs.Sending.{SendsBeginning}
 use Rattle.gtfs_cli.specs.declared.commands.refusal.Refusal.{Refusal}
 use Rattle.gtfs_cli.specs.declared.commands.refusal.Refusal.TheVariants.{BadValue, NotThere, Unreadable, OverLimit, HasErrors, ZonesDiffer, MergeTooLarge, Unwritable, OutputFailed, OutOfMemory}
+use Rattle.gtfs_cli.proofs.Endings.{counts}
 use Rattle.gtfs_cli.proofs.NamesTold.{report-told}
 use Rattle.gtfs_cli.proofs.Printed.{has-passing}
-
-rises-around : (a b c d : ℕ) → a ≤ b → c ≤ d → Rises b c → Rises a d
-rises-around a b c d low high up = omega (arith, low, high, up)
 
 -- what went out, and why no more did
 pub both-err : {A : Type 0} (r : Result A Refusal) (P : Type 0) (Q R : Refusal → Type 0) → (P → (e : Refusal) → Q e → R e) → OnErr r P → IfErr r Q → IfErr r R
@@ -38,7 +36,7 @@ both-err (Err e) P Q R f p q = f p e q
 
 -- the refusal keeps two folders from being merged, whatever the output did
 abbrev pub MergingAside : ℕ → Option Store → MergeTexts → ℕ → ℕ → Refusal → Type 0
-MergingAside limit held asked x y r = (before after : Failures) → before.folders ≤ x → y ≤ after.folders → IsMergingCause limit held asked before after r
+MergingAside limit held asked x y r = (output : ℕ) → IsMergingCause limit held asked (counts x output) (counts y output) r
 
 module _ (limit : ℕ) (held : Option Store) (asked : MergeTexts) where
   -- ---- the values of the options
@@ -58,7 +56,7 @@ module _ (limit : ℕ) (held : Option Store) (asked : MergeTexts) where
   first-unread before after (Unreadable path) h = inl h
   first-unread before after (OverLimit path) h = inl h
   first-unread before after (HasErrors path) h = inl h
-  first-unread before after OutOfMemory h = tt
+  first-unread before after OutOfMemory h = h
   first-unread before after _ h = absurd h
 
   pub second-unread : (before after : Failures) (feed : Feed) → HoldsFeed limit held asked.a feed → (r : Refusal) → IsReadingCause limit held asked.b before after r
@@ -67,7 +65,7 @@ module _ (limit : ℕ) (held : Option Store) (asked : MergeTexts) where
   second-unread before after feed holds (Unreadable path) h = inr (h.0, has-passing limit held asked.a feed holds, h.1)
   second-unread before after feed holds (OverLimit path) h = inr (h.0, has-passing limit held asked.a feed holds, h.1)
   second-unread before after feed holds (HasErrors path) h = inr (h.0, has-passing limit held asked.a feed holds, h.1)
-  second-unread before after feed holds OutOfMemory h = tt
+  second-unread before after feed holds OutOfMemory h = h
   second-unread before after feed holds _ h = absurd h
 
   -- ---- the feeds that are merged
@@ -89,15 +87,15 @@ module _ (limit : ℕ) (held : Option Store) (asked : MergeTexts) where
     of_datasets : (P : Content → Content → Type 0) → P (content_of_feed a) (content_of_feed b) → P (content_of first.dataset) (content_of second.dataset)
     of_datasets P h = subst (λ (f : Content). P f (content_of second.dataset)) first.is_feed.1 (subst (λ (f : Content). P (content_of_feed a) f) second.is_feed.1 h)
 
-    pub unmerged : (before after : Failures) (r : Refusal) → IsMergeFault q (content_of_feed a) (content_of_feed b) r → IsMergingCause limit held asked before after r
-    unmerged before after ZonesDiffer h = (setting, of_datasets (λ f g. zones_differ f g ≡ true) h)
-    unmerged before after MergeTooLarge h = (
+    pub unmerged : (before after : Failures) → FailedNowhere before after → (r : Refusal) → IsMergeFault q (content_of_feed a) (content_of_feed b) r → IsMergingCause limit held asked before after r
+    unmerged before after nowhere ZonesDiffer h = (setting, of_datasets (λ f g. zones_differ f g ≡ true) h)
+    unmerged before after nowhere MergeTooLarge h = (
       setting,
       of_datasets (λ f g. zones_differ f g ≡ false) h.0,
       of_datasets (λ f g. is_too_large file_limit (merge_of q f g) ≡ true) h.1,
     )
-    unmerged before after OutOfMemory h = tt
-    unmerged before after _ h = absurd h
+    unmerged before after nowhere OutOfMemory h = nowhere
+    unmerged before after nowhere _ h = absurd h
 
     pub is-merged : (m : Merged) → IsMergeOf q.near q.cutoff (content_of_feed a) (content_of_feed b) file_limit m
         → KeepsDepartures q.near q.cutoff (content_of_feed a) (content_of_feed b) → HoldsMerge limit held asked q.near m
@@ -121,7 +119,7 @@ module _ (limit : ℕ) (held : Option Store) (asked : MergeTexts) where
   merging-cause values before after (HasErrors path) h = (values, h)
   merging-cause values before after ZonesDiffer h = (values, h)
   merging-cause values before after MergeTooLarge h = (values, h)
-  merging-cause values before after OutOfMemory h = tt
+  merging-cause values before after OutOfMemory h = h
   merging-cause values before after _ h = absurd h
 
   pub merging-ends : (before after : Failures) (now : Option Store) (old new : Option (List ℕ)) → IsUntouched held now old new → (r : Refusal)
@@ -134,33 +132,33 @@ module _ (limit : ℕ) (held : Option Store) (asked : MergeTexts) where
   -- ---- the files that are not written, and the report that is not printed
 
   module _ (c : Content) (report : List ℕ) (is : IsFolderMerge limit held asked c report) where
-    unwritten : (before after : Failures) (mid now : Option Store) (x y : ℕ) → before.folders ≤ x → y ≤ after.folders → (path : List ℕ) → path ≡ asked.out
-        → ((asked.out ≡ []) × (now ≡ mid)) ⊎ ((0 < length asked.out) × Rises x y × StopsAtOne mid now asked.out c)
+    unwritten : (before after : Failures) (mid now : Option Store) (x : ℕ) → x ≡ before.folders → (path : List ℕ) → path ≡ asked.out
+        → ((asked.out ≡ []) × (now ≡ mid)) ⊎ ((0 < length asked.out) × Rises x after.folders × StopsAtOne mid now asked.out c)
         → (path ≡ asked.out) × CanMerge limit held asked × ((asked.out ≡ []) ⊎ Rises before.folders after.folders)
-    unwritten before after mid now x y low high path at (inl h) = (at, (c, report, is), inl h.0)
-    unwritten before after mid now x y low high path at (inr h) = (at, (c, report, is), inr (rises-around before.folders x y after.folders low high h.1))
+    unwritten before after mid now x since path at (inl h) = (at, (c, report, is), inl h.0)
+    unwritten before after mid now x since path at (inr h) = (at, (c, report, is), inr (subst (λ (n : ℕ). Rises n after.folders) since h.1))
 
     ended : (x y : ℕ) (now : Option Store) → ((asked.out ≡ []) × (now ≡ held)) ⊎ ((0 < length asked.out) × Rises x y × StopsAtOne held now asked.out c)
         → ((asked.out ≡ []) × (now ≡ held)) ⊎ ((0 < length asked.out) × StopsAtOne held now asked.out c)
     ended x y now (inl h) = inl h
     ended x y now (inr h) = inr (h.0, h.2)
 
-    pub writing-cause : (before after : Failures) (mid now : Option Store) (x y : ℕ) → before.folders ≤ x → y ≤ after.folders → (r : Refusal)
-        → IsWritingEnd mid now x y asked.out c r → IsMergeCause limit held asked before after r
-    writing-cause before after mid now x y low high (Unwritable path) h = unwritten before after mid now x y low high path.now h.0 h.1
-    writing-cause before after mid now x y low high OutOfMemory h = tt
-    writing-cause before after mid now x y low high _ h = absurd h
+    pub writing-cause : (before after : Failures) → after.output ≡ before.output → (mid now : Option Store) (x : ℕ) → x ≡ before.folders → (r : Refusal)
+        → IsWritingEnd mid now x after.folders asked.out c r → IsMergeCause limit held asked before after r
+    writing-cause before after quiet mid now x since (Unwritable path) h = unwritten before after mid now x since path.now h.0 h.1
+    writing-cause before after quiet mid now x since OutOfMemory h = (h.1 ∙ since, quiet)
+    writing-cause before after quiet mid now x since _ h = absurd h
 
     pub writing-ends : (x y : ℕ) (now : Option Store) (old new : Option (List ℕ)) → Keeps old new → (r : Refusal) → IsWritingEnd held now x y asked.out c r
         → EndsMerge limit held asked now old new r
     writing-ends x y now old new keeps (Unwritable path) h = record { content = c; report = report; merges = is; ends = ended x y now h.1; nothing = keeps }
-    writing-ends x y now old new keeps OutOfMemory h = inr (inl (record { content = c; report = report; merges = is; ends = h; nothing = keeps }))
+    writing-ends x y now old new keeps OutOfMemory h = inr (inl (record { content = c; report = report; merges = is; ends = h.0; nothing = keeps }))
     writing-ends x y now old new keeps _ h = absurd h
 
-    pub printing-cause : (before after : Failures) (r : Refusal) → IsSendingCause before.output after.output r → IsMergeCause limit held asked before after r
-    printing-cause before after OutputFailed h = ((c, report, is), h)
-    printing-cause before after OutOfMemory h = tt
-    printing-cause before after _ h = absurd h
+    pub printing-cause : (before after : Failures) → after.folders ≡ before.folders → (r : Refusal) → IsSendingCause before.output after.output r → IsMergeCause limit held asked before after r
+    printing-cause before after same OutputFailed h = ((c, report, is), h)
+    printing-cause before after same OutOfMemory h = (same, h)
+    printing-cause before after same _ h = absurd h
 
     module _ (now : Option Store) (old new : Option (List ℕ)) (named : 0 < length asked.out) (files : HoldsFiles held now asked.out c kept_files) (again : ReadsAgain held now asked.out c) where
       pub all-printed : Appends old new report → IsWritten limit held asked now (λ text. Appends old new text)

@@ -5,7 +5,7 @@ use Rattle.gtfs_devices.specs.Folder.{Store}
 use Rattle.gtfs_cli.specs.Boards.{EndsBoard, PrintsBoard}
 use Rattle.gtfs_words.specs.Words.{BoardTexts}
 use Rattle.gtfs_cli.specs.Messages.{message}
-use Rattle.gtfs_cli.specs.Refusals.{status_of, IsCause}
+use Rattle.gtfs_cli.specs.Refusals.{status_of, IsCause, TellsFailure}
 use Rattle.gtfs_cli.specs.Running.{Failures}
 use Rattle.gtfs_cli.specs.Sending.{Output, Sends}
 use Rattle.gtfs_cli.specs.declared.commands.refusal.Refusal.{Refusal}
@@ -16,10 +16,11 @@ use Rattle.gtfs_cli.specs.declared.commands.refusal.Refusal.{Refusal}
 abbrev pub IsListed : ℕ → Option Store → BoardTexts → Option (List ℕ) → Option (List ℕ) → Bool → Type 0
 IsListed limit held asked old new failed = PrintsBoard limit held asked old new × (failed ≡ false)
 
--- the refusal has its cause, and what went out before it is of the board
+-- the refusal has its cause and tells of what failed, and what went out before it is of the board
 pub record IsUnlisted (limit : ℕ) (held : Option Store) (asked : BoardTexts) (before after : Failures) (old new : Option (List ℕ)) (refusal : Refusal) : Type 0 where
   pub cause : IsCause limit held asked before after refusal
   pub ends : EndsBoard limit held asked old new refusal
+  pub told : TellsFailure before after refusal
 
 -- ---- how the program ends
 

@@ -60,7 +60,7 @@ abbrev pub IsLinesCause : Content → Zone → List ℕ → Request → ℕ → 
 IsLinesCause f z stop r before after UnknownStop = is_stop f stop ≡ false
 IsLinesCause f z stop r before after UntilBeforeFrom = (is_stop f stop ≡ true) × LiesBefore z r
 IsLinesCause f z stop r before after OutputFailed = Rises before after
-IsLinesCause f z stop r before after OutOfMemory = ⊤
+IsLinesCause f z stop r before after OutOfMemory = after ≡ before
 IsLinesCause f z stop r before after _ = ⊥
 
 -- why no board is opened

@@ -7,7 +7,7 @@ use Rattle.gtfs_columns.specs.Problems.{Problem, IsReport}
 use Rattle.gtfs_rules.specs.Report.{report_text}
 use Rattle.gtfs_cli.specs.Checking.{IsReportOf}
 use Rattle.gtfs_cli.specs.Messages.{message}
-use Rattle.gtfs_cli.specs.Refusals.{status_of, IsCheckCause}
+use Rattle.gtfs_cli.specs.Refusals.{status_of, IsCheckCause, TellsFailure}
 use Rattle.gtfs_cli.specs.Running.{Failures, HoldsTables}
 use Rattle.gtfs_cli.specs.Sending.{Output, Sends, SendsBeginning}
 use Rattle.gtfs_cli.specs.declared.commands.refusal.Refusal.{Refusal}
@@ -32,10 +32,11 @@ EndsCheck limit held dir before after _ = Keeps before after
 
 -- ---- how the command ends
 
--- the refusal has its cause, and what went out before it is of the report
+-- the refusal has its cause and tells of what failed, and what went out before it is of the report
 pub record IsUnchecked (limit : ℕ) (held : Option Store) (dir : List ℕ) (before after : Failures) (old new : Option (List ℕ)) (refusal : Refusal) : Type 0 where
   pub cause : IsCheckCause limit held dir before after refusal
   pub ends : EndsCheck limit held dir old new refusal
+  pub told : TellsFailure before after refusal
 
 -- ---- how the program ends
 

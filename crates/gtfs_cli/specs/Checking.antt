@@ -1,5 +1,5 @@
 -- What `gtfs check` prints, and what it answers.
-use Rattle.std.specs.Prelude.{◌≡◌, ℕ, ◌+◌, Bool, not, List, ◌++◌, length, codes, decimal, Option, ⊤}
+use Rattle.std.specs.Prelude.{◌≡◌, ℕ, ◌+◌, Bool, not, List, ◌++◌, length, codes, decimal, Option}
 use Rattle.std.specs.Io.KnownBytes.{Appends}
 use Rattle.gtfs_devices.specs.Device.{Rises}
 use Rattle.gtfs_devices.specs.Folder.{Store}
@@ -35,5 +35,5 @@ pub record IsReportOf (limit : ℕ) (held : Option Store) (dir : List ℕ) (befo
 -- why lines were not sent out; the counts are those of the output's failures, before and after
 abbrev pub IsSendingCause : ℕ → ℕ → Refusal → Type 0
 IsSendingCause before after OutputFailed = Rises before after
-IsSendingCause before after OutOfMemory = ⊤
+IsSendingCause before after OutOfMemory = after ≡ before
 IsSendingCause before after _ = ⊥

@@ -1,5 +1,5 @@
 -- How a command ends, whatever the words ask for: what it answers, what the folders hold then, and what went out.
-use Rattle.std.specs.Prelude.{◌≡◌, ◌≤◌, ℕ, Bool, false, List, Option, Result, Ok, Err, IfOk, IfErr}
+use Rattle.std.specs.Prelude.{◌≡◌, ◌≤◌, ℕ, Bool, false, List, Option, Result, Ok, Err, IfOk, IfErr, OnOk}
 use Rattle.std.specs.Io.KnownBytes.{Keeps}
 use Rattle.clap.specs.Words.{Text, takes}
 use Rattle.gtfs_devices.specs.Folder.{Store}
@@ -8,10 +8,10 @@ use Rattle.gtfs_cli.specs.BoardRun.{IsListed, IsUnlisted}
 use Rattle.gtfs_cli.specs.CheckRun.{IsUnchecked}
 use Rattle.gtfs_cli.specs.Checking.{IsReportOf}
 use Rattle.gtfs_cli.specs.MergeRun.{AsksNoMerge, IsMerged, IsUnmerged}
-use Rattle.gtfs_cli.specs.Refusals.{IsCauseInWords, IsCauseOf, UnlessGrave}
+use Rattle.gtfs_cli.specs.Refusals.{IsCauseInWords, IsCauseOf, TellsFailure}
 use Rattle.gtfs_cli.specs.Running.{FailedNowhere, Failures}
 use Rattle.gtfs_cli.specs.TimetableRun.{IsTabled, IsUntabled}
-use Rattle.gtfs_cli.specs.WordsRun.{IsAnswered}
+use Rattle.gtfs_cli.specs.WordsRun.{IsAnswered, SendsAnswer}
 use Rattle.gtfs_cli.specs.declared.commands.refusal.Refusal.{Refusal}
 
 -- the answer of a command that is no check: no check found an error
@@ -30,6 +30,7 @@ pub record EndsCommand (texts : List Text) (limit : ℕ) (held now : Option Stor
   pub tabled : (asked : TimetableTexts) → AsksTimetableOf texts asked → IfOk ended (IsTabled limit held asked old new)
   pub untabled : (asked : TimetableTexts) → AsksTimetableOf texts asked → IfErr ended (IsUntabled limit held asked before after old new)
   pub answered : takes gtfs_app texts ≡ false → IfOk ended (IsAnswered texts)
+  pub answer : takes gtfs_app texts ≡ false → OnOk ended (SendsAnswer texts old new)
   pub unanswered : takes gtfs_app texts ≡ false → IfErr ended (IsCauseInWords texts before.output after.output)
   pub nothing : AreRefused texts → Keeps old new
   pub untouched : takes gtfs_app texts ≡ false → after.folders ≡ before.folders
@@ -38,4 +39,5 @@ pub record EndsCommand (texts : List Text) (limit : ℕ) (held now : Option Stor
   pub unchanged : AsksNoMerge texts → now ≡ held
   pub folders_grow : before.folders ≤ after.folders
   pub output_grows : before.output ≤ after.output
-  pub no_failure : UnlessGrave ended (FailedNowhere before after)
+  pub no_failure : OnOk ended (FailedNowhere before after)
+  pub told : IfErr ended (TellsFailure before after)

@@ -1,5 +1,5 @@
 -- Why a file that the words name is not read, or is not what it has to be.
-use Rattle.std.specs.Prelude.{◌≡◌, ◌⊎◌, ⊤, ℕ, List, Option, IsUtf8}
+use Rattle.std.specs.Prelude.{◌≡◌, ◌⊎◌, ℕ, List, Option, IsUtf8}
 use Rattle.gtfs_devices.specs.Device.{Rises}
 use Rattle.gtfs_devices.specs.Folder.{Store}
 use Rattle.gtfs_devices.specs.declared.folders.FolderFault.{FolderFault}
@@ -14,7 +14,7 @@ use Rattle.gtfs_cli.specs.declared.commands.refusal.Refusal.TheVariants.{NotTher
 abbrev pub IsFileCause : ℕ → Option Store → List ℕ → ℕ → ℕ → FolderFault → Type 0
 IsFileCause limit held path before after faults.Read = Rises before after
 IsFileCause limit held path before after faults.TooLarge = HoldsFile limit held path
-IsFileCause limit held path before after faults.OutOfMemory = ⊤
+IsFileCause limit held path before after faults.OutOfMemory = after ≡ before
 IsFileCause limit held path before after faults.NoFolder = LacksFile held path
 IsFileCause limit held path before after faults.Write = ⊥
 
@@ -23,7 +23,7 @@ abbrev pub IsPathCause : ℕ → Option Store → List ℕ → ℕ → ℕ → R
 IsPathCause limit held path before after (NotThere named) = (named.now ≡ path) × LacksFile held path
 IsPathCause limit held path before after (Unreadable named) = (named.now ≡ path) × (Rises before after ⊎ NamesNoFile path)
 IsPathCause limit held path before after (OverLimit named) = (named.now ≡ path) × HoldsFile limit held path
-IsPathCause limit held path before after OutOfMemory = ⊤
+IsPathCause limit held path before after OutOfMemory = after ≡ before
 IsPathCause limit held path before after _ = ⊥
 
 -- why there is no zone of the file of a path

@@ -6,7 +6,7 @@ use Rattle.gtfs_devices.specs.Folder.{Store}
 use Rattle.gtfs_words.specs.Words.{AsksMergeOf, MergeTexts}
 use Rattle.gtfs_cli.specs.Merges.{EndsMerge, IsMergeCause, PrintsMerge}
 use Rattle.gtfs_cli.specs.Messages.{message}
-use Rattle.gtfs_cli.specs.Refusals.{status_of}
+use Rattle.gtfs_cli.specs.Refusals.{status_of, TellsFailure}
 use Rattle.gtfs_cli.specs.Running.{Failures}
 use Rattle.gtfs_cli.specs.Sending.{Output, Sends}
 use Rattle.gtfs_cli.specs.declared.commands.refusal.Refusal.{Refusal}
@@ -21,10 +21,11 @@ AsksNoMerge texts = (asked : MergeTexts) → AsksMergeOf texts asked → ⊥
 abbrev pub IsMerged : ℕ → Option Store → MergeTexts → Option Store → Option (List ℕ) → Option (List ℕ) → Bool → Type 0
 IsMerged limit held asked now old new failed = PrintsMerge limit held asked now old new × (failed ≡ false)
 
--- the refusal has its cause, and so has what was written and what went out before it
+-- the refusal has its cause and tells of what failed; and this was written and this went out before it
 pub record IsUnmerged (limit : ℕ) (held : Option Store) (asked : MergeTexts) (before after : Failures) (now : Option Store) (old new : Option (List ℕ)) (refusal : Refusal) : Type 0 where
   pub cause : IsMergeCause limit held asked before after refusal
   pub ends : EndsMerge limit held asked now old new refusal
+  pub told : TellsFailure before after refusal
 
 -- ---- how the program ends
 

@@ -19,7 +19,7 @@ use Rattle.gtfs_merge.specs.Merging.{KeepsDepartures}
 use Rattle.gtfs_merge.specs.Near.{report as report_of}
 use Rattle.gtfs_words.specs.Words.{MergeTexts}
 use Rattle.gtfs_cli.specs.MergeOptions.{first_bad_merge, HasMergeValues, IsMergeRequest, MergeRequest}
-use Rattle.gtfs_cli.specs.Running.{Failures, HoldsErrors, HoldsKeptFile, HoldsPassing, HoldsTables, LacksFeed}
+use Rattle.gtfs_cli.specs.Running.{FailedNowhere, Failures, HoldsErrors, HoldsKeptFile, HoldsPassing, HoldsTables, LacksFeed}
 use Rattle.gtfs_cli.specs.Sending.{SendsBeginning}
 use Rattle.gtfs_cli.specs.declared.commands.refusal.Refusal.{Refusal}
 use Rattle.gtfs_cli.specs.declared.commands.refusal.Refusal.TheVariants.{BadValue, NotThere, Unreadable, OverLimit, HasErrors, ZonesDiffer, MergeTooLarge, Unwritable, OutputFailed, OutOfMemory}
@@ -126,7 +126,7 @@ IsMergingCause limit held asked before after (OverLimit path) = OfEither limit h
 IsMergingCause limit held asked before after (HasErrors path) = OfEither limit held asked path.now (HoldsErrors limit held)
 IsMergingCause limit held asked before after ZonesDiffer = HasTwoZones limit held asked
 IsMergingCause limit held asked before after MergeTooLarge = HasLargeMerge limit held asked
-IsMergingCause limit held asked before after OutOfMemory = ⊤
+IsMergingCause limit held asked before after OutOfMemory = FailedNowhere before after
 IsMergingCause limit held asked before after _ = ⊥
 
 -- when a refusal comes where the words ask for a merge; the values of the options are judged before the folders
@@ -135,7 +135,7 @@ IsMergeCause limit held asked before after (BadValue option) = first_bad_merge a
 IsMergeCause limit held asked before after (Unwritable path) =
     (path.now ≡ asked.out) × CanMerge limit held asked × ((asked.out ≡ []) ⊎ Rises before.folders after.folders)
 IsMergeCause limit held asked before after OutputFailed = CanMerge limit held asked × Rises before.output after.output
-IsMergeCause limit held asked before after OutOfMemory = ⊤
+IsMergeCause limit held asked before after OutOfMemory = FailedNowhere before after
 IsMergeCause limit held asked before after refusal = HasMergeValues asked × IsMergingCause limit held asked before after refusal
 
 -- ---- what the folders hold then, and what went out
@@ -190,12 +190,12 @@ IsMergeFault r a b _ = ⊥
 -- why a file is not written, and what the device holds then; the counts are those of its failures, before and after
 abbrev pub IsFileEnd : Option Store → Option Store → ℕ → ℕ → List ℕ → File → Refusal → Type 0
 IsFileEnd old new before after dir x (Unwritable path) = (path.now ≡ dir) × Rises before after × Disturbs old new dir (file_name x)
-IsFileEnd old new before after dir x OutOfMemory = new ≡ old
+IsFileEnd old new before after dir x OutOfMemory = (new ≡ old) × (after ≡ before)
 IsFileEnd old new before after dir x _ = ⊥
 
 -- why the files of a feed are not all written, and what the device holds then
 abbrev pub IsWritingEnd : Option Store → Option Store → ℕ → ℕ → List ℕ → Content → Refusal → Type 0
 IsWritingEnd old new before after dir c (Unwritable path) =
     (path.now ≡ dir) × (((dir ≡ []) × (new ≡ old)) ⊎ ((0 < length dir) × Rises before after × StopsAtOne old new dir c))
-IsWritingEnd old new before after dir c OutOfMemory = HoldsSome old new dir c
+IsWritingEnd old new before after dir c OutOfMemory = HoldsSome old new dir c × (after ≡ before)
 IsWritingEnd old new before after dir c _ = ⊥

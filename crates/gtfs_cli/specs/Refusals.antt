@@ -5,7 +5,7 @@ use Rattle.gtfs_days.specs.Service.{is_service_day}
 use Rattle.gtfs_devices.specs.Device.{Rises}
 use Rattle.gtfs_devices.specs.Folder.{Store}
 use Rattle.gtfs_words.specs.Words.{AreForHelpOrVersion, AreRefused, BoardTexts}
-use Rattle.gtfs_cli.specs.Running.{first_bad, AsksCheck, AsksFor, AsksMerge, AsksTimetable, EndsBeforeItBegins, Failures, HasValues, HoldsErrors, HoldsFile, HoldsKeptFile, HoldsNoZone, HoldsPassing, LacksFeed, LacksFile, LacksStop, NamesNoFile}
+use Rattle.gtfs_cli.specs.Running.{first_bad, AsksCheck, AsksFor, AsksMerge, AsksTimetable, EndsBeforeItBegins, FailedNowhere, Failures, HasValues, HoldsErrors, HoldsFile, HoldsKeptFile, HoldsNoZone, HoldsPassing, LacksFeed, LacksFile, LacksStop, NamesNoFile}
 use Rattle.gtfs_cli.specs.Merges.{IsMergeCause}
 use Rattle.gtfs_cli.specs.Timetables.{IsTimetableCause}
 use Rattle.gtfs_cli.specs.declared.commands.moments.Moment.{Moment}
@@ -44,14 +44,24 @@ abbrev pub status_in : Result Bool Refusal → ℕ
 status_in (Ok failed) = cond failed 1 0
 status_in (Err refusal) = status_of refusal
 
--- the program ends with 3 or 4
-abbrev pub IsGrave : Refusal → Type 0
-IsGrave refusal = 2 < status_of refusal
+-- ---- which devices may have failed where a refusal is told; the counts are those of failures, before and after
 
--- this is so where a call succeeds, and where the refusal is not grave
-abbrev pub UnlessGrave : {T : Type 0} → Result T Refusal → Type 0 → Type 0
-UnlessGrave (Ok x) P = P
-UnlessGrave (Err refusal) P = status_of refusal ≤ 2 → P
+-- the folders failed only where the refusal is of a path that cannot be read or written
+abbrev pub TellsFolders : ℕ → ℕ → Refusal → Type 0
+TellsFolders before after (Unreadable path) = ⊤
+TellsFolders before after (Unwritable path) = ⊤
+TellsFolders before after _ = after ≡ before
+
+-- the output failed only where the refusal is of the output
+abbrev pub TellsOutput : ℕ → ℕ → Refusal → Type 0
+TellsOutput before after OutputFailed = ⊤
+TellsOutput before after _ = after ≡ before
+
+-- what failed is what is told, if anything did
+abbrev pub TellsFailure : Failures → Failures → Refusal → Type 0
+TellsFailure before after refusal = TellsFolders before.folders after.folders refusal × TellsOutput before.output after.output refusal
+
+-- ---- when a refusal comes
 
 -- when a refusal comes where the words ask for a board: that it names the option or the path that is at fault, and that all that is
 -- judged before was found good
@@ -72,7 +82,7 @@ IsCause limit held asked before after (NoZone path) =
 IsCause limit held asked before after UnknownStop = LacksStop limit held asked
 IsCause limit held asked before after UntilBeforeFrom = EndsBeforeItBegins limit held asked
 IsCause limit held asked before after OutputFailed = Rises before.output after.output
-IsCause limit held asked before after OutOfMemory = ⊤
+IsCause limit held asked before after OutOfMemory = FailedNowhere before after
 IsCause limit held asked before after _ = ⊥
 
 -- when a refusal comes where the folder is to be checked, and that it names that folder
@@ -81,7 +91,7 @@ IsCheckCause limit held dir before after (NotThere path) = (path.now ≡ dir) ×
 IsCheckCause limit held dir before after (Unreadable path) = (path.now ≡ dir) × Rises before.folders after.folders
 IsCheckCause limit held dir before after (OverLimit path) = (path.now ≡ dir) × HoldsKeptFile limit held dir
 IsCheckCause limit held dir before after OutputFailed = Rises before.output after.output
-IsCheckCause limit held dir before after OutOfMemory = ⊤
+IsCheckCause limit held dir before after OutOfMemory = FailedNowhere before after
 IsCheckCause limit held dir before after _ = ⊥
 
 -- when a refusal comes where the feed of a folder is to be read, and that it names that folder
@@ -90,7 +100,7 @@ IsReadingCause limit held dir before after (NotThere path) = (path.now ≡ dir) 
 IsReadingCause limit held dir before after (Unreadable path) = (path.now ≡ dir) × Rises before.folders after.folders
 IsReadingCause limit held dir before after (OverLimit path) = (path.now ≡ dir) × HoldsKeptFile limit held dir
 IsReadingCause limit held dir before after (HasErrors path) = (path.now ≡ dir) × HoldsErrors limit held dir
-IsReadingCause limit held dir before after OutOfMemory = ⊤
+IsReadingCause limit held dir before after OutOfMemory = FailedNowhere before after
 IsReadingCause limit held dir before after _ = ⊥
 
 -- when a refusal comes for words alone, which ask for help or the version, or are no usage; the counts are those of the output's failures,
@@ -98,7 +108,7 @@ IsReadingCause limit held dir before after _ = ⊥
 abbrev pub IsCauseInWords : List Text → ℕ → ℕ → Refusal → Type 0
 IsCauseInWords texts before after (Words text) = AreRefused texts
 IsCauseInWords texts before after OutputFailed = AreForHelpOrVersion texts × Rises before after
-IsCauseInWords texts before after OutOfMemory = ⊤
+IsCauseInWords texts before after OutOfMemory = after ≡ before
 IsCauseInWords texts before after _ = ⊥
 
 -- when a refusal comes

@@ -4,7 +4,7 @@ use Rattle.std.specs.Io.KnownBytes.{Keeps}
 use Rattle.gtfs_devices.specs.Folder.{Store}
 use Rattle.gtfs_words.specs.Words.{TimetableTexts}
 use Rattle.gtfs_cli.specs.Messages.{message}
-use Rattle.gtfs_cli.specs.Refusals.{status_of}
+use Rattle.gtfs_cli.specs.Refusals.{status_of, TellsFailure}
 use Rattle.gtfs_cli.specs.Running.{Failures}
 use Rattle.gtfs_cli.specs.Sending.{Output, Sends}
 use Rattle.gtfs_cli.specs.Timetables.{EndsTimetable, IsTimetableCause, PrintsTimetable}
@@ -16,10 +16,11 @@ use Rattle.gtfs_cli.specs.declared.commands.refusal.Refusal.{Refusal}
 abbrev pub IsTabled : ℕ → Option Store → TimetableTexts → Option (List ℕ) → Option (List ℕ) → Bool → Type 0
 IsTabled limit held asked old new failed = PrintsTimetable limit held asked old new × (failed ≡ false)
 
--- the refusal has its cause, and what went out before it is of the timetable
+-- the refusal has its cause and tells of what failed, and what went out before it is of the timetable
 pub record IsUntabled (limit : ℕ) (held : Option Store) (asked : TimetableTexts) (before after : Failures) (old new : Option (List ℕ)) (refusal : Refusal) : Type 0 where
   pub cause : IsTimetableCause limit held asked before after refusal
   pub ends : EndsTimetable limit held asked old new refusal
+  pub told : TellsFailure before after refusal
 
 -- ---- how the program ends
 

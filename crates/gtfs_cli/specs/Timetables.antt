@@ -1,5 +1,5 @@
 -- What `gtfs timetable` prints: the sheets that the words ask for.
-use Rattle.std.specs.Prelude.{◌≡◌, ◌⊎◌, ⊤, ℕ, true, false, List, Option, Some}
+use Rattle.std.specs.Prelude.{◌≡◌, ◌⊎◌, ℕ, true, false, List, Option, Some}
 use Rattle.std.specs.Io.KnownBytes.{Appends, Keeps}
 use Rattle.std.specs.List.{flat_map}
 use Rattle.gtfs_devices.specs.Device.{Rises}
@@ -11,7 +11,7 @@ use Rattle.gtfs_rows.specs.Reading.{content_of}
 use Rattle.gtfs_times.specs.Filling.{timed}
 use Rattle.gtfs_board.specs.Timetable.{is_route, sheet_text, sheets}
 use Rattle.gtfs_words.specs.Words.{TimetableTexts}
-use Rattle.gtfs_cli.specs.Running.{Failures, HoldsErrors, HoldsKeptFile, HoldsTables, LacksFeed}
+use Rattle.gtfs_cli.specs.Running.{FailedNowhere, Failures, HoldsErrors, HoldsKeptFile, HoldsTables, LacksFeed}
 use Rattle.gtfs_cli.specs.Sending.{SendsBeginning}
 use Rattle.gtfs_cli.specs.TimetableOptions.{first_bad_timetable, HasTimetableValues, IsTimetableRequest, TimetableRequest}
 use Rattle.gtfs_cli.specs.declared.commands.refusal.Refusal.{Refusal}
@@ -76,7 +76,7 @@ IsTimetableCause limit held asked before after (OverLimit path) = HasTimetableVa
 IsTimetableCause limit held asked before after (HasErrors path) = HasTimetableValues asked × (path.now ≡ asked.dir) × HoldsErrors limit held asked.dir
 IsTimetableCause limit held asked before after UnknownRoute = LacksRoute limit held asked
 IsTimetableCause limit held asked before after OutputFailed = Rises before.output after.output
-IsTimetableCause limit held asked before after OutOfMemory = ⊤
+IsTimetableCause limit held asked before after OutOfMemory = FailedNowhere before after
 IsTimetableCause limit held asked before after _ = ⊥
 
 -- ---- what the parts of the work give
@@ -90,7 +90,7 @@ IsFirstBadTimetable asked _ = ⊥
 abbrev pub IsSheetsCause : Content → List ℕ → ℕ → ℕ → Refusal → Type 0
 IsSheetsCause f route before after UnknownRoute = is_route f route ≡ false
 IsSheetsCause f route before after OutputFailed = Rises before after
-IsSheetsCause f route before after OutOfMemory = ⊤
+IsSheetsCause f route before after OutOfMemory = after ≡ before
 IsSheetsCause f route before after _ = ⊥
 
 -- a beginning of the text of the sheets of a feed went out, of a route that it has

@@ -1,18 +1,19 @@
 //! The commands of the program, and how each ends.
-ghost use Rattle.std.specs.Prelude.{◌≡◌, ◌≤◌, List, ℕ, false, map, IfOk, IfErr, IfSome, IsErrAnd, OnOk};
+ghost use Rattle.std.specs.Prelude.{◌≡◌, ◌≢◌, ◌≤◌, List, ℕ, false, true, is_ok, map, IfOk, IfErr, IfSome, IsErrAnd, OnOk};
 ghost use Rattle.std.specs.Io.KnownBytes.{Appends, Keeps};
 ghost use Rattle.clap.specs.Words.{Text, takes};
 ghost use Rattle.gtfs_words.specs.Words.{gtfs_app, no_memory, AreRefused, AsksBoardOf, AsksCheckOf, AsksTimetableOf, BoardTexts, IsFaultOf, TimetableTexts, AsksMergeOf, MergeTexts};
 ghost use Rattle.gtfs_cli.specs.BoardRun.{IsBoardRun};
+ghost use Rattle.gtfs_cli.specs.Calls.{AreCalls};
 ghost use Rattle.gtfs_cli.specs.CheckRun.{IsCheckRun};
 ghost use Rattle.gtfs_cli.specs.CommandEnd.{answer_of, EndsCommand};
 ghost use Rattle.gtfs_cli.specs.MergeRun.{AsksNoMerge, IsMergeRun};
 ghost use Rattle.gtfs_cli.specs.Messages.{message};
-ghost use Rattle.gtfs_cli.specs.Refusals.{status_in, IsCauseInWords, UnlessGrave};
+ghost use Rattle.gtfs_cli.specs.Refusals.{status_in, IsCauseInWords, TellsOutput};
 ghost use Rattle.gtfs_cli.specs.Running.{FailedNowhere, IsBadUsage, IsDeviceFault};
 ghost use Rattle.gtfs_cli.specs.Sending.{Sends};
 ghost use Rattle.gtfs_cli.specs.TimetableRun.{IsTimetableRun};
-ghost use Rattle.gtfs_cli.specs.WordsRun.{IsAnswered, IsUntakenRun};
+ghost use Rattle.gtfs_cli.specs.WordsRun.{AsksOne, IsAnswered, IsUntakenRun};
 ghost use Rattle.gtfs_cli.specs.UntakenWords.{text_for_output, IsRefusedBy};
 ghost use Rattle.gtfs_cli.specs.declared.commands.refusal.Refusal.TheVariants.{OutOfMemory};
 
@@ -130,9 +131,14 @@ pub fn run<S: AsStr, F: Folders, O: Out, E: Out>(
         → F.held folders.new ≡ F.held folders.old }
     ensures folders_grow { F.failure_count folders.old ≤ F.failure_count folders.new }
     ensures output_grows { O.failure_count out.old ≤ O.failure_count out.new }
-    ensures no_failure { result ≤ 2 → FailedNowhere
+    ensures no_failure { result ≢ 3 → FailedNowhere
         (record { folders = F.failure_count folders.old; output = O.failure_count out.old })
         (record { folders = F.failure_count folders.new; output = O.failure_count out.new }) }
+    ensures called { AreCalls (map S.text words.now) (result ≤ 1) (result ≡ 0)
+        (F.failure_count folders.old) (F.failure_count folders.new)
+        (F.calls folders.old) (F.calls folders.new) }
+    ensures taken { takes gtfs_app (map S.text words.now) ≡ true
+        → AsksOne (map S.text words.now) }
 {
     let ended = command(alloc, random, words, folders, out);
     finish(ended, err)
@@ -166,11 +172,15 @@ fn command<'w, S: AsStr, F: Folders, O: Out>(
     folders: &mut F,
     out: &mut O,
 ) -> Result<bool, Refusal<'w>>
-    ensures { EndsCommand (map S.text words.entry.now) (F.limit folders.old) (F.held folders.old)
-        (F.held folders.new)
+    ensures ends { EndsCommand (map S.text words.entry.now)
+        (F.limit folders.old) (F.held folders.old) (F.held folders.new)
         (record { folders = F.failure_count folders.old; output = O.failure_count out.old })
         (record { folders = F.failure_count folders.new; output = O.failure_count out.new })
         (O.told out.old) (O.told out.new) result }
+    ensures called { AreCalls (map S.text words.entry.now)
+        (is_ok result ≡ true) (is_ok result ≡ true)
+        (F.failure_count folders.old) (F.failure_count folders.new)
+        (F.calls folders.old) (F.calls folders.new) }
 {
     match read_words(alloc, words) {
         Ok(Command::Check(dir)) => check::print_report(alloc, dir, folders, out),
@@ -214,8 +224,8 @@ fn answer_fault<'w, O: Out>(fault: WordsFault, out: &mut O) -> Result<bool, Refu
     ensures memory { fault ≡ no_memory → IsErrAnd result (λ refusal. refusal ≡ OutOfMemory) }
     ensures unsent { fault ≡ no_memory → Keeps (O.told out.old) (O.told out.new) }
     ensures grows { O.failure_count out.old ≤ O.failure_count out.new }
-    ensures no_failure { UnlessGrave result
-        (O.failure_count out.new ≡ O.failure_count out.old) }
+    ensures no_failure { OnOk result (O.failure_count out.new ≡ O.failure_count out.old) }
+    ensures told { IfErr result (TellsOutput (O.failure_count out.old) (O.failure_count out.new)) }
 {
     match fault {
         WordsFault::Help(help) => {

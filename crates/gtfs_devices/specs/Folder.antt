@@ -80,6 +80,14 @@ Disturbs (Some old) new dir name = (store : Store) × (new ≡ Some store) × Di
 
 -- ---- why a call was refused; the counts are those of failures, before the call and after it
 
+-- the count rose where the device failed, and stayed as it was at each other fault
+abbrev pub CountsFault : FolderFault → ℕ → ℕ → Type 0
+CountsFault Read before after = Rises before after
+CountsFault TooLarge before after = after ≡ before
+CountsFault OutOfMemory before after = after ≡ before
+CountsFault NoFolder before after = after ≡ before
+CountsFault Write before after = Rises before after
+
 -- `names` is refused for a fault of the device, a folder that is not there, or want of memory
 abbrev pub RefusesNames : FolderFault → Option Store → List ℕ → ℕ → ℕ → Type 0
 RefusesNames Read told dir before after = Rises before after

@@ -1,6 +1,6 @@
 ghost use Rattle.std.specs.Prelude.{◌≡◌, ◌≤◌, option_map, vec_len, IfOk, IfErr, IfSome, IsErrOf, OnOk, MatchResult};
 ghost use Rattle.gtfs_devices.specs.Device.{FailsAtLast, MakesCalls};
-ghost use Rattle.gtfs_devices.specs.Folder.{IsByBytes, Lists, Finds, Writes, RefusesNames, RefusesRead, RefusesWrite};
+ghost use Rattle.gtfs_devices.specs.Folder.{CountsFault, IsByBytes, Lists, Finds, Writes, RefusesNames, RefusesRead, RefusesWrite};
 ghost use Rattle.gtfs_devices.specs.Disk.{told, calls, after_fault, IsAllOf, TakesAll, ReadsOver};
 
 use crate::disk_files::{read_file, write_file};
@@ -72,6 +72,7 @@ impl<'a, R: Files + Alloc + Clone + Drop> DiskFolders<'a, R> {
     fn count(&mut self, fault: FolderFault) -> FolderFault
         ensures same { result ≡ fault }
         ensures counts { self.new ≡ after_fault fault self.old }
+        ensures counts_fault { CountsFault fault self.old.failures self.new.failures }
         ensures grows { self.old.failures ≤ self.new.failures }
     {
         if fault == FolderFault::Read || fault == FolderFault::Write {
@@ -101,6 +102,8 @@ impl<'a, R: Files + Alloc + Clone + Drop> Folders for DiskFolders<'a, R> {
         ensures unchanged { told self.new ≡ told self.old }
         ensures grows { self.old.failures ≤ self.new.failures }
         ensures no_failure { OnOk result (self.new.failures ≡ self.old.failures) }
+        ensures counts_fault { IfErr result
+            (λ fault. CountsFault fault self.old.failures self.new.failures) }
         ensures same_limit { self.new.limit ≡ self.old.limit }
         ensures called { MakesCalls 1 (calls self.old) (calls self.new) }
         ensures ends { IsErrOf result FolderFault.Read → FailsAtLast (calls self.new) }
@@ -129,6 +132,8 @@ impl<'a, R: Files + Alloc + Clone + Drop> Folders for DiskFolders<'a, R> {
         ensures unchanged { told self.new ≡ told self.old }
         ensures grows { self.old.failures ≤ self.new.failures }
         ensures no_failure { OnOk result (self.new.failures ≡ self.old.failures) }
+        ensures counts_fault { IfErr result
+            (λ fault. CountsFault fault self.old.failures self.new.failures) }
         ensures same_limit { self.new.limit ≡ self.old.limit }
         ensures called { MakesCalls 1 (calls self.old) (calls self.new) }
         ensures ends { IsErrOf result FolderFault.Read → FailsAtLast (calls self.new) }
@@ -163,6 +168,8 @@ impl<'a, R: Files + Alloc + Clone + Drop> Folders for DiskFolders<'a, R> {
             self.old.failures self.new.failures) }
         ensures grows { self.old.failures ≤ self.new.failures }
         ensures no_failure { OnOk result (self.new.failures ≡ self.old.failures) }
+        ensures counts_fault { IfErr result
+            (λ fault. CountsFault fault self.old.failures self.new.failures) }
         ensures same_limit { self.new.limit ≡ self.old.limit }
         ensures called { MakesCalls 1 (calls self.old) (calls self.new) }
         ensures ends { IsErrOf result FolderFault.Write → FailsAtLast (calls self.new) }

@@ -1,6 +1,6 @@
 ghost use Rattle.std.specs.Prelude.{◌≡◌, ◌≤◌, ℕ, Option, None, option_map, vec_len, IfOk, IfErr, IfSome, IsErrOf, OnOk};
 ghost use Rattle.gtfs_devices.specs.Device.{Calls, FailsAtLast, MakesCalls};
-ghost use Rattle.gtfs_devices.specs.Folder.{Store, IsByBytes, Lists, Finds, Writes, RefusesNames, RefusesRead, RefusesWrite};
+ghost use Rattle.gtfs_devices.specs.Folder.{Store, CountsFault, IsByBytes, Lists, Finds, Writes, RefusesNames, RefusesRead, RefusesWrite};
 
 use gtfs_field::{OutOfMemory, Text};
 use std::alloc::{AllocFailed, Global};
@@ -52,7 +52,7 @@ impl<T: Drop> From<AllocFailed<T>> for FolderFault {
 /// folder under a name, and is a list of bytes.
 ///
 /// A device counts its failures. It answers Read and Write only where that count rose in the very call,
-/// and a call that succeeds leaves the count as it was; a count at 2^64 - 1 stays there and counts as
+/// and a call that ends otherwise leaves the count as it was; a count at 2^64 - 1 stays there and counts as
 /// risen. A device has a limit, the greatest length in bytes of a file that it reads, which never changes.
 /// A device may count its calls too. The contents of a device may be unknown, as those of a disk are: the
 /// clauses on its contents say nothing then.
@@ -78,6 +78,8 @@ pub trait Folders {
         ensures unchanged { held self.new ≡ held self.old }
         ensures grows { failure_count self.old ≤ failure_count self.new }
         ensures no_failure { OnOk result (failure_count self.new ≡ failure_count self.old) }
+        ensures counts_fault { IfErr result
+            (λ fault. CountsFault fault (failure_count self.old) (failure_count self.new)) }
         ensures same_limit { limit self.new ≡ limit self.old }
         ensures called { MakesCalls 1 (calls self.old) (calls self.new) }
         ensures ends { IsErrOf result FolderFault.Read → FailsAtLast (calls self.new) };
@@ -98,6 +100,8 @@ pub trait Folders {
         ensures unchanged { held self.new ≡ held self.old }
         ensures grows { failure_count self.old ≤ failure_count self.new }
         ensures no_failure { OnOk result (failure_count self.new ≡ failure_count self.old) }
+        ensures counts_fault { IfErr result
+            (λ fault. CountsFault fault (failure_count self.old) (failure_count self.new)) }
         ensures same_limit { limit self.new ≡ limit self.old }
         ensures called { MakesCalls 1 (calls self.old) (calls self.new) }
         ensures ends { IsErrOf result FolderFault.Read → FailsAtLast (calls self.new) };
@@ -121,6 +125,8 @@ pub trait Folders {
             (failure_count self.old) (failure_count self.new)) }
         ensures grows { failure_count self.old ≤ failure_count self.new }
         ensures no_failure { OnOk result (failure_count self.new ≡ failure_count self.old) }
+        ensures counts_fault { IfErr result
+            (λ fault. CountsFault fault (failure_count self.old) (failure_count self.new)) }
         ensures same_limit { limit self.new ≡ limit self.old }
         ensures called { MakesCalls 1 (calls self.old) (calls self.new) }
         ensures ends { IsErrOf result FolderFault.Write → FailsAtLast (calls self.new) };

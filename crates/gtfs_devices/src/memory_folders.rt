@@ -2,7 +2,7 @@ ghost use Rattle.std.specs.Prelude.{◌≡◌, ◌≤◌, ◌<◌, ◌-◌, ◌^
 ghost use Rattle.std.specs.Option.{ForSome};
 ghost use Rattle.std.specs.FinMap as finite;
 ghost use Rattle.gtfs_devices.specs.Device.{FailsAtLast, MakesCalls};
-ghost use Rattle.gtfs_devices.specs.Folder.{IsByBytes, Lists, Finds, Writes, RefusesNames, RefusesRead, RefusesWrite, put, put_folder};
+ghost use Rattle.gtfs_devices.specs.Folder.{CountsFault, IsByBytes, Lists, Finds, Writes, RefusesNames, RefusesRead, RefusesWrite, put, put_folder};
 ghost use Rattle.gtfs_devices.specs.Held.{Refuses, calls_of, is_failing, after_call, names_answer, read_answer};
 
 use crate::folders::{FolderFault, Folders};
@@ -120,6 +120,8 @@ impl Folders for MemoryFolders {
         ensures unchanged { Some self.new.store ≡ Some self.old.store }
         ensures grows { self.old.failures ≤ self.new.failures }
         ensures no_failure { OnOk result (self.new.failures ≡ self.old.failures) }
+        ensures counts_fault { IfErr result
+            (λ fault. CountsFault fault self.old.failures self.new.failures) }
         ensures same_limit { self.new.limit ≡ self.old.limit }
         ensures called { MakesCalls 1 (calls_of self.old) (calls_of self.new) }
         ensures ends { IsErrOf result FolderFault.Read → FailsAtLast (calls_of self.new) }
@@ -150,6 +152,8 @@ impl Folders for MemoryFolders {
         ensures unchanged { Some self.new.store ≡ Some self.old.store }
         ensures grows { self.old.failures ≤ self.new.failures }
         ensures no_failure { OnOk result (self.new.failures ≡ self.old.failures) }
+        ensures counts_fault { IfErr result
+            (λ fault. CountsFault fault self.old.failures self.new.failures) }
         ensures same_limit { self.new.limit ≡ self.old.limit }
         ensures called { MakesCalls 1 (calls_of self.old) (calls_of self.new) }
         ensures ends { IsErrOf result FolderFault.Read → FailsAtLast (calls_of self.new) }
@@ -182,6 +186,8 @@ impl Folders for MemoryFolders {
             dir.now name.now self.old.failures self.new.failures) }
         ensures grows { self.old.failures ≤ self.new.failures }
         ensures no_failure { OnOk result (self.new.failures ≡ self.old.failures) }
+        ensures counts_fault { IfErr result
+            (λ fault. CountsFault fault self.old.failures self.new.failures) }
         ensures same_limit { self.new.limit ≡ self.old.limit }
         ensures called { MakesCalls 1 (calls_of self.old) (calls_of self.new) }
         ensures ends { IsErrOf result FolderFault.Write → FailsAtLast (calls_of self.new) }

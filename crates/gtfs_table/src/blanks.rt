@@ -1,6 +1,17 @@
-ghost use Rattle.std.specs.Prelude.{◌≡◌, reverse, true, false};
-ghost use Rattle.gtfs_table.specs.Blanks.{cut, is_blank as blank_of, without_first_blanks};
+ghost use Rattle.std.specs.Prelude.{◌≡◌, if◌then◌else◌, reverse, true, false};
+ghost use Rattle.gtfs_table.specs.Blanks.{cut, is_blank as blank_of, is_control, without_first_blanks};
 ghost use Rattle.gtfs_table.specs.Rows.{is_empty};
+
+/// A space for a control character (codes 0 to 31, and 127), and any other character as it is.
+pub fn plain_character(character: char) -> char
+    ensures { result ≡ (if is_control character then 32 else character) }
+{
+    if character.is_ascii_control() {
+        ' '
+    } else {
+        character
+    }
+}
 
 // The text without the blanks at its ends: a blank is a space or a control character (codes 0 to 31, and 127).
 #[inline(always)]

@@ -5,14 +5,23 @@ ghost use Rattle.gtfs_table.specs.Files.{file_name};
 /// "Dataset Files").
 #[derive(Clone, Copy, Debug, PartialEq, Eq)]
 pub enum File {
+    /// `agency.txt`: the agencies, with their time zones.
     Agency,
+    /// `stops.txt`: the stops, with their places.
     Stops,
+    /// `routes.txt`: the routes.
     Routes,
+    /// `trips.txt`: the trips, each of a route and a service.
     Trips,
+    /// `stop_times.txt`: when each trip comes to its stops and leaves them.
     StopTimes,
+    /// `calendar.txt`: the weekdays of a service, from a first day to a last.
     Calendar,
+    /// `calendar_dates.txt`: the days that are added to a service or removed from it.
     CalendarDates,
+    /// `frequencies.txt`: the trips that run again and again, with a headway.
     Frequencies,
+    /// `transfers.txt`: how to change from one stop, route or trip to another.
     Transfers,
 }
 

@@ -18,6 +18,8 @@
 //! A table keeps all its fields in one buffer, so a file takes about as much memory again as it has
 //! bytes, and a field is found in constant time.
 //!
+//! [`plain_character`] gives a space for a control character, so that no text of a table breaks a line.
+//!
 //! All that `gtfs_devices` has, its folders and outputs, is handed on here.
 //!
 //! ```text
@@ -44,6 +46,7 @@ mod tables;
 mod texts;
 mod writer;
 
+pub use blanks::plain_character;
 pub use file::File;
 pub use gtfs_devices::{
     DiskFolders, Failed, FolderFault, Folders, MemoryFolders, MemoryOut, Out, OutFault, WriteOut,

@@ -2,7 +2,7 @@ ghost use Rattle.std.specs.Prelude.{All, ◌≡◌, ◌≢◌, ◌<◌, ◌≤�
 ghost use Rattle.gtfs_devices.specs.Device.{FailsAtLast, MakesCalls, MakesSomeCalls};
 ghost use Rattle.gtfs_table.specs.Ending.{EndsAtFile, EndsReading};
 ghost use Rattle.gtfs_table.specs.Files.{file_name};
-ghost use Rattle.gtfs_devices.specs.Folder.{IsByBytes, RefusesRead};
+ghost use Rattle.gtfs_devices.specs.Folder.{CountsFault, IsByBytes, RefusesRead};
 ghost use Rattle.gtfs_table.specs.Reading.{is_kept, kept_files, AllHoldWithin, AreOthers, other_names as names_kept_out, HoldsDataset, HoldsTable, HoldsWithin, RefusesDataset, SetsTables};
 ghost use Rattle.gtfs_table.specs.Rows.{is_row as row_of, numbered, records_in, rows as row_numbers};
 ghost use Rattle.gtfs_table.specs.Tables.{column_of, empty_dataset, field_cut, record_at, table_of, table_state, value, with_field, with_record, with_table};
@@ -110,8 +110,10 @@ impl Tables {
     /// Leading byte order marks are dropped, and what follows has to be UTF-8. The records of a file are
     /// those that `csv` reads by default, with no header handling, of any lengths.
     ///
-    /// Refused with [`FolderFault::Read`], with [`FolderFault::TooLarge`] where a kept file is longer than
-    /// the device's limit, with [`FolderFault::NoFolder`] and with [`FolderFault::OutOfMemory`].
+    /// # Errors
+    /// `Read` where the device failed, and its count of failures rose; at any other the count is as it was.
+    /// `TooLarge` where a kept file is longer than the device's limit, `NoFolder` where there is no such
+    /// folder, and `OutOfMemory` where memory is refused.
     pub fn read<F: Folders>(
         alloc: Global,
         folders: &mut F,
@@ -127,6 +129,9 @@ impl Tables {
         ensures grows { F.failure_count folders.old ≤ F.failure_count folders.new }
         ensures no_failure { OnOk result
             (F.failure_count folders.new ≡ F.failure_count folders.old) }
+        ensures counts_fault { IfErr result
+            (λ fault. CountsFault fault
+            (F.failure_count folders.old) (F.failure_count folders.new)) }
         ensures same_limit { F.limit folders.new ≡ F.limit folders.old }
         ensures called { OnOk result (MakesCalls 10 (F.calls folders.old) (F.calls folders.new)) }
         ensures called_until { OnErr result
@@ -243,8 +248,10 @@ impl Tables {
         self.others.as_slice()
     }
 
-    /// Adds a record of this one field to a file, which then counts as there and as UTF-8. A refusal
-    /// leaves all as it was.
+    /// Adds a record of this one field to a file, which then counts as there and as UTF-8.
+    ///
+    /// # Errors
+    /// `OutOfMemory` where memory is refused; all is then as it was.
     pub fn push_record(&mut self, file: File, field: &str) -> Result<(), OutOfMemory>
         ensures ok { OnOk result
             (self.new ≡ with_table self.old file (with_record (table_of self.old file) field.now)) }
@@ -263,7 +270,10 @@ impl Tables {
         }
     }
 
-    /// Adds a field to the last record of a file, which has to have one. A refusal leaves all as it was.
+    /// Adds a field to the last record of a file, which has to have one.
+    ///
+    /// # Errors
+    /// `OutOfMemory` where memory is refused; all is then as it was.
     pub fn push_field(&mut self, file: File, field: &str) -> Result<(), OutOfMemory>
         requires { 0 < length (records_in self.old file) }
         ensures ok { OnOk result
@@ -289,6 +299,9 @@ impl Tables {
     /// Read again, the text gives the same table, if the file is UTF-8 and its very first field does not
     /// begin with a byte order mark, which a reader would cut. A record of one empty field is written as
     /// two quotes, and so is read back too.
+    ///
+    /// # Errors
+    /// `OutOfMemory` where memory is refused.
     pub fn write(&self, alloc: Global, file: File) -> Result<Option<Vec<u8>>, OutOfMemory>
         ensures text { IfOk result (λ text. option_map (λ bytes. bytes.items) text
             ≡ text_of_table (table_of self.now file)) }
@@ -315,6 +328,9 @@ impl Tables {
         ensures grows { F.failure_count folders.old ≤ F.failure_count folders.new }
         ensures no_failure { OnOk result
             (F.failure_count folders.new ≡ F.failure_count folders.old) }
+        ensures counts_fault { IfErr result
+            (λ fault. CountsFault fault
+            (F.failure_count folders.old) (F.failure_count folders.new)) }
         ensures same_limit { F.limit folders.new ≡ F.limit folders.old }
         ensures called { OnOk result (MakesCalls 9 (F.calls folders.old) (F.calls folders.new)) }
         ensures called_until { OnErr result
@@ -381,6 +397,8 @@ fn read_file<F: Folders>(
     ensures unchanged { F.held folders.new ≡ F.held folders.old }
     ensures grows { F.failure_count folders.old ≤ F.failure_count folders.new }
     ensures no_failure { OnOk result (F.failure_count folders.new ≡ F.failure_count folders.old) }
+    ensures counts_fault { IfErr result
+        (λ fault. CountsFault fault (F.failure_count folders.old) (F.failure_count folders.new)) }
     ensures same_limit { F.limit folders.new ≡ F.limit folders.old }
     ensures called { MakesCalls 1 (F.calls folders.old) (F.calls folders.new) }
     ensures ends { IsErrOf result FolderFault.Read → FailsAtLast (F.calls folders.new) }

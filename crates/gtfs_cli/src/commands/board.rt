@@ -1,10 +1,12 @@
-ghost use Rattle.std.specs.Prelude.{◌≡◌, ◌≤◌, IfOk, IfErr, OnOk};
+ghost use Rattle.std.specs.Prelude.{◌≡◌, ◌≢◌, ◌≤◌, IfOk, IfErr, OnOk};
 ghost use Rattle.gtfs_rows.specs.Views.{content_of_parts as content_of};
+ghost use Rattle.gtfs_devices.specs.Device.{FailsAtLast, MakesCalls};
 ghost use Rattle.gtfs_board.specs.Page.{IsPage};
 ghost use Rattle.gtfs_cli.specs.Boards.{request_of, AreValues, EndsBoard, EndsLines, IsLinesCause, IsOpeningCause, ListsBoard, OfBoard, PrintsBoard};
+ghost use Rattle.gtfs_cli.specs.Calls.{MakesAtMost};
 ghost use Rattle.gtfs_words.specs.Words.{texts_of};
 ghost use Rattle.gtfs_cli.specs.Running.{FailedNowhere};
-ghost use Rattle.gtfs_cli.specs.Refusals.{IsCause, UnlessGrave};
+ghost use Rattle.gtfs_cli.specs.Refusals.{IsCause, TellsFailure, TellsOutput};
 
 use crate::commands::feed::read_feed;
 use crate::commands::refusal::Refusal;
@@ -39,9 +41,16 @@ pub(super) fn print_board<'w, F: Folders, O: Out>(
     ensures unchanged { F.held folders.new ≡ F.held folders.old }
     ensures folders_grow { F.failure_count folders.old ≤ F.failure_count folders.new }
     ensures output_grows { O.failure_count out.old ≤ O.failure_count out.new }
-    ensures no_failure { UnlessGrave result (FailedNowhere
+    ensures no_failure { OnOk result (FailedNowhere
         (record { folders = F.failure_count folders.old; output = O.failure_count out.old })
         (record { folders = F.failure_count folders.new; output = O.failure_count out.new })) }
+    ensures told { IfErr result (TellsFailure
+        (record { folders = F.failure_count folders.old; output = O.failure_count out.old })
+        (record { folders = F.failure_count folders.new; output = O.failure_count out.new })) }
+    ensures called { OnOk result (MakesCalls 11 (F.calls folders.old) (F.calls folders.new)) }
+    ensures few { MakesAtMost 11 (F.calls folders.old) (F.calls folders.new) }
+    ensures last { F.failure_count folders.new ≢ F.failure_count folders.old
+        → FailsAtLast (F.calls folders.new) }
 {
     let values = read_values(words)?;
     let feed = read_feed(alloc, random, folders, words.dir)?;
@@ -67,8 +76,8 @@ fn print_lines<'w, O: Out>(
     ensures refused { IfErr result (IsLinesCause (content_of feed.now) zone.now words.now.stop.now
         (request_of values.now) (O.failure_count out.old) (O.failure_count out.new)) }
     ensures grows { O.failure_count out.old ≤ O.failure_count out.new }
-    ensures no_failure { UnlessGrave result
-        (O.failure_count out.new ≡ O.failure_count out.old) }
+    ensures no_failure { OnOk result (O.failure_count out.new ≡ O.failure_count out.old) }
+    ensures told { IfErr result (TellsOutput (O.failure_count out.old) (O.failure_count out.new)) }
 {
     let mut board = open(alloc, feed, zone, words, values)?;
     match write_page(alloc, &mut board, values.limit, out) {

@@ -1,15 +1,17 @@
-ghost use Rattle.std.specs.Prelude.{◌≡◌, ◌≤◌, map, None, string_bytes, IfOk, IfErr, IsUtf8, OnOk};
+ghost use Rattle.std.specs.Prelude.{◌≡◌, ◌≢◌, ◌≤◌, map, None, string_bytes, IfOk, IfErr, IsUtf8, OnOk};
 ghost use Rattle.gtfs_days.specs.Zone.{zone_origin};
+ghost use Rattle.gtfs_devices.specs.Device.{FailsAtLast, MakesCalls};
 ghost use Rattle.gtfs_table.specs.Tables.{without_marks};
 ghost use Rattle.gtfs_rows.specs.Content.{Content};
 ghost use Rattle.gtfs_rows.specs.Views.{content_of_parts as content_of};
 ghost use Rattle.gtfs_words.specs.Words.{boards_texts_of};
 ghost use Rattle.gtfs_cli.specs.Boards.{request_of, ListsBoard};
+ghost use Rattle.gtfs_cli.specs.Calls.{MakesAtMost};
 ghost use Rattle.gtfs_cli.specs.Checking.{IsSendingCause};
 ghost use Rattle.gtfs_cli.specs.LentRequests.{request_texts_of, stop_request_of};
 ghost use Rattle.gtfs_cli.specs.ManyBoards.{EndsBoards, EndsOne, EndsRequests, IsBoardsCause, IsFileFault, IsRequestsFault, PrintsBoards, PrintsOne, PrintsRequests};
 ghost use Rattle.gtfs_cli.specs.Options.{times_of};
-ghost use Rattle.gtfs_cli.specs.Refusals.{IsSound, UnlessGrave};
+ghost use Rattle.gtfs_cli.specs.Refusals.{IsSound, TellsFailure, TellsOutput};
 ghost use Rattle.gtfs_cli.specs.Requests.{fault_in, heading_of, numbered_from, requests_in, requests_of};
 ghost use Rattle.gtfs_cli.specs.Running.{FailedNowhere};
 
@@ -51,9 +53,16 @@ pub(super) fn print_boards<'w, F: Folders, O: Out>(
     ensures unchanged { F.held folders.new ≡ F.held folders.old }
     ensures folders_grow { F.failure_count folders.old ≤ F.failure_count folders.new }
     ensures output_grows { O.failure_count out.old ≤ O.failure_count out.new }
-    ensures no_failure { UnlessGrave result (FailedNowhere
+    ensures no_failure { OnOk result (FailedNowhere
         (record { folders = F.failure_count folders.old; output = O.failure_count out.old })
         (record { folders = F.failure_count folders.new; output = O.failure_count out.new })) }
+    ensures told { IfErr result (TellsFailure
+        (record { folders = F.failure_count folders.old; output = O.failure_count out.old })
+        (record { folders = F.failure_count folders.new; output = O.failure_count out.new })) }
+    ensures called { OnOk result (MakesCalls 12 (F.calls folders.old) (F.calls folders.new)) }
+    ensures few { MakesAtMost 12 (F.calls folders.old) (F.calls folders.new) }
+    ensures last { F.failure_count folders.new ≢ F.failure_count folders.old
+        → FailsAtLast (F.calls folders.new) }
 {
     let feed = read_feed(alloc, random, folders, words.dir)?;
     let zone = read_zone(alloc, folders, words.zone)?;
@@ -84,8 +93,8 @@ fn print_file<'w, O: Out>(
         (times_of words.now.interpolate) bytes.now)
         (O.failure_count out.old) (O.failure_count out.new)) }
     ensures grows { O.failure_count out.old ≤ O.failure_count out.new }
-    ensures no_failure { UnlessGrave result
-        (O.failure_count out.new ≡ O.failure_count out.old) }
+    ensures no_failure { OnOk result (O.failure_count out.new ≡ O.failure_count out.old) }
+    ensures told { IfErr result (TellsOutput (O.failure_count out.old) (O.failure_count out.new)) }
 {
     let Some(text) = text_of(bytes) else {
         return Err(Refusal::Unreadable(words.requests));
@@ -123,8 +132,8 @@ fn print_lines<'w, O: Out>(
         (numbered_from 1 (map (λ l. l.now) lines.now)))
         (O.failure_count out.old) (O.failure_count out.new)) }
     ensures grows { O.failure_count out.old ≤ O.failure_count out.new }
-    ensures no_failure { UnlessGrave result
-        (O.failure_count out.new ≡ O.failure_count out.old) }
+    ensures no_failure { OnOk result (O.failure_count out.new ≡ O.failure_count out.old) }
+    ensures told { IfErr result (TellsOutput (O.failure_count out.old) (O.failure_count out.new)) }
 {
     if let Some(fault) = first_fault(alloc, feed, zone, lines, times)? {
         return Err(Refusal::Line(fault));

@@ -1,12 +1,14 @@
-ghost use Rattle.std.specs.Prelude.{◌≡◌, ◌≤◌, map, count_by, length, IfOk, IfErr, OnOk, OnErr};
+ghost use Rattle.std.specs.Prelude.{◌≡◌, ◌≢◌, ◌≤◌, map, count_by, length, IfOk, IfErr, OnOk, OnErr};
+ghost use Rattle.gtfs_devices.specs.Device.{FailsAtLast, MakesCalls};
 ghost use Rattle.std.specs.Io.KnownBytes.{Appends};
 ghost use Rattle.gtfs_columns.specs.Codes.{is_error};
 ghost use Rattle.gtfs_rules.specs.Report.{problem_line, report_text};
 ghost use Rattle.gtfs_columns.specs.View.{problem_of};
 ghost use Rattle.gtfs_cli.specs.Checking.{counts_text, IsReportOf, IsSendingCause, Prints};
+ghost use Rattle.gtfs_cli.specs.Calls.{MakesAtMost};
 ghost use Rattle.gtfs_cli.specs.CheckRun.{EndsCheck};
 ghost use Rattle.gtfs_cli.specs.Sending.{SendsBeginning};
-ghost use Rattle.gtfs_cli.specs.Refusals.{IsCheckCause, UnlessGrave};
+ghost use Rattle.gtfs_cli.specs.Refusals.{IsCheckCause, TellsFailure};
 ghost use Rattle.gtfs_cli.specs.Running.{FailedNowhere};
 
 use crate::commands::folder::read_tables;
@@ -37,9 +39,16 @@ pub(super) fn print_report<'w, F: Folders, O: Out>(
     ensures unchanged { F.held folders.new ≡ F.held folders.old }
     ensures folders_grow { F.failure_count folders.old ≤ F.failure_count folders.new }
     ensures output_grows { O.failure_count out.old ≤ O.failure_count out.new }
-    ensures no_failure { UnlessGrave result (FailedNowhere
+    ensures no_failure { OnOk result (FailedNowhere
         (record { folders = F.failure_count folders.old; output = O.failure_count out.old })
         (record { folders = F.failure_count folders.new; output = O.failure_count out.new })) }
+    ensures told { IfErr result (TellsFailure
+        (record { folders = F.failure_count folders.old; output = O.failure_count out.old })
+        (record { folders = F.failure_count folders.new; output = O.failure_count out.new })) }
+    ensures called { OnOk result (MakesCalls 10 (F.calls folders.old) (F.calls folders.new)) }
+    ensures few { MakesAtMost 10 (F.calls folders.old) (F.calls folders.new) }
+    ensures last { F.failure_count folders.new ≢ F.failure_count folders.old
+        → FailsAtLast (F.calls folders.new) }
 {
     let tables = read_tables(alloc, folders, dir)?;
     let report = check(alloc, &tables)?;

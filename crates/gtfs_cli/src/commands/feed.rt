@@ -1,7 +1,8 @@
-ghost use Rattle.std.specs.Prelude.{◌≡◌, ◌≤◌, IfOk, IfErr};
+ghost use Rattle.std.specs.Prelude.{◌≡◌, ◌≢◌, ◌≤◌, ℕ, IfOk, IfErr, OnOk};
+ghost use Rattle.gtfs_devices.specs.Device.{FailsAtLast, MakesCalls};
 ghost use Rattle.gtfs_cli.specs.Boards.{HoldsFeed, IsFeedCause, IsFeedOf};
-ghost use Rattle.gtfs_cli.specs.Running.{Failures};
-ghost use Rattle.gtfs_cli.specs.Refusals.{IsReadingCause, UnlessGrave};
+ghost use Rattle.gtfs_cli.specs.Calls.{MakesAtMost};
+ghost use Rattle.gtfs_cli.specs.Refusals.{IsReadingCause, TellsFolders};
 
 use crate::commands::folder::read_tables;
 use crate::commands::refusal::Refusal;
@@ -20,14 +21,21 @@ pub(super) fn read_feed<'w, F: Folders>(
     dir: &'w str,
 ) -> Result<Feed, Refusal<'w>>
     ensures read { IfOk result (HoldsFeed (F.limit folders.old) (F.held folders.old) dir.now) }
-    ensures refused { IfErr result (λ refusal. (before after : Failures)
-        → before.folders ≤ F.failure_count folders.old → F.failure_count folders.new ≤ after.folders
-        → IsReadingCause (F.limit folders.old) (F.held folders.old) dir.now before after refusal) }
+    ensures refused { IfErr result (λ refusal. (output : ℕ)
+        → IsReadingCause (F.limit folders.old) (F.held folders.old) dir.now
+        (record { folders = F.failure_count folders.old; output = output })
+        (record { folders = F.failure_count folders.new; output = output }) refusal) }
     ensures unchanged { F.held folders.new ≡ F.held folders.old }
     ensures same_limit { F.limit folders.new ≡ F.limit folders.old }
     ensures grows { F.failure_count folders.old ≤ F.failure_count folders.new }
-    ensures no_failure { UnlessGrave result
+    ensures no_failure { OnOk result
         (F.failure_count folders.new ≡ F.failure_count folders.old) }
+    ensures told { IfErr result
+        (TellsFolders (F.failure_count folders.old) (F.failure_count folders.new)) }
+    ensures called { OnOk result (MakesCalls 10 (F.calls folders.old) (F.calls folders.new)) }
+    ensures few { MakesAtMost 10 (F.calls folders.old) (F.calls folders.new) }
+    ensures last { F.failure_count folders.new ≢ F.failure_count folders.old
+        → FailsAtLast (F.calls folders.new) }
 {
     let tables = read_tables(alloc, folders, dir)?;
     feed_of(alloc, random, &tables, dir)

@@ -1,6 +1,8 @@
-ghost use Rattle.std.specs.Prelude.{◌≡◌, ◌≤◌, ℕ, IfOk, IfErr};
+ghost use Rattle.std.specs.Prelude.{◌≡◌, ◌≢◌, ◌≤◌, IfOk, IfErr, OnOk};
+ghost use Rattle.gtfs_devices.specs.Device.{FailsAtLast, MakesCalls};
+ghost use Rattle.gtfs_cli.specs.Calls.{MakesAtMost};
 ghost use Rattle.gtfs_cli.specs.FileRead.{IsPathCause};
-ghost use Rattle.gtfs_cli.specs.Refusals.{UnlessGrave};
+ghost use Rattle.gtfs_cli.specs.Refusals.{TellsFolders};
 ghost use Rattle.gtfs_cli.specs.Running.{HoldsBytes};
 
 use crate::commands::folder::of_folder;
@@ -18,14 +20,19 @@ pub(super) fn read_file<'w, F: Folders>(
 ) -> Result<Vec<u8>, Refusal<'w>>
     ensures read { IfOk result (λ bytes. HoldsBytes (F.limit folders.old) (F.held folders.old)
         path.now bytes.items) }
-    ensures refused { IfErr result (λ refusal. (before after : ℕ)
-        → before ≤ F.failure_count folders.old → F.failure_count folders.new ≤ after
-        → IsPathCause (F.limit folders.old) (F.held folders.old) path.now before after refusal) }
+    ensures refused { IfErr result (IsPathCause (F.limit folders.old) (F.held folders.old) path.now
+        (F.failure_count folders.old) (F.failure_count folders.new)) }
     ensures unchanged { F.held folders.new ≡ F.held folders.old }
     ensures same_limit { F.limit folders.new ≡ F.limit folders.old }
     ensures grows { F.failure_count folders.old ≤ F.failure_count folders.new }
-    ensures no_failure { UnlessGrave result
+    ensures no_failure { OnOk result
         (F.failure_count folders.new ≡ F.failure_count folders.old) }
+    ensures told { IfErr result
+        (TellsFolders (F.failure_count folders.old) (F.failure_count folders.new)) }
+    ensures called { OnOk result (MakesCalls 1 (F.calls folders.old) (F.calls folders.new)) }
+    ensures few { MakesAtMost 1 (F.calls folders.old) (F.calls folders.new) }
+    ensures last { F.failure_count folders.new ≢ F.failure_count folders.old
+        → FailsAtLast (F.calls folders.new) }
 {
     let (folder, name) = cut_path(path);
     if name.is_empty() {

@@ -1,9 +1,11 @@
-ghost use Rattle.std.specs.Prelude.{◌≡◌, ◌<◌, ◌≤◌, ℕ, length, Option, IfOk, IfErr};
-ghost use Rattle.gtfs_devices.specs.Folder.{Store};
+ghost use Rattle.std.specs.Prelude.{◌≡◌, ◌≢◌, ◌<◌, ◌≤◌, ℕ, length, Option, IfOk, IfErr, OnOk};
+ghost use Rattle.gtfs_devices.specs.Device.{FailsAtLast, MakesCalls};
+ghost use Rattle.gtfs_devices.specs.Folder.{CountsFault, Store};
 ghost use Rattle.gtfs_table.specs.Reading.{HoldsDataset, RefusesDataset};
+ghost use Rattle.gtfs_cli.specs.Calls.{MakesAtMost};
 ghost use Rattle.gtfs_cli.specs.FileRead.{IsFileCause, IsPathCause};
 ghost use Rattle.gtfs_cli.specs.Running.{Failures, HoldsTables};
-ghost use Rattle.gtfs_cli.specs.Refusals.{IsCheckCause, IsGrave, UnlessGrave};
+ghost use Rattle.gtfs_cli.specs.Refusals.{IsCheckCause, TellsFolders};
 
 use crate::commands::refusal::Refusal;
 use gtfs_table::{FolderFault, Folders, Tables};
@@ -19,15 +21,21 @@ pub(super) fn read_tables<'w, F: Folders>(
     ensures read { IfOk result (λ tables. HoldsDataset (F.held folders.old) dir.now tables) }
     ensures whole { IfOk result (λ tables. HoldsTables (F.limit folders.old)
         (F.held folders.old) dir.now tables) }
-    ensures refused { IfErr result (λ refusal. (before after : Failures)
-        → before.folders ≤ F.failure_count folders.old
-        → F.failure_count folders.new ≤ after.folders
-        → IsCheckCause (F.limit folders.old) (F.held folders.old) dir.now before after refusal) }
+    ensures refused { IfErr result (λ refusal. (output : ℕ)
+        → IsCheckCause (F.limit folders.old) (F.held folders.old) dir.now
+        (record { folders = F.failure_count folders.old; output = output })
+        (record { folders = F.failure_count folders.new; output = output }) refusal) }
     ensures unchanged { F.held folders.new ≡ F.held folders.old }
     ensures same_limit { F.limit folders.new ≡ F.limit folders.old }
     ensures grows { F.failure_count folders.old ≤ F.failure_count folders.new }
-    ensures no_failure { UnlessGrave result
+    ensures no_failure { OnOk result
         (F.failure_count folders.new ≡ F.failure_count folders.old) }
+    ensures told { IfErr result
+        (TellsFolders (F.failure_count folders.old) (F.failure_count folders.new)) }
+    ensures called { OnOk result (MakesCalls 10 (F.calls folders.old) (F.calls folders.new)) }
+    ensures few { MakesAtMost 10 (F.calls folders.old) (F.calls folders.new) }
+    ensures last { F.failure_count folders.new ≢ F.failure_count folders.old
+        → FailsAtLast (F.calls folders.new) }
 {
     if dir.is_empty() {
         return Err(Refusal::NotThere(dir));
@@ -46,8 +54,10 @@ pub(super) fn of_folder(fault: FolderFault, path: &str) -> Refusal<'_>
     ensures check { (limit : ℕ) (held : Option Store) (before after : Failures)
         → 0 < length path.now
         → RefusesDataset fault limit held path.now before.folders after.folders
+        → CountsFault fault before.folders after.folders → after.output ≡ before.output
         → IsCheckCause limit held path.now before after result }
-    ensures grave { IsGrave result }
+    ensures told { (before after : ℕ) → CountsFault fault before after
+        → TellsFolders before after result }
 {
     match fault {
         FolderFault::NoFolder => Refusal::NotThere(path),

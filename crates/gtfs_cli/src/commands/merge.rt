@@ -1,17 +1,19 @@
-ghost use Rattle.std.specs.Prelude.{◌≡◌, ◌<◌, ◌≤◌, ℕ, length, Option, IfOk, IfErr, IfSome, OnOk, true};
+ghost use Rattle.std.specs.Prelude.{◌≡◌, ◌≢◌, ◌<◌, ◌≤◌, ℕ, length, Option, IfOk, IfErr, IfSome, OnOk, true};
 ghost use Rattle.gtfs_days.specs.Service.{is_service_day};
 ghost use Rattle.gtfs_rows.specs.Views.{content_of_parts as content_of};
 ghost use Rattle.gtfs_merge.specs.Merging.{IsMergeOf, KeepsDepartures};
 ghost use Rattle.gtfs_table.specs.Files.{file_name};
-ghost use Rattle.gtfs_devices.specs.Folder.{RefusesWrite, Store, Writes};
+ghost use Rattle.gtfs_devices.specs.Device.{FailsAtLast, MakesCalls};
+ghost use Rattle.gtfs_devices.specs.Folder.{CountsFault, RefusesWrite, Store, Writes};
 ghost use Rattle.gtfs_table.specs.Reading.{kept_files};
 ghost use Rattle.gtfs_table.specs.declared.file.File.{File as FileOf};
+ghost use Rattle.gtfs_cli.specs.Calls.{MakesAtMost};
 ghost use Rattle.gtfs_words.specs.Words.{merge_texts_of};
 ghost use Rattle.gtfs_cli.specs.Merges.{file_limit, file_text, EndsMerge, HoldsFiles, IsFileEnd, IsMergeCause, IsMergeFault, IsMergingCause, IsWritingEnd, PrintsMerge};
 ghost use Rattle.gtfs_cli.specs.MergeOptions.{IsMergeRequest};
 ghost use Rattle.gtfs_cli.specs.MergeParts.{merge_request_of, AllReadAs, HoldsMerge, ReadsAs};
-ghost use Rattle.gtfs_cli.specs.Refusals.{IsGrave, UnlessGrave};
-ghost use Rattle.gtfs_cli.specs.Running.{FailedNowhere, Failures};
+ghost use Rattle.gtfs_cli.specs.Refusals.{TellsFailure, TellsFolders};
+ghost use Rattle.gtfs_cli.specs.Running.{FailedNowhere};
 
 use crate::commands::feed::read_feed;
 use crate::commands::merge_values::{MergeValues, read_merge_values};
@@ -46,9 +48,16 @@ pub(super) fn print_merge<'w, F: Folders, O: Out>(
         (record { folders = F.failure_count folders.new; output = O.failure_count out.new })) }
     ensures folders_grow { F.failure_count folders.old ≤ F.failure_count folders.new }
     ensures output_grows { O.failure_count out.old ≤ O.failure_count out.new }
-    ensures no_failure { UnlessGrave result (FailedNowhere
+    ensures no_failure { OnOk result (FailedNowhere
         (record { folders = F.failure_count folders.old; output = O.failure_count out.old })
         (record { folders = F.failure_count folders.new; output = O.failure_count out.new })) }
+    ensures told { IfErr result (TellsFailure
+        (record { folders = F.failure_count folders.old; output = O.failure_count out.old })
+        (record { folders = F.failure_count folders.new; output = O.failure_count out.new })) }
+    ensures called { OnOk result (MakesCalls 29 (F.calls folders.old) (F.calls folders.new)) }
+    ensures few { MakesAtMost 29 (F.calls folders.old) (F.calls folders.new) }
+    ensures last { F.failure_count folders.new ≢ F.failure_count folders.old
+        → FailsAtLast (F.calls folders.new) }
 {
     let values = read_merge_values(words)?;
     let merged = merge_folders(alloc, random, words, &values, folders)?;
@@ -68,14 +77,20 @@ fn merge_folders<'w, F: Folders>(
     requires { IsMergeRequest (merge_texts_of words.now) (merge_request_of values.now) }
     ensures merged { IfOk result (HoldsMerge (F.limit folders.old) (F.held folders.old)
         (merge_texts_of words.now) values.now.near) }
-    ensures refused { IfErr result (λ refusal. (before after : Failures)
-        → before.folders ≤ F.failure_count folders.old → F.failure_count folders.new ≤ after.folders
+    ensures refused { IfErr result (λ refusal. (output : ℕ)
         → IsMergingCause (F.limit folders.old) (F.held folders.old) (merge_texts_of words.now)
-        before after refusal) }
+        (record { folders = F.failure_count folders.old; output = output })
+        (record { folders = F.failure_count folders.new; output = output }) refusal) }
     ensures unchanged { F.held folders.new ≡ F.held folders.old }
     ensures grows { F.failure_count folders.old ≤ F.failure_count folders.new }
-    ensures no_failure { UnlessGrave result
+    ensures no_failure { OnOk result
         (F.failure_count folders.new ≡ F.failure_count folders.old) }
+    ensures told { IfErr result
+        (TellsFolders (F.failure_count folders.old) (F.failure_count folders.new)) }
+    ensures called { OnOk result (MakesCalls 20 (F.calls folders.old) (F.calls folders.new)) }
+    ensures few { MakesAtMost 20 (F.calls folders.old) (F.calls folders.new) }
+    ensures last { F.failure_count folders.new ≢ F.failure_count folders.old
+        → FailsAtLast (F.calls folders.new) }
 {
     let a = read_feed(alloc, random, folders, words.a)?;
     let b = read_feed(alloc, random, folders, words.b)?;
@@ -127,8 +142,14 @@ fn write_feed<'w, F: Folders>(
     ensures refused { IfErr result (IsWritingEnd (F.held folders.old) (F.held folders.new)
         (F.failure_count folders.old) (F.failure_count folders.new) dir.now (content_of feed.now)) }
     ensures grows { F.failure_count folders.old ≤ F.failure_count folders.new }
-    ensures no_failure { UnlessGrave result
+    ensures no_failure { OnOk result
         (F.failure_count folders.new ≡ F.failure_count folders.old) }
+    ensures told { IfErr result
+        (TellsFolders (F.failure_count folders.old) (F.failure_count folders.new)) }
+    ensures called { OnOk result (MakesCalls 9 (F.calls folders.old) (F.calls folders.new)) }
+    ensures few { MakesAtMost 9 (F.calls folders.old) (F.calls folders.new) }
+    ensures last { F.failure_count folders.new ≢ F.failure_count folders.old
+        → FailsAtLast (F.calls folders.new) }
 {
     if dir.is_empty() {
         return Err(Refusal::Unwritable(dir));
@@ -153,8 +174,14 @@ fn write_file<'w, F: Folders>(
     ensures refused { IfErr result (IsFileEnd (F.held folders.old) (F.held folders.new)
         (F.failure_count folders.old) (F.failure_count folders.new) dir.now file) }
     ensures grows { F.failure_count folders.old ≤ F.failure_count folders.new }
-    ensures no_failure { UnlessGrave result
+    ensures no_failure { OnOk result
         (F.failure_count folders.new ≡ F.failure_count folders.old) }
+    ensures told { IfErr result
+        (TellsFolders (F.failure_count folders.old) (F.failure_count folders.new)) }
+    ensures called { OnOk result (MakesCalls 1 (F.calls folders.old) (F.calls folders.new)) }
+    ensures few { MakesAtMost 1 (F.calls folders.old) (F.calls folders.new) }
+    ensures last { F.failure_count folders.new ≢ F.failure_count folders.old
+        → FailsAtLast (F.calls folders.new) }
 {
     let text = feed.file_text(alloc, file)?;
     match folders.write(alloc, dir, file.name(), text.as_bytes()) {
@@ -167,8 +194,9 @@ fn write_file<'w, F: Folders>(
 fn of_writing(fault: FolderFault, dir: &str) -> Refusal<'_>
     ensures ends { (old new : Option Store) (before after : ℕ) (file : FileOf)
         → RefusesWrite fault old new dir.now (file_name file) before after
-        → IsFileEnd old new before after dir.now file result }
-    ensures grave { IsGrave result }
+        → CountsFault fault before after → IsFileEnd old new before after dir.now file result }
+    ensures told { (before after : ℕ) → CountsFault fault before after
+        → TellsFolders before after result }
 {
     match fault {
         FolderFault::OutOfMemory => Refusal::OutOfMemory,

@@ -1,13 +1,15 @@
-ghost use Rattle.std.specs.Prelude.{◌≡◌, ◌≤◌, ℕ, map, true, IfOk, IfErr, OnOk, OnErr};
+ghost use Rattle.std.specs.Prelude.{◌≡◌, ◌≢◌, ◌≤◌, ℕ, map, true, IfOk, IfErr, OnOk, OnErr};
 ghost use Rattle.std.specs.List.{flat_map};
 ghost use Rattle.std.specs.Io.KnownBytes.{Appends};
+ghost use Rattle.gtfs_devices.specs.Device.{FailsAtLast, MakesCalls};
 ghost use Rattle.gtfs_rows.specs.Views.{content_of_parts as content_of};
 ghost use Rattle.gtfs_times.specs.Filling.{timed};
 ghost use Rattle.gtfs_board.specs.LentSheets.{plain_sheet};
 ghost use Rattle.gtfs_board.specs.Timetable.{is_route, sheet_text, sheets};
 ghost use Rattle.gtfs_words.specs.Words.{timetable_texts_of};
+ghost use Rattle.gtfs_cli.specs.Calls.{MakesAtMost};
 ghost use Rattle.gtfs_cli.specs.Checking.{IsSendingCause};
-ghost use Rattle.gtfs_cli.specs.Refusals.{UnlessGrave};
+ghost use Rattle.gtfs_cli.specs.Refusals.{TellsFailure, TellsOutput};
 ghost use Rattle.gtfs_cli.specs.Running.{FailedNowhere};
 ghost use Rattle.gtfs_cli.specs.Sending.{SendsBeginning};
 ghost use Rattle.gtfs_cli.specs.Timetables.{timetable_request_of, timetable_text, EndsSheets, EndsTimetable, IsSheetsCause, IsTimetableCause, PrintsTimetable};
@@ -43,9 +45,16 @@ pub(super) fn print_timetable<'w, F: Folders, O: Out>(
     ensures unchanged { F.held folders.new ≡ F.held folders.old }
     ensures folders_grow { F.failure_count folders.old ≤ F.failure_count folders.new }
     ensures output_grows { O.failure_count out.old ≤ O.failure_count out.new }
-    ensures no_failure { UnlessGrave result (FailedNowhere
+    ensures no_failure { OnOk result (FailedNowhere
         (record { folders = F.failure_count folders.old; output = O.failure_count out.old })
         (record { folders = F.failure_count folders.new; output = O.failure_count out.new })) }
+    ensures told { IfErr result (TellsFailure
+        (record { folders = F.failure_count folders.old; output = O.failure_count out.old })
+        (record { folders = F.failure_count folders.new; output = O.failure_count out.new })) }
+    ensures called { OnOk result (MakesCalls 10 (F.calls folders.old) (F.calls folders.new)) }
+    ensures few { MakesAtMost 10 (F.calls folders.old) (F.calls folders.new) }
+    ensures last { F.failure_count folders.new ≢ F.failure_count folders.old
+        → FailsAtLast (F.calls folders.new) }
 {
     let values = read_timetable_values(words)?;
     let feed = read_feed(alloc, random, folders, words.dir)?;
@@ -68,8 +77,8 @@ fn print_sheets<'w, O: Out>(
     ensures refused { IfErr result (IsSheetsCause (content_of feed.now) route.now
         (O.failure_count out.old) (O.failure_count out.new)) }
     ensures grows { O.failure_count out.old ≤ O.failure_count out.new }
-    ensures no_failure { UnlessGrave result
-        (O.failure_count out.new ≡ O.failure_count out.old) }
+    ensures no_failure { OnOk result (O.failure_count out.new ≡ O.failure_count out.old) }
+    ensures told { IfErr result (TellsOutput (O.failure_count out.old) (O.failure_count out.new)) }
 {
     let sheets = sheets_of(alloc, feed, route, values)?;
     send_sheets(alloc, sheets.as_slice(), out)
@@ -86,8 +95,8 @@ fn sheets_of<'a, 'w>(
     ensures sheets { IfOk result (λ found. map plain_sheet found.items
         ≡ sheets (timed values.now.times (content_of feed.now)) route.now
         values.now.direction values.now.day) }
-    ensures refused { IfErr result (λ refusal. (before after : ℕ)
-        → IsSheetsCause (content_of feed.now) route.now before after refusal) }
+    ensures refused { IfErr result (λ refusal. (count : ℕ)
+        → IsSheetsCause (content_of feed.now) route.now count count refusal) }
 {
     match timetable(
         alloc,

@@ -1,11 +1,12 @@
-use Rattle.std.proofs.Common.{inr, refl, subst}
+use Rattle.std.proofs.Common.{inr, subst}
 use Rattle.gtfs_rows.specs.Views.{content_of_parts as content_of}
 use Rattle.gtfs_board.specs.Page.{IsCutShort, IsPage, IsStopped}
 use Rattle.gtfs_board.specs.PageFaults.{EndsPage, IsCounted}
 use Rattle.gtfs_board.specs.declared.page.PageFault.{PageFault}
 use Rattle.gtfs_cli.specs.Boards.{request_of, EndsLines, IsLinesCause}
+use Rattle.gtfs_cli.specs.Refusals.{TellsOutput}
 use Rattle.gtfs_cli.proofs.Endings.{told-up}
-use Rattle.gtfs_cli.proofs.Gravely.{of-any}
+use Rattle.gtfs_cli.proofs.FailuresTold.{output-kept}
 use Rattle.gtfs_cli.proofs.Opening.{of-board}
 use Rattle.gtfs_cli.proofs.Printed.{kept, opening-cause, opening-ends}
 use Rattle.gtfs_cli.proofs.commands.board.print_lines.Goals as goal
@@ -30,7 +31,7 @@ returns-in_err-board-clause-refused g c =
     let count = g.O.Out.failure_count c.args.out.now in
     let r = c.in_err-board.field-0.0 in
     told-up c.from_residual.result r (IsLinesCause f z stop asked count count) c.from_residual.ensures.1
-    (opening-cause f z stop asked count count r c.in_err-board.ensures.refused)
+    (opening-cause f z stop asked count r c.in_err-board.ensures.refused)
 
 pub returns-in-Ok-clause-printed : goal.returns-in-Ok-clause-printed
 returns-in-Ok-clause-printed g c =
@@ -67,5 +68,20 @@ returns-in-Err-Out-clause-refused g c =
     let after = g.O.Out.failure_count c.write_page.new.out in
     subst (λ (e : PageFault). IsCounted before after e) c.in-Err-Out.field-0-is c.in-Err-Out.ensures.counted
 
-pub returns-in_err-board-clause-no_failure : goal.returns-in_err-board-clause-no_failure
-returns-in_err-board-clause-no_failure g c = of-any c.from_residual.result _ refl
+pub returns-clause-refused : goal.returns-clause-refused
+returns-clause-refused g c =
+    let before = g.O.Out.failure_count c.args.out.now in
+    let after = g.O.Out.failure_count c.write_page.new.out in
+    subst (λ (e : PageFault). IsCounted before after e) c.in-Err-OutOfMemory.field-0-is c.in-Err-OutOfMemory.ensures.counted
+
+pub returns-clause-told : goal.returns-clause-told
+returns-clause-told g c =
+    let before = g.O.Out.failure_count c.args.out.now in
+    let after = g.O.Out.failure_count c.write_page.new.out in
+    subst (λ (e : PageFault). IsCounted before after e) c.in-Err-OutOfMemory.field-0-is c.in-Err-OutOfMemory.ensures.counted
+
+pub returns-in_err-board-clause-told : goal.returns-in_err-board-clause-told
+returns-in_err-board-clause-told g c =
+    let count = g.O.Out.failure_count c.args.out.now in
+    let r = c.in_err-board.field-0.0 in
+    told-up c.from_residual.result r (TellsOutput count count) c.from_residual.ensures.1 (output-kept count r)

@@ -1,24 +1,24 @@
-use Rattle.std.proofs.Common.{◌∙◌, ℕ, ◌≤◌, Option, refl, subst, arith}
+use Rattle.std.proofs.Common.{◌∙◌, Option, refl, subst, arith}
 use Rattle.std.proofs.lemmas.Result.{IfErr-weaker}
 use Rattle.gtfs_devices.specs.Folder.{Store}
 use Rattle.gtfs_table.specs.Reading.{kept_files}
-use Rattle.gtfs_table.proofs.StoreFacts.{on_ok-map}
+use Rattle.gtfs_table.proofs.FolderFacts.{calls-more}
+use Rattle.gtfs_table.proofs.StoreFacts.{on_ok-always, on_ok-map}
 use Rattle.gtfs_rows.specs.Views.{content_of_parts as content_of}
 use Rattle.gtfs_rows.proofs.Passing.{written_form}
 use Rattle.gtfs_words.specs.Words.{merge_texts_of}
 use Rattle.gtfs_cli.specs.MergeParts.{merge_request_of}
 use Rattle.gtfs_cli.specs.Merges.{EndsMerge, HoldsFiles, IsMergeCause, IsWritingEnd}
 use Rattle.gtfs_cli.specs.NamesReport.{names_report}
+use Rattle.gtfs_cli.specs.Refusals.{TellsFailure}
 use Rattle.gtfs_cli.specs.Running.{Failures}
-use Rattle.gtfs_cli.proofs.Endings.{told-up}
-use Rattle.gtfs_cli.proofs.Gravely.{of-any, passed-up, unless-sent}
+use Rattle.gtfs_cli.proofs.CallsMade.{at-most, few-more, no-calls}
+use Rattle.gtfs_cli.proofs.Endings.{counts, told-up}
+use Rattle.gtfs_cli.proofs.FailuresTold.{folders-kept, folders-since, output-kept, sending-told}
 use Rattle.gtfs_cli.proofs.Printed.{kept}
 use Rattle.gtfs_cli.proofs.ReadBack.{reads-again}
 use Rattle.gtfs_cli.proofs.Unmerged.{all-printed, bad-merge-cause, bad-merge-ends, both-err, merging-cause, merging-ends, printing-cause, printing-ends, writing-cause, writing-ends}
 use Rattle.gtfs_cli.proofs.commands.merge.print_merge.Goals as goal
-
-same : (n : ℕ) → n ≤ n
-same n = omega arith
 
 pub returns-in_err-values-clause-refused : goal.returns-in_err-values-clause-refused
 returns-in_err-values-clause-refused g c =
@@ -51,7 +51,7 @@ returns-in_err-merged-clause-refused g c =
     let after : Failures = record { folders = y; output = g.O.Out.failure_count c.args.out.now } in
     let r = c.in_err-merged.field-0.0 in
     told-up c.from_residual-in_err-merged.result r (IsMergeCause limit held asked before after) c.from_residual-in_err-merged.ensures.1
-    (merging-cause limit held asked (merge_request_of c.in_ok-values.values, c.in_ok-values.ensures.read) before after r (c.in_err-merged.ensures.refused before after (same x) (same y)))
+    (merging-cause limit held asked (merge_request_of c.in_ok-values.values, c.in_ok-values.ensures.read) before after r (c.in_err-merged.ensures.refused (g.O.Out.failure_count c.args.out.now)))
 
 pub returns-in_err-merged-clause-cut_short : goal.returns-in_err-merged-clause-cut_short
 returns-in_err-merged-clause-cut_short g c =
@@ -67,7 +67,7 @@ returns-in_err-merged-clause-cut_short g c =
     let r = c.in_err-merged.field-0.0 in
     told-up c.from_residual-in_err-merged.result r (EndsMerge limit held asked now told told) c.from_residual-in_err-merged.ensures.1
     (merging-ends limit held asked before after now told told (c.merge_folders.ensures.unchanged, kept told) r
-    (c.in_err-merged.ensures.refused before after (same x) (same y)))
+    (c.in_err-merged.ensures.refused (g.O.Out.failure_count c.args.out.now)))
 
 pub returns-in_err-write_feed-clause-refused : goal.returns-in_err-write_feed-clause-refused
 returns-in_err-write_feed-clause-refused g c =
@@ -83,8 +83,8 @@ returns-in_err-write_feed-clause-refused g c =
     let m = c.in_ok-merged.merged in
     let r = c.in_err-write_feed.field-0.0 in
     told-up c.from_residual-in_err-write_feed.result r (IsMergeCause limit held asked before after) c.from_residual-in_err-write_feed.ensures.1
-    (writing-cause limit held asked (content_of m.feed) (names_report c.in_ok-values.values.near m.names) c.in_ok-merged.ensures.merged before after mid now x y
-    c.merge_folders.ensures.grows (same y) r c.in_err-write_feed.ensures.refused)
+    (writing-cause limit held asked (content_of m.feed) (names_report c.in_ok-values.values.near m.names) c.in_ok-merged.ensures.merged before after refl mid now x
+    c.in_ok-merged.ensures.no_failure r c.in_err-write_feed.ensures.refused)
 
 pub returns-in_err-write_feed-clause-cut_short : goal.returns-in_err-write_feed-clause-cut_short
 returns-in_err-write_feed-clause-cut_short g c =
@@ -141,23 +141,78 @@ returns-clause-refused g c =
     let before : Failures = record { folders = g.F.Folders.failure_count c.args.folders.now; output = g.O.Out.failure_count c.args.out.now } in
     let after : Failures = record { folders = g.F.Folders.failure_count c.write_feed.new.folders; output = g.O.Out.failure_count c.print_names.new.out } in
     IfErr-weaker c.print_names.result _ _
-    (printing-cause limit held asked (content_of m.feed) (names_report c.in_ok-values.values.near m.names) c.in_ok-merged.ensures.merged before after)
+    (printing-cause limit held asked (content_of m.feed) (names_report c.in_ok-values.values.near m.names) c.in_ok-merged.ensures.merged before after
+    (c.in_ok-write_feed.ensures.no_failure ∙ c.in_ok-merged.ensures.no_failure))
     c.print_names.ensures.refused
-
-pub returns-in_err-values-clause-no_failure : goal.returns-in_err-values-clause-no_failure
-returns-in_err-values-clause-no_failure g c = of-any c.from_residual.result _ (refl, refl)
-
-pub returns-in_err-merged-clause-no_failure : goal.returns-in_err-merged-clause-no_failure
-returns-in_err-merged-clause-no_failure g c =
-    passed-up c.from_residual-in_err-merged.result c.in_err-merged.field-0.0 _ c.from_residual-in_err-merged.ensures.1
-    (λ light. (c.in_err-merged.ensures.no_failure light, refl))
-
-pub returns-in_err-write_feed-clause-no_failure : goal.returns-in_err-write_feed-clause-no_failure
-returns-in_err-write_feed-clause-no_failure g c =
-    passed-up c.from_residual-in_err-write_feed.result c.in_err-write_feed.field-0.0 _ c.from_residual-in_err-write_feed.ensures.1
-    (λ light. (c.in_err-write_feed.ensures.no_failure light ∙ c.in_ok-merged.ensures.no_failure, refl))
 
 pub returns-clause-no_failure : goal.returns-clause-no_failure
 returns-clause-no_failure g c =
     let written = c.in_ok-write_feed.ensures.no_failure ∙ c.in_ok-merged.ensures.no_failure in
-    unless-sent c.print_names.result _ _ _ c.print_names.ensures.refused (on_ok-map c.print_names.result _ _ (λ same. (written, same)) c.print_names.ensures.no_failure)
+    on_ok-map c.print_names.result _ _ (λ same. (written, same)) c.print_names.ensures.no_failure
+
+pub returns-in_err-values-clause-told : goal.returns-in_err-values-clause-told
+returns-in_err-values-clause-told g c =
+    let x = g.F.Folders.failure_count c.args.folders.now in
+    let output = g.O.Out.failure_count c.args.out.now in
+    let r = c.in_err-values.field-0.0 in
+    told-up c.from_residual.result r (TellsFailure (counts x output) (counts x output)) c.from_residual.ensures.1 (folders-kept x x refl r, output-kept output r)
+
+pub returns-in_err-merged-clause-told : goal.returns-in_err-merged-clause-told
+returns-in_err-merged-clause-told g c =
+    let x = g.F.Folders.failure_count c.args.folders.now in
+    let y = g.F.Folders.failure_count c.merge_folders.new.folders in
+    let output = g.O.Out.failure_count c.args.out.now in
+    let r = c.in_err-merged.field-0.0 in
+    told-up c.from_residual-in_err-merged.result r (TellsFailure (counts x output) (counts y output)) c.from_residual-in_err-merged.ensures.1
+    (c.in_err-merged.ensures.told, output-kept output r)
+
+pub returns-in_err-write_feed-clause-told : goal.returns-in_err-write_feed-clause-told
+returns-in_err-write_feed-clause-told g c =
+    let x = g.F.Folders.failure_count c.args.folders.now in
+    let mid = g.F.Folders.failure_count c.merge_folders.new.folders in
+    let y = g.F.Folders.failure_count c.write_feed.new.folders in
+    let output = g.O.Out.failure_count c.args.out.now in
+    let r = c.in_err-write_feed.field-0.0 in
+    told-up c.from_residual-in_err-write_feed.result r (TellsFailure (counts x output) (counts y output)) c.from_residual-in_err-write_feed.ensures.1
+    (folders-since x mid y c.in_ok-merged.ensures.no_failure r c.in_err-write_feed.ensures.told, output-kept output r)
+
+pub returns-clause-told : goal.returns-clause-told
+returns-clause-told g c =
+    let x = g.F.Folders.failure_count c.args.folders.now in
+    let y = g.F.Folders.failure_count c.write_feed.new.folders in
+    let written = c.in_ok-write_feed.ensures.no_failure ∙ c.in_ok-merged.ensures.no_failure in
+    IfErr-weaker c.print_names.result _ _
+    (λ e cause. (folders-kept x y written e, sending-told (g.O.Out.failure_count c.args.out.now) (g.O.Out.failure_count c.print_names.new.out) e cause))
+    c.print_names.ensures.refused
+
+pub returns-clause-called : goal.returns-clause-called
+returns-clause-called g c =
+    on_ok-always c.print_names.result _
+    (calls-more 20 9 (g.F.Folders.calls c.args.folders.now) (g.F.Folders.calls c.merge_folders.new.folders) (g.F.Folders.calls c.write_feed.new.folders)
+    c.in_ok-merged.ensures.called c.in_ok-write_feed.ensures.called)
+
+pub returns-in_err-values-clause-few : goal.returns-in_err-values-clause-few
+returns-in_err-values-clause-few g c = no-calls 29 (g.F.Folders.calls c.args.folders.now)
+
+pub returns-in_err-merged-clause-few : goal.returns-in_err-merged-clause-few
+returns-in_err-merged-clause-few g c =
+    at-most 29 20 (g.F.Folders.calls c.args.folders.now) (g.F.Folders.calls c.merge_folders.new.folders) (omega arith) c.merge_folders.ensures.few
+
+pub returns-in_err-write_feed-clause-few : goal.returns-in_err-write_feed-clause-few
+returns-in_err-write_feed-clause-few g c =
+    few-more 20 9 (g.F.Folders.calls c.args.folders.now) (g.F.Folders.calls c.merge_folders.new.folders) (g.F.Folders.calls c.write_feed.new.folders)
+    c.in_ok-merged.ensures.called c.write_feed.ensures.few
+
+pub returns-clause-few : goal.returns-clause-few
+returns-clause-few g c =
+    few-more 20 9 (g.F.Folders.calls c.args.folders.now) (g.F.Folders.calls c.merge_folders.new.folders) (g.F.Folders.calls c.write_feed.new.folders)
+    c.in_ok-merged.ensures.called c.write_feed.ensures.few
+
+pub returns-in_err-values-clause-last : goal.returns-in_err-values-clause-last
+returns-in_err-values-clause-last g c = λ differ. absurd (differ refl)
+
+pub returns-in_err-write_feed-clause-last : goal.returns-in_err-write_feed-clause-last
+returns-in_err-write_feed-clause-last g c = λ differ. c.write_feed.ensures.last (λ same. differ (same ∙ c.in_ok-merged.ensures.no_failure))
+
+pub returns-clause-last : goal.returns-clause-last
+returns-clause-last g c = λ differ. c.write_feed.ensures.last (λ same. differ (same ∙ c.in_ok-merged.ensures.no_failure))

@@ -1,5 +1,6 @@
 use Rattle.std.proofs.Common.{◌≡◌, ◌≤◌, take}
 use Rattle.std.specs.List.{All}
+use Rattle.gtfs_devices.specs.Device.{MakesCalls}
 use Rattle.gtfs_table.specs.Reading.{kept_files}
 use Rattle.gtfs_rows.specs.Views.{content_of_parts as content_of}
 use Rattle.gtfs_cli.specs.MergeParts.{ReadsAs}
@@ -12,4 +13,6 @@ invariant-loop-file g l = record {
   read : All (ReadsAs (content_of l.feed)) (take l.file-index kept_files);
   grows : g.F.Folders.failure_count l.initial.folders ≤ g.F.Folders.failure_count l.folders;
   no_failure : g.F.Folders.failure_count l.folders ≡ g.F.Folders.failure_count l.initial.folders;
+  called : MakesCalls l.file-index (g.F.Folders.calls l.initial.folders) (g.F.Folders.calls l.folders);
+  within : l.file-index ≤ 9;
 }

@@ -1,4 +1,4 @@
-use Rattle.std.proofs.Common.{◌∙◌, ap, refl, subst, List, map}
+use Rattle.std.proofs.Common.{◌∙◌, ap, subst, List, map}
 use Rattle.std.specs.Prelude.{flat_map, OnErr, OnOk}
 use Rattle.std.specs.Io.KnownBytes.{Appends}
 use Rattle.std.proofs.lemmas.Result.{IfErr-weaker}
@@ -6,10 +6,11 @@ use Rattle.gtfs_table.proofs.StoreFacts.{on_ok-map}
 use Rattle.gtfs_rows.specs.Views.{content_of_parts as content_of}
 use Rattle.gtfs_board.specs.LentSheets.{plain_sheet}
 use Rattle.gtfs_board.specs.Timetable.{Sheet, sheet_text}
+use Rattle.gtfs_cli.specs.Refusals.{TellsOutput}
 use Rattle.gtfs_cli.specs.Sending.{SendsBeginning}
 use Rattle.gtfs_cli.specs.Timetables.{timetable_request_of, EndsSheets, IsSheetsCause}
 use Rattle.gtfs_cli.proofs.Endings.{told-up}
-use Rattle.gtfs_cli.proofs.Gravely.{of-any, unless-sent}
+use Rattle.gtfs_cli.proofs.FailuresTold.{output-kept, sending-told}
 use Rattle.gtfs_cli.proofs.Printed.{kept}
 use Rattle.gtfs_cli.proofs.Tabled.{no-sheets, sending-cause, sent-ends}
 use Rattle.gtfs_cli.proofs.commands.timetable.print_sheets.Goals as goal
@@ -28,7 +29,7 @@ returns-in_err-sheets-clause-refused g c =
     let f = content_of c.args.feed.now in
     let count = g.O.Out.failure_count c.args.out.now in
     let r = c.in_err-sheets.field-0.0 in
-    told-up c.from_residual.result r (IsSheetsCause f c.args.route.now count count) c.from_residual.ensures.1 (c.in_err-sheets.ensures.refused count count)
+    told-up c.from_residual.result r (IsSheetsCause f c.args.route.now count count) c.from_residual.ensures.1 (c.in_err-sheets.ensures.refused count)
 
 pub returns-clause-known : goal.returns-clause-known
 returns-clause-known g c = on_ok-map c.send_sheets.result _ _ (λ _. c.in_ok-sheets.ensures.known) c.send_sheets.ensures.sent
@@ -57,8 +58,12 @@ returns-clause-refused g c =
     (sending-cause (content_of c.args.feed.now) c.args.route.now (g.O.Out.failure_count c.args.out.now) (g.O.Out.failure_count c.send_sheets.new.out))
     c.send_sheets.ensures.refused
 
-pub returns-in_err-sheets-clause-no_failure : goal.returns-in_err-sheets-clause-no_failure
-returns-in_err-sheets-clause-no_failure g c = of-any c.from_residual.result _ refl
+pub returns-in_err-sheets-clause-told : goal.returns-in_err-sheets-clause-told
+returns-in_err-sheets-clause-told g c =
+    let count = g.O.Out.failure_count c.args.out.now in
+    let r = c.in_err-sheets.field-0.0 in
+    told-up c.from_residual.result r (TellsOutput count count) c.from_residual.ensures.1 (output-kept count r)
 
-pub returns-clause-no_failure : goal.returns-clause-no_failure
-returns-clause-no_failure g c = unless-sent c.send_sheets.result _ _ _ c.send_sheets.ensures.refused c.send_sheets.ensures.no_failure
+pub returns-clause-told : goal.returns-clause-told
+returns-clause-told g c =
+    IfErr-weaker c.send_sheets.result _ _ (sending-told (g.O.Out.failure_count c.args.out.now) (g.O.Out.failure_count c.send_sheets.new.out)) c.send_sheets.ensures.refused

@@ -1,17 +1,17 @@
-use Rattle.std.proofs.Common.{ℕ, ◌≤◌, refl, arith}
+use Rattle.std.proofs.Common.{refl}
 use Rattle.std.proofs.lemmas.Result.{IfErr-weaker}
+use Rattle.gtfs_table.proofs.StoreFacts.{on_ok-always, on_ok-map}
 use Rattle.gtfs_words.specs.Words.{timetable_texts_of}
+use Rattle.gtfs_cli.specs.Refusals.{TellsFailure}
 use Rattle.gtfs_cli.specs.Running.{Failures}
 use Rattle.gtfs_cli.specs.Timetables.{timetable_request_of, EndsTimetable, IsTimetableCause}
-use Rattle.gtfs_cli.proofs.Endings.{timetable-cause, told-up}
-use Rattle.gtfs_cli.proofs.Gravely.{of-any, passed-up, unless-then}
+use Rattle.gtfs_cli.proofs.CallsMade.{no-calls}
+use Rattle.gtfs_cli.proofs.Endings.{counts, timetable-cause, told-up}
+use Rattle.gtfs_cli.proofs.FailuresTold.{folders-kept, output-kept}
 use Rattle.gtfs_cli.proofs.Parts.{both-then}
 use Rattle.gtfs_cli.proofs.Printed.{kept}
 use Rattle.gtfs_cli.proofs.Tabled.{bad-timetable-cause, bad-timetable-ends, none-tabled, tabled-cause, tabled-ends, tabled-of}
 use Rattle.gtfs_cli.proofs.commands.timetable.print_timetable.Goals as goal
-
-same : (n : ℕ) → n ≤ n
-same n = omega arith
 
 pub returns-in_err-values-clause-refused : goal.returns-in_err-values-clause-refused
 returns-in_err-values-clause-refused g c =
@@ -45,7 +45,7 @@ returns-in_err-feed-clause-refused g c =
     let r = c.in_err-feed.field-0.0 in
     told-up c.from_residual-in_err-feed.result r (IsTimetableCause limit held asked before after) c.from_residual-in_err-feed.ensures.1
     (timetable-cause limit held asked before after r (timetable_request_of c.in_ok-values.values, c.in_ok-values.ensures.read)
-    (c.in_err-feed.ensures.refused before after (same x) (same y)))
+    (c.in_err-feed.ensures.refused (g.O.Out.failure_count c.args.out.now)))
 
 pub returns-in_err-feed-clause-cut_short : goal.returns-in_err-feed-clause-cut_short
 returns-in_err-feed-clause-cut_short g c =
@@ -58,8 +58,8 @@ returns-in_err-feed-clause-cut_short g c =
     let r = c.in_err-feed.field-0.0 in
     told-up c.from_residual-in_err-feed.result r (EndsTimetable limit held asked told told) c.from_residual-in_err-feed.ensures.1
     (none-tabled limit held asked x y r told told
-    (λ before after first last. timetable-cause limit held asked before after r (timetable_request_of c.in_ok-values.values, c.in_ok-values.ensures.read)
-    (c.in_err-feed.ensures.refused before after first last)) (kept told))
+    (λ output. timetable-cause limit held asked (counts x output) (counts y output) r (timetable_request_of c.in_ok-values.values, c.in_ok-values.ensures.read)
+    (c.in_err-feed.ensures.refused output)) (kept told))
 
 pub returns-clause-printed : goal.returns-clause-printed
 returns-clause-printed g c =
@@ -89,17 +89,40 @@ returns-clause-refused g c =
     let before : Failures = record { folders = g.F.Folders.failure_count c.args.folders.now; output = g.O.Out.failure_count c.args.out.now } in
     let after : Failures = record { folders = g.F.Folders.failure_count c.read_feed.new.folders; output = g.O.Out.failure_count c.print_sheets.new.out } in
     IfErr-weaker c.print_sheets.result _ _
-    (tabled-cause limit held asked c.in_ok-feed.feed (timetable_request_of c.in_ok-values.values) c.in_ok-feed.ensures.read c.in_ok-values.ensures.read before after)
+    (tabled-cause limit held asked c.in_ok-feed.feed (timetable_request_of c.in_ok-values.values) c.in_ok-feed.ensures.read c.in_ok-values.ensures.read before after
+    c.in_ok-feed.ensures.no_failure)
     c.print_sheets.ensures.refused
 
-pub returns-in_err-values-clause-no_failure : goal.returns-in_err-values-clause-no_failure
-returns-in_err-values-clause-no_failure g c = of-any c.from_residual.result _ (refl, refl)
-
-pub returns-in_err-feed-clause-no_failure : goal.returns-in_err-feed-clause-no_failure
-returns-in_err-feed-clause-no_failure g c =
-    passed-up c.from_residual-in_err-feed.result c.in_err-feed.field-0.0 _ c.from_residual-in_err-feed.ensures.1
-    (λ light. (c.in_err-feed.ensures.no_failure light, refl))
-
 pub returns-clause-no_failure : goal.returns-clause-no_failure
-returns-clause-no_failure g c =
-    unless-then c.print_sheets.result _ _ (λ same. (c.in_ok-feed.ensures.no_failure, same)) c.print_sheets.ensures.no_failure
+returns-clause-no_failure g c = on_ok-map c.print_sheets.result _ _ (λ same. (c.in_ok-feed.ensures.no_failure, same)) c.print_sheets.ensures.no_failure
+
+pub returns-in_err-values-clause-told : goal.returns-in_err-values-clause-told
+returns-in_err-values-clause-told g c =
+    let x = g.F.Folders.failure_count c.args.folders.now in
+    let output = g.O.Out.failure_count c.args.out.now in
+    let r = c.in_err-values.field-0.0 in
+    told-up c.from_residual.result r (TellsFailure (counts x output) (counts x output)) c.from_residual.ensures.1 (folders-kept x x refl r, output-kept output r)
+
+pub returns-in_err-feed-clause-told : goal.returns-in_err-feed-clause-told
+returns-in_err-feed-clause-told g c =
+    let x = g.F.Folders.failure_count c.args.folders.now in
+    let y = g.F.Folders.failure_count c.read_feed.new.folders in
+    let output = g.O.Out.failure_count c.args.out.now in
+    let r = c.in_err-feed.field-0.0 in
+    told-up c.from_residual-in_err-feed.result r (TellsFailure (counts x output) (counts y output)) c.from_residual-in_err-feed.ensures.1
+    (c.in_err-feed.ensures.told, output-kept output r)
+
+pub returns-clause-told : goal.returns-clause-told
+returns-clause-told g c =
+    let x = g.F.Folders.failure_count c.args.folders.now in
+    let y = g.F.Folders.failure_count c.read_feed.new.folders in
+    IfErr-weaker c.print_sheets.result _ _ (λ e told. (folders-kept x y c.in_ok-feed.ensures.no_failure e, told)) c.print_sheets.ensures.told
+
+pub returns-clause-called : goal.returns-clause-called
+returns-clause-called g c = on_ok-always c.print_sheets.result _ c.in_ok-feed.ensures.called
+
+pub returns-in_err-values-clause-few : goal.returns-in_err-values-clause-few
+returns-in_err-values-clause-few g c = no-calls 10 (g.F.Folders.calls c.args.folders.now)
+
+pub returns-in_err-values-clause-last : goal.returns-in_err-values-clause-last
+returns-in_err-values-clause-last g c = λ differ. absurd (differ refl)

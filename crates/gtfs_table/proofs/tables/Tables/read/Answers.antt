@@ -1,5 +1,6 @@
-use Rattle.std.proofs.Common.{sym, subst, inl, inr}
+use Rattle.std.proofs.Common.{ℕ, sym, subst, inl, inr}
 use Rattle.gtfs_devices.specs.Device.{MakesSomeCalls}
+use Rattle.gtfs_devices.specs.Folder.{CountsFault}
 use Rattle.gtfs_table.specs.Ending.{EndsReading}
 use Rattle.gtfs_table.specs.Reading.{AreOthers}
 use Rattle.gtfs_devices.specs.declared.folders.FolderFault.{FolderFault}
@@ -58,3 +59,11 @@ returns-in_err-read_files-clause-stopped g c =
     c.in_err-read_files.ensures.stopped in
     of-fault c.from_residual-in_err-read_files.result ends fault c.from_residual-in_err-read_files.ensures.1
     (inr (g.F.Folders.calls c.names.new.self, c.names.ensures.called, file))
+
+pub returns-in_err-read_files-clause-counts_fault : goal.returns-in_err-read_files-clause-counts_fault
+returns-in_err-read_files-clause-counts_fault g c =
+    let before = g.F.Folders.failure_count c.args.folders.now in
+    let after = g.F.Folders.failure_count c.read_files.new.folders in
+    let fault = c.in_err-read_files.field-0.0 in
+    of-fault c.from_residual-in_err-read_files.result (λ e. CountsFault e before after) fault c.from_residual-in_err-read_files.ensures.1
+    (subst (λ (n : ℕ). CountsFault fault n after) c.in_ok-names.ensures.no_failure c.in_err-read_files.ensures.counts_fault)

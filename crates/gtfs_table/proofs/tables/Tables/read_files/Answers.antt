@@ -1,6 +1,6 @@
 use Rattle.std.proofs.Common.{◌≡◌, ◌∙◌, ◌+◌, ℕ, Option, get_or, take, subst, refl, arith}
 use Rattle.gtfs_devices.specs.Device.{MakesSomeCalls}
-use Rattle.gtfs_devices.specs.Folder.{Store}
+use Rattle.gtfs_devices.specs.Folder.{CountsFault, Store}
 use Rattle.gtfs_table.specs.Reading.{AllHoldWithin, HoldsTable, HoldsWithin, kept_files}
 use Rattle.gtfs_table.specs.declared.file.File.TheVariants as file
 use Rattle.gtfs_table.specs.Ending.{EndsAtFile}
@@ -68,3 +68,11 @@ returns-in_err-table-clause-stopped g c =
     let refused = refused-from fault limit _ held _ dir name before _ after inv.bound inv.same inv.none c.in_err-table.ensures.refused in
     of-fault c.from_residual.result (λ e. EndsAtFile e limit held dir before after a b) fault c.from_residual.ensures.1
     (ends-at fault limit held dir before after n file.Agency a _ b (omega (arith, c.loop-file-test.true)) inv.within refused inv.called c.read_file.ensures.called)
+
+pub returns-in_err-table-clause-counts_fault : goal.returns-in_err-table-clause-counts_fault
+returns-in_err-table-clause-counts_fault g c =
+    let before = g.F.Folders.failure_count c.args.folders.now in
+    let after = g.F.Folders.failure_count c.read_file.new.folders in
+    let fault = c.in_err-table.field-0.0 in
+    of-fault c.from_residual.result (λ e. CountsFault e before after) fault c.from_residual.ensures.1
+    (subst (λ (n : ℕ). CountsFault fault n after) c.loop-file.invariant.none c.in_err-table.ensures.counts_fault)
