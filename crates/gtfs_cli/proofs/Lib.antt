@@ -40,3 +40,5 @@ mod RequestLines
 mod RequestBoards
 mod FilesRead
 mod ManyBoards
+mod RequestsEnds
+mod OneBoards
