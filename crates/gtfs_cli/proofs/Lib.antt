@@ -42,3 +42,4 @@ mod FilesRead
 mod ManyBoards
 mod RequestsEnds
 mod OneBoards
+mod RunBoards

@@ -13,7 +13,7 @@ use Rattle.gtfs_words.specs.Words.{BoardsTexts}
 use Rattle.gtfs_cli.specs.Boards.{HoldsFeed}
 use Rattle.gtfs_cli.specs.Checking.{IsSendingCause}
 use Rattle.gtfs_cli.specs.FileRead.{IsPathCause, IsZoneCause}
-use Rattle.gtfs_cli.specs.ManyBoards.{BoardsSetting, BeginsBoard, BeginsWhole, EndsBoards, EndsRequests, IsBoardsCause, IsFileFault, IsRequestsCause, IsRequestsFault, PrintsBoards, PrintsRequests, StopsIn, StopsInBoards}
+use Rattle.gtfs_cli.specs.ManyBoards.{AreAllBoards, BoardsSetting, BeginsBoard, BeginsWhole, EndsBoards, EndsRequests, IsBoardsCause, IsFileFault, IsRequestsCause, IsRequestsFault, PrintsBoards, PrintsRequests, StopsIn, StopsInBoards}
 use Rattle.gtfs_cli.specs.Options.{times_of}
 use Rattle.gtfs_cli.specs.Refusals.{IsReadingCause}
 use Rattle.gtfs_cli.specs.Requests.{requests_of, StopRequest}
@@ -80,7 +80,8 @@ module _ (limit : ℕ) (held : Option Store) (asked : BoardsTexts) (feed : Feed)
 
   pub boards-of : (old new : Option (List ℕ)) → IsUtf8 (without_marks bytes) → PrintsRequests (content_of_feed feed) z (requests_by (content_of_feed feed)) old new
       → PrintsBoards limit held asked old new
-  boards-of old new utf8 printed = (setting utf8, subst (λ (f : Content). PrintsRequests f z (requests_by f) old new) h.is_feed.1 printed)
+  boards-of old new utf8 (text, are, out) =
+      (text, (setting utf8, subst (λ (f : Content). AreAllBoards f z (requests_by f) text) h.is_feed.1 are), out)
 
   stops_in : (Part : Content → Zone → StopRequest → List ℕ → Type 0) (old new : Option (List ℕ)) → IsUtf8 (without_marks bytes)
       → IsOkAnd (requests_by (content_of_feed feed)) (λ qs. StopsIn Part (content_of_feed feed) z qs old new) → StopsInBoards Part limit held asked old new

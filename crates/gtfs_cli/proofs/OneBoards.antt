@@ -173,10 +173,10 @@ module _ (limit : ℕ) (store : Store) (asked : BoardsTexts) where
       let q = there (requests_at limit (Some store) asked t) _ b.text.1 in
       let is : Ok p.0 ≡ Ok q.0 = sym p.1 ∙ one_judgement s t ∙ q.1 in
       let same : p.0 ≡ q.0 = cc is in
-      let of_dataset = subst (λ (d : Dataset). AreBoards (content_of d) s.zone p.0 p.2.0) (same_dataset s t) p.2.1 in
-      let of_requests = subst (λ (qs : List StopRequest). AreBoards (content_of t.dataset) s.zone qs p.2.0) same of_dataset in
-      let text = one_boards_text s.zone t.zone (one_zone_of s t) (content_of t.dataset) q.0 p.2.0 q.2.0 of_requests q.2.1 in
-      alike x y (p.2.2 ∙ text ∙ sym q.2.2) (a.told ∙ sym b.told) (a.status ∙ sym b.status)
+      let of_dataset = subst (λ (d : Dataset). AreBoards (content_of d) s.zone p.0 x.text) (same_dataset s t) p.2 in
+      let of_requests = subst (λ (qs : List StopRequest). AreBoards (content_of t.dataset) s.zone qs x.text) same of_dataset in
+      let text = one_boards_text s.zone t.zone (one_zone_of s t) (content_of t.dataset) q.0 x.text y.text of_requests q.2 in
+      alike x y text (a.told ∙ sym b.told) (a.status ∙ sym b.status)
 
   refuses_made : Apart Outcome Refuses Made
   refuses_made x y a b =

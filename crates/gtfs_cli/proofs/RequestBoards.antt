@@ -12,7 +12,7 @@ use Rattle.gtfs_board.specs.Lines.{Listed}
 use Rattle.gtfs_board.specs.Page.{AreWritten, IsCutShort, IsPage, IsStopped}
 use Rattle.gtfs_times.specs.declared.times.Times.{Times}
 use Rattle.gtfs_cli.specs.Boards.{ListsBoard, OfBoard}
-use Rattle.gtfs_cli.specs.ManyBoards.{AreBoards, BeginsBoard, BeginsWhole, EndsOne, EndsRequests, IsTextOf, PrintsOne, PrintsRequests, StopsIn}
+use Rattle.gtfs_cli.specs.ManyBoards.{AreAllBoards, AreBoards, BeginsBoard, BeginsWhole, EndsOne, EndsRequests, IsTextOf, PrintsOne, PrintsRequests, StopsIn}
 use Rattle.gtfs_cli.specs.Requests.{fault_in, heading_of, stop_request, StopRequest}
 use Rattle.gtfs_cli.specs.Sending.{SendsBeginning}
 use Rattle.gtfs_cli.specs.declared.commands.refusal.Refusal.{Refusal}
@@ -156,7 +156,7 @@ module _ (f : Content) (z : Zone) where
         let none : [] ≡ p.others = cc (p.rest) in
         let whole : Ok p.done ≡ asked_from f (zone_origin z) times 1 texts =
         sym (p.whole ∙ ap (λ (qs : List StopRequest). Ok (p.done ++ qs)) (sym none) ∙ ap (λ (qs : List StopRequest). Ok qs) (append-nil p.done)) in
-        subst (λ r. PrintsRequests f z r old now) whole (p.text, p.are_boards, p.out)
+        (p.text, subst (λ r. AreAllBoards f z r p.text) whole p.are_boards, p.out)
 
     module _ (n : ℕ) (l : List ℕ) (ls : List (List ℕ)) (mid now : Option (List ℕ)) (q : StopRequest) (p : Printed n (l ∷ ls) mid) (asks : Some q ≡ stop_request times l) where
       stops_in : (Part : Content → Zone → StopRequest → List ℕ → Type 0) (part : List ℕ) → Part f z q part → Appends mid now part

@@ -73,9 +73,13 @@ pub record BoardsSetting (limit : ℕ) (held : Option Store) (asked : BoardsText
 abbrev pub requests_at : (limit : ℕ) (held : Option Store) (asked : BoardsTexts) → BoardsSetting limit held asked → Result (List StopRequest) RequestFault
 requests_at limit held asked s = requests_of (content_of s.dataset) (zone_origin s.zone) (times_of asked.interpolate) s.bytes
 
--- no line is refused, and the text of all boards went out
+-- no line is refused, and this is the text of all boards
+abbrev pub AreAllBoards : Content → Zone → Result (List StopRequest) RequestFault → List ℕ → Type 0
+AreAllBoards f z asked text = IsOkAnd asked (λ qs. AreBoards f z qs text)
+
+-- it went out
 abbrev pub PrintsRequests : Content → Zone → Result (List StopRequest) RequestFault → Option (List ℕ) → Option (List ℕ) → Type 0
-PrintsRequests f z asked before after = IsOkAnd asked (λ qs. (text : List ℕ) × AreBoards f z qs text × Appends before after text)
+PrintsRequests f z asked before after = (text : List ℕ) × AreAllBoards f z asked text × Appends before after text
 
 -- what went out where a refusal came: a beginning of that text where the output failed, whole lines or nothing where memory ran out, and
 -- else nothing
@@ -84,10 +88,14 @@ EndsRequests f z asked before after OutputFailed = IsOkAnd asked (λ qs. StopsIn
 EndsRequests f z asked before after OutOfMemory = Keeps before after ⊎ IsOkAnd asked (λ qs. StopsIn BeginsWhole f z qs before after)
 EndsRequests f z asked before after _ = Keeps before after
 
--- the text of all boards that the words ask for went out
+-- the text of all boards that the words ask for
+abbrev pub IsBoardsText : ℕ → Option Store → BoardsTexts → List ℕ → Type 0
+IsBoardsText limit held asked text =
+    (s : BoardsSetting limit held asked) × AreAllBoards (content_of s.dataset) s.zone (requests_at limit held asked s) text
+
+-- it went out
 abbrev pub PrintsBoards : ℕ → Option Store → BoardsTexts → Option (List ℕ) → Option (List ℕ) → Type 0
-PrintsBoards limit held asked before after =
-    (s : BoardsSetting limit held asked) × PrintsRequests (content_of s.dataset) s.zone (requests_at limit held asked s) before after
+PrintsBoards limit held asked before after = (text : List ℕ) × IsBoardsText limit held asked text × Appends before after text
 
 -- no line of the file is refused, and its boards went out so
 abbrev pub StopsInBoards : (Content → Zone → StopRequest → List ℕ → Type 0) → ℕ → Option Store → BoardsTexts → Option (List ℕ) → Option (List ℕ) → Type 0

@@ -6,7 +6,7 @@ use Rattle.gtfs_columns.specs.Problems.{Problem, passes, IsReport}
 use Rattle.gtfs_rules.specs.Report.{report_text}
 use Rattle.gtfs_words.specs.Words.{BoardTexts, BoardsTexts, MergeTexts, TimetableTexts}
 use Rattle.gtfs_cli.specs.Boards.{PrintsBoard}
-use Rattle.gtfs_cli.specs.ManyBoards.{IsBoardsCause, PrintsBoards}
+use Rattle.gtfs_cli.specs.ManyBoards.{IsBoardsCause, IsBoardsText}
 use Rattle.gtfs_cli.specs.Merges.{IsMergeCause, PrintsMerge}
 use Rattle.gtfs_cli.specs.Messages.{message}
 use Rattle.gtfs_cli.specs.Refusals.{status_of, IsCause, IsCheckCause}
@@ -56,9 +56,9 @@ pub record IsBoarded (limit : ℕ) (held : Option Store) (asked : BoardTexts) (o
   pub told : o.told ≡ []
   pub status : o.status ≡ 0
 
--- the boards that the words ask for, as they go out to an output to which nothing went before
+-- the boards that the words ask for
 pub record AreMade (limit : ℕ) (held : Option Store) (asked : BoardsTexts) (o : Outcome) : Type 0 where
-  pub text : PrintsBoards limit held asked (Some []) (Some o.text)
+  pub text : IsBoardsText limit held asked o.text
   pub told : o.told ≡ []
   pub status : o.status ≡ 0
 
