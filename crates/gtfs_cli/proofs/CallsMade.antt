@@ -1,5 +1,5 @@
 -- How many calls of the folders are made.
-use Rattle.std.proofs.Common.{◌≡◌, ◌≢◌, ℕ, ◌+◌, ◌≤◌, Bool, true, Option, Result, Ok, Err, refl, arith}
+use Rattle.std.proofs.Common.{◌≡◌, ◌≢◌, ℕ, ◌+◌, ◌≤◌, true, Option, Result, Ok, Err, refl, arith}
 use Rattle.std.specs.Prelude.{is_ok, IsErrAnd, OnOk}
 use Rattle.gtfs_devices.specs.Device.{Calls, MakesCalls, MakesSomeCalls}
 use Rattle.gtfs_devices.specs.Folder.{CountsFault}

@@ -5,14 +5,16 @@ use Rattle.gtfs_devices.specs.Folder.{Store}
 use Rattle.gtfs_devices.specs.declared.folders.FolderFault.{FolderFault}
 use Rattle.gtfs_devices.specs.declared.folders.FolderFault.TheVariants as faults
 use Rattle.clap.specs.Words.{Text}
-use Rattle.gtfs_cli.specs.Running.{AsksCheck, AsksFor, AsksTimetable, Failures, IsBadUsage, IsDeviceFault, HasValues, KeepsFromReading}
+use Rattle.gtfs_cli.specs.Running.{AsksCheck, AsksFor, AsksTimetable, Failures, HasValues, KeepsFromReading}
+use Rattle.gtfs_cli.specs.Statuses.{IsBadUsage, IsCauseOf, IsDeviceFault}
 use Rattle.gtfs_words.specs.Words.{texts_of, BoardTexts, TimetableTexts}
 use Rattle.gtfs_cli.specs.TimetableOptions.{HasTimetableValues}
 use Rattle.gtfs_cli.specs.Timetables.{IsTimetableCause}
-use Rattle.gtfs_cli.specs.Refusals.{status_in, status_of, IsCause, IsCauseInWords, IsCauseOf, IsCheckCause, IsReadingCause}
+use Rattle.gtfs_cli.specs.Refusals.{status_in, status_of, IsCause, IsCauseInWords, IsCheckCause, IsReadingCause}
 use Rattle.gtfs_cli.specs.declared.commands.refusal.Refusal.{Refusal}
 use Rattle.gtfs_cli.specs.declared.commands.refusal.Refusal.TheVariants.{Words, BadValue, NotThere, Unreadable, OverLimit, HasErrors, NoZone, UnknownStop, UnknownRoute, UntilBeforeFrom, Line, OutputFailed, OutOfMemory}
 use Rattle.gtfs_cli.specs.declared.commands.request_fault.RequestFault.TheVariants as requests
+use Rattle.gtfs_cli.proofs.BoardsEnded.{device-by-boards, usage-by-boards}
 use Rattle.gtfs_cli.proofs.Ended.{is-some}
 use Rattle.gtfs_cli.proofs.MergeEnded.{device-by-merge, usage-by-merge}
 
@@ -105,7 +107,8 @@ usage-from texts limit held before after r status is (inl h) e = usage_by_words 
 usage-from texts limit held before after r status is (inr (inl h)) e = usage_by_check texts limit held before after r h (sym is ∙ e)
 usage-from texts limit held before after r status is (inr (inr (inl h))) e = usage_by_board texts limit held before after r h (sym is ∙ e)
 usage-from texts limit held before after r status is (inr (inr (inr (inl h)))) e = usage_by_timetable texts limit held before after r h (sym is ∙ e)
-usage-from texts limit held before after r status is (inr (inr (inr (inr h)))) e = usage-by-merge texts limit held before after r h (sym is ∙ e)
+usage-from texts limit held before after r status is (inr (inr (inr (inr (inl h))))) e = usage-by-merge texts limit held before after r h (sym is ∙ e)
+usage-from texts limit held before after r status is (inr (inr (inr (inr (inr h))))) e = usage-by-boards texts limit held before after r h (sym is ∙ e)
 
 abbrev pub TellsDevice : List Text → ℕ → Option Store → Failures → Failures → Refusal → Type 0
 TellsDevice texts limit held before after refusal = status_of refusal ≡ 3 → IsDeviceFault texts limit held before after
@@ -164,7 +167,8 @@ device-from texts limit held before after r status is (inl h) e = device_by_word
 device-from texts limit held before after r status is (inr (inl h)) e = device_by_check texts limit held before after r h (sym is ∙ e)
 device-from texts limit held before after r status is (inr (inr (inl h))) e = device_by_board texts limit held before after r h (sym is ∙ e)
 device-from texts limit held before after r status is (inr (inr (inr (inl h)))) e = device_by_timetable texts limit held before after r h (sym is ∙ e)
-device-from texts limit held before after r status is (inr (inr (inr (inr h)))) e = device-by-merge texts limit held before after r h (sym is ∙ e)
+device-from texts limit held before after r status is (inr (inr (inr (inr (inl h))))) e = device-by-merge texts limit held before after r h (sym is ∙ e)
+device-from texts limit held before after r status is (inr (inr (inr (inr (inr h))))) e = device-by-boards texts limit held before after r h (sym is ∙ e)
 
 pub statuses-from : (r : Refusal) (status : ℕ) → status ≡ status_of r → status ≤ 4
 statuses-from (Line (requests.BadRequest number)) status is = omega (arith, is)

@@ -20,6 +20,7 @@ mod ReadBack
 mod MergeValues
 mod Unmerged
 mod MergeEnded
+mod BoardsEnded
 mod Unchecked
 mod CommandEnds
 mod AskedOne

@@ -1,5 +1,5 @@
 -- What was printed of a board, and why there is none.
-use Rattle.std.proofs.Common.{◌≡◌, ℕ, ◌≤◌, refl, subst, inl, inr, true, false, List, Option, Some, None, codes, arith}
+use Rattle.std.proofs.Common.{◌≡◌, ℕ, refl, subst, inl, inr, true, false, List, Option, Some, None, codes, arith}
 use Rattle.std.specs.Io.KnownBytes.{Keeps}
 use Rattle.gtfs_days.specs.declared.zone.Zone.{Zone}
 use Rattle.gtfs_devices.specs.Folder.{Store}

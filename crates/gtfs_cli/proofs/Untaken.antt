@@ -5,10 +5,11 @@ use Rattle.std.specs.Io.KnownBytes.{Appends, Keeps}
 use Rattle.clap.specs.Words.{Text}
 use Rattle.gtfs_devices.specs.Folder.{Store}
 use Rattle.gtfs_cli.specs.BoardRun.{IsListed, IsUnlisted}
+use Rattle.gtfs_cli.specs.BoardsRun.{AreListed, AreUnlisted}
 use Rattle.gtfs_cli.specs.TimetableRun.{IsTabled, IsUntabled}
 use Rattle.gtfs_cli.specs.CheckRun.{IsUnchecked}
 use Rattle.gtfs_cli.specs.Checking.{IsReportOf}
-use Rattle.gtfs_words.specs.Words.{no_memory, AreRefused, BoardTexts, IsFaultOf, MergeTexts, TimetableTexts}
+use Rattle.gtfs_words.specs.Words.{no_memory, AreRefused, BoardTexts, BoardsTexts, IsFaultOf, MergeTexts, TimetableTexts}
 use Rattle.gtfs_words.specs.declared.fault.WordsFault.{WordsFault}
 use Rattle.gtfs_words.specs.declared.fault.WordsFault.TheVariants as faults
 use Rattle.gtfs_cli.specs.MergeRun.{IsMerged, IsUnmerged}
@@ -16,7 +17,7 @@ use Rattle.gtfs_cli.specs.Messages.{message}
 use Rattle.gtfs_cli.specs.Refusals.{status_in, IsCauseInWords}
 use Rattle.gtfs_cli.specs.Running.{FailedNowhere, Failures}
 use Rattle.gtfs_cli.specs.Sending.{Output, Sends}
-use Rattle.gtfs_cli.specs.UntakenWords.{text_for_output, IsRefusedBy}
+use Rattle.gtfs_cli.specs.UntakenWords.{text_for_output, AnswersRefused}
 use Rattle.gtfs_cli.specs.WordsRun.{IsAnswered, IsUntakenRun, SendsAnswer}
 use Rattle.gtfs_cli.specs.declared.commands.refusal.Refusal.{Refusal}
 use Rattle.gtfs_cli.specs.declared.commands.refusal.Refusal.TheVariants.{OutOfMemory}
@@ -49,7 +50,7 @@ module _ (texts : List Text) (before after : Failures) (old new : Option (List �
 -- ---- what went out for help and for the version
 
 pub answer-sent : (texts : List Text) (old new : Option (List ℕ)) (r : Result Bool Refusal) (fault : WordsFault) → IsFaultOf texts fault
-    → OnOk r (IfSome (text_for_output fault) (λ text. Appends old new text)) → IsRefusedBy fault r → (fault ≡ no_memory → IsErrAnd r (λ x. x ≡ OutOfMemory))
+    → OnOk r (IfSome (text_for_output fault) (λ text. Appends old new text)) → AnswersRefused fault r → (fault ≡ no_memory → IsErrAnd r (λ x. x ≡ OutOfMemory))
     → OnOk r (SendsAnswer texts old new)
 answer-sent texts old new (Err e) fault is whole said memory = tt
 answer-sent texts old new (Ok x) (faults.Help text) is whole said memory =
@@ -81,6 +82,13 @@ module _ (limit : ℕ) (held : Option Store) (before after : Failures) (old new 
 
   pub unread-unlisted : (asked : BoardTexts) → IfErr r (IsUnlisted limit held asked before after old new)
   unread-unlisted asked = told-up r OutOfMemory (IsUnlisted limit held asked before after old new) is (record { cause = nowhere; ends = inl keeps; told = nowhere })
+
+  pub unread-boarded : (asked : BoardsTexts) → IfOk r (AreListed limit held asked old new)
+  unread-boarded asked = none_read (AreListed limit held asked old new)
+
+  pub unread-unboarded : (asked : BoardsTexts) → IfErr r (AreUnlisted limit held asked before after old new)
+  unread-unboarded asked =
+      told-up r OutOfMemory (AreUnlisted limit held asked before after old new) is (record { cause = inl nowhere; ends = inl keeps; told = nowhere })
 
   pub unread-tabled : (asked : TimetableTexts) → IfOk r (IsTabled limit held asked old new)
   unread-tabled asked = none_read (IsTabled limit held asked old new)

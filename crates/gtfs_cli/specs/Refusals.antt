@@ -1,13 +1,11 @@
 -- Why a command was not done: each refusal, its status and when it comes.
-use Rattle.std.specs.Prelude.{◌≡◌, ◌⊎◌, ◌<◌, ◌≤◌, ◌^◌, ℕ, Bool, true, cond, List, Option, Some, Result, Ok, Err, unsigned_abs, ⊤}
+use Rattle.std.specs.Prelude.{◌≡◌, ◌⊎◌, ◌<◌, ◌^◌, ℕ, Bool, true, cond, List, Option, Some, Result, Ok, Err, unsigned_abs, ⊤}
 use Rattle.clap.specs.Words.{Text}
 use Rattle.gtfs_days.specs.Service.{is_service_day}
 use Rattle.gtfs_devices.specs.Device.{Rises}
 use Rattle.gtfs_devices.specs.Folder.{Store}
 use Rattle.gtfs_words.specs.Words.{AreForHelpOrVersion, AreRefused, BoardTexts}
-use Rattle.gtfs_cli.specs.Running.{first_bad, AsksCheck, AsksFor, AsksMerge, AsksTimetable, EndsBeforeItBegins, FailedNowhere, Failures, HasValues, HoldsErrors, HoldsFile, HoldsKeptFile, HoldsNoZone, HoldsPassing, LacksFeed, LacksFile, LacksStop, NamesNoFile}
-use Rattle.gtfs_cli.specs.Merges.{IsMergeCause}
-use Rattle.gtfs_cli.specs.Timetables.{IsTimetableCause}
+use Rattle.gtfs_cli.specs.Running.{first_bad, EndsBeforeItBegins, FailedNowhere, Failures, HasValues, HoldsErrors, HoldsFile, HoldsKeptFile, HoldsNoZone, HoldsPassing, LacksFeed, LacksFile, LacksStop, NamesNoFile}
 use Rattle.gtfs_cli.specs.declared.commands.moments.Moment.{Moment}
 use Rattle.gtfs_cli.specs.declared.commands.moments.Moment.TheVariants.{Instant, ServiceDay}
 use Rattle.gtfs_cli.specs.declared.commands.refusal.Refusal.{Refusal}
@@ -110,14 +108,6 @@ IsCauseInWords texts before after (Words text) = AreRefused texts
 IsCauseInWords texts before after OutputFailed = AreForHelpOrVersion texts × Rises before after
 IsCauseInWords texts before after OutOfMemory = after ≡ before
 IsCauseInWords texts before after _ = ⊥
-
--- when a refusal comes
-abbrev pub IsCauseOf : List Text → ℕ → Option Store → Failures → Failures → Refusal → Type 0
-IsCauseOf texts limit held before after refusal =
-    IsCauseInWords texts before.output after.output refusal
-    ⊎ (AsksCheck texts (λ dir. IsCheckCause limit held dir before after refusal) ⊎ (AsksFor texts (λ asked. IsCause limit held asked before after refusal)
-    ⊎ (AsksTimetable texts (λ asked. IsTimetableCause limit held asked before after refusal)
-    ⊎ AsksMerge texts (λ asked. IsMergeCause limit held asked before after refusal))))
 
 -- an instant of at most twelve digits, or a service day
 abbrev pub IsSound : Moment → Type 0

@@ -13,8 +13,8 @@ text_for_output (Refused text) = None
 text_for_output OutOfMemory = None
 
 -- words that are refused are so by the text of their fault
-abbrev pub IsRefusedBy : WordsFault → Result Bool Refusal → Type 0
-IsRefusedBy (Refused text) answer = answer ≡ Err (Words text)
-IsRefusedBy (Help text) answer = ⊤
-IsRefusedBy (Version text) answer = ⊤
-IsRefusedBy OutOfMemory answer = ⊤
+abbrev pub AnswersRefused : WordsFault → Result Bool Refusal → Type 0
+AnswersRefused (Refused text) answer = answer ≡ Err (Words text)
+AnswersRefused (Help text) answer = ⊤
+AnswersRefused (Version text) answer = ⊤
+AnswersRefused OutOfMemory answer = ⊤

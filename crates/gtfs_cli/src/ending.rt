@@ -3,7 +3,7 @@ ghost use Rattle.std.specs.Prelude.{◌≡◌, ◌≤◌, [], IfOk, IfErr, OnOk,
 ghost use Rattle.std.specs.Io.Buffered.{writer_buffer, writer_contents};
 ghost use Rattle.std.specs.Io.KnownBytes.{Keeps};
 ghost use Rattle.gtfs_devices.specs.Device.{counted};
-ghost use Rattle.gtfs_cli.specs.Faults.{line_of, status_of};
+ghost use Rattle.gtfs_cli.specs.Faults.{fault_line, fault_status};
 ghost use Rattle.gtfs_cli.specs.Sending.{Sends};
 ghost use Rattle.gtfs_cli.specs.declared.fault.Fault.TheVariants.{OutputFailed};
 
@@ -30,10 +30,10 @@ pub fn close<W: Write + Drop>(out: &mut WriteOut<BufWriter<W>>, status: u8) -> R
 
 /// Tells of a fault on the error output, and gives the status for it, whatever that output did.
 pub fn tell<E: Out>(err: &mut E, fault: Fault) -> u8
-    ensures status { result ≡ status_of fault }
+    ensures status { result ≡ fault_status fault }
     ensures told { Sends
         (record { told = E.told err.old; failures = E.failure_count err.old })
-        (record { told = E.told err.new; failures = E.failure_count err.new }) (line_of fault) }
+        (record { told = E.told err.new; failures = E.failure_count err.new }) (fault_line fault) }
 {
     let _ = write_text(err, fault.line().as_bytes());
     fault.status()

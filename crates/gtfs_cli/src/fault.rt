@@ -1,9 +1,9 @@
 //! What the program itself has to say.
 ghost use Rattle.std.specs.Prelude.{◌≡◌};
-ghost use Rattle.gtfs_cli.specs.Faults.{line_of, status_of};
+ghost use Rattle.gtfs_cli.specs.Faults.{fault_line, fault_status};
 
 /// Why the program could not answer the words, or not send its answer on.
-#[derive(Clone, Copy)]
+#[derive(Clone, Copy, Debug)]
 pub enum Fault {
     /// A word is not UTF-8.
     BadWords,
@@ -18,7 +18,7 @@ pub enum Fault {
 impl Fault {
     /// The line for the error output.
     pub fn line(self) -> &'static str
-        ensures { result.now ≡ line_of self }
+        ensures { result.now ≡ fault_line self }
     {
         match self {
             Fault::BadWords => "gtfs: bad words\n",
@@ -30,7 +30,7 @@ impl Fault {
 
     /// The exit status.
     pub fn status(self) -> u8
-        ensures { result ≡ status_of self }
+        ensures { result ≡ fault_status self }
     {
         match self {
             Fault::BadWords => 2,

@@ -8,7 +8,7 @@
 //! - 2: the words are not as the usage wants them, the value of an option is bad, or a board would end before it begins;
 //! - 3: a folder or a file is not there, cannot be read or is over the limit, a zone file is none, a folder cannot be written, or the
 //!   output failed;
-//! - 4: memory ran out.
+//! - 4: memory ran out, and neither a folder nor the output failed.
 //!
 //! `gtfs check DIR` prints what is wrong with the feed in a folder.
 //!

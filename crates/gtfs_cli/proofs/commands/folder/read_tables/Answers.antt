@@ -1,7 +1,6 @@
-use Rattle.std.proofs.Common.{◌<◌, ap, length, refl, rules, subst, Err}
+use Rattle.std.proofs.Common.{◌<◌, ap, arith, length, refl, rules, subst, Err}
 use Rattle.gtfs_devices.specs.declared.folders.FolderFault.{FolderFault}
 use Rattle.gtfs_table.specs.Reading.{RefusesDataset}
-use Rattle.gtfs_cli.specs.Running.{Failures}
 use Rattle.gtfs_cli.proofs.CallsMade.{last-of, no-calls, so-many, some-calls}
 use Rattle.gtfs_cli.proofs.Endings.{counts}
 use Rattle.gtfs_cli.proofs.commands.folder.read_tables.Goals as goal
