@@ -4,7 +4,7 @@ use Rattle.std.specs.Borrow.{Bor}
 use Rattle.std.specs.Prelude.{IsOkAnd}
 use Rattle.std.specs.Io.KnownBytes.{Appends}
 use Rattle.std.proofs.KnownBytes.{Appends-nil, Appends-trans}
-use Rattle.std.proofs.lemmas.List.{drop_more}
+use Rattle.std.proofs.lemmas.List.{drop_all, drop_more}
 use Rattle.gtfs_days.specs.declared.zone.Zone.{Zone}
 use Rattle.gtfs_days.specs.Zone.{zone_origin}
 use Rattle.gtfs_rows.specs.Content.{Content}
@@ -193,3 +193,7 @@ module _ (f : Content) (z : Zone) where
       at_line now p =
           subst (λ (ys : List (Bor (List ℕ))). Printed (i + 1) (map (λ y. y.now) ys) now)
           (drop_more xs i x inside ∙ ap (λ (y : Bor (List ℕ)). y ∷ drop (i + 1) xs) (sym is)) p
+
+    pub printed_all : (xs : List (Bor (List ℕ))) (i : ℕ) (now : Option (List ℕ)) → length xs ≤ i → PrintedBefore xs i now
+        → PrintsRequests f z (asked_from f (zone_origin z) times 1 texts) old now
+    printed_all xs i now end p = all_printed (i + 1) now (subst (λ (ys : List (Bor (List ℕ))). Printed (i + 1) (map (λ y. y.now) ys) now) (drop_all i xs end) p)

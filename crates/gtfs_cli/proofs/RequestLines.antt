@@ -3,7 +3,7 @@ use Rattle.std.proofs.Common.{◌≡◌, ◌∙◌, ℕ, ◌+◌, ◌<◌, ◌�
 use Rattle.std.specs.Borrow.{Bor}
 use Rattle.std.specs.Prelude.{int_lt, is_some, if◌then◌else◌}
 use Rattle.std.proofs.lemmas.Bool.{eqb-true}
-use Rattle.std.proofs.lemmas.List.{drop_more, nil_from_length}
+use Rattle.std.proofs.lemmas.List.{drop_all, drop_more, nil_from_length}
 use Rattle.gtfs_rows.specs.Content.{Content}
 use Rattle.gtfs_rows.specs.Departures.{Origins}
 use Rattle.gtfs_board.specs.Board.{is_stop}
@@ -97,6 +97,10 @@ module _ (f : Content) (origin : Origins) (times : Times) where
       fault_at there =
           told ∙ sym (at_line n ∙ ap fault_in (past_line n x.now (map (λ y. y.now) (drop (i + 1) xs)) some)
           ∙ fault_here (judged f origin n (stop_request times x.now)) (asked_from (n + 1) (map (λ y. y.now) (drop (i + 1) xs))) (ap is_some (sym told) ∙ there))
+
+  -- no line is left
+  pub no_fault_left : (xs : List (Bor (List ℕ))) (i n : ℕ) → length xs ≤ i → fault_from n (drop i xs) ≡ None
+  no_fault_left xs i n end = ap (fault_from n) (drop_all i xs end)
 
   -- ---- lines that were judged
 

@@ -20,13 +20,12 @@ use crate::commands::files::read_file;
 use crate::commands::refusal::Refusal;
 use crate::commands::request_lines::{lines_of, text_of};
 use crate::commands::requests::{LineRequest, RequestTexts, first_fault, read_request};
-use crate::commands::send::send;
 use crate::commands::times::read_times;
 use crate::commands::zone_file::read_zone;
 use gtfs_board::{Board, Feed, PageFault, Span, Times, write_page};
 use gtfs_days::Zone;
 use gtfs_field::OutOfMemory;
-use gtfs_table::{Folders, Out};
+use gtfs_table::{Folders, Out, write_text};
 use gtfs_words::BoardsWords;
 use std::alloc::Global;
 use std::hash::RandomState;
@@ -249,7 +248,7 @@ fn print_opened<'w, O: Out>(
     ensures no_failure { OnOk result (O.failure_count out.new ≡ O.failure_count out.old) }
 {
     let heading = heading(alloc, &request.texts)?;
-    send(heading.as_bytes(), out)?;
+    write_text(out, heading.as_bytes())?;
     match write_page(alloc, board, request.values.limit, out) {
         Ok(_) => Ok(()),
         Err(PageFault::Out(_)) => Err(Refusal::OutputFailed),
