@@ -185,14 +185,9 @@ module _ (f : Content) (z : Zone) where
     abbrev pub PrintedBefore : List (Bor (List ℕ)) → ℕ → Option (List ℕ) → Type 0
     PrintedBefore xs i now = Printed (i + 1) (map (λ x. x.now) (drop i xs)) now
 
-    module _ (xs : List (Bor (List ℕ))) (i : ℕ) (x : Bor (List ℕ)) (inside : i < length xs) (is : x ≡ get_or xs i x) where
-      abbrev below : List (List ℕ)
-      below = map (λ y. y.now) (drop (i + 1) xs)
-
-      pub at_line : (now : Option (List ℕ)) → PrintedBefore xs i now → Printed (i + 1) (x.now ∷ below) now
-      at_line now p =
-          subst (λ (ys : List (Bor (List ℕ))). Printed (i + 1) (map (λ y. y.now) ys) now)
-          (drop_more xs i x inside ∙ ap (λ (y : Bor (List ℕ)). y ∷ drop (i + 1) xs) (sym is)) p
+    module _ (xs : List (Bor (List ℕ))) (i : ℕ) (d : Bor (List ℕ)) (inside : i < length xs) where
+      pub at_line : (now : Option (List ℕ)) → PrintedBefore xs i now → Printed (i + 1) ((get_or xs i d).now ∷ map (λ y. y.now) (drop (i + 1) xs)) now
+      at_line now p = subst (λ (ys : List (Bor (List ℕ))). Printed (i + 1) (map (λ y. y.now) ys) now) (drop_more xs i d inside) p
 
     pub printed_all : (xs : List (Bor (List ℕ))) (i : ℕ) (now : Option (List ℕ)) → length xs ≤ i → PrintedBefore xs i now
         → PrintsRequests f z (asked_from f (zone_origin z) times 1 texts) old now

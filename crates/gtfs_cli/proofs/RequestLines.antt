@@ -80,23 +80,29 @@ module _ (f : Content) (origin : Origins) (times : Times) where
   abbrev pub fault_from : ℕ → List (Bor (List ℕ)) → Option RequestFault
   fault_from n xs = fault_in (asked_from n (map (λ x. x.now) xs))
 
-  module _ (xs : List (Bor (List ℕ))) (i : ℕ) (x : Bor (List ℕ)) (inside : i < length xs) (is : x ≡ get_or xs i x) where
-    at_line : (n : ℕ) → fault_from n (drop i xs) ≡ fault_from n (x ∷ drop (i + 1) xs)
-    at_line n = ap (fault_from n) (drop_more xs i x inside ∙ ap (λ (y : Bor (List ℕ)). y ∷ drop (i + 1) xs) (sym is))
+  module _ (xs : List (Bor (List ℕ))) (i : ℕ) (d : Bor (List ℕ)) (inside : i < length xs) where
+    abbrev line : List ℕ
+    line = (get_or xs i d).now
 
-    pub fault_past_empty : (n : ℕ) → (length x.now == 0) ≡ true → fault_from n (drop i xs) ≡ fault_from (n + 1) (drop (i + 1) xs)
-    fault_past_empty n empty = at_line n ∙ ap fault_in (past_empty n x.now (map (λ y. y.now) (drop (i + 1) xs)) empty)
+    abbrev below : List (List ℕ)
+    below = map (λ y. y.now) (drop (i + 1) xs)
 
-    module _ (n : ℕ) (some : (length x.now == 0) ≡ false) (fault : Option RequestFault) (told : fault ≡ fault_in (judged f origin n (stop_request times x.now))) where
+    at_line : (n : ℕ) → fault_from n (drop i xs) ≡ fault_in (asked_from n (line ∷ below))
+    at_line n = ap (fault_from n) (drop_more xs i d inside)
+
+    pub fault_past_empty : (n : ℕ) → (length line == 0) ≡ true → fault_from n (drop i xs) ≡ fault_from (n + 1) (drop (i + 1) xs)
+    fault_past_empty n empty = at_line n ∙ ap fault_in (past_empty n line below empty)
+
+    module _ (n : ℕ) (some : (length line == 0) ≡ false) (fault : Option RequestFault) (told : fault ≡ fault_in (judged f origin n (stop_request times line))) where
       pub fault_past : is_some fault ≡ false → fault_from n (drop i xs) ≡ fault_from (n + 1) (drop (i + 1) xs)
       fault_past none =
-          at_line n ∙ ap fault_in (past_line n x.now (map (λ y. y.now) (drop (i + 1) xs)) some)
-          ∙ fault_later (judged f origin n (stop_request times x.now)) (asked_from (n + 1) (map (λ y. y.now) (drop (i + 1) xs))) (ap is_some (sym told) ∙ none)
+          at_line n ∙ ap fault_in (past_line n line below some)
+          ∙ fault_later (judged f origin n (stop_request times line)) (asked_from (n + 1) below) (ap is_some (sym told) ∙ none)
 
       pub fault_at : is_some fault ≡ true → fault ≡ fault_from n (drop i xs)
       fault_at there =
-          told ∙ sym (at_line n ∙ ap fault_in (past_line n x.now (map (λ y. y.now) (drop (i + 1) xs)) some)
-          ∙ fault_here (judged f origin n (stop_request times x.now)) (asked_from (n + 1) (map (λ y. y.now) (drop (i + 1) xs))) (ap is_some (sym told) ∙ there))
+          told ∙ sym (at_line n ∙ ap fault_in (past_line n line below some)
+          ∙ fault_here (judged f origin n (stop_request times line)) (asked_from (n + 1) below) (ap is_some (sym told) ∙ there))
 
   -- no line is left
   pub no_fault_left : (xs : List (Bor (List ℕ))) (i n : ℕ) → length xs ≤ i → fault_from n (drop i xs) ≡ None

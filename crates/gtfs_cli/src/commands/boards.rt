@@ -165,9 +165,10 @@ fn print_requests<'w, O: Out>(
     ensures no_failure { OnOk result (O.failure_count out.new ≡ O.failure_count out.old) }
 {
     for line in lines {
-        if let Some(request) = read_request(line, times) {
-            print_request(alloc, feed, zone, &request, out)?;
-        }
+        let Some(request) = read_request(line, times) else {
+            continue;
+        };
+        print_request(alloc, feed, zone, &request, out)?;
     }
     Ok(())
 }

@@ -12,24 +12,24 @@ use Rattle.gtfs_cli.proofs.Printed.{kept}
 use Rattle.gtfs_cli.proofs.RequestLines.{asked_from, refused_by}
 use Rattle.gtfs_cli.proofs.commands.boards.print_lines.Goals as goal
 
-pub returns-in_err-first_fault-clause-cut_short : goal.returns-in_err-first_fault-clause-cut_short
-returns-in_err-first_fault-clause-cut_short g c =
+pub returns-in_err-fault-clause-cut_short : goal.returns-in_err-fault-clause-cut_short
+returns-in_err-fault-clause-cut_short g c =
     let f = content_of_parts c.args.feed.now in
     let z = c.args.zone.now in
     let told = g.O.Out.told c.args.out.now in
     told-up c.from_residual.result OutOfMemory (EndsRequests f z (asked_from f (zone_origin z) c.args.times 1 (map (λ l. l.now) c.args.lines.now)) told told)
     c.from_residual.ensures.1 (inl (kept told))
 
-pub returns-in_err-first_fault-clause-refused : goal.returns-in_err-first_fault-clause-refused
-returns-in_err-first_fault-clause-refused g c =
+pub returns-in_err-fault-clause-refused : goal.returns-in_err-fault-clause-refused
+returns-in_err-fault-clause-refused g c =
     let f = content_of_parts c.args.feed.now in
     let z = c.args.zone.now in
     let x = g.O.Out.failure_count c.args.out.now in
     told-up c.from_residual.result OutOfMemory (IsRequestsFault (asked_from f (zone_origin z) c.args.times 1 (map (λ l. l.now) c.args.lines.now)) x x)
     c.from_residual.ensures.1 refl
 
-pub returns-in_err-first_fault-clause-told : goal.returns-in_err-first_fault-clause-told
-returns-in_err-first_fault-clause-told g c =
+pub returns-in_err-fault-clause-told : goal.returns-in_err-fault-clause-told
+returns-in_err-fault-clause-told g c =
     let x = g.O.Out.failure_count c.args.out.now in
     told-up c.from_residual.result OutOfMemory (TellsOutput x x) c.from_residual.ensures.1 refl
 
@@ -40,7 +40,7 @@ pub returns-in-Some-clause-refused : goal.returns-in-Some-clause-refused
 returns-in-Some-clause-refused g c =
     let f = content_of_parts c.args.feed.now in
     let z = c.args.zone.now in
-    refused_by (asked_from f (zone_origin z) c.args.times 1 (map (λ l. l.now) c.args.lines.now)) c.in-Some.fault (sym c.in-Some.is ∙ c.in_ok-first_fault.ensures)
+    refused_by (asked_from f (zone_origin z) c.args.times 1 (map (λ l. l.now) c.args.lines.now)) c.in-Some.fault (sym c.in-Some.is ∙ c.in_ok-fault.ensures)
 
 pub returns-clause-refused : goal.returns-clause-refused
 returns-clause-refused g c =

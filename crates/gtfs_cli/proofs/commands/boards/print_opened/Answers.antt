@@ -15,7 +15,7 @@ use Rattle.gtfs_cli.proofs.commands.boards.print_opened.Goals as goal
 
 pub returns-in_err-heading-clause-cut_short : goal.returns-in_err-heading-clause-cut_short
 returns-in_err-heading-clause-cut_short g c = λ f lists.
-    let z = c.args.board.zone in
+    let z = c.args.board.now.zone in
     let q = stop_request_of c.args.request.now in
     let told = g.O.Out.told c.args.out.now in
     told-up c.from_residual.result OutOfMemory (EndsOne f z q told told) c.from_residual.ensures.1 (none_begun f z q told)
@@ -27,7 +27,7 @@ returns-in_err-heading-clause-refused g c =
 
 pub returns-in_err-write_text-clause-cut_short : goal.returns-in_err-write_text-clause-cut_short
 returns-in_err-write_text-clause-cut_short g c = λ f lists.
-    let z = c.args.board.zone in
+    let z = c.args.board.now.zone in
     let q = stop_request_of c.args.request.now in
     let old = g.O.Out.told c.args.out.now in
     let new = g.O.Out.told c.write_text.new.out in
@@ -44,29 +44,29 @@ returns-in-Ok-clause-printed g c = λ f lists.
     let mid = g.O.Out.told c.write_text.new.out in
     let new = g.O.Out.told c.write_page.new.out in
     let text = c.as_bytes.ensures.value ∙ c.in_ok-heading.ensures in
-    page_out f c.args.board.zone q c.args.board.rest c.write_page.new.board.rest _ lists old mid new
+    page_out f c.args.board.now.zone q c.args.board.now.rest c.write_page.new.board.rest _ lists old mid new
     (subst (λ (t : List ℕ). Appends old mid t) text c.in_ok-write_text.ensures.whole) c.in-Ok.ensures.page
 
 pub returns-in-Err-Out-clause-cut_short : goal.returns-in-Err-Out-clause-cut_short
 returns-in-Err-Out-clause-cut_short g c = λ f lists.
     let q = stop_request_of c.args.request.now in
-    let z = c.args.board.zone in
+    let z = c.args.board.now.zone in
     let old = g.O.Out.told c.args.out.now in
     let mid = g.O.Out.told c.write_text.new.out in
     let new = g.O.Out.told c.write_page.new.out in
     let text = c.as_bytes.ensures.value ∙ c.in_ok-heading.ensures in
-    page_cut f z q c.args.board.rest c.write_page.new.board.rest _ lists old mid new
+    page_cut f z q c.args.board.now.rest c.write_page.new.board.rest _ lists old mid new
     (subst (λ (t : List ℕ). Appends old mid t) text c.in_ok-write_text.ensures.whole)
-    (subst (λ (e : PageFault). EndsPage z c.args.request.now.values.limit c.args.board.rest c.write_page.new.board.rest mid new e) c.in-Err-Out.field-0-is c.in-Err-Out.ensures.fault)
+    (subst (λ (e : PageFault). EndsPage z c.args.request.now.values.limit c.args.board.now.rest c.write_page.new.board.rest mid new e) c.in-Err-Out.field-0-is c.in-Err-Out.ensures.fault)
 
 pub returns-clause-cut_short : goal.returns-clause-cut_short
 returns-clause-cut_short g c = λ f lists.
     let q = stop_request_of c.args.request.now in
-    let z = c.args.board.zone in
+    let z = c.args.board.now.zone in
     let old = g.O.Out.told c.args.out.now in
     let mid = g.O.Out.told c.write_text.new.out in
     let new = g.O.Out.told c.write_page.new.out in
     let text = c.as_bytes.ensures.value ∙ c.in_ok-heading.ensures in
-    page_stopped f z q c.args.board.rest c.write_page.new.board.rest _ lists old mid new
+    page_stopped f z q c.args.board.now.rest c.write_page.new.board.rest _ lists old mid new
     (subst (λ (t : List ℕ). Appends old mid t) text c.in_ok-write_text.ensures.whole)
-    (subst (λ (e : PageFault). EndsPage z c.args.request.now.values.limit c.args.board.rest c.write_page.new.board.rest mid new e) c.in-Err-OutOfMemory.field-0-is c.in-Err-OutOfMemory.ensures.fault)
+    (subst (λ (e : PageFault). EndsPage z c.args.request.now.values.limit c.args.board.now.rest c.write_page.new.board.rest mid new e) c.in-Err-OutOfMemory.field-0-is c.in-Err-OutOfMemory.ensures.fault)

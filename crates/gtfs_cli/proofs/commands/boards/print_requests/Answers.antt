@@ -9,24 +9,6 @@ use Rattle.gtfs_cli.proofs.RequestBoards.{at_line, none_printed, one_cut, past_b
 use Rattle.gtfs_cli.proofs.RequestLines.{asked_from}
 use Rattle.gtfs_cli.proofs.commands.boards.print_requests.Goals as goal
 
-pub loop-line-preserved-in-Some : goal.loop-line-preserved-in-Some
-loop-line-preserved-in-Some g c =
-    let f = content_of_parts c.args.feed.now in
-    let z = c.args.zone.now in
-    let times = c.args.times in
-    let xs = c.args.lines.now in
-    let texts = map (λ x. x.now) xs in
-    let old = g.O.Out.told c.args.out.now in
-    let i = c.loop-line.line-index in
-    let x = c.line-item.result in
-    let asks = ap (option_map stop_request_of) (sym c.in-Some.is) ∙ c.read_request.ensures.request in
-    let here = at_line f z times texts old xs i x c.loop-line-test.true c.line-item.is _ c.loop-line.invariant.printed in
-    record {
-      printed = past_board f z times texts old (i + 1) x.now _ _ _ (stop_request_of c.in-Some.request) here asks c.in_ok-print_request.ensures.printed;
-      grows = omega (arith, c.loop-line.invariant.grows, c.print_request.ensures.grows);
-      no_failure = c.in_ok-print_request.ensures.no_failure ∙ c.loop-line.invariant.no_failure;
-    }
-
 pub loop-line-preserved : goal.loop-line-preserved
 loop-line-preserved g c =
     let f = content_of_parts c.args.feed.now in
@@ -36,11 +18,27 @@ loop-line-preserved g c =
     let texts = map (λ x. x.now) xs in
     let old = g.O.Out.told c.args.out.now in
     let i = c.loop-line.line-index in
-    let x = c.line-item.result in
-    let asks = ap (option_map stop_request_of) (sym c.in_default.is) ∙ c.read_request.ensures.request in
-    let here = at_line f z times texts old xs i x c.loop-line-test.true c.line-item.is _ c.loop-line.invariant.printed in
+    let asks = ap (option_map stop_request_of) (sym c.in-Some.is) ∙ c.read_request.ensures.request in
+    let here = at_line f z times texts old xs i _ c.loop-line-test.true _ c.loop-line.invariant.printed in
     record {
-      printed = past_nothing f z times texts old (i + 1) x.now _ _ here asks;
+      printed = past_board f z times texts old (i + 1) _ _ _ _ (stop_request_of c.in-Some.request) here asks c.in_ok-print_request.ensures.printed;
+      grows = omega (arith, c.loop-line.invariant.grows, c.print_request.ensures.grows);
+      no_failure = c.in_ok-print_request.ensures.no_failure ∙ c.loop-line.invariant.no_failure;
+    }
+
+pub loop-line-preserved-in_default : goal.loop-line-preserved-in_default
+loop-line-preserved-in_default g c =
+    let f = content_of_parts c.args.feed.now in
+    let z = c.args.zone.now in
+    let times = c.args.times in
+    let xs = c.args.lines.now in
+    let texts = map (λ x. x.now) xs in
+    let old = g.O.Out.told c.args.out.now in
+    let i = c.loop-line.line-index in
+    let asks = ap (option_map stop_request_of) (sym c.in_default.is) ∙ c.read_request.ensures.request in
+    let here = at_line f z times texts old xs i _ c.loop-line-test.true _ c.loop-line.invariant.printed in
+    record {
+      printed = past_nothing f z times texts old (i + 1) _ _ _ here asks;
       grows = c.loop-line.invariant.grows;
       no_failure = c.loop-line.invariant.no_failure;
     }
@@ -61,9 +59,8 @@ returns-in_err-print_request-clause-cut_short g c =
     let old = g.O.Out.told c.args.out.now in
     let new = g.O.Out.told c.print_request.new.out in
     let i = c.loop-line.line-index in
-    let x = c.line-item.result in
     let r = c.in_err-print_request.field-0.0 in
     let asks = ap (option_map stop_request_of) (sym c.in-Some.is) ∙ c.read_request.ensures.request in
-    let here = at_line f z times texts old xs i x c.loop-line-test.true c.line-item.is _ c.loop-line.invariant.printed in
+    let here = at_line f z times texts old xs i _ c.loop-line-test.true _ c.loop-line.invariant.printed in
     told-up c.from_residual.result r (EndsRequests f z (asked_from f (zone_origin z) times 1 texts) old new) c.from_residual.ensures.1
-    (one_cut f z times texts old (i + 1) x.now _ _ new (stop_request_of c.in-Some.request) here asks r c.in_err-print_request.ensures.cut_short)
+    (one_cut f z times texts old (i + 1) _ _ _ new (stop_request_of c.in-Some.request) here asks r c.in_err-print_request.ensures.cut_short)
