@@ -5,6 +5,9 @@ use Rattle.gtfs_columns.specs.View.{problem_of}
 use Rattle.gtfs_cli.specs.Sending.{SendsBeginning}
 use Rattle.gtfs_cli.proofs.Begun.{counts-cut, line-cut}
 use Rattle.gtfs_cli.proofs.Reported.{all-sent, line-sent}
+use Rattle.gtfs_cli.specs.Checking.{IsSendingCause}
+use Rattle.gtfs_cli.proofs.Endings.{told-up}
+use Rattle.gtfs_cli.proofs.FailuresTold.{sending-since}
 use Rattle.gtfs_cli.proofs.commands.check.print_problems.Goals as goal
 
 pub loop-problem-preserved : goal.loop-problem-preserved
@@ -33,3 +36,21 @@ returns-in_err-print_counts-clause-cut_short g c =
 
 pub returns-clause-no_failure : goal.returns-clause-no_failure
 returns-clause-no_failure g c = c.in_ok-print_counts.ensures.no_failure ∙ c.loop-problem.invariant.no_failure
+
+pub returns-in_err-print_problem-clause-refused : goal.returns-in_err-print_problem-clause-refused
+returns-in_err-print_problem-clause-refused g c =
+    let first = g.O.Out.failure_count c.args.out.now in
+    let before = g.O.Out.failure_count c.loop-problem.out in
+    let after = g.O.Out.failure_count c.print_problem.new.out in
+    let r = c.in_err-print_problem.field-0.0 in
+    told-up c.from_residual.result r (IsSendingCause first after) c.from_residual.ensures.1
+    (sending-since first before after c.loop-problem.invariant.no_failure r c.in_err-print_problem.ensures.refused)
+
+pub returns-in_err-print_counts-clause-refused : goal.returns-in_err-print_counts-clause-refused
+returns-in_err-print_counts-clause-refused g c =
+    let first = g.O.Out.failure_count c.args.out.now in
+    let before = g.O.Out.failure_count c.loop-problem.out in
+    let after = g.O.Out.failure_count c.print_counts.new.out in
+    let r = c.in_err-print_counts.field-0.0 in
+    told-up c.from_residual-in_err-print_counts.result r (IsSendingCause first after) c.from_residual-in_err-print_counts.ensures.1
+    (sending-since first before after c.loop-problem.invariant.no_failure r c.in_err-print_counts.ensures.refused)

@@ -7,6 +7,8 @@ use Rattle.gtfs_cli.specs.NamesReport.{both_lines, count_line}
 use Rattle.gtfs_cli.specs.Sending.{SendsBeginning}
 use Rattle.gtfs_cli.proofs.Parts.{err-then}
 use Rattle.gtfs_cli.proofs.Sequences.{both-sent, first-cut, second-cut}
+use Rattle.std.proofs.lemmas.Result.{IfErr-weaker}
+use Rattle.gtfs_cli.proofs.FailuresTold.{sending-since}
 use Rattle.gtfs_cli.proofs.commands.names.print_ids.Goals as goal
 
 pub returns-in_err-print_renamed-clause-cut_short : goal.returns-in_err-print_renamed-clause-cut_short
@@ -31,3 +33,10 @@ returns-clause-cut_short g c =
 
 pub returns-clause-no_failure : goal.returns-clause-no_failure
 returns-clause-no_failure g c = on_ok-map c.print_joined.result _ _ (λ same. same ∙ c.in_ok-print_renamed.ensures.no_failure) c.print_joined.ensures.no_failure
+
+pub returns-clause-refused : goal.returns-clause-refused
+returns-clause-refused g c =
+    let first = g.O.Out.failure_count c.args.out.now in
+    let before = g.O.Out.failure_count c.print_renamed.new.out in
+    let after = g.O.Out.failure_count c.print_joined.new.out in
+    IfErr-weaker c.print_joined.result _ _ (sending-since first before after c.in_ok-print_renamed.ensures.no_failure) c.print_joined.ensures.refused

@@ -6,6 +6,8 @@ use Rattle.gtfs_cli.specs.NamesReport.{ids_report}
 use Rattle.gtfs_cli.specs.Sending.{SendsBeginning}
 use Rattle.gtfs_cli.proofs.Parts.{err-then}
 use Rattle.gtfs_cli.proofs.Sequences.{both-sent, first-cut, second-cut}
+use Rattle.std.proofs.lemmas.Result.{IfErr-weaker}
+use Rattle.gtfs_cli.proofs.FailuresTold.{sending-since}
 use Rattle.gtfs_cli.proofs.commands.names.print_names.Goals as goal
 
 pub returns-in_err-print_ids-clause-cut_short : goal.returns-in_err-print_ids-clause-cut_short
@@ -32,3 +34,10 @@ returns-clause-cut_short g c =
 
 pub returns-clause-no_failure : goal.returns-clause-no_failure
 returns-clause-no_failure g c = on_ok-map c.print_near.result _ _ (λ same. same ∙ c.in_ok-print_ids.ensures.no_failure) c.print_near.ensures.no_failure
+
+pub returns-clause-refused : goal.returns-clause-refused
+returns-clause-refused g c =
+    let first = g.O.Out.failure_count c.args.out.now in
+    let before = g.O.Out.failure_count c.print_ids.new.out in
+    let after = g.O.Out.failure_count c.print_near.new.out in
+    IfErr-weaker c.print_near.result _ _ (sending-since first before after c.in_ok-print_ids.ensures.no_failure) c.print_near.ensures.refused
