@@ -1,10 +1,10 @@
 use Rattle.std.proofs.Common.{◌≡◌, ◌∙◌, List, ℕ, refl, subst, take}
 use Rattle.std.specs.Io.KnownBytes.{Appends}
-use Rattle.gtfs_board.specs.Page.{IsCutShort, IsPage, IsStopped}
 use Rattle.gtfs_board.specs.PageFaults.{EndsPage, IsCounted}
 use Rattle.gtfs_board.specs.declared.page.PageFault.{PageFault}
+use Rattle.gtfs_devices.specs.Device.{Rises}
 use Rattle.gtfs_cli.specs.Checking.{IsSendingCause}
-use Rattle.gtfs_cli.specs.LentRequests.{request_texts_of, stop_request_of}
+use Rattle.gtfs_cli.specs.LentRequests.{stop_request_of}
 use Rattle.gtfs_cli.specs.ManyBoards.{EndsOne}
 use Rattle.gtfs_cli.specs.Requests.{heading_of}
 use Rattle.gtfs_cli.specs.declared.commands.refusal.Refusal.TheVariants.{OutOfMemory, OutputFailed}
@@ -70,3 +70,26 @@ returns-clause-cut_short g c = λ f lists.
     page_stopped f z q c.args.board.now.rest c.write_page.new.board.rest _ lists old mid new
     (subst (λ (t : List ℕ). Appends old mid t) text c.in_ok-write_text.ensures.whole)
     (subst (λ (e : PageFault). EndsPage z c.args.request.now.values.limit c.args.board.now.rest c.write_page.new.board.rest mid new e) c.in-Err-OutOfMemory.field-0-is c.in-Err-OutOfMemory.ensures.fault)
+
+pub returns-in_err-write_text-clause-refused : goal.returns-in_err-write_text-clause-refused
+returns-in_err-write_text-clause-refused g c =
+    let x = g.O.Out.failure_count c.args.out.now in
+    let y = g.O.Out.failure_count c.write_text.new.out in
+    told-up c.from_residual-in_err-write_text.result OutputFailed (IsSendingCause x y) c.from_residual-in_err-write_text.ensures.1 c.in_err-write_text.ensures.counted
+
+pub returns-in-Err-Out-clause-refused : goal.returns-in-Err-Out-clause-refused
+returns-in-Err-Out-clause-refused g c =
+    let mid = g.O.Out.failure_count c.write_text.new.out in
+    let y = g.O.Out.failure_count c.write_page.new.out in
+    subst (λ (n : ℕ). Rises n y) c.in_ok-write_text.ensures.no_failure
+    (subst (λ (e : PageFault). IsCounted mid y e) c.in-Err-Out.field-0-is c.in-Err-Out.ensures.counted)
+
+pub returns-clause-refused : goal.returns-clause-refused
+returns-clause-refused g c =
+    let mid = g.O.Out.failure_count c.write_text.new.out in
+    let y = g.O.Out.failure_count c.write_page.new.out in
+    let same : y ≡ mid = subst (λ (e : PageFault). IsCounted mid y e) c.in-Err-OutOfMemory.field-0-is c.in-Err-OutOfMemory.ensures.counted in
+    same ∙ c.in_ok-write_text.ensures.no_failure
+
+pub returns-in-Ok-clause-no_failure : goal.returns-in-Ok-clause-no_failure
+returns-in-Ok-clause-no_failure g c = c.in-Ok.ensures.no_failure ∙ c.in_ok-write_text.ensures.no_failure

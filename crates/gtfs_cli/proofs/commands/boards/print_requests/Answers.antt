@@ -4,7 +4,9 @@ use Rattle.gtfs_days.specs.Zone.{zone_origin}
 use Rattle.gtfs_rows.specs.Views.{content_of_parts}
 use Rattle.gtfs_cli.specs.LentRequests.{stop_request_of}
 use Rattle.gtfs_cli.specs.ManyBoards.{EndsRequests}
+use Rattle.gtfs_cli.specs.Checking.{IsSendingCause}
 use Rattle.gtfs_cli.proofs.Endings.{told-up}
+use Rattle.gtfs_cli.proofs.FailuresTold.{sending-since}
 use Rattle.gtfs_cli.proofs.RequestBoards.{at_line, none_printed, one_cut, past_board, past_nothing, printed_all}
 use Rattle.gtfs_cli.proofs.RequestLines.{asked_from}
 use Rattle.gtfs_cli.proofs.commands.boards.print_requests.Goals as goal
@@ -64,3 +66,12 @@ returns-in_err-print_request-clause-cut_short g c =
     let here = at_line f z times texts old xs i _ c.loop-line-test.true _ c.loop-line.invariant.printed in
     told-up c.from_residual.result r (EndsRequests f z (asked_from f (zone_origin z) times 1 texts) old new) c.from_residual.ensures.1
     (one_cut f z times texts old (i + 1) _ _ _ new (stop_request_of c.in-Some.request) here asks r c.in_err-print_request.ensures.cut_short)
+
+pub returns-in_err-print_request-clause-refused : goal.returns-in_err-print_request-clause-refused
+returns-in_err-print_request-clause-refused g c =
+    let first = g.O.Out.failure_count c.args.out.now in
+    let before = g.O.Out.failure_count c.loop-line.out in
+    let after = g.O.Out.failure_count c.print_request.new.out in
+    let r = c.in_err-print_request.field-0.0 in
+    told-up c.from_residual.result r (IsSendingCause first after) c.from_residual.ensures.1
+    (sending-since first before after c.loop-line.invariant.no_failure r c.in_err-print_request.ensures.refused)
