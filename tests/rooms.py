@@ -15,6 +15,8 @@ MEMORY = 4_096
 
 BOARD = "board f1 --zone z1 --stop S1 --from 20240401 --until 20240402".split()
 LINE = b"@1711958400/T1/28800/1/20240401\t2024-04-01 08:00:00+00:00\tS1\t10\t\ts\n"
+BOARDS = "boards f1 --zone z1 --requests requests".split()
+LISTED = b"== S2 20240401 20240402\n== S1 20240401 20240402\n" + LINE
 CHECK = "check f1".split()
 REPORT = b"errors 0 warnings 0\n"
 TIMETABLE = "timetable f1 --route R1 --date 20240401".split()
@@ -22,13 +24,19 @@ SHEET = b"== R1 - 20240401\ntrip\tT1\nS1\t08:00:00\nS2\t08:10:00\n"
 MERGE = "merge f1 f1 out".split()
 COUNTS = b"joined agency 1\njoined stop 3\njoined route 1\njoined service 1\njoined trip 1\n"
 
+# What asks for these lines, and what is refused in its second line.
+REQUESTS = b"S2\t20240401\t20240402\nS1\t20240401\t20240402\n"
+REFUSED = REQUESTS.replace(b"S1", b"S9")
+
 # What each command prints.
-ANSWERS = [(BOARD, LINE), (CHECK, REPORT), (TIMETABLE, SHEET), (MERGE, COUNTS)]
+ANSWERS = [(BOARD, LINE), (BOARDS, LISTED), (CHECK, REPORT), (TIMETABLE, SHEET), (MERGE, COUNTS)]
 
 # What each refuses, with the status and the line.
 REFUSALS = [
     ("board f1 --zone z1 --stop S9 --from 20240401 --until 20240402".split(), 1, b"gtfs: unknown stop\n"),
     ("board f1 --zone z1 --stop S1 --from 20240402 --until 20240401".split(), 2, b"gtfs: until lies before from\n"),
+    ("boards f1 --zone z1 --requests none".split(), 3, b"gtfs: none is not there\n"),
+    ("boards f1 --zone z1 --requests refused".split(), 1, b"gtfs: unknown stop in line 2\n"),
     ("check none".split(), 3, b"gtfs: none is not there\n"),
     ("timetable f1 --route R9 --date 20240401".split(), 1, b"gtfs: unknown route\n"),
     ("merge none f1 out".split(), 3, b"gtfs: none is not there\n"),
@@ -41,12 +49,14 @@ class Skipped(Exception):
 
 
 def in_room(test):
-    """The test, handed a folder with a copy of the small feed, which all may read."""
+    """The test, handed a folder with a copy of the small feed and with files of requests, which all may read."""
 
     def run():
         with tempfile.TemporaryDirectory() as above:
             room = os.path.join(above, "room")
             shutil.copytree(SMALL, room)
+            put(path_in(room, "requests"), REQUESTS)
+            put(path_in(room, "refused"), REFUSED)
             for folder in (above, room):
                 os.chmod(folder, 0o755)
             try:

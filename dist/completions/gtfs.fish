@@ -52,6 +52,14 @@ complete -c gtfs -n '__gtfs_takes board interpolate' -l interpolate \
     -d 'Fill in missing times, at an even pace between the given ones'
 complete -c gtfs -n '__gtfs_wants_folder board 1' -a '(__fish_complete_directories)'
 
+complete -c gtfs -n __gtfs_begins -a boards -d 'Print a board for each line of a file, in the order of the lines'
+complete -c gtfs -n '__gtfs_takes boards help' -s h -l help -d 'Print help'
+complete -c gtfs -n '__gtfs_takes boards zone' -l zone -r -F -d 'The zone file (TZif) of the time zone'
+complete -c gtfs -n '__gtfs_takes boards requests' -l requests -r -F -d 'The file of the requests, one a line'
+complete -c gtfs -n '__gtfs_takes boards interpolate' -l interpolate \
+    -d 'Fill in missing times, at an even pace between the given ones'
+complete -c gtfs -n '__gtfs_wants_folder boards 1' -a '(__fish_complete_directories)'
+
 complete -c gtfs -n __gtfs_begins -a timetable \
     -d 'Print the runs of a route on a date, a sheet for each direction and list of stops'
 complete -c gtfs -n '__gtfs_takes timetable help' -s h -l help -d 'Print help'

@@ -48,6 +48,8 @@ ODD_KEYS = [
 ]
 ODD_ZONES = ["zones/bad", "zones/bad", "zones/bad", "zones/bad", "none", "zones", "zones/", "z/z", "", "no/z", "z\t"]
 
+ODD_REQUESTS = ["latin", "latin", "none", "f", "f/", "z/", "", "requests/", "requests/r", "no/r", "r\t"]
+
 # How long a span is, in seconds, for most draws.
 LENGTHS = [0, 1, 3600, *(days * DAY for days in range(1, 8))]
 
@@ -102,6 +104,49 @@ def one_of(random, ids, unknown):
     return random.choice(ids) if ids and random.random() < 0.93 else unknown
 
 
+# ---- files of requests
+
+
+def fields_of_request(random, made, zone):
+    """The fields of a line, of which nearly all are good."""
+    stop = stop_in(random, made) if random.random() < 0.1 else random.choice(made.ids("stops.txt", "stop_id") or ["S1"])
+    begin = moment(random, made) if random.random() < 0.1 else random.choice([date_text(made.base), f"@{near(random, made)}"])
+    fields = [stop, begin, later(random, begin)]
+    if random.random() < 0.5:
+        fields.append(random.choice(["", "0", "1", "2", "3", "007", "2147483647"]))
+        if random.random() < 0.6:
+            fields.append(key_near(random, zone, stop, begin) if random.random() < 0.7 else "")
+    return fields
+
+
+def spoiled(random, fields):
+    """The fields of a line that is refused, for most draws."""
+    at = random.randrange(len(fields) or 1)
+    odd = ["S99", "", "x", "\r", "\ufeff", " ", random.choice(ODD_MOMENTS), random.choice(ODD_KEYS)]
+    return random.choice([
+        [*fields[:at], random.choice(odd), *fields[at + 1:]], [*fields[:at], random.choice(odd), *fields[at + 1:]], fields[:at],
+        [*fields[:at], random.choice(odd), *fields[at:]], [*fields, "", "", ""], [*fields[:1], *fields[2:3], *fields[1:2], *fields[3:]],
+        [" ".join(fields)], ["@0", *fields[1:]], [*fields[:1], "99990101", *fields[2:]],
+    ])
+
+
+def make_requests(random, made, zone):
+    """The bytes of a file of requests, with lines that are empty, ended in one or the other way, or come again."""
+    lines = [fields_of_request(random, made, zone) for _ in range(random.choice([0, 1, 2, 2, 3, 4, 6]))]
+    lines += random.choices(lines, k=1) if lines and random.random() < 0.3 else []
+    for _ in range(random.choice([0, 0, 0, 0, 0, 0, 1, 1, 2])):
+        if lines:
+            at = random.randrange(len(lines))
+            lines[at] = spoiled(random, lines[at])
+    texts = ["\t".join(fields) for fields in lines]
+    for _ in range(random.choice([0, 0, 1, 3])):
+        texts.insert(random.randint(0, len(texts)), "")
+    ends = random.choice([["\n"], ["\r\n"], ["\n", "\r\n"], ["\n"] * 9 + ["\r", "\r\r\n"]])
+    text = "".join(line + random.choice(ends) for line in texts)
+    text = text.removesuffix("\n") if random.random() < 0.3 else text
+    return ("\ufeff" * random.choice([0, 0, 0, 1, 2]) + text).encode("utf-8", "surrogateescape")
+
+
 # ---- the texts of each command
 
 
@@ -116,13 +161,23 @@ def given_check(random):
     return {"DIR": folder_word(random)}
 
 
-def given_board(random):
-    made = put_feed(random, "f", random.choice([0, 0, 0, 0, 0, 1, 2]))
+def put_zones(random, made):
+    """The files of zones, and the path of one, or at times of something else."""
     put("zones", {"z": make_zone(random, midnight(made.base)), "bad": no_zone(random)})
     put(".", {"z": b"no folder"})
-    zone = "zones/z" if random.random() < 0.91 else random.choice(ODD_ZONES)
+    return "zones/z" if random.random() < 0.91 else random.choice(ODD_ZONES)
+
+
+def stop_in(random, made):
+    """A stop that is called at, or at times another one."""
     called = made.ids("stop_times.txt", "stop_id") + made.ids("stops.txt", "parent_station")
-    stop = one_of(random, called if random.random() < 0.8 else made.ids("stops.txt", "stop_id"), "S99")
+    return one_of(random, called if random.random() < 0.8 else made.ids("stops.txt", "stop_id"), "S99")
+
+
+def given_board(random):
+    made = put_feed(random, "f", random.choice([0, 0, 0, 0, 0, 1, 2]))
+    zone = put_zones(random, made)
+    stop = stop_in(random, made)
     begin = moment(random, made)
     end = later(random, begin) if random.random() < 0.85 else moment(random, made)
     end = random.choice(ODD_MOMENTS) if random.random() < 0.03 else end
@@ -132,6 +187,17 @@ def given_board(random):
         given["limit"] = random.choice(limits)
     if random.random() < 0.4:
         given["after"] = key_near(random, zone, stop, begin)
+    if random.random() < 0.5:
+        given["interpolate"] = ""
+    return given
+
+
+def given_boards(random):
+    made = put_feed(random, "f", random.choice([0, 0, 0, 0, 0, 1, 2]))
+    zone = put_zones(random, made)
+    put(".", {"requests": make_requests(random, made, zone), "latin": b"S\xe9\t20240401\t20240402\n"})
+    path = "requests" if random.random() < 0.95 else random.choice(ODD_REQUESTS)
+    given = {"DIR": folder_word(random), "zone": zone, "requests": path}
     if random.random() < 0.5:
         given["interpolate"] = ""
     return given
@@ -196,7 +262,7 @@ def cutoff(random, made):
     return date_text(min(max(date, FIRST_SERVICE_DAY), LAST_SERVICE_DAY))
 
 
-GIVEN = {"check": given_check, "board": given_board, "timetable": given_timetable, "merge": given_merge}
+GIVEN = {"check": given_check, "board": given_board, "boards": given_boards, "timetable": given_timetable, "merge": given_merge}
 
 
 # ---- words
@@ -227,7 +293,7 @@ def odd_words(random, command, given):
     refused = random.choice([
         [], ["help"], ["Check", "f"], [command, "--version"], [*words, "-V"], [*words, "--foo"], [*words, "more"],
         [*words, "--foo", "--help"], [*words, "--zone"], [*words, "--interpolate"], [*words, "--interpolate=true"],
-        [*words, "--near"], [*words, "--cutoff"], ["--foo"], ["-x", *words], [*words, "--"],
+        [*words, "--near"], [*words, "--cutoff"], [*words, "--requests"], ["--foo"], ["-x", *words], [*words, "--"],
         [*words, "--", "--help"], ["check", "--", "-d"], less, less,
     ])
     return random.choice([not_utf8, asking, version, refused, refused, refused])

@@ -9,6 +9,7 @@ import timetables
 from content import content_of
 from filling import interpolated
 from problems import passes, problems, report
+from requested import numbered_lines, request_of, text_of
 from tables import NotThere, Unreadable, read_tables
 from values import FIRST_SERVICE_DAY, LAST_SERVICE_DAY, Form, Range, plain, read_count, read_date, shaped
 from words import Help, NotUtf8, Refused, Version, read_words
@@ -29,7 +30,8 @@ class Outcome:
     """How a run of the program ends.
 
     `cause` says what kept it from an answer, a path by its name in the usage. `written` has the files that a merge leaves in its
-    folder, and `merged` the two feeds as they were, the names of their ids, and the cutoff or none.
+    folder, and `merged` the two feeds as they were, the names of their ids, and the cutoff or none. `requests` has what a file of
+    requests asks for.
     """
 
     status: int
@@ -38,6 +40,7 @@ class Outcome:
     cause: str = ""
     written: dict = field(default_factory=dict)
     merged: tuple = ()
+    requests: list = field(default_factory=list)
 
 
 class Ended(Exception):
@@ -134,18 +137,32 @@ def timed_feed(given):
     return interpolated(content) if "interpolate" in given else content
 
 
-def zone_of(path):
+def bytes_of(path, name):
+    """The bytes of a file that the words name."""
     try:
         with open(path, "rb") as file:
-            return read_zone(file.read())
+            return file.read()
     except FileNotFoundError:
         # (an empty path, and one that ends in a slash, name no file)
         ending = "is not there" if path.rpartition("/")[2] else "cannot be read"
-        raise Ended(3, ending, "FILE", path) from None
+        raise Ended(3, ending, name, path) from None
     except OSError:
-        raise Ended(3, "cannot be read", "FILE", path) from None
+        raise Ended(3, "cannot be read", name, path) from None
+
+
+def zone_of(path):
+    try:
+        return read_zone(bytes_of(path, "FILE"))
     except NoZone:
         raise Ended(3, "is no zone file", "FILE", path) from None
+
+
+def lines_of_requests(path):
+    """The lines of a file of requests, each with its number."""
+    try:
+        return numbered_lines(text_of(bytes_of(path, "REQUESTS")))
+    except UnicodeDecodeError:
+        raise Ended(3, "cannot be read", "REQUESTS", path) from None
 
 
 def can_be_written(folder):
@@ -174,10 +191,44 @@ def board(given):
     zone = zone_of(given["zone"])
     if given["stop"] not in content.stops:
         raise Ended(1, "unknown stop")
-    begin, end = (at if isinstance(at, int) else zone.origin(at) for at in (begin, end))
+    begin, end = (instant_in(zone, at) for at in (begin, end))
     if end < begin:
         raise Ended(2, "until lies before from")
     return Outcome(0, boards.board(content, zone, given["stop"], begin, end, limit, after))
+
+
+def instant_in(zone, moment):
+    return moment if isinstance(moment, int) else zone.origin(moment)
+
+
+def board_asked(content, zone, number, request):
+    """What `boards.board` is handed for a request, whose line has this number."""
+    try:
+        begin, end = moment_of(request.begin), moment_of(request.end)
+        limit = None if request.limit is None else read_count(request.limit)
+        after = None if request.after is None else key_of(request.after)
+    except (Form, Range):
+        raise Ended(2, f"bad request in line {number}") from None
+    if request.stop not in content.stops:
+        raise Ended(1, f"unknown stop in line {number}")
+    begin, end = instant_in(zone, begin), instant_in(zone, end)
+    if end < begin:
+        raise Ended(2, f"until lies before from in line {number}")
+    return request.stop, begin, end, limit, after
+
+
+def many_boards(given):
+    content = timed_feed(given)
+    zone = zone_of(given["zone"])
+    requests, wanted = [], []
+    for number, line in lines_of_requests(given["requests"]):
+        try:
+            requests.append(request_of(line))
+        except Form:
+            raise Ended(2, f"bad request in line {number}") from None
+        wanted.append(board_asked(content, zone, number, requests[-1]))
+    texts = [request.heading() + boards.board(content, zone, *board) for request, board in zip(requests, wanted)]
+    return Outcome(0, "".join(texts), requests=requests)
 
 
 def timetable(given):
@@ -202,11 +253,14 @@ def merge(given):
     return Outcome(0, merging.report(names), written=written, merged=(a, b, names, cutoff))
 
 
+RUNS = {"check": check, "board": board, "boards": many_boards, "timetable": timetable, "merge": merge}
+
+
 def outcome(words):
     """What the program gives for the words behind its name, in the folder where this runs. It changes nothing there."""
     try:
         command, given = read_words(words)
-        return {"check": check, "board": board, "timetable": timetable, "merge": merge}[command](given)
+        return RUNS[command](given)
     except Help:
         return Outcome(0, out=SOME, cause="help")
     except Version:

@@ -96,6 +96,10 @@ def change_zone(random):
     change_file(random, os.path.join("zones", "z"), [hostile])
 
 
+def change_requests(random):
+    change_file(random, "requests", [hostile, hostile, lines_swapped])
+
+
 def change_words(random, words):
     """Words of which one is changed, lost, doubled or moved."""
     words = list(words)
@@ -116,10 +120,13 @@ def change_words(random, words):
 
 
 def change_case(random, words):
-    """Changes the files of a case, its zone file or its words, and gives the words."""
+    """Changes the files of a case, its zone file, its requests or its words, and gives the words."""
     form = random.random()
     if form < 0.2:
         return change_words(random, words)
+    if os.path.exists("requests") and random.random() < 0.6:
+        change_requests(random)
+        return words
     if form < 0.5 and os.path.exists(os.path.join("zones", "z")):
         change_zone(random)
     else:

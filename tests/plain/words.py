@@ -4,6 +4,7 @@
 COMMANDS = {
     "check": (["DIR"], [], [], []),
     "board": (["DIR"], ["zone", "stop", "from", "until"], ["limit", "after"], ["interpolate"]),
+    "boards": (["DIR"], ["zone", "requests"], [], ["interpolate"]),
     "timetable": (["DIR"], ["route", "date"], ["direction"], ["interpolate"]),
     "merge": (["A", "B", "OUT"], [], ["near", "cutoff"], []),
 }

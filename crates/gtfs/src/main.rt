@@ -19,6 +19,9 @@ use std::random::RandomSource;
 use std::rt::Runtime;
 use words::read_words;
 
+// How many bytes of the output are sent at a time: some hundred lines of a board.
+const BUFFER: usize = 65_536;
+
 fn main(rt: HostRuntime) -> ExitCode {
     let mut err = WriteOut::new(rt.stderr());
     let status = match answer(&rt, &mut err) {
@@ -54,7 +57,9 @@ fn answer_words<R: Runtime + AllocGlobal, E: Out>(
         → Keeps (E.told err.old) (E.told err.new)) }
 {
     let alloc = rt.alloc();
-    let writer = BufWriter::new(alloc, io::writer(rt)).map_err(|_| Fault::OutOfMemory)?;
+    let writer = BufWriter::with_capacity(alloc, BUFFER, io::writer(rt)).map_err(
+        |_| Fault::OutOfMemory,
+    )?;
     let mut out = WriteOut::new(writer);
     let mut disk = DiskFolders::new(rt);
     let status = run(alloc, random, words, &mut disk, &mut out, err);

@@ -2,7 +2,9 @@
 ghost use Rattle.std.specs.Prelude.{◌≡◌, ◌≢◌, ◌<◌, ◌≤◌, ◌∷◌, ◌↔◌, [], IfErr, All, true, false, length, IfOk, IfSome, IsErrOf, OnErr, MatchOption, option_map};
 ghost use Rattle.gtfs_days.specs.Zone.{IsInstant, zone_origin};
 ghost use Rattle.gtfs_rows.specs.Views.{content_of_parts as content_of};
-ghost use Rattle.gtfs_rows.specs.Views.{stop_ids, text_of_number};
+ghost use Rattle.gtfs_rows.specs.Views.{service_ids, stop_ids, text_of_number};
+ghost use Rattle.gtfs_runs.specs.Lanes.{latest};
+ghost use Rattle.gtfs_runs.specs.StopLanes.{AreLanesOf, lanes_of};
 ghost use Rattle.gtfs_board.specs.Board.{AreStepsWithin, IsQueued, SameSettings, is_stop, keys_of, step_count, steps_for_days};
 ghost use Rattle.gtfs_rows.specs.Departures.{IsBoard};
 ghost use Rattle.gtfs_board.specs.Lent.{listed, plain_key};
@@ -22,7 +24,7 @@ use crate::span::Span;
 use gtfs_days::Zone;
 use gtfs_field::OutOfMemory;
 use gtfs_rows::StopNo;
-use gtfs_runs::{Feed, StopLanes, Times};
+use gtfs_runs::{Feed, Steps, StopIndex, StopLanes, Times};
 use std::alloc::Global;
 use std::marker::Model;
 use std::mem::size_of;
@@ -110,6 +112,39 @@ impl<'a> Board<'a> {
         }
     }
 
+    /// The same board, made of an index in place of its feed and its times: with every clause of [`Board::open`]. It costs
+    /// nothing for trips that do not call at the place of the stop, as [`StopLanes::from_index`] says.
+    ///
+    /// # Errors
+    /// Those of [`Board::open`].
+    pub fn open_indexed(
+        alloc: Global,
+        index: &StopIndex<'a>,
+        zone: &'a Zone,
+        stop: &str,
+        span: Span,
+        after: Option<&Key<'_>>,
+    ) -> Result<Board<'a>, BoardFault>
+        ensures unknown { IsErrOf result BoardFault.UnknownStop
+            ↔ (is_stop (content_of index.now.feed) stop.now ≡ false) }
+        ensures bad { IsErrOf result BoardFault.BadSpan
+            ↔ ((is_stop (content_of index.now.feed) stop.now ≡ true) × (is_span span ≡ false)) }
+        ensures board { IfOk result (λ b. IsBoard
+            (timed index.now.times (content_of index.now.feed)) (zone_origin zone.now) stop.now
+            span.from span.until (option_map (λ k. plain_key k.now) after.entry) (keys_of b.rest)) }
+        ensures shown { IfOk result (λ b. All (IsShown (content_of index.now.feed)) b.rest) }
+        ensures queued { IfOk result IsQueued }
+        ensures settings { IfOk result (HasSettings
+            (timed index.now.times (content_of index.now.feed)) zone.now
+            stop.now span (option_map (λ k. plain_key k.now) after.entry)) }
+        ensures steps { IfOk result (λ b. b.steps ≤ steps_for_days b) }
+    {
+        match index.feed().stop(stop) {
+            Some(number) => Board::over_indexed(alloc, index, zone, number, span, after),
+            None => Err(BoardFault::UnknownStop),
+        }
+    }
+
     // The board of the stop of a number, if the span is valid.
     fn over(
         alloc: Global,
@@ -152,8 +187,79 @@ impl<'a> Board<'a> {
             (text_of_number (stop_ids feed.now) stop.0) span
             (option_map (λ k. plain_key k.now) after.entry)) }
     {
-        feed.soundness();
         let (lanes, steps) = StopLanes::build(alloc, feed, stop, times)?;
+        Board::of_lanes(alloc, feed, zone, stop, span, after, times, lanes, steps)
+    }
+
+    // The same of an index.
+    fn over_indexed(
+        alloc: Global,
+        index: &StopIndex<'a>,
+        zone: &'a Zone,
+        stop: StopNo,
+        span: Span,
+        after: Option<&Key<'_>>,
+    ) -> Result<Board<'a>, BoardFault>
+        requires { stop.0 < length index.now.feed.stops }
+        ensures known { IfErr result (λ e. e ≢ BoardFault.UnknownStop) }
+        ensures bad { IsErrOf result BoardFault.BadSpan ↔ (is_span span ≡ false) }
+        ensures opened { IfOk result (IsOpened index.now.times (content_of index.now.feed) zone.now
+            (text_of_number (stop_ids index.now.feed) stop.0) span
+            (option_map (λ k. plain_key k.now) after.entry)) }
+    {
+        if span.is_valid() {
+            match Board::of_stop_indexed(alloc, index, zone, stop, span, after) {
+                Ok(board) => Ok(board),
+                Err(_) => Err(BoardFault::OutOfMemory),
+            }
+        } else {
+            Err(BoardFault::BadSpan)
+        }
+    }
+
+    fn of_stop_indexed(
+        alloc: Global,
+        index: &StopIndex<'a>,
+        zone: &'a Zone,
+        stop: StopNo,
+        span: Span,
+        after: Option<&Key<'_>>,
+    ) -> Result<Board<'a>, OutOfMemory>
+        requires stop { stop.0 < length index.now.feed.stops }
+        requires span { is_span span ≡ true }
+        ensures { IfOk result (IsOpened index.now.times (content_of index.now.feed) zone.now
+            (text_of_number (stop_ids index.now.feed) stop.0) span
+            (option_map (λ k. plain_key k.now) after.entry)) }
+    {
+        let feed = index.feed();
+        let times = index.times();
+        let (lanes, steps) = StopLanes::from_index(alloc, index, stop)?;
+        Board::of_lanes(alloc, feed, zone, stop, span, after, times, lanes, steps)
+    }
+
+    // The board of these lanes, which are those of a stop of the feed.
+    fn of_lanes(
+        alloc: Global,
+        feed: &'a Feed,
+        zone: &'a Zone,
+        stop: StopNo,
+        span: Span,
+        after: Option<&Key<'_>>,
+        times: Times,
+        lanes: StopLanes,
+        steps: Steps,
+    ) -> Result<Board<'a>, OutOfMemory>
+        requires span { is_span span ≡ true }
+        requires lanes { AreLanesOf (timed times (content_of feed.now))
+            (text_of_number (stop_ids feed.now) stop.0) (service_ids feed.now) (lanes_of lanes) }
+        requires greatest { lanes.greatest ≡ latest (timed times (content_of feed.now))
+            (text_of_number (stop_ids feed.now) stop.0) }
+        requires steps { steps ≡ 0 }
+        ensures { IfOk result (IsOpened times (content_of feed.now) zone.now
+            (text_of_number (stop_ids feed.now) stop.0) span
+            (option_map (λ k. plain_key k.now) after.entry)) }
+    {
+        feed.soundness();
         let days = Days::new(alloc, feed, zone, lanes, span.until - 1);
         let floor = floor_of(feed, days.count(), span.from, after);
         let departures = Merge::open(alloc, days, floor, steps)?;

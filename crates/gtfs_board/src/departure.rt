@@ -5,7 +5,7 @@ ghost use Rattle.gtfs_board.specs.Shown.{mark_if};
 use crate::key::Key;
 
 /// How the line of a departure is marked.
-#[derive(Clone, Copy, PartialEq, Eq)]
+#[derive(Clone, Copy, Debug, PartialEq, Eq)]
 pub enum Mark {
     /// `s`: the run keeps a timetable.
     Scheduled,
@@ -46,7 +46,7 @@ impl Mark {
 }
 
 /// A departure as a board lists it. The feed lends its texts.
-#[derive(Clone, Copy)]
+#[derive(Clone, Copy, Debug)]
 pub struct Departure<'a> {
     /// Its position on the board.
     pub key: Key<'a>,

@@ -20,7 +20,7 @@ pub(crate) use writing::{KEY_ROOM, write_key};
 ///
 /// Keys compare by instant, then by the trip's id byte by byte, then by run, sequence and service day. A board can be
 /// opened after any key, whether or not a departure has it.
-#[derive(Clone, Copy, PartialEq, Eq)]
+#[derive(Clone, Copy, Debug, PartialEq, Eq)]
 pub struct Key<'a> {
     /// When the vehicle departs, in seconds since 1970-01-01T00:00:00Z.
     pub instant: i64,

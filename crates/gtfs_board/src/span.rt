@@ -1,12 +1,11 @@
 ghost use Rattle.std.specs.Prelude.{◌≡◌};
 ghost use Rattle.gtfs_board.specs.Span.{is_span, is_writable};
-ghost use Rattle.gtfs_rows.specs.Departures.{is_within};
 
 // The first number that takes more than twelve digits, as no instant of a key does.
 const TOO_WIDE: u64 = 1_000_000_000_000;
 
 /// A span of instants in seconds since 1970-01-01T00:00:00Z.
-#[derive(Clone, Copy)]
+#[derive(Clone, Copy, Debug)]
 pub struct Span {
     /// The first instant of the span.
     pub from: i64,
@@ -20,13 +19,6 @@ impl Span {
         ensures { result ≡ is_span self }
     {
         self.from <= self.until && is_writable(self.from) && is_writable(self.until)
-    }
-
-    /// Whether the instant lies in the span.
-    pub fn contains(self, instant: i64) -> bool
-        ensures { result ≡ is_within self.from self.until instant }
-    {
-        self.from <= instant && instant < self.until
     }
 }
 

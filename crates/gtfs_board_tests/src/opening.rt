@@ -6,7 +6,7 @@ use crate::assertions::{assert_holds, assert_is};
 use crate::bounds::Bounds;
 use crate::cases::Case;
 use crate::plain::{PlainKey, plain_keys, trip_shown};
-use gtfs_board::{Board, Key, Span, Times, push_line, read_key, write_page};
+use gtfs_board::{Board, Key, Span, StopIndex, Times, push_line, read_key, write_page};
 use gtfs_days::Zone;
 use gtfs_feed::Feed;
 use gtfs_fixtures::{Clocks, FileText, feed_with, made_feed};
@@ -198,10 +198,7 @@ impl<'a> Opening<'a> {
     /// The departures of the whole board are those of the plain list, and within its bounds.
     pub(crate) fn assert_plain(&self, rt: &impl Abort, alloc: Global) -> Result<(), Fail> {
         let keys = self.plain_keys(rt, alloc)?;
-        let bounds = self.bounds(rt, alloc, None)?;
-        let mut board = self.board_above(alloc, None)?;
-        self.assert_rest(rt, &mut board, &bounds, &keys);
-        Ok(())
+        self.assert_boards(rt, alloc, None, &keys)
     }
 
     /// The departures above a key are those of the plain list that lie above it, and within the bounds of the board.
@@ -212,10 +209,33 @@ impl<'a> Opening<'a> {
         key: &Key<'_>,
     ) -> Result<(), Fail> {
         let keys = self.keys_above(rt, alloc, key)?;
-        let bounds = self.bounds(rt, alloc, Some(key))?;
-        let mut board = self.board_above(alloc, Some(key))?;
-        self.assert_rest(rt, &mut board, &bounds, &keys);
+        self.assert_boards(rt, alloc, Some(key), &keys)
+    }
+
+    // The board of the feed and that of an index have these departures, within the bounds of the board.
+    fn assert_boards(
+        &self,
+        rt: &impl Abort,
+        alloc: Global,
+        after: Option<&Key<'_>>,
+        keys: &[PlainKey],
+    ) -> Result<(), Fail> {
+        let bounds = self.bounds(rt, alloc, after)?;
+        let mut board = self.board_above(alloc, after)?;
+        self.assert_rest(rt, &mut board, &bounds, keys);
+        let index = StopIndex::build(alloc, self.feed, self.times)?;
+        let mut board = self.indexed_board(alloc, &index, after)?;
+        self.assert_rest(rt, &mut board, &bounds, keys);
         Ok(())
+    }
+
+    fn indexed_board(
+        &self,
+        alloc: Global,
+        index: &StopIndex<'a>,
+        after: Option<&Key<'_>>,
+    ) -> Result<Board<'a>, Fail> {
+        Ok(Board::open_indexed(alloc, index, self.zone, self.stop, self.span, after)?)
     }
 
     fn keys_above(

@@ -4,7 +4,7 @@ use crate::assertions::{assert_holds, assert_is, assert_page, assert_text};
 use crate::between::BETWEEN;
 use crate::cases::{ALL, CHANGING, Case, END_OF_2011, LATE, OTHERS, PLAIN};
 use crate::opening::{Fixture, Opening};
-use gtfs_board::{Board, BoardFault, Span, Times, read_key};
+use gtfs_board::{Board, BoardFault, Span, StopIndex, Times, read_key};
 use gtfs_days::Zone;
 use gtfs_feed::Feed;
 use gtfs_fixtures::{Clocks, feed_with};
@@ -116,13 +116,30 @@ fn refused(alloc: Global, feed: &Feed, zone: &Zone, stop: &str, span: Span) -> O
     }
 }
 
+// The same of an index.
+fn refused_indexed(
+    alloc: Global,
+    index: &StopIndex<'_>,
+    zone: &Zone,
+    stop: &str,
+    span: Span,
+) -> Option<BoardFault> {
+    match Board::open_indexed(alloc, index, zone, stop, span, None) {
+        Ok(_) => None,
+        Err(fault) => Some(fault),
+    }
+}
+
 #[test]
 fn a_stop_that_is_not_there_is_unknown(rt: HostRuntime) -> Result<(), Fail> {
     let feed = feed_with(&rt, rt.alloc(), &[])?;
+    let index = StopIndex::build(rt.alloc(), &feed, Times::Given)?;
     let zone = Clocks::Utc.zone(rt.alloc())?;
     for span in [Span { from: 0, until: 1 }, Span { from: 1, until: 0 }] {
         for stop in ["S9", "", "s1", "S1 "] {
             let fault = refused(rt.alloc(), &feed, &zone, stop, span);
+            assert_is(&rt, fault, Some(BoardFault::UnknownStop), stop);
+            let fault = refused_indexed(rt.alloc(), &index, &zone, stop, span);
             assert_is(&rt, fault, Some(BoardFault::UnknownStop), stop);
         }
     }
@@ -149,14 +166,6 @@ fn a_span_does_not_end_before_it_begins(rt: HostRuntime) -> Result<(), Fail> {
         assert_is(&rt, span.is_valid(), fault.is_none(), from);
     }
     Ok(())
-}
-
-#[test]
-fn a_span_has_its_first_instant_and_not_its_last(rt: HostRuntime) {
-    let span = Span { from: -5, until: 7 };
-    for (instant, is_within) in [(-6, false), (-5, true), (0, true), (6, true), (7, false)] {
-        assert_is(&rt, span.contains(instant), is_within, instant);
-    }
 }
 
 #[test]

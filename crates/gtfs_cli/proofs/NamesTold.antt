@@ -5,7 +5,7 @@ use Rattle.std.proofs.lemmas.Bool.{or_left, or_right}
 use Rattle.gtfs_rows.specs.Content.{Content}
 use Rattle.gtfs_merge.specs.Merging.{AreNamesOf}
 use Rattle.gtfs_merge.specs.Names.{AllNames, in_kind, new_id}
-use Rattle.gtfs_merge.specs.Renaming.{has_id, ids, names_a, names_b, renaming, Renaming}
+use Rattle.gtfs_merge.specs.Renaming.{lists_id, ids, names_a, names_b, renaming, Renaming}
 use Rattle.gtfs_merge.specs.Near.{near_line, nearness, report}
 use Rattle.gtfs_merge.specs.Report.{joined_line, kind_lines, kinds, renamed_line, renamed_lines}
 use Rattle.gtfs_merge.specs.declared.kind.Kind.{Kind}
@@ -15,12 +15,12 @@ use Rattle.gtfs_merge.proofs.Lookups.{bytes_same}
 use Rattle.gtfs_cli.specs.NamesReport.{both_lines, id_line, named_line, names_report, side_lines}
 
 -- the lines of ids of which each became what the renaming says
-lines_of : (s : Side) (k : Kind) (rename : Renaming) (new : List ℕ → Option (List ℕ)) (xs : List (List ℕ)) → ((x : List ℕ) → has_id xs x ≡ true → new x ≡ Some (rename x))
+lines_of : (s : Side) (k : Kind) (rename : Renaming) (new : List ℕ → Option (List ℕ)) (xs : List (List ℕ)) → ((x : List ℕ) → lists_id xs x ≡ true → new x ≡ Some (rename x))
     → flat_map (λ x. named_line s k x (new x)) xs ≡ renamed_lines s k rename xs
 lines_of s k rename new [] is = refl
 lines_of s k rename new (x ∷ xs) is =
-    ap (λ o. named_line s k x o ++ flat_map (λ y. named_line s k y (new y)) xs) (is x (or_left (bytes_eq x x) (has_id xs x) (bytes_same x x refl)))
-    ∙ ap (λ t. named_line s k x (Some (rename x)) ++ t) (lines_of s k rename new xs (λ y h. is y (or_right (bytes_eq y x) (has_id xs y) h)))
+    ap (λ o. named_line s k x o ++ flat_map (λ y. named_line s k y (new y)) xs) (is x (or_left (bytes_eq x x) (lists_id xs x) (bytes_same x x refl)))
+    ∙ ap (λ t. named_line s k x (Some (rename x)) ++ t) (lines_of s k rename new xs (λ y h. is y (or_right (bytes_eq y x) (lists_id xs y) h)))
     ∙ step (bytes_eq (rename x) x) (filter (λ y. not (bytes_eq (rename y) y)) xs)
   where
     step : (b : Bool) (ys : List (List ℕ)) → (if b then [] else renamed_line s k x (rename x)) ++ flat_map (λ y. renamed_line s k y (rename y)) ys
@@ -28,7 +28,7 @@ lines_of s k rename new (x ∷ xs) is =
     step true ys = refl
     step false ys = refl
 
-named : (rename : Renaming) (xs : List (List ℕ)) (x : List ℕ) (told : Option (List ℕ)) → told ≡ (if has_id xs x then Some (rename x) else None) → has_id xs x ≡ true → told ≡ Some (rename x)
+named : (rename : Renaming) (xs : List (List ℕ)) (x : List ℕ) (told : Option (List ℕ)) → told ≡ (if lists_id xs x then Some (rename x) else None) → lists_id xs x ≡ true → told ≡ Some (rename x)
 named rename xs x told is there = is ∙ ap (λ b. if b then Some (rename x) else None) there
 
 module _ (near : Option ℕ) (a b : Content) (n : AllNames) (are : AreNamesOf near a b n) where

@@ -6,11 +6,11 @@ use Rattle.gtfs_columns.specs.declared.code.Code.{Code}
 use Rattle.gtfs_columns.specs.steps.FieldCodes.{is_found_at, is_in_row}
 use Rattle.gtfs_columns.specs.steps.Found.{Adds, is_same}
 use Rattle.gtfs_columns.specs.steps.Picks.{is_kept}
-use Rattle.gtfs_columns.specs.Problems.{Problem, is_code, is_listed}
+use Rattle.gtfs_columns.specs.Problems.{Problem, is_code, lists_problem}
 use Rattle.gtfs_columns.proofs.SiteFacts.{problem_at, same_at_column}
 
 pub adds_alike : (s t : Problem → Bool) (xs ys : List Problem) → ((p : Problem) → s p ≡ t p) → Adds s xs ys → Adds t xs ys
-adds_alike s t xs ys same added p = added p ∙ ap (λ b. is_listed xs p || b) (same p)
+adds_alike s t xs ys same added p = added p ∙ ap (λ b. lists_problem xs p || b) (same p)
 
 four_tests : (c f n r : Bool) → ((((c && f) && n) && r) && true) ≡ ((f && r) && (n && c))
 four_tests true true true true = refl

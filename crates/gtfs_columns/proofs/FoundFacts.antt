@@ -15,17 +15,17 @@ use Rattle.gtfs_field.proofs.ListFacts.{any_mapped}
 use Rattle.gtfs_columns.specs.declared.problem.Problem.{Problem as LentProblem}
 use Rattle.gtfs_columns.specs.steps.Found.{is_same, SameProblems}
 use Rattle.gtfs_columns.specs.steps.ProblemOrder.{problem_total}
-use Rattle.gtfs_columns.specs.Problems.{Problem, problem_cmp, is_listed}
+use Rattle.gtfs_columns.specs.Problems.{Problem, problem_cmp, lists_problem}
 use Rattle.gtfs_columns.specs.View.{problem_of}
 
 -- ---- a problem more
 
 pub listed_push : (xs : List LentProblem) (x : LentProblem) (p : Problem)
-    → is_listed (map problem_of (xs ++ x ∷ [])) p ≡ (is_listed (map problem_of xs) p || (is_same (problem_of x) p && true))
+    → lists_problem (map problem_of (xs ++ x ∷ [])) p ≡ (lists_problem (map problem_of xs) p || (is_same (problem_of x) p && true))
 listed_push [] x p = or-false (is_same (problem_of x) p) ∙ sym (and-true (is_same (problem_of x) p))
 listed_push (y ∷ ys) x p =
     ap (λ b. is_same (problem_of y) p || b) (listed_push ys x p)
-    ∙ sym (or_assoc (is_same (problem_of y) p) (is_listed (map problem_of ys) p) (is_same (problem_of x) p && true))
+    ∙ sym (or_assoc (is_same (problem_of y) p) (lists_problem (map problem_of ys) p) (is_same (problem_of x) p && true))
 
 pub listed_no_more : (a b : Bool) → a ≡ (a || (b && false))
 listed_no_more true b = refl

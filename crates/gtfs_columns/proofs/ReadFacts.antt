@@ -1,6 +1,6 @@
 -- Reading a value of a dataset that passes never fails.
 use Rattle.std.proofs.Common.{◌≡◌, ℕ, List, [], ◌∷◌, true, false, Bool, Option, Some, None, codes, refl, sym, ap, ◌∙◌, inl, inr, arith}
-use Rattle.std.specs.Prelude.{◌&&◌, ◌||◌, bytes_eq, not, if◌then◌else◌, nat_lt, nat_le, length, find, is_some, IsSome, option_and_then, option_map, ℤ, Result, Ok, Err}
+use Rattle.std.specs.Prelude.{◌&&◌, ◌||◌, bytes_eq, not, if◌then◌else◌, nat_lt, nat_le, length, find, is_some, option_and_then, option_map, ℤ, Result, Ok, Err}
 use Rattle.std.specs.List.{list_all, list_any}
 use Rattle.std.specs.Result.{result_ok}
 use Rattle.std.proofs.lemmas.Bool.{and_parts, cases_Bool, not-false as not_not}
@@ -19,11 +19,11 @@ use Rattle.gtfs_columns.specs.ColumnRules.{is_required}
 use Rattle.gtfs_columns.specs.Columns.{Kind, id, text, count, choice, time, date, colour, coordinate, Empty, refused, nothing, means, Column, column_named, columns_of, required, defaulting, up_to}
 use Rattle.gtfs_columns.specs.FieldRules.{is_id, is_text, is_form_fault, is_range_fault}
 use Rattle.gtfs_columns.specs.Problems.{Passes, holds_in, kept}
-use Rattle.gtfs_columns.specs.ReadRules.{FailsIfEmpty, IsReadAs, IsReadUnder, IsReadWhole, StandsAs, StandsDefaulting, StandsRequired, StandsUnder, may_lack}
+use Rattle.gtfs_columns.specs.ReadRules.{IsReadAs, IsReadUnder, StandsAs, StandsUnder, may_lack}
 use Rattle.gtfs_columns.specs.Rows.{is_named, text_in}
-use Rattle.gtfs_columns.specs.Values.{Value, word, as_amount, as_word, counted, has_control, meaning, measured, one_of, plain, read_as, readable}
+use Rattle.gtfs_columns.specs.Values.{Value, as_amount, counted, has_control, meaning, measured, one_of, read_as, readable}
 use Rattle.gtfs_columns.specs.Reads.{amount_of, word_of}
-use Rattle.gtfs_field.specs.Kinds.{shaped, count_of, time_of, date_of, colour_of, coordinate_of}
+use Rattle.gtfs_field.specs.Kinds.{count_of, time_of, date_of, colour_of, coordinate_of}
 use Rattle.gtfs_field.proofs.OptionFacts.{is_some-map as mapped_some}
 
 -- ---- what a default means is readable
@@ -118,7 +118,9 @@ value_there name kind (means m) t fills read meant = elim (cases_Bool (is_empty 
   | inr there_is ↦ rw there_is (read ∙ ap not there_is)
 ]
 
-pub passes_read : (d : Dataset) → Passes d → IsReadWhole d
+-- every value of every kept column is read
+pub passes_read : (d : Dataset) → Passes d → (x : File) (n : ℕ) (name : List ℕ) (c : Column)
+    → is_row (records_in d x) n ≡ true → column_named x name ≡ Some c → IsReadUnder c (text_in d x n name)
 passes_read d passes x n name c row there =
     let read = read_there d passes x n name c row there in
     let meant : means_value c ≡ true = found_passes (λ c. bytes_eq c.name name) means_value (columns_of x) c there (all_mean x) in
@@ -138,11 +140,11 @@ stands d passes x n row name c there t is = record {
 
 -- as under these
 start_times : (d : Dataset) → Passes d → (n : ℕ) → is_row (records_in d file.Frequencies) n ≡ true
-    → StandsRequired time (text_in d file.Frequencies n (codes "start_time"))
+    → StandsAs time refused (text_in d file.Frequencies n (codes "start_time"))
 start_times d passes n row = stands d passes file.Frequencies n row (codes "start_time") (required "start_time" time) refl _ refl
 
 transfer_types : (d : Dataset) → Passes d → (n : ℕ) → is_row (records_in d file.Transfers) n ≡ true
-    → StandsDefaulting (up_to 5) (codes "0") (text_in d file.Transfers n (codes "transfer_type"))
+    → StandsAs (up_to 5) (means (codes "0")) (text_in d file.Transfers n (codes "transfer_type"))
 transfer_types d passes n row = stands d passes file.Transfers n row (codes "transfer_type") (defaulting "transfer_type" (up_to 5) "0") refl _ refl
 
 pub read_under : (c : Column) (t : List ℕ) → StandsUnder c t → IsReadUnder c t
@@ -183,22 +185,12 @@ amount_some date numbers t = measured_some (is_empty t) (date_of t)
 amount_some colour numbers t = counted_some (is_empty t) (colour_of t)
 amount_some (coordinate axis) numbers t = measured_some (is_empty t) (coordinate_of axis t)
 
-is_there : {X : Type 0} (o : Option X) → is_some o ≡ true → IsSome o
-is_there None e = cc e
-is_there (Some x) e = refl
-
 module _ {X : Type 0} (kind : Kind) (numbers : is_of_numbers kind ≡ true) (e : Empty) (t : List ℕ) (f : X → ℤ) (o : Option X) where
   pub number_fails : option_map f o ≡ amount_of kind t → StandsAs kind e t → is_some o ≡ not (is_empty t)
   number_fails found s = sym (mapped_some f o) ∙ ap is_some found ∙ amount_some kind numbers t ∙ read_stands kind e t s
 
-  pub number_there : option_map f o ≡ amount_of kind (meaning e t) → StandsAs kind e t → may_lack e ≡ false → IsSome o
-  number_there found s always = is_there o (sym (mapped_some f o) ∙ ap is_some found ∙ amount_some kind numbers (meaning e t) ∙ read_as_there kind e t s always)
-
 pub day_fails : (kind : Kind) → is_of_numbers kind ≡ true → (e : Empty) (t : List ℕ) (o : Option ℤ) → o ≡ amount_of kind t → StandsAs kind e t → is_some o ≡ not (is_empty t)
 day_fails kind numbers e t o found s = ap is_some found ∙ amount_some kind numbers t ∙ read_stands kind e t s
-
-pub day_there : (kind : Kind) → is_of_numbers kind ≡ true → (t : List ℕ) (o : Option ℤ) → o ≡ amount_of kind t → StandsAs kind refused t → IsSome o
-day_there kind numbers t o found s = is_there o (ap is_some found ∙ amount_some kind numbers t ∙ read_as_there kind refused t s refl)
 
 measured_amount : (r : Result ℤ FieldFault) → result_ok r ≡ option_and_then as_amount (result_ok (measured r))
 measured_amount (Ok n) = refl
@@ -208,16 +200,6 @@ measured_amount (Err f) = refl
 pub date_read : (t : List ℕ) → result_ok (date_of t) ≡ amount_of date t
 date_read [] = refl
 date_read (b ∷ bs) = let filled : is_empty (b ∷ bs) ≡ false = grind (arith, nat_tests) in rw filled (measured_amount (date_of (b ∷ bs)))
-
-word_some : (empty control : Bool) (t : List ℕ)
-    → is_some (option_and_then as_word (if empty then None else result_ok (shaped (not control) (Ok (word t))))) ≡ is_some (if empty then None else result_ok (shaped (not control) (Ok (word t))))
-word_some true control t = refl
-word_some false true t = refl
-word_some false false t = refl
-
--- a reader of ids fails where the text is empty, and never else
-pub id_fails : {X : Type 0} (t : List ℕ) (f : X → List ℕ) (o : Option X) → option_map f o ≡ word_of id t → FailsIfEmpty id t o
-id_fails t f o found e s = sym (mapped_some f o) ∙ ap is_some found ∙ word_some (is_empty t) (has_control t) t ∙ read_stands id e t s
 
 id_is : (t : List ℕ) → is_some (readable id t) ≡ true → word_of id t ≡ Some t
 id_is t there = elim (cases_Bool (is_empty t)) [
@@ -230,12 +212,3 @@ id_is t there = elim (cases_Bool (is_empty t)) [
 
 pub id_there : (t : List ℕ) → StandsAs id refused t → word_of id t ≡ Some t
 id_there t s = id_is t (read_as_there id refused t s refl)
-
-text_is_there : (t : List ℕ) → is_some (readable text t) ≡ true → word_of text t ≡ Some (plain t)
-text_is_there t there = elim (cases_Bool (is_empty t)) [
-  | inl empty ↦ cc (rw empty at there)
-  | inr filled ↦ rw filled refl
-]
-
-pub text_stands : (t : List ℕ) → StandsAs text refused t → word_of text t ≡ Some (plain t)
-text_stands t s = text_is_there t (read_as_there text refused t s refl)

@@ -9,7 +9,7 @@ use Rattle.gtfs_table.specs.declared.file.File.TheVariants as file
 use Rattle.gtfs_columns.specs.steps.Ids.{first_rows, FirstRows}
 use Rattle.gtfs_columns.specs.KeyRules.{is_known, unknown_reference}
 use Rattle.gtfs_columns.specs.References.{Reference, references}
-use Rattle.gtfs_columns.specs.steps.ReferencePicks.{agency_names, route_names, service_names, stop_names, trip_names}
+use Rattle.gtfs_columns.specs.steps.ReferencePicks.{route_names, service_names, stop_names, trip_names}
 use Rattle.gtfs_columns.specs.steps.Picks.{is_kept}
 use Rattle.gtfs_columns.specs.Problems.{FileName, kept, other}
 use Rattle.gtfs_columns.specs.Reads.{is_id}
@@ -46,11 +46,11 @@ unknown_in d x n name y column ids is =
 -- each column that names rows, in their order
 abbrev pub all_names : List (File × List ℕ)
 all_names = (file.Stops, codes "parent_station") ∷ (file.StopTimes, codes "stop_id") ∷ (file.Transfers, codes "from_stop_id") ∷ (file.Transfers, codes "to_stop_id")
-    ∷ (agency_names ++ (route_names ++ (service_names ++ ((file.StopTimes, codes "trip_id") ∷ trip_names))))
+    ∷ (file.Routes, codes "agency_id") ∷ (route_names ++ (service_names ++ ((file.StopTimes, codes "trip_id") ∷ trip_names)))
 
 -- those of all files but stop_times.txt
 abbrev pub other_names : List (File × List ℕ)
-other_names = stop_names ++ (agency_names ++ (route_names ++ (service_names ++ trip_names)))
+other_names = stop_names ++ ((file.Routes, codes "agency_id") ∷ (route_names ++ (service_names ++ trip_names)))
 
 -- a reference is reported at its column
 pub reported_at_names : (d : Dataset) (x : File) (n : ℕ) (name : List ℕ) → unknown_reference d x n name ≡ true → is_site all_names x name ≡ true

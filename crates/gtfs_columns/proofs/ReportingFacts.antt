@@ -6,7 +6,7 @@ use Rattle.std.proofs.lemmas.Bool.{cases_Bool}
 use Rattle.gtfs_table.specs.Tables.{Dataset}
 use Rattle.gtfs_columns.specs.steps.Found.{Adds, ListsAll, Reports, is_same}
 use Rattle.gtfs_columns.specs.steps.ProblemOrder.{problem_anti}
-use Rattle.gtfs_columns.specs.Problems.{Problem, problem_cmp, is_listed, is_problem}
+use Rattle.gtfs_columns.specs.Problems.{Problem, problem_cmp, lists_problem, is_problem}
 
 -- nothing picked, nothing added
 or_false : (a b : Bool) → a ≡ (a || (false && b))
@@ -14,7 +14,7 @@ or_false true b = refl
 or_false false b = refl
 
 pub reports_none : (d : Dataset) (ps : List Problem) → Reports d (λ p. false) ps ps
-reports_none d ps p = or_false (is_listed ps p) (is_problem d p)
+reports_none d ps p = or_false (lists_problem ps p) (is_problem d p)
 
 -- two steps
 joined : (l a b h : Bool) → ((l || (a && h)) || (b && h)) ≡ (l || ((a || b) && h))
@@ -27,11 +27,11 @@ joined false false b h = refl
 
 pub reports_then : (d : Dataset) (a b : Problem → Bool) (xs ys zs : List Problem) → Reports d a xs ys → Reports d b ys zs → Reports d (λ p. a p || b p) xs zs
 reports_then d a b xs ys zs first second p =
-    second p ∙ ap (λ l. l || (b p && is_problem d p)) (first p) ∙ joined (is_listed xs p) (a p) (b p) (is_problem d p)
+    second p ∙ ap (λ l. l || (b p && is_problem d p)) (first p) ∙ joined (lists_problem xs p) (a p) (b p) (is_problem d p)
 
 -- the same problems picked by another test
 pub reports_alike : (d : Dataset) (a b : Problem → Bool) (xs ys : List Problem) → ((p : Problem) → (a p && is_problem d p) ≡ (b p && is_problem d p)) → Reports d a xs ys → Reports d b xs ys
-reports_alike d a b xs ys same reported p = reported p ∙ ap (λ t. is_listed xs p || t) (same p)
+reports_alike d a b xs ys same reported p = reported p ∙ ap (λ t. lists_problem xs p || t) (same p)
 
 -- a site that was asked
 same_site : (d : Dataset) (q p : Problem) → (is_same q p && is_problem d q) ≡ (is_same q p && is_problem d p)
@@ -42,7 +42,7 @@ same_site d q p = elim (cases_Bool (is_same q p)) [
 
 pub reports_one : (d : Dataset) (q : Problem) (holds : Bool) (xs ys : List Problem) → holds ≡ is_problem d q → Adds (λ p. is_same q p && holds) xs ys → Reports d (is_same q) xs ys
 reports_one d q holds xs ys asked adds p =
-    adds p ∙ ap (λ h. is_listed xs p || (is_same q p && h)) asked ∙ ap (λ t. is_listed xs p || t) (same_site d q p)
+    adds p ∙ ap (λ h. lists_problem xs p || (is_same q p && h)) asked ∙ ap (λ t. lists_problem xs p || t) (same_site d q p)
 
 -- every problem of the dataset was picked
 both_hold : (picked h : Bool) → (h ≡ true → picked ≡ true) → (picked && h) ≡ h

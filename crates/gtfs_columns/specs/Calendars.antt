@@ -24,26 +24,26 @@ abbrev pub first_service_row : Dataset → File → List ℕ → Option ℕ
 first_service_row d x service = find (λ n. is_word (word_in d x n "service_id") service) (rows d x)
 
 -- the number of a field, 0 where it is not readable
-abbrev pub number_in : Dataset → File → ℕ → Literal → ℤ
-number_in d x n column = unwrap_or (amount_in d x n column) (pos 0)
+abbrev pub field_number : Dataset → File → ℕ → Literal → ℤ
+field_number d x n column = unwrap_or (amount_in d x n column) (pos 0)
 
 abbrev pub runs_on : Dataset → ℕ → Literal → Bool
-runs_on d n weekday = int_eq (number_in d file.Calendar n weekday) (pos 1)
+runs_on d n weekday = int_eq (field_number d file.Calendar n weekday) (pos 1)
 
 -- a row of calendar.txt
 abbrev pub week_in : Dataset → ℕ → Week
 week_in d n = record {
   days = runs_on d n "monday" ∷ runs_on d n "tuesday" ∷ runs_on d n "wednesday" ∷ runs_on d n "thursday"
       ∷ runs_on d n "friday" ∷ runs_on d n "saturday" ∷ runs_on d n "sunday" ∷ [];
-  start = number_in d file.Calendar n "start_date";
-  end = number_in d file.Calendar n "end_date";
+  start = field_number d file.Calendar n "start_date";
+  end = field_number d file.Calendar n "end_date";
 }
 
 -- a row of calendar_dates.txt: type 1 adds its day, type 2 removes it
 abbrev pub exception_in : Dataset → ℕ → ℤ × Exception
 exception_in d n = (
-  number_in d file.CalendarDates n "date",
-  if int_eq (number_in d file.CalendarDates n "exception_type") (pos 1) then Added else Removed,
+  field_number d file.CalendarDates n "date",
+  if int_eq (field_number d file.CalendarDates n "exception_type") (pos 1) then Added else Removed,
 )
 
 -- the service of an id: its first calendar row, and its exceptions in the order of their rows

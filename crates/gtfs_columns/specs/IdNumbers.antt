@@ -21,8 +21,8 @@ abbrev pub number_among : List (List ℕ) → List ℕ → Option ℕ
 number_among ids id = position (λ k. bytes_eq k id) ids
 
 -- the number of an id, where a row has it
-abbrev pub number_in : Dataset → File → List ℕ → List ℕ → Option ℕ
-number_in d x column id = number_among (ids_by_bytes d x column) id
+abbrev pub number_of_id : Dataset → File → List ℕ → List ℕ → Option ℕ
+number_of_id d x column id = number_among (ids_by_bytes d x column) id
 
 -- the id of a number
 abbrev pub id_numbered : Dataset → File → List ℕ → ℕ → Option (List ℕ)

@@ -6,7 +6,7 @@ use Prim.Native.String.{String as Literal}
 use Rattle.gtfs_table.specs.Tables.{Dataset}
 use Rattle.gtfs_table.specs.declared.file.File.{File}
 use Rattle.gtfs_table.specs.declared.file.File.TheVariants as file
-use Rattle.gtfs_columns.specs.Values.{if_there, if_both, is_between}
+use Rattle.gtfs_columns.specs.Values.{if_there, if_both, is_count_between}
 use Rattle.gtfs_table.specs.Rows.{rows}
 use Rattle.gtfs_columns.specs.Rows.{is_readable_in, is_empty_in, word_in, choice_in, Rule, Condition, reported_at, any_of}
 
@@ -14,7 +14,7 @@ use Rattle.gtfs_columns.specs.Rows.{is_readable_in, is_empty_in, word_in, choice
 
 -- the row's choice is a number from low to high
 abbrev pub is_choice : ℕ → ℕ → File → Literal → Rule
-is_choice low high x column d n = if_there (choice_in d x n column) (is_between low high)
+is_choice low high x column d n = if_there (choice_in d x n column) (is_count_between low high)
 
 abbrev pub is_of_type : ℕ → ℕ → Rule
 is_of_type low high = is_choice low high file.Stops "location_type"

@@ -104,13 +104,13 @@ problem_cmp = then_cmp (on (λ p. p.file) name_cmp)
 -- ---- the report
 
 -- the problem is one of the list
-abbrev pub is_listed : List Problem → Problem → Bool
-is_listed ps p = list_any (λ q. is_eq (problem_cmp p q)) ps
+abbrev pub lists_problem : List Problem → Problem → Bool
+lists_problem ps p = list_any (λ q. is_eq (problem_cmp p q)) ps
 
 -- the report of a dataset: the strictly ascending list whose members are exactly its problems
 pub record IsReport (d : Dataset) (ps : List Problem) : Type 0 where
   pub ascending : IsStrictlySortedBy problem_cmp ps
-  pub members : (p : Problem) → is_listed ps p ≡ is_problem d p
+  pub members : (p : Problem) → lists_problem ps p ≡ is_problem d p
 
 -- no other list is a report of the dataset
 abbrev pub IsOnlyReport : Dataset → List Problem → Type 0

@@ -27,11 +27,6 @@ pub record IsReadUnder (c : Column) (t : List ℕ) : Type 0 where
   pub read : IsReadAs c.kind t
   pub there : (may_lack c.empty || is_some (readable c.kind (meaning c.empty t))) ≡ true
 
--- every value of every kept column is read
-abbrev pub IsReadWhole : Dataset → Type 0
-IsReadWhole d = (x : File) (n : ℕ) (name : List ℕ) (c : Column)
-    → is_row (records_in d x) n ≡ true → column_named x name ≡ Some c → IsReadUnder c (text_in d x n name)
-
 -- ---- texts of datasets that pass
 
 -- the text stands under this column in a row of a dataset that passes
@@ -51,14 +46,6 @@ pub record StandsAs (kind : Kind) (empty : Empty) (t : List ℕ) : Type 0 where
   pub stands : StandsUnder column t
   pub kind_is : column.kind ≡ kind
   pub empty_is : column.empty ≡ empty
-
--- .. under a column that each row has to fill
-abbrev pub StandsRequired : Kind → List ℕ → Type 0
-StandsRequired kind t = StandsAs kind refused t
-
--- .. under a column whose empty value means this text
-abbrev pub StandsDefaulting : Kind → List ℕ → List ℕ → Type 0
-StandsDefaulting kind m t = StandsAs kind (means m) t
 
 -- a reading of the text fails where the text is empty, and never else, if the text is of a dataset that passes
 abbrev pub FailsIfEmpty : {X : Type 0} → Kind → List ℕ → Option X → Type 0

@@ -83,8 +83,8 @@ abbrev pub is_word : Option (List ℕ) → List ℕ → Bool
 is_word o t = if_there o (bytes_eq t)
 
 -- a number lies between two, both included
-abbrev pub is_between : ℕ → ℕ → ℤ → Bool
-is_between low high x = int_le (pos low) x && int_le x (pos high)
+abbrev pub is_count_between : ℕ → ℕ → ℤ → Bool
+is_count_between low high x = int_le (pos low) x && int_le x (pos high)
 
 -- a number is one of these
 abbrev pub is_one_of : List ℕ → ℤ → Bool

@@ -11,8 +11,9 @@ use crate::code::Code;
 use crate::columns::{Column, Empty, Kind};
 use gtfs_field::{FieldFault, read_colour, read_coord, read_count, read_date, read_time};
 
-/// What is wrong with a text under a column, which the header names or not: it is empty and the column is required
-/// (E06), it holds a control character (E20, W05), or its kind refuses it (E07, E08). None where nothing is.
+/// What is wrong with a text under a column: it is empty and the column is required (E06), it is an id or a text with
+/// a control character (E20, W05), or its kind refuses it (E07, E08). None where nothing is. An empty text under a
+/// column that the header does not name (`named`) is no problem of the row.
 ///
 /// GTFS Schedule Reference, "Presence" and "Field Types".
 pub fn cell_code(named: bool, column: &Column, text: &str) -> Option<Code>

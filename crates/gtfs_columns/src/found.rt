@@ -35,11 +35,11 @@ impl<'a> Found<'a> {
         }
     }
 
-    /// Adds a problem where it holds.
+    /// Adds a problem if it holds.
     ///
     /// # Errors
     /// `OutOfMemory` where the list cannot grow.
-    pub fn report(&mut self, problem: Problem<'a>, holds: bool) -> Result<(), OutOfMemory>
+    pub fn report_if(&mut self, problem: Problem<'a>, holds: bool) -> Result<(), OutOfMemory>
         ensures { OnOk result
             (Adds (λ p. is_same (problem_of problem.entry) p && holds) self.old self.new) }
     {

@@ -34,7 +34,8 @@ impl<'a> Model for Ids<'a> {
 
     ghost view = { λ i. listed_first_rows i.rows.items };
 
-    ghost invariant = { λ i. IsFilledIndex (listed_first_rows i.rows.items) i.rows.items i.slots.items i.are_clear };
+    ghost invariant = { λ i.
+        IsFilledIndex (listed_first_rows i.rows.items) i.rows.items i.slots.items i.are_clear };
 }
 
 impl<'a> Ids<'a> {
@@ -176,7 +177,8 @@ fn id_rows<'a>(
     file: File,
     column: &str,
 ) -> Result<Vec<IdRow<'a>>, OutOfMemory>
-    ensures { IfOk result (λ rows. ListsFirstRows (first_rows tables.now file column.now) rows.items) }
+    ensures { IfOk result (λ rows.
+        ListsFirstRows (first_rows tables.now file column.now) rows.items) }
 {
     let index = tables.column(file, column);
     // Room that is asked for at once may stand on large pages, where a search by chance costs less.

@@ -6,7 +6,7 @@
 //! - The kept [`Column`]s of each file: name, [`Kind`], and what an empty value is.
 //! - [`values`] reads the value of a text by its kind, as an id, a count, a choice, a time, a date, a colour or a
 //!   coordinate, and answers None where there is none. In tables that pass, that is where the text is empty and
-//!   nowhere else; so [`present`] reads what is always there, and answers the value itself.
+//!   nowhere else. [`push_plain`] writes a text as its value has it, without control characters.
 //! - A column is found once, by its index in the header, and then read record after record (`Tables::column`,
 //!   `Record::value` of `gtfs_table`).
 //! - [`Ids`] are the ids of a file, each with its number by bytes and its first row, and a [`Finder`] looks them up.
@@ -32,7 +32,7 @@ mod id_row;
 mod ids;
 mod location_types;
 mod network_ids;
-pub mod present;
+mod plain;
 mod problem;
 mod slots;
 pub mod values;
@@ -52,4 +52,5 @@ pub use found::Found;
 pub use ids::Ids;
 pub use location_types::{is_one_of, stop_types, type_of};
 pub use network_ids::NetworkIds;
+pub use plain::push_plain;
 pub use problem::Problem;

@@ -2,13 +2,13 @@
 //!
 //! A text is a value of a record, cut of its blanks, as [`Record::value`](gtfs_table::Record::value) gives it. Each
 //! reader answers None where the text is empty or has no value of the kind. In tables that pass, only an empty text
-//! has none (the clause `whole`), and [`present`](crate::present) reads what is always there.
+//! has none (the clause `whole`).
 
-ghost use Rattle.std.specs.Prelude.{◌≡◌, option_map, pos, IfSome};
+ghost use Rattle.std.specs.Prelude.{◌≡◌, option_map, pos};
 ghost use Rattle.gtfs_columns.specs.Columns as kind;
 ghost use Rattle.gtfs_columns.specs.Reads.{amount_of, choice_of, is_id, seconds_of, word_of};
 ghost use Rattle.gtfs_columns.specs.ReadRules.{FailsIfEmpty};
-ghost use Rattle.gtfs_columns.specs.Values.{meaning, plain};
+ghost use Rattle.gtfs_columns.specs.Values.{meaning};
 
 use crate::cell::{has_control, read_choice};
 use gtfs_field::{
@@ -27,16 +27,6 @@ pub fn is_id(text: &str) -> bool
     ensures { result ≡ is_id text.now }
 {
     !text.is_empty() && !has_control(text)
-}
-
-/// A text, as it stands ("Text", and the kinds that are taken as texts). Its value has a space in the place of
-/// each control character; the text that is handed out still has them.
-pub fn text(text: &str) -> Option<&str>
-    ensures value { option_map (λ t. plain t.now) result ≡ word_of kind.text text.now }
-    ensures as_it_stands { IfSome result (λ t. t.now ≡ text.now) }
-    ensures whole { FailsIfEmpty kind.text text.now result }
-{
-    (!text.is_empty()).then_some(text)
 }
 
 /// A count, 0 to 2,147,483,647 ("Non-negative integer").
@@ -63,8 +53,8 @@ pub fn choice_or(ranges: &[(u32, u32)], empty: &str, text: &str) -> Option<i64>
     Some(i64::from(number))
 }
 
-// The text that a text stands for, where an empty one stands for another.
-pub(crate) fn meant<'a>(empty: &'a str, text: &'a str) -> &'a str
+/// The text that a text stands for, where an empty one stands for the text `empty`.
+pub fn meant<'a>(empty: &'a str, text: &'a str) -> &'a str
     ensures { result.now ≡ meaning (kind.means empty.now) text.now }
 {
     if text.is_empty() { empty } else { text }

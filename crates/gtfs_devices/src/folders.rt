@@ -67,7 +67,9 @@ pub trait Folders {
 
     /// The names of what lies in a folder, in byte order.
     ///
-    /// Refused with Read, with NoFolder where there is no such folder, and with OutOfMemory.
+    /// # Errors
+    /// `Read` where the device failed, `NoFolder` where there is no such folder, and `OutOfMemory` where
+    /// memory is refused.
     fn names(&mut self, alloc: Global, dir: &str) -> Result<Vec<Text>, FolderFault>
         ensures lists { IfOk result
             (λ names. Lists (held self.old) dir.now names.items) }
@@ -86,8 +88,9 @@ pub trait Folders {
 
     /// The bytes of a folder's file, or None where the folder has no such file.
     ///
-    /// Refused with Read, with TooLarge where the file is longer than the device's limit, with NoFolder
-    /// where there is no such folder, and with OutOfMemory.
+    /// # Errors
+    /// `Read` where the device failed, `TooLarge` where the file is longer than the device's limit,
+    /// `NoFolder` where there is no such folder, and `OutOfMemory` where memory is refused.
     fn read(&mut self, alloc: Global, dir: &str, name: &str) -> Result<Option<Vec<u8>>, FolderFault>
         ensures finds { IfOk result
             (λ file. Finds (held self.old) dir.now name.now
@@ -109,8 +112,9 @@ pub trait Folders {
     /// Makes these bytes the whole of a folder's file. Makes the folder where it is absent, and takes the
     /// place of a file that was there. It judges no limit.
     ///
-    /// Refused with OutOfMemory, which leaves all as it was, and with Write, after which the content of
-    /// that one file is open.
+    /// # Errors
+    /// `Write` where the device failed; the content of that one file is then open. `OutOfMemory` where
+    /// memory is refused; all is then as it was.
     fn write(
         &mut self,
         alloc: Global,

@@ -63,7 +63,8 @@ impl MemoryFolders {
 
     /// Adds a folder, empty, where it is absent. It is no counted call.
     ///
-    /// Refused with OutOfMemory, which leaves all as it was.
+    /// # Errors
+    /// `OutOfMemory` where memory is refused; all is then as it was.
     pub fn put_folder(&mut self, dir: &str) -> Result<(), OutOfMemory>
         ensures ok { OnOk result
             (self.new ≡ record self.old { store = put_folder self.old.store dir.now }) }
@@ -75,7 +76,8 @@ impl MemoryFolders {
     /// Makes these bytes the whole of a folder's file, and makes the folder where it is absent. It is no
     /// counted call.
     ///
-    /// Refused with OutOfMemory, which leaves all as it was.
+    /// # Errors
+    /// `OutOfMemory` where memory is refused; all is then as it was.
     pub fn put(&mut self, dir: &str, name: &str, bytes: &[u8]) -> Result<(), OutOfMemory>
         ensures ok { OnOk result
             (self.new ≡ record self.old { store = put self.old.store dir.now name.now bytes.now }) }

@@ -34,6 +34,9 @@ impl Model for MemoryOut {
 impl MemoryOut {
     /// An output with room for this many bytes, to which nothing went out yet. It takes all its
     /// memory here.
+    ///
+    /// # Errors
+    /// `OutOfMemory` where memory is refused.
     pub fn new(alloc: Global, room: usize) -> Result<MemoryOut, OutOfMemory>
         ensures { IfOk result (λ out. out ≡ record { text = []; left = room; failures = 0 }) }
     {

@@ -32,7 +32,8 @@ pub trait Out {
 
     /// Takes a beginning of the text, at least one byte where the text has any, and answers its length.
     ///
-    /// Refused with Failed: then nothing of the text went out.
+    /// # Errors
+    /// `Failed` where the output failed; nothing of the text went out then.
     fn write(&mut self, text: &[u8]) -> Result<usize, Failed>
         ensures taken { IfOk result
             (λ n. Appends (told self.old) (told self.new) (take n text.now)) }
@@ -52,8 +53,9 @@ pub trait Out {
 
 /// Sends a whole text out. It takes no memory.
 ///
-/// Refused with the number of bytes that went out, which are the first of the text. Then exactly one write
-/// failed, and it was the last.
+/// # Errors
+/// `OutFault` where the output failed: it tells how many bytes went out, which are the first of the text.
+/// Exactly one write failed, and it was the last.
 pub fn write_text<O: Out>(out: &mut O, text: &[u8]) -> Result<(), OutFault>
     ensures whole { OnOk result (Appends (O.told out.old) (O.told out.new) text.now) }
     ensures prefix { IfErr result

@@ -35,7 +35,8 @@ impl<W: Write> WriteOut<W> {
 
     /// Flushes the writer.
     ///
-    /// Refused with Failed, which counts as a failure.
+    /// # Errors
+    /// `Failed` where the writer failed, which counts as a failure.
     pub fn flush(&mut self) -> Result<(), Failed>
         ensures kept { Keeps (W.contents self.old.0) (W.contents self.new.0) }
         ensures ok { OnOk result (self.new.1 ≡ self.old.1) }
@@ -61,7 +62,8 @@ impl<W: Write + Drop> WriteOut<BufWriter<W>> {
     /// Flushes the buffer: then nothing is left in it, and its writer was handed all that the buffer
     /// took. That writer is flushed too.
     ///
-    /// Refused with Failed, which counts as a failure.
+    /// # Errors
+    /// `Failed` where the writer failed, which counts as a failure.
     pub fn flush_buffer(&mut self) -> Result<(), Failed>
         ensures empty { OnOk result (writer_buffer self.new.0 ≡ []) }
         ensures kept { Keeps (writer_contents W.contents self.old.0)

@@ -1,7 +1,14 @@
--- A feed: its parts, which are sound, and its ids by number.
-use Rattle.std.specs.Prelude.{◌≡◌, ℕ, List}
+-- The ids that a feed looks up.
+use Rattle.std.specs.Prelude.{ℕ, List}
+use Rattle.std.specs.declared.random_state.RandomState.{RandomState}
 use Rattle.gtfs_rows.specs.declared.parts.Parts.{Parts}
-use Rattle.gtfs_rows.specs.Views.{IsSoundParts, agency_ids, stop_ids, route_ids, service_ids, trip_ids}
+use Rattle.gtfs_rows.specs.Views.{agency_ids, stop_ids, route_ids, service_ids, trip_ids}
+
+-- the ids of one kind, each at its number
+pub record IdIndex : Type 0 where
+  pub ids : List (List ℕ)
+  -- what the ids are hashed by
+  pub random : RandomState
 
 -- the ids of each kind that a feed can look up
 pub record Numbering : Type 0 where
@@ -20,8 +27,3 @@ numbering_of p = record {
   services = service_ids p;
   trips = trip_ids p;
 }
-
--- what a feed keeps
-pub record IsNumbered (p : Parts) (ids : Numbering) : Type 0 where
-  pub sound : IsSoundParts p
-  pub numbered : ids ≡ numbering_of p

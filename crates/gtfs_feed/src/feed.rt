@@ -22,14 +22,13 @@ pub struct Feed {
 
 impl Model for Feed {
     ghost use Rattle.gtfs_rows.specs.declared.parts.Parts.{Parts as PartsValue};
-    ghost use Rattle.gtfs_feed.specs.Numbering.{IsNumbered};
-    ghost use Rattle.gtfs_feed.specs.RowIds.{numbering_in};
+    ghost use Rattle.gtfs_feed.specs.RowIds.{IsNumbered};
 
     ghost Value = { PartsValue };
 
     ghost view = { λ f. f.parts };
 
-    ghost invariant = { λ f. IsNumbered f.parts (numbering_in f.ids) };
+    ghost invariant = { λ f. IsNumbered f.parts f.ids };
 }
 
 // Written out, so that a function that lets a feed go has one call to prove.
@@ -42,7 +41,10 @@ impl Drop for Feed {
 impl Feed {
     /// The feed of these rows: ids get their numbers in the order of their bytes.
     ///
-    /// Where memory is refused, the parts are let go. No answer of a feed depends on the random state.
+    /// The ids are hashed by the random state, on which no answer of the feed depends.
+    ///
+    /// # Errors
+    /// `OutOfMemory` where memory is refused. Then the parts are let go.
     pub fn assemble(alloc: Global, random: RandomState, parts: Parts) -> Result<Feed, OutOfMemory>
         requires { IsSoundParts parts }
         ensures { IfOk result (λ feed. feed ≡ parts) }

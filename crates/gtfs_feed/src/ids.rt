@@ -24,11 +24,13 @@ impl Drop for Ids {
 }
 
 impl Model for Ids {
-    ghost use Rattle.std.specs.Prelude.{List, ℕ, map, string_bytes};
+    ghost use Rattle.std.specs.Prelude.{map, string_bytes};
+    ghost use Rattle.indexmap.specs.IndexSet.{hasher_of};
+    ghost use Rattle.gtfs_feed.specs.Numbering.{IdIndex};
 
-    ghost Value = { List (List ℕ) };
+    ghost Value = { IdIndex };
 
-    ghost view = { λ n. map string_bytes n.ids.keys };
+    ghost view = { λ n. record { ids = map string_bytes n.ids.keys; random = hasher_of n.ids } };
 }
 
 impl Ids {
@@ -39,7 +41,8 @@ impl Ids {
         rows: &[R],
     ) -> Result<Ids, OutOfMemory>
         requires { Ascends (on R.name text_cmp) rows.now }
-        ensures { IfOk result (λ ids. ids ≡ map R.name rows.now) }
+        ensures ids { IfOk result (λ ids. ids.ids ≡ map R.name rows.now) }
+        ensures random { IfOk result (λ ids. ids.random ≡ random) }
     {
         let mut ids = Ids::with_room(alloc, random, rows.len())?;
         ids.push_rows(alloc, rows).and(Ok(ids))
@@ -47,9 +50,10 @@ impl Ids {
 
     // Adds the ids of rows, where none is there yet.
     fn push_rows<R: Named>(&mut self, alloc: Global, rows: &[R]) -> Result<(), OutOfMemory>
-        requires none { self.old ≡ [] }
+        requires none { self.old.ids ≡ [] }
         requires order { Ascends (on R.name text_cmp) rows.now }
-        ensures { OnOk result (self.new ≡ map R.name rows.now) }
+        ensures ids { OnOk result (self.new.ids ≡ map R.name rows.now) }
+        ensures random { self.new.random ≡ self.old.random }
     {
         for row in rows {
             self.push(String::from_str(alloc, row.id())?)?;
@@ -59,7 +63,8 @@ impl Ids {
 
     // No ids yet, and room for this many.
     fn with_room(alloc: Global, random: RandomState, count: usize) -> Result<Ids, OutOfMemory>
-        ensures { IfOk result (λ ids. ids ≡ []) }
+        ensures none { IfOk result (λ ids. ids.ids ≡ []) }
+        ensures random { IfOk result (λ ids. ids.random ≡ random) }
     {
         Ok(Ids {
             ids: IndexSet::with_capacity_and_hasher(alloc, count, random)?,
@@ -68,15 +73,16 @@ impl Ids {
 
     // The number of an id.
     pub(crate) fn number(&self, id: &str) -> Option<usize>
-        ensures { result ≡ position (bytes_eq id.now) self.now }
+        ensures { result ≡ position (bytes_eq id.now) self.now.ids }
     {
         self.ids.get_index_of(id)
     }
 
     // Adds an id that is not there, which takes the next number.
     fn push(&mut self, id: String) -> Result<(), OutOfMemory>
-        requires { list_any (bytes_eq (string_bytes id)) self.old ≡ false }
-        ensures { OnOk result (self.new ≡ self.old ++ string_bytes id ∷ []) }
+        requires { list_any (bytes_eq (string_bytes id)) self.old.ids ≡ false }
+        ensures ids { OnOk result (self.new.ids ≡ self.old.ids ++ string_bytes id ∷ []) }
+        ensures random { self.new.random ≡ self.old.random }
     {
         self.ids.insert(id)?;
         Ok(())

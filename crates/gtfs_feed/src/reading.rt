@@ -4,6 +4,7 @@ ghost use Rattle.gtfs_rows.specs.Reading.{content_of as content_of_dataset};
 ghost use Rattle.gtfs_rows.specs.Views.{content_of_parts, stop_row_of};
 ghost use Rattle.gtfs_table.specs.Parts.{parts};
 ghost use Rattle.gtfs_table.specs.Tables.{Dataset};
+ghost use Rattle.gtfs_stop_times.specs.FirstNamed.{headsigns_in};
 ghost use Rattle.gtfs_feed.specs.Content.{content_of};
 
 use crate::feed::Feed;
@@ -19,13 +20,18 @@ impl Feed {
     /// The feed of a dataset that passed the validator: its content with numbers in place of ids (GTFS Schedule
     /// Reference, "Dataset Files").
     ///
-    /// Stop times were read when the dataset was checked, and are not read again. The dataset is lent and not changed, and
-    /// the feed lends nothing of it. No answer of the feed depends on the random state.
+    /// Headsigns of stop times have their numbers in the order in which the stop times first name them, trip after trip and
+    /// in each trip by sequence. Stop times were read when the dataset was checked, and are not read again. The dataset is
+    /// lent and not changed, and the feed lends nothing of it. Ids and headsigns are hashed by the random state, on which no
+    /// answer of the feed depends.
     ///
     /// # Errors
     /// `OutOfMemory` where memory is refused, and where stop times have more than 4,294,967,295 different headsigns.
     pub fn new(alloc: Global, random: RandomState, passed: &Passed<'_>) -> Result<Feed, OutOfMemory>
-        ensures { IfOk result (λ feed. content_of feed ≡ content_of_dataset passed.now) }
+        ensures content { IfOk result
+            (λ feed. content_of feed ≡ content_of_dataset passed.now) }
+        ensures headsigns { IfOk result
+            (λ feed. feed.headsigns ≡ headsigns_in (content_of_dataset passed.now)) }
     {
         let rows = FeedRows::new(alloc, passed)?;
         let trips = rows.trips.as_slice().len();

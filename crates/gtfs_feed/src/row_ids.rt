@@ -1,7 +1,7 @@
 ghost use Rattle.std.specs.Prelude.{◌≡◌, IfOk};
 ghost use Rattle.gtfs_rows.specs.Views.{IsSoundParts};
 ghost use Rattle.gtfs_feed.specs.Numbering.{numbering_of};
-ghost use Rattle.gtfs_feed.specs.RowIds.{numbering_in};
+ghost use Rattle.gtfs_feed.specs.RowIds.{AreHashedBy, numbering_in};
 
 use crate::ids::Ids;
 use gtfs_field::OutOfMemory;
@@ -39,7 +39,8 @@ impl RowIds {
         parts: &Parts,
     ) -> Result<RowIds, OutOfMemory>
         requires { IsSoundParts parts.now }
-        ensures { IfOk result (λ ids. numbering_in ids ≡ numbering_of parts.now) }
+        ensures ids { IfOk result (λ ids. numbering_in ids ≡ numbering_of parts.now) }
+        ensures random { IfOk result (AreHashedBy random) }
     {
         let agencies = Ids::of_rows(alloc, random, parts.agencies.as_slice())?;
         let stops = Ids::of_rows(alloc, random, parts.stops.as_slice())?;

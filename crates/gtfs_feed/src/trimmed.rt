@@ -17,13 +17,16 @@ impl Feed {
     /// and all other rows stay, also those of trips that then never run (GTFS Schedule Reference, `calendar.txt` and
     /// `calendar_dates.txt`). The day itself belongs to the later side.
     ///
-    /// This feed is not changed, and the new one lends nothing of it. No answer of the new feed depends on the random state.
+    /// This feed is not changed, and the new one lends nothing of it. Rows and headsigns keep their numbers. No answer of the
+    /// new feed depends on the random state, by which its ids are hashed.
     ///
     /// # Errors
     /// `OutOfMemory` where memory is refused.
     pub fn trimmed(&self, alloc: Global, random: RandomState, cut: Cut) -> Result<Feed, OutOfMemory>
         requires { is_service_day (cut_day cut) ≡ true }
-        ensures { IfOk result (λ feed. content_of feed ≡ trimmed cut (content_of self.now)) }
+        ensures content { IfOk result
+            (λ feed. content_of feed ≡ trimmed cut (content_of self.now)) }
+        ensures parts { IfOk result (λ feed. feed ≡ trimmed_parts cut self.now) }
     {
         let parts = trimmed_parts(alloc, self.parts(), &cut)?;
         Feed::assemble(alloc, random, parts)

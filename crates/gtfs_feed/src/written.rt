@@ -18,8 +18,10 @@ impl Feed {
     /// The nine files of the feed as tables: each has the header of its kept columns and a row of canonical texts for
     /// each row of the feed (GTFS Schedule Reference, "Field Definitions"). No other file is there.
     ///
-    /// The tables pass the validator, and read back they are the same feed, whatever else their folder holds. Memory
-    /// that is refused is an error, and nothing of the tables is left then.
+    /// The tables pass the validator, and read back they are the same feed, whatever else their folder holds.
+    ///
+    /// # Errors
+    /// `OutOfMemory` where memory is refused. Then nothing of the tables is left.
     pub fn to_tables(&self, alloc: Global) -> Result<Tables, OutOfMemory>
         ensures tables { IfOk result (λ tables. tables ≡ written (content_of self.now)) }
         ensures form { IsWrittenForm (content_of self.now) }
@@ -31,7 +33,8 @@ impl Feed {
     /// [`Tables::write`](gtfs_table::Tables::write) gives of that file of [`Feed::to_tables`], and read again it gives
     /// the same table (RFC 4180, section 2, with LF at the end of each record).
     ///
-    /// Memory that is refused is an error, and nothing of the text is left then.
+    /// # Errors
+    /// `OutOfMemory` where memory is refused. Then nothing of the text is left.
     pub fn file_text(&self, alloc: Global, file: File) -> Result<String, OutOfMemory>
         ensures text { IfOk result (λ text. text_of_table
             (table_of (written (content_of self.now)) file) ≡ Some (string_bytes text)) }
@@ -45,7 +48,8 @@ impl Feed {
     /// Whether the text of some file, as [`Feed::file_text`] gives it, has more bytes than this limit. No text is made:
     /// each file is counted, in one pass.
     ///
-    /// Memory that is refused is an error.
+    /// # Errors
+    /// `OutOfMemory` where memory is refused.
     pub fn has_longer_file(&self, alloc: Global, limit: u64) -> Result<bool, OutOfMemory>
         ensures { IfOk result (λ any. any ≡ list_any
             (is_longer (content_of self.now) limit) kept_files) }

@@ -4,7 +4,7 @@ use crate::assertions::{assert_holds, assert_is};
 use gtfs_feed::Feed;
 use gtfs_field::OutOfMemory;
 use gtfs_rows::{ServiceNo, StopNo, TripNo};
-use gtfs_runs::{Event, Lane, Moment, Steps, StopLanes, Times, flat_events};
+use gtfs_runs::{Event, Lane, Moment, Steps, StopIndex, StopLanes, Times, flat_events};
 use std::alloc::Global;
 use std::process::Abort;
 use std::test::Fail;
@@ -96,7 +96,8 @@ fn walk_all(
     Ok(events)
 }
 
-/// The stop has as many lanes as is wanted, which together have its events, each once, and count each call.
+/// The stop has as many lanes as is wanted, which together have its events, each once, and count each call. So it is of
+/// those made of the feed, and of those made of an index.
 pub(crate) fn assert_lanes(
     rt: &impl Abort,
     alloc: Global,
@@ -107,7 +108,28 @@ pub(crate) fn assert_lanes(
     what: &str,
 ) -> Result<(), Fail> {
     assert!(rt; stop.0 < feed.stop_count());
-    let (lanes, mut steps) = StopLanes::build(alloc, feed, stop, times)?;
+    let events = flat_events(alloc, feed, stop, times)?;
+    let (lanes, steps) = StopLanes::build(alloc, feed, stop, times)?;
+    assert_wanted(rt, &lanes, wanted, what);
+    assert_walk(rt, alloc, feed, &lanes, steps, &events, what)?;
+    let index = StopIndex::build(alloc, feed, times)?;
+    let (lanes, steps) = lanes_in(rt, alloc, &index, stop)?;
+    assert_wanted(rt, &lanes, wanted, what);
+    assert_walk(rt, alloc, feed, &lanes, steps, &events, what)
+}
+
+fn lanes_in(
+    rt: &impl Abort,
+    alloc: Global,
+    index: &StopIndex<'_>,
+    stop: StopNo,
+) -> Result<(StopLanes, Steps), OutOfMemory> {
+    assert!(rt; stop.0 < index.feed().stop_count());
+    StopLanes::from_index(alloc, index, stop)
+}
+
+// There are so many lanes of each kind.
+fn assert_wanted(rt: &impl Abort, lanes: &StopLanes, wanted: Wanted, what: &str) {
     let found = Wanted {
         lists: lanes.lists().len(),
         periods: lanes.periods().len(),
@@ -115,14 +137,26 @@ pub(crate) fn assert_lanes(
         greatest: lanes.greatest(),
     };
     assert_is(rt, found, wanted, what);
+}
+
+// The lanes have these events, each once, and count each call.
+fn assert_walk(
+    rt: &impl Abort,
+    alloc: Global,
+    feed: &Feed,
+    lanes: &StopLanes,
+    mut steps: Steps,
+    events: &[(ServiceNo, Event)],
+    what: &str,
+) -> Result<(), Fail> {
     assert_is(rt, steps.count(), 0, what);
-    let events = walk_all(rt, alloc, feed, &lanes, &mut steps)?;
-    assert_holds(rt, events == flat_events(alloc, feed, stop, times)?, what);
+    let found = walk_all(rt, alloc, feed, lanes, &mut steps)?;
+    assert_holds(rt, found.as_slice() == events, what);
     let calls = events.len().saturating_mul(3);
     let calls = calls
-        .saturating_add(wanted.lists)
-        .saturating_add(wanted.periods)
-        .saturating_add(wanted.filled);
+        .saturating_add(lanes.lists().len())
+        .saturating_add(lanes.periods().len())
+        .saturating_add(lanes.filled().len());
     assert_is(rt, steps.count(), calls as u64, what);
     Ok(())
 }

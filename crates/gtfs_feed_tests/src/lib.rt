@@ -8,6 +8,7 @@
 //! - `written` has the written form of feeds, and `again` feeds that are written and read again.
 //! - `events` has what passes a stop, by worked cases, and `lanes` walks the lanes of each of them; `seeks` asks a lane
 //!   from positions between its events, and `unions` all lanes of each stop together.
+//! - `stop_index` has the departure rows of each stop.
 //! - `timepoints` has what passes a stop at stop times between timepoints, under given and under filled times.
 //! - `large` has more rows of each kind than two bytes can number.
 //! - `times` has stop times between timepoints, filled (`gtfs_times`).
@@ -41,6 +42,8 @@ mod patterns;
 mod rows;
 #[cfg(test)]
 mod seeks;
+#[cfg(test)]
+mod stop_index;
 #[cfg(test)]
 mod timepoints;
 #[cfg(test)]

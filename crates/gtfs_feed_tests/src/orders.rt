@@ -143,7 +143,18 @@ fn a_feed_does_not_depend_on_the_order_of_rows(rt: HostRuntime) -> Result<(), Fa
     Ok(())
 }
 
-// Each file of the feed with the rows of a file in an order is that of the first feed.
+// The headsigns of stop times by their numbers, each with a blank behind it.
+fn headsigns_of(alloc: Global, feed: &Feed) -> Result<String, OutOfMemory> {
+    let mut text = String::new(alloc);
+    for headsign in feed.parts().headsigns.as_slice() {
+        text.push_str(headsign.as_str())?;
+        text.push_str(" ")?;
+    }
+    Ok(text)
+}
+
+// Each file of the feed with the rows of a file in an order is that of the first feed. Headsigns have their numbers in the
+// order of the trips T, T10 and T2, and in each by sequence.
 fn assert_same(
     rt: &impl Abort,
     alloc: Global,
@@ -151,6 +162,8 @@ fn assert_same(
     other: &Feed,
     (changed, order): (&str, [usize; 3]),
 ) -> Result<(), Fail> {
+    let headsigns = headsigns_of(alloc, other)?;
+    assert_is(rt, headsigns.as_str(), "Pond Lake Mill ", "headsigns");
     for file in File::ALL {
         let text = feed.file_text(alloc, file)?;
         let found = other.file_text(alloc, file)?;

@@ -1,9 +1,10 @@
 -- Counts of calls and of failures that are full.
-use Rattle.std.proofs.Common.{◌≡◌, ◌-◌, ◌^◌, codes, refl, false, Some, Err}
+use Rattle.std.proofs.Common.{◌≡◌, ◌-◌, ◌^◌, arith, codes, refl, false, Some, Err}
 use Rattle.std.specs.FinMap as finite
 use Rattle.gtfs_devices.specs.Device.{counted, counted_times, calls_after, FailsAtLast}
+use Rattle.gtfs_devices.specs.Folder.{CountsFault}
 use Rattle.gtfs_devices.specs.Held.{Held, is_failing, after_call, names_answer}
-use Rattle.gtfs_devices.specs.declared.folders.FolderFault.TheVariants.{Read}
+use Rattle.gtfs_devices.specs.declared.folders.FolderFault.TheVariants.{Read, TooLarge, OutOfMemory, NoFolder}
 
 -- a count of failures rises to 2^64 - 1 and stays there
 filled : counted (2 ^ 64 - 2) ≡ 2 ^ 64 - 1
@@ -11,6 +12,19 @@ filled = refl
 
 full : counted (2 ^ 64 - 1) ≡ 2 ^ 64 - 1
 full = refl
+
+-- a failed read makes a count of failures rise, and each of these faults leaves it
+rises : CountsFault Read 3 3 → ⊥
+rises e = omega (arith, e)
+
+leaves : CountsFault OutOfMemory 3 4 → ⊥
+leaves e = omega (arith, e)
+
+leaves_absent : CountsFault NoFolder 3 3
+leaves_absent = refl
+
+leaves_large : CountsFault TooLarge 3 4 → ⊥
+leaves_large e = omega (arith, e)
 
 -- ten calls on folders that are new, and on folders whose count is almost full
 ten_calls : counted_times 10 0 ≡ 10

@@ -4,7 +4,7 @@ ghost use Rattle.gtfs_days.specs.Cut.{cut_day};
 ghost use Rattle.gtfs_days.specs.Service.{NamesEachDayOnce, is_service_day};
 
 use crate::assertions::{assert_is, assert_is_at};
-use crate::services::april;
+use crate::services::{april, assert_next};
 use gtfs_days::Exception::{Added, Removed};
 use gtfs_days::{Cut, Exception, FIRST_SERVICE_DAY, LAST_SERVICE_DAY, Service, Week};
 use gtfs_field::{Day, OutOfMemory};
@@ -229,6 +229,21 @@ fn assert_half(rt: &impl Abort, half: &Service, first: i32, last: i32) {
     };
     assert_is(rt, one.number(), first, "the first exception");
     assert_is(rt, other.number(), last, "the last exception");
+}
+
+#[test]
+fn the_next_day_of_many_exceptions(rt: HostRuntime) -> Result<(), Fail> {
+    let (first, last) = (Day::from_number(0), Day::from_number(69_999));
+    let middle = Day::from_number(35_000);
+    let next = [
+        (Day::from_number(FIRST_SERVICE_DAY), Some(first)),
+        (first, Some(first)),
+        (middle, Some(middle)),
+        (last, Some(last)),
+        (Day::from_number(70_000), None),
+    ];
+    assert_next(&rt, &many_days(rt.alloc())?, &next);
+    Ok(())
 }
 
 #[test]

@@ -1,11 +1,11 @@
-//! The lines of faults, which the program prints, and their numbers.
+//! The lines of faults, which a program may print, and their numbers.
 use crate::assertions::{assert_is, assert_is_at};
 use gtfs_days::{CivilFault, ZoneFault};
 use gtfs_field::FieldFault;
 use gtfs_table::{Failed, FolderFault, OutFault};
 use std::test::Fail;
 
-// The program prints these lines after a path.
+// Such a line may follow the path of a folder.
 const FOLDER_FAULTS: &[(FolderFault, u8, &str)] = &[
     (FolderFault::Read, 1, "cannot be read"),
     (FolderFault::TooLarge, 2, "holds a file over the limit"),

@@ -25,7 +25,7 @@ fn assert_active(rt: &impl Abort, service: &Service, days: &[(Day, bool)]) {
 }
 
 // The first day from each of these on that the service runs.
-fn assert_next(rt: &impl Abort, service: &Service, days: &[(Day, Option<Day>)]) {
+pub(crate) fn assert_next(rt: &impl Abort, service: &Service, days: &[(Day, Option<Day>)]) {
     for &(day, next) in days {
         assert_is_at(rt, service.next_active(day), next, "next from", day);
     }
@@ -188,5 +188,29 @@ fn removed_days_are_passed(rt: HostRuntime) -> Result<(), Fail> {
         let next = service.next_active(day);
         assert_is_at(&rt, next, Some(april(30)), "next from", day);
     }
+    Ok(())
+}
+
+// 8,000 years lie between the two added days.
+#[test]
+fn a_day_is_added_long_after_the_others(rt: HostRuntime) -> Result<(), Fail> {
+    let last = Day::from_number(LAST_SERVICE_DAY);
+    let week = Week {
+        days: WORKDAYS,
+        start: april(1),
+        end: april(5),
+    };
+    let exceptions = [(last, Added), (april(10), Added), (april(11), Removed)];
+    let service = Service::new(rt.alloc(), Some(week), &exceptions)?;
+    assert_active(&rt, &service, &[(april(10), true), (last, true)]);
+    let after = Day::from_number(LAST_SERVICE_DAY + 1);
+    let next = [
+        (april(6), Some(april(10))),
+        (april(11), Some(last)),
+        (Day::from_number(2_900_000), Some(last)),
+        (last, Some(last)),
+        (after, None),
+    ];
+    assert_next(&rt, &service, &next);
     Ok(())
 }

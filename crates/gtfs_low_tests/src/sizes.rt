@@ -78,6 +78,23 @@ fn a_folder_may_have_seventy_thousand_files(rt: HostRuntime) -> Result<(), Fail>
     Ok(())
 }
 
+#[test]
+fn tables_may_have_seventy_thousand_other_names(rt: HostRuntime) -> Result<(), Fail> {
+    let mut folders = MemoryFolders::new(rt.alloc(), 100, None);
+    put_numbers(rt.alloc(), &mut folders)?;
+    folders.put("f1", "stops.txt", b"stop_id\nS1\n")?;
+    let tables = Tables::read(rt.alloc(), &mut folders, "f1")?;
+    let value = tables.value(File::Stops, 2, "stop_id");
+    assert_is(&rt, value, "S1", "value");
+    let others = tables.others();
+    assert_is(&rt, others.len(), 70_000, "other names");
+    for (name, number) in others.iter().zip(100_000_u32..170_000) {
+        let wanted = format!(in rt.alloc(); "{number}")?;
+        assert_is(&rt, name.as_str(), wanted.as_str(), "other name");
+    }
+    Ok(())
+}
+
 // This field so many times, each with a comma after it, and then the last one of the record.
 fn push_fields(
     text: &mut Vec<u8>,

@@ -4,7 +4,7 @@ ghost use Rattle.std.specs.Option.{ForSome};
 
 use crate::assertions::{assert_is, assert_is_at, assert_that};
 use gtfs_field::{OutOfMemory, Text};
-use gtfs_table::{File, FolderFault, Folders, MemoryFolders, State, Tables};
+use gtfs_table::{File, FolderFault, Folders, MemoryFolders, State, Tables, plain_character};
 use std::alloc::Global;
 use std::process::Abort;
 use std::test::Fail;
@@ -336,4 +336,24 @@ fn files_have_their_names(rt: HostRuntime) {
     assert_is(&rt, File::ALL[0].name(), "agency.txt", "first name");
     assert_is(&rt, File::ALL[4].name(), "stop_times.txt", "fifth name");
     assert_is(&rt, File::ALL[8].name(), "transfers.txt", "last name");
+}
+
+const PLAIN: &[(char, char)] = &[
+    ('\0', ' '),
+    ('\n', ' '),
+    ('\x1F', ' '),
+    (' ', ' '),
+    ('~', '~'),
+    ('\x7F', ' '),
+    ('\u{80}', '\u{80}'),
+    ('\u{2028}', '\u{2028}'),
+    ('\u{10FFFF}', '\u{10FFFF}'),
+];
+
+#[test]
+fn a_space_stands_for_each_control_character(rt: HostRuntime) {
+    for (character, plain) in PLAIN {
+        let found = plain_character(*character);
+        assert_is_at(&rt, found, *plain, "in the place of", *character);
+    }
 }

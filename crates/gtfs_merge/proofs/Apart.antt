@@ -6,14 +6,14 @@ use Rattle.gtfs_rows.specs.Rows.{Agency, Stop}
 use Rattle.gtfs_rows.specs.Content.{Content}
 use Rattle.gtfs_rows.specs.Sound.{IsSound, is_sound_agency}
 use Rattle.gtfs_table.specs.Rows.{is_empty}
-use Rattle.gtfs_merge.specs.Renaming.{Nearness, never_near, has_id, ids, free_id, renamed_b, agency_a, agency_b, joined_agency, joined_route, joined_service, joined_trip, stop_b, names_a, names_b, joined_stop_under, stop_within}
+use Rattle.gtfs_rows.proofs.Members.{In, list_all-In}
+use Rattle.gtfs_merge.specs.Renaming.{Nearness, never_near, lists_id, ids, free_id, renamed_b, agency_a, agency_b, joined_agency, joined_route, joined_service, joined_trip, stop_b, names_a, names_b, joined_stop_under, stop_within}
 use Rattle.gtfs_merge.specs.Departures.{StaysApart}
 use Rattle.gtfs_merge.specs.Names.{may_meet}
 use Rattle.gtfs_merge.specs.Near.{nearness}
 use Rattle.gtfs_merge.specs.declared.kind.Kind.{Kind}
 use Rattle.gtfs_merge.specs.declared.kind.Kind.TheVariants as kind
 use Rattle.gtfs_merge.specs.declared.kind.Side.TheVariants as side
-use Rattle.gtfs_merge.proofs.Lookups.{In, list_all-In}
 use Rattle.gtfs_merge.proofs.Fresh.{renamed_apart, renamed_into_a}
 use Rattle.gtfs_merge.proofs.MergedRows.{found, found_id}
 use Rattle.gtfs_merge.proofs.Union.{AreFew}
@@ -35,7 +35,7 @@ all-one (z ∷ []) e x y (inr p) j = elim p [ ]
 all-one (z ∷ w ∷ zs) e x y i j = absurd (omega arith)
 
 -- where an agency has no id it is the only one
-pub one-agency : (f : Content) → IsSound f → has_id (ids kind.Agency f) [] ≡ true → (y : List ℕ) → has_id (ids kind.Agency f) y ≡ true → y ≡ []
+pub one-agency : (f : Content) → IsSound f → lists_id (ids kind.Agency f) [] ≡ true → (y : List ℕ) → lists_id (ids kind.Agency f) y ≡ true → y ≡ []
 one-agency f s h y hy =
     let r = found agency_id_of f.agencies [] h in
     let i = found_id agency_id_of f.agencies [] r.0 r.1 in
@@ -49,8 +49,8 @@ one-agency f s h y hy =
 
 module _ (a b : Content) (sound_a : IsSound a) (sound_b : IsSound b) where
   -- an empty id that stands alone
-  alone : (f : Content) → IsSound f → (x y : List ℕ) → (length x == 0) ≡ true → has_id (ids kind.Agency f) x ≡ true → has_id (ids kind.Agency f) y ≡ true → x ≡ y
-  alone f s x y e hx hy = let n = no-text x e in n ∙ sym (one-agency f s (subst (λ z. has_id (ids kind.Agency f) z ≡ true) n hx) y hy)
+  alone : (f : Content) → IsSound f → (x y : List ℕ) → (length x == 0) ≡ true → lists_id (ids kind.Agency f) x ≡ true → lists_id (ids kind.Agency f) y ≡ true → x ≡ y
+  alone f s x y e hx hy = let n = no-text x e in n ∙ sym (one-agency f s (subst (λ z. lists_id (ids kind.Agency f) z ≡ true) n hx) y hy)
 
   apart-agency_a : StaysApart kind.Agency a (names_a a b)
   apart-agency_a x y hx hy = elim (cases_Bool (length x == 0)) as (λ w. agency_a a b x ≡ agency_a a b y → x ≡ y) [
@@ -75,18 +75,18 @@ module _ (a b : Content) (sound_a : IsSound a) (sound_b : IsSound b) where
     where
       ruled : (x : List ℕ) → (length x == 0) ≡ false → agency_b a b x ≡ renamed_b (ids kind.Agency a) (ids kind.Agency b) (joined_agency a b) x
       ruled x n = λ i. if n i && not (joined_agency a b x)
-          then free_id (if has_id (ids kind.Agency a) [] then (ids kind.Agency a ++ ids kind.Agency b) ++ agency_a a b [] ∷ [] else ids kind.Agency a ++ ids kind.Agency b) (codes "agency")
+          then free_id (if lists_id (ids kind.Agency a) [] then (ids kind.Agency a ++ ids kind.Agency b) ++ agency_a a b [] ∷ [] else ids kind.Agency a ++ ids kind.Agency b) (codes "agency")
           else renamed_b (ids kind.Agency a) (ids kind.Agency b) (joined_agency a b) x
 
   -- without near stops an id of B that gets an id of A is joined, and stays
-  pub stop_joins : AreFew kind.Stop a b → (x : List ℕ) → has_id (ids kind.Stop b) x ≡ true → has_id (ids kind.Stop a) (stop_b never_near a b x) ≡ true → (joined_stop_under (stop_within never_near 2 a b) a b x ≡ true) × (stop_b never_near a b x ≡ x)
+  pub stop_joins : AreFew kind.Stop a b → (x : List ℕ) → lists_id (ids kind.Stop b) x ≡ true → lists_id (ids kind.Stop a) (stop_b never_near a b x) ≡ true → (joined_stop_under (stop_within never_near 2 a b) a b x ≡ true) × (stop_b never_near a b x ≡ x)
   stop_joins few x hx h = elim (stop_case never_near never-nearness a b (sound-places a sound_a) (sound-places b sound_b) few x) as (λ w. (joined_stop_under (stop_within never_near 2 a b) a b x ≡ true) × (stop_b never_near a b x ≡ x)) [
     | inl c ↦ elim c as (λ w. (joined_stop_under (stop_within never_near 2 a b) a b x ≡ true) × (stop_b never_near a b x ≡ x)) [
       | inl j ↦ j
       | inr n ↦ absurd (none (find (λ y. bytes_eq y.stop_id x) b.stops) n.0 n.1)
     ]
     | inr r ↦
-        let into = renamed_into_a (ids kind.Stop a) (ids kind.Stop b) (joined_stop_under (stop_within never_near 2 a b) a b) few x (subst (λ v. has_id (ids kind.Stop a) v ≡ true) r h) in
+        let into = renamed_into_a (ids kind.Stop a) (ids kind.Stop b) (joined_stop_under (stop_within never_near 2 a b) a b) few x (subst (λ v. lists_id (ids kind.Stop a) v ≡ true) r h) in
         (into.1, r ∙ into.0)
   ]
     where
@@ -99,14 +99,14 @@ module _ (a b : Content) (sound_a : IsSound a) (sound_b : IsSound b) where
       none (Some y) q e = true≢false (sym (ap is_some (sym (ap (option_map stop_id_of) (nobody a.stops)) ∙ e)))
 
   apart-stop : AreFew kind.Stop a b → StaysApart kind.Stop b (names_b never_near a b)
-  apart-stop few x y hx hy e = elim (cases_Bool (has_id (ids kind.Stop a) (stop_b never_near a b x))) as (λ w. x ≡ y) [
-    | inl h ↦ sym (stop_joins few x hx h).1 ∙ e ∙ (stop_joins few y hy (subst (λ v. has_id (ids kind.Stop a) v ≡ true) e h)).1
+  apart-stop few x y hx hy e = elim (cases_Bool (lists_id (ids kind.Stop a) (stop_b never_near a b x))) as (λ w. x ≡ y) [
+    | inl h ↦ sym (stop_joins few x hx h).1 ∙ e ∙ (stop_joins few y hy (subst (λ v. lists_id (ids kind.Stop a) v ≡ true) e h)).1
     | inr n ↦
         let places_a = sound-places a sound_a in
         let places_b = sound-places b sound_b in
         let rule = by_rule never_near never-nearness a b places_a places_b few in
         renamed_apart (ids kind.Stop a) (ids kind.Stop b) (joined_stop_under (stop_within never_near 2 a b) a b) few x y hx hy
-        (sym (rule x hx n) ∙ e ∙ rule y hy (ap (has_id (ids kind.Stop a)) (sym e) ∙ n))
+        (sym (rule x hx n) ∙ e ∙ rule y hy (ap (lists_id (ids kind.Stop a)) (sym e) ∙ n))
   ]
 
   pub apart-a : (c : Kind) → StaysApart c a (names_a a b)

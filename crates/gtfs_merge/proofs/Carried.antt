@@ -11,11 +11,12 @@ use Rattle.gtfs_days.specs.Service.{is_active}
 use Rattle.gtfs_rows.specs.Runs.{is_run, is_departure_row, passes_at, first_leaves, trip_start, starts_run, is_timed, allows_boarding}
 use Rattle.gtfs_rows.specs.Sound.{leaves}
 use Rattle.gtfs_rows.specs.Departures.{Origins, departs_from, runs_on}
-use Rattle.gtfs_merge.specs.Renaming.{Names, Renaming, has_id, ids, trip_with, stop_row_with}
+use Rattle.gtfs_rows.proofs.Members.{In}
+use Rattle.gtfs_merge.specs.Renaming.{Names, Renaming, lists_id, ids, trip_with, stop_row_with}
 use Rattle.gtfs_merge.specs.Merged.{service_with}
 use Rattle.gtfs_merge.specs.Departures.{key_with}
 use Rattle.gtfs_merge.specs.declared.kind.Kind.TheVariants as kind
-use Rattle.gtfs_merge.proofs.Lookups.{In, list_any-In, In-list_any, list_any-alike, holds_at, holds_at-map, holds_at-Some, look, IsKeyed}
+use Rattle.gtfs_merge.proofs.Lookups.{list_any-In, In-list_any, list_any-alike, holds_at, holds_at-map, holds_at-Some, look, IsKeyed}
 use Rattle.gtfs_merge.proofs.MergedRows.{found, found_id, has_found}
 
 abbrev pub trip_id_of : Trip → List ℕ
@@ -31,15 +32,15 @@ pub record HasKeys (f : Content) : Type 0 where
 
 -- each trip's service is there
 abbrev pub NamesServices : Content → Type 0
-NamesServices f = (t : Trip) → In t f.trips → has_id (ids kind.Service f) t.service_id ≡ true
+NamesServices f = (t : Trip) → In t f.trips → lists_id (ids kind.Service f) t.service_id ≡ true
 
 abbrev pub trip_by : Names → Trip → Trip
 trip_by n t = trip_with n.trip n.route n.service n.stop t
 
 -- m has each trip and each service of f under its new name
 pub record IsCarried (m f : Content) (n : Names) : Type 0 where
-  pub trips : (x : List ℕ) → has_id (ids kind.Trip f) x ≡ true → look trip_id_of m.trips (n.trip x) ≡ option_map (trip_by n) (look trip_id_of f.trips x)
-  pub services : (x : List ℕ) → has_id (ids kind.Service f) x ≡ true → look service_id_of m.services (n.service x) ≡ option_map (service_with n.service) (look service_id_of f.services x)
+  pub trips : (x : List ℕ) → lists_id (ids kind.Trip f) x ≡ true → look trip_id_of m.trips (n.trip x) ≡ option_map (trip_by n) (look trip_id_of f.trips x)
+  pub services : (x : List ℕ) → lists_id (ids kind.Service f) x ≡ true → look service_id_of m.services (n.service x) ≡ option_map (service_with n.service) (look service_id_of f.services x)
 
 -- ---- a trip whose ids are renamed
 
@@ -95,7 +96,7 @@ module _ (m f : Content) (n : Names) (keys_m : HasKeys m) (keys_f : HasKeys f) (
   test-same t i origin test k = λ j. runs-same t i k.day j && run-same n t k.run j && rows-same n t origin test k j
 
   -- a renamed key is a departure there exactly if the key is one of the feed
-  pub departs-carried : (origin : Origins) (test : StopRow → Bool) (k : Key) → has_id (ids kind.Trip f) k.trip ≡ true
+  pub departs-carried : (origin : Origins) (test : StopRow → Bool) (k : Key) → lists_id (ids kind.Trip f) k.trip ≡ true
       → departs_from m origin test (key_with n.trip k) ≡ departs_from f origin (λ r. test (stop_row_with n.stop r)) k
   departs-carried origin test k h =
       let r = found trip_id_of f.trips k.trip h in
@@ -109,7 +110,7 @@ module _ (m f : Content) (n : Names) (keys_m : HasKeys m) (keys_f : HasKeys f) (
 
 -- the trip of a departure is there
 pub departs-has : (f : Content) → IsKeyed trip_id_of f.trips → (origin : Origins) (test : StopRow → Bool) (k : Key) → departs_from f origin test k ≡ true
-    → (t : Trip) × (look trip_id_of f.trips k.trip ≡ Some t) × (has_id (ids kind.Trip f) k.trip ≡ true)
+    → (t : Trip) × (look trip_id_of f.trips k.trip ≡ Some t) × (lists_id (ids kind.Trip f) k.trip ≡ true)
 departs-has f keyed origin test k e =
     let r = holds_at-Some _ _ (sym (departs-look f keyed origin test k) ∙ e) in
     (r.0, r.1, has_found trip_id_of f.trips k.trip r.0 r.1)

@@ -5,8 +5,9 @@ use Rattle.std.specs.FinMap as table
 use Rattle.gtfs_columns.proofs.NamedFacts.{text_turned as bytes_flip}
 use Rattle.gtfs_columns.proofs.SiteFacts.{text_is as same_bytes}
 use Rattle.gtfs_field.specs.TextOrder.{text_cmp}
+use Rattle.gtfs_rows.proofs.Members.{In}
 use Rattle.gtfs_merge.specs.Merged.{by_id}
-use Rattle.gtfs_merge.proofs.Lookups.{In, bytes_same, look}
+use Rattle.gtfs_merge.proofs.Lookups.{bytes_same, look}
 
 module _ {X : Type 0} (id : X → List ℕ) where
   abbrev entry : X → List ℕ × X

@@ -6,26 +6,25 @@ use Rattle.std.proofs.lemmas.Bool.{and_parts, and_from}
 use Rattle.std.proofs.lemmas.List.Concat.{flat_map-cons}
 use Rattle.gtfs_table.specs.declared.file.File.TheVariants as file
 use Prim.Native.String.{String as Literal}
-use Rattle.gtfs_columns.specs.Columns.{Column, columns_of, id, optional}
+use Rattle.gtfs_columns.specs.Columns.{columns_of, id, optional}
 use Rattle.gtfs_columns.specs.Values.{word}
-use Rattle.gtfs_rows.specs.Cells.{Cell, are_cells, is_cell}
+use Rattle.gtfs_rows.specs.Cells.{are_cells, is_cell}
 use Rattle.gtfs_rows.specs.Content.{Content}
-use Rattle.gtfs_rows.specs.RowCells.{agency_cells, stop_cells, route_cells, trip_cells, stop_time_cells, week_cells, exception_cells, frequency_cells, transfer_cells, held_by, week_list, stop_times_of, weeks_of, exceptions_of, frequencies_of}
+use Rattle.gtfs_rows.specs.RowCells.{agency_cells, stop_cells, route_cells, trip_cells, stop_time_cells, week_cells, exception_cells, frequency_cells, transfer_cells, week_list, stop_times_of, weeks_of, exceptions_of, frequencies_of}
 use Rattle.gtfs_rows.specs.Rows.{Agency, Stop, Route, ServiceRow, Trip, Transfer}
 use Rattle.gtfs_rows.specs.Sound.{IsSound, has_id as has_row, if_given, is_stop_of, is_sound_route, is_sound_trip, is_sound_transfer}
+use Rattle.gtfs_rows.proofs.Members.{In, In-append, In-left, In-map, In-right, cells-at, held-In, list_all-In, list_all-from}
 use Rattle.gtfs_merge.specs.Merged.{agency_with, service_with, transfer_with}
-use Rattle.gtfs_merge.specs.Renaming.{Names, has_id, ids, renaming, stop_with, route_with, stop_row_with, trip_with}
+use Rattle.gtfs_merge.specs.Renaming.{Names, lists_id, ids, renaming, stop_with, route_with, stop_row_with, trip_with}
 use Rattle.gtfs_merge.specs.declared.kind.Kind.{Kind}
 use Rattle.gtfs_merge.specs.declared.kind.Kind.TheVariants as kind
-use Rattle.gtfs_merge.proofs.Lookups.{In, list_all-In}
 use Rattle.gtfs_merge.proofs.MergedRows.{has_own, has_found}
 use Rattle.gtfs_merge.proofs.Carried.{trip_id_of, service_id_of}
 use Rattle.gtfs_merge.proofs.Stops.{stop_id_of, HasPlaces}
 use Rattle.gtfs_merge.proofs.Premises.{row-id, of_type-found, sound-places}
-use Rattle.gtfs_merge.proofs.Kept.{list_all-from, In-map, map-In, In-append, In-left, In-right}
 use Rattle.gtfs_merge.proofs.FitCells.{fit-cells, stays}
 use Rattle.gtfs_merge.proofs.Fitting.{Fits}
-use Rattle.gtfs_merge.proofs.MergedNames.{cells-at, cell-clean}
+use Rattle.gtfs_merge.proofs.MergedNames.{cell-clean}
 
 -- ---- what rows hold
 
@@ -42,20 +41,7 @@ flat-In f [] x y i j = elim i [ ]
 flat-In f (z ∷ zs) x y (inl e) j = subst (λ l. In y l) (sym (flat_map-cons f z zs)) (In-left (f z) (flat_map f zs) y (subst (λ v. In y (f v)) (sym e) j))
 flat-In f (z ∷ zs) x y (inr i) j = subst (λ l. In y l) (sym (flat_map-cons f z zs)) (In-right (f z) (flat_map f zs) y (flat-In f zs x y i j))
 
-pub In-held : {X Y : Type 0} (own : X → List ℕ) (of : X → List Y) (xs : List X) (p : List ℕ × Y) → In p (held_by own of xs)
-    → (x : X) × In x xs × (y : Y) × In y (of x) × ((own x, y) ≡ p)
-In-held own of xs p i =
-    let r = In-flat (λ x. map (λ y. (own x, y)) (of x)) xs p i in
-    let q = In-map (λ y. (own r.0, y)) (of r.0) p r.2 in
-    (r.0, r.1, q.0, q.1, q.2)
-
-held-In : {X Y : Type 0} (own : X → List ℕ) (of : X → List Y) (xs : List X) (x : X) (y : Y) → In x xs → In y (of x) → In (own x, y) (held_by own of xs)
-held-In own of xs x y i j = flat-In (λ x. map (λ y. (own x, y)) (of x)) xs x (own x, y) i (map-In (λ y. (own x, y)) (of x) y j)
-
 -- cells of rows that are each rows of one list or of the other
-pub all-cells : {X : Type 0} (cs : List Column) (cells : X → List Cell) (rows : List X) → ((x : X) → In x rows → are_cells cs (cells x) ≡ true) → list_all (are_cells cs) (map cells rows) ≡ true
-all-cells cs cells rows h = list_all-from (are_cells cs) (map cells rows) (λ v i. let x = In-map cells rows v i in ap (are_cells cs) (sym x.2) ∙ h x.0 x.1)
-
 -- ---- cells of one feed's rows under names that fit
 
 module _ (m f : Content) (n : Names) (fits : Fits m f n) (sound : IsSound f) where
@@ -69,7 +55,7 @@ module _ (m f : Content) (n : Names) (fits : Fits m f n) (sound : IsSound f) whe
 
   -- an id that may be missing names a row
   abbrev IsNamed : Kind → Option (List ℕ) → Type 0
-  IsNamed k o = (x : List ℕ) → o ≡ Some x → has_id (ids k f) x ≡ true
+  IsNamed k o = (x : List ℕ) → o ≡ Some x → lists_id (ids k f) x ≡ true
 
   fit-option : (name : Literal) (k : Kind) (o : Option (List ℕ)) → IsNamed k o → is_cell (optional name id) (option_map word o) ≡ true
       → is_cell (optional name id) (option_map word (option_map (renaming n k) o)) ≡ true
@@ -93,7 +79,7 @@ module _ (m f : Content) (n : Names) (fits : Fits m f n) (sound : IsSound f) whe
   abbrev pub renamed_trip : Trip → Trip
   renamed_trip t = trip_with n.trip n.route n.service n.stop t
 
-  trip-names : (t : Trip) → In t f.trips → (has_id (ids kind.Route f) t.route_id ≡ true) × (has_id (ids kind.Service f) t.service_id ≡ true)
+  trip-names : (t : Trip) → In t f.trips → (lists_id (ids kind.Route f) t.route_id ≡ true) × (lists_id (ids kind.Service f) t.service_id ≡ true)
   trip-names t i =
       let p = and_parts _ _ (list_all-In (is_sound_trip f) f.trips sound.trips t i) in
       let q = and_parts _ _ p.0 in
@@ -153,12 +139,12 @@ module _ (m f : Content) (n : Names) (fits : Fits m f n) (sound : IsSound f) whe
   named-place None e x is = absurd (true≢false (sym (ap is_some is)))
   named-place (Some y) e x is =
       let w = of_type-found f (0 ∷ 1 ∷ []) y e in
-      subst (λ v. has_id (ids kind.Stop f) v ≡ true) (ap (λ o. unwrap_or o []) is) (has_found stop_id_of f.stops y w.0 w.1)
+      subst (λ v. lists_id (ids kind.Stop f) v ≡ true) (ap (λ o. unwrap_or o []) is) (has_found stop_id_of f.stops y w.0 w.1)
 
   named-row : {X : Type 0} (k : Kind) (own : X → List ℕ) (rows : List X) → map own rows ≡ ids k f → (o : Option (List ℕ)) → if_given o (has_row own rows) ≡ true → IsNamed k o
   named-row k own rows here None e x is = absurd (true≢false (sym (ap is_some is)))
   named-row k own rows here (Some y) e x is =
-      subst (λ v. has_id (ids k f) v ≡ true) (ap (λ o. unwrap_or o []) is) (ap (λ l. has_id l y) (sym here) ∙ row-id own rows y ∙ e)
+      subst (λ v. lists_id (ids k f) v ≡ true) (ap (λ o. unwrap_or o []) is) (ap (λ l. lists_id l y) (sym here) ∙ row-id own rows y ∙ e)
 
   pub fit-transfer_cells : (t : Transfer) → In t f.transfers → are_cells (columns_of file.Transfers) (transfer_cells (transfer_with n t)) ≡ true
   fit-transfer_cells t i =

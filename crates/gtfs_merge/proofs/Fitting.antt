@@ -8,28 +8,27 @@ use Rattle.gtfs_rows.specs.Cells.{is_clean, is_filled}
 use Rattle.gtfs_rows.specs.Content.{Content}
 use Rattle.gtfs_rows.specs.Rows.{Stop, Route, StopRow, Trip, Transfer}
 use Rattle.gtfs_rows.specs.Sound.{has_id as has_row, if_given, is_stop_of, has_right_parent, is_sound_stop, is_sound_route, is_sound_stop_row, keeps_time, is_end, is_sound_in, leaves, is_sound_period, is_sound_trip, has_ends, is_sound_transfer}
+use Rattle.gtfs_rows.proofs.Members.{list_all-In, list_all-from}
 use Rattle.gtfs_merge.specs.declared.kind.Kind.{Kind}
 use Rattle.gtfs_merge.specs.declared.kind.Kind.TheVariants as kind
 use Rattle.gtfs_merge.specs.Merged.{transfer_with}
-use Rattle.gtfs_merge.specs.Renaming.{Names, has_id, ids, renaming, stop_with, route_with, stop_row_with, trip_with}
-use Rattle.gtfs_merge.proofs.Lookups.{list_all-In}
-use Rattle.gtfs_merge.proofs.Kept.{list_all-from}
+use Rattle.gtfs_merge.specs.Renaming.{Names, lists_id, ids, renaming, stop_with, route_with, stop_row_with, trip_with}
 use Rattle.gtfs_merge.proofs.Premises.{row-id}
 
 -- m has each id of f under its new name, and stops of the same types
 pub record Fits (m f : Content) (n : Names) : Type 0 where
-  pub named : (k : Kind) (x : List ℕ) → has_id (ids k f) x ≡ true → has_id (ids k m) (renaming n k x) ≡ true
+  pub named : (k : Kind) (x : List ℕ) → lists_id (ids k f) x ≡ true → lists_id (ids k m) (renaming n k x) ≡ true
   pub typed : (types : List ℕ) (x : List ℕ) → is_stop_of f types x ≡ true → is_stop_of m types (n.stop x) ≡ true
-  pub filled : (k : Kind) (x : List ℕ) → has_id (ids k f) x ≡ true → is_filled x ≡ true → is_filled (renaming n k x) ≡ true
-  pub clean : (x : List ℕ) → has_id (ids kind.Agency f) x ≡ true → is_clean (n.agency x) ≡ true
+  pub filled : (k : Kind) (x : List ℕ) → lists_id (ids k f) x ≡ true → is_filled x ≡ true → is_filled (renaming n k x) ≡ true
+  pub clean : (x : List ℕ) → lists_id (ids kind.Agency f) x ≡ true → is_clean (n.agency x) ≡ true
 
 module _ (m f : Content) (n : Names) (fits : Fits m f n) where
   -- a row that is named in f is named in m
   fit-row : {X : Type 0} (k : Kind) (id : X → List ℕ) (rows news : List X) → map id rows ≡ ids k f → map id news ≡ ids k m
       → (x : List ℕ) → has_row id rows x ≡ true → has_row id news (renaming n k x) ≡ true
   fit-row k id rows news here there x e =
-      sym (row-id id news (renaming n k x)) ∙ ap (λ l. has_id l (renaming n k x)) there
-      ∙ fits.named k x (ap (λ l. has_id l x) (sym here) ∙ row-id id rows x ∙ e)
+      sym (row-id id news (renaming n k x)) ∙ ap (λ l. lists_id l (renaming n k x)) there
+      ∙ fits.named k x (ap (λ l. lists_id l x) (sym here) ∙ row-id id rows x ∙ e)
 
   fit-right : (type : ℕ) (o : Option (List ℕ)) → has_right_parent f type o ≡ true → has_right_parent m type (option_map n.stop o) ≡ true
   fit-right type None e = e

@@ -3,14 +3,14 @@ use Rattle.std.proofs.Common.{◌≡◌, ℕ, zero, suc, ◌+◌, ◌^◌, ◌<�
 use Rattle.std.specs.Prelude.{◌||◌}
 use Rattle.std.specs.List.{range_with_len}
 use Rattle.std.proofs.lemmas.List.Folds.{list_any-append}
-use Rattle.gtfs_merge.specs.Renaming.{has_id, merged_id, free_id}
+use Rattle.gtfs_merge.specs.Renaming.{lists_id, merged_id, free_id}
 use Rattle.gtfs_merge.proofs.Fresh.{some_free}
 use Rattle.gtfs_merge.proofs.Lookups.{find-Some}
 
 -- ---- the search
 
 abbrev is_free : List (List ℕ) → List ℕ → ℕ → Bool
-is_free taken base n = not (has_id taken (merged_id base n))
+is_free taken base n = not (lists_id taken (merged_id base n))
 
 -- the search stands at a number: all before it are taken
 pub record IsSearched (taken : List (List ℕ)) (base : List ℕ) (number : ℕ) : Type 0 where
@@ -34,7 +34,7 @@ number_left taken base number few s = by_left s.left s.within s.same
     by_left zero w e = let r = find-Some (is_free taken base) (range_with_len 1 (length taken + 1)) (some_free taken base few) in absurd (true≢false (ap is_some (sym r.1 ∙ e)))
     by_left (suc n) w e = (n, w, e)
 
-pub searched_next : (taken : List (List ℕ)) (base : List ℕ) (number : ℕ) → length taken + 2 < 10 ^ 64 → IsSearched taken base number → has_id taken (merged_id base number) ≡ true → IsSearched taken base (number + 1)
+pub searched_next : (taken : List (List ℕ)) (base : List ℕ) (number : ℕ) → length taken + 2 < 10 ^ 64 → IsSearched taken base number → lists_id taken (merged_id base number) ≡ true → IsSearched taken base (number + 1)
 searched_next taken base number few s e =
     let r = number_left taken base number few s in
     record {
@@ -43,10 +43,10 @@ searched_next taken base number few s e =
       same = r.2 ∙ ap (λ b. cond (not b) (Some number) (find (is_free taken base) (range_with_len (number + 1) r.0))) e;
     }
 
-pub searched_found : (taken : List (List ℕ)) (base : List ℕ) (number : ℕ) → length taken + 2 < 10 ^ 64 → IsSearched taken base number → has_id taken (merged_id base number) ≡ false → free_id taken base ≡ merged_id base number
+pub searched_found : (taken : List (List ℕ)) (base : List ℕ) (number : ℕ) → length taken + 2 < 10 ^ 64 → IsSearched taken base number → lists_id taken (merged_id base number) ≡ false → free_id taken base ≡ merged_id base number
 searched_found taken base number few s e =
     let r = number_left taken base number few s in
     ap (λ o. merged_id base (unwrap_or o 0)) (r.2 ∙ ap (λ b. cond (not b) (Some number) (find (is_free taken base) (range_with_len (number + 1) r.0))) e)
 
-pub has_both : (a b : List (List ℕ)) (x : List ℕ) → has_id (a ++ b) x ≡ (has_id a x || has_id b x)
+pub has_both : (a b : List (List ℕ)) (x : List ℕ) → lists_id (a ++ b) x ≡ (lists_id a x || lists_id b x)
 has_both a b x = list_any-append (bytes_eq x) a b

@@ -11,8 +11,9 @@ use Rattle.std.proofs.lemmas.List.Folds.{list_any-append}
 use Rattle.std.proofs.lemmas.Fmt.{decimal_is_IsNumeral_wide}
 use Rattle.std.proofs.lemmas.Map.Made.{length-le_from_is_member}
 use Rattle.gtfs_columns.proofs.SiteFacts.{text_is as same_bytes}
-use Rattle.gtfs_merge.specs.Renaming.{has_id, merged_id, free_number, free_id, renamed_b}
-use Rattle.gtfs_merge.proofs.Lookups.{In, list_any-In, In-list_any, find-In, find-Some}
+use Rattle.gtfs_rows.proofs.Members.{In}
+use Rattle.gtfs_merge.specs.Renaming.{lists_id, merged_id, free_number, free_id, renamed_b}
+use Rattle.gtfs_merge.proofs.Lookups.{list_any-In, In-list_any, find-In, find-Some}
 
 -- ---- what stands before the digits at the end
 
@@ -111,31 +112,31 @@ In-tries base a (suc n) q i = elim i as (λ w. (m : ℕ) × In m (range_with_len
 ]
 
 -- one more number than there are ids: some number is free
-pub some_free : (taken : List (List ℕ)) (base : List ℕ) → length taken + 2 < limit → list_any (λ n. not (has_id taken (merged_id base n))) (range_with_len 1 (length taken + 1)) ≡ true
+pub some_free : (taken : List (List ℕ)) (base : List ℕ) → length taken + 2 < limit → list_any (λ n. not (lists_id taken (merged_id base n))) (range_with_len 1 (length taken + 1)) ≡ true
 some_free taken base h =
-    elim (list_any (λ n. not (has_id taken (merged_id base n))) (range_with_len 1 (length taken + 1)))
-    as (λ b. list_any (λ n. not (has_id taken (merged_id base n))) (range_with_len 1 (length taken + 1)) ≡ b → b ≡ true) [
+    elim (list_any (λ n. not (lists_id taken (merged_id base n))) (range_with_len 1 (length taken + 1)))
+    as (λ b. list_any (λ n. not (lists_id taken (merged_id base n))) (range_with_len 1 (length taken + 1)) ≡ b → b ≡ true) [
       | true ↦ λ t. refl
       | false ↦ λ t.
           let all : (q : List ℕ) → list_any (bytes_eq q) (tries base 1 (length taken + 1)) ≡ true → list_any (bytes_eq q) taken ≡ true = λ q e.
           (let r = list_any-In (bytes_eq q) _ e in
           let s = In-tries base 1 (length taken + 1) r.0 r.1 in
-          elim (cases_Bool (has_id taken (merged_id base s.0))) as (λ w. list_any (bytes_eq q) taken ≡ true) [
-            | inl y ↦ subst (λ z. has_id taken z ≡ true) (s.2 ∙ sym (same_bytes q r.0 r.2)) y
-            | inr n ↦ absurd (true≢false (sym (In-list_any (λ n. not (has_id taken (merged_id base n))) _ s.0 s.1 (ap not n)) ∙ t))
+          elim (cases_Bool (lists_id taken (merged_id base s.0))) as (λ w. list_any (bytes_eq q) taken ≡ true) [
+            | inl y ↦ subst (λ z. lists_id taken z ≡ true) (s.2 ∙ sym (same_bytes q r.0 r.2)) y
+            | inr n ↦ absurd (true≢false (sym (In-list_any (λ n. not (lists_id taken (merged_id base n))) _ s.0 s.1 (ap not n)) ∙ t))
           ]) in
           let few = length-le_from_is_member nat_list_eq_equiv (tries base 1 (length taken + 1)) taken (distinct_tries base 1 (length taken + 1) (omega arith)) all in
           absurd (omega (arith, length-tries base 1 (length taken + 1)))
     ] refl
 
 -- the new id is free, and its number is small
-pub free_number-free : (taken : List (List ℕ)) (base : List ℕ) → length taken + 2 < limit → (has_id taken (free_id taken base) ≡ false) × (free_number taken base < limit)
+pub free_number-free : (taken : List (List ℕ)) (base : List ℕ) → length taken + 2 < limit → (lists_id taken (free_id taken base) ≡ false) × (free_number taken base < limit)
 free_number-free taken base h =
-    let r = find-Some (λ n. not (has_id taken (merged_id base n))) (range_with_len 1 (length taken + 1)) (some_free taken base h) in
-    let s = find-In (λ n. not (has_id taken (merged_id base n))) (range_with_len 1 (length taken + 1)) r.0 r.1 in
+    let r = find-Some (λ n. not (lists_id taken (merged_id base n))) (range_with_len 1 (length taken + 1)) (some_free taken base h) in
+    let s = find-In (λ n. not (lists_id taken (merged_id base n))) (range_with_len 1 (length taken + 1)) r.0 r.1 in
     let at : free_number taken base ≡ r.0 = ap (λ o. unwrap_or o 0) r.1 in
     let w = In-range 1 (length taken + 1) r.0 s.0 in
-    (ap (λ n. has_id taken (merged_id base n)) at ∙ not-true _ s.1, subst (λ n. n < limit) (sym at) (omega arith))
+    (ap (λ n. lists_id taken (merged_id base n)) at ∙ not-true _ s.1, subst (λ n. n < limit) (sym at) (omega arith))
 
 -- ---- renaming of B
 
@@ -146,58 +147,58 @@ module _ (ids_a ids_b : List (List ℕ)) (is_joined : List ℕ → Bool) (few : 
   few_both : length (ids_a ++ ids_b) + 2 < limit
   few_both = subst (λ n. n + 2 < limit) (sym (length-append ids_a ids_b)) few
 
-  has-append : (x : List ℕ) → has_id (ids_a ++ ids_b) x ≡ (has_id ids_a x || has_id ids_b x)
+  has-append : (x : List ℕ) → lists_id (ids_a ++ ids_b) x ≡ (lists_id ids_a x || lists_id ids_b x)
   has-append x = list_any-append (bytes_eq x) ids_a ids_b
 
   abbrev Kind_of_name : List ℕ → Type 0
-  Kind_of_name x = ((rename x ≡ x) × ((has_id ids_a x ≡ false) ⊎ (is_joined x ≡ true))) ⊎ (rename x ≡ free_id (ids_a ++ ids_b) x)
+  Kind_of_name x = ((rename x ≡ x) × ((lists_id ids_a x ≡ false) ⊎ (is_joined x ≡ true))) ⊎ (rename x ≡ free_id (ids_a ++ ids_b) x)
 
   -- an id stays, where A lacks it or it is joined, or it gets a free one
   kind_of_name : (x : List ℕ) → Kind_of_name x
   unfolding rename
   kind_of_name x =
-      elim (has_id ids_a x) as (λ h. has_id ids_a x ≡ h → ((if not h || is_joined x then x else free_id (ids_a ++ ids_b) x) ≡ x) × ((has_id ids_a x ≡ false) ⊎ (is_joined x ≡ true)) ⊎ ((if not h || is_joined x then x else free_id (ids_a ++ ids_b) x) ≡ free_id (ids_a ++ ids_b) x)) [
+      elim (lists_id ids_a x) as (λ h. lists_id ids_a x ≡ h → ((if not h || is_joined x then x else free_id (ids_a ++ ids_b) x) ≡ x) × ((lists_id ids_a x ≡ false) ⊎ (is_joined x ≡ true)) ⊎ ((if not h || is_joined x then x else free_id (ids_a ++ ids_b) x) ≡ free_id (ids_a ++ ids_b) x)) [
         | false ↦ λ t. inl (refl, inl t)
-        | true ↦ λ t. elim (is_joined x) as (λ j. is_joined x ≡ j → ((if j then x else free_id (ids_a ++ ids_b) x) ≡ x) × ((has_id ids_a x ≡ false) ⊎ (is_joined x ≡ true)) ⊎ ((if j then x else free_id (ids_a ++ ids_b) x) ≡ free_id (ids_a ++ ids_b) x)) [
+        | true ↦ λ t. elim (is_joined x) as (λ j. is_joined x ≡ j → ((if j then x else free_id (ids_a ++ ids_b) x) ≡ x) × ((lists_id ids_a x ≡ false) ⊎ (is_joined x ≡ true)) ⊎ ((if j then x else free_id (ids_a ++ ids_b) x) ≡ free_id (ids_a ++ ids_b) x)) [
           | true ↦ λ u. inl (refl, inr u)
           | false ↦ λ u. inr refl
         ] refl
       ] refl
 
-  free_apart : (x : List ℕ) → (has_id ids_a (free_id (ids_a ++ ids_b) x) ≡ false) × (has_id ids_b (free_id (ids_a ++ ids_b) x) ≡ false)
+  free_apart : (x : List ℕ) → (lists_id ids_a (free_id (ids_a ++ ids_b) x) ≡ false) × (lists_id ids_b (free_id (ids_a ++ ids_b) x) ≡ false)
   free_apart x = or_parts _ _ (sym (has-append _) ∙ (free_number-free (ids_a ++ ids_b) x few_both).0)
 
   -- an id of B that gets an id of A is joined, and stays
-  pub renamed_into_a : (x : List ℕ) → has_id ids_a (renamed_b ids_a ids_b is_joined x) ≡ true → (renamed_b ids_a ids_b is_joined x ≡ x) × (is_joined x ≡ true)
+  pub renamed_into_a : (x : List ℕ) → lists_id ids_a (renamed_b ids_a ids_b is_joined x) ≡ true → (renamed_b ids_a ids_b is_joined x ≡ x) × (is_joined x ≡ true)
   unfolding rename
   renamed_into_a x h = elim (kind_of_name x) as (λ w. (rename x ≡ x) × (is_joined x ≡ true)) [
     | inl s ↦ (
       s.0,
       elim s.1 as (λ w. is_joined x ≡ true) [
-        | inl lacks ↦ absurd (true≢false (sym h ∙ ap (has_id ids_a) s.0 ∙ lacks))
+        | inl lacks ↦ absurd (true≢false (sym h ∙ ap (lists_id ids_a) s.0 ∙ lacks))
         | inr j ↦ j
       ],
     )
-    | inr f ↦ absurd (true≢false (sym h ∙ ap (has_id ids_a) f ∙ (free_apart x).0))
+    | inr f ↦ absurd (true≢false (sym h ∙ ap (lists_id ids_a) f ∙ (free_apart x).0))
   ]
 
   pub joined_stays : (x : List ℕ) → is_joined x ≡ true → renamed_b ids_a ids_b is_joined x ≡ x
-  joined_stays x j = elim (has_id ids_a x) as (λ h. (if not h || is_joined x then x else free_id (ids_a ++ ids_b) x) ≡ x) [
+  joined_stays x j = elim (lists_id ids_a x) as (λ h. (if not h || is_joined x then x else free_id (ids_a ++ ids_b) x) ≡ x) [
     | false ↦ refl
     | true ↦ ap (λ b. if b then x else free_id (ids_a ++ ids_b) x) j
   ]
 
   -- two ids of B stay two
-  pub renamed_apart : (x y : List ℕ) → has_id ids_b x ≡ true → has_id ids_b y ≡ true → renamed_b ids_a ids_b is_joined x ≡ renamed_b ids_a ids_b is_joined y → x ≡ y
+  pub renamed_apart : (x y : List ℕ) → lists_id ids_b x ≡ true → lists_id ids_b y ≡ true → renamed_b ids_a ids_b is_joined x ≡ renamed_b ids_a ids_b is_joined y → x ≡ y
   unfolding rename
   renamed_apart x y hx hy e =
       elim (kind_of_name x) as (λ w. x ≡ y) [
         | inl s ↦ elim (kind_of_name y) as (λ w. x ≡ y) [
           | inl t ↦ sym s.0 ∙ e ∙ t.0
-          | inr g ↦ absurd (true≢false (sym hx ∙ ap (has_id ids_b) (sym s.0 ∙ e ∙ g) ∙ (free_apart y).1))
+          | inr g ↦ absurd (true≢false (sym hx ∙ ap (lists_id ids_b) (sym s.0 ∙ e ∙ g) ∙ (free_apart y).1))
         ]
         | inr f ↦ elim (kind_of_name y) as (λ w. x ≡ y) [
-          | inl t ↦ absurd (true≢false (sym hy ∙ ap (has_id ids_b) (sym t.0 ∙ sym e ∙ f) ∙ (free_apart x).1))
+          | inl t ↦ absurd (true≢false (sym hy ∙ ap (lists_id ids_b) (sym t.0 ∙ sym e ∙ f) ∙ (free_apart x).1))
           | inr g ↦ merged_id-base x y _ _ (free_number-free (ids_a ++ ids_b) x few_both).1 (free_number-free (ids_a ++ ids_b) y few_both).1 (sym f ∙ e ∙ g)
         ]
       ]

@@ -17,7 +17,7 @@ use Rattle.gtfs_rows.proofs.NumberFacts.{route_agency}
 use Rattle.gtfs_rows.proofs.SoundOrder.{in_order}
 use Rattle.gtfs_merge.specs.Joined.{joined_number, joined_numbers, number_if}
 use Rattle.gtfs_merge.specs.Numbered.{known_ids, same_agency_in, same_route_in}
-use Rattle.gtfs_merge.specs.Renaming.{Renaming, has_id, ids, kept_as_is, renamed_b, agency_a, agency_b, joined_agency, route_with}
+use Rattle.gtfs_merge.specs.Renaming.{Renaming, lists_id, ids, kept_as_is, renamed_b, agency_a, agency_b, joined_agency, route_with}
 use Rattle.gtfs_merge.specs.Same.{same_route}
 use Rattle.gtfs_merge.specs.Twins.{twin_number, twin_numbers}
 use Rattle.gtfs_merge.specs.declared.kind.Kind.{Kind}
@@ -29,7 +29,7 @@ use Rattle.gtfs_merge.proofs.JoinedRows.{number-same}
 use Rattle.gtfs_merge.proofs.JoinedStops.{by-number, renamed-number}
 
 -- an id at an index is one of the list
-pub has-at : (xs : List (List ℕ)) (m : ℕ) → m < length xs → has_id xs (get_or xs m []) ≡ true
+pub has-at : (xs : List (List ℕ)) (m : ℕ) → m < length xs → lists_id xs (get_or xs m []) ≡ true
 has-at [] m within = absurd (omega arith)
 has-at (x ∷ xs) zero within = rw (text_itself x) refl
 has-at (x ∷ xs) (suc m) within = or_right (bytes_eq (get_or xs m []) x) _ (has-at xs m (omega arith))
@@ -74,8 +74,8 @@ module _ (sides : Sides) (sound_a : IsSoundParts sides.a.now) (sound_b : IsSound
   agency-named few m j within_p within_q =
       let s = get_or (agency_ids sides.a.now) m [] in
       let t = get_or (agency_ids sides.b.now) j [] in
-      let has_s : has_id (ids kind.Agency a) s ≡ true = subst (λ xs. has_id xs s ≡ true) (sym (ids-known kind.Agency sides.a.now sound_a)) (has-at (agency_ids sides.a.now) m (omega (arith, length-map sides.a.now.agencies (λ r. r.agency_id)))) in
-      let has_t : has_id (ids kind.Agency b) t ≡ true = subst (λ xs. has_id xs t ≡ true) (sym (ids-known kind.Agency sides.b.now sound_b)) (has-at (agency_ids sides.b.now) j (omega (arith, length-map sides.b.now.agencies (λ r. r.agency_id)))) in
+      let has_s : lists_id (ids kind.Agency a) s ≡ true = subst (λ xs. lists_id xs s ≡ true) (sym (ids-known kind.Agency sides.a.now sound_a)) (has-at (agency_ids sides.a.now) m (omega (arith, length-map sides.a.now.agencies (λ r. r.agency_id)))) in
+      let has_t : lists_id (ids kind.Agency b) t ≡ true = subst (λ xs. lists_id xs t ≡ true) (sym (ids-known kind.Agency sides.b.now sound_b)) (has-at (agency_ids sides.b.now) j (omega (arith, length-map sides.b.now.agencies (λ r. r.agency_id)))) in
       agencies-meet a b sound_a.content few s t has_s has_t
       ∙ ap (λ c. joined_agency a b t && c) (by-number (λ r. r.agency_id) sides.a.now.agencies (in_order sides.a.now sound_a).agencies m within_p t)
       ∙ joined-first (joined_agency a b t) m (position (bytes_eq t) (agency_ids sides.a.now))

@@ -28,7 +28,7 @@ use Rattle.gtfs_merge.specs.Twins.{became, parent_became}
 use Rattle.gtfs_merge.specs.Numbered.{same_parent_in, same_stop_in}
 use Rattle.gtfs_merge.specs.Same.{same_stop, same_text}
 use Rattle.gtfs_merge.specs.Law.{AreFew}
-use Rattle.gtfs_merge.specs.Renaming.{Nearness, Renaming, ids, has_id, renamed_b, never_near, near_stop_under, joined_stop_under, stop_under, stop_with, stop_within}
+use Rattle.gtfs_merge.specs.Renaming.{Nearness, Renaming, ids, lists_id, renamed_b, never_near, near_stop_under, joined_stop_under, stop_under, stop_with, stop_within}
 use Rattle.gtfs_merge.specs.Sides.{nearness_of}
 use Rattle.gtfs_merge.specs.declared.kind.Kind.TheVariants as kind
 use Rattle.gtfs_merge.specs.declared.sides.Sides.{Sides}
@@ -40,7 +40,7 @@ use Rattle.gtfs_merge.proofs.JoinedRows.{number-same}
 -- ---- numbers of texts
 
 -- a text that is not there has no number
-pub no-index : (xs : List (List ℕ)) (q : List ℕ) → has_id xs q ≡ false → position (bytes_eq q) xs ≡ None
+pub no-index : (xs : List (List ℕ)) (q : List ℕ) → lists_id xs q ≡ false → position (bytes_eq q) xs ≡ None
 no-index xs q e = ap (λ b. cond b (Some (position_or_len (bytes_eq q) xs)) None) (before-any (bytes_eq q) xs ∙ e)
 
 -- a text has the number under which it stands first
@@ -81,7 +81,7 @@ renamed-number ids_a ids_b is_joined few x = by (is_joined x) refl
   where
     by : (j : Bool) → is_joined x ≡ j → position (bytes_eq (renamed_b ids_a ids_b is_joined x)) ids_a ≡ number_if (is_joined x) ids_a x
     by true e = ap (λ q. position (bytes_eq q) ids_a) (joined_stays ids_a ids_b is_joined few x e) ∙ ap (λ j. number_if j ids_a x) (sym e)
-    by false e = elim (cases_Bool (has_id ids_a (renamed_b ids_a ids_b is_joined x))) as (λ w. position (bytes_eq (renamed_b ids_a ids_b is_joined x)) ids_a ≡ number_if (is_joined x) ids_a x) [
+    by false e = elim (cases_Bool (lists_id ids_a (renamed_b ids_a ids_b is_joined x))) as (λ w. position (bytes_eq (renamed_b ids_a ids_b is_joined x)) ids_a ≡ number_if (is_joined x) ids_a x) [
       | inl h ↦ absurd (true≢false (sym (renamed_into_a ids_a ids_b is_joined few x h).1 ∙ e))
       | inr n ↦ no-index ids_a (renamed_b ids_a ids_b is_joined x) n ∙ ap (λ j. number_if j ids_a x) (sym e)
     ]
@@ -181,7 +181,7 @@ module _ (sides : Sides) (sound_a : IsSoundParts sides.a.now) (sound_b : IsSound
   twin-some true xs x n rest e = e
   twin-some false xs x n rest e = cc
 
-  twin-none : (j : Bool) (xs : List (List ℕ)) (x : List ℕ) (rest : Option ℕ) → (j ≡ true → has_id xs x ≡ true) → None ≡ number_if j xs x → rest ≡ (if j then position (bytes_eq x) xs else rest)
+  twin-none : (j : Bool) (xs : List (List ℕ)) (x : List ℕ) (rest : Option ℕ) → (j ≡ true → lists_id xs x ≡ true) → None ≡ number_if j xs x → rest ≡ (if j then position (bytes_eq x) xs else rest)
   twin-none true xs x rest has e = absurd (true≢false (sym (has-number xs x ∙ has refl) ∙ ap is_some (sym e)))
   twin-none false xs x rest has e = refl
 
@@ -192,7 +192,7 @@ module _ (sides : Sides) (sound_a : IsSoundParts sides.a.now) (sound_b : IsSound
   pub twin-near : AreFew kind.Stop a b → (rename : Renaming) (x : List ℕ) (o : Option ℕ) → None ≡ number_if (joined_stop_under rename a b x) (stop_ids sides.a.now) x
       → o ≡ option_and_then (λ z. position (bytes_eq z) (stop_ids sides.a.now)) (near_stop_under (nearness_of sides) rename a b x) → o ≡ became (stop_ids sides.a.now) (stop_under (nearness_of sides) rename a b) x
   twin-near few rename x o e is =
-      is ∙ twin-none (joined_stop_under rename a b x) (stop_ids sides.a.now) x _ (λ j. subst (λ xs. has_id xs x ≡ true) (ids-known kind.Stop sides.a.now sound_a) (under-has rename a b x j)) e
+      is ∙ twin-none (joined_stop_under rename a b x) (stop_ids sides.a.now) x _ (λ j. subst (λ xs. lists_id xs x ≡ true) (ids-known kind.Stop sides.a.now sound_a) (under-has rename a b x j)) e
       ∙ sym (twin-is few rename x)
 
 pub parent-within : (q : Parts) → IsSoundParts q → (k : ℕ) (y : StopByNumber) (parent : StopNo) → slice_get q.stops k ≡ Some y → y.parent_station ≡ Some parent → parent.0 < length q.stops

@@ -17,6 +17,7 @@ use Rattle.gtfs_rows.specs.Views.{IsSoundParts, content_of_parts, text_of_number
 use Rattle.gtfs_rows.specs.Trips.{stop_rows_by_trip, frequencies_by_trip}
 use Rattle.gtfs_rows.proofs.SoundOrder.{in_order}
 use Rattle.gtfs_rows.proofs.TripsAt.{content_trip}
+use Rattle.gtfs_rows.proofs.Members.{In}
 use Rattle.gtfs_merge.specs.Joined.{joined_number, joined_numbers}
 use Rattle.gtfs_merge.specs.Numbered.{same_route_id_in, same_service_id_in, same_trip_in}
 use Rattle.gtfs_merge.specs.Renaming.{Renaming, ids, kept_as_is, joined_route, joined_service, route_b, service_b, stop_b, trip_with}
@@ -27,7 +28,6 @@ use Rattle.gtfs_merge.specs.declared.sides.Sides.{Sides}
 use Rattle.gtfs_merge.proofs.JoinedKinds.{id-at, ids-known}
 use Rattle.gtfs_merge.proofs.JoinedNames.{joined-at-index, rule-meets}
 use Rattle.gtfs_merge.proofs.JoinedRows.{number-same}
-use Rattle.gtfs_merge.proofs.Lookups.{In}
 
 in-at : {X : Type 0} (xs : List X) (k : ℕ) (x : X) → slice_get xs k ≡ Some x → In x xs
 in-at [] k x at = cc

@@ -1,54 +1,15 @@
 -- What holds of rows holds of the rows by key that they make, and each key stands there once.
-use Rattle.std.proofs.Common.{◌≡◌, zero, suc, ◌+◌, Bool, true, false, cond, T, List, [], ◌∷◌, ◌++◌, Less, Equal, Greater, Ordering, refl, sym, ap, ◌∙◌, subst, inl, inr, ◌⊎◌, length, map, count_by, true≢false, arith, zero-add, eq-eqb}
+use Rattle.std.proofs.Common.{◌≡◌, ◌+◌, Bool, true, false, cond, T, List, [], ◌∷◌, ◌++◌, Less, Equal, Greater, Ordering, refl, sym, ap, ◌∙◌, subst, inl, inr, ◌⊎◌, length, map, count_by, true≢false, arith, zero-add, eq-eqb}
 use Rattle.std.specs.Prelude.{◌==◌}
 use Rattle.std.specs.List.{list_all}
-use Rattle.std.specs.Prelude.{All}
 use Rattle.std.specs.Ordering.{is_lt, is_eq, eq_by_cmp, on, ordering_reverse}
 use Rattle.std.specs.Cmp.{IsTotalOrder, tied_itself}
 use Rattle.std.specs.FinMap as table
-use Rattle.std.proofs.lemmas.Bool.{and_parts, and_from}
+use Rattle.std.proofs.lemmas.Bool.{and_parts}
 use Rattle.std.proofs.lemmas.List.Kept.{AllPairs-cons}
 use Rattle.std.proofs.lemmas.List.Sums.{sum_by-cons}
 use Rattle.gtfs_rows.specs.Order.{Ascends, by_key}
-use Rattle.gtfs_merge.proofs.Lookups.{In}
-
-pub list_all-from : {X : Type 0} (p : X → Bool) (xs : List X) → ((x : X) → In x xs → p x ≡ true) → list_all p xs ≡ true
-list_all-from p [] h = refl
-list_all-from p (x ∷ xs) h = and_from _ _ (h x (inl refl)) (list_all-from p xs (λ y i. h y (inr i)))
-
-pub In-map : {X Y : Type 0} (f : X → Y) (xs : List X) (y : Y) → In y (map f xs) → (x : X) × In x xs × (f x ≡ y)
-In-map f [] y i = elim i [ ]
-In-map f (x ∷ xs) y (inl e) = (x, inl refl, e)
-In-map f (x ∷ xs) y (inr i) = let r = In-map f xs y i in (r.0, inr r.1, r.2)
-
-pub In-append : {X : Type 0} (xs ys : List X) (z : X) → In z (xs ++ ys) → In z xs ⊎ In z ys
-In-append [] ys z i = inr i
-In-append (x ∷ xs) ys z (inl e) = inl (inl e)
-In-append (x ∷ xs) ys z (inr i) = elim (In-append xs ys z i) as (λ w. In z (x ∷ xs) ⊎ In z ys) [ inl j ↦ inl (inr j) | inr j ↦ inr j ]
-
-pub In-left : {X : Type 0} (xs ys : List X) (z : X) → In z xs → In z (xs ++ ys)
-In-left [] ys z i = elim i [ ]
-In-left (x ∷ xs) ys z (inl e) = inl e
-In-left (x ∷ xs) ys z (inr i) = inr (In-left xs ys z i)
-
-pub In-right : {X : Type 0} (xs ys : List X) (z : X) → In z ys → In z (xs ++ ys)
-In-right [] ys z i = i
-In-right (x ∷ xs) ys z i = inr (In-right xs ys z i)
-
-pub map-In : {X Y : Type 0} (f : X → Y) (xs : List X) (x : X) → In x xs → In (f x) (map f xs)
-map-In f [] x i = elim i [ ]
-map-In f (y ∷ ys) x (inl e) = inl (ap f e)
-map-In f (y ∷ ys) x (inr i) = inr (map-In f ys x i)
-
-pub all-from : {X : Type 0} (P : X → Type 0) (xs : List X) → ((x : X) → In x xs → P x) → All P xs
-all-from P [] h k d l = absurd (omega arith)
-all-from P (x ∷ xs) h zero d l = h x (inl refl)
-all-from P (x ∷ xs) h (suc k) d l = all-from P xs (λ y i. h y (inr i)) k d (omega arith)
-
-pub all-In : {X : Type 0} (P : X → Type 0) (xs : List X) → All P xs → (x : X) → In x xs → P x
-all-In P [] h x i = elim i [ ]
-all-In P (y ∷ ys) h x (inl e) = subst P e (h zero y (omega arith))
-all-In P (y ∷ ys) h x (inr i) = all-In P ys (λ k d l. h (suc k) d (omega arith)) x i
+use Rattle.gtfs_rows.proofs.Members.{In, In-map, all-from, list_all-from}
 
 module _ {K X : Type 0} (R : K → K → Ordering) (o : IsTotalOrder R) (key : X → K) where
   abbrev Entries : Type 0

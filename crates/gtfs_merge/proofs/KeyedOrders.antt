@@ -6,8 +6,8 @@ use Rattle.std.specs.FinMap.Entries.{by_order, put}
 use Rattle.std.specs.declared.cmp.Ordering.{Ordering}
 use Rattle.std.specs.declared.cmp.Ordering.TheVariants.{Less, Equal, Greater}
 use Rattle.gtfs_rows.specs.Order.{by_key}
+use Rattle.gtfs_rows.proofs.Members.{In}
 use Rattle.gtfs_merge.proofs.KeyedMaps.{entries-none}
-use Rattle.gtfs_merge.proofs.Lookups.{In}
 
 module _ {K X : Type 0} (order : K → K → Ordering) (key : X → K) where
   abbrev keyed : List X → List (K × X)

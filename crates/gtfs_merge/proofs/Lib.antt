@@ -1,3 +1,4 @@
+pub mod Few
 pub mod Lookups
 pub mod Fresh
 pub mod FreeSearch
@@ -49,7 +50,6 @@ pub mod TransferOrder
 pub mod MergedTransfers
 pub mod MergedFeed
 pub mod TripsOfSides
-pub mod FileLimit
 pub mod ByNewIds
 pub mod Distinct
 pub mod Dropped

@@ -1,7 +1,7 @@
 -- Rows by their ids: look-ups in a list of rows, and in rows that stand by id.
 use Rattle.std.proofs.Common.{◌≡◌, ℕ, Bool, true, false, cond, T, List, [], ◌∷◌, Some, None, Option, Less, Equal, Greater, Ordering, refl, sym, ap, ◌∙◌, subst, inl, inr, ◌⊎◌, arith, length, map, bytes_eq, find, option_map, is_some}
 use Rattle.std.specs.Prelude.{◌&&◌, ◌||◌}
-use Rattle.std.specs.List.{list_any, list_all}
+use Rattle.std.specs.List.{list_any}
 use Rattle.std.specs.Ordering.{is_lt, is_eq, eq_by_cmp}
 use Rattle.std.specs.Cmp.Lexicographic.{nat_list_cmp_total, texts_ties, bytes_decides}
 use Rattle.std.specs.FinMap as table
@@ -11,6 +11,7 @@ use Rattle.std.proofs.Math.Bool.{or-false}
 use Rattle.gtfs_field.specs.TextOrder.{text_cmp}
 use Rattle.gtfs_columns.proofs.SiteFacts.{text_is as same_bytes}
 use Rattle.gtfs_columns.proofs.NamedFacts.{text_turned as bytes_flip}
+use Rattle.gtfs_rows.proofs.Members.{In}
 use Rattle.gtfs_merge.specs.Merged.{by_id}
 
 -- ---- texts
@@ -19,10 +20,6 @@ pub bytes_same : (x y : List ℕ) → x ≡ y → bytes_eq x y ≡ true
 bytes_same x y e = (bytes_decides x y).1 e
 
 -- ---- membership
-
-abbrev pub In : {X : Type 0} → X → List X → Type 0
-In x [] = ⊥
-In x (y ∷ ys) = (y ≡ x) ⊎ In x ys
 
 -- an element that passes a test
 pub list_any-In : {X : Type 0} (p : X → Bool) (xs : List X) → list_any p xs ≡ true → (x : X) × In x xs × (p x ≡ true)
@@ -50,11 +47,6 @@ find-alike p q (x ∷ xs) h = λ i. cond (h x (inl refl) i) (Some x) (find-alike
 pub find-map : {X Y : Type 0} (p : Y → Bool) (f : X → Y) (xs : List X) → find p (map f xs) ≡ option_map f (find (λ x. p (f x)) xs)
 find-map p f [] = refl
 find-map p f (x ∷ xs) = elim (p (f x)) as (λ b. cond b (Some (f x)) (find p (map f xs)) ≡ option_map f (cond b (Some x) (find (λ x. p (f x)) xs))) [ true ↦ refl | false ↦ find-map p f xs ]
-
-pub list_all-In : {X : Type 0} (p : X → Bool) (xs : List X) → list_all p xs ≡ true → (x : X) → In x xs → p x ≡ true
-list_all-In p [] e x i = elim i [ ]
-list_all-In p (y ∷ ys) e x (inl h) = ap p (sym h) ∙ (and_parts _ _ e).0
-list_all-In p (y ∷ ys) e x (inr h) = list_all-In p ys (and_parts _ _ e).1 x h
 
 Some-not-None : {X : Type 0} (x : X) → Some x ≡ None → ⊥
 Some-not-None x e = true≢false (ap is_some e)

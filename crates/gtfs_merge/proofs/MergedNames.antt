@@ -1,43 +1,39 @@
 -- The names of a merge fit both feeds: each id is there under its new name, which is a text that a field holds.
 use Rattle.std.proofs.Common.{◌≡◌, ℕ, suc, ◌+◌, ◌<◌, ◌^◌, Bool, true, false, cond, not, List, [], ◌∷◌, ◌++◌, Some, None, refl, sym, ap, ◌∙◌, subst, inl, inr, map, length, bytes_eq, count_by, codes, true≢false, eqb-true, arith, length-append}
 use Rattle.std.specs.Prelude.{◌&&◌, ◌||◌, ◌==◌, if◌then◌else◌}
-use Rattle.std.specs.List.{list_any, list_all}
+use Rattle.std.specs.List.{list_any}
 use Rattle.std.proofs.lemmas.Bool.{and_parts, and_from, or_cases, or_left, or_right, cases_Bool}
 use Rattle.std.proofs.lemmas.List.{length-map}
 use Rattle.std.proofs.lemmas.List.Sums.{sum_by-cons}
 use Prim.Native.String.{String as Literal}
 use Rattle.gtfs_table.specs.Rows.{is_empty}
 use Rattle.gtfs_table.specs.declared.file.File.TheVariants as file
-use Rattle.gtfs_columns.specs.Columns.{Column, columns_of, optional, id}
+use Rattle.gtfs_columns.specs.Columns.{columns_of, optional, id}
 use Rattle.gtfs_columns.specs.Values.{if_there, word}
 use Rattle.gtfs_columns.proofs.SiteFacts.{text_is as same_bytes}
-use Rattle.gtfs_rows.specs.Cells.{Cell, are_cells, is_cell, is_clean, is_filled}
+use Rattle.gtfs_rows.specs.Cells.{is_cell, is_clean, is_filled}
 use Rattle.gtfs_rows.specs.Content.{Content}
 use Rattle.gtfs_rows.specs.RowCells.{id_cell, agency_cells, stop_cells}
 use Rattle.gtfs_rows.specs.Rows.{Agency, Stop}
 use Rattle.gtfs_rows.specs.Sound.{IsSound, is_stop_of, is_sound_agency}
+use Rattle.gtfs_rows.proofs.Members.{In, In-map, cells-at, list_all-In, map-In}
 use Rattle.gtfs_merge.specs.Law.{AreFew, IsNearness}
 use Rattle.gtfs_merge.specs.Merged.{merged, agency_with, service_with}
-use Rattle.gtfs_merge.specs.Renaming.{Names, Nearness, has_id, ids, free_id, renamed_b, renaming, names_a, names_b, agency_a, agency_b, joined_agency, joined_route, joined_service, joined_trip, joined_stop_under, stop_within, stop_b, stop_with, route_with, trip_with}
+use Rattle.gtfs_merge.specs.Renaming.{Names, Nearness, lists_id, ids, free_id, renamed_b, renaming, names_a, names_b, agency_a, agency_b, joined_agency, joined_route, joined_service, joined_trip, joined_stop_under, stop_within, stop_b, stop_with, route_with, trip_with}
 use Rattle.gtfs_merge.specs.Same.{same_agency}
 use Rattle.gtfs_merge.specs.declared.kind.Kind.{Kind}
 use Rattle.gtfs_merge.specs.declared.kind.Kind.TheVariants as kind
-use Rattle.gtfs_merge.proofs.Lookups.{In, list_any-In, list_all-In, look}
+use Rattle.gtfs_merge.proofs.Lookups.{list_any-In, look}
 use Rattle.gtfs_merge.proofs.Fresh.{joined_stays}
 use Rattle.gtfs_merge.proofs.MergedRows.{found, found_id, has_own}
 use Rattle.gtfs_merge.proofs.Carried.{trip_id_of, service_id_of}
 use Rattle.gtfs_merge.proofs.Stops.{stop_id_of, HasPlaces, merged-stop-a, merged-stop-b, stop_case, like-near}
 use Rattle.gtfs_merge.proofs.Premises.{sound-places, of_type-found}
 use Rattle.gtfs_merge.proofs.Apart.{one-agency, no-text}
-use Rattle.gtfs_merge.proofs.Kept.{In-map, map-In}
 use Rattle.gtfs_merge.proofs.Fitting.{Fits}
 use Rattle.gtfs_merge.proofs.NewNames.{own-by_id, either, from-a, from-b, agency_filled, filled-free, filled-renamed, not-empty, empty_clean}
 
 -- the cells of a row of the list
-pub cells-at : {X : Type 0} (cs : List Column) (cells : X → List Cell) (rows : List X) → list_all (are_cells cs) (map cells rows) ≡ true
-    → (x : X) → In x rows → are_cells cs (cells x) ≡ true
-cells-at cs cells rows e x i = list_all-In (are_cells cs) (map cells rows) e (cells x) (map-In cells rows x i)
-
 -- an id that may be empty is a clean text, both ways
 clean-cell : (name : Literal) (t : List ℕ) → is_cell (optional name id) (id_cell t) ≡ true → is_clean t ≡ true
 clean-cell name t h = by (is_empty t) refl h
@@ -75,14 +71,14 @@ module _ (near : Nearness) (nearness : IsNearness near) (a b : Content) (sound_a
   abbrev agency_id_of : Agency → List ℕ
   agency_id_of r = r.agency_id
 
-  named-a : (k : Kind) (x : List ℕ) → has_id (ids k a) x ≡ true → has_id (ids k m) (renaming na k x) ≡ true
+  named-a : (k : Kind) (x : List ℕ) → lists_id (ids k a) x ≡ true → lists_id (ids k m) (renaming na k x) ≡ true
   named-a kind.Agency x h = from-a agency_id_of (agency_with na.agency) (agency_with nb.agency) na.agency a.agencies b.agencies (λ r. refl) x h
   named-a kind.Stop x h = from-a stop_id_of (stop_with na.stop) (stop_with nb.stop) na.stop a.stops b.stops (λ r. refl) x h
   named-a kind.Route x h = from-a (λ r. r.route_id) (route_with na.route na.agency) (route_with nb.route nb.agency) na.route a.routes b.routes (λ r. refl) x h
   named-a kind.Service x h = from-a service_id_of (service_with na.service) (service_with nb.service) na.service a.services b.services (λ r. refl) x h
   named-a kind.Trip x h = from-a trip_id_of (trip_with na.trip na.route na.service na.stop) (trip_with nb.trip nb.route nb.service nb.stop) na.trip a.trips b.trips (λ r. refl) x h
 
-  named-b : (k : Kind) (x : List ℕ) → has_id (ids k b) x ≡ true → has_id (ids k m) (renaming nb k x) ≡ true
+  named-b : (k : Kind) (x : List ℕ) → lists_id (ids k b) x ≡ true → lists_id (ids k m) (renaming nb k x) ≡ true
   named-b kind.Agency x h = from-b agency_id_of (agency_with na.agency) (agency_with nb.agency) nb.agency a.agencies b.agencies (λ r. refl) x h
   named-b kind.Stop x h = from-b stop_id_of (stop_with na.stop) (stop_with nb.stop) nb.stop a.stops b.stops (λ r. refl) x h
   named-b kind.Route x h = from-b (λ r. r.route_id) (route_with na.route na.agency) (route_with nb.route nb.agency) nb.route a.routes b.routes (λ r. refl) x h
@@ -101,14 +97,14 @@ module _ (near : Nearness) (nearness : IsNearness near) (a b : Content) (sound_a
       let z = merged-stop-b near nearness a b pa pb (few kind.Stop) x s.0 s.1 in
       typed-at types (stop_b near a b x) s.0 z.0 z.1 z.2 s.2
 
-  filled-a : (k : Kind) (x : List ℕ) → has_id (ids k a) x ≡ true → is_filled x ≡ true → is_filled (renaming na k x) ≡ true
+  filled-a : (k : Kind) (x : List ℕ) → lists_id (ids k a) x ≡ true → is_filled x ≡ true → is_filled (renaming na k x) ≡ true
   filled-a kind.Agency x h e = ap (λ c. is_filled (if c && not (joined_agency a b x) then free_id (ids kind.Agency a ++ ids kind.Agency b) (codes "agency") else x)) (not-empty x e) ∙ e
   filled-a kind.Stop x h e = e
   filled-a kind.Route x h e = e
   filled-a kind.Service x h e = e
   filled-a kind.Trip x h e = e
 
-  filled-stop : (x : List ℕ) → has_id (ids kind.Stop b) x ≡ true → is_filled x ≡ true → is_filled (stop_b near a b x) ≡ true
+  filled-stop : (x : List ℕ) → lists_id (ids kind.Stop b) x ≡ true → is_filled x ≡ true → is_filled (stop_b near a b x) ≡ true
   filled-stop x h e =
       let y = found stop_id_of b.stops x h in
       elim (stop_case near nearness a b pa pb (few kind.Stop) x) as (λ w. is_filled (stop_b near a b x) ≡ true) [
@@ -125,8 +121,8 @@ module _ (near : Nearness) (nearness : IsNearness near) (a b : Content) (sound_a
       filled-at : (s : Stop) → In s a.stops → is_filled s.stop_id ≡ true
       filled-at s i = (and_parts _ _ (cells-at (columns_of file.Stops) stop_cells a.stops (sound_a.cells file.Stops) s i)).0
 
-  filled-b : (k : Kind) (x : List ℕ) → has_id (ids k b) x ≡ true → is_filled x ≡ true → is_filled (renaming nb k x) ≡ true
-  filled-b kind.Agency x h e = ap (λ c. is_filled (if c && not (joined_agency a b x) then free_id (if has_id (ids kind.Agency a) [] then (ids kind.Agency a ++ ids kind.Agency b) ++ agency_a a b [] ∷ [] else ids kind.Agency a ++ ids kind.Agency b) (codes "agency") else renamed_b (ids kind.Agency a) (ids kind.Agency b) (joined_agency a b) x)) (not-empty x e)
+  filled-b : (k : Kind) (x : List ℕ) → lists_id (ids k b) x ≡ true → is_filled x ≡ true → is_filled (renaming nb k x) ≡ true
+  filled-b kind.Agency x h e = ap (λ c. is_filled (if c && not (joined_agency a b x) then free_id (if lists_id (ids kind.Agency a) [] then (ids kind.Agency a ++ ids kind.Agency b) ++ agency_a a b [] ∷ [] else ids kind.Agency a ++ ids kind.Agency b) (codes "agency") else renamed_b (ids kind.Agency a) (ids kind.Agency b) (joined_agency a b) x)) (not-empty x e)
       ∙ filled-renamed (ids kind.Agency a) (ids kind.Agency b) (joined_agency a b) (few kind.Agency) x e
   filled-b kind.Stop x h e = filled-stop x h e
   filled-b kind.Route x h e = filled-renamed (ids kind.Route a) (ids kind.Route b) (joined_route a b) (few kind.Route) x e
@@ -166,21 +162,21 @@ module _ (near : Nearness) (nearness : IsNearness near) (a b : Content) (sound_a
     | inr one ↦ eqb-true _ _ one
   ]
 
-  joined-has : joined_agency a b [] ≡ true → (has_id (ids kind.Agency a) [] ≡ true) × (has_id (ids kind.Agency b) [] ≡ true)
+  joined-has : joined_agency a b [] ≡ true → (lists_id (ids kind.Agency a) [] ≡ true) × (lists_id (ids kind.Agency b) [] ≡ true)
   joined-has j =
       let r = list_any-In (λ row. bytes_eq row.agency_id [] && list_any (λ other. bytes_eq other.agency_id [] && same_agency row other) b.agencies) a.agencies j in
       let p = and_parts (bytes_eq r.0.agency_id []) _ r.2 in
       let t = list_any-In (λ other. bytes_eq other.agency_id [] && same_agency r.0 other) b.agencies p.1 in
       let q = and_parts (bytes_eq t.0.agency_id []) _ t.2 in (
-        subst (λ z. has_id (ids kind.Agency a) z ≡ true) (same_bytes _ _ p.0) (has_own agency_id_of a.agencies r.0 r.1),
-        subst (λ z. has_id (ids kind.Agency b) z ≡ true) (same_bytes _ _ q.0) (has_own agency_id_of b.agencies t.0 t.1),
+        subst (λ z. lists_id (ids kind.Agency a) z ≡ true) (same_bytes _ _ p.0) (has_own agency_id_of a.agencies r.0 r.1),
+        subst (λ z. lists_id (ids kind.Agency b) z ≡ true) (same_bytes _ _ q.0) (has_own agency_id_of b.agencies t.0 t.1),
       )
 
   stays-a : joined_agency a b [] ≡ true → agency_a a b [] ≡ []
   stays-a j = ap (λ c. if not c then free_id (ids kind.Agency a ++ ids kind.Agency b) (codes "agency") else []) j
 
   stays-b : joined_agency a b [] ≡ true → agency_b a b [] ≡ []
-  stays-b j = ap (λ c. if not c then free_id (if has_id (ids kind.Agency a) [] then (ids kind.Agency a ++ ids kind.Agency b) ++ agency_a a b [] ∷ [] else ids kind.Agency a ++ ids kind.Agency b) (codes "agency") else renamed_b (ids kind.Agency a) (ids kind.Agency b) (joined_agency a b) []) j
+  stays-b j = ap (λ c. if not c then free_id (if lists_id (ids kind.Agency a) [] then (ids kind.Agency a ++ ids kind.Agency b) ++ agency_a a b [] ∷ [] else ids kind.Agency a ++ ids kind.Agency b) (codes "agency") else renamed_b (ids kind.Agency a) (ids kind.Agency b) (joined_agency a b) []) j
       ∙ joined_stays (ids kind.Agency a) (ids kind.Agency b) (joined_agency a b) (few kind.Agency) [] j
 
   all-empty : joined_agency a b [] ≡ true → (r : Agency) → In r m.agencies → r.agency_id ≡ []
@@ -229,10 +225,10 @@ module _ (near : Nearness) (nearness : IsNearness near) (a b : Content) (sound_a
       taken = ids kind.Agency a ++ ids kind.Agency b
 
       taken_b : List (List ℕ)
-      taken_b = if has_id (ids kind.Agency a) [] then (ids kind.Agency a ++ ids kind.Agency b) ++ agency_a a b [] ∷ [] else ids kind.Agency a ++ ids kind.Agency b
+      taken_b = if lists_id (ids kind.Agency a) [] then (ids kind.Agency a ++ ids kind.Agency b) ++ agency_a a b [] ∷ [] else ids kind.Agency a ++ ids kind.Agency b
 
       few_b : length b.agencies ≡ 1 → length taken_b + 2 < 10 ^ 64
-      few_b one = elim (has_id (ids kind.Agency a) []) as (λ h. has_id (ids kind.Agency a) [] ≡ h → length (if h then taken ++ agency_a a b [] ∷ [] else taken) + 2 < 10 ^ 64) [
+      few_b one = elim (lists_id (ids kind.Agency a) []) as (λ h. lists_id (ids kind.Agency a) [] ≡ h → length (if h then taken ++ agency_a a b [] ∷ [] else taken) + 2 < 10 ^ 64) [
         | false ↦ λ t. subst (λ n. n + 2 < 10 ^ 64) (sym (length-append (ids kind.Agency a) (ids kind.Agency b))) (few kind.Agency)
         | true ↦ λ t.
             let r = found agency_id_of a.agencies [] t in
@@ -245,7 +241,7 @@ module _ (near : Nearness) (nearness : IsNearness near) (a b : Content) (sound_a
   -- ---- what fits
 
   abbrev agency_clean : Content → (List ℕ → List ℕ) → Type 0
-  agency_clean f rename = (x : List ℕ) → has_id (ids kind.Agency f) x ≡ true → is_clean (rename x) ≡ true
+  agency_clean f rename = (x : List ℕ) → lists_id (ids kind.Agency f) x ≡ true → is_clean (rename x) ≡ true
 
   clean-from : (f : Content) (rename : List ℕ → List ℕ) → ((x : Agency) → In x f.agencies → id_part (agency_with rename x) ≡ true) → agency_clean f rename
   clean-from f rename part x h =

@@ -8,30 +8,31 @@ use Rattle.std.proofs.lemmas.List.Folds.{find-append}
 use Rattle.gtfs_columns.proofs.SiteFacts.{text_is as same_bytes}
 use Rattle.gtfs_columns.proofs.NamedFacts.{text_turned as bytes_flip}
 use Rattle.gtfs_columns.proofs.BoolFacts.{same_test as same_tests}
+use Rattle.gtfs_rows.proofs.Members.{In}
 use Rattle.gtfs_merge.specs.Merged.{by_id}
-use Rattle.gtfs_merge.specs.Renaming.{has_id, joined_by, Renaming}
-use Rattle.gtfs_merge.proofs.Lookups.{bytes_same, In, In-list_any, find-alike, find-map, find-In, find-Some, find-None, holds_at-Some, look, look_any, IsKeyed, look-by_id}
+use Rattle.gtfs_merge.specs.Renaming.{lists_id, joined_by, Renaming}
+use Rattle.gtfs_merge.proofs.Lookups.{bytes_same, In-list_any, find-alike, find-map, find-In, find-Some, find-None, holds_at-Some, look, look_any, IsKeyed, look-by_id}
 
 module _ {X : Type 0} (id : X → List ℕ) where
   -- the ids of rows, and the rows found by them
-  pub has-look : (rows : List X) (q : List ℕ) → has_id (map id rows) q ≡ list_any (λ r. bytes_eq (id r) q) rows
+  pub has-look : (rows : List X) (q : List ℕ) → lists_id (map id rows) q ≡ list_any (λ r. bytes_eq (id r) q) rows
   has-look [] q = refl
   has-look (r ∷ rs) q = λ i. bytes_flip q (id r) i || has-look rs q i
 
-  pub found : (rows : List X) (q : List ℕ) → has_id (map id rows) q ≡ true → (r : X) × (look id rows q ≡ Some r)
+  pub found : (rows : List X) (q : List ℕ) → lists_id (map id rows) q ≡ true → (r : X) × (look id rows q ≡ Some r)
   found rows q h = find-Some (λ r. bytes_eq (id r) q) rows (sym (has-look rows q) ∙ h)
 
-  pub not_found : (rows : List X) (q : List ℕ) → has_id (map id rows) q ≡ false → look id rows q ≡ None
+  pub not_found : (rows : List X) (q : List ℕ) → lists_id (map id rows) q ≡ false → look id rows q ≡ None
   not_found rows q h = find-None (λ r. bytes_eq (id r) q) rows (sym (has-look rows q) ∙ h)
 
   pub found_id : (rows : List X) (q : List ℕ) (r : X) → look id rows q ≡ Some r → In r rows × (id r ≡ q)
   found_id rows q r e = let f = find-In (λ r. bytes_eq (id r) q) rows r e in (f.0, same_bytes (id r) q f.1)
 
-  pub has_own : (rows : List X) (r : X) → In r rows → has_id (map id rows) (id r) ≡ true
+  pub has_own : (rows : List X) (r : X) → In r rows → lists_id (map id rows) (id r) ≡ true
   has_own rows r i = has-look rows (id r) ∙ In-list_any (λ s. bytes_eq (id s) (id r)) rows r i (bytes_same (id r) (id r) refl)
 
-  pub has_found : (rows : List X) (q : List ℕ) (r : X) → look id rows q ≡ Some r → has_id (map id rows) q ≡ true
-  has_found rows q r e = let f = found_id rows q r e in subst (λ x. has_id (map id rows) x ≡ true) f.1 (has_own rows r f.0)
+  pub has_found : (rows : List X) (q : List ℕ) (r : X) → look id rows q ≡ Some r → lists_id (map id rows) q ≡ true
+  has_found rows q r e = let f = found_id rows q r e in subst (λ x. lists_id (map id rows) x ≡ true) f.1 (has_own rows r f.0)
 
   -- the rows of a joined id, and that they are the same
   pub joined-rows : (same : X → X → Bool) (rows_a rows_b : List X) → IsKeyed id rows_a → IsKeyed id rows_b → (x : List ℕ) → joined_by id same rows_a rows_b x ≡ true
@@ -57,11 +58,11 @@ module _ {X : Type 0} (id : X → List ℕ) (f g : X → X) (rename : Renaming) 
   pub merged-a : (q : List ℕ) (r : X) → look id rows_a q ≡ Some r → look id rows q ≡ Some (f r)
   merged-a q r e = look-both q ∙ ap (λ o. option_or (option_map f o) (look id (map g rows_b) q)) e
 
-  past_a : (q : List ℕ) → has_id (map id rows_a) q ≡ false → look id rows q ≡ look id (map g rows_b) q
+  past_a : (q : List ℕ) → lists_id (map id rows_a) q ≡ false → look id rows q ≡ look id (map g rows_b) q
   past_a q h = look-both q ∙ ap (λ o. option_or (option_map f o) (look id (map g rows_b) q)) (not_found id rows_a q h)
 
   -- a row of B whose new id A lacks and no other id of B gets is found under that id
-  pub merged-b : (x : List ℕ) → ((y : List ℕ) → has_id (map id rows_b) y ≡ true → rename y ≡ rename x → y ≡ x) → has_id (map id rows_a) (rename x) ≡ false → look id rows (rename x) ≡ option_map g (look id rows_b x)
+  pub merged-b : (x : List ℕ) → ((y : List ℕ) → lists_id (map id rows_b) y ≡ true → rename y ≡ rename x → y ≡ x) → lists_id (map id rows_a) (rename x) ≡ false → look id rows (rename x) ≡ option_map g (look id rows_b x)
   merged-b x apart h = past_a (rename x) h ∙ find-map (λ r. bytes_eq (id r) (rename x)) g rows_b
       ∙ ap (option_map g) (find-alike (λ r. bytes_eq (id (g r)) (rename x)) (λ r. bytes_eq (id r) x) rows_b
       (λ r i. same_tests _ _
@@ -69,8 +70,8 @@ module _ {X : Type 0} (id : X → List ℕ) (f g : X → X) (rename : Renaming) 
       (λ e. bytes_same _ _ (g_id r ∙ ap rename (same_bytes _ _ e)))))
 
   -- what is found there is A's, or has the new id of a row of B
-  pub merged-from : (q : List ℕ) (r : X) → look id rows q ≡ Some r → (has_id (map id rows_a) q ≡ true) ⊎ ((has_id (map id rows_a) q ≡ false) × (s : X) × In s rows_b × (rename (id s) ≡ q))
-  merged-from q r e = elim (cases_Bool (has_id (map id rows_a) q)) as (λ w. (has_id (map id rows_a) q ≡ true) ⊎ ((has_id (map id rows_a) q ≡ false) × (s : X) × In s rows_b × (rename (id s) ≡ q))) [
+  pub merged-from : (q : List ℕ) (r : X) → look id rows q ≡ Some r → (lists_id (map id rows_a) q ≡ true) ⊎ ((lists_id (map id rows_a) q ≡ false) × (s : X) × In s rows_b × (rename (id s) ≡ q))
+  merged-from q r e = elim (cases_Bool (lists_id (map id rows_a) q)) as (λ w. (lists_id (map id rows_a) q ≡ true) ⊎ ((lists_id (map id rows_a) q ≡ false) × (s : X) × In s rows_b × (rename (id s) ≡ q))) [
     | inl h ↦ inl h
     | inr h ↦
         let o : option_map g (find (λ s. bytes_eq (id (g s)) q) rows_b) ≡ Some r = sym (find-map (λ r. bytes_eq (id r) q) g rows_b) ∙ sym (past_a q h) ∙ e in
@@ -85,11 +86,11 @@ module _ {X : Type 0} (id : X → List ℕ) (f g : X → X) (rename : Renaming) 
 
   -- where names follow the rule of all kinds, and joined rows are one: each row of B is found under its new id
   pub merged-renamed : (same : X → X → Bool) → IsKeyed id rows_a → IsKeyed id rows_b
-      → ((x y : List ℕ) → has_id (map id rows_b) x ≡ true → has_id (map id rows_b) y ≡ true → rename x ≡ rename y → x ≡ y)
-      → ((x : List ℕ) → has_id (map id rows_a) (rename x) ≡ true → (rename x ≡ x) × (joined_by id same rows_a rows_b x ≡ true))
+      → ((x y : List ℕ) → lists_id (map id rows_b) x ≡ true → lists_id (map id rows_b) y ≡ true → rename x ≡ rename y → x ≡ y)
+      → ((x : List ℕ) → lists_id (map id rows_a) (rename x) ≡ true → (rename x ≡ x) × (joined_by id same rows_a rows_b x ≡ true))
       → ((r s : X) → id r ≡ id s → rename (id s) ≡ id s → same r s ≡ true → f r ≡ g s)
-      → (x : List ℕ) → has_id (map id rows_b) x ≡ true → look id rows (rename x) ≡ option_map g (look id rows_b x)
-  merged-renamed same keyed_a keyed_b apart into agree x hx = elim (cases_Bool (has_id (map id rows_a) (rename x))) as (λ w. look id rows (rename x) ≡ option_map g (look id rows_b x)) [
+      → (x : List ℕ) → lists_id (map id rows_b) x ≡ true → look id rows (rename x) ≡ option_map g (look id rows_b x)
+  merged-renamed same keyed_a keyed_b apart into agree x hx = elim (cases_Bool (lists_id (map id rows_a) (rename x))) as (λ w. look id rows (rename x) ≡ option_map g (look id rows_b x)) [
     | inr h ↦ merged-b x (λ y hy e. apart y x hy hx e) h
     | inl h ↦
         let w = into x h in

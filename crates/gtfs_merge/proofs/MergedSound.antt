@@ -19,19 +19,20 @@ use Rattle.gtfs_rows.specs.Rows.{Agency, Stop, Route, ServiceRow, Trip, Transfer
 use Rattle.gtfs_rows.specs.Sound.{IsSound, IsInOrder, is_sound_agency, is_sound_stop, is_sound_route, is_sound_service, is_sound_trip, is_sound_transfer}
 use Rattle.gtfs_rows.proofs.ContentAgain.{transfer_total}
 use Rattle.gtfs_rows.proofs.SameElements.{pairs-map}
+use Rattle.gtfs_rows.proofs.Members.{In, In-append, In-held, In-map, all-In, all-cells, all-from, list_all-In, list_all-from}
 use Rattle.gtfs_merge.specs.Law.{AreFew, IsNearness}
 use Rattle.gtfs_merge.specs.Merged.{merged, by_id, zones_differ, zone_text, agency_with, service_with, transfer_with}
 use Rattle.gtfs_merge.specs.Renaming.{Names, Nearness, Renaming, ids, names_a, names_b, stop_with, route_with, stop_row_with, trip_with}
 use Rattle.gtfs_merge.specs.declared.kind.Kind.{Kind}
 use Rattle.gtfs_merge.specs.declared.kind.Kind.TheVariants as kind
-use Rattle.gtfs_merge.proofs.Lookups.{In, list_any-In, list_all-In, bytes_same}
+use Rattle.gtfs_merge.proofs.Lookups.{list_any-In, bytes_same}
 use Rattle.gtfs_merge.proofs.Equal.{exact-text}
 use Rattle.gtfs_merge.proofs.MergedRows.{has_own}
 use Rattle.gtfs_merge.proofs.Carried.{trip_id_of, service_id_of}
 use Rattle.gtfs_merge.proofs.Stops.{stop_id_of}
-use Rattle.gtfs_merge.proofs.Kept.{list_all-from, In-map, In-append, In-by_key, all-from, all-In, ascends-by_key}
+use Rattle.gtfs_merge.proofs.Kept.{In-by_key, ascends-by_key}
 use Rattle.gtfs_merge.proofs.Fitting.{Fits, fit-stop, fit-route, fit-trip, fit-transfer}
-use Rattle.gtfs_merge.proofs.FitRows.{In-held, all-cells, fit-agency_cells, fit-stop_cells, fit-route_cells, fit-trip_cells, fit-time_cells, fit-frequency_cells, fit-week_cells, fit-exception_cells, fit-transfer_cells, time_cells_fit, frequency_cells_fit, week_cells_fit, exception_cells_fit}
+use Rattle.gtfs_merge.proofs.FitRows.{fit-agency_cells, fit-stop_cells, fit-route_cells, fit-trip_cells, fit-time_cells, fit-frequency_cells, fit-week_cells, fit-exception_cells, fit-transfer_cells, time_cells_fit, frequency_cells_fit, week_cells_fit, exception_cells_fit}
 use Rattle.gtfs_merge.proofs.NewNames.{either}
 use Rattle.gtfs_merge.proofs.MergedNames.{id_part, part-a, part-b, fits-a, fits-b}
 

@@ -15,6 +15,7 @@ use Rattle.gtfs_rows.specs.declared.parts.Parts.{Parts}
 use Rattle.gtfs_rows.specs.declared.transfer.Transfer.{Transfer as ByNumber}
 use Rattle.gtfs_rows.proofs.ContentAgain.{transfer_antisymmetric as text_key_antisymmetric, transfer_total}
 use Rattle.gtfs_field.specs.TextOrder.{text_cmp}
+use Rattle.gtfs_rows.proofs.Members.{In, In-append, In-map, list_all-In, list_all-from}
 use Rattle.gtfs_merge.specs.KindRows.{AllEntries, AreMergedKinds}
 use Rattle.gtfs_merge.specs.Merged.{by_transfer, transfer_with}
 use Rattle.gtfs_merge.specs.Renumbered.{numbers_of}
@@ -24,9 +25,8 @@ use Rattle.gtfs_merge.specs.declared.kind.Kind.TheVariants as kind
 use Rattle.gtfs_merge.specs.declared.kind.Side.{Side}
 use Rattle.gtfs_merge.specs.declared.kind.Side.TheVariants as side
 use Rattle.gtfs_merge.specs.declared.sides.Sides.{Sides}
-use Rattle.gtfs_merge.proofs.Kept.{In-append, In-by_key, In-map, list_all-from}
+use Rattle.gtfs_merge.proofs.Kept.{In-by_key}
 use Rattle.gtfs_merge.proofs.KeyedOrders.{by_key-carried}
-use Rattle.gtfs_merge.proofs.Lookups.{In, list_all-In}
 use Rattle.gtfs_merge.proofs.TripsOfSides.{In-get}
 use Rattle.gtfs_merge.proofs.ReferenceNumbers.{numbers-length, option-named, option-within}
 use Rattle.gtfs_merge.proofs.TransferOrder.{ends_antisymmetric, ends_total, key-order}

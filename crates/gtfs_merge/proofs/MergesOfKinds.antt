@@ -13,7 +13,7 @@ use Rattle.gtfs_merge.specs.Merged.{agency_with, by_id, service_with}
 use Rattle.gtfs_merge.specs.MergedKinds.{AreMergedRows, trip_under}
 use Rattle.gtfs_merge.specs.Numbered.{known_ids}
 use Rattle.gtfs_merge.specs.Order.{Entry, rows_of_a, rows_of_b}
-use Rattle.gtfs_merge.specs.Renaming.{Names, agency_a, agency_b, has_id, ids, joined_agency, joined_route, joined_service, joined_stop_under, joined_trip, names_a, names_b, renaming, route_with, stop_with, stop_within}
+use Rattle.gtfs_merge.specs.Renaming.{Names, agency_a, agency_b, lists_id, ids, joined_agency, joined_route, joined_service, joined_stop_under, joined_trip, names_a, names_b, renaming, route_with, stop_with, stop_within}
 use Rattle.gtfs_merge.specs.Sides.{side_parts, side_content, nearness_of, side_names}
 use Rattle.gtfs_merge.specs.Twins.{twin_number}
 use Rattle.gtfs_merge.specs.declared.kind.Kind.{Kind}
@@ -52,11 +52,11 @@ module _ (sides : Sides) (sound_a : IsSoundParts sides.a.now) (sound_b : IsSound
 
   -- ---- ids by their numbers
 
-  has-a : (k : Kind) (n : ℕ) → n < length (known_ids k sides.a.now) → has_id (ids k a) (get_or (known_ids k sides.a.now) n []) ≡ true
-  has-a k n within = subst (λ xs. has_id xs (get_or (known_ids k sides.a.now) n []) ≡ true) (sym (ids-known k sides.a.now sound_a)) (has-at (known_ids k sides.a.now) n within)
+  has-a : (k : Kind) (n : ℕ) → n < length (known_ids k sides.a.now) → lists_id (ids k a) (get_or (known_ids k sides.a.now) n []) ≡ true
+  has-a k n within = subst (λ xs. lists_id xs (get_or (known_ids k sides.a.now) n []) ≡ true) (sym (ids-known k sides.a.now sound_a)) (has-at (known_ids k sides.a.now) n within)
 
-  has-b : (k : Kind) (n : ℕ) → n < length (known_ids k sides.b.now) → has_id (ids k b) (get_or (known_ids k sides.b.now) n []) ≡ true
-  has-b k n within = subst (λ xs. has_id xs (get_or (known_ids k sides.b.now) n []) ≡ true) (sym (ids-known k sides.b.now sound_b)) (has-at (known_ids k sides.b.now) n within)
+  has-b : (k : Kind) (n : ℕ) → n < length (known_ids k sides.b.now) → lists_id (ids k b) (get_or (known_ids k sides.b.now) n []) ≡ true
+  has-b k n within = subst (λ xs. lists_id xs (get_or (known_ids k sides.b.now) n []) ≡ true) (sym (ids-known k sides.b.now sound_b)) (has-at (known_ids k sides.b.now) n within)
 
   apart-first : (k : Kind) (m n : ℕ) → m < length (known_ids k sides.a.now) → n < length (known_ids k sides.a.now) → renaming na k (get_or (known_ids k sides.a.now) m []) ≡ renaming na k (get_or (known_ids k sides.a.now) n [])
       → get_or (known_ids k sides.a.now) m [] ≡ get_or (known_ids k sides.a.now) n []
@@ -65,15 +65,15 @@ module _ (sides : Sides) (sound_a : IsSoundParts sides.a.now) (sound_b : IsSound
   -- ---- twins
 
   -- an id of B that became one of A has its number
-  pub has-twin : (k : Kind) (y : List ℕ) → is_some (twin_number k sides y) ≡ has_id (ids k a) (renaming nb k y)
-  has-twin k y = has-number (known_ids k sides.a.now) (renaming nb k y) ∙ ap (λ xs. has_id xs (renaming nb k y)) (sym (ids-known k sides.a.now sound_a))
+  pub has-twin : (k : Kind) (y : List ℕ) → is_some (twin_number k sides y) ≡ lists_id (ids k a) (renaming nb k y)
+  has-twin k y = has-number (known_ids k sides.a.now) (renaming nb k y) ∙ ap (λ xs. lists_id xs (renaming nb k y)) (sym (ids-known k sides.a.now sound_a))
 
   -- the new id of an agency of B is one of A exactly where the agency is joined
-  agency-twin : (y : List ℕ) → has_id (ids kind.Agency a) (agency_b a b y) ≡ true → joined_agency a b y ≡ true
+  agency-twin : (y : List ℕ) → lists_id (ids kind.Agency a) (agency_b a b y) ≡ true → joined_agency a b y ≡ true
   agency-twin y has = agency-into a b sound_a.content (few kind.Agency) y has
 
   -- the id of a twin stays
-  pub twin-stays : (k : Kind) (y : List ℕ) → has_id (ids k a) (renaming nb k y) ≡ true → renaming na k (renaming nb k y) ≡ renaming nb k y
+  pub twin-stays : (k : Kind) (y : List ℕ) → lists_id (ids k a) (renaming nb k y) ≡ true → renaming na k (renaming nb k y) ≡ renaming nb k y
   twin-stays kind.Agency y has =
       let j = agency-twin y has in
       ap (agency_a a b) (agency-stays_b a b sound_a.content (few kind.Agency) y j) ∙ agency-stays_a a b sound_a.content (few kind.Agency) y j ∙ sym (agency-stays_b a b sound_a.content (few kind.Agency) y j)
@@ -83,17 +83,17 @@ module _ (sides : Sides) (sound_a : IsSoundParts sides.a.now) (sound_b : IsSound
   twin-stays kind.Trip y has = refl
 
   -- an id of B that has the new id of one of A has a twin
-  pub ids-meet : (k : Kind) (x y : List ℕ) → has_id (ids k a) x ≡ true → has_id (ids k b) y ≡ true → renaming na k x ≡ renaming nb k y → has_id (ids k a) (renaming nb k y) ≡ true
+  pub ids-meet : (k : Kind) (x y : List ℕ) → lists_id (ids k a) x ≡ true → lists_id (ids k b) y ≡ true → renaming na k x ≡ renaming nb k y → lists_id (ids k a) (renaming nb k y) ≡ true
   ids-meet kind.Agency x y hx hy e =
       let j = (and_parts (joined_agency a b y) (bytes_eq x y) (sym (agencies-meet a b sound_a.content (few kind.Agency) x y hx hy) ∙ bytes_same (agency_a a b x) (agency_b a b y) e)).0 in
-      ap (has_id (ids kind.Agency a)) (agency-stays_b a b sound_a.content (few kind.Agency) y j) ∙ (joined-has (nearness_of sides) kind.Agency a b y j).0
-  ids-meet kind.Stop x y hx hy e = ap (has_id (ids kind.Stop a)) (sym e) ∙ hx
-  ids-meet kind.Route x y hx hy e = ap (has_id (ids kind.Route a)) (sym e) ∙ hx
-  ids-meet kind.Service x y hx hy e = ap (has_id (ids kind.Service a)) (sym e) ∙ hx
-  ids-meet kind.Trip x y hx hy e = ap (has_id (ids kind.Trip a)) (sym e) ∙ hx
+      ap (lists_id (ids kind.Agency a)) (agency-stays_b a b sound_a.content (few kind.Agency) y j) ∙ (joined-has (nearness_of sides) kind.Agency a b y j).0
+  ids-meet kind.Stop x y hx hy e = ap (lists_id (ids kind.Stop a)) (sym e) ∙ hx
+  ids-meet kind.Route x y hx hy e = ap (lists_id (ids kind.Route a)) (sym e) ∙ hx
+  ids-meet kind.Service x y hx hy e = ap (lists_id (ids kind.Service a)) (sym e) ∙ hx
+  ids-meet kind.Trip x y hx hy e = ap (lists_id (ids kind.Trip a)) (sym e) ∙ hx
 
   -- two ids of B without twins stay two
-  left-apart : (k : Kind) (x y : List ℕ) → has_id (ids k b) x ≡ true → has_id (ids k b) y ≡ true → has_id (ids k a) (renaming nb k x) ≡ false → has_id (ids k a) (renaming nb k y) ≡ false
+  left-apart : (k : Kind) (x y : List ℕ) → lists_id (ids k b) x ≡ true → lists_id (ids k b) y ≡ true → lists_id (ids k a) (renaming nb k x) ≡ false → lists_id (ids k a) (renaming nb k y) ≡ false
       → renaming nb k x ≡ renaming nb k y → x ≡ y
   left-apart kind.Agency x y hx hy nx ny e = apart-unmet a b sound_a.content sound_b.content sides.near kind.Agency refl (few-enough kind.Agency) x y hx hy e
   left-apart kind.Stop x y hx hy nx ny e =
@@ -137,7 +137,7 @@ module _ (sides : Sides) (sound_a : IsSoundParts sides.a.now) (sound_b : IsSound
       meet = meets k;
       twin = λ s i h.
           let has = sym (has-twin k (id s)) ∙ h in
-          let r = found id (rows a) (renaming nb k (id s)) (ap (λ xs. has_id xs (renaming nb k (id s))) of_a ∙ has) in
+          let r = found id (rows a) (renaming nb k (id s)) (ap (λ xs. lists_id xs (renaming nb k (id s))) of_a ∙ has) in
           let at = found_id id (rows a) (renaming nb k (id s)) r.0 r.1 in
           (r.0, at.0, new_a r.0 ∙ ap (renaming na k) at.1 ∙ twin-stays k (id s) has ∙ sym (new_b s));
     }

@@ -2,6 +2,7 @@
 use Rattle.std.proofs.Common.{◌≡◌, ◌<◌, ◌+◌, ◌++◌, ℕ, Bool, true, false, List, [], ◌∷◌, Some, None, Option, refl, sym, ap, ◌∙◌, length, map, filter, take, get_or, bytes_eq, is_some, option_and_then, add-one, arith}
 use Rattle.std.specs.Prelude.{if◌then◌else◌}
 use Rattle.std.specs.List.{position, slice_get}
+use Rattle.std.specs.declared.random_state.RandomState.{RandomState}
 use Rattle.std.proofs.Math.Seq.{take-suc}
 use Rattle.std.proofs.lemmas.List.{get_or-map, length-map}
 use Rattle.std.proofs.lemmas.List.Quantifiers.{position-Some}
@@ -12,9 +13,9 @@ use Rattle.gtfs_rows.specs.Content.{Content}
 use Rattle.gtfs_rows.specs.declared.parts.Parts.{Parts}
 use Rattle.gtfs_rows.specs.Views.{IsSoundParts, content_of_parts}
 use Rattle.gtfs_merge.specs.Departures.{StaysApart}
-use Rattle.gtfs_merge.specs.Names.{AllNames, AreKindNames, kind_names, new_id, new_ids, of_side}
+use Rattle.gtfs_merge.specs.Names.{AllNames, AreHashedBy, AreKindNames, in_kind, kind_names, new_id, new_ids, of_side}
 use Rattle.gtfs_merge.specs.Numbered.{known_ids}
-use Rattle.gtfs_merge.specs.Renaming.{has_id, ids, name_of, Names, Renaming, renaming}
+use Rattle.gtfs_merge.specs.Renaming.{lists_id, ids, name_of, Names, Renaming, renaming}
 use Rattle.gtfs_merge.specs.Sides.{side_names, side_parts}
 use Rattle.gtfs_merge.specs.declared.kind.Kind.{Kind}
 use Rattle.gtfs_merge.specs.declared.kind.Kind.TheVariants as kind
@@ -24,10 +25,10 @@ use Rattle.gtfs_merge.specs.declared.sides.Sides.{Sides}
 use Rattle.gtfs_merge.proofs.JoinedIds.{has-number}
 use Rattle.gtfs_merge.proofs.JoinedKinds.{ids-known}
 
-looked-up : (rename : Renaming) (xs : List (List ℕ)) (x : List ℕ) → new_id (new_ids rename xs) x ≡ (if has_id xs x then Some (rename x) else None)
-looked-up rename xs x = by (position (bytes_eq x) xs) refl
+looked-up : (random : RandomState) (rename : Renaming) (xs : List (List ℕ)) (x : List ℕ) → new_id (new_ids random rename xs) x ≡ (if lists_id xs x then Some (rename x) else None)
+looked-up random rename xs x = by (position (bytes_eq x) xs) refl
   where
-    by : (o : Option ℕ) → position (bytes_eq x) xs ≡ o → option_and_then (slice_get (map rename xs)) (position (bytes_eq x) xs) ≡ (if has_id xs x then Some (rename x) else None)
+    by : (o : Option ℕ) → position (bytes_eq x) xs ≡ o → option_and_then (slice_get (map rename xs)) (position (bytes_eq x) xs) ≡ (if lists_id xs x then Some (rename x) else None)
     by None e = ap (option_and_then (slice_get (map rename xs))) e ∙ ap (λ h. if h then Some (rename x) else None) (sym (ap is_some e) ∙ has-number xs x)
     by (Some n) e =
         let there = position-Some (bytes_eq x) xs n [] e in
@@ -37,17 +38,17 @@ looked-up rename xs x = by (position (bytes_eq x) xs) refl
         ∙ ap Some (get_or-map rename xs n [] [] there.0 ∙ ap rename (sym (same_bytes x (get_or xs n []) there.1)))
         ∙ ap (λ h. if h then Some (rename x) else None) (sym (ap is_some e) ∙ has-number xs x)
 
-pub named : (n : Names) (k : Kind) (p : Parts) → IsSoundParts p → (x : List ℕ) → new_id (new_ids (renaming n k) (known_ids k p)) x ≡ name_of n k (content_of_parts p) x
-named n k p sound x = looked-up (renaming n k) (known_ids k p) x ∙ ap (λ xs. if has_id xs x then Some (renaming n k x) else None) (sym (ids-known k p sound))
+pub named : (random : RandomState) (n : Names) (k : Kind) (p : Parts) → IsSoundParts p → (x : List ℕ) → new_id (new_ids random (renaming n k) (known_ids k p)) x ≡ name_of n k (content_of_parts p) x
+named random n k p sound x = looked-up random (renaming n k) (known_ids k p) x ∙ ap (λ xs. if lists_id xs x then Some (renaming n k x) else None) (sym (ids-known k p sound))
 
 -- a name by its number
-pub name-at : (k : Kind) (sides : Sides) (s : Side) (n : ℕ) → n < length (known_ids k (side_parts s sides)) → get_or (of_side (kind_names k sides) s).names n [] ≡ renaming (side_names s sides) k (get_or (known_ids k (side_parts s sides)) n [])
-name-at k sides side.A n within = get_or-map (renaming (side_names side.A sides) k) (known_ids k sides.a.now) n [] [] within
-name-at k sides side.B n within = get_or-map (renaming (side_names side.B sides) k) (known_ids k sides.b.now) n [] [] within
+pub name-at : (random : RandomState) (k : Kind) (sides : Sides) (s : Side) (n : ℕ) → n < length (known_ids k (side_parts s sides)) → get_or (of_side (kind_names random k sides) s).names n [] ≡ renaming (side_names s sides) k (get_or (known_ids k (side_parts s sides)) n [])
+name-at random k sides side.A n within = get_or-map (renaming (side_names side.A sides) k) (known_ids k sides.a.now) n [] [] within
+name-at random k sides side.B n within = get_or-map (renaming (side_names side.B sides) k) (known_ids k sides.b.now) n [] [] within
 
-pub names-count : (k : Kind) (sides : Sides) (s : Side) → length (of_side (kind_names k sides) s).names ≡ length (known_ids k (side_parts s sides))
-names-count k sides side.A = length-map (known_ids k sides.a.now) (renaming (side_names side.A sides) k)
-names-count k sides side.B = length-map (known_ids k sides.b.now) (renaming (side_names side.B sides) k)
+pub names-count : (random : RandomState) (k : Kind) (sides : Sides) (s : Side) → length (of_side (kind_names random k sides) s).names ≡ length (known_ids k (side_parts s sides))
+names-count random k sides side.A = length-map (known_ids k sides.a.now) (renaming (side_names side.A sides) k)
+names-count random k sides side.B = length-map (known_ids k sides.b.now) (renaming (side_names side.B sides) k)
 
 pub joined-further : (p : List ℕ → Bool) (xs : List (List ℕ)) (n : ℕ) (before after : List (List ℕ)) (x : List ℕ) → n < length xs → before ≡ filter p (take n xs) → after ≡ before ++ filter p (x ∷ []) → x ≡ get_or xs n []
     → after ≡ filter p (take (n + 1) xs)
@@ -56,18 +57,27 @@ joined-further p xs n before after x within so_far added own =
 
 -- ids that stay apart have names that tell them
 pub apart-names : (n : Names) (k : Kind) (f : Content) → StaysApart k f n → (x y name : List ℕ) → name_of n k f x ≡ Some name → name_of n k f y ≡ Some name → x ≡ y
-apart-names n k f apart x y name = by (has_id (ids k f) x) refl (has_id (ids k f) y) refl
+apart-names n k f apart x y name = by (lists_id (ids k f) x) refl (lists_id (ids k f) y) refl
   where
-    by : (h : Bool) → has_id (ids k f) x ≡ h → (g : Bool) → has_id (ids k f) y ≡ g → (if h then Some (renaming n k x) else None) ≡ Some name → (if g then Some (renaming n k y) else None) ≡ Some name → x ≡ y
+    by : (h : Bool) → lists_id (ids k f) x ≡ h → (g : Bool) → lists_id (ids k f) y ≡ g → (if h then Some (renaming n k x) else None) ≡ Some name → (if g then Some (renaming n k y) else None) ≡ Some name → x ≡ y
     by true has_x true has_y first second = let same : renaming n k x ≡ renaming n k y = cc in apart x y has_x has_y same
     by true has_x false has_y first second = cc
     by false has_x g has_y first second = cc
 
 -- the names of all kinds
-pub each-kind : (sides : Sides) (n : AllNames) → n.agencies ≡ kind_names kind.Agency sides → n.stops ≡ kind_names kind.Stop sides → n.routes ≡ kind_names kind.Route sides → n.services ≡ kind_names kind.Service sides → n.trips ≡ kind_names kind.Trip sides
-    → AreKindNames sides n
-each-kind sides n agencies stops routes services trips kind.Agency = agencies
-each-kind sides n agencies stops routes services trips kind.Stop = stops
-each-kind sides n agencies stops routes services trips kind.Route = routes
-each-kind sides n agencies stops routes services trips kind.Service = services
-each-kind sides n agencies stops routes services trips kind.Trip = trips
+pub each-kind : (random : RandomState) (sides : Sides) (n : AllNames) → n.agencies ≡ kind_names random kind.Agency sides → n.stops ≡ kind_names random kind.Stop sides
+    → n.routes ≡ kind_names random kind.Route sides → n.services ≡ kind_names random kind.Service sides → n.trips ≡ kind_names random kind.Trip sides
+    → (k : Kind) → in_kind n k ≡ kind_names random k sides
+each-kind random sides n agencies stops routes services trips kind.Agency = agencies
+each-kind random sides n agencies stops routes services trips kind.Stop = stops
+each-kind random sides n agencies stops routes services trips kind.Route = routes
+each-kind random sides n agencies stops routes services trips kind.Service = services
+each-kind random sides n agencies stops routes services trips kind.Trip = trips
+
+module _ (random : RandomState) (sides : Sides) (n : AllNames) (each : (k : Kind) → in_kind n k ≡ kind_names random k sides) where
+  pub kinds-named : AreKindNames sides n
+  kinds-named k = each k ∙ ap (λ r. kind_names r k sides) (sym (ap (λ m. m.a.random) (each k)))
+
+  pub hashed-by : AreHashedBy random n
+  hashed-by k side.A = ap (λ m. m.a.random) (each k)
+  hashed-by k side.B = ap (λ m. m.b.random) (each k)

@@ -14,7 +14,7 @@ use Rattle.gtfs_rows.specs.Rows.{Stop}
 use Rattle.gtfs_rows.specs.Views.{IsSoundParts, content_of_parts, stop_ids}
 use Rattle.gtfs_merge.specs.Law.{AreFew}
 use Rattle.gtfs_merge.specs.Near.{near_pair, near_pairs}
-use Rattle.gtfs_merge.specs.Renaming.{Nearness, Renaming, has_id, ids, joined_stop, joined_stop_under, near_stop_under, stop_b, stop_within}
+use Rattle.gtfs_merge.specs.Renaming.{Nearness, Renaming, lists_id, ids, joined_stop, joined_stop_under, near_stop_under, stop_b, stop_within}
 use Rattle.gtfs_merge.specs.Sides.{content_a, content_b, nearness_of}
 use Rattle.gtfs_merge.specs.Twins.{near_at, pairs_at, twin_number, twin_rows}
 use Rattle.gtfs_merge.specs.declared.kind.Kind.{Kind}
@@ -30,16 +30,16 @@ use Rattle.gtfs_merge.proofs.SettledStops.{joined-settled, near-settled}
 use Rattle.gtfs_merge.proofs.Stops.{is-nearness}
 
 -- what is near is there
-near-there : (near : Nearness) (rename : Renaming) (a b : Content) (x z : List ℕ) → near_stop_under near rename a b x ≡ Some z → has_id (ids kind.Stop a) z ≡ true
+near-there : (near : Nearness) (rename : Renaming) (a b : Content) (x z : List ℕ) → near_stop_under near rename a b x ≡ Some z → lists_id (ids kind.Stop a) z ≡ true
 near-there near rename a b x z = by (find (λ y. bytes_eq y.stop_id x) b.stops)
   where
-    at : (y : Stop) (o : Option Stop) → find (near rename y) a.stops ≡ o → option_map (λ s. s.stop_id) o ≡ Some z → has_id (ids kind.Stop a) z ≡ true
+    at : (y : Stop) (o : Option Stop) → find (near rename y) a.stops ≡ o → option_map (λ s. s.stop_id) o ≡ Some z → lists_id (ids kind.Stop a) z ≡ true
     at y None e f = cc f
     at y (Some s) e f =
         let is : s.stop_id ≡ z = cc f in
-        subst (λ v. has_id (ids kind.Stop a) v ≡ true) is (has_own (λ s. s.stop_id) a.stops s (find-In (near rename y) a.stops s e).0)
+        subst (λ v. lists_id (ids kind.Stop a) v ≡ true) is (has_own (λ s. s.stop_id) a.stops s (find-In (near rename y) a.stops s e).0)
 
-    by : (o : Option Stop) → option_and_then (λ y. option_map (λ s. s.stop_id) (find (near rename y) a.stops)) o ≡ Some z → has_id (ids kind.Stop a) z ≡ true
+    by : (o : Option Stop) → option_and_then (λ y. option_map (λ s. s.stop_id) (find (near rename y) a.stops)) o ≡ Some z → lists_id (ids kind.Stop a) z ≡ true
     by None f = cc f
     by (Some y) f = at y (find (near rename y) a.stops) refl f
 
@@ -47,7 +47,7 @@ abbrev paired : List ℕ → List ℕ → List ℕ × List ℕ
 paired x z = (x, z)
 
 -- an id that is there, by its number
-by-own-number : (xs : List (List ℕ)) (x : List ℕ) (o : Option (List ℕ)) → ((z : List ℕ) → o ≡ Some z → has_id xs z ≡ true)
+by-own-number : (xs : List (List ℕ)) (x : List ℕ) (o : Option (List ℕ)) → ((z : List ℕ) → o ≡ Some z → lists_id xs z ≡ true)
     → option_map (paired x) o ≡ option_map (λ m. paired x (get_or xs m [])) (option_and_then (λ z. position (bytes_eq z) xs) o)
 by-own-number xs x None has = refl
 by-own-number xs x (Some z) has = at (position (bytes_eq z) xs) refl
@@ -89,7 +89,7 @@ module _ (sides : Sides) (sound_a : IsSoundParts sides.a.now) (sound_b : IsSound
   number_of z = position (bytes_eq z) (stop_ids sides.a.now)
 
   -- a stop that is not joined has as its twin the stop that it is near
-  unjoined-twin : (x : List ℕ) → has_id (ids kind.Stop b) x ≡ true → joined_stop (nearness_of sides) a b x ≡ false → twin_number kind.Stop sides x ≡ option_and_then number_of (near_stop_under (nearness_of sides) (stop_b (nearness_of sides) a b) a b x)
+  unjoined-twin : (x : List ℕ) → lists_id (ids kind.Stop b) x ≡ true → joined_stop (nearness_of sides) a b x ≡ false → twin_number kind.Stop sides x ≡ option_and_then number_of (near_stop_under (nearness_of sides) (stop_b (nearness_of sides) a b) a b x)
   unjoined-twin x has apart =
       let near = nearness_of sides in
       let two = stop_within near 2 a b in
@@ -98,7 +98,7 @@ module _ (sides : Sides) (sound_a : IsSoundParts sides.a.now) (sound_b : IsSound
       ∙ ap (λ j. if j then number_of x else option_and_then number_of (near_stop_under near two a b x)) under
       ∙ ap (option_and_then number_of) (near-settled near (is-nearness sides.near) a b sound_a.content sound_b.content few-stops x has)
 
-  pair-is : (n : ℕ) → n < length (stop_ids sides.b.now) → (y : Stop) → y.stop_id ≡ get_or (stop_ids sides.b.now) n [] → has_id (ids kind.Stop b) y.stop_id ≡ true
+  pair-is : (n : ℕ) → n < length (stop_ids sides.b.now) → (y : Stop) → y.stop_id ≡ get_or (stop_ids sides.b.now) n [] → lists_id (ids kind.Stop b) y.stop_id ≡ true
       → listed (near_pair (nearness_of sides) a b y) ≡ pairs_at sides (near_at (twin_rows sides) n) n
   pair-is n within y own has = by (joined_stop (nearness_of sides) a b y.stop_id) refl
     where
@@ -117,7 +117,7 @@ module _ (sides : Sides) (sound_a : IsSoundParts sides.a.now) (sound_b : IsSound
           ap (λ j. listed (if j then None else option_map (paired y.stop_id) (near_stop_under (nearness_of sides) (stop_b (nearness_of sides) a b) a b y.stop_id))) e
           ∙ sym (ap (λ j. pairs_at sides (if j then None else get_or (twin_rows sides).stops n None) n) (flag ∙ e))
       by false e =
-          let has_a : (z : List ℕ) → near_stop_under (nearness_of sides) (stop_b (nearness_of sides) a b) a b y.stop_id ≡ Some z → has_id (stop_ids sides.a.now) z ≡ true = λ z f. subst (λ xs. has_id xs z ≡ true) (ids-known kind.Stop sides.a.now sound_a) (near-there (nearness_of sides) (stop_b (nearness_of sides) a b) a b y.stop_id z f) in
+          let has_a : (z : List ℕ) → near_stop_under (nearness_of sides) (stop_b (nearness_of sides) a b) a b y.stop_id ≡ Some z → lists_id (stop_ids sides.a.now) z ≡ true = λ z f. subst (λ xs. lists_id xs z ≡ true) (ids-known kind.Stop sides.a.now sound_a) (near-there (nearness_of sides) (stop_b (nearness_of sides) a b) a b y.stop_id z f) in
           ap (λ j. listed (if j then None else option_map (paired y.stop_id) (near_stop_under (nearness_of sides) (stop_b (nearness_of sides) a b) a b y.stop_id))) e
           ∙ ap listed (by-own-number (stop_ids sides.a.now) y.stop_id (near_stop_under (nearness_of sides) (stop_b (nearness_of sides) a b) a b y.stop_id) has_a ∙ ap (option_map (λ m. paired y.stop_id (get_or (stop_ids sides.a.now) m []))) (sym (unjoined-twin y.stop_id has e)))
           ∙ told (twin_number kind.Stop sides y.stop_id)
@@ -138,7 +138,7 @@ module _ (sides : Sides) (sound_a : IsSoundParts sides.a.now) (sound_b : IsSound
       let y = get_or b.stops n (some_of b.stops n inside) in
       let at : slice_get b.stops n ≡ Some y = slice_get-get_or b.stops n (some_of b.stops n inside) inside in
       let own : y.stop_id ≡ get_or (stop_ids sides.b.now) n [] = sym (id-at (λ s. s.stop_id) b.stops n y at) ∙ ap (λ xs. get_or xs n []) (ids-known kind.Stop sides.b.now sound_b) in
-      let has : has_id (ids kind.Stop b) y.stop_id ≡ true = ap (λ t. has_id (ids kind.Stop b) t) own ∙ ap (λ xs. has_id xs (get_or (stop_ids sides.b.now) n [])) (ids-known kind.Stop sides.b.now sound_b) ∙ has-at (stop_ids sides.b.now) n within in
+      let has : lists_id (ids kind.Stop b) y.stop_id ≡ true = ap (λ t. lists_id (ids kind.Stop b) t) own ∙ ap (λ xs. lists_id xs (get_or (stop_ids sides.b.now) n [])) (ids-known kind.Stop sides.b.now sound_b) ∙ has-at (stop_ids sides.b.now) n within in
       added ∙ (λ i. so_far i ++ sym (pair-is n within y own has) i)
       ∙ ap (λ l. filter_map pair_of (take n b.stops) ++ l) (sym (filtered-one pair_of y (pair_of y) refl))
       ∙ sym (filter_map-append pair_of (take n b.stops) (y ∷ [])) ∙ ap (filter_map pair_of) (sym (ap (λ m. take m b.stops) (add-one n) ∙ take-suc b.stops n (some_of b.stops n inside) inside))

@@ -19,6 +19,7 @@ use Rattle.gtfs_rows.specs.declared.stop.Stop.{Stop as StopByNumber}
 use Rattle.gtfs_rows.proofs.SoundOrder.{in_order}
 use Rattle.gtfs_rows.proofs.NumberFacts.{own_number}
 use Rattle.gtfs_nearby.specs.Near.{are_close, same_given_name}
+use Rattle.gtfs_rows.proofs.Members.{In}
 use Rattle.gtfs_merge.specs.Near.{near_by, nearness}
 use Rattle.gtfs_nearby.specs.Near.{NearStops, is_near_row, is_same_parent}
 use Rattle.gtfs_merge.specs.Renaming.{Renaming, near_stop_under}
@@ -27,7 +28,7 @@ use Rattle.gtfs_merge.specs.Twins.{near_stops, parent_became}
 use Rattle.gtfs_merge.specs.declared.sides.Sides.{Sides}
 use Rattle.gtfs_merge.proofs.JoinedRows.{look-own}
 use Rattle.gtfs_merge.proofs.JoinedStops.{none-near, same-parent}
-use Rattle.gtfs_merge.proofs.Lookups.{In, find-alike, find-map, find-None}
+use Rattle.gtfs_merge.proofs.Lookups.{find-alike, find-map, find-None}
 
 -- ---- the first row that passes, and its number
 

@@ -9,17 +9,18 @@ use Rattle.gtfs_table.specs.Blanks.{without_first_blanks}
 use Rattle.gtfs_field.specs.TextOrder.{text_cmp}
 use Rattle.gtfs_table.specs.Rows.{is_empty}
 use Rattle.gtfs_rows.specs.Cells.{is_clean, is_filled}
+use Rattle.gtfs_rows.proofs.Members.{In, In-append, In-left, In-map, In-right, list_all-In, list_all-from, map-In}
 use Rattle.gtfs_merge.specs.Merged.{by_id}
-use Rattle.gtfs_merge.specs.Renaming.{Renaming, has_id, free_id, renamed_b}
-use Rattle.gtfs_merge.proofs.Lookups.{In, list_all-In, look-by_id}
+use Rattle.gtfs_merge.specs.Renaming.{Renaming, lists_id, free_id, renamed_b}
+use Rattle.gtfs_merge.proofs.Lookups.{look-by_id}
 use Rattle.gtfs_merge.proofs.Fresh.{free_number-free}
 use Rattle.gtfs_merge.proofs.MergedRows.{found, found_id, has_found, has_own}
 use Rattle.gtfs_merge.proofs.Clean.{filled-merged_id}
-use Rattle.gtfs_merge.proofs.Kept.{list_all-from, once-by_key, In-map, In-append, In-left, In-right, map-In, In-by_key}
+use Rattle.gtfs_merge.proofs.Kept.{once-by_key, In-by_key}
 
 -- ---- ids of rows by id
 
-pub in-by_id : {X : Type 0} (id : X → List ℕ) (rows : List X) (r : X) → In r rows → has_id (map id (by_id id rows)) (id r) ≡ true
+pub in-by_id : {X : Type 0} (id : X → List ℕ) (rows : List X) (r : X) → In r rows → lists_id (map id (by_id id rows)) (id r) ≡ true
 in-by_id id rows r i =
     let f = found id rows (id r) (has_own id rows r i) in
     has_found id (by_id id rows) (id r) f.0 (look-by_id id rows (id r) ∙ f.1)
@@ -43,17 +44,17 @@ either {X = X} id f g xs ys r i =
       | inr j ↦ inr (In-map g ys r j)
     ]
 
-pub from-a : {X : Type 0} (id : X → List ℕ) (f g : X → X) (new : Renaming) (xs ys : List X) → ((r : X) → id (f r) ≡ new (id r)) → (x : List ℕ) → has_id (map id xs) x ≡ true → has_id (map id (by_id id (map f xs ++ map g ys))) (new x) ≡ true
+pub from-a : {X : Type 0} (id : X → List ℕ) (f g : X → X) (new : Renaming) (xs ys : List X) → ((r : X) → id (f r) ≡ new (id r)) → (x : List ℕ) → lists_id (map id xs) x ≡ true → lists_id (map id (by_id id (map f xs ++ map g ys))) (new x) ≡ true
 from-a id f g new xs ys named x h =
     let r = found id xs x h in
     let i = found_id id xs x r.0 r.1 in
-    subst (λ q. has_id (map id (by_id id (map f xs ++ map g ys))) q ≡ true) (named r.0 ∙ ap new i.1) (in-by_id id (map f xs ++ map g ys) (f r.0) (In-left (map f xs) (map g ys) (f r.0) (map-In f xs r.0 i.0)))
+    subst (λ q. lists_id (map id (by_id id (map f xs ++ map g ys))) q ≡ true) (named r.0 ∙ ap new i.1) (in-by_id id (map f xs ++ map g ys) (f r.0) (In-left (map f xs) (map g ys) (f r.0) (map-In f xs r.0 i.0)))
 
-pub from-b : {X : Type 0} (id : X → List ℕ) (f g : X → X) (new : Renaming) (xs ys : List X) → ((r : X) → id (g r) ≡ new (id r)) → (x : List ℕ) → has_id (map id ys) x ≡ true → has_id (map id (by_id id (map f xs ++ map g ys))) (new x) ≡ true
+pub from-b : {X : Type 0} (id : X → List ℕ) (f g : X → X) (new : Renaming) (xs ys : List X) → ((r : X) → id (g r) ≡ new (id r)) → (x : List ℕ) → lists_id (map id ys) x ≡ true → lists_id (map id (by_id id (map f xs ++ map g ys))) (new x) ≡ true
 from-b id f g new xs ys named x h =
     let r = found id ys x h in
     let i = found_id id ys x r.0 r.1 in
-    subst (λ q. has_id (map id (by_id id (map f xs ++ map g ys))) q ≡ true) (named r.0 ∙ ap new i.1) (in-by_id id (map f xs ++ map g ys) (g r.0) (In-right (map f xs) (map g ys) (g r.0) (map-In g ys r.0 i.0)))
+    subst (λ q. lists_id (map id (by_id id (map f xs ++ map g ys))) q ≡ true) (named r.0 ∙ ap new i.1) (in-by_id id (map f xs ++ map g ys) (g r.0) (In-right (map f xs) (map g ys) (g r.0) (map-In g ys r.0 i.0)))
 
 -- ---- new names are filled
 
@@ -66,7 +67,7 @@ filled-free taken base few e = filled-merged_id base _ (free_number-free taken b
 
 module _ (ids_a ids_b : List (List ℕ)) (is_joined : List ℕ → Bool) (few : length ids_a + length ids_b + 2 < 10 ^ 64) where
   pub filled-renamed : (x : List ℕ) → is_filled x ≡ true → is_filled (renamed_b ids_a ids_b is_joined x) ≡ true
-  filled-renamed x e = elim (not (has_id ids_a x) || is_joined x) as (λ c. is_filled (if c then x else free_id (ids_a ++ ids_b) x) ≡ true) [
+  filled-renamed x e = elim (not (lists_id ids_a x) || is_joined x) as (λ c. is_filled (if c then x else free_id (ids_a ++ ids_b) x) ≡ true) [
     | true ↦ e
     | false ↦ filled-free (ids_a ++ ids_b) x (subst (λ n. n + 2 < 10 ^ 64) (sym (length-append ids_a ids_b)) few) e
   ]

@@ -11,7 +11,7 @@ use Rattle.gtfs_rows.proofs.SameElements.{contains-filter, contains-from_map, co
 use Rattle.gtfs_merge.specs.MergedKinds.{AreMergedRows}
 use Rattle.gtfs_merge.specs.Numbered.{known_ids}
 use Rattle.gtfs_merge.specs.Order.{Entry, entry_of, is_apart, rows_of_a, rows_of_b}
-use Rattle.gtfs_merge.specs.Renaming.{has_id, ids, renaming}
+use Rattle.gtfs_merge.specs.Renaming.{lists_id, ids, renaming}
 use Rattle.gtfs_merge.specs.Renumbered.{AreNewNumbers, AreNumbered, AreRenumbered, IsIndexOf, NewNumbers, number_or, numbers_of}
 use Rattle.gtfs_merge.specs.Sides.{side_parts, side_names, merged_ids}
 use Rattle.gtfs_merge.specs.Twins.{of_kind, twin_number, twin_rows}
@@ -106,7 +106,7 @@ module _ (k : Kind) (sides : Sides) (es : List Entry) (rows : AreMergedRows k si
         let name = renaming (side_names side.B sides) k x in
         let there = position-Some (bytes_eq name) (known_ids k sides.a.now) first [] some in
         let same : name ≡ get_or (known_ids k sides.a.now) first [] = same_bytes name (get_or (known_ids k sides.a.now) first []) there.1 in
-        let has : has_id (ids k (content_of_parts sides.a.now)) name ≡ true = sym (has-twin sides sound_a sound_b few k x) ∙ ap is_some some in
+        let has : lists_id (ids k (content_of_parts sides.a.now)) name ≡ true = sym (has-twin sides sound_a sound_b few k x) ∙ ap is_some some in
         let of_a = new-at old are side.A first (has-a first there.0) in
         record {
           within = subst (λ n. n < length merged) (sym is) of_a.within;

@@ -14,7 +14,7 @@ use Rattle.gtfs_columns.proofs.SiteFacts.{text_is as same_bytes}
 use Rattle.gtfs_rows.specs.Key.{Key}
 use Rattle.gtfs_rows.specs.Departures.{is_above, is_within, Origins, departs_at, departs_from}
 use Rattle.gtfs_rows.specs.Places.{is_plain_stop, is_in_place}
-use Rattle.gtfs_merge.specs.Renaming.{Nearness, kept_as_is, has_id, ids, names_a, names_b, stop_with, stop_b, trip_b}
+use Rattle.gtfs_merge.specs.Renaming.{Nearness, kept_as_is, lists_id, ids, names_a, names_b, stop_with, stop_b, trip_b}
 use Rattle.gtfs_merge.specs.Merged.{merged}
 use Rattle.gtfs_merge.specs.Departures.{key_with, IsImageAt, HasBoards}
 use Rattle.gtfs_merge.specs.declared.kind.Kind.TheVariants as kind
@@ -50,13 +50,13 @@ module _ (choice : Times) (near : Nearness) (nearness : IsNearness near) (a b : 
   keyed_m = keyed-by_id stop_id_of (map (stop_with kept_as_is) a.stops ++ map (stop_with new) b.stops)
 
   -- places of stops of A
-  place-a : (s x : List ℕ) → has_id (ids kind.Stop a) x ≡ true → is_in_place m s x ≡ is_in_place a s x
+  place-a : (s x : List ℕ) → lists_id (ids kind.Stop a) x ≡ true → is_in_place m s x ≡ is_in_place a s x
   place-a s x h =
       let y = found stop_id_of a.stops x h in
       place-look m keyed_m s x ∙ ap (λ o. bytes_eq x s || says_place o s) (merged-stop-a near nearness a b places_a places_b few x y.0 y.1 ∙ sym y.1) ∙ sym (place-look a places_a.keyed s x)
 
   -- places of stops of B, both ways
-  place-b : (s0 x : List ℕ) → has_id (ids kind.Stop b) x ≡ true → is_in_place b s0 x ≡ true → is_in_place m (new s0) (new x) ≡ true
+  place-b : (s0 x : List ℕ) → lists_id (ids kind.Stop b) x ≡ true → is_in_place b s0 x ≡ true → is_in_place m (new s0) (new x) ≡ true
   place-b s0 x h e =
       let y = found stop_id_of b.stops x h in
       let z = merged-stop-b near nearness a b places_a places_b few x y.0 y.1 in
@@ -70,13 +70,13 @@ module _ (choice : Times) (near : Nearness) (nearness : IsNearness near) (a b : 
             or_right _ _ (ap (λ o. says_place o (new s0)) z.1 ∙ and_from _ _ (ap (λ l. l == 0) z.2 ∙ p.0) (ap (λ o. if_there o (bytes_eq (new s0))) parent ∙ bytes_same (new s0) (new s0) refl))
       ]
 
-  place-from-b : (s x : List ℕ) → has_id (ids kind.Stop b) x ≡ true → is_in_place m s (new x) ≡ true → (s0 : List ℕ) × (has_id (ids kind.Stop b) s0 ≡ true) × (new s0 ≡ s) × (is_in_place b s0 x ≡ true)
+  place-from-b : (s x : List ℕ) → lists_id (ids kind.Stop b) x ≡ true → is_in_place m s (new x) ≡ true → (s0 : List ℕ) × (lists_id (ids kind.Stop b) s0 ≡ true) × (new s0 ≡ s) × (is_in_place b s0 x ≡ true)
   place-from-b s x h e =
       let y = found stop_id_of b.stops x h in
       let i = (found_id stop_id_of b.stops x y.0 y.1).0 in
       let z = merged-stop-b near nearness a b places_a places_b few x y.0 y.1 in
       elim (or_cases (bytes_eq (new x) s) (says_place (look stop_id_of m.stops (new x)) s) (sym (place-look m keyed_m s (new x)) ∙ e))
-      as (λ w. (s0 : List ℕ) × (has_id (ids kind.Stop b) s0 ≡ true) × (new s0 ≡ s) × (is_in_place b s0 x ≡ true)) [
+      as (λ w. (s0 : List ℕ) × (lists_id (ids kind.Stop b) s0 ≡ true) × (new s0 ≡ s) × (is_in_place b s0 x ≡ true)) [
         | inl same ↦ (x, h, same_bytes (new x) s same, place-look b places_b.keyed x x ∙ or_left _ _ (bytes_same x x refl))
         | inr says ↦
             let p = and_parts _ _ (sym (ap (λ o. says_place o s) z.1) ∙ says) in
@@ -99,12 +99,12 @@ module _ (choice : Times) (near : Nearness) (nearness : IsNearness near) (a b : 
       parent_of (Some p) s e = (p, refl, ap (λ o. unwrap_or o s) e)
 
   -- a stop at whose place a stop of A stands is one of A
-  place-named : (s x : List ℕ) → has_id (ids kind.Stop a) x ≡ true → is_in_place a s x ≡ true → has_id (ids kind.Stop a) s ≡ true
+  place-named : (s x : List ℕ) → lists_id (ids kind.Stop a) x ≡ true → is_in_place a s x ≡ true → lists_id (ids kind.Stop a) s ≡ true
   place-named s x h e =
       let y = found stop_id_of a.stops x h in
       let i = (found_id stop_id_of a.stops x y.0 y.1).0 in
-      elim (or_cases (bytes_eq x s) (says_place (look stop_id_of a.stops x) s) (sym (place-look a places_a.keyed s x) ∙ e)) as (λ w. has_id (ids kind.Stop a) s ≡ true) [
-        | inl same ↦ subst (λ q. has_id (ids kind.Stop a) q ≡ true) (same_bytes x s same) h
+      elim (or_cases (bytes_eq x s) (says_place (look stop_id_of a.stops x) s) (sym (place-look a places_a.keyed s x) ∙ e)) as (λ w. lists_id (ids kind.Stop a) s ≡ true) [
+        | inl same ↦ subst (λ q. lists_id (ids kind.Stop a) q ≡ true) (same_bytes x s same) h
         | inr says ↦
             let p = and_parts _ _ (sym (ap (λ o. says_place o s) y.1) ∙ says) in
             places_a.parents_named y.0 i s (text-is y.0.parent_station s p.1)
@@ -112,10 +112,10 @@ module _ (choice : Times) (near : Nearness) (nearness : IsNearness near) (a b : 
 
   -- ---- departures at a place
 
-  trip-a : (origin : Origins) (test : StopRow → Bool) (k : Key) → departs_from (timed choice a) origin test k ≡ true → has_id (ids kind.Trip a) k.trip ≡ true
+  trip-a : (origin : Origins) (test : StopRow → Bool) (k : Key) → departs_from (timed choice a) origin test k ≡ true → lists_id (ids kind.Trip a) k.trip ≡ true
   trip-a origin test k e = sym (ids-timed choice a k.trip) ∙ (departs-has (timed choice a) (keys-timed choice a keys_a).trips origin test k e).2
 
-  trip-b : (origin : Origins) (test : StopRow → Bool) (k : Key) → departs_from (timed choice b) origin test k ≡ true → has_id (ids kind.Trip b) k.trip ≡ true
+  trip-b : (origin : Origins) (test : StopRow → Bool) (k : Key) → departs_from (timed choice b) origin test k ≡ true → lists_id (ids kind.Trip b) k.trip ≡ true
   trip-b origin test k e = sym (ids-timed choice b k.trip) ∙ (departs-has (timed choice b) (keys-timed choice b keys_b).trips origin test k e).2
 
   at-a : (origin : Origins) (s : List ℕ) (k : Key) → IsImageAt (timed choice a) origin (names_a a b) s k → departs_at (timed choice m) origin s k ≡ true

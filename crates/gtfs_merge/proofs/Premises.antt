@@ -15,9 +15,10 @@ use Rattle.gtfs_rows.specs.Rows.{Stop, StopRow, Trip}
 use Rattle.gtfs_rows.specs.Sound.{has_id as has_row, IsSound, is_sound_trip, is_sound_stop, is_sound_in, is_sound_stop_row, is_stop_of, has_right_parent}
 use Rattle.gtfs_rows.proofs.ByKey.{by_key_is}
 use Rattle.gtfs_rows.proofs.Held.{text_antisymmetric}
+use Rattle.gtfs_rows.proofs.Members.{In, list_all-In}
 use Rattle.gtfs_merge.specs.Merged.{by_id}
-use Rattle.gtfs_merge.specs.Renaming.{has_id}
-use Rattle.gtfs_merge.proofs.Lookups.{In, list_all-In, list_any-alike, look, IsKeyed, keyed-by_id}
+use Rattle.gtfs_merge.specs.Renaming.{lists_id}
+use Rattle.gtfs_merge.proofs.Lookups.{list_any-alike, look, IsKeyed, keyed-by_id}
 use Rattle.gtfs_merge.proofs.MergedRows.{has_found, found_id}
 use Rattle.gtfs_merge.proofs.Carried.{trip_id_of, service_id_of, HasKeys, NamesServices}
 use Rattle.gtfs_merge.proofs.Stops.{stop_id_of, HasPlaces}
@@ -30,7 +31,7 @@ pub keyed-ascending : {X : Type 0} (id : X → List ℕ) (rows : List X) → Asc
 keyed-ascending id rows up = subst (IsKeyed id) (by_id-ascending id rows up) (keyed-by_id id rows)
 
 -- the id of a row is an id of its kind
-pub row-id : {X : Type 0} (id : X → List ℕ) (rows : List X) (x : List ℕ) → has_id (map id rows) x ≡ has_row id rows x
+pub row-id : {X : Type 0} (id : X → List ℕ) (rows : List X) (x : List ℕ) → lists_id (map id rows) x ≡ has_row id rows x
 row-id id rows x = list_any-map (bytes_eq x) id rows ∙ list_any-alike _ _ rows (λ r i. bytes_flip x (id r))
 
 pub sound-keys : (f : Content) → IsSound f → HasKeys f

@@ -6,10 +6,10 @@ use Rattle.std.proofs.lemmas.Bool.{or_cases}
 use Rattle.gtfs_rows.specs.Content.{Content}
 use Rattle.gtfs_rows.specs.Rows.{Stop}
 use Rattle.gtfs_rows.specs.Sound.{IsSound, is_stop_of, has_right_parent}
+use Rattle.gtfs_rows.proofs.Members.{In}
 use Rattle.gtfs_merge.specs.Law.{AreFew, IsNearness}
-use Rattle.gtfs_merge.specs.Renaming.{Nearness, has_id, ids, joined_stop, joined_stop_under, near_stop_under, stop_b, stop_within}
+use Rattle.gtfs_merge.specs.Renaming.{Nearness, lists_id, ids, joined_stop, joined_stop_under, near_stop_under, stop_b, stop_within}
 use Rattle.gtfs_merge.specs.declared.kind.Kind.TheVariants as kind
-use Rattle.gtfs_merge.proofs.Lookups.{In}
 use Rattle.gtfs_merge.proofs.MergedRows.{found, found_id}
 use Rattle.gtfs_merge.proofs.Premises.{of_type-found, right-parent, sound-parent, sound-places}
 use Rattle.gtfs_merge.proofs.Stops.{joined-same, near-same, stop_id_of, under-same}
@@ -63,13 +63,13 @@ module _ (near : Nearness) (nearness : IsNearness near) (a b : Content) (sound_a
           ap Some (under-same near nearness a b (sound-places a sound_a) (sound-places b sound_b) few (within 1) (within 2) p v.0 v.1 below)
 
   -- so what decides after two steps decides in the end
-  pub joined-settled : (x : List ℕ) → has_id (ids kind.Stop b) x ≡ true → joined_stop_under (within 2) a b x ≡ joined_stop near a b x
+  pub joined-settled : (x : List ℕ) → lists_id (ids kind.Stop b) x ≡ true → joined_stop_under (within 2) a b x ≡ joined_stop near a b x
   joined-settled x h =
       let y = found stop_id_of b.stops x h in
       let there = (found_id stop_id_of b.stops x y.0 y.1).0 in
       joined-same near nearness a b (sound-places a sound_a) (sound-places b sound_b) few (within 2) (within 3) x y.0 y.1 (parents-named y.0 there)
 
-  pub near-settled : (x : List ℕ) → has_id (ids kind.Stop b) x ≡ true → near_stop_under near (within 2) a b x ≡ near_stop_under near (stop_b near a b) a b x
+  pub near-settled : (x : List ℕ) → lists_id (ids kind.Stop b) x ≡ true → near_stop_under near (within 2) a b x ≡ near_stop_under near (stop_b near a b) a b x
   near-settled x h =
       let y = found stop_id_of b.stops x h in
       let there = (found_id stop_id_of b.stops x y.0 y.1).0 in

@@ -10,7 +10,7 @@ use Rattle.gtfs_rows.specs.declared.numbers.StopNo.{StopNo}
 use Rattle.gtfs_rows.specs.declared.stop.Stop.{Stop as StopByNumber}
 use Rattle.gtfs_rows.proofs.NumberFacts.{stop_parent}
 use Rattle.gtfs_merge.specs.Joined.{number_if}
-use Rattle.gtfs_merge.specs.Renaming.{has_id, joined_stop, stop_b}
+use Rattle.gtfs_merge.specs.Renaming.{lists_id, joined_stop, stop_b}
 use Rattle.gtfs_merge.specs.Sides.{nearness_of}
 use Rattle.gtfs_merge.specs.Twins.{became, parent_became, twin_numbers}
 use Rattle.gtfs_merge.specs.declared.kind.Kind.TheVariants as kind
@@ -57,5 +57,5 @@ module _ (sides : Sides) (sound_a : IsSoundParts sides.a.now) (sound_b : IsSound
   stop-flag o is =
       some-mapped (λ n. n.0) o ∙ ap is_some is
       ∙ number-tells (joined_stop (nearness_of sides) a b y.stop_id) (stop_ids sides.a.now) y.stop_id
-      (λ j. subst (λ xs. has_id xs y.stop_id ≡ true) (ids-known kind.Stop sides.a.now sound_a) (under-has (stop_b (nearness_of sides) a b) a b y.stop_id j))
+      (λ j. subst (λ xs. lists_id xs y.stop_id ≡ true) (ids-known kind.Stop sides.a.now sound_a) (under-has (stop_b (nearness_of sides) a b) a b y.stop_id j))
       ∙ ap (joined_stop (nearness_of sides) a b) (sym (id-at (λ s. s.stop_id) sides.b.now.stops k y at))

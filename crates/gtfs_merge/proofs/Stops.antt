@@ -7,14 +7,15 @@ use Rattle.std.proofs.lemmas.Bool.{and_parts, and_from, cases_Bool}
 use Rattle.gtfs_rows.specs.Rows.{Stop, StopRow, Trip}
 use Rattle.gtfs_rows.specs.Content.{Content}
 use Rattle.gtfs_rows.specs.Places.{is_plain_stop}
+use Rattle.gtfs_rows.proofs.Members.{In}
 use Rattle.gtfs_merge.specs.Same.{same_stop}
-use Rattle.gtfs_merge.specs.Renaming.{Renaming, Nearness, never_near, kept_as_is, has_id, ids, free_id, stop_with, joined_stop_under, near_stop_under, stop_under, stop_within, stop_b, renamed_b}
+use Rattle.gtfs_merge.specs.Renaming.{Renaming, Nearness, never_near, kept_as_is, lists_id, ids, free_id, stop_with, joined_stop_under, near_stop_under, stop_under, stop_within, stop_b, renamed_b}
 use Rattle.gtfs_merge.specs.Merged.{merged}
 use Rattle.gtfs_nearby.specs.Near.{are_close, same_given_name}
 use Rattle.gtfs_merge.specs.Near.{near_by, nearness}
 use Rattle.gtfs_merge.specs.declared.kind.Kind.TheVariants as kind
 pub use Rattle.gtfs_merge.specs.Law.{IsNearness}
-use Rattle.gtfs_merge.proofs.Lookups.{bytes_same, In, In-list_any, find-In, holds_at, look, IsKeyed}
+use Rattle.gtfs_merge.proofs.Lookups.{bytes_same, In-list_any, find-In, holds_at, look, IsKeyed}
 use Rattle.gtfs_merge.proofs.Fresh.{renamed_into_a, renamed_apart}
 use Rattle.gtfs_merge.proofs.Equal.{alike-stop, exact-nat, exact-text}
 use Rattle.gtfs_merge.proofs.MergedRows.{found, has_found, has_own, joined-rows, merged-a, merged-b}
@@ -45,8 +46,8 @@ is-nearness (Some n) = near-nearness n
 -- what is known of the stops of a feed
 pub record HasPlaces (f : Content) : Type 0 where
   pub keyed : IsKeyed stop_id_of f.stops
-  pub rows_named : (t : Trip) → In t f.trips → (row : StopRow) → In row t.stop_rows → has_id (ids kind.Stop f) row.stop_id ≡ true
-  pub parents_named : (s : Stop) → In s f.stops → (p : List ℕ) → s.parent_station ≡ Some p → has_id (ids kind.Stop f) p ≡ true
+  pub rows_named : (t : Trip) → In t f.trips → (row : StopRow) → In row t.stop_rows → lists_id (ids kind.Stop f) row.stop_id ≡ true
+  pub parents_named : (s : Stop) → In s f.stops → (p : List ℕ) → s.parent_station ≡ Some p → lists_id (ids kind.Stop f) p ≡ true
   pub stations : (s : Stop) → In s f.stops → is_plain_stop s ≡ true → (p : List ℕ) (q : Stop) → s.parent_station ≡ Some p → look stop_id_of f.stops p ≡ Some q → q.parent_station ≡ None
 
 module _ (near : Nearness) (nearness : IsNearness near) (a b : Content) (places_a : HasPlaces a) (places_b : HasPlaces b) (few : AreFew kind.Stop a b) where
@@ -65,7 +66,7 @@ module _ (near : Nearness) (nearness : IsNearness near) (a b : Content) (places_
         ∙ sym (ap (option_and_then (λ y. option_map stop_id_of (find (near s y) a.stops))) e)
 
     pub under-same : stop_under near r a b x ≡ stop_under near s a b x
-    under-same = λ i. if joined-same i then x else unwrap_or (near-same i) (if not (has_id (ids kind.Stop a) x) || joined-same i then x else free_id (ids kind.Stop a ++ ids kind.Stop b) x)
+    under-same = λ i. if joined-same i then x else unwrap_or (near-same i) (if not (lists_id (ids kind.Stop a) x) || joined-same i then x else free_id (ids kind.Stop a ++ ids kind.Stop b) x)
 
   abbrev pub two : Renaming
   two = stop_within near 2 a b
@@ -115,7 +116,7 @@ module _ (near : Nearness) (nearness : IsNearness near) (a b : Content) (places_
       let o : option_map stop_id_of (find (near two y) a.stops) ≡ Some q = sym (ap (option_and_then (λ y. option_map stop_id_of (find (near two y) a.stops))) e) ∙ n in
       let s = mapped (find (near two y) a.stops) o in
       let w = find-In (near two y) a.stops s.0 s.1 in
-      let z = found stop_id_of a.stops q (subst (λ v. has_id (ids kind.Stop a) v ≡ true) s.2 (has_own stop_id_of a.stops s.0 w.0)) in
+      let z = found stop_id_of a.stops q (subst (λ v. lists_id (ids kind.Stop a) v ≡ true) s.2 (has_own stop_id_of a.stops s.0 w.0)) in
       let passes : near two y z.0 ≡ true = sym (places_a.keyed q (near two y) ∙ ap (λ o. holds_at o (near two y)) z.1)
       ∙ In-list_any (λ v. bytes_eq v.stop_id q && near two y v) a.stops s.0 w.0 (and_from _ _ (bytes_same _ _ s.2) w.1) in
       let l = nearness.alike two y z.0 passes in
@@ -126,25 +127,25 @@ module _ (near : Nearness) (nearness : IsNearness near) (a b : Content) (places_
       mapped (Some s) f = (s, refl, ap (λ o. unwrap_or o q) f)
 
   -- a stop of B gets an id of A only where it is like it
-  into_a : (x : List ℕ) (y : Stop) → look stop_id_of b.stops x ≡ Some y → has_id (ids kind.Stop a) (stop_b near a b x) ≡ true → IsLike y (stop_b near a b x)
+  into_a : (x : List ℕ) (y : Stop) → look stop_id_of b.stops x ≡ Some y → lists_id (ids kind.Stop a) (stop_b near a b x) ≡ true → IsLike y (stop_b near a b x)
   into_a x y e h = elim (stop_case x) as (λ w. IsLike y (stop_b near a b x)) [
     | inl c ↦ elim c as (λ w. IsLike y (stop_b near a b x)) [
       | inl j ↦ subst (IsLike y) (sym j.1) (like-joined x y e j.0)
       | inr n ↦ subst (IsLike y) (sym n.2) (like-near x y n.0 e n.1)
     ]
     | inr r ↦
-        let s = renamed_into_a (ids kind.Stop a) (ids kind.Stop b) (joined_stop_under two a b) few x (subst (λ v. has_id (ids kind.Stop a) v ≡ true) r h) in
+        let s = renamed_into_a (ids kind.Stop a) (ids kind.Stop b) (joined_stop_under two a b) few x (subst (λ v. lists_id (ids kind.Stop a) v ≡ true) r h) in
         subst (IsLike y) (sym (r ∙ s.0)) (like-joined x y e s.1)
   ]
 
   -- an id that A lacks was made by the rule of all kinds
-  pub by_rule : (x : List ℕ) → has_id (ids kind.Stop b) x ≡ true → has_id (ids kind.Stop a) (stop_b near a b x) ≡ false → stop_b near a b x ≡ renamed_b (ids kind.Stop a) (ids kind.Stop b) (joined_stop_under two a b) x
+  pub by_rule : (x : List ℕ) → lists_id (ids kind.Stop b) x ≡ true → lists_id (ids kind.Stop a) (stop_b near a b x) ≡ false → stop_b near a b x ≡ renamed_b (ids kind.Stop a) (ids kind.Stop b) (joined_stop_under two a b) x
   by_rule x h lacks =
       let y = found stop_id_of b.stops x h in
       elim (stop_case x) as (λ w. stop_b near a b x ≡ renamed_b (ids kind.Stop a) (ids kind.Stop b) (joined_stop_under two a b) x) [
         | inl c ↦ elim c as (λ w. stop_b near a b x ≡ renamed_b (ids kind.Stop a) (ids kind.Stop b) (joined_stop_under two a b) x) [
-          | inl j ↦ let l = like-joined x y.0 y.1 j.0 in absurd (true≢false (sym (has_found stop_id_of a.stops x l.0 l.1) ∙ sym (ap (has_id (ids kind.Stop a)) j.1) ∙ lacks))
-          | inr n ↦ let l = like-near x y.0 n.0 y.1 n.1 in absurd (true≢false (sym (has_found stop_id_of a.stops n.0 l.0 l.1) ∙ sym (ap (has_id (ids kind.Stop a)) n.2) ∙ lacks))
+          | inl j ↦ let l = like-joined x y.0 y.1 j.0 in absurd (true≢false (sym (has_found stop_id_of a.stops x l.0 l.1) ∙ sym (ap (lists_id (ids kind.Stop a)) j.1) ∙ lacks))
+          | inr n ↦ let l = like-near x y.0 n.0 y.1 n.1 in absurd (true≢false (sym (has_found stop_id_of a.stops n.0 l.0 l.1) ∙ sym (ap (lists_id (ids kind.Stop a)) n.2) ∙ lacks))
         ]
         | inr r ↦ r
       ]
@@ -160,13 +161,13 @@ module _ (near : Nearness) (nearness : IsNearness near) (a b : Content) (places_
 
   pub merged-stop-b : (x : List ℕ) (y : Stop) → look stop_id_of b.stops x ≡ Some y
       → (z : Stop) × (look stop_id_of (merged near a b).stops (stop_b near a b x) ≡ Some z) × (z.location_type ≡ y.location_type) × (IsSettled y → z.parent_station ≡ option_map (stop_b near a b) y.parent_station)
-  merged-stop-b x y e = elim (cases_Bool (has_id (ids kind.Stop a) (stop_b near a b x))) as (λ w. (z : Stop) × (look stop_id_of (merged near a b).stops (stop_b near a b x) ≡ Some z) × (z.location_type ≡ y.location_type) × (IsSettled y → z.parent_station ≡ option_map (stop_b near a b) y.parent_station)) [
+  merged-stop-b x y e = elim (cases_Bool (lists_id (ids kind.Stop a) (stop_b near a b x))) as (λ w. (z : Stop) × (look stop_id_of (merged near a b).stops (stop_b near a b x) ≡ Some z) × (z.location_type ≡ y.location_type) × (IsSettled y → z.parent_station ≡ option_map (stop_b near a b) y.parent_station)) [
     | inl h ↦ let l = into_a x y e h in (l.0, merged-stop-a (stop_b near a b x) l.0 l.1, l.2, λ s. l.3 ∙ s)
     | inr h ↦
         let hx = has_found stop_id_of b.stops x y e in (
           stop_with (stop_b near a b) y,
           merged-b stop_id_of (stop_with kept_as_is) (stop_with (stop_b near a b)) (stop_b near a b) a.stops b.stops (λ s. refl) (λ s. refl) x
-              (λ v hv f. renamed_apart (ids kind.Stop a) (ids kind.Stop b) (joined_stop_under two a b) few v x hv hx (sym (by_rule v hv (ap (has_id (ids kind.Stop a)) f ∙ h)) ∙ f ∙ by_rule x hx h))
+              (λ v hv f. renamed_apart (ids kind.Stop a) (ids kind.Stop b) (joined_stop_under two a b) few v x hv hx (sym (by_rule v hv (ap (lists_id (ids kind.Stop a)) f ∙ h)) ∙ f ∙ by_rule x hx h))
               h
               ∙ ap (option_map (stop_with (stop_b near a b))) e,
           refl,

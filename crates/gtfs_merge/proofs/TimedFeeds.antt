@@ -8,10 +8,9 @@ use Rattle.gtfs_rows.specs.Runs.{is_timed}
 use Rattle.gtfs_times.specs.Filling.{filled_row, time_at, timed, timed_rows, timed_trip}
 use Rattle.gtfs_times.specs.declared.times.Times.{Times}
 use Rattle.gtfs_times.specs.declared.times.Times.TheVariants as times
-use Rattle.gtfs_merge.specs.Renaming.{has_id, ids}
+use Rattle.gtfs_rows.proofs.Members.{In, In-map}
+use Rattle.gtfs_merge.specs.Renaming.{lists_id, ids}
 use Rattle.gtfs_merge.specs.declared.kind.Kind.TheVariants as kind
-use Rattle.gtfs_merge.proofs.Lookups.{In}
-use Rattle.gtfs_merge.proofs.Kept.{In-map}
 use Rattle.gtfs_merge.proofs.Stops.{HasPlaces}
 
 -- ---- rows keep their stops
@@ -37,7 +36,7 @@ places-timed choice f places = record {
   rows_named = λ t i row j.
       let r = In-map (timed_trip choice) f.trips t i in
       let w = row-of choice r.0.stop_rows row (subst (λ (u : Trip). In row u.stop_rows) (sym r.2) j) in
-      ap (has_id (ids kind.Stop f)) (sym w.2) ∙ places.rows_named r.0 r.1 w.0 w.1;
+      ap (lists_id (ids kind.Stop f)) (sym w.2) ∙ places.rows_named r.0 r.1 w.0 w.1;
   parents_named = places.parents_named;
   stations = places.stations;
 }

@@ -7,18 +7,18 @@ use Rattle.gtfs_rows.specs.Content.{Content}
 use Rattle.gtfs_rows.specs.Rows.{Trip}
 use Rattle.gtfs_times.specs.Filling.{timed, timed_trip}
 use Rattle.gtfs_times.specs.declared.times.Times.{Times}
+use Rattle.gtfs_rows.proofs.Members.{In-map}
 use Rattle.gtfs_merge.proofs.FilledNames.{trip-renamed}
-use Rattle.gtfs_merge.specs.Renaming.{Names, has_id, ids}
+use Rattle.gtfs_merge.specs.Renaming.{Names, lists_id, ids}
 use Rattle.gtfs_merge.specs.declared.kind.Kind.TheVariants as kind
 use Rattle.gtfs_merge.proofs.Lookups.{find-map, holds_at, holds_at-map, look}
-use Rattle.gtfs_merge.proofs.Kept.{In-map}
 use Rattle.gtfs_merge.proofs.Carried.{HasKeys, IsCarried, NamesServices, trip_by, trip_id_of}
 
 module _ (choice : Times) where
   abbrev fill : Trip → Trip
   fill = timed_trip choice
 
-  pub ids-timed : (f : Content) (x : List ℕ) → has_id (ids kind.Trip (timed choice f)) x ≡ has_id (ids kind.Trip f) x
+  pub ids-timed : (f : Content) (x : List ℕ) → lists_id (ids kind.Trip (timed choice f)) x ≡ lists_id (ids kind.Trip f) x
   ids-timed f x = ap (list_any (bytes_eq x)) (map-map (λ t. t.trip_id) fill f.trips)
 
   look-timed : (ts : List Trip) (x : List ℕ) → look trip_id_of (map fill ts) x ≡ option_map fill (look trip_id_of ts x)
@@ -33,7 +33,7 @@ module _ (choice : Times) where
   pub named-timed : (f : Content) → NamesServices f → NamesServices (timed choice f)
   named-timed f named t i =
       let r = In-map fill f.trips t i in
-      ap (λ (u : Trip). has_id (ids kind.Service f) u.service_id) (sym r.2) ∙ named r.0 r.1
+      ap (λ (u : Trip). lists_id (ids kind.Service f) u.service_id) (sym r.2) ∙ named r.0 r.1
 
   renamed-filled : (n : Names) (o : Option Trip) → option_map fill (option_map (trip_by n) o) ≡ option_map (trip_by n) (option_map fill o)
   renamed-filled n None = refl

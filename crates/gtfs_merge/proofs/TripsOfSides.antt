@@ -9,6 +9,7 @@ use Rattle.gtfs_rows.proofs.TripFacts.{stop_times}
 use Rattle.gtfs_rows.specs.Views.{IsSoundParts}
 use Rattle.gtfs_rows.specs.declared.parts.Parts.{Parts}
 use Rattle.gtfs_rows.specs.declared.stop_row.StopRow.{StopRow}
+use Rattle.gtfs_rows.proofs.Members.{In}
 use Rattle.gtfs_merge.specs.Headsigns.{AreHeadsigns, HeadsignTable, numbers_on}
 use Rattle.gtfs_merge.specs.KindRows.{AllEntries, AreMergedKinds}
 use Rattle.gtfs_merge.specs.Numbered.{known_ids}
@@ -22,7 +23,6 @@ use Rattle.gtfs_merge.specs.declared.kind.Side.{Side}
 use Rattle.gtfs_merge.specs.declared.order.MergedRow.{MergedRow}
 use Rattle.gtfs_merge.specs.declared.sides.Sides.{Sides}
 use Rattle.gtfs_merge.proofs.InTurn.{all-mapped}
-use Rattle.gtfs_merge.proofs.Lookups.{In}
 use Rattle.gtfs_merge.proofs.ReferenceNumbers.{headsigns-length, numbers-length}
 
 pub In-get : {X : Type 0} (xs : List X) (n : ℕ) (d : X) → n < length xs → In (get_or xs n d) xs

@@ -5,7 +5,7 @@ use Rattle.gtfs_rows.specs.Content.{Content}
 use Rattle.gtfs_rows.specs.Views.{IsSoundParts, content_of_parts}
 use Rattle.gtfs_merge.specs.Joined.{joined_number, joined_numbers, number_if}
 use Rattle.gtfs_merge.specs.Numbered.{known_ids}
-use Rattle.gtfs_merge.specs.Renaming.{has_id, ids, joined_route, joined_service, joined_trip, renaming}
+use Rattle.gtfs_merge.specs.Renaming.{lists_id, ids, joined_route, joined_service, joined_trip, renaming}
 use Rattle.gtfs_merge.specs.Sides.{is_joined_id, nearness_of, side_names}
 use Rattle.gtfs_merge.specs.Twins.{became, is_joined_at, twin_number, twin_numbers, twin_rows}
 use Rattle.gtfs_merge.specs.declared.kind.Kind.{Kind}
@@ -63,7 +63,7 @@ module _ (sides : Sides) (sound_a : IsSoundParts sides.a.now) (sound_b : IsSound
   some-joined k each n within =
       let x = get_or (known_ids k sides.b.now) n [] in
       ap is_some (get_or-map (twin_number k sides) (known_ids k sides.b.now) n [] None within ∙ each x)
-      ∙ number-tells (is_joined_id k sides x) (known_ids k sides.a.now) x (λ j. subst (λ xs. has_id xs x ≡ true) (ids-known k sides.a.now sound_a) (joined-has (nearness_of sides) k a b x j).0)
+      ∙ number-tells (is_joined_id k sides x) (known_ids k sides.a.now) x (λ j. subst (λ xs. lists_id xs x ≡ true) (ids-known k sides.a.now sound_a) (joined-has (nearness_of sides) k a b x j).0)
 
   -- what is told of a row of B
   pub told-at : (k : Kind) (n : ℕ) → n < length (known_ids k sides.b.now) → is_joined_at (twin_rows sides) k n ≡ is_joined_id k sides (get_or (known_ids k sides.b.now) n [])

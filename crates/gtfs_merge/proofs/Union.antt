@@ -5,7 +5,7 @@ use Rattle.gtfs_rows.specs.Content.{Content}
 use Rattle.gtfs_rows.specs.Key.{Key}
 use Rattle.gtfs_rows.specs.Departures.{Origins, departs_from, is_departure, any_row}
 use Rattle.gtfs_merge.specs.Same.{same_trip, same_service}
-use Rattle.gtfs_merge.specs.Renaming.{Names, Nearness, kept_as_is, has_id, ids, trip_with, stop_row_with, names_a, names_b, trip_b, route_b, service_b, stop_b, joined_trip, joined_service}
+use Rattle.gtfs_merge.specs.Renaming.{Names, Nearness, kept_as_is, lists_id, ids, trip_with, stop_row_with, names_a, names_b, trip_b, route_b, service_b, stop_b, joined_trip, joined_service}
 use Rattle.gtfs_merge.specs.Merged.{service_with, merged}
 use Rattle.gtfs_merge.specs.Departures.{key_with, IsImage, HasUnion, SharesJoined}
 use Rattle.gtfs_merge.specs.declared.kind.Kind.TheVariants as kind
@@ -86,29 +86,29 @@ module _ (near : Nearness) (a b : Content) (keys_a : HasKeys a) (keys_b : HasKey
     keys_tb : HasKeys (timed choice b)
     keys_tb = keys-timed choice b keys_b
 
-    has-a : (origin : Origins) (k : Key) → is_departure (timed choice a) origin k ≡ true → has_id (ids kind.Trip a) k.trip ≡ true
+    has-a : (origin : Origins) (k : Key) → is_departure (timed choice a) origin k ≡ true → lists_id (ids kind.Trip a) k.trip ≡ true
     has-a origin k e = sym (ids-timed choice a k.trip) ∙ (departs-has (timed choice a) keys_ta.trips origin any_row k e).2
 
-    has-b : (origin : Origins) (k : Key) → is_departure (timed choice b) origin k ≡ true → has_id (ids kind.Trip b) k.trip ≡ true
+    has-b : (origin : Origins) (k : Key) → is_departure (timed choice b) origin k ≡ true → lists_id (ids kind.Trip b) k.trip ≡ true
     has-b origin k e = sym (ids-timed choice b k.trip) ∙ (departs-has (timed choice b) keys_tb.trips origin any_row k e).2
 
     -- a departure of the merged feed, by the side of its trip
-    pub departs-a : (origin : Origins) (test : StopRow → Bool) (k : Key) → has_id (ids kind.Trip a) k.trip ≡ true
+    pub departs-a : (origin : Origins) (test : StopRow → Bool) (k : Key) → lists_id (ids kind.Trip a) k.trip ≡ true
         → departs_from (timed choice (merged near a b)) origin test k ≡ departs_from (timed choice a) origin test k
     departs-a origin test k h = departs-carried (timed choice m) (timed choice a) na keys_m keys_ta (named-timed choice a named_a) (carried-timed choice m a na carried-a) origin test k (ids-timed choice a k.trip ∙ h)
 
-    pub departs-b : (origin : Origins) (test : StopRow → Bool) (k : Key) → has_id (ids kind.Trip b) k.trip ≡ true
+    pub departs-b : (origin : Origins) (test : StopRow → Bool) (k : Key) → lists_id (ids kind.Trip b) k.trip ≡ true
         → departs_from (timed choice (merged near a b)) origin test (key_with (trip_b near a b) k) ≡ departs_from (timed choice b) origin (λ r. test (stop_row_with (stop_b near a b) r)) k
     departs-b origin test k h = departs-carried (timed choice m) (timed choice b) nb keys_m keys_tb (named-timed choice b named_b) (carried-timed choice m b nb carried-b) origin test k (ids-timed choice b k.trip ∙ h)
 
     -- whose trip it is
     pub side-of : (origin : Origins) (test : StopRow → Bool) (k : Key) → departs_from (timed choice (merged near a b)) origin test k ≡ true
-        → (has_id (ids kind.Trip a) k.trip ≡ true) ⊎ ((x : List ℕ) × (has_id (ids kind.Trip b) x ≡ true) × (trip_b near a b x ≡ k.trip))
+        → (lists_id (ids kind.Trip a) k.trip ≡ true) ⊎ ((x : List ℕ) × (lists_id (ids kind.Trip b) x ≡ true) × (trip_b near a b x ≡ k.trip))
     side-of origin test k e =
         let d = departs-has (timed choice m) keys_m.trips origin test k e in
         let r = look-back choice m k.trip d.0 d.1 in
         elim (merged-from trip_id_of (trip_by na) (trip_by nb) nb.trip a.trips b.trips (λ t. refl) (λ t. refl) k.trip r.0 r.1)
-        as (λ w. (has_id (ids kind.Trip a) k.trip ≡ true) ⊎ ((x : List ℕ) × (has_id (ids kind.Trip b) x ≡ true) × (trip_b near a b x ≡ k.trip))) [
+        as (λ w. (lists_id (ids kind.Trip a) k.trip ≡ true) ⊎ ((x : List ℕ) × (lists_id (ids kind.Trip b) x ≡ true) × (trip_b near a b x ≡ k.trip))) [
           | inl h ↦ inl h
           | inr s ↦ inr (s.1.trip_id, has_own trip_id_of b.trips s.1 s.2, s.3)
         ]
@@ -140,7 +140,7 @@ module _ (near : Nearness) (a b : Content) (keys_a : HasKeys a) (keys_b : HasKey
           λ v.
               let hb = has-b origin v.0 v.1 in
               let e : k.trip ≡ trip_b near a b v.0.trip = ap (λ x. x.trip) v.2 in
-              let s = renamed_into_a (ids kind.Trip a) (ids kind.Trip b) (joined_trip near a b) few_trips v.0.trip (subst (λ x. has_id (ids kind.Trip a) x ≡ true) e ha) in
+              let s = renamed_into_a (ids kind.Trip a) (ids kind.Trip b) (joined_trip near a b) few_trips v.0.trip (subst (λ x. lists_id (ids kind.Trip a) x ≡ true) e ha) in
               subst (λ x. joined_trip near a b x ≡ true) (sym (e ∙ s.0)) s.1,
           λ j.
               let r = joined-rows trip_id_of same_t a.trips b.trips keys_a.trips keys_b.trips k.trip j in

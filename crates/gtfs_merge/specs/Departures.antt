@@ -9,7 +9,7 @@ use Rattle.gtfs_times.specs.declared.times.Times.{Times}
 use Rattle.gtfs_merge.specs.declared.kind.Kind.{Kind}
 use Rattle.gtfs_merge.specs.declared.kind.Kind.TheVariants as kind
 use Rattle.gtfs_merge.specs.Merged.{merged}
-use Rattle.gtfs_merge.specs.Renaming.{Renaming, Nearness, Names, names_a, names_b, has_id, ids, renaming, joined_trip}
+use Rattle.gtfs_merge.specs.Renaming.{Renaming, Nearness, Names, names_a, names_b, lists_id, ids, renaming, joined_trip}
 
 abbrev pub key_with : Renaming → Key → Key
 key_with rename k = record k { trip = rename k.trip }
@@ -32,18 +32,18 @@ SharesJoined times near a b = (origin : Origins) (k : Key) → IsImage (timed ti
 
 -- a departure at the place of a stop of the feed that became this stop, its trip renamed
 abbrev pub IsImageAt : Content → Origins → Names → List ℕ → Key → Type 0
-IsImageAt f origin n s k = (s0 : List ℕ) × (has_id (ids kind.Stop f) s0 ≡ true) × (n.stop s0 ≡ s)
+IsImageAt f origin n s k = (s0 : List ℕ) × (lists_id (ids kind.Stop f) s0 ≡ true) × (n.stop s0 ≡ s)
     × (k0 : Key) × (departs_at f origin s0 k0 ≡ true) × (k ≡ key_with n.trip k0)
 
 -- the board of a stop of the merged feed lists what both feeds list of the stops that became it
 abbrev pub HasBoards : Times → Nearness → Content → Content → Type 0
 HasBoards times near a b = (origin : Origins) (s : List ℕ) (from until : ℤ) (after : Option Key) (k : Key)
-    → has_id (ids kind.Stop (merged near a b)) s ≡ true
+    → lists_id (ids kind.Stop (merged near a b)) s ≡ true
     → (is_listed (timed times (merged near a b)) origin s from until after k ≡ true)
     ↔ ((IsImageAt (timed times a) origin (names_a a b) s k ⊎ IsImageAt (timed times b) origin (names_b near a b) s k)
     × ((is_within from until k.instant && is_above after k) ≡ true))
 
 -- two ids of a kind that a feed has become two ids
 abbrev pub StaysApart : Kind → Content → Names → Type 0
-StaysApart c f n = (x y : List ℕ) → has_id (ids c f) x ≡ true → has_id (ids c f) y ≡ true
+StaysApart c f n = (x y : List ℕ) → lists_id (ids c f) x ≡ true → lists_id (ids c f) y ≡ true
     → renaming n c x ≡ renaming n c y → x ≡ y

@@ -1,15 +1,13 @@
 -- The merged content of two feeds, and what a merge refuses.
-use Rattle.std.specs.Prelude.{ℕ, Bool, nat_lt, List, ◌++◌, length, map, not, bytes_eq, slice_get, unwrap_or, Option, option_map, []}
+use Rattle.std.specs.Prelude.{ℕ, Bool, List, ◌++◌, map, not, bytes_eq, slice_get, Option, option_map}
 use Rattle.std.specs.Option.{option_eq}
 use Rattle.std.specs.List.{list_any}
 use Rattle.gtfs_field.specs.TextOrder.{text_cmp}
 use Rattle.gtfs_table.specs.Reading.{kept_files}
-use Rattle.gtfs_table.specs.Tables.{table_of}
-use Rattle.gtfs_table.specs.Written.{text_of_table}
 use Rattle.gtfs_rows.specs.Content.{Content}
+use Rattle.gtfs_rows.specs.FileTexts.{is_longer}
 use Rattle.gtfs_rows.specs.Order.{by_key, transfer_key, transfer_key_cmp}
 use Rattle.gtfs_rows.specs.Rows.{Agency, ServiceRow, Transfer}
-use Rattle.gtfs_rows.specs.Written.{written}
 use Rattle.gtfs_merge.specs.Renaming.{Renaming, Nearness, Names, names_a, names_b, stop_with, route_with, trip_with}
 
 -- ---- rows in order
@@ -76,4 +74,4 @@ zones_differ a b = not (option_eq bytes_eq (zone_text a) (zone_text b))
 
 -- a written file is longer than the limit
 abbrev pub is_too_large : ℕ → Content → Bool
-is_too_large limit m = list_any (λ x. nat_lt limit (length (unwrap_or (text_of_table (table_of (written m) x)) []))) kept_files
+is_too_large limit m = list_any (is_longer m limit) kept_files

@@ -1,5 +1,6 @@
 -- What a merge answers.
 use Rattle.std.specs.Prelude.{◌≡◌, ⊤, ℕ, true, false, List, Option, ℤ}
+use Rattle.std.specs.declared.random_state.RandomState.{RandomState}
 use Rattle.gtfs_feed.specs.Content.{content_of}
 use Rattle.gtfs_rows.specs.Content.{Content}
 use Rattle.gtfs_rows.specs.Trimmed.{first_part, second_part}
@@ -10,7 +11,7 @@ use Rattle.gtfs_merge.specs.Departures.{HasBoards, HasUnion}
 use Rattle.gtfs_merge.specs.Law.{SharesExactly}
 use Rattle.gtfs_times.specs.declared.times.Times.{Times}
 use Rattle.gtfs_merge.specs.Merged.{is_too_large, zones_differ}
-use Rattle.gtfs_merge.specs.Names.{AllNames, AreApart, MeetWhereJoined, in_kind, may_meet, new_id, of_side}
+use Rattle.gtfs_merge.specs.Names.{AllNames, AreApart, AreHashedBy, MeetWhereJoined, in_kind, may_meet, new_id, of_side}
 use Rattle.gtfs_merge.specs.Near.{near_pairs, nearness}
 use Rattle.gtfs_merge.specs.Renaming.{ids, joined_ids, name_of, names_a, names_b}
 use Rattle.gtfs_merge.specs.declared.kind.Kind.{Kind}
@@ -50,11 +51,12 @@ IsRefusal near cutoff a b limit fault.OutOfMemory = zones_differ a b ≡ false
 
 -- ---- what the parts of the work give
 
--- the rows of the merged feed, which make a feed, and what the ids of both feeds became
-pub record AreRowsOfMerge (near : Option ℕ) (cutoff : Option ℤ) (a b : Content) (rows : Parts × AllNames) : Type 0 where
+-- the rows of the merged feed, which make a feed, and what the ids of both feeds became, which are hashed by the random state
+pub record AreRowsOfMerge (random : RandomState) (near : Option ℕ) (cutoff : Option ℤ) (a b : Content) (rows : Parts × AllNames) : Type 0 where
   pub sound : IsSoundParts rows.0
   pub content : content_of_parts rows.0 ≡ merged_as near cutoff a b
   pub names : AreNamesOf near (first_part cutoff a) (second_part cutoff b) rows.1
+  pub hashed : AreHashedBy random rows.1
 
 -- the feed of these rows, with these names, of which no written file is longer than the limit
 pub record IsFeedOf (rows : Parts × AllNames) (limit : ℕ) (m : Merged) : Type 0 where

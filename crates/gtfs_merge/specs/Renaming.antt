@@ -16,8 +16,8 @@ Renaming = List ℕ → List ℕ
 abbrev pub kept_as_is : Renaming
 kept_as_is x = x
 
-abbrev pub has_id : List (List ℕ) → List ℕ → Bool
-has_id ids x = list_any (bytes_eq x) ids
+abbrev pub lists_id : List (List ℕ) → List ℕ → Bool
+lists_id ids x = list_any (bytes_eq x) ids
 
 -- ---- new ids
 
@@ -27,14 +27,14 @@ merged_id base n = base ++ codes "_merged_" ++ decimal n
 
 -- the least n from 1 for which the id is not taken
 abbrev pub free_number : List (List ℕ) → List ℕ → ℕ
-free_number taken base = unwrap_or (find (λ n. not (has_id taken (merged_id base n))) (range_with_len 1 (length taken + 1))) 0
+free_number taken base = unwrap_or (find (λ n. not (lists_id taken (merged_id base n))) (range_with_len 1 (length taken + 1))) 0
 
 abbrev pub free_id : List (List ℕ) → List ℕ → List ℕ
 free_id taken base = merged_id base (free_number taken base)
 
 -- an id of B stays where A lacks it or where it is joined; else it gets the first free id
 abbrev pub renamed_b : List (List ℕ) → List (List ℕ) → (List ℕ → Bool) → Renaming
-renamed_b ids_a ids_b is_joined x = if not (has_id ids_a x) || is_joined x then x else free_id (ids_a ++ ids_b) x
+renamed_b ids_a ids_b is_joined x = if not (lists_id ids_a x) || is_joined x then x else free_id (ids_a ++ ids_b) x
 
 -- an id is joined where both feeds have a row with it, and the rows are the same
 abbrev pub joined_by : {X : Type 0} → (X → List ℕ) → (X → X → Bool) → List X → List X → List ℕ → Bool
@@ -62,7 +62,7 @@ abbrev pub agency_b : Content → Content → Renaming
 agency_b a b x =
     let taken = ids kind.Agency a ++ ids kind.Agency b in
     if (length x == 0) && not (joined_agency a b x)
-    then free_id (if has_id (ids kind.Agency a) [] then taken ++ agency_a a b [] ∷ [] else taken) (codes "agency")
+    then free_id (if lists_id (ids kind.Agency a) [] then taken ++ agency_a a b [] ∷ [] else taken) (codes "agency")
     else renamed_b (ids kind.Agency a) (ids kind.Agency b) (joined_agency a b) x
 
 -- ---- stops name their parents
@@ -177,4 +177,4 @@ joined_ids near k a b = filter (is_joined near k a b) (ids k a)
 
 -- what an id of a feed became, nothing where the feed lacks it
 abbrev pub name_of : Names → Kind → Content → List ℕ → Option (List ℕ)
-name_of n k f x = if has_id (ids k f) x then Some (renaming n k x) else None
+name_of n k f x = if lists_id (ids k f) x then Some (renaming n k x) else None

@@ -29,7 +29,8 @@ pub(crate) fn joined_agencies(
 fn joined_agency(sides: &Sides, agency: AgencyNo) -> Option<AgencyNo>
     requires { agency.0 < length sides.now.b.now.agencies }
     ensures { option_map (λ n. n.0) result
-        ≡ joined_number kind.Agency sides.now (slice_index_or (agency_ids sides.now.b.now) agency.0 []) }
+        ≡ joined_number kind.Agency sides.now
+        (slice_index_or (agency_ids sides.now.b.now) agency.0 []) }
 {
     sides.soundness();
     let row = sides.b.agency_by_number(agency);
@@ -60,7 +61,8 @@ pub(crate) fn joined_services(
 fn joined_service(sides: &Sides, service: ServiceNo) -> Option<ServiceNo>
     requires { service.0 < length sides.now.b.now.services }
     ensures { option_map (λ n. n.0) result
-        ≡ joined_number kind.Service sides.now (slice_index_or (service_ids sides.now.b.now) service.0 []) }
+        ≡ joined_number kind.Service sides.now
+        (slice_index_or (service_ids sides.now.b.now) service.0 []) }
 {
     sides.soundness();
     let other = sides.a.service(sides.b.service_id(service))?;

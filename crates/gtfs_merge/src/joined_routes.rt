@@ -33,7 +33,8 @@ fn joined_route(sides: &Sides, agencies: &[Option<AgencyNo>], route: RouteNo) ->
         ≡ joined_numbers kind.Agency sides.now }
     requires route { route.0 < length sides.now.b.now.routes }
     ensures { option_map (λ n. n.0) result
-        ≡ joined_number kind.Route sides.now (slice_index_or (route_ids sides.now.b.now) route.0 []) }
+        ≡ joined_number kind.Route sides.now
+        (slice_index_or (route_ids sides.now.b.now) route.0 []) }
 {
     sides.soundness();
     let row = sides.b.route_by_number(route);

@@ -1,10 +1,12 @@
 ghost use Rattle.std.specs.Prelude.{◌≡◌, ◌≤◌, IfErr, IfOk, IfSome, None, Some, false, true};
+ghost use Rattle.std.specs.Cow.{cow_value};
 ghost use Rattle.gtfs_days.specs.Cut.{cut_day};
 ghost use Rattle.gtfs_days.specs.Service.{is_service_day};
 ghost use Rattle.gtfs_rows.specs.Trimmed.{trimmed};
 ghost use Rattle.gtfs_rows.specs.Views.{IsSoundParts, content_of_parts};
 ghost use Rattle.gtfs_feed.specs.Content.{content_of};
 ghost use Rattle.gtfs_merge.specs.Merged.{zones_differ};
+ghost use Rattle.gtfs_merge.specs.Names.{AreHashedBy};
 ghost use Rattle.gtfs_merge.specs.Merging.{AreRowsOfMerge, IsFeedOf, IsLimitFault, IsMergeOf, IsRefusal, KeepsDepartures};
 ghost use Rattle.gtfs_merge.specs.Sides.{content_a, content_b};
 
@@ -18,6 +20,7 @@ use gtfs_feed::Feed;
 use gtfs_field::{Day, OutOfMemory};
 use gtfs_rows::Parts;
 use std::alloc::Global;
+use std::borrow::Cow;
 use std::hash::RandomState;
 use thiserror::Error;
 
@@ -39,7 +42,8 @@ impl Default for Options {
     ghost use Rattle.std.specs.Prelude.{◌≡◌, None};
     ghost use Rattle.gtfs_merge.specs.Merging.{default_file_limit};
 
-    ghost is_default = { λ options. (options.file_limit ≡ default_file_limit) × (options.near ≡ None) × (options.cutoff ≡ None) };
+    ghost is_default = { λ options. (options.file_limit ≡ default_file_limit)
+        × (options.near ≡ None) × (options.cutoff ≡ None) };
 
     fn default() -> Options {
         Options {
@@ -119,6 +123,7 @@ pub fn merge(
         (content_of a.now) (content_of b.now) options.now.file_limit) }
     ensures departures { KeepsDepartures options.now.near options.now.cutoff
         (content_of a.now) (content_of b.now) }
+    ensures hashed { IfOk result (λ merged. AreHashedBy random merged.names) }
 {
     let sides = Sides {
         a,
@@ -126,7 +131,7 @@ pub fn merge(
         near: options.near,
     };
     sides.soundness();
-    judged(alloc, random, &sides, options)
+    judged(alloc, random, Cow::Borrowed(a), Cow::Borrowed(b), options)
 }
 
 /// The same of two feeds that are given up. With a cutoff each is let go as soon as it is trimmed, so that no more memory is
@@ -149,6 +154,7 @@ pub fn merge_owned(
         (content_of a) (content_of b) options.now.file_limit) }
     ensures departures { KeepsDepartures options.now.near options.now.cutoff
         (content_of a) (content_of b) }
+    ensures hashed { IfOk result (λ merged. AreHashedBy random merged.names) }
 {
     let sides = Sides {
         a: &a,
@@ -156,159 +162,120 @@ pub fn merge_owned(
         near: options.near,
     };
     sides.soundness();
-    judged_owned(alloc, random, a, b, options)
+    judged(alloc, random, Cow::Owned(a), Cow::Owned(b), options)
 }
 
-// The merged feed, or why there is none; the zones are judged first.
+// The merged feed, or why there is none; the zones are judged first. The feeds are lent or given up.
 fn judged(
     alloc: Global,
     random: RandomState,
-    sides: &Sides,
-    options: &Options,
-) -> Result<Merged, MergeFault>
-    requires near { sides.now.near ≡ options.now.near }
-    requires cutoff { IfSome options.now.cutoff (λ d. is_service_day d ≡ true) }
-    ensures merged { IfOk result (IsMergeOf sides.now.near options.now.cutoff
-        (content_a sides.now) (content_b sides.now) options.now.file_limit) }
-    ensures refused { IfErr result (IsRefusal sides.now.near options.now.cutoff
-        (content_a sides.now) (content_b sides.now) options.now.file_limit) }
-{
-    if zones_differ(sides.a, sides.b) {
-        return Err(MergeFault::ZoneDiffers);
-    }
-    let rows = rows_of(alloc, random, sides, options.cutoff)?;
-    limited(alloc, random, rows, options.file_limit)
-}
-
-// The same of feeds that are given up.
-fn judged_owned(
-    alloc: Global,
-    random: RandomState,
-    a: Feed,
-    b: Feed,
+    a: Cow<'_, Feed>,
+    b: Cow<'_, Feed>,
     options: &Options,
 ) -> Result<Merged, MergeFault>
     requires { IfSome options.now.cutoff (λ d. is_service_day d ≡ true) }
     ensures merged { IfOk result (IsMergeOf options.now.near options.now.cutoff
-        (content_of a) (content_of b) options.now.file_limit) }
+        (content_of (cow_value a.entry)) (content_of (cow_value b.entry)) options.now.file_limit) }
     ensures refused { IfErr result (IsRefusal options.now.near options.now.cutoff
-        (content_of a) (content_of b) options.now.file_limit) }
+        (content_of (cow_value a.entry)) (content_of (cow_value b.entry)) options.now.file_limit) }
+    ensures hashed { IfOk result (λ merged. AreHashedBy random merged.names) }
 {
-    if zones_differ(&a, &b) {
+    if zones_differ(a.as_ref(), b.as_ref()) {
         return Err(MergeFault::ZoneDiffers);
     }
-    let rows = rows_of_owned(alloc, random, a, b, options)?;
+    let rows = rows_of(alloc, random, a, b, options)?;
     limited(alloc, random, rows, options.file_limit)
 }
 
-// The rows of the merged feed, and what the ids of both feeds became. Feeds that were trimmed for it are let go.
+// The rows of the merged feed, and what the ids of both feeds became.
 fn rows_of(
     alloc: Global,
     random: RandomState,
-    sides: &Sides,
-    cutoff: Option<Day>,
-) -> Result<(Parts, Names), OutOfMemory>
-    requires zone { zones_differ (content_a sides.now) (content_b sides.now) ≡ false }
-    requires cutoff { IfSome cutoff (λ d. is_service_day d ≡ true) }
-    ensures { IfOk result (AreRowsOfMerge sides.now.near cutoff
-        (content_a sides.now) (content_b sides.now)) }
-{
-    match cutoff {
-        Some(day) => rows_cut_at(alloc, random, sides, day),
-        None => whole_rows(alloc, random, sides),
-    }
-}
-
-// The same of the first feed before a day and of the second one from it on.
-fn rows_cut_at(
-    alloc: Global,
-    random: RandomState,
-    sides: &Sides,
-    day: Day,
-) -> Result<(Parts, Names), OutOfMemory>
-    requires zone { zones_differ (content_a sides.now) (content_b sides.now) ≡ false }
-    requires day { is_service_day day ≡ true }
-    ensures { IfOk result (AreRowsOfMerge sides.now.near (Some day)
-        (content_a sides.now) (content_b sides.now)) }
-{
-    let first = sides.a.trimmed(alloc, random, Cut::Before(day))?;
-    let second = sides.b.trimmed(alloc, random, Cut::From(day))?;
-    let trimmed = Sides {
-        a: &first,
-        b: &second,
-        near: sides.near,
-    };
-    whole_rows(alloc, random, &trimmed)
-}
-
-// The same of feeds that are given up.
-fn rows_of_owned(
-    alloc: Global,
-    random: RandomState,
-    a: Feed,
-    b: Feed,
+    a: Cow<'_, Feed>,
+    b: Cow<'_, Feed>,
     options: &Options,
 ) -> Result<(Parts, Names), OutOfMemory>
-    requires zone { zones_differ (content_of a) (content_of b) ≡ false }
+    requires zone { zones_differ (content_of (cow_value a)) (content_of (cow_value b)) ≡ false }
     requires cutoff { IfSome options.now.cutoff (λ d. is_service_day d ≡ true) }
-    ensures { IfOk result (AreRowsOfMerge options.now.near options.now.cutoff
-        (content_of a) (content_of b)) }
+    ensures { IfOk result (AreRowsOfMerge random options.now.near options.now.cutoff
+        (content_of (cow_value a.entry)) (content_of (cow_value b.entry))) }
 {
     match options.cutoff {
-        Some(day) => rows_of_trimmed(alloc, random, a, b, day, options.near),
+        Some(day) => rows_cut_at(alloc, random, a, b, day, options.near),
         None => rows_of_pair(alloc, random, a, b, options.near),
     }
 }
 
-// The same with a cutoff: each feed is let go before more is made of the other one.
-fn rows_of_trimmed(
+// The same of the first feed before a day and of the second one from it on. A feed that is given up is let go before more
+// is made of the other one.
+fn rows_cut_at(
     alloc: Global,
     random: RandomState,
-    a: Feed,
-    b: Feed,
+    a: Cow<'_, Feed>,
+    b: Cow<'_, Feed>,
     day: Day,
     near: Option<u32>,
 ) -> Result<(Parts, Names), OutOfMemory>
-    requires zone { zones_differ (content_of a) (content_of b) ≡ false }
+    requires zone { zones_differ (content_of (cow_value a)) (content_of (cow_value b)) ≡ false }
     requires day { is_service_day day ≡ true }
-    ensures { IfOk result (AreRowsOfMerge near (Some day) (content_of a) (content_of b)) }
+    ensures { IfOk result (AreRowsOfMerge random near (Some day)
+        (content_of (cow_value a.entry)) (content_of (cow_value b.entry))) }
 {
     let first = trimmed(alloc, random, a, Cut::Before(day))?;
     let second = trimmed(alloc, random, b, Cut::From(day))?;
-    rows_of_pair(alloc, random, first, second, near)
+    rows_of_pair(alloc, random, Cow::Owned(first), Cow::Owned(second), near)
 }
 
-// What is left of a feed that is given up.
-fn trimmed(alloc: Global, random: RandomState, feed: Feed, cut: Cut) -> Result<Feed, OutOfMemory>
+// What is left of a feed. If it is given up, it is let go.
+fn trimmed(
+    alloc: Global,
+    random: RandomState,
+    feed: Cow<'_, Feed>,
+    cut: Cut,
+) -> Result<Feed, OutOfMemory>
     requires { is_service_day (cut_day cut) ≡ true }
-    ensures { IfOk result (λ left. content_of left ≡ trimmed cut (content_of feed)) }
+    ensures { IfOk result (λ left.
+        content_of left ≡ trimmed cut (content_of (cow_value feed.entry))) }
+{
+    left_of(alloc, random, feed.as_ref(), cut)
+}
+
+// What is left of a feed that is lent.
+fn left_of(alloc: Global, random: RandomState, feed: &Feed, cut: Cut) -> Result<Feed, OutOfMemory>
+    requires { is_service_day (cut_day cut) ≡ true }
+    ensures { IfOk result (λ left. content_of left ≡ trimmed cut (content_of feed.now)) }
 {
     feed.trimmed(alloc, random, cut)
 }
 
-// The rows of the merge of two whole feeds that are given up.
+// The same of both feeds as they are.
 fn rows_of_pair(
     alloc: Global,
     random: RandomState,
-    a: Feed,
-    b: Feed,
+    a: Cow<'_, Feed>,
+    b: Cow<'_, Feed>,
     near: Option<u32>,
 ) -> Result<(Parts, Names), OutOfMemory>
-    requires { zones_differ (content_of a) (content_of b) ≡ false }
-    ensures { IfOk result (AreRowsOfMerge near None (content_of a) (content_of b)) }
+    requires { zones_differ (content_of (cow_value a)) (content_of (cow_value b)) ≡ false }
+    ensures { IfOk result (AreRowsOfMerge random near None
+        (content_of (cow_value a.entry)) (content_of (cow_value b.entry))) }
 {
-    let sides = Sides { a: &a, b: &b, near };
+    let sides = Sides {
+        a: a.as_ref(),
+        b: b.as_ref(),
+        near,
+    };
     whole_rows(alloc, random, &sides)
 }
 
-// The same of both feeds as they are.
+// The same of two feeds that are lent.
 fn whole_rows(
     alloc: Global,
     random: RandomState,
     sides: &Sides,
 ) -> Result<(Parts, Names), OutOfMemory>
     requires { zones_differ (content_a sides.now) (content_b sides.now) ≡ false }
-    ensures { IfOk result (AreRowsOfMerge sides.now.near None
+    ensures { IfOk result (AreRowsOfMerge random sides.now.near None
         (content_a sides.now) (content_b sides.now)) }
 {
     let twins = Twins::of_feeds(alloc, sides)?;

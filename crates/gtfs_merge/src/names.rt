@@ -1,6 +1,6 @@
 ghost use Rattle.std.specs.Prelude.{◌≡◌, ◌<◌, ◌∷◌, ◌++◌, [], IfOk, OnOk, Some, filter, length, option_map, slice_index_or};
 ghost use Rattle.gtfs_merge.specs.Merging.{AreNamesOf};
-ghost use Rattle.gtfs_merge.specs.Names.{AreKindNames, ArePairedNames, in_kind, kind_names, new_id, of_side};
+ghost use Rattle.gtfs_merge.specs.Names.{AreHashedBy, AreKindNames, ArePairedNames, in_kind, kind_names, new_id, of_side};
 ghost use Rattle.gtfs_merge.specs.Near.{near_pairs};
 ghost use Rattle.gtfs_merge.specs.Numbered.{known_ids};
 ghost use Rattle.gtfs_merge.specs.Renaming.{joined_ids};
@@ -76,6 +76,7 @@ impl Names {
     ) -> Result<Names, OutOfMemory>
         requires { twins.now ≡ twin_rows sides.now }
         ensures kinds { IfOk result (AreKindNames sides.now) }
+        ensures hashed { IfOk result (AreHashedBy random) }
         ensures names { IfOk result
             (AreNamesOf sides.now.near (content_a sides.now) (content_b sides.now)) }
     {
@@ -91,7 +92,7 @@ impl Names {
         twins: &Twins,
     ) -> Result<Names, OutOfMemory>
         requires { twins.now ≡ twin_rows sides.now }
-        ensures { IfOk result (ArePairedNames sides.now) }
+        ensures { IfOk result (ArePairedNames random sides.now) }
     {
         let agencies = KindNames::of_feeds(alloc, random, sides, twins, Kind::Agency)?;
         let stops = KindNames::of_feeds(alloc, random, sides, twins, Kind::Stop)?;
@@ -216,7 +217,7 @@ impl KindNames {
         kind: Kind,
     ) -> Result<KindNames, OutOfMemory>
         requires { twins.now ≡ twin_rows sides.now }
-        ensures { IfOk result (λ names. names ≡ kind_names kind sides.now) }
+        ensures { IfOk result (λ names. names ≡ kind_names random kind sides.now) }
     {
         let names_a = Renamed::of_a(alloc, random, sides, twins, kind)?;
         let names_b = Renamed::of_b(alloc, random, sides, twins, kind)?;

@@ -1,6 +1,6 @@
 ghost use Rattle.std.specs.Prelude.{◌≡◌, ◌<◌, ◌+◌, ◌^◌, ◌++◌, IfOk, length, string_bytes};
 ghost use Rattle.gtfs_merge.specs.Numbered.{known_ids};
-ghost use Rattle.gtfs_merge.specs.Renaming.{free_id, has_id, merged_id};
+ghost use Rattle.gtfs_merge.specs.Renaming.{free_id, lists_id, merged_id};
 
 use crate::kind::Kind;
 use crate::kinds::number_of;
@@ -22,7 +22,7 @@ pub(crate) fn numbered_id(alloc: Global, base: &str, number: u128) -> Result<Str
 
 // Whether a feed has this id of a kind.
 pub(crate) fn has_this_id(feed: &Feed, kind: Kind, id: &str) -> bool
-    ensures { result ≡ has_id (known_ids kind feed.now) id.now }
+    ensures { result ≡ lists_id (known_ids kind feed.now) id.now }
 {
     number_of(feed, kind, id).is_some()
 }
@@ -34,7 +34,8 @@ pub(crate) fn free_id(
     kind: Kind,
     base: &str,
 ) -> Result<String, OutOfMemory>
-    requires { length (known_ids kind sides.now.a.now ++ known_ids kind sides.now.b.now) + 2 < 2 ^ 128 }
+    requires { length (known_ids kind sides.now.a.now ++ known_ids kind sides.now.b.now) + 2
+        < 2 ^ 128 }
     ensures { IfOk result (λ id. string_bytes id
         ≡ free_id (known_ids kind sides.now.a.now ++ known_ids kind sides.now.b.now) base.now) }
 {
@@ -51,7 +52,8 @@ pub(crate) fn free_id(
 // Whether one of the feeds has this id of a kind.
 #[tactic(auto, using(crate::proofs::FreeSearch::has_both))]
 fn is_taken(sides: &Sides, kind: Kind, id: &str) -> bool
-    ensures { result ≡ has_id (known_ids kind sides.now.a.now ++ known_ids kind sides.now.b.now) id.now }
+    ensures { result
+        ≡ lists_id (known_ids kind sides.now.a.now ++ known_ids kind sides.now.b.now) id.now }
 {
     has_this_id(sides.a, kind, id) || has_this_id(sides.b, kind, id)
 }

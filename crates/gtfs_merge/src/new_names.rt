@@ -1,7 +1,7 @@
 ghost use Rattle.std.specs.Prelude.{◌≡◌, ◌<◌, ◌&&◌, [], IfOk, None, false, length, not, slice_index_or, string_bytes, true};
 ghost use Rattle.gtfs_merge.specs.Names.{is_nameless};
 ghost use Rattle.gtfs_merge.specs.Numbered.{known_ids};
-ghost use Rattle.gtfs_merge.specs.Renaming.{agency_b, has_id, joined_agency, renaming};
+ghost use Rattle.gtfs_merge.specs.Renaming.{agency_b, lists_id, joined_agency, renaming};
 ghost use Rattle.gtfs_merge.specs.Sides.{content_a, content_b, side_names, is_joined_id};
 ghost use Rattle.gtfs_merge.specs.Twins.{twin_number, twin_rows};
 ghost use Rattle.gtfs_merge.specs.declared.kind.Kind.TheVariants as kind;
@@ -87,7 +87,7 @@ pub(crate) fn new_id_of_b(
     id: &str,
     twin: Option<usize>,
 ) -> Result<String, OutOfMemory>
-    requires there { has_id (known_ids kind sides.now.b.now) id.now ≡ true }
+    requires there { lists_id (known_ids kind sides.now.b.now) id.now ≡ true }
     requires twin { twin ≡ twin_number kind sides.now id.now }
     ensures { IfOk result (λ new. string_bytes new
         ≡ renaming (side_names side.B sides.now) kind id.now) }
@@ -100,7 +100,7 @@ pub(crate) fn new_id_of_b(
 
 // What an id of B becomes that has no twin.
 fn own_id_of_b(alloc: Global, sides: &Sides, kind: Kind, id: &str) -> Result<String, OutOfMemory>
-    requires there { has_id (known_ids kind sides.now.b.now) id.now ≡ true }
+    requires there { lists_id (known_ids kind sides.now.b.now) id.now ≡ true }
     requires alone { None ≡ twin_number kind sides.now id.now }
     ensures { IfOk result (λ new. string_bytes new
         ≡ renaming (side_names side.B sides.now) kind id.now) }
@@ -117,7 +117,7 @@ fn own_id_of_b(alloc: Global, sides: &Sides, kind: Kind, id: &str) -> Result<Str
 
 // What the empty id of B's agency becomes where it is not joined.
 fn new_agency_id_of_b(alloc: Global, sides: &Sides) -> Result<String, OutOfMemory>
-    requires there { has_id (known_ids kind.Agency sides.now.b.now) [] ≡ true }
+    requires there { lists_id (known_ids kind.Agency sides.now.b.now) [] ≡ true }
     requires apart { joined_agency (content_a sides.now) (content_b sides.now) [] ≡ false }
     ensures { IfOk result (λ new. string_bytes new
         ≡ agency_b (content_a sides.now) (content_b sides.now) []) }

@@ -26,6 +26,7 @@ pub(crate) struct Renamed {
 
 impl Model for Renamed {
     ghost use Rattle.std.specs.Prelude.{map, string_bytes};
+    ghost use Rattle.indexmap.specs.IndexSet.{hasher_of};
     ghost use Rattle.gtfs_merge.specs.Names.{NewIds};
 
     ghost Value = { NewIds };
@@ -33,6 +34,7 @@ impl Model for Renamed {
     ghost view = { λ r. record {
       ids = map string_bytes r.ids.keys;
       names = map string_bytes r.names.items;
+      random = hasher_of r.ids;
     } };
 }
 
@@ -53,7 +55,7 @@ impl Renamed {
         kind: Kind,
     ) -> Result<Renamed, OutOfMemory>
         requires { twins.now ≡ twin_rows sides.now }
-        ensures { IfOk result (λ ids. ids ≡ new_ids
+        ensures { IfOk result (λ ids. ids ≡ new_ids random
             (renaming (side_names side.A sides.now) kind)
             (known_ids kind sides.now.a.now)) }
     {
@@ -76,7 +78,7 @@ impl Renamed {
         kind: Kind,
     ) -> Result<Renamed, OutOfMemory>
         requires { twins.now ≡ twin_rows sides.now }
-        ensures { IfOk result (λ ids. ids ≡ new_ids
+        ensures { IfOk result (λ ids. ids ≡ new_ids random
             (renaming (side_names side.B sides.now) kind)
             (known_ids kind sides.now.b.now)) }
     {
@@ -114,7 +116,7 @@ impl Renamed {
 
     // No ids yet, and room for this many.
     fn with_room(alloc: Global, random: RandomState, count: usize) -> Result<Renamed, OutOfMemory>
-        ensures { IfOk result (λ ids. ids ≡ record { ids = []; names = [] }) }
+        ensures { IfOk result (λ ids. ids ≡ record { ids = []; names = []; random = random }) }
     {
         let names = Vec::with_capacity(alloc, count)?;
         let ids = IndexSet::with_capacity_and_hasher(alloc, count, random)?;

@@ -24,7 +24,8 @@ pub(crate) fn are_same_stop_times(
     requires rows_a { AreStopTimes sides.now.a.now rows_a.now }
     requires rows_b { AreStopTimes sides.now.b.now rows_b.now }
     ensures { result ≡ same_stop_rows_in sides.now.a.now sides.now.b.now
-        (stop_b (nearness_of sides.now) (content_a sides.now) (content_b sides.now)) rows_a.now rows_b.now }
+        (stop_b (nearness_of sides.now) (content_a sides.now) (content_b sides.now))
+        rows_a.now rows_b.now }
 {
     if rows_a.len() != rows_b.len() {
         return false;

@@ -64,7 +64,8 @@ fn stop_within(
     requires nearby { nearby.now ≡ near_stops sides.now }
     requires stop { stop.0 < length sides.now.b.now.stops }
     ensures { option_map (λ n. n.0) result ≡ became (stop_ids sides.now.a.now)
-        (stop_within (nearness_of sides.now) generations (content_a sides.now) (content_b sides.now))
+        (stop_within (nearness_of sides.now) generations (content_a sides.now)
+        (content_b sides.now))
         (slice_index_or (stop_ids sides.now.b.now) stop.0 []) }
 {
     sides.soundness();
@@ -88,7 +89,8 @@ fn stop_twin(
 ) -> Option<StopNo>
     requires nearby { nearby.now ≡ near_stops sides.now }
     requires stop { stop.0 < length sides.now.b.now.stops }
-    ensures { (rename : Renaming) (row : StopRowOf) → slice_get sides.now.b.now.stops stop.0 ≡ Some row
+    ensures { (rename : Renaming) (row : StopRowOf)
+        → slice_get sides.now.b.now.stops stop.0 ≡ Some row
         → option_map (λ n. n.0) parent ≡ parent_became sides.now rename row
         → option_map (λ n. n.0) result ≡ became (stop_ids sides.now.a.now)
         (stop_under (nearness_of sides.now) rename (content_a sides.now) (content_b sides.now))
@@ -110,7 +112,8 @@ fn near_stop(
 ) -> Option<StopNo>
     requires nearby { nearby.now ≡ near_stops sides.now }
     requires stop { stop.0 < length sides.now.b.now.stops }
-    ensures { (rename : Renaming) (row : StopRowOf) → slice_get sides.now.b.now.stops stop.0 ≡ Some row
+    ensures { (rename : Renaming) (row : StopRowOf)
+        → slice_get sides.now.b.now.stops stop.0 ≡ Some row
         → option_map (λ n. n.0) parent ≡ parent_became sides.now rename row
         → option_map (λ n. n.0) result
         ≡ option_and_then (λ z. position (bytes_eq z) (stop_ids sides.now.a.now))
@@ -128,7 +131,8 @@ fn near_stop(
 // The stop of A that a stop of B is joined with, where the parent of that stop of B became this one of A.
 fn joined_stop(sides: &Sides, stop: StopNo, parent: Option<StopNo>) -> Option<StopNo>
     requires { stop.0 < length sides.now.b.now.stops }
-    ensures { (rename : Renaming) (row : StopRowOf) → slice_get sides.now.b.now.stops stop.0 ≡ Some row
+    ensures { (rename : Renaming) (row : StopRowOf)
+        → slice_get sides.now.b.now.stops stop.0 ≡ Some row
         → option_map (λ n. n.0) parent ≡ parent_became sides.now rename row
         → option_map (λ n. n.0) result ≡ number_if
         (joined_stop_under rename (content_a sides.now) (content_b sides.now) row.stop_id)

@@ -7,6 +7,7 @@
 //!   renamed of each kind, and `chains` new names that are taken already, and merges of three feeds.
 //! - `near` has merges with near stops, and `cutoff` merges of one feed until a day and of the other from it on.
 //! - `names` asks for the name of each id, and `refusals` has zones that differ and files that are too long.
+//! - `owned` has merges of feeds that are given up.
 //! - `boards` compares the boards of a merged feed with those of both feeds, renamed and united.
 //! - `assertions` has assertions as calls.
 #![tactic(auto)]
@@ -27,6 +28,8 @@ mod cutoff;
 mod names;
 #[cfg(test)]
 mod near;
+#[cfg(test)]
+mod owned;
 #[cfg(test)]
 mod refusals;
 #[cfg(test)]

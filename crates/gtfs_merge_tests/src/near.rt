@@ -463,8 +463,8 @@ fn assert_names(
     Ok(())
 }
 
-// A line for each near stop: its id and that of the stop of A.
-fn pairs(alloc: Global, names: &Names) -> Result<String, Fail> {
+/// A line for each near stop: its id and that of the stop of A.
+pub(crate) fn pairs(alloc: Global, names: &Names) -> Result<String, Fail> {
     let mut text = String::new(alloc);
     for (own, other) in names.near() {
         text.push_str(own.as_str())?;

@@ -6,14 +6,14 @@ use crate::cutoff::MOVED_AND_CUT;
 use crate::worked::WITH_SECOND;
 use gtfs_feed::Feed;
 use gtfs_fixtures::{FileText, feed_with};
-use gtfs_merge::{MergeFault, Merged, merge, zones_differ};
+use gtfs_merge::{MergeFault, Merged, merge, merge_owned, zones_differ};
 use std::alloc::Global;
 use std::hash::RandomState;
 use std::process::Abort;
 use std::random::RandomSource;
 use std::test::Fail;
 
-// Two changes to the small dataset that are not merged, and whether their zones differ.
+// Why two changes to the small dataset are not merged, lent or given up, and whether their zones differ.
 fn refused<R: Abort + RandomSource>(
     rt: &R,
     alloc: Global,
@@ -24,11 +24,19 @@ fn refused<R: Abort + RandomSource>(
     let a = feed_with(rt, alloc, a)?;
     let b = feed_with(rt, alloc, b)?;
     let options = options_of(rt, file_limit, asked);
-    let fault = match merge(alloc, RandomState::new(rt)?, &a, &b, &options) {
+    let fault = fault_of(merge(alloc, RandomState::new(rt)?, &a, &b, &options));
+    let differ = zones_differ(&a, &b);
+    let owned = fault_of(merge_owned(alloc, RandomState::new(rt)?, a, b, &options));
+    assert_is(rt, owned, fault, "given up");
+    Ok((fault, differ))
+}
+
+// Why there is no merge.
+fn fault_of(answer: Result<Merged, MergeFault>) -> Option<MergeFault> {
+    match answer {
         Ok(_) => None,
         Err(fault) => Some(fault),
-    };
-    Ok((fault, zones_differ(&a, &b)))
+    }
 }
 
 const SMALL_TWICE: (&[FileText], &[FileText]) = (&[], &[]);

@@ -3,7 +3,6 @@
 ghost use Rattle.std.specs.Prelude.{◌≡◌, pos, true, unsigned_abs, unwrap_or, IfSome};
 ghost use Rattle.gtfs_columns.specs.Columns as kind;
 ghost use Rattle.gtfs_columns.specs.Reads.{amount_of, colour_or};
-ghost use Rattle.gtfs_columns.specs.Values.{meaning};
 ghost use Rattle.gtfs_field.specs.Kinds.{is_in_ranges};
 ghost use Rattle.gtfs_parts.specs.Numbers.{chosen, number_if_there, number_of};
 
@@ -53,7 +52,7 @@ pub(crate) fn choice_or(ranges: &[(u32, u32)], empty: &str, text: &str) -> u32
     ensures value { result ≡ chosen ranges.now empty.now text.now }
     ensures range { is_in_ranges ranges.now result ≡ true }
 {
-    choice(ranges, meant(empty, text))
+    choice(ranges, values::meant(empty, text))
 }
 
 // The number of a choice that may be missing.
@@ -68,12 +67,5 @@ pub(crate) fn optional_choice(ranges: &[(u32, u32)], text: &str) -> Option<u32>
 pub(crate) fn colour(empty: &str, text: &str) -> Colour
     ensures { result ≡ unsigned_abs (unwrap_or (colour_or empty.now text.now) (pos 0)) }
 {
-    values::colour(meant(empty, text)).unwrap_or(Colour::from_bits(0))
-}
-
-// The text that a text stands for, where an empty one stands for another.
-fn meant<'a>(empty: &'a str, text: &'a str) -> &'a str
-    ensures { result.now ≡ meaning (kind.means empty.now) text.now }
-{
-    if text.is_empty() { empty } else { text }
+    values::colour(values::meant(empty, text)).unwrap_or(Colour::from_bits(0))
 }

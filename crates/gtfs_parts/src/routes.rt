@@ -101,7 +101,8 @@ impl<'a> RouteFile<'a> {
     ) -> Result<(), OutOfMemory>
         requires passes { Passes self.now }
         requires ids { ids.now ≡ first_rows self.now file.Routes (codes "route_id") }
-        requires agencies { agencies.old.ids.now ≡ first_rows self.now file.Agency (codes "agency_id") }
+        requires agencies { agencies.old.ids.now
+            ≡ first_rows self.now file.Agency (codes "agency_id") }
         requires none { routes.old.items ≡ [] }
         ensures rows { OnOk result
             (map (route_named (ids_of self.now file.Agency "agency_id")) routes.new.items
@@ -125,7 +126,8 @@ impl<'a> RouteFile<'a> {
     ) -> Result<Route, OutOfMemory>
         requires passes { Passes self.now }
         requires row { is_row (records_in self.now file.Routes) row ≡ true }
-        requires agencies { agencies.old.ids.now ≡ first_rows self.now file.Agency (codes "agency_id") }
+        requires agencies { agencies.old.ids.now
+            ≡ first_rows self.now file.Agency (codes "agency_id") }
         ensures value { IfOk result (λ r. route_named (ids_of self.now file.Agency "agency_id") r
             ≡ route_in self.now row) }
         ensures number { IfOk result (λ r.

@@ -1,14 +1,12 @@
 //! Ids and texts of a row as its fields keep them.
 
-ghost use Rattle.std.specs.Prelude.{◌≡◌, ◌++◌, ◌≤◌, ◌+◌, [], if◌then◌else◌, length, string_bytes, string_len, unwrap_or, IfOk, OnOk};
-ghost use Rattle.std.specs.String.{string_capacity};
+ghost use Rattle.std.specs.Prelude.{◌≡◌, [], unwrap_or, IfOk, OnOk};
 ghost use Rattle.gtfs_columns.specs.Columns as kind;
 ghost use Rattle.gtfs_columns.specs.Reads.{word_of};
 ghost use Rattle.gtfs_columns.specs.Values.{plain};
-ghost use Rattle.gtfs_table.specs.Blanks.{is_control};
 ghost use Rattle.gtfs_table.specs.Tables.{field_under};
 
-use gtfs_columns::{has_control, values};
+use gtfs_columns::{has_control, push_plain, values};
 use gtfs_field::{OutOfMemory, Text};
 use gtfs_table::Record;
 use std::alloc::Global;
@@ -86,25 +84,4 @@ fn plain(alloc: Global, text: &str) -> Result<Text, OutOfMemory>
     let mut shown = String::with_capacity(alloc, text.len())?;
     push_plain(&mut shown, text);
     Ok(Text::new(shown))
-}
-
-// Appends a text with a space in place of each control character.
-fn push_plain(shown: &mut String, text: &str)
-    requires { string_len shown.old + length text.now ≤ string_capacity shown.old }
-    ensures { string_bytes shown.new ≡ string_bytes shown.old ++ plain text.now }
-{
-    for character in text.chars() {
-        shown.push(plain_character(character)).unwrap();
-    }
-}
-
-// A space for a control character, and any other as it is.
-fn plain_character(character: char) -> char
-    ensures { result ≡ (if is_control character then 32 else character) }
-{
-    if character.is_ascii_control() {
-        ' '
-    } else {
-        character
-    }
 }

@@ -10,7 +10,7 @@ use Rattle.gtfs_columns.specs.KeyRules.{all_there}
 use Rattle.gtfs_columns.specs.Reads.{amount_of, word_of}
 use Rattle.gtfs_columns.specs.Values.{word, amount, as_amount, as_word, counted, has_control, measured, readable}
 use Rattle.gtfs_table.specs.Rows.{is_empty}
-use Rattle.gtfs_row_rules.specs.KeyView.{kind_of, numbered_key}
+use Rattle.gtfs_row_rules.specs.KeyView.{kind_of_number, numbered_key}
 use Rattle.gtfs_row_rules.specs.declared.keys.Number.{Number}
 use Rattle.gtfs_row_rules.specs.declared.keys.Number.TheVariants as numbers
 
@@ -53,10 +53,10 @@ numbered text None (Some y) = refl
 numbered text (Some x) None = refl
 numbered text (Some x) (Some y) = refl
 
-number_part : (kind : Number) (o : Option ℤ) (t : List ℕ) → o ≡ amount_of (kind_of kind) t → option_map amount o ≡ readable (kind_of kind) t
+number_part : (kind : Number) (o : Option ℤ) (t : List ℕ) → o ≡ amount_of (kind_of_number kind) t → option_map amount o ≡ readable (kind_of_number kind) t
 number_part numbers.Date o t e = date_part o t e
 number_part numbers.Time o t e = time_part o t e
 
 pub numbered_read : {X : Type 0} (kind : Number) (text : X → List ℕ) (a : Option X) (b : Option ℤ) (t u : List ℕ) → option_map text a ≡ word_of id t
-    → b ≡ amount_of (kind_of kind) u → option_map (λ k. word (text k.1) ∷ amount k.0 ∷ []) (option_zip b a) ≡ numbered_key kind t u
+    → b ≡ amount_of (kind_of_number kind) u → option_map (λ k. word (text k.1) ∷ amount k.0 ∷ []) (option_zip b a) ≡ numbered_key kind t u
 numbered_read kind text a b t u e f = numbered text a b ∙ (λ i. all_there (id_part text a t e i ∷ number_part kind b u f i ∷ []))

@@ -11,7 +11,7 @@ use Rattle.gtfs_row_rules.specs.declared.fields.Located.{Located as LocatedColum
 use Rattle.gtfs_columns.specs.steps.ColumnView.{column_of}
 use Rattle.gtfs_row_rules.specs.HeaderView.{Located, located, located_of}
 use Rattle.gtfs_columns.specs.steps.Found.{Adds}
-use Rattle.gtfs_columns.specs.Problems.{Problem, is_listed}
+use Rattle.gtfs_columns.specs.Problems.{Problem, lists_problem}
 use Rattle.gtfs_columns.proofs.AddFacts.{adds_alike}
 
 -- ---- the columns that the header names
@@ -64,5 +64,5 @@ module _ {K : Type 0} (row first : Problem → Bool) (here : Problem → K → B
       → Adds (reported_so_far ks i) xs ys → Adds (λ p. row p && here p (get_or ks i k)) ys zs → Adds (reported_so_far ks (i + 1)) xs zs
   reported_more ks i k xs ys zs within before now p =
       now p ∙ ap (λ l. l || (row p && here p (get_or ks i k))) (before p)
-      ∙ joined (is_listed xs p) (row p) (first p) (list_any (here p) (take i ks)) (here p (get_or ks i k))
-      ∙ ap (λ b. is_listed xs p || (row p && (first p || b))) (sym (list_any_more (here p) ks i k within))
+      ∙ joined (lists_problem xs p) (row p) (first p) (list_any (here p) (take i ks)) (here p (get_or ks i k))
+      ∙ ap (λ b. lists_problem xs p || (row p && (first p || b))) (sym (list_any_more (here p) ks i k within))

@@ -25,12 +25,12 @@ abbrev pub repeats_key : KeyAt → Dataset → File → ℕ → Bool
 repeats_key key d x n = list_any (λ m. nat_lt m n && if_both (key n) (key m) (pointwise value_eq)) (rows d x)
 
 -- a key of an id and a number
-abbrev pub kind_of : Number → Kind
-kind_of numbers.Date = date
-kind_of numbers.Time = time
+abbrev pub kind_of_number : Number → Kind
+kind_of_number numbers.Date = date
+kind_of_number numbers.Time = time
 
 abbrev pub numbered_key : Number → List ℕ → List ℕ → Option (List Value)
-numbered_key kind t u = all_there (readable id t ∷ readable (kind_of kind) u ∷ [])
+numbered_key kind t u = all_there (readable id t ∷ readable (kind_of_number kind) u ∷ [])
 
 abbrev pub numbered_in : Number → Dataset → File → List ℕ → List ℕ → KeyAt
 numbered_in kind d x id_name number_name n = numbered_key kind (text_in d x n id_name) (text_in d x n number_name)

@@ -12,7 +12,10 @@ use gtfs_columns::{Code, FileName, Found, Problem};
 use gtfs_field::OutOfMemory;
 use gtfs_table::{File, State, Tables};
 
-// Reports what is wrong with whole files, and what else the folder holds.
+/// Reports files that are missing (E01), not UTF-8 (E02) or empty (E05), and what else the folder holds (W03).
+///
+/// # Errors
+/// `OutOfMemory` where the problems that were found cannot grow.
 pub fn report_files<'a>(tables: &'a Tables, found: &mut Found<'a>) -> Result<(), OutOfMemory>
     ensures { OnOk result
         (Reports tables.now (of_codes (code.E01 ∷ code.E02 ∷ code.E05 ∷ code.W03 ∷ []))
@@ -37,10 +40,10 @@ fn report_file<'a>(tables: &'a Tables, file: File, found: &mut Found<'a>) -> Res
         (Reports tables.now (in_file_of (code.E01 ∷ code.E02 ∷ code.E05 ∷ []) file)
         found.old found.new) }
 {
-    found.report(at_row(file, 0, Code::E01), is_missing(tables, file))?;
-    found.report(at_row(file, 0, Code::E02), is_not_utf8(tables, file))?;
-    found.report(at_row(file, 0, Code::E05), lacks_records(tables, file))?;
-    found.report(at_row(file, 1, Code::E05), lacks_agencies(tables, file))
+    found.report_if(at_row(file, 0, Code::E01), is_missing(tables, file))?;
+    found.report_if(at_row(file, 0, Code::E02), is_not_utf8(tables, file))?;
+    found.report_if(at_row(file, 0, Code::E05), lacks_records(tables, file))?;
+    found.report_if(at_row(file, 1, Code::E05), lacks_agencies(tables, file))
 }
 
 // A problem of no column.
@@ -129,7 +132,7 @@ fn report_other_files<'a>(tables: &'a Tables, found: &mut Found<'a>) -> Result<(
             code: Code::W03,
             column: "",
         };
-        found.report(problem, true)?;
+        found.report_if(problem, true)?;
     }
     Ok(())
 }

@@ -20,7 +20,11 @@ use gtfs_columns::{
 use gtfs_field::OutOfMemory;
 use gtfs_table::{File, Tables};
 
-// Reports what is wrong with the headers of the nine files.
+/// Reports what is wrong with the headers of the nine files: a required column that is missing (E03), a kept column
+/// that is named more than once (E04), and a column that is not kept (W04).
+///
+/// # Errors
+/// `OutOfMemory` where the problems that were found cannot grow.
 pub fn report_headers<'a>(tables: &'a Tables, found: &mut Found<'a>) -> Result<(), OutOfMemory>
     ensures { OnOk result
         (Reports tables.now (of_codes (code.E03 ∷ code.E04 ∷ code.W04 ∷ [])) found.old found.new) }
@@ -97,8 +101,8 @@ fn report_kept_column<'a>(
 {
     let times = times_named(tables, file, column.name);
     let missing = is_missing(tables, file, column, times);
-    found.report(in_header(file, Code::E03, column.name), missing)?;
-    found.report(in_header(file, Code::E04, column.name), times > 1)
+    found.report_if(in_header(file, Code::E03, column.name), missing)?;
+    found.report_if(in_header(file, Code::E04, column.name), times > 1)
 }
 
 fn is_missing(tables: &Tables, file: File, column: &Column, times: usize) -> bool
@@ -134,7 +138,7 @@ fn report_other_columns<'a>(
 {
     for n in 0..tables.fields(file, 1) {
         let name = tables.field(file, 1, n);
-        found.report(in_header(file, Code::W04, name), is_other(columns, name))?;
+        found.report_if(in_header(file, Code::W04, name), is_other(columns, name))?;
     }
     Ok(())
 }

@@ -9,7 +9,7 @@ ghost use Rattle.gtfs_columns.specs.Values.{Value, amount, if_there, value_eq, w
 ghost use Rattle.gtfs_columns.specs.steps.Found.{Reports};
 ghost use Rattle.gtfs_columns.specs.steps.Picks.{at_column, in_composite_keys, in_file};
 ghost use Rattle.gtfs_row_rules.specs.KeyOrder.{numbered_alike, six_alike};
-ghost use Rattle.gtfs_row_rules.specs.KeyView.{end_part, kind_of, numbered_in, numbered_key, repeats_key};
+ghost use Rattle.gtfs_row_rules.specs.KeyView.{end_part, kind_of_number, numbered_in, numbered_key, repeats_key};
 ghost use Rattle.gtfs_row_rules.specs.RowRules.{HoldsWhere};
 ghost use Rattle.gtfs_table.specs.Rows.{records_in};
 ghost use Rattle.gtfs_table.specs.Tables.{field_under, record_at};
@@ -75,7 +75,7 @@ fn report_repeats<'a, K: Keys>(
             column,
         };
         let repeats = was_seen(&mut seen, keys.key(row))?;
-        found.report(problem, repeats)?;
+        found.report_if(problem, repeats)?;
     }
     Ok(())
 }
@@ -89,7 +89,7 @@ enum Number {
 
 impl Number {
     fn read(self, text: &str) -> Option<i64>
-        ensures { result ≡ amount_of (kind_of self) text.now }
+        ensures { result ≡ amount_of (kind_of_number self) text.now }
     {
         match self {
             Number::Date => values::date(text),
@@ -177,7 +177,11 @@ fn end_id(text: &str) -> Option<&str>
     }
 }
 
-// Reports each row of calendar_dates.txt, frequencies.txt and transfers.txt whose key an earlier row of the file has.
+/// Reports each row of `calendar_dates.txt`, `frequencies.txt` and `transfers.txt` whose key an earlier row of the
+/// file has (E09).
+///
+/// # Errors
+/// `OutOfMemory` where the problems that were found cannot grow, or there is no room for the keys of a file.
 pub fn report_composite_keys<'a>(
     alloc: Global,
     tables: &'a Tables,

@@ -2,7 +2,8 @@
 //! beside each other, keys and references.
 //!
 //! Each call reports the problems of some codes, files or columns: it adds to what was found exactly those of them that
-//! the dataset has. `stop_times.txt` is left to `gtfs_trip_rules`, which judges it in one pass, but for its header.
+//! the dataset has. The rows of `stop_times.txt` are left to `gtfs_trip_rules`, which judges them in one pass; whether
+//! the file is there, and its header, are judged here.
 #![tactic(auto)]
 
 mod fields;

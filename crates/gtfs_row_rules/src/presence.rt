@@ -89,7 +89,10 @@ impl Rule for LacksName {
     }
 }
 
-// Reports the values that are missing or forbidden beside others.
+/// Reports the values that are missing or forbidden beside others (E12).
+///
+/// # Errors
+/// `OutOfMemory` where the problems that were found cannot grow.
 pub fn report_presence<'a>(tables: &'a Tables, found: &mut Found<'a>) -> Result<(), OutOfMemory>
     ensures { OnOk result (Reports tables.now (of_codes (Code.E12 ∷ [])) found.old found.new) }
 {

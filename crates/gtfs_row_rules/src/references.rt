@@ -55,7 +55,10 @@ impl Rule for UnknownService<'_> {
     }
 }
 
-// Reports each id that names no row, but for those of stop_times.txt.
+/// Reports each id that names no row, but for those of `stop_times.txt` (E10). The ids are those of these tables.
+///
+/// # Errors
+/// `OutOfMemory` where the problems that were found cannot grow.
 pub fn report_references<'a>(
     tables: &'a Tables,
     ids: &FeedIds<'a>,

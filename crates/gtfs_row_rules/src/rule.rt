@@ -46,7 +46,7 @@ pub(crate) fn report_rows<'a, R: Rule>(
             code: site.code,
             column: site.column,
         };
-        found.report(problem, rule.breaks(row, &record))?;
+        found.report_if(problem, rule.breaks(row, &record))?;
     }
     Ok(())
 }

@@ -48,7 +48,11 @@ impl Rule for EndsAtStart {
     }
 }
 
-// Reports rows of calendar.txt that end before they start, and frequencies that do not end after their start.
+/// Reports rows of `calendar.txt` that end before they start (E14), and frequencies that do not end after their
+/// start (E18).
+///
+/// # Errors
+/// `OutOfMemory` where the problems that were found cannot grow.
 pub fn report_spans<'a>(tables: &'a Tables, found: &mut Found<'a>) -> Result<(), OutOfMemory>
     ensures { OnOk result
         (Reports tables.now (of_codes (Code.E14 ∷ Code.E18 ∷ [])) found.old found.new) }

@@ -90,7 +90,11 @@ fn is_other_parent(own: i64, parent: i64) -> bool
         || (is_one_of(&[4], own) && !is_one_of(&[0], parent))
 }
 
-// Reports each row that names a stop of a kind that it may not name, but for rows of stop_times.txt.
+/// Reports each row that names a stop of a kind that it may not name, but for rows of `stop_times.txt` (E11). The ids
+/// of stops and their location types are those of these tables.
+///
+/// # Errors
+/// `OutOfMemory` where the problems that were found cannot grow.
 pub fn report_stop_kinds<'a>(
     tables: &'a Tables,
     stops: &Ids<'a>,

@@ -13,7 +13,7 @@ use gtfs_columns::{Code, Found, values};
 use gtfs_field::OutOfMemory;
 use gtfs_table::{File, Record, Tables};
 
-// The zone of an agency is another than the first one.
+// The zone of an agency is another than that of the first agency with a readable one.
 #[derive(Drop)]
 struct HasOtherZone<'a> {
     zone: Option<usize>,
@@ -32,7 +32,10 @@ impl Rule for HasOtherZone<'_> {
     }
 }
 
-// Reports agencies whose zone is another than that of the first agency.
+/// Reports agencies whose zone is another than that of the first agency with a readable one (E13).
+///
+/// # Errors
+/// `OutOfMemory` where the problems that were found cannot grow.
 pub fn report_zones<'a>(tables: &'a Tables, found: &mut Found<'a>) -> Result<(), OutOfMemory>
     ensures { OnOk result (Reports tables.now (of_codes (Code.E13 ∷ [])) found.old found.new) }
 {

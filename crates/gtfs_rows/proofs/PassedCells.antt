@@ -14,7 +14,7 @@ use Rattle.gtfs_table.specs.Rows.{is_row, records_in, rows, is_empty}
 use Rattle.gtfs_table.specs.Tables.{Dataset}
 use Rattle.gtfs_table.specs.declared.file.File.{File}
 use Rattle.gtfs_table.specs.declared.file.File.TheVariants as file
-use Rattle.gtfs_columns.specs.Calendars.{week_in, exception_in, runs_on, number_in as signed_in}
+use Rattle.gtfs_columns.specs.Calendars.{week_in, exception_in, runs_on, field_number as signed_in}
 use Rattle.gtfs_columns.specs.Columns.{Kind, id, text, count, choice, time, date, colour, coordinate, column_named, columns_of, required, optional, defaulting, up_to, positive, route_types}
 use Rattle.gtfs_columns.specs.Problems.{Passes}
 use Rattle.gtfs_columns.specs.Rows.{word_in}

@@ -12,7 +12,7 @@ use Rattle.gtfs_table.specs.Tables.{Dataset}
 use Rattle.gtfs_table.specs.declared.file.File.{File}
 use Rattle.gtfs_table.specs.declared.file.File.TheVariants as file
 use Rattle.gtfs_columns.specs.declared.code.Code.TheVariants as code
-use Rattle.gtfs_columns.specs.Calendars.{service_rows, first_service_row, week_in, exception_in, number_in}
+use Rattle.gtfs_columns.specs.Calendars.{service_rows, first_service_row, week_in, exception_in, field_number}
 use Rattle.gtfs_columns.specs.Columns.{id, date, column_named, required}
 use Rattle.gtfs_columns.specs.Problems.{Passes}
 use Rattle.gtfs_columns.specs.Rows.{word_in}
@@ -46,8 +46,8 @@ module _ (d : Dataset) (passes : Passes d) where
   week_sound : (m : ℕ) → is_row (records_in d file.Calendar) m ≡ true → is_sound_week (week_in d m) ≡ true
   week_sound m row =
       let told : ends_before_start d m ≡ false = after (is_row (records_in d file.Calendar) m) (ends_before_start d m) row (no_error d passes code.E14 file.Calendar m (codes "end_date") refl) in
-      let start = number_in d file.Calendar m "start_date" in
-      let end = number_in d file.Calendar m "end_date" in
+      let start = field_number d file.Calendar m "start_date" in
+      let end = field_number d file.Calendar m "end_date" in
       let same : int_lt end start ≡ false = sym (λ i. if_both (signed_is d passes file.Calendar m row "end_date" date refl refl i) (signed_is d passes file.Calendar m row "start_date" date refl refl i) int_lt) ∙ told in
       not_less start end same
 

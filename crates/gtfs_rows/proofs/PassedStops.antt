@@ -18,7 +18,7 @@ use Rattle.gtfs_columns.specs.PresenceRules.{is_of_type, lacks_name_or_position,
 use Rattle.gtfs_columns.specs.Problems.{Passes}
 use Rattle.gtfs_columns.specs.Rows.{text_in, value_in, word_in, amount_in, choice_in, is_readable_in, is_empty_in, row_with}
 use Rattle.gtfs_columns.specs.StopRules.{names_none_of, has_parent_of_other_type}
-use Rattle.gtfs_columns.specs.Values.{if_there, is_between, is_one_of}
+use Rattle.gtfs_columns.specs.Values.{if_there, is_count_between, is_one_of}
 use Rattle.gtfs_rows.specs.Cells.{is_of_kind, is_between as lies_between}
 use Rattle.gtfs_rows.specs.Content.{Content}
 use Rattle.gtfs_rows.specs.Reading.{number_at, stop_in, content_of}
@@ -53,7 +53,7 @@ module _ (c : Content) (other station : Bool) where
     pub of_stop : other ≡ false → is_stop_of c (0 ∷ []) p ≡ true
 
   right_parent : (type : ℕ) (o : Option (List ℕ)) → type ≤ 4
-      → ((is_between 1 1 (pos type) && is_some o) || (is_between 2 4 (pos type) && not (is_some o))) ≡ false
+      → ((is_count_between 1 1 (pos type) && is_some o) || (is_count_between 2 4 (pos type) && not (is_some o))) ≡ false
       → ((is_one_of (0 ∷ 2 ∷ 3 ∷ []) (pos type) && station) || (is_one_of (4 ∷ []) (pos type) && other)) ≡ false
       → ((p : List ℕ) → o ≡ Some p → IsParent p) → has_right_parent c type o ≡ true
   right_parent zero None few presence kind parent = refl
@@ -92,13 +92,13 @@ module _ (d : Dataset) (passes : Passes d) where
     parent_filled : is_some (word_in d file.Stops n "parent_station") ≡ not (is_empty_in d file.Stops n "parent_station")
     parent_filled = word_if_filled d passes file.Stops n row "parent_station" id refl refl
 
-    presence : ((is_between 1 1 (pos (number_at d file.Stops n "location_type")) && is_some (word_in d file.Stops n "parent_station"))
-        || (is_between 2 4 (pos (number_at d file.Stops n "location_type")) && not (is_some (word_in d file.Stops n "parent_station")))) ≡ false
+    presence : ((is_count_between 1 1 (pos (number_at d file.Stops n "location_type")) && is_some (word_in d file.Stops n "parent_station"))
+        || (is_count_between 2 4 (pos (number_at d file.Stops n "location_type")) && not (is_some (word_in d file.Stops n "parent_station")))) ≡ false
     presence =
         let readable : is_readable_in d file.Stops n "parent_station" ≡ is_some (word_in d file.Stops n "parent_station") = there_if_filled d passes file.Stops n row "parent_station" id refl ∙ sym parent_filled in
         let empty = turned (is_some (word_in d file.Stops n "parent_station")) (is_empty_in d file.Stops n "parent_station") parent_filled in
         let told : has_wrong_parent d n ≡ false = after_one (is_row (records_in d file.Stops) n) (has_wrong_parent d n) row (no_error d passes code.E12 file.Stops n (codes "parent_station") refl) in
-        sym (λ i. (if_there (type_is i) (is_between 1 1) && readable i) || (if_there (type_is i) (is_between 2 4) && empty i)) ∙ told
+        sym (λ i. (if_there (type_is i) (is_count_between 1 1) && readable i) || (if_there (type_is i) (is_count_between 2 4) && empty i)) ∙ told
 
     kind : ((is_one_of (0 ∷ 2 ∷ 3 ∷ []) (pos (number_at d file.Stops n "location_type")) && names_none_of (1 ∷ []) file.Stops "parent_station" d n)
         || (is_one_of (4 ∷ []) (pos (number_at d file.Stops n "location_type")) && names_none_of (0 ∷ []) file.Stops "parent_station" d n)) ≡ false
@@ -118,7 +118,7 @@ module _ (d : Dataset) (passes : Passes d) where
     -- ---- the name and the position
 
     of_low_type : nat_lt 2 (number_at d file.Stops n "location_type") ≡ false → is_of_type 0 2 d n ≡ true
-    of_low_type low = ap (λ o. if_there o (is_between 0 2)) type_is ∙ and_from (nat_le 0 type) (nat_le type 2) (le-leb 0 type (omega arith)) (le-leb type 2 (let h = ltb-false 2 type low in omega (arith, h)))
+    of_low_type low = ap (λ o. if_there o (is_count_between 0 2)) type_is ∙ and_from (nat_le 0 type) (nat_le type 2) (le-leb 0 type (omega arith)) (le-leb type 2 (let h = ltb-false 2 type low in omega (arith, h)))
 
     both_there : nat_lt 2 (number_at d file.Stops n "location_type") ≡ false → has_name_and_position (stop_in d n) ≡ true
     both_there low =

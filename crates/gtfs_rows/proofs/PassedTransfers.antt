@@ -13,7 +13,7 @@ use Rattle.gtfs_columns.specs.PresenceRules.{lacks_end}
 use Rattle.gtfs_columns.specs.Problems.{Passes}
 use Rattle.gtfs_columns.specs.Rows.{text_in, value_in, word_in, is_empty_in, row_with}
 use Rattle.gtfs_columns.specs.StopRules.{names_none_of}
-use Rattle.gtfs_columns.specs.Values.{if_there, is_between}
+use Rattle.gtfs_columns.specs.Values.{if_there, is_count_between}
 use Rattle.gtfs_rows.specs.Order.{transfer_key, transfer_key_cmp}
 use Rattle.gtfs_rows.specs.Reading.{number_at, transfer_in, content_of}
 use Rattle.gtfs_rows.specs.Sound.{has_id, if_given, is_stop_of, has_ends, is_sound_transfer}
@@ -31,8 +31,8 @@ both_there : (a b : Bool) → not a ≡ false → not b ≡ false → (a && b) �
 both_there a b p q = and_from a b (not_false a p) (not_false b q)
 
 right_ends : (type : ℕ) (from_stop to_stop from_trip to_trip : Bool) → type ≤ 5
-    → (is_between 1 3 (pos type) && not from_stop) ≡ false → (is_between 1 3 (pos type) && not to_stop) ≡ false
-    → (is_between 4 5 (pos type) && not from_trip) ≡ false → (is_between 4 5 (pos type) && not to_trip) ≡ false
+    → (is_count_between 1 3 (pos type) && not from_stop) ≡ false → (is_count_between 1 3 (pos type) && not to_stop) ≡ false
+    → (is_count_between 4 5 (pos type) && not from_trip) ≡ false → (is_count_between 4 5 (pos type) && not to_trip) ≡ false
     → ((type == 0) || (nat_le type 3 && from_stop && to_stop) || (nat_le 4 type && from_trip && to_trip)) ≡ true
 right_ends zero a b e f few p q r s = refl
 right_ends (suc zero) a b e f few p q r s = or_left (a && b) false (both_there a b p q)
@@ -56,11 +56,11 @@ module _ (d : Dataset) (passes : Passes d) (n : ℕ) (row : is_row (records_in d
     value_is = value_of_word (value_in d file.Transfers n (codes name)) t there
 
   ends_at : (name : Literal) (low high : ℕ) → column_named file.Transfers (codes name) ≡ Some (optional name id) → lacks_end low high name d n ≡ false
-      → (is_between low high (pos (number_at d file.Transfers n "transfer_type")) && not (is_some (word_in d file.Transfers n name))) ≡ false
+      → (is_count_between low high (pos (number_at d file.Transfers n "transfer_type")) && not (is_some (word_in d file.Transfers n name))) ≡ false
   ends_at name low high kept told =
       let type = choice_is d passes file.Transfers n row "transfer_type" (up_to 5) "0" refl digit_cut refl in
       let empty = turned (is_some (word_in d file.Transfers n name)) (is_empty_in d file.Transfers n name) (word_if_filled d passes file.Transfers n row name id kept refl) in
-      sym (λ i. if_there (type i) (is_between low high) && empty i) ∙ told
+      sym (λ i. if_there (type i) (is_count_between low high) && empty i) ∙ told
 
   ends_there : has_ends (transfer_in d n) ≡ true
   ends_there =

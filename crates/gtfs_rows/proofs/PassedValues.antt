@@ -10,7 +10,7 @@ use Rattle.gtfs_table.specs.Tables.{Dataset}
 use Rattle.gtfs_table.specs.declared.file.File.{File}
 use Rattle.gtfs_table.specs.Rows.{is_row, records_in, is_empty}
 use Rattle.gtfs_table.proofs.BlankFacts.{no_text as empty_is}
-use Rattle.gtfs_columns.specs.Calendars.{number_in as signed_in}
+use Rattle.gtfs_columns.specs.Calendars.{field_number as signed_in}
 use Rattle.gtfs_columns.specs.Columns.{Kind, id, Column, column_named, required, optional, defaulting}
 use Rattle.gtfs_columns.specs.Problems.{Passes}
 use Rattle.gtfs_columns.specs.ReadRules.{IsReadUnder}

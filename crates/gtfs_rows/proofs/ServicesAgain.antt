@@ -17,7 +17,7 @@ use Rattle.gtfs_days.specs.declared.exception.Exception.TheVariants.{Added, Remo
 use Rattle.gtfs_field.specs.TextOrder.{text_cmp}
 use Rattle.gtfs_table.specs.declared.file.File.TheVariants as file
 use Rattle.gtfs_table.specs.Rows.{rows, is_empty}
-use Rattle.gtfs_columns.specs.Calendars.{service_rows, first_service_row, number_in, runs_on, week_in, exception_in}
+use Rattle.gtfs_columns.specs.Calendars.{service_rows, first_service_row, field_number, runs_on, week_in, exception_in}
 use Rattle.gtfs_columns.specs.Columns.{Column, columns_of}
 use Rattle.gtfs_columns.specs.Rows.{word_in}
 use Rattle.gtfs_columns.specs.Values.{is_word, amount, word}
@@ -122,7 +122,7 @@ module _ (others : List (List ℕ)) (c : Content) (sound : IsSound c) where
         ∙ flag_back b
 
     week_day : (column : Literal) → is_empty (codes column) ≡ false → (x : ℤ) → cell_named (columns_of file.Calendar) (week_cells (get_or (weeks_of c) k e)) (codes column) ≡ Some (amount x)
-        → number_in (written_beside others c) file.Calendar (k + 2) column ≡ x
+        → field_number (written_beside others c) file.Calendar (k + 2) column ≡ x
     week_day column filled x is = ap (λ o. unwrap_or o (pos 0)) (amount_at others c file.Calendar (weeks_of c) week_cells refl (sound.cells file.Calendar) k e within column filled (Some x) is)
 
     pub week_again : week_in (written_beside others c) (k + 2) ≡ (get_or (weeks_of c) k e).1
@@ -154,9 +154,9 @@ module _ (others : List (List ℕ)) (c : Content) (sound : IsSound c) where
   exception_again : (k : ℕ) (e : List ℕ × (ℤ × Exception)) → k < length (exceptions_of c) → exception_in (written_beside others c) (k + 2) ≡ (get_or (exceptions_of c) k e).1
   exception_again k e within =
       let x = (get_or (exceptions_of c) k e).1 in
-      let day : number_in (written_beside others c) file.CalendarDates (k + 2) "date" ≡ x.0 =
+      let day : field_number (written_beside others c) file.CalendarDates (k + 2) "date" ≡ x.0 =
       ap (λ o. unwrap_or o (pos 0)) (amount_at others c file.CalendarDates (exceptions_of c) exception_cells refl (sound.cells file.CalendarDates) k e within "date" refl (Some x.0) refl) in
-      let type : (if int_eq (number_in (written_beside others c) file.CalendarDates (k + 2) "exception_type") (pos 1) then Added else Removed) ≡ x.1 =
+      let type : (if int_eq (field_number (written_beside others c) file.CalendarDates (k + 2) "exception_type") (pos 1) then Added else Removed) ≡ x.1 =
       ap (λ o. if int_eq (unwrap_or o (pos 0)) (pos 1) then Added else Removed)
       (amount_at others c file.CalendarDates (exceptions_of c) exception_cells refl (sound.cells file.CalendarDates) k e within "exception_type" refl (Some (pos (exception_number x.1))) refl)
       ∙ type_back x.1 in

@@ -5,10 +5,10 @@ use Rattle.gtfs_table.specs.Tables.{Dataset}
 use Rattle.gtfs_table.specs.Rows.{is_row, records_in}
 use Rattle.gtfs_table.specs.declared.file.File.TheVariants as file
 use Rattle.gtfs_columns.specs.declared.code.Code.TheVariants as code
-use Rattle.gtfs_columns.specs.Columns.{count, defaulting, id, means, nothing, optional, required, time, up_to}
-use Rattle.gtfs_columns.specs.IdNumbers.{number_in}
+use Rattle.gtfs_columns.specs.Columns.{count, defaulting, id, means, nothing, optional, refused, required, time, up_to}
+use Rattle.gtfs_columns.specs.IdNumbers.{number_of_id}
 use Rattle.gtfs_columns.specs.Problems.{Passes, kept}
-use Rattle.gtfs_columns.specs.ReadRules.{StandsDefaulting, StandsRequired, StandsAs}
+use Rattle.gtfs_columns.specs.ReadRules.{StandsAs}
 use Rattle.gtfs_columns.specs.Reads.{amount_of, choice_of, word_of}
 use Rattle.gtfs_columns.specs.Rows.{row_with}
 use Rattle.gtfs_columns.specs.Values.{meaning, readable}
@@ -16,7 +16,7 @@ use Rattle.gtfs_columns.specs.steps.Ids.{FirstRows, first_row_with, first_rows, 
 use Rattle.gtfs_trip_rules.specs.declared.trips.row.StopTime.{StopTime}
 use Rattle.gtfs_trip_rules.specs.Kept.{AreTimesRead, Keeps}
 use Rattle.gtfs_trip_rules.specs.KeptTimes.{is_placed}
-use Rattle.gtfs_trip_rules.specs.StopTimes.{text_at}
+use Rattle.gtfs_trip_rules.specs.StopTimes.{stop_time_text}
 use Rattle.gtfs_rules.specs.StopTimes.{SaysStopTime}
 use Rattle.gtfs_columns.proofs.IdFacts.{first_row_is}
 use Rattle.gtfs_columns.proofs.IdNumberFacts.{id_of_number, number_there}
@@ -49,56 +49,56 @@ word_there o t e = ap is_some e
 -- ---- a row of a dataset that passes
 
 module _ (d : Dataset) (passes : Passes d) (n : ℕ) (row : is_row (records_in d file.StopTimes) n ≡ true) where
-  trip_stands : StandsRequired id (text_at d n "trip_id")
+  trip_stands : StandsAs id refused (stop_time_text d n "trip_id")
   trip_stands = stands d passes file.StopTimes n row (codes "trip_id") (required "trip_id" id) refl _ refl
 
-  stop_stands : StandsRequired id (text_at d n "stop_id")
+  stop_stands : StandsAs id refused (stop_time_text d n "stop_id")
   stop_stands = stands d passes file.StopTimes n row (codes "stop_id") (required "stop_id" id) refl _ refl
 
-  sequence_stands : StandsRequired count (text_at d n "stop_sequence")
+  sequence_stands : StandsAs count refused (stop_time_text d n "stop_sequence")
   sequence_stands = stands d passes file.StopTimes n row (codes "stop_sequence") (required "stop_sequence" count) refl _ refl
 
-  arrival_stands : StandsAs time nothing (text_at d n "arrival_time")
+  arrival_stands : StandsAs time nothing (stop_time_text d n "arrival_time")
   arrival_stands = stands d passes file.StopTimes n row (codes "arrival_time") (optional "arrival_time" time) refl _ refl
 
-  departure_stands : StandsAs time nothing (text_at d n "departure_time")
+  departure_stands : StandsAs time nothing (stop_time_text d n "departure_time")
   departure_stands = stands d passes file.StopTimes n row (codes "departure_time") (optional "departure_time" time) refl _ refl
 
-  pickup_stands : StandsDefaulting (up_to 3) (codes "0") (text_at d n "pickup_type")
+  pickup_stands : StandsAs (up_to 3) (means (codes "0")) (stop_time_text d n "pickup_type")
   pickup_stands = stands d passes file.StopTimes n row (codes "pickup_type") (defaulting "pickup_type" (up_to 3) "0") refl _ refl
 
-  drop_off_stands : StandsDefaulting (up_to 3) (codes "0") (text_at d n "drop_off_type")
+  drop_off_stands : StandsAs (up_to 3) (means (codes "0")) (stop_time_text d n "drop_off_type")
   drop_off_stands = stands d passes file.StopTimes n row (codes "drop_off_type") (defaulting "drop_off_type" (up_to 3) "0") refl _ refl
 
-  timepoint_stands : StandsAs (up_to 1) nothing (text_at d n "timepoint")
+  timepoint_stands : StandsAs (up_to 1) nothing (stop_time_text d n "timepoint")
   timepoint_stands = stands d passes file.StopTimes n row (codes "timepoint") (optional "timepoint" (up_to 1)) refl _ refl
 
-  pub trip_is : word_of id (text_at d n "trip_id") ≡ Some (text_at d n "trip_id")
-  trip_is = id_there (text_at d n "trip_id") trip_stands
+  pub trip_is : word_of id (stop_time_text d n "trip_id") ≡ Some (stop_time_text d n "trip_id")
+  trip_is = id_there (stop_time_text d n "trip_id") trip_stands
 
-  pub stop_is : word_of id (text_at d n "stop_id") ≡ Some (text_at d n "stop_id")
-  stop_is = id_there (text_at d n "stop_id") stop_stands
+  pub stop_is : word_of id (stop_time_text d n "stop_id") ≡ Some (stop_time_text d n "stop_id")
+  stop_is = id_there (stop_time_text d n "stop_id") stop_stands
 
-  pub sequence_there : is_some (amount_of count (text_at d n "stop_sequence")) ≡ true
-  sequence_there = amount_some count refl (text_at d n "stop_sequence") ∙ read_as_there count _ (text_at d n "stop_sequence") sequence_stands refl
+  pub sequence_there : is_some (amount_of count (stop_time_text d n "stop_sequence")) ≡ true
+  sequence_there = amount_some count refl (stop_time_text d n "stop_sequence") ∙ read_as_there count _ (stop_time_text d n "stop_sequence") sequence_stands refl
 
-  choice_there : (t : List ℕ) → StandsDefaulting (up_to 3) (codes "0") t → is_some (choice_of ((0, 3) ∷ []) (codes "0") t) ≡ true
+  choice_there : (t : List ℕ) → StandsAs (up_to 3) (means (codes "0")) t → is_some (choice_of ((0, 3) ∷ []) (codes "0") t) ≡ true
   choice_there t s = amount_some (up_to 3) refl (meaning (means (codes "0")) t) ∙ read_as_there (up_to 3) (means (codes "0")) t s refl
 
   times_read : AreTimesRead d n
   times_read = record {
-    arrival = read_stands time nothing (text_at d n "arrival_time") arrival_stands;
-    departure = read_stands time nothing (text_at d n "departure_time") departure_stands;
+    arrival = read_stands time nothing (stop_time_text d n "arrival_time") arrival_stands;
+    departure = read_stands time nothing (stop_time_text d n "departure_time") departure_stands;
   }
 
-  trip_known : is_some (first_row_with (first_rows d file.Trips (codes "trip_id")) (text_at d n "trip_id")) ≡ true
-  trip_known = ap is_some (first_row_is d file.Trips (codes "trip_id") (text_at d n "trip_id")) ∙ known_there (is_row (records_in d file.StopTimes) n) (is_some (readable id (text_at d n "trip_id"))) (is_some (row_with d file.Trips (codes "trip_id") (text_at d n "trip_id")))
-      row (read_as_there id _ (text_at d n "trip_id") trip_stands refl)
+  trip_known : is_some (first_row_with (first_rows d file.Trips (codes "trip_id")) (stop_time_text d n "trip_id")) ≡ true
+  trip_known = ap is_some (first_row_is d file.Trips (codes "trip_id") (stop_time_text d n "trip_id")) ∙ known_there (is_row (records_in d file.StopTimes) n) (is_some (readable id (stop_time_text d n "trip_id"))) (is_some (row_with d file.Trips (codes "trip_id") (stop_time_text d n "trip_id")))
+      row (read_as_there id _ (stop_time_text d n "trip_id") trip_stands refl)
       (passes (record { file = kept file.StopTimes; row = n; code = code.E10; column = codes "trip_id" }) refl)
 
-  stop_known : is_some (first_row_with (first_rows d file.Stops (codes "stop_id")) (text_at d n "stop_id")) ≡ true
-  stop_known = ap is_some (first_row_is d file.Stops (codes "stop_id") (text_at d n "stop_id")) ∙ known_there (is_row (records_in d file.StopTimes) n) (is_some (readable id (text_at d n "stop_id"))) (is_some (row_with d file.Stops (codes "stop_id") (text_at d n "stop_id")))
-      row (read_as_there id _ (text_at d n "stop_id") stop_stands refl)
+  stop_known : is_some (first_row_with (first_rows d file.Stops (codes "stop_id")) (stop_time_text d n "stop_id")) ≡ true
+  stop_known = ap is_some (first_row_is d file.Stops (codes "stop_id") (stop_time_text d n "stop_id")) ∙ known_there (is_row (records_in d file.StopTimes) n) (is_some (readable id (stop_time_text d n "stop_id"))) (is_some (row_with d file.Stops (codes "stop_id") (stop_time_text d n "stop_id")))
+      row (read_as_there id _ (stop_time_text d n "stop_id") stop_stands refl)
       (passes (record { file = kept file.StopTimes; row = n; code = code.E10; column = codes "stop_id" }) refl)
 
 -- ---- a stop time
@@ -106,17 +106,17 @@ module _ (d : Dataset) (passes : Passes d) (n : ℕ) (row : is_row (records_in d
 pub says : (d : Dataset) → Passes d → (s : StopTime) → is_row (records_in d file.StopTimes) s.row ≡ true → is_placed s.times ≡ true → Keeps d s → SaysStopTime d s
 says d passes s row placed keeps = record {
   row = row;
-  trip = named_id (first_rows d file.Trips (codes "trip_id")) (text_at d s.row "trip_id") s.trip (trip_known d passes s.row row)
-      (λ m e. keeps.trip m (ap (option_and_then (number_in d file.Trips (codes "trip_id"))) (trip_is d passes s.row row) ∙ e))
+  trip = named_id (first_rows d file.Trips (codes "trip_id")) (stop_time_text d s.row "trip_id") s.trip (trip_known d passes s.row row)
+      (λ m e. keeps.trip m (ap (option_and_then (number_of_id d file.Trips (codes "trip_id"))) (trip_is d passes s.row row) ∙ e))
       ∙ sym (trip_is d passes s.row row);
-  stop = named_id (first_rows d file.Stops (codes "stop_id")) (text_at d s.row "stop_id") s.stop (stop_known d passes s.row row)
-      (λ m e. keeps.rest.stop m (ap (option_and_then (number_in d file.Stops (codes "stop_id"))) (stop_is d passes s.row row) ∙ e))
+  stop = named_id (first_rows d file.Stops (codes "stop_id")) (stop_time_text d s.row "stop_id") s.stop (stop_known d passes s.row row)
+      (λ m e. keeps.rest.stop m (ap (option_and_then (number_of_id d file.Stops (codes "stop_id"))) (stop_is d passes s.row row) ∙ e))
       ∙ sym (stop_is d passes s.row row);
   arrival_time = keeps.rest.arrival placed (times_read d passes s.row row);
   departure_time = keeps.rest.departure placed (times_read d passes s.row row);
   stop_sequence = said _ _ (sequence_there d passes s.row row) keeps.rest.sequence;
-  pickup_type = said _ _ (choice_there d passes s.row row (text_at d s.row "pickup_type") (pickup_stands d passes s.row row)) keeps.rest.pickup_type;
-  drop_off_type = said _ _ (choice_there d passes s.row row (text_at d s.row "drop_off_type") (drop_off_stands d passes s.row row)) keeps.rest.drop_off_type;
+  pickup_type = said _ _ (choice_there d passes s.row row (stop_time_text d s.row "pickup_type") (pickup_stands d passes s.row row)) keeps.rest.pickup_type;
+  drop_off_type = said _ _ (choice_there d passes s.row row (stop_time_text d s.row "drop_off_type") (drop_off_stands d passes s.row row)) keeps.rest.drop_off_type;
   has_headsign = keeps.rest.headsign;
-  timepoint = keeps.rest.timepoint (read_stands (up_to 1) nothing (text_at d s.row "timepoint") (timepoint_stands d passes s.row row));
+  timepoint = keeps.rest.timepoint (read_stands (up_to 1) nothing (stop_time_text d s.row "timepoint") (timepoint_stands d passes s.row row));
 }

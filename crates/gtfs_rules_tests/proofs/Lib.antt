@@ -1,4 +1,3 @@
-pub mod SiteFacts
 pub mod WorkedCases
 pub mod WorkedCodes
 pub mod WorkedFeeds

@@ -14,7 +14,7 @@ use Rattle.gtfs_field.proofs.OrderingFacts.{less_so}
 use Rattle.gtfs_field.proofs.TestFacts.{first_so, second_so}
 use Rattle.gtfs_table.specs.Tables.{Dataset}
 use Rattle.gtfs_columns.specs.steps.ProblemOrder.{problem_total, problem_anti}
-use Rattle.gtfs_columns.specs.Problems.{Problem, problem_cmp, is_listed, is_problem, IsReport}
+use Rattle.gtfs_columns.specs.Problems.{Problem, problem_cmp, lists_problem, is_problem, IsReport}
 use Rattle.gtfs_rules.specs.Report.{report_text}
 use Rattle.gtfs_rules.proofs.ReportLaws.{one_report}
 use Rattle.gtfs_rules_tests.proofs.WorkedFeeds.{tried, entered, problems_in, reported}
@@ -45,14 +45,14 @@ some_first : (b : Bool) (o : Option (Unit {0})) → is_some (cond b (Some tt) o)
 some_first true o = refl
 some_first false o = refl
 
-entered_found : (p : Problem) (ps : List Problem) → is_some (find problem_cmp p (entered ps)) ≡ is_listed ps p
+entered_found : (p : Problem) (ps : List Problem) → is_some (find problem_cmp p (entered ps)) ≡ lists_problem ps p
 entered_found p [] = refl
 entered_found p (q ∷ ps) =
     ap is_some (find-put problem_cmp problem_total p q tt (entered ps))
     ∙ some_first (eq_by_cmp problem_cmp p q) (find problem_cmp p (entered ps))
     ∙ ap (λ b. eq_by_cmp problem_cmp p q || b) (entered_found p ps)
 
-pub members : (d : Dataset) (p : Problem) → is_listed (problems_in d) p ≡ (is_problem d p && is_listed (tried d) p)
+pub members : (d : Dataset) (p : Problem) → lists_problem (problems_in d) p ≡ (is_problem d p && lists_problem (tried d) p)
 members d p =
     let held = filter (is_problem d) (tried d) in
     sym (is_some-find problem_cmp p (entered held))
@@ -70,7 +70,7 @@ tried_too false listed h = refl
 pub worked_report : (d : Dataset) → IsReport d (problems_in d)
 worked_report d = record {
   ascending = ascending d;
-  members = λ p. members d p ∙ tried_too (is_problem d p) (is_listed (tried d) p) (all_tried d p);
+  members = λ p. members d p ∙ tried_too (is_problem d p) (lists_problem (tried d) p) (all_tried d p);
 }
 
 -- so the lines of a worked report are those of the report that `check` makes, which is the only one

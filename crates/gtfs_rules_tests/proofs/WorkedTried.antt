@@ -22,7 +22,7 @@ use Rattle.gtfs_columns.specs.FieldRules.{in_row, is_form_fault, is_id, is_range
 use Rattle.gtfs_columns.specs.FileRules.{file_not_kept, is_at, is_needed, is_read}
 use Rattle.gtfs_columns.specs.PeriodRules.{ends_at_start, overlaps_earlier}
 use Rattle.gtfs_columns.specs.PresenceRules.{has_other_zone}
-use Rattle.gtfs_columns.specs.Problems.{FileName, kept, other, Problem, holds, holds_in, is_code, is_listed, is_problem, problem_cmp}
+use Rattle.gtfs_columns.specs.Problems.{FileName, kept, other, Problem, holds, holds_in, is_code, lists_problem, is_problem, problem_cmp}
 use Rattle.gtfs_columns.specs.References.{reported_column}
 use Rattle.gtfs_columns.specs.Rows.{file_rank, header, is_file, is_kept_column, is_named, text_in, times_named, value_in}
 use Rattle.gtfs_columns.specs.ServiceRules.{ends_before_start, is_never_active}
@@ -119,7 +119,7 @@ the_named f n c name other_name same =
     ∙ same_itself (problem_in f n c name)
 
 kept_listed : (d : Dataset) (c : Code) (x : File) (n : ℕ) (name : List ℕ) → IsTried d x n name
-    → is_listed (tried d) (problem_in (kept x) n c name) ≡ true
+    → lists_problem (tried d) (problem_in (kept x) n c name) ≡ true
 kept_listed d c x n name site =
     let p = problem_in (kept x) n c name in
     let t : Problem → Bool = λ q. is_eq (problem_cmp p q) in
@@ -140,7 +140,7 @@ kept_listed d c x n name site =
     ∙ any_file (λ y. list_any t (flat_map (problems_tried d y) (rows_tried d y))) x in_file)
 
 other_listed : (d : Dataset) (c : Code) (file_named : List ℕ) (n : ℕ) (name : List ℕ) → file_not_kept d file_named n name ≡ true
-    → is_listed (tried d) (problem_in (other file_named) n c name) ≡ true
+    → lists_problem (tried d) (problem_in (other file_named) n c name) ≡ true
 other_listed d c file_named n name h =
     let parts = and_parts (is_at 0 n name) (list_any (bytes_eq file_named) d.others) h in
     let at = and_parts (n == 0) (is_empty name) parts.0 in
@@ -379,10 +379,10 @@ module _ (d : Dataset) (x : File) (n : ℕ) (name : List ℕ) where
   holds_tried code.W08 h = by_rules d x n name time_rules refl h
 
 listed : (d : Dataset) (c : Code) (f : FileName) (n : ℕ) (name : List ℕ) → holds c d f n name ≡ true
-    → is_listed (tried d) (problem_in f n c name) ≡ true
+    → lists_problem (tried d) (problem_in f n c name) ≡ true
 listed d c (kept x) n name h = kept_listed d c x n name (holds_tried d x n name c h)
 listed d c (other t) n name h = other_listed d c t n name (and_parts (is_code c code.W03) (file_not_kept d t n name) h).1
 
 -- every problem is tried
-pub all_tried : (d : Dataset) (p : Problem) → is_problem d p ≡ true → is_listed (tried d) p ≡ true
+pub all_tried : (d : Dataset) (p : Problem) → is_problem d p ≡ true → lists_problem (tried d) p ≡ true
 all_tried d p h = listed d p.code p.file p.row p.column h

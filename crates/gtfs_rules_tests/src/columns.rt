@@ -2,11 +2,10 @@
 
 use crate::assertions::{assert_case, assert_is};
 use crate::feed::{FREQUENCIES, FileLines, put_files, small_feed};
-use crate::rows::PassedRow;
 use gtfs_columns::{
     Code, Column, Empty, FeedIds, FileName, Finder, Found, Ids, Kind, Problem, cell_code,
-    fault_code, has_control, is_one_of, is_required, length_code, read_choice, stop_types, type_of,
-    values,
+    fault_code, has_control, is_one_of, is_required, length_code, push_plain, read_choice,
+    stop_types, type_of, values,
 };
 use gtfs_field::{Axis, Clock, Colour, Coord, Day, FieldFault};
 use gtfs_rules::{Passed, check};
@@ -119,11 +118,18 @@ fn texts_are_read(rt: HostRuntime) {
     assert_is(&rt, values::id(""), None, "an empty id");
     assert!(rt; values::is_id("S1"));
     assert!(rt; !values::is_id(""));
-    let road = "Mill\tRoad";
-    assert_is(&rt, values::text(road), Some(road), "a text with a tab");
-    assert_is(&rt, values::text(""), None, "an empty text");
+    assert_is(&rt, values::meant("0", ""), "0", "an empty text");
+    assert_is(&rt, values::meant("0", "1"), "1", "a text");
     assert!(rt; has_control("\u{7f}"));
     assert!(rt; !has_control("Mill Road"));
+}
+
+#[test]
+fn control_characters_become_spaces(rt: HostRuntime) -> Result<(), Fail> {
+    let mut shown = String::with_capacity(rt.alloc(), 20)?;
+    push_plain(&mut shown, "Mill\tRoad\u{7f}");
+    assert_is(&rt, shown.as_str(), "Mill Road ", "a tab and a delete");
+    Ok(())
 }
 
 #[test]
@@ -144,28 +150,27 @@ fn assert_passes(rt: &impl Abort, alloc: Global, tables: &Tables) -> Result<(), 
 
 // The values of the first row of each file.
 fn assert_first_rows(rt: &impl Abort, passed: &Passed<'_>) {
-    let agency = PassedRow::new(passed, File::Agency, 2);
-    assert_is(rt, agency.text("agency_name"), Some("Metro"), "agency_name");
-    let stop = PassedRow::new(passed, File::Stops, 2);
-    assert_is(rt, stop.id("stop_id"), Some("S1"), "stop_id");
-    let location_type = stop.choice_or("location_type", &[(0, 4)], "0");
+    let stop_id = values::id(first_value(passed, File::Stops, "stop_id"));
+    assert_is(rt, stop_id, Some("S1"), "stop_id");
+    let location_type = first_value(passed, File::Stops, "location_type");
+    let location_type = values::choice_or(&[(0, 4)], "0", location_type);
     assert_is(rt, location_type, Some(0), "location_type");
-    let route = PassedRow::new(passed, File::Routes, 2);
-    let route_type = route.choice("route_type", &[(0, 7), (11, 12), (100, 1799)]);
+    let route_type = first_value(passed, File::Routes, "route_type");
+    let route_type = values::choice(&[(0, 7), (11, 12), (100, 1799)], route_type);
     assert_is(rt, route_type, Some(3), "route_type");
-    let colour = route.colour_or("route_color", "FFFFFF");
-    assert_is(rt, bits_of(colour), Some(0xFF_FFFF), "route_color");
-    let stop_time = PassedRow::new(passed, File::StopTimes, 2);
-    let sequence = stop_time.count("stop_sequence");
+    let sequence = values::count(first_value(passed, File::StopTimes, "stop_sequence"));
     assert_is(rt, sequence, Some(1), "stop_sequence");
-    let frequency = PassedRow::new(passed, File::Frequencies, 2);
-    let start = frequency.clock("start_time");
+    let start = values::clock(first_value(passed, File::Frequencies, "start_time"));
     assert_is(rt, seconds_of(start), Some(21_600), "start_time");
-    let calendar = PassedRow::new(passed, File::Calendar, 2);
-    let first_day = calendar.day("start_date");
+    let first_day = values::day(first_value(passed, File::Calendar, "start_date"));
     assert_is(rt, number_of(first_day), Some(19_814), "start_date");
-    let none = PassedRow::new(passed, File::Agency, 3);
-    assert_is(rt, none.text("agency_name"), None, "a value of no row");
+    let colour = values::colour(first_value(passed, File::Routes, "route_color"));
+    assert_is(rt, bits_of(colour), None, "route_color");
+}
+
+// The text of a column in the first row of a file, and the empty text where the file has no row.
+fn first_value<'a>(passed: &Passed<'a>, file: File, column: &str) -> &'a str {
+    passed.tables().value(file, 2, column)
 }
 
 // A frequency of the trip of the small feed.
@@ -300,10 +305,10 @@ fn problems_that_were_found_are_put_in_order(rt: HostRuntime) -> Result<(), Fail
     ];
     let mut found = Found::new(rt.alloc());
     for problem in wanted.iter().rev() {
-        found.report(*problem, true)?;
-        found.report(*problem, true)?;
+        found.report_if(*problem, true)?;
+        found.report_if(*problem, true)?;
     }
-    found.report(problem(trips, 4, Code::E06, "trip_id"), false)?;
+    found.report_if(problem(trips, 4, Code::E06, "trip_id"), false)?;
     let sorted = found.into_sorted();
     assert!(rt; sorted.as_slice() == wanted.as_slice());
     assert!(rt; Code::E20.is_error());

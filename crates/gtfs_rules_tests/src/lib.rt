@@ -6,7 +6,7 @@
 //! - `slow` finds the problems of a feed a second time, by a plain check that asks every code at every site.
 //! - `codes` has for each code a smallest change to the small feed, and `edges` cases at the edge of each rule.
 //! - `files` are files that are missing, empty, not UTF-8, or cut after any of their bytes.
-//! - `columns` has the public calls of `gtfs_columns` on their happy paths, and `rows` reads values of tables that pass.
+//! - `columns` has the public calls of `gtfs_columns` on their happy paths.
 //! - `stop_times` has the stop times that a feed which passes hands on.
 //! - `texts` compares texts of all short lengths.
 //! - `crowded` is a feed in which most rules are broken, and `many` one with hundreds of thousands of problems.
@@ -32,7 +32,6 @@ mod files;
 mod many;
 #[cfg(test)]
 mod reports;
-mod rows;
 #[cfg(test)]
 mod slow;
 #[cfg(test)]

@@ -96,10 +96,10 @@ module _ (xs : List Listed) (n : ℕ) (first : Listed) (some : 0 < n) (upto : n 
 
 -- ---- the steps of the code
 
-pub left_more : (xs : List Listed) (at n : ℕ) → drop n (take (length xs - at) (drop at xs)) ≡ drop (at + n) xs
+pub left_more : {X : Type 0} (xs : List X) (at n : ℕ) → drop n (take (length xs - at) (drop at xs)) ≡ drop (at + n) xs
 left_more xs at n = ap (drop n) (take_rest xs at) ∙ drop-drop n at xs
 
-pub upto_more : (xs : List Listed) (at n : ℕ) → at ≤ length xs → n ≤ length (take (length xs - at) (drop at xs)) → at + n ≤ length xs
+pub upto_more : {X : Type 0} (xs : List X) (at n : ℕ) → at ≤ length xs → n ≤ length (take (length xs - at) (drop at xs)) → at + n ≤ length xs
 upto_more xs at n within upto =
     let size : length (take (length xs - at) (drop at xs)) ≡ length xs - at = ap length (take_rest xs at) ∙ length-drop at xs in
     omega (arith, size, within, upto)

@@ -20,7 +20,7 @@ use Rattle.gtfs_runs.specs.declared.event.Event.{Event}
 use Rattle.gtfs_runs.proofs.ContentRows.{flag_at, same_service}
 
 -- what is asked of the row at a position is asked of the stop time there
-row_at : {X Y : Type 0} (f : X → Y) (P : X → Type 0) (q : Y → Bool) (r : X → Bool) (xs : List X) (n : ℕ) → All P xs → ((x : X) → P x → q (f x) ≡ r x)
+pub row_at : {X Y : Type 0} (f : X → Y) (P : X → Type 0) (q : Y → Bool) (r : X → Bool) (xs : List X) (n : ℕ) → All P xs → ((x : X) → P x → q (f x) ≡ r x)
     → if_there (slice_get (map f xs) n) q ≡ if_there (slice_get xs n) r
 row_at f P q r [] n all same = refl
 row_at f P q r (x ∷ xs) zero all same = same x (All-head P x xs all)

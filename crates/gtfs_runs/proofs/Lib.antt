@@ -31,3 +31,9 @@ pub mod TimedTrips
 pub mod Tallies
 pub mod TripIds
 mod SeekOrder
+mod EntryFacts
+mod IndexFacts
+mod NumberParts
+mod ChildFacts
+mod PlaceRows
+mod PlaceFinds

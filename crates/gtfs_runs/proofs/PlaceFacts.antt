@@ -76,7 +76,7 @@ pub id_at : (p : Parts) (d : Stop) (n : ℕ) → n < length p.stops → text_of_
 id_at p d n within = get_or-map (λ s. s.stop_id) p.stops n d [] within
 
 module _ (p : Parts) (sound : IsSoundParts p) (d : Stop) where
-  same_stop : (m n : ℕ) → m < length p.stops → n < length p.stops → bytes_eq (text_of_number (stop_ids p) m) (text_of_number (stop_ids p) n) ≡ (m == n)
+  pub same_stop : (m n : ℕ) → m < length p.stops → n < length p.stops → bytes_eq (text_of_number (stop_ids p) m) (text_of_number (stop_ids p) n) ≡ (m == n)
   same_stop m n a b = (λ i. bytes_eq (id_at p d m a i) (id_at p d n b i)) ∙ same_number (λ s. s.stop_id) p.stops m n d (in_order p sound).stops a b
 
   same_parent : (s : ℕ) (o : Option StopNo) → s < length p.stops → IfSome (option_map (λ n. n.0) o) (λ n. n < length p.stops)

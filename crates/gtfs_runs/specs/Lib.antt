@@ -8,3 +8,4 @@ pub mod StopLanes
 pub mod Kinds
 pub mod steps
 pub mod FlatEvents
+pub mod StopIndex

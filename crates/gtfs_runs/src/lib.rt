@@ -8,6 +8,7 @@
 //!   does not list.
 //! - A [`Pattern`] has the trips of a route that go in one direction along one list of stops; [`patterns`] has them all.
 //! - [`StopLanes`] are the lanes of a stop. [`flat_events`] lists all of its events one by one, for tests.
+//! - A [`StopIndex`] has for each stop the departure rows there, and makes the lanes of one stop after another cheap.
 //! - [`Steps`] counts how often a lane was asked.
 //!
 //! Each is made under a choice of [`Times`]: those of the file alone, or others where the file has none.
@@ -27,6 +28,7 @@ mod place;
 mod seek;
 mod step_lane;
 mod steps;
+mod stop_index;
 mod stop_lanes;
 mod trips;
 
@@ -42,5 +44,6 @@ pub use pattern::{Pattern, patterns};
 pub use seek::Seek;
 pub use step_lane::StepLane;
 pub use steps::Steps;
+pub use stop_index::{DepartureRow, StopIndex};
 pub use stop_lanes::StopLanes;
 pub use trips::trips_below;

@@ -41,6 +41,9 @@ pub(crate) struct Headed {
 ///
 /// They stand by direction, no direction before 0 and 0 before 1, and then by their stops: lists compare like words, by
 /// the ids of the stops, so a list that begins another stands before it.
+///
+/// # Errors
+/// [`OutOfMemory`] where memory ran out.
 pub fn patterns(alloc: Global, feed: &Feed, route: RouteNo) -> Result<Vec<Pattern>, OutOfMemory>
     ensures { IfOk result (λ found. ArePatterns feed.now route.0 found.items) }
 {

@@ -4,9 +4,12 @@ ghost use Rattle.gtfs_rows.specs.Views.{service_ids, stop_ids, text_of_number};
 ghost use Rattle.gtfs_runs.specs.Kinds.{AreByKind};
 ghost use Rattle.gtfs_runs.specs.Lanes.{latest};
 ghost use Rattle.gtfs_runs.specs.StopLanes.{AreLanesOf, filled_value, lanes_of, list_value, period_value};
+ghost use Rattle.gtfs_runs.specs.steps.Whole.{AreWhole};
 ghost use Rattle.gtfs_times.specs.Filling.{timed};
 
+mod at_rows;
 mod found;
+mod indexed;
 mod latest;
 mod listed;
 mod lists;
@@ -19,9 +22,10 @@ use crate::filled_lane::FilledLane;
 use crate::list_lane::ListLane;
 use crate::step_lane::StepLane;
 use crate::steps::Steps;
+use crate::stop_index::StopIndex;
 use crate::stop_lanes::latest::latest;
 use crate::stop_lanes::split::split;
-use crate::stop_lanes::whole::whole;
+use crate::stop_lanes::whole::{whole, whole_in_index};
 use gtfs_feed::Feed;
 use gtfs_field::OutOfMemory;
 use gtfs_rows::StopNo;
@@ -87,8 +91,64 @@ impl StopLanes {
             (text_of_number (stop_ids feed.now) stop.0)) }
         ensures steps { IfOk result (λ built. built.1 ≡ 0) }
     {
-        feed.soundness();
         let (lists, periods) = whole(alloc, feed, stop, times)?;
+        StopLanes::of_whole(alloc, feed, stop, times, lists, periods)
+    }
+
+    /// The lanes of the place of a stop, made of an index: those that [`StopLanes::build`] makes of its feed under its times.
+    /// The stop's number is below [`Feed::stop_count`] of that feed.
+    ///
+    /// It looks at the departure rows at the place and at no other stop time, but that a trip with times to fill is looked at
+    /// and copied whole. Beside that it does what [`StopLanes::build`] does with what it found.
+    ///
+    /// GTFS Schedule Reference, `stop_times.txt`, `frequencies.txt`, and `parent_station` of `stops.txt`.
+    ///
+    /// # Errors
+    /// [`OutOfMemory`] where memory ran out.
+    pub fn from_index(
+        alloc: Global,
+        index: &StopIndex<'_>,
+        stop: StopNo,
+    ) -> Result<(StopLanes, Steps), OutOfMemory>
+        requires { stop.0 < length index.now.feed.stops }
+        ensures lanes { IfOk result (λ built.
+            AreLanesOf (timed index.now.times (content_of index.now.feed))
+            (text_of_number (stop_ids index.now.feed) stop.0) (service_ids index.now.feed)
+            (lanes_of built.0)) }
+        ensures kinds { IfOk result (λ built.
+            AreByKind index.now.times (content_of index.now.feed)
+            (text_of_number (stop_ids index.now.feed) stop.0) built.0) }
+        ensures greatest { IfOk result (λ built. built.0.greatest
+            ≡ latest (timed index.now.times (content_of index.now.feed))
+            (text_of_number (stop_ids index.now.feed) stop.0)) }
+        ensures steps { IfOk result (λ built. built.1 ≡ 0) }
+    {
+        let (lists, periods) = whole_in_index(alloc, index, stop)?;
+        StopLanes::of_whole(alloc, index.feed(), stop, index.times(), lists, periods)
+    }
+
+    // The lanes of a stop of the feed, of these lists and periods, which are all that it has.
+    fn of_whole(
+        alloc: Global,
+        feed: &Feed,
+        stop: StopNo,
+        times: Times,
+        lists: Vec<ListLane>,
+        periods: Vec<StepLane>,
+    ) -> Result<(StopLanes, Steps), OutOfMemory>
+        requires { AreWhole (timed times (content_of feed.now))
+            (text_of_number (stop_ids feed.now) stop.0) (service_ids feed.now)
+            (map list_value lists.items) (map period_value periods.items) }
+        ensures lanes { IfOk result (λ built. AreLanesOf (timed times (content_of feed.now))
+            (text_of_number (stop_ids feed.now) stop.0) (service_ids feed.now) (lanes_of built.0)) }
+        ensures kinds { IfOk result (λ built. AreByKind times (content_of feed.now)
+            (text_of_number (stop_ids feed.now) stop.0) built.0) }
+        ensures greatest { IfOk result (λ built. built.0.greatest
+            ≡ latest (timed times (content_of feed.now))
+            (text_of_number (stop_ids feed.now) stop.0)) }
+        ensures steps { IfOk result (λ built. built.1 ≡ 0) }
+    {
+        feed.soundness();
         let greatest = latest(&lists, &periods);
         let (given, filled) = split(alloc, feed, lists, times)?;
         let lanes = StopLanes {

@@ -1,5 +1,6 @@
 pub mod Blank
 pub mod ContentIds
+pub mod EachOnce
 pub mod Gathers
 pub mod Keyed
 pub mod OfParts

@@ -1,11 +1,12 @@
 -- The lists of stop times while they are made.
-use Rattle.std.specs.Prelude.{◌≡◌, ◌<◌, ◌≤◌, ◌==◌, ◌++◌, ℕ, zero, suc, true, List, [], ◌∷◌, filter, length, map, slice_index_or}
+use Rattle.std.specs.Prelude.{◌≡◌, ◌<◌, ◌≤◌, ◌==◌, ◌++◌, ℕ, zero, suc, true, List, [], ◌∷◌, filter, filter_map, length, map, slice_index_or}
 use Rattle.std.specs.List.{All, list_all, list_any}
 use Rattle.csv.specs.Records.{Rising}
 use Rattle.gtfs_table.specs.Parts.{parts}
 use Rattle.gtfs_table.specs.Tables.{Dataset}
 use Rattle.gtfs_trip_rules.specs.declared.trips.row.StopTime.{StopTime}
 use Rattle.gtfs_rows.specs.Reading.{content_of, stop_row_in}
+use Rattle.gtfs_stop_times.specs.FirstNamed.{each_once}
 use Rattle.gtfs_stop_times.specs.Lists.{content_stop_ids, has_headsign}
 use Rattle.gtfs_rows.specs.NamedRows.{has_numbers_below, stop_row_named}
 use Rattle.gtfs_stop_times.specs.declared.gathered.Gathered.{Gathered}
@@ -24,7 +25,7 @@ pub record IsEmptyFor (count : ℕ) (g : Gathered) : Type 0 where
   pub trips : g.trips ≡ count
   pub rows : g.rows.items ≡ []
   pub starts : g.starts.items ≡ []
-  pub headsigns : g.headsigns ≡ []
+  pub headsigns : g.headsigns.texts ≡ []
 
 -- these stop times of the dataset, which begin all of them
 pub record AreGathered (d : Dataset) (ss : List StopTime) (g : Gathered) : Type 0 where
@@ -36,6 +37,8 @@ pub record AreGathered (d : Dataset) (ss : List StopTime) (g : Gathered) : Type 
   pub from_first : slice_index_or g.starts.items 0 (length g.rows.items) ≡ 0
   pub stretches : parts g.starts.items ss ≡ by_trip (length g.starts.items) ss
   -- a row for each stop time
-  pub named : map (stop_row_named (content_stop_ids d) g.headsigns) g.rows.items ≡ map (λ s. stop_row_in d s.row) ss
-  pub numbers : list_all (has_numbers_below (length (content_of d).stops) (length g.headsigns)) g.rows.items ≡ true
-  pub used : (k : ℕ) → k < length g.headsigns → list_any (has_headsign k) g.rows.items ≡ true
+  pub named : map (stop_row_named (content_stop_ids d) g.headsigns.texts) g.rows.items ≡ map (λ s. stop_row_in d s.row) ss
+  pub numbers : list_all (has_numbers_below (length (content_of d).stops) (length g.headsigns.texts)) g.rows.items ≡ true
+  pub used : (k : ℕ) → k < length g.headsigns.texts → list_any (has_headsign k) g.rows.items ≡ true
+  -- the headsigns in the order in which the stop times name them
+  pub first_named : g.headsigns.texts ≡ each_once (filter_map (λ r. r.stop_headsign) (map (λ s. stop_row_in d s.row) ss))

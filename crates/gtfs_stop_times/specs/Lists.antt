@@ -9,6 +9,7 @@ use Rattle.gtfs_rows.specs.Reading.{content_of}
 use Rattle.gtfs_rows.specs.declared.stop_row.StopRow.{StopRow as RowByNumber}
 use Rattle.gtfs_rows.specs.Headsigns.{AreDistinct}
 use Rattle.gtfs_rows.specs.NamedRows.{has_numbers_below, stop_row_named}
+use Rattle.gtfs_stop_times.specs.FirstNamed.{headsigns_in}
 use Rattle.gtfs_stop_times.specs.declared.stop_times.StopTimes.{StopTimes}
 
 -- the ids of the stops of the content, each at its number
@@ -35,6 +36,8 @@ pub record AreStopTimesOf (d : Dataset) (lists : StopTimes) : Type 0 where
       ≡ map (λ t. t.stop_rows) (content_of d).trips
   -- each number is that of a stop, or of a headsign
   pub numbers : list_all (has_numbers_below (length (content_of d).stops) (length lists.headsigns)) lists.stop_rows ≡ true
-  -- no headsign is there twice, and each is that of a row
+  -- the headsigns have their numbers in the order in which the rows first name them: so no headsign is there twice, and
+  -- each is that of a row
+  pub first_named : lists.headsigns ≡ headsigns_in (content_of d)
   pub distinct : AreDistinct lists.headsigns
   pub used : (k : ℕ) → k < length lists.headsigns → list_any (has_headsign k) lists.stop_rows ≡ true

@@ -40,7 +40,8 @@ impl Gathered {
         rows: usize,
         trips: usize,
     ) -> Result<Gathered, OutOfMemory>
-        ensures { IfOk result (IsEmptyFor trips) }
+        ensures empty { IfOk result (IsEmptyFor trips) }
+        ensures random { IfOk result (λ g. g.headsigns.random ≡ random) }
     {
         Ok(Gathered {
             trips,

@@ -5,6 +5,7 @@ ghost use Rattle.gtfs_columns.specs.Columns as kind;
 ghost use Rattle.gtfs_columns.specs.Reads.{word_of};
 ghost use Rattle.gtfs_columns.specs.Values.{plain};
 ghost use Rattle.gtfs_rows.specs.Headsigns.{AddsOnly, AreDistinct, KeepsHeadsigns, NamesHeadsign};
+ghost use Rattle.gtfs_stop_times.specs.HeadsignIndex.{with_headsign};
 
 use crate::plain::plain;
 use gtfs_columns::has_control;
@@ -25,19 +26,25 @@ pub(crate) struct Headsigns {
 }
 
 impl Model for Headsigns {
-    ghost use Rattle.std.specs.Prelude.{List as Sequence, ℕ, map, string_bytes};
+    ghost use Rattle.std.specs.Prelude.{map, string_bytes};
+    ghost use Rattle.indexmap.specs.IndexSet.{hasher_of};
     ghost use Rattle.gtfs_rows.specs.Headsigns.{ArePlain};
+    ghost use Rattle.gtfs_stop_times.specs.HeadsignIndex.{HeadsignIndex};
 
-    ghost Value = { Sequence (Sequence ℕ) };
+    ghost Value = { HeadsignIndex };
 
-    ghost view = { λ h. map string_bytes h.texts.keys };
+    ghost view = { λ h. record {
+      texts = map string_bytes h.texts.keys;
+      random = hasher_of h.texts;
+    } };
 
     ghost invariant = { λ h. ArePlain (map string_bytes h.texts.keys) };
 }
 
 impl Headsigns {
     pub(crate) fn new(alloc: Global, random: RandomState) -> Headsigns
-        ensures { result ≡ [] }
+        ensures empty { result.texts ≡ [] }
+        ensures random { result.random ≡ random }
     {
         Headsigns {
             alloc,
@@ -49,9 +56,11 @@ impl Headsigns {
     // The number of a headsign as it stands in a field, or none where the field is empty.
     pub(crate) fn number(&mut self, text: &str) -> Result<OptionalHeadsign, OutOfMemory>
         ensures named { IfOk result
-            (λ n. NamesHeadsign self.new n (word_of kind.text text.now)) }
-        ensures added { IfOk result (λ n. AddsOnly self.old self.new n) }
-        ensures kept { KeepsHeadsigns self.old self.new }
+            (λ n. NamesHeadsign self.new.texts n (word_of kind.text text.now)) }
+        ensures added { IfOk result (λ n. AddsOnly self.old.texts self.new.texts n) }
+        ensures texts { OnOk result (self.new.texts
+            ≡ with_headsign self.old.texts (word_of kind.text text.now)) }
+        ensures kept { KeepsHeadsigns self.old.texts self.new.texts }
     {
         if text.is_empty() {
             return Ok(OptionalHeadsign::new(None));
@@ -62,8 +71,8 @@ impl Headsigns {
 
     // The texts in their order.
     pub(crate) fn into_list(self) -> Result<List<Text>, OutOfMemory>
-        ensures texts { IfOk result (λ texts. texts ≡ self) }
-        ensures distinct { OnOk result (AreDistinct self) }
+        ensures texts { IfOk result (λ texts. texts ≡ self.texts) }
+        ensures distinct { OnOk result (AreDistinct self.texts) }
     {
         let Headsigns {
             alloc,
@@ -79,9 +88,11 @@ impl Headsigns {
 
     // The index of a headsign, which is added where it is new.
     fn index(&mut self, text: &str) -> Result<usize, OutOfMemory>
-        ensures index { IfOk result (λ k. slice_get self.new k ≡ Some (plain text.now)) }
-        ensures added { IfOk result (λ k. AddsOnly self.old self.new (Some k)) }
-        ensures kept { KeepsHeadsigns self.old self.new }
+        ensures index { IfOk result (λ k. slice_get self.new.texts k ≡ Some (plain text.now)) }
+        ensures added { IfOk result (λ k. AddsOnly self.old.texts self.new.texts (Some k)) }
+        ensures texts { OnOk result (self.new.texts
+            ≡ with_headsign self.old.texts (Some (plain text.now))) }
+        ensures kept { KeepsHeadsigns self.old.texts self.new.texts }
     {
         if self.is_at(self.last, text) {
             return Ok(self.last);
@@ -99,9 +110,11 @@ impl Headsigns {
     // The index of a text without control characters, which is added where it is new.
     fn index_of_plain(&mut self, text: &str) -> Result<usize, OutOfMemory>
         requires { plain text.now ≡ text.now }
-        ensures index { IfOk result (λ k. slice_get self.new k ≡ Some text.now) }
-        ensures added { IfOk result (λ k. AddsOnly self.old self.new (Some k)) }
-        ensures kept { KeepsHeadsigns self.old self.new }
+        ensures index { IfOk result (λ k. slice_get self.new.texts k ≡ Some text.now) }
+        ensures added { IfOk result (λ k. AddsOnly self.old.texts self.new.texts (Some k)) }
+        ensures texts { OnOk result (self.new.texts
+            ≡ with_headsign self.old.texts (Some text.now)) }
+        ensures kept { KeepsHeadsigns self.old.texts self.new.texts }
     {
         if let Some(index) = self.texts.get_index_of(text) {
             return Ok(index);
@@ -113,7 +126,7 @@ impl Headsigns {
 
     // Whether the text at an index is this one.
     fn is_at(&self, index: usize, text: &str) -> bool
-        ensures { result ≡ true → slice_get self.now index ≡ Some text.now }
+        ensures { result ≡ true → slice_get self.now.texts index ≡ Some text.now }
     {
         match self.texts.get_index(index) {
             Some(found) => found.as_str() == text,

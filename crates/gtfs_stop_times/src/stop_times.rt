@@ -17,7 +17,8 @@ pub struct StopTimes {
     pub stop_rows: List<StopRow>,
     /// Where the stop times of each trip begin, also of a trip that has none; they end where those of the next one begin.
     pub stop_row_starts: List<usize>,
-    /// The headsigns that stop times name by their numbers, each once. A control character is a space.
+    /// The headsigns that stop times name by their numbers, each once, in the order in which `stop_rows` first name them. A
+    /// control character is a space.
     pub headsigns: List<Text>,
 }
 
@@ -25,7 +26,7 @@ impl StopTimes {
     /// The stop times of a dataset that passed, which has this many trips.
     ///
     /// Each field was read when the dataset was checked. Only headsigns are read of the tables here, and no row where
-    /// the file has no such column. What the lists stand for does not depend on the random state.
+    /// the file has no such column. Headsigns are hashed by the random state, on which the lists do not depend.
     ///
     /// # Errors
     /// `OutOfMemory` where memory is refused, and where there are more than 4,294,967,295 different headsigns.

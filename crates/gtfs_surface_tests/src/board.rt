@@ -1,4 +1,5 @@
 //! `gtfs_board`.
+ghost use Rattle.gtfs_days.specs.Zone.{IsInstant};
 
 use gtfs_board::{
     Board, BoardFault, Departure, Feed, Key, Mark, PageFault, Sheet, Span, TableFault, Times,
@@ -6,8 +7,87 @@ use gtfs_board::{
 };
 use gtfs_days::Zone;
 use gtfs_field::{Clock, Day, FieldFault, List, OutOfMemory};
-use gtfs_table::MemoryOut;
+use gtfs_table::Out;
 use std::alloc::Global;
+
+const _: () = prove!(
+    BoardFault::UnknownStop as u8 == 1
+        && BoardFault::BadSpan as u8 == 2
+        && BoardFault::OutOfMemory as u8 == 3
+);
+
+const _: () = prove!(TableFault::UnknownRoute as u8 == 1 && TableFault::OutOfMemory as u8 == 2);
+
+fn open<'a>(
+    alloc: Global,
+    feed: &'a Feed,
+    zone: &'a Zone,
+    stop: &str,
+    span: Span,
+    after: Option<&Key<'_>>,
+    times: Times,
+) -> Result<Board<'a>, BoardFault> {
+    Board::open(alloc, feed, zone, stop, span, after, times)
+}
+
+fn next<'a>(board: &mut Board<'a>) -> Result<Option<Departure<'a>>, OutOfMemory> {
+    board.next()
+}
+
+fn counts(board: &Board<'_>) -> (usize, u64) {
+    (board.held(), board.steps())
+}
+
+// Outputs of every kind.
+fn page<O: Out>(
+    alloc: Global,
+    board: &mut Board<'_>,
+    limit: u64,
+    out: &mut O,
+) -> Result<u64, PageFault> {
+    write_page(alloc, board, limit, out)
+}
+
+fn read<'a>(text: &'a str) -> Result<Key<'a>, FieldFault> {
+    read_key(text)
+}
+
+fn key_text(alloc: Global, text: &mut String, key: &Key<'_>) -> Result<(), OutOfMemory> {
+    push_key(alloc, text, key)
+}
+
+fn line(
+    alloc: Global,
+    text: &mut String,
+    zone: &Zone,
+    departure: &Departure<'_>,
+) -> Result<(), OutOfMemory>
+    requires { IsInstant departure.now.key.instant }
+{
+    push_line(alloc, text, zone, departure)
+}
+
+fn sheets<'a>(
+    alloc: Global,
+    feed: &'a Feed,
+    route: &str,
+    direction: Option<u8>,
+    day: Day,
+    times: Times,
+) -> Result<Vec<Sheet<'a>>, TableFault> {
+    timetable(alloc, feed, route, direction, day, times)
+}
+
+fn sheet_text(alloc: Global, text: &mut String, sheet: &Sheet<'_>) -> Result<(), OutOfMemory> {
+    push_sheet(alloc, text, sheet)
+}
+
+fn is_ordered<T: Ord>() {}
+
+fn span(span: Span) -> (i64, i64) {
+    let Span { from, until } = span;
+    (from, until)
+}
 
 fn key<'a>(key: Key<'a>) -> (i64, &'a str, u32, u32, Day) {
     let Key {
@@ -31,72 +111,47 @@ fn departure<'a>(departure: Departure<'a>) -> (Key<'a>, &'a str, &'a str, &'a st
     (key, stop, route, headsign, mark)
 }
 
-fn lists<'a>(
-    sheet: Sheet<'a>,
-) -> (
-    List<&'a str>,
-    List<(u32, &'a str)>,
-    List<List<Option<Clock>>>,
-) {
+fn sheet<'b, 'a>(sheet: &'b Sheet<'a>) -> (&'b &'a str, &'b Option<u8>, &'b Day) {
     let Sheet {
-        route: _,
-        direction: _,
-        day: _,
+        route,
+        direction,
+        day,
         stops,
         runs,
         times,
     } = sheet;
-    (stops, runs, times)
+    lists(stops, runs, times);
+    (route, direction, day)
 }
 
-fn span(span: Span) -> (i64, i64) {
-    let Span { from, until } = span;
-    (from, until)
-}
-
-fn open<'a>(
-    alloc: Global,
-    feed: &'a Feed,
-    zone: &'a Zone,
-    span: Span,
-    after: Option<&Key<'a>>,
-) -> Result<Board<'a>, BoardFault> {
-    Board::open(alloc, feed, zone, "S1", span, after, Times::Given)
-}
-
-fn next<'a>(board: &mut Board<'a>) -> Result<Option<Departure<'a>>, OutOfMemory> {
-    board.next()
-}
-
-fn tabled<'a>(
-    alloc: Global,
-    feed: &'a Feed,
-    route: &str,
-    direction: Option<u8>,
-    day: Day,
-) -> Result<Vec<Sheet<'a>>, TableFault> {
-    timetable(alloc, feed, route, direction, day, Times::Given)
-}
-
-fn calls(
-    _read_key: fn(&str) -> Result<Key<'_>, FieldFault>,
-    _push_key: fn(Global, &mut String, &Key<'_>) -> Result<(), OutOfMemory>,
-    _push_line: fn(Global, &mut String, &Zone, &Departure<'_>) -> Result<(), OutOfMemory>,
-    _push_sheet: fn(Global, &mut String, &Sheet<'_>) -> Result<(), OutOfMemory>,
-    _write_page: fn(Global, &mut Board<'_>, u64, &mut MemoryOut) -> Result<u64, PageFault>,
-    _held: fn(&Board<'_>) -> usize,
-    _steps: fn(&Board<'_>) -> u64,
+fn lists<'a>(
+    _stops: &List<&'a str>,
+    _runs: &List<(u32, &'a str)>,
+    _times: &List<List<Option<Clock>>>,
 ) {}
+
+fn is_exact(mark: Mark) -> bool {
+    match mark {
+        Mark::Scheduled | Mark::ScheduledFilled => true,
+        Mark::Frequency | Mark::FrequencyFilled => false,
+    }
+}
+
+// A page's fault has the number of lines.
+fn lines(fault: PageFault) -> u64 {
+    match fault {
+        PageFault::Out(lines) | PageFault::OutOfMemory(lines) => lines,
+    }
+}
+
+fn is_memory(board: BoardFault, table: TableFault) -> bool {
+    match (board, table) {
+        (BoardFault::OutOfMemory, _) | (_, TableFault::OutOfMemory) => true,
+        (BoardFault::UnknownStop | BoardFault::BadSpan, TableFault::UnknownRoute) => false,
+    }
+}
 
 #[test]
 fn the_calls_are_these() {
-    calls(
-        read_key,
-        push_key,
-        push_line,
-        push_sheet,
-        write_page,
-        Board::held,
-        Board::steps,
-    );
+    is_ordered::<Key<'static>>();
 }

@@ -1,6 +1,7 @@
 //! `gtfs_feed`.
+ghost use Rattle.std.specs.Prelude.{◌<◌, length};
 
-use gtfs_days::Service;
+use gtfs_days::{Cut, Service};
 use gtfs_feed::{
     Agency, AgencyNo, Feed, Frequency, Parts, Route, RouteNo, ServiceNo, Stop, StopNo, StopRow,
     Transfer, Trip, TripNo,
@@ -12,9 +13,14 @@ use std::alloc::Global;
 use std::hash::RandomState;
 
 fn makers(
-    _new: fn(Global, RandomState, &Passed<'_>) -> Result<Feed, OutOfMemory>,
+    _assemble: fn(Global, RandomState, Parts) -> Result<Feed, OutOfMemory>,
+    _trimmed: fn(&Feed, Global, RandomState, Cut) -> Result<Feed, OutOfMemory>,
     _to_tables: fn(&Feed, Global) -> Result<Tables, OutOfMemory>,
 ) {}
+
+fn new(alloc: Global, random: RandomState, passed: &Passed<'_>) -> Result<Feed, OutOfMemory> {
+    Feed::new(alloc, random, passed)
+}
 
 fn ids(
     _agency: fn(&Feed, &str) -> Option<AgencyNo>,
@@ -32,23 +38,58 @@ fn counts(
     _trips: fn(&Feed) -> usize,
 ) {}
 
-fn rows(
-    _agency: fn(&Feed, AgencyNo) -> &Agency,
-    _stop: fn(&Feed, StopNo) -> &Stop,
-    _route: fn(&Feed, RouteNo) -> &Route,
-    _service: fn(&Feed, ServiceNo) -> &Service,
-    _trip: fn(&Feed, TripNo) -> &Trip,
-    _service_id: fn(&Feed, ServiceNo) -> &str,
-    _trip_rows: fn(&Feed, TripNo) -> &[StopRow],
-    _trip_frequencies: fn(&Feed, TripNo) -> &[Frequency],
-    _transfers: fn(&Feed) -> &[Transfer],
-) {}
+fn agency_by_number(feed: &Feed, agency: AgencyNo) -> &Agency
+    requires { agency.0 < length feed.now.agencies }
+{
+    feed.agency_by_number(agency)
+}
 
-fn parts(_assemble: fn(Global, RandomState, Parts) -> Result<Feed, OutOfMemory>) {}
+fn stop_by_number(feed: &Feed, stop: StopNo) -> &Stop
+    requires { stop.0 < length feed.now.stops }
+{
+    feed.stop_by_number(stop)
+}
+
+fn route_by_number(feed: &Feed, route: RouteNo) -> &Route
+    requires { route.0 < length feed.now.routes }
+{
+    feed.route_by_number(route)
+}
+
+fn service_by_number(feed: &Feed, service: ServiceNo) -> (&str, &Service)
+    requires { service.0 < length feed.now.services }
+{
+    (feed.service_id(service), feed.service_by_number(service))
+}
+
+fn trip_by_number(feed: &Feed, trip: TripNo) -> (&Trip, &[StopRow], &[Frequency])
+    requires { trip.0 < length feed.now.trips }
+{
+    (
+        feed.trip_by_number(trip),
+        feed.trip_rows(trip),
+        feed.trip_frequencies(trip),
+    )
+}
+
+fn transfers(feed: &Feed) -> &[Transfer] {
+    feed.transfers()
+}
+
+// Each number is one of a list.
+fn places(
+    agency: AgencyNo,
+    stop: StopNo,
+    route: RouteNo,
+    service: ServiceNo,
+    trip: TripNo,
+) -> [usize; 5] {
+    [agency.0, stop.0, route.0, service.0, trip.0]
+}
 
 #[test]
 fn the_calls_are_these() {
-    makers(Feed::new, Feed::to_tables);
+    makers(Feed::assemble, Feed::trimmed, Feed::to_tables);
     ids(
         Feed::agency,
         Feed::stop,
@@ -63,16 +104,4 @@ fn the_calls_are_these() {
         Feed::service_count,
         Feed::trip_count,
     );
-    rows(
-        Feed::agency_by_number,
-        Feed::stop_by_number,
-        Feed::route_by_number,
-        Feed::service_by_number,
-        Feed::trip_by_number,
-        Feed::service_id,
-        Feed::trip_rows,
-        Feed::trip_frequencies,
-        Feed::transfers,
-    );
-    parts(Feed::assemble);
 }

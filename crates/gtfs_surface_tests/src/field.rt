@@ -1,10 +1,13 @@
 //! `gtfs_field`.
 
 use gtfs_field::{
-    Axis, Clock, Colour, Coord, Day, FieldFault, OutOfMemory, push_colour, push_coord, push_count,
-    push_date, push_time, read_colour, read_coord, read_count, read_date, read_instant, read_time,
+    Axis, Clock, Colour, Coord, Day, FieldFault, List, OutOfMemory, Text, push_colour, push_coord,
+    push_count, push_date, push_time, read_colour, read_coord, read_count, read_date, read_instant,
+    read_time,
 };
 use std::alloc::Global;
+
+const _: () = prove!(FieldFault::Form as u8 == 1 && FieldFault::Range as u8 == 2);
 
 fn readers(
     _time: fn(&str) -> Result<Clock, FieldFault>,
@@ -23,10 +26,20 @@ fn writers(
     _coord: fn(Global, &mut String, Coord) -> Result<(), OutOfMemory>,
 ) {}
 
-fn numbers(fault: FieldFault) -> u32 {
-    match fault {
-        FieldFault::Form => 1,
-        FieldFault::Range => 2,
+fn texts(_new: fn(String) -> Text) {}
+
+// A list takes items of every type.
+fn list<T>(items: Vec<T>) -> List<T> {
+    List::new(items)
+}
+
+fn lent<'a, T>(text: &'a Text, list: &'a List<T>) -> (&'a str, &'a [T]) {
+    (text.as_str(), list.as_slice())
+}
+
+fn is_named(fault: FieldFault, axis: Axis) -> bool {
+    match (fault, axis) {
+        (FieldFault::Form | FieldFault::Range, Axis::Latitude | Axis::Longitude) => true,
     }
 }
 
@@ -41,6 +54,5 @@ fn the_calls_are_these() {
         read_coord,
     );
     writers(push_time, push_date, push_colour, push_count, push_coord);
-    let _ = numbers(FieldFault::Form);
-    let _ = [Axis::Latitude, Axis::Longitude];
+    texts(Text::new);
 }

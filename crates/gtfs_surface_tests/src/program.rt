@@ -5,6 +5,7 @@ use gtfs_table::{Folders, Out};
 use std::alloc::Global;
 use std::hash::RandomState;
 
+// Folders and outputs of every kind.
 fn ended<F: Folders, O: Out, E: Out>(
     alloc: Global,
     random: RandomState,
@@ -15,6 +16,3 @@ fn ended<F: Folders, O: Out, E: Out>(
 ) -> u8 {
     run(alloc, random, words, folders, out, err)
 }
-
-#[test]
-fn the_calls_are_these() {}

@@ -3,9 +3,47 @@
 use gtfs_feed::{Feed, RouteNo, ServiceNo, StopNo, TripNo};
 use gtfs_field::{List, OutOfMemory};
 use gtfs_runs::{
-    Event, Lane, ListLane, Pattern, Seek, StepLane, Steps, StopLanes, Times, patterns,
+    Event, FilledLane, Lane, ListLane, Pattern, Seek, StepLane, Steps, StopLanes, Times,
+    flat_events, patterns,
 };
 use std::alloc::Global;
+
+// Lanes of every kind.
+fn first_after<L: Lane>(
+    lane: &L,
+    feed: &Feed,
+    seek: &Seek<'_>,
+    steps: &mut Steps,
+) -> Option<Event> {
+    lane.first_after(feed, seek, steps)
+}
+
+fn next<L: Lane>(lane: &L, feed: &Feed, event: &Event, steps: &mut Steps) -> Option<Event> {
+    lane.next(feed, event, steps)
+}
+
+fn service<L: Lane>(lane: &L) -> ServiceNo {
+    lane.service()
+}
+
+fn are_lanes<A: Lane, B: Lane, C: Lane>() {}
+
+fn stop_lanes(
+    _build: fn(Global, &Feed, StopNo, Times) -> Result<(StopLanes, Steps), OutOfMemory>,
+    _greatest: fn(&StopLanes) -> u32,
+    _count: fn(&Steps) -> u64,
+) {
+    are_lanes::<ListLane, StepLane, FilledLane>();
+}
+
+fn lanes(lanes: &StopLanes) -> (&[ListLane], &[StepLane], &[FilledLane]) {
+    (lanes.lists(), lanes.periods(), lanes.filled())
+}
+
+fn lists(
+    _flat_events: fn(Global, &Feed, StopNo, Times) -> Result<Vec<(ServiceNo, Event)>, OutOfMemory>,
+    _patterns: fn(Global, &Feed, RouteNo) -> Result<Vec<Pattern>, OutOfMemory>,
+) {}
 
 fn event(event: Event) -> (u32, TripNo, u32, u32, usize) {
     let Event {
@@ -23,7 +61,7 @@ fn seek<'a>(seek: Seek<'a>) -> (i64, &'a str, u32, i64) {
     (at, trip, run, seq)
 }
 
-fn pattern(pattern: Pattern) -> (Option<u8>, List<StopNo>, List<TripNo>) {
+fn pattern(pattern: &Pattern) -> (&Option<u8>, &List<StopNo>, &List<TripNo>) {
     let Pattern {
         direction,
         stops,
@@ -32,32 +70,18 @@ fn pattern(pattern: Pattern) -> (Option<u8>, List<StopNo>, List<TripNo>) {
     (direction, stops, trips)
 }
 
-fn lane<L: Lane>(lane: &L, feed: &Feed, seek: &Seek<'_>, steps: &mut Steps) -> Option<Event> {
-    let event = lane.first_after(feed, seek, steps)?;
-    lane.next(feed, &event, steps)
+fn is_given(times: Times) -> bool {
+    match times {
+        Times::Given => true,
+        Times::Interpolated => false,
+    }
 }
 
-fn service<L: Lane>(lane: &L) -> ServiceNo {
-    lane.service()
-}
-
-fn lanes(
-    _build: fn(Global, &Feed, StopNo, Times) -> Result<(StopLanes, Steps), OutOfMemory>,
-    _lists: fn(&StopLanes) -> &[ListLane],
-    _periods: fn(&StopLanes) -> &[StepLane],
-    _greatest: fn(&StopLanes) -> u32,
-    _count: fn(&Steps) -> u64,
-    _patterns: fn(Global, &Feed, RouteNo) -> Result<Vec<Pattern>, OutOfMemory>,
-) {}
+fn is_ordered<T: Ord>() {}
 
 #[test]
 fn the_calls_are_these() {
-    lanes(
-        StopLanes::build,
-        StopLanes::lists,
-        StopLanes::periods,
-        StopLanes::greatest,
-        Steps::count,
-        patterns,
-    );
+    stop_lanes(StopLanes::build, StopLanes::greatest, Steps::count);
+    lists(flat_events, patterns);
+    is_ordered::<Event>();
 }

@@ -2,6 +2,7 @@ pub mod Blanks
 pub mod Blocks
 pub mod Ending
 pub mod Files
+pub mod Lent
 pub mod Parts
 pub mod Reading
 pub mod Rows

@@ -1,7 +1,9 @@
 ghost use Rattle.std.specs.Prelude.{All, ◌≡◌, ◌≢◌, ◌<◌, ◌≤◌, [], false, is_some, length, map, option_map, IfOk, IfErr, IfSome, IsErrOf, OnOk, OnErr};
+ghost use Rattle.std.specs.Borrow.{sem};
 ghost use Rattle.gtfs_devices.specs.Device.{FailsAtLast, MakesCalls, MakesSomeCalls};
 ghost use Rattle.gtfs_table.specs.Ending.{EndsAtFile, EndsReading};
 ghost use Rattle.gtfs_table.specs.Files.{file_name};
+ghost use Rattle.gtfs_table.specs.Lent.{LendsTable};
 ghost use Rattle.gtfs_devices.specs.Folder.{CountsFault, IsByBytes, RefusesRead};
 ghost use Rattle.gtfs_table.specs.Reading.{is_kept, kept_files, AllHoldWithin, AreOthers, other_names as names_kept_out, HoldsDataset, HoldsTable, HoldsWithin, RefusesDataset, SetsTables};
 ghost use Rattle.gtfs_table.specs.Rows.{is_row as row_of, numbered, records_in, rows as row_numbers};
@@ -257,17 +259,7 @@ impl Tables {
             (self.new ≡ with_table self.old file (with_record (table_of self.old file) field.now)) }
         ensures err { OnErr result (self.new ≡ self.old) }
     {
-        match file {
-            File::Agency => self.agency.push_record(field),
-            File::Stops => self.stops.push_record(field),
-            File::Routes => self.routes.push_record(field),
-            File::Trips => self.trips.push_record(field),
-            File::StopTimes => self.stop_times.push_record(field),
-            File::Calendar => self.calendar.push_record(field),
-            File::CalendarDates => self.calendar_dates.push_record(field),
-            File::Frequencies => self.frequencies.push_record(field),
-            File::Transfers => self.transfers.push_record(field),
-        }
+        self.table_mut(file).push_record(field)
     }
 
     /// Adds a field to the last record of a file, which has to have one.
@@ -280,17 +272,7 @@ impl Tables {
             (self.new ≡ with_table self.old file (with_field (table_of self.old file) field.now)) }
         ensures err { OnErr result (self.new ≡ self.old) }
     {
-        match file {
-            File::Agency => self.agency.push_field(field),
-            File::Stops => self.stops.push_field(field),
-            File::Routes => self.routes.push_field(field),
-            File::Trips => self.trips.push_field(field),
-            File::StopTimes => self.stop_times.push_field(field),
-            File::Calendar => self.calendar.push_field(field),
-            File::CalendarDates => self.calendar_dates.push_field(field),
-            File::Frequencies => self.frequencies.push_field(field),
-            File::Transfers => self.transfers.push_field(field),
-        }
+        self.table_mut(file).push_field(field)
     }
 
     /// The text of a file as `csv` writes it by default (RFC 4180, section 2, with LF at the end of each
@@ -351,16 +333,23 @@ impl Tables {
     fn set(&mut self, file: File, table: FileTable)
         ensures { self.new ≡ with_table self.old file table }
     {
+        *self.table_mut(file) = table;
+    }
+
+    fn table_mut(&mut self, file: File) -> &mut FileTable
+        ensures* writes_back { sem 𝓛 (LendsTable self.entry file result) }
+        ensures value { result.now ≡ table_of self.old file }
+    {
         match file {
-            File::Agency => self.agency = table,
-            File::Stops => self.stops = table,
-            File::Routes => self.routes = table,
-            File::Trips => self.trips = table,
-            File::StopTimes => self.stop_times = table,
-            File::Calendar => self.calendar = table,
-            File::CalendarDates => self.calendar_dates = table,
-            File::Frequencies => self.frequencies = table,
-            File::Transfers => self.transfers = table,
+            File::Agency => &mut self.agency,
+            File::Stops => &mut self.stops,
+            File::Routes => &mut self.routes,
+            File::Trips => &mut self.trips,
+            File::StopTimes => &mut self.stop_times,
+            File::Calendar => &mut self.calendar,
+            File::CalendarDates => &mut self.calendar_dates,
+            File::Frequencies => &mut self.frequencies,
+            File::Transfers => &mut self.transfers,
         }
     }
 

@@ -8,7 +8,7 @@ use Rattle.gtfs_table.specs.Tables.{Dataset}
 use Rattle.gtfs_table.specs.Rows.{is_empty}
 use Rattle.gtfs_table.specs.declared.file.File.TheVariants as file
 use Rattle.gtfs_columns.specs.Columns.{count, id, time, up_to}
-use Rattle.gtfs_columns.specs.IdNumbers.{number_in}
+use Rattle.gtfs_columns.specs.IdNumbers.{number_of_id}
 use Rattle.gtfs_columns.specs.ReadRules.{IsReadAs}
 use Rattle.gtfs_columns.specs.Reads.{amount_of, choice_of, word_of}
 use Rattle.gtfs_columns.specs.Values.{Value, amount, as_amount, as_word, readable}
@@ -21,12 +21,12 @@ use Rattle.gtfs_trip_rules.specs.declared.trips.notes.TripNote.{TripNote}
 use Rattle.gtfs_trip_rules.specs.declared.trips.row.Boarding.{Boarding}
 use Rattle.gtfs_trip_rules.specs.declared.trips.row.StopTime.{StopTime}
 use Rattle.gtfs_trip_rules.specs.declared.trips.row.Times.TheVariants as times
-use Rattle.gtfs_trip_rules.specs.Kept.{AreTimesRead, Keeps, KeepsRow, stop_named}
+use Rattle.gtfs_trip_rules.specs.Kept.{AreTimesRead, Keeps, KeepsRow, named_stop_number}
 use Rattle.gtfs_trip_rules.specs.KeptChoices.{boarding_in, boarding_number, exact_number, timepoint_in, timepoint_number}
 use Rattle.gtfs_trip_rules.specs.KeptRow.{kept_row, note_of_trip, times_in, with_trip}
 use Rattle.gtfs_trip_rules.specs.KeptTimes.{given, has_arrival, has_departure, is_placed, is_timed, is_untimed}
 use Rattle.gtfs_trip_rules.specs.Readings.{is_blank, text_of, value_in}
-use Rattle.gtfs_trip_rules.specs.StopTimes.{text_at, AreNumbersOf, IsReading, IsStopTime}
+use Rattle.gtfs_trip_rules.specs.StopTimes.{stop_time_text, AreNumbersOf, IsReading, IsStopTime}
 use Rattle.gtfs_trip_rules.specs.TripNotes.{trip_note}
 use Rattle.gtfs_trip_rules.specs.TripStopTimes.{TripStopTime}
 use Rattle.gtfs_trip_rules.specs.TripTexts.{note_of_values, note_read, time_of_texts}
@@ -168,18 +168,18 @@ sequence_is (Some n) x e = ap (λ o. unwrap_or o x) e
 
 module _ (d : Dataset) (n : ℕ) (s : ReadStopTime) (is : IsStopTime d n s) where
   abbrev arrival_text : List ℕ
-  arrival_text = text_at d n "arrival_time"
+  arrival_text = stop_time_text d n "arrival_time"
 
   abbrev departure_text : List ℕ
-  departure_text = text_at d n "departure_time"
+  departure_text = stop_time_text d n "departure_time"
 
-  trip_read : text_of (value_in s.trip_id) ≡ word_of id (text_at d n "trip_id")
+  trip_read : text_of (value_in s.trip_id) ≡ word_of id (stop_time_text d n "trip_id")
   trip_read = sym (worded_text (value_in s.trip_id)) ∙ ap (option_and_then as_word) is.trip_id.value
 
-  stop_read : text_of (value_in s.stop_id) ≡ word_of id (text_at d n "stop_id")
+  stop_read : text_of (value_in s.stop_id) ≡ word_of id (stop_time_text d n "stop_id")
   stop_read = sym (worded_text (value_in s.stop_id)) ∙ ap (option_and_then as_word) is.stop_id.value
 
-  sequence_read : option_map pos (value_in s.stop_sequence) ≡ amount_of count (text_at d n "stop_sequence")
+  sequence_read : option_map pos (value_in s.stop_sequence) ≡ amount_of count (stop_time_text d n "stop_sequence")
   sequence_read = sym (counted_text (value_in s.stop_sequence)) ∙ ap (option_and_then as_amount) is.stop_sequence.value
 
   module _ (stop : Option ℕ) where
@@ -196,7 +196,7 @@ module _ (d : Dataset) (n : ℕ) (s : ReadStopTime) (is : IsStopTime d n s) wher
 
     -- what the row says of its trip
     note_is : (number : Option ℕ) (trip : Option (Bor (List ℕ))) → option_map trip_note (option_map (note_of_trip number (kept_row s stop)) trip)
-        ≡ note_of_values (text_of trip) (amount_of count (text_at d n "stop_sequence")) arrival_text departure_text n
+        ≡ note_of_values (text_of trip) (amount_of count (stop_time_text d n "stop_sequence")) arrival_text departure_text n
     note_is number None = refl
     note_is number (Some t) = λ i. Some (record {
       trip_id = t.now;
@@ -213,7 +213,7 @@ module _ (d : Dataset) (n : ℕ) (s : ReadStopTime) (is : IsStopTime d n s) wher
 
     pub note_said : (number : Option ℕ) → option_map trip_note (option_map (note_of_trip number (kept_row s stop)) (value_in s.trip_id)) ≡ note_read d n
     note_said number = note_is number (value_in s.trip_id)
-        ∙ ap (λ t. note_of_values t (amount_of count (text_at d n "stop_sequence")) arrival_text departure_text n) trip_read
+        ∙ ap (λ t. note_of_values t (amount_of count (stop_time_text d n "stop_sequence")) arrival_text departure_text n) trip_read
 
     -- the times of a row that has a sequence
     times_are : is_placed (kept_row s stop).times ≡ true → (kept_row s stop).times ≡ (times_in s.arrival_time s.departure_time).times
@@ -225,9 +225,9 @@ module _ (d : Dataset) (n : ℕ) (s : ReadStopTime) (is : IsStopTime d n s) wher
 
     module _ (names : NamedIds) (are : AreNumbersOf d s names) (same : names.stop.number ≡ stop) (t : ℕ) where
       -- the number of the row's stop
-      stop_is : (m : ℕ) → stop_named d (text_at d n "stop_id") ≡ Some m → unwrap_or stop 0 ≡ m
+      stop_is : (m : ℕ) → named_stop_number d (stop_time_text d n "stop_id") ≡ Some m → unwrap_or stop 0 ≡ m
       stop_is m e =
-          ap (λ o. unwrap_or o 0) (sym same ∙ are.stop ∙ ap (option_and_then (number_in d file.Stops (codes "stop_id"))) stop_read ∙ e)
+          ap (λ o. unwrap_or o 0) (sym same ∙ are.stop ∙ ap (option_and_then (number_of_id d file.Stops (codes "stop_id"))) stop_read ∙ e)
 
       arrival_fine : AreTimesRead d n → IsFine s.arrival_time
       arrival_fine read = fine as_value arrival_text s.arrival_time is.arrival_time.empty is.arrival_time.value read.arrival
@@ -248,17 +248,17 @@ module _ (d : Dataset) (n : ℕ) (s : ReadStopTime) (is : IsStopTime d n s) wher
             ap (λ w. option_map pos (given (has_departure w) (times_in s.arrival_time s.departure_time).departure)) (times_are placed)
             ∙ ap (option_map pos) (departs_then s.arrival_time s.departure_time (arrival_fine read) (departure_fine read))
             ∙ sym (counted_text (value_in s.departure_time)) ∙ ap (option_and_then as_amount) is.departure_time.value;
-        pickup_type = chosen (text_at d n "pickup_type") s.pickup_type is.pickup_type;
-        drop_off_type = chosen (text_at d n "drop_off_type") s.drop_off_type is.drop_off_type;
+        pickup_type = chosen (stop_time_text d n "pickup_type") s.pickup_type is.pickup_type;
+        drop_off_type = chosen (stop_time_text d n "drop_off_type") s.drop_off_type is.drop_off_type;
         headsign = is.has_headsign;
-        timepoint = exactness (text_at d n "timepoint") s.is_exact is.is_exact;
+        timepoint = exactness (stop_time_text d n "timepoint") s.is_exact is.is_exact;
       }
 
       -- .. with the number of its trip
       pub keeps : ((m : ℕ) → names.trip.number ≡ Some m → t ≡ m) → Keeps d (with_trip (kept_row s stop) t)
       keeps known = record {
         rest = subst (λ k. KeepsRow d k (with_trip (kept_row s stop) t)) (sym is.row) keeps_row;
-        trip = λ m e. known m (are.trip ∙ ap (option_and_then (number_in d file.Trips (codes "trip_id"))) (trip_read ∙ ap (λ k. word_of id (text_at d k "trip_id")) (sym is.row)) ∙ e);
+        trip = λ m e. known m (are.trip ∙ ap (option_and_then (number_of_id d file.Trips (codes "trip_id"))) (trip_read ∙ ap (λ k. word_of id (stop_time_text d k "trip_id")) (sym is.row)) ∙ e);
       }
 
 -- what a note was made of

@@ -8,7 +8,7 @@ use Rattle.gtfs_columns.specs.declared.code.Code.TheVariants as code
 use Rattle.gtfs_columns.specs.steps.Found.{Adds, Reports, is_same}
 use Rattle.gtfs_columns.specs.PeriodRules.{overlaps_earlier}
 use Rattle.gtfs_columns.specs.steps.Picks.{at_column, is_kept, of_codes}
-use Rattle.gtfs_columns.specs.Problems.{FileName, kept, other, Problem, holds, holds_in, is_code, is_listed, is_problem}
+use Rattle.gtfs_columns.specs.Problems.{FileName, kept, other, Problem, holds, holds_in, is_code, lists_problem, is_problem}
 use Rattle.gtfs_columns.specs.steps.ProblemOrder.{same_file}
 use Rattle.gtfs_columns.specs.Rows.{file_rank, is_file}
 use Rattle.gtfs_table.specs.Rows.{is_row, records_in}
@@ -58,4 +58,4 @@ overlaps_reported d old new reported = reports_alike d (at_column code.E19 file.
 pub row_asked : (d : Dataset) (n : ℕ) (holds : Bool) (old new : List Problem) → is_row (records_in d file.Frequencies) n ≡ true → holds ≡ overlaps_earlier d n
     → Adds (λ p. is_same (problem_at code.E19 file.Frequencies column n) p && holds) old new → Reports d (at_row (at_column code.E19 file.Frequencies column) n) old new
 row_asked d n holds old new row asked adds = row_reported d code.E19 file.Frequencies column (overlaps_earlier d) (at_rows d) n old new row
-    (λ p. adds p ∙ ap (λ b. is_listed old p || (is_same (problem_at code.E19 file.Frequencies column n) p && b)) asked)
+    (λ p. adds p ∙ ap (λ b. lists_problem old p || (is_same (problem_at code.E19 file.Frequencies column n) p && b)) asked)

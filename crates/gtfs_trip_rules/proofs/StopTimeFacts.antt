@@ -23,7 +23,7 @@ use Rattle.gtfs_columns.specs.Reads.{amount_of}
 use Rattle.gtfs_table.specs.Rows.{is_row, records_in, is_empty}
 use Rattle.gtfs_columns.specs.steps.StopTypes.{type_of, type_with}
 use Rattle.gtfs_trip_rules.specs.StopTimePicks.{at_row, departures_in_rows, in_names, in_times, names_in_rows, stops_in_rows, times_in_rows}
-use Rattle.gtfs_trip_rules.specs.StopTimes.{text_at, AreNamedRows, IsRow, ReportsOfRow}
+use Rattle.gtfs_trip_rules.specs.StopTimes.{stop_time_text, AreNamedRows, IsRow, ReportsOfRow}
 use Rattle.gtfs_columns.specs.TripRules.{lacks_time, leaves_early}
 use Rattle.gtfs_columns.specs.steps.UnknownIds.{is_unknown}
 use Rattle.gtfs_columns.specs.Values.{word, amount, as_amount, as_word, has_control, if_both, if_there, is_one_of, readable}
@@ -78,13 +78,13 @@ Rules d c name breaks = (n : ℕ) → holds_in c d file.StopTimes n name ≡ (is
 
 module _ (d : Dataset) where
   abbrev pub stop_unknown : ℕ → Bool
-  stop_unknown n = is_unknown (first_rows d file.Stops (codes "stop_id")) (text_at d n "stop_id")
+  stop_unknown n = is_unknown (first_rows d file.Stops (codes "stop_id")) (stop_time_text d n "stop_id")
 
   abbrev pub trip_unknown : ℕ → Bool
-  trip_unknown n = is_unknown (first_rows d file.Trips (codes "trip_id")) (text_at d n "trip_id")
+  trip_unknown n = is_unknown (first_rows d file.Trips (codes "trip_id")) (stop_time_text d n "trip_id")
 
   abbrev pub other_kind : NamedRows → ℕ → Bool
-  other_kind r n = if_there (type_with r.types.now r.stops.ids.now (text_at d n "stop_id")) (λ t. not (is_one_of (0 ∷ []) t))
+  other_kind r n = if_there (type_with r.types.now r.stops.ids.now (stop_time_text d n "stop_id")) (λ t. not (is_one_of (0 ∷ []) t))
 
   pub stop_rule : Rules d code.E10 (codes "stop_id") stop_unknown
   stop_rule n = unknown_in d file.StopTimes n (codes "stop_id") file.Stops (codes "stop_id") _ refl
@@ -93,7 +93,7 @@ module _ (d : Dataset) where
   trip_rule n = unknown_in d file.StopTimes n (codes "trip_id") file.Trips (codes "trip_id") _ refl
 
   pub kind_rule : (r : NamedRows) → AreNamedRows d r → Rules d code.E11 (codes "stop_id") (other_kind r)
-  kind_rule r named n = named_reported d r.types.now named.types r.stops.ids.now named.stops (is_row (records_in d file.StopTimes) n) (0 ∷ []) (text_at d n "stop_id")
+  kind_rule r named n = named_reported d r.types.now named.types r.stops.ids.now named.stops (is_row (records_in d file.StopTimes) n) (0 ∷ []) (stop_time_text d n "stop_id")
 
   pub early_rule : Rules d code.E16 (codes "departure_time") (leaves_early d)
   early_rule n = refl
@@ -111,10 +111,10 @@ module _ (d : Dataset) (s : ReadStopTime) (is : IsRow d s) where
 
   -- ---- the two times
 
-  arrival : option_map pos (value_in s.arrival_time) ≡ amount_of time (text_at d s.row "arrival_time")
+  arrival : option_map pos (value_in s.arrival_time) ≡ amount_of time (stop_time_text d s.row "arrival_time")
   arrival = sym (counted_text (value_in s.arrival_time)) ∙ ap (option_and_then as_amount) is.says.arrival_time.value
 
-  departure : option_map pos (value_in s.departure_time) ≡ amount_of time (text_at d s.row "departure_time")
+  departure : option_map pos (value_in s.departure_time) ≡ amount_of time (stop_time_text d s.row "departure_time")
   departure = sym (counted_text (value_in s.departure_time)) ∙ ap (option_and_then as_amount) is.says.departure_time.value
 
   early : if_both (option_map pos (value_in s.departure_time)) (option_map pos (value_in s.arrival_time)) int_lt ≡ leaves_early d s.row
@@ -122,11 +122,11 @@ module _ (d : Dataset) (s : ReadStopTime) (is : IsRow d s) where
 
   lone_departure : (is_blank s.arrival_time && is_some (value_in s.departure_time)) ≡ lacks_time "arrival_time" "departure_time" d s.row
   lone_departure = rw is.says.arrival_time.empty
-      (ap (λ b. is_empty (text_at d s.row "arrival_time") && b) (sym (some_mapped _ (value_in s.departure_time)) ∙ ap is_some is.says.departure_time.value))
+      (ap (λ b. is_empty (stop_time_text d s.row "arrival_time") && b) (sym (some_mapped _ (value_in s.departure_time)) ∙ ap is_some is.says.departure_time.value))
 
   lone_arrival : (is_blank s.departure_time && is_some (value_in s.arrival_time)) ≡ lacks_time "departure_time" "arrival_time" d s.row
   lone_arrival = rw is.says.departure_time.empty
-      (ap (λ b. is_empty (text_at d s.row "departure_time") && b) (sym (some_mapped _ (value_in s.arrival_time)) ∙ ap is_some is.says.arrival_time.value))
+      (ap (λ b. is_empty (stop_time_text d s.row "departure_time") && b) (sym (some_mapped _ (value_in s.arrival_time)) ∙ ap is_some is.says.arrival_time.value))
 
   pub times_reported : (ws xs ys zs : List Problem)
       → Adds (λ p. is_same (problem_at code.E16 file.StopTimes (codes "departure_time") s.row) p
@@ -162,7 +162,7 @@ module _ (i : FirstRows) (t : List ℕ) where
 
 module _ (d : Dataset) (s : ReadStopTime) (is : IsRow d s) (r : NamedRows) (named : AreNamedRows d r) where
   abbrev stop_text : List ℕ
-  stop_text = text_at d s.row "stop_id"
+  stop_text = stop_time_text d s.row "stop_id"
 
   no_stop : (is_some (value_in s.stop_id) && not (is_some (option_and_then (first_row_with r.stops.ids.now) (text_of (value_in s.stop_id)))))
       ≡ stop_unknown d s.row
@@ -170,7 +170,7 @@ module _ (d : Dataset) (s : ReadStopTime) (is : IsRow d s) (r : NamedRows) (name
 
   no_trip : (is_some (value_in s.trip_id) && not (is_some (option_and_then (first_row_with r.trips.ids.now) (text_of (value_in s.trip_id)))))
       ≡ trip_unknown d s.row
-  no_trip = unknown_read r.trips.ids.now (text_at d s.row "trip_id") (value_in s.trip_id) is.says.trip_id.value ∙ ap (λ i. is_unknown i (text_at d s.row "trip_id")) named.trips
+  no_trip = unknown_read r.trips.ids.now (stop_time_text d s.row "trip_id") (value_in s.trip_id) is.says.trip_id.value ∙ ap (λ i. is_unknown i (stop_time_text d s.row "trip_id")) named.trips
 
   no_platform : if_there (option_and_then (type_of r.types.now) (option_and_then (first_row_with r.stops.ids.now) (text_of (value_in s.stop_id)))) (λ t. not (is_one_of (0 ∷ []) t))
       ≡ other_kind d r s.row

@@ -16,11 +16,11 @@ use Rattle.gtfs_columns.specs.steps.Cells.{fault_code, is_found, when}
 use Rattle.gtfs_columns.specs.Columns.{Column, Kind, columns_of, column_named, id, count, time, up_to}
 use Rattle.gtfs_columns.specs.steps.FieldCodes.{field_codes, in_file_of, is_found_at, is_in_row, length_code}
 use Rattle.gtfs_columns.specs.steps.Found.{Adds}
-use Rattle.gtfs_columns.specs.Problems.{Problem, is_listed, is_problem}
+use Rattle.gtfs_columns.specs.Problems.{Problem, lists_problem, is_problem}
 use Rattle.gtfs_trip_rules.specs.Readings.{code_in, fault_in, is_blank}
 use Rattle.gtfs_columns.specs.Rows.{is_named}
 use Rattle.gtfs_trip_rules.specs.StopTimePicks.{at_row}
-use Rattle.gtfs_trip_rules.specs.StopTimes.{cells_of, fields_report, text_at, AreStopTimeColumns, IsReading, IsRow, ReportsOfRow}
+use Rattle.gtfs_trip_rules.specs.StopTimes.{cells_of, fields_report, stop_time_text, AreStopTimeColumns, IsReading, IsRow, ReportsOfRow}
 use Rattle.gtfs_columns.specs.Values.{Value, if_there}
 use Rattle.gtfs_table.specs.Rows.{is_empty}
 use Rattle.gtfs_columns.proofs.FieldRowFacts.{cell_at, cell_reported, empty_is, here_reported, length_reported}
@@ -35,7 +35,7 @@ joined false true a b = refl
 joined false false a b = refl
 
 pub adds_then : (r a b : Problem → Bool) (xs ys zs : List Problem) → Adds (λ p. r p && a p) xs ys → Adds (λ p. r p && b p) ys zs → Adds (λ p. r p && (a p || b p)) xs zs
-adds_then r a b xs ys zs before now p = now p ∙ ap (λ l. l || (r p && b p)) (before p) ∙ joined (is_listed xs p) (r p) (a p) (b p)
+adds_then r a b xs ys zs before now p = now p ∙ ap (λ l. l || (r p && b p)) (before p) ∙ joined (lists_problem xs p) (r p) (a p) (b p)
 
 abbrev Cell : Type 0
 Cell = List ℕ × Option Code
@@ -108,7 +108,7 @@ module _ (d : Dataset) (c : StopTimeColumns) (columns : AreStopTimeColumns d c) 
       ∷ (codes "departure_time", read_code time _ _ _ is.says.departure_time _ _ (and_false (is_named d file.StopTimes (codes "departure_time"))) i)
       ∷ (codes "stop_id", read_code id _ _ _ is.says.stop_id _ _ stop_named i)
       ∷ (codes "stop_sequence", read_code count _ _ _ is.says.stop_sequence _ _ sequence_named i)
-      ∷ (codes "stop_headsign", (is.says.stop_headsign ∙ unfilled_code (is_empty (text_at d s.row "stop_headsign")) (is_named d file.StopTimes (codes "stop_headsign")) _) i)
+      ∷ (codes "stop_headsign", (is.says.stop_headsign ∙ unfilled_code (is_empty (stop_time_text d s.row "stop_headsign")) (is_named d file.StopTimes (codes "stop_headsign")) _) i)
       ∷ (codes "pickup_type", read_code (up_to 3) _ _ _ is.says.pickup_type _ _ (and_false (is_named d file.StopTimes (codes "pickup_type"))) i)
       ∷ (codes "drop_off_type", read_code (up_to 3) _ _ _ is.says.drop_off_type _ _ (and_false (is_named d file.StopTimes (codes "drop_off_type"))) i)
       ∷ (codes "timepoint", read_code (up_to 1) _ _ _ is.says.is_exact _ _ (and_false (is_named d file.StopTimes (codes "timepoint"))) i)

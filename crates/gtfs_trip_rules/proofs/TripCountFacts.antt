@@ -19,7 +19,7 @@ use Rattle.gtfs_columns.specs.Rows.{text_in}
 use Rattle.gtfs_trip_rules.specs.TripCounts.{AreCounts, AreKept, count_of}
 use Rattle.gtfs_trip_rules.specs.KeptTimes.{is_placed}
 use Rattle.gtfs_trip_rules.specs.TripNotes.{note_of, times_noted, trip_notes_in}
-use Rattle.gtfs_trip_rules.specs.TripNumbers.{AreNamed, AreNumbered, Keeps, name_at, number_in}
+use Rattle.gtfs_trip_rules.specs.TripNumbers.{AreNamed, AreNumbered, Keeps, name_at, number_of_trip}
 use Rattle.gtfs_columns.specs.Columns.{id as id_kind}
 use Rattle.gtfs_columns.specs.Reads.{word_of}
 use Rattle.gtfs_columns.specs.Values.{if_there}
@@ -81,7 +81,7 @@ module _ (trips : List (List ℕ)) where
 
   -- one row more
   pub one_kept : (numbers : BTreeMap (Bor (List ℕ)) ℕ) (names : List (Bor (List ℕ))) (counts : List ℕ) (are_sequenced : Bool) (rows : List StopTime) (row : StopTime) (id : List ℕ) (count more : ℕ) (are : Bool)
-      → are ≡ (are_sequenced && is_placed row.times) → AreKept trips numbers names counts are_sequenced rows → number_in trips numbers id ≡ Some row.trip → row.trip < length counts → count ≡ get_or counts row.trip count → more ≡ min (count + 1) 2
+      → are ≡ (are_sequenced && is_placed row.times) → AreKept trips numbers names counts are_sequenced rows → number_of_trip trips numbers id ≡ Some row.trip → row.trip < length counts → count ≡ get_or counts row.trip count → more ≡ min (count + 1) 2
       → AreKept trips numbers names (set counts row.trip more) are (rows ++ row ∷ [])
   one_kept numbers names counts are_sequenced rows row id count more are both kept here inside was is_more = record {
     numbered = one_numbered trips numbers names rows row id kept.numbered.named kept.numbered.numbered here;
@@ -118,18 +118,18 @@ module _ (trips : List (List ℕ)) (numbers : BTreeMap (Bor (List ℕ)) ℕ) (na
       (named o rows (All-tail (λ r. is_of o r ≡ bytes_eq trip (name r.trip)) r rows each))
 
   module _ (rows : List StopTime) (are : AreNumbered trips numbers names rows) where
-    by_number : (o : Option ℕ) → number_in trips numbers trip ≡ o → (r : StopTime) → number_in trips numbers (name r.trip) ≡ Some r.trip → is_of o r ≡ bytes_eq trip (name r.trip)
+    by_number : (o : Option ℕ) → number_of_trip trips numbers trip ≡ o → (r : StopTime) → number_of_trip trips numbers (name r.trip) ≡ Some r.trip → is_of o r ≡ bytes_eq trip (name r.trip)
     by_number None is r has = same_test false (bytes_eq trip (name r.trip)) (λ e. cc e)
-        (λ e. let clash : None ≡ Some r.trip = sym is ∙ ap (number_in trips numbers) (text_is trip (name r.trip) e) ∙ has in cc)
+        (λ e. let clash : None ≡ Some r.trip = sym is ∙ ap (number_of_trip trips numbers) (text_is trip (name r.trip) e) ∙ has in cc)
     by_number (Some n) is r has = same_test (n == r.trip) (bytes_eq trip (name r.trip))
         (λ e. ap (λ t. bytes_eq t (name r.trip)) (sym (are.named trip n is).1 ∙ ap name (same_number n r.trip e)) ∙ text_itself (name r.trip))
-        (λ e. let one : n ≡ r.trip = ap (λ o. unwrap_or o 0) (sym is ∙ ap (number_in trips numbers) (text_is trip (name r.trip) e) ∙ has) in ap (λ m. n == m) (sym one) ∙ number_itself n)
+        (λ e. let one : n ≡ r.trip = ap (λ o. unwrap_or o 0) (sym is ∙ ap (number_of_trip trips numbers) (text_is trip (name r.trip) e) ∙ has) in ap (λ m. n == m) (sym one) ∙ number_itself n)
 
     pub trip_counted : (counts : List ℕ) → AreCounts counts rows → count_of trips numbers counts trip ≡ min (times_noted (map (note_of name) rows) trip) 2
-    trip_counted counts counted = of_number (number_in trips numbers trip) refl
-        ∙ ap (λ m. min m 2) (named (number_in trips numbers trip) rows (λ k d below. by_number (number_in trips numbers trip) refl (get_or rows k d) (are.numbered k d below)))
+    trip_counted counts counted = of_number (number_of_trip trips numbers trip) refl
+        ∙ ap (λ m. min m 2) (named (number_of_trip trips numbers trip) rows (λ k d below. by_number (number_of_trip trips numbers trip) refl (get_or rows k d) (are.numbered k d below)))
       where
-        of_number : (o : Option ℕ) → number_in trips numbers trip ≡ o → unwrap_or (option_map (λ n. get_or counts n 0) o) 0 ≡ min (length (filter (is_of o) rows)) 2
+        of_number : (o : Option ℕ) → number_of_trip trips numbers trip ≡ o → unwrap_or (option_map (λ n. get_or counts n 0) o) 0 ≡ min (length (filter (is_of o) rows)) 2
         of_number None is = sym (ap (λ m. min m 2) (none_of rows))
         of_number (Some n) is = counted n
 

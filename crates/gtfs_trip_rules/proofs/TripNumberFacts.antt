@@ -15,7 +15,7 @@ use Rattle.std.proofs.lemmas.List.Quantifiers.{position-Some}
 use Rattle.std.proofs.lemmas.List.Elements.{All-filter, All-push, All-tail}
 use Rattle.gtfs_trip_rules.specs.declared.trips.row.StopTime.{StopTime}
 use Rattle.gtfs_trip_rules.specs.TripNotes.{note_of}
-use Rattle.gtfs_trip_rules.specs.TripNumbers.{AllNumbered, AreNamed, AreNumbered, HaveNumbers, IsNumbered, Keeps, name_at, number_in, other_number}
+use Rattle.gtfs_trip_rules.specs.TripNumbers.{AllNumbered, AreNamed, AreNumbered, HaveNumbers, IsNumbered, Keeps, name_at, number_of_trip, other_number}
 use Rattle.gtfs_columns.proofs.SiteFacts.{text_is, text_itself}
 
 -- a function that another one equals at each element
@@ -67,23 +67,23 @@ module _ (trips : List (List ℕ)) where
   module _ (old new : BTreeMap (Bor (List ℕ)) ℕ) (names : List (Bor (List ℕ))) (name : Bor (List ℕ)) (next : ℕ) (is_next : next ≡ length trips + length names)
       (no_rank : rank name.now ≡ None) (none : other_number old name.now ≡ None)
       (wrote : (id : List ℕ) → other_number new id ≡ update bytes_eq (other_number old) name.now (Some next) id) where
-    written : (id : List ℕ) (b : Bool) → bytes_eq name.now id ≡ b → number_in trips new id ≡ option_or (rank id) (cond b (Some next) (other_number old id))
+    written : (id : List ℕ) (b : Bool) → bytes_eq name.now id ≡ b → number_of_trip trips new id ≡ option_or (rank id) (cond b (Some next) (other_number old id))
     written id b is = ap (option_or (rank id)) (wrote id ∙ ap (λ t. cond t (Some next) (other_number old id)) is)
 
-    new_number : (id : List ℕ) → bytes_eq name.now id ≡ true → number_in trips new id ≡ Some next
+    new_number : (id : List ℕ) → bytes_eq name.now id ≡ true → number_of_trip trips new id ≡ Some next
     new_number id same = written id true same ∙ ap (λ o. option_or o (Some next)) (ap rank (sym (text_is name.now id same)) ∙ no_rank)
 
     pub number_stays : Keeps trips old new
     number_stays id n has = elim (cases_Bool (bytes_eq name.now id)) [
       | inl same ↦
           let is : name.now ≡ id = text_is name.now id same in
-          let nowhere : number_in trips old id ≡ None = ap (number_in trips old) (sym is) ∙ (λ i. option_or (no_rank i) (none i)) in
+          let nowhere : number_of_trip trips old id ≡ None = ap (number_of_trip trips old) (sym is) ∙ (λ i. option_or (no_rank i) (none i)) in
           let clash : None ≡ Some n = sym nowhere ∙ has in cc
       | inr other ↦ written id false other ∙ has
     ]
 
     -- the new trip has the next number
-    pub now_numbered : number_in trips new name.now ≡ Some next
+    pub now_numbered : number_of_trip trips new name.now ≡ Some next
     now_numbered = new_number name.now (text_itself name.now)
 
     pub now_named : AreNamed trips old names → AreNamed trips new (names ++ name ∷ [])
@@ -102,7 +102,7 @@ module _ (trips : List (List ℕ)) where
     names_stay k d below = (named _ _ (keeps _ _ (each k d below))).1
 
     pub rows_stay : HaveNumbers trips new more rows
-    rows_stay k d below = ap (number_in trips new) (names_stay k d below) ∙ keeps _ _ (each k d below)
+    rows_stay k d below = ap (number_of_trip trips new) (names_stay k d below) ∙ keeps _ _ (each k d below)
 
     pub notes_stay : map (note_of (name_at trips more)) rows ≡ map (note_of (name_at trips names)) rows
     notes_stay = map_alike (note_of (name_at trips more)) (note_of (name_at trips names)) rows (λ k d below. of_name (get_or rows k d) (names_stay k d below))
@@ -111,15 +111,15 @@ module _ (trips : List (List ℕ)) where
         of_name r same = ap (λ t. note_of (λ n. t) r) same
 
   pub kept_numbers : (numbers : BTreeMap (Bor (List ℕ)) ℕ) (names : List (Bor (List ℕ))) (rows : List StopTime) (p : StopTime → Bool) → AreNumbered trips numbers names rows
-      → AllNumbered (λ id. unwrap_or (number_in trips numbers id) 0) (name_at trips names) (filter p rows)
+      → AllNumbered (λ id. unwrap_or (number_of_trip trips numbers id) 0) (name_at trips names) (filter p rows)
   kept_numbers numbers names rows p are =
-      All-filter p (IsNumbered (λ id. unwrap_or (number_in trips numbers id) 0) (name_at trips names)) rows (λ k d below. ap (λ o. unwrap_or o 0) (are.numbered k d below))
+      All-filter p (IsNumbered (λ id. unwrap_or (number_of_trip trips numbers id) 0) (name_at trips names)) rows (λ k d below. ap (λ o. unwrap_or o 0) (are.numbered k d below))
 
   pub one_numbered : (numbers : BTreeMap (Bor (List ℕ)) ℕ) (names : List (Bor (List ℕ))) (rows : List StopTime) (row : StopTime) (id : List ℕ) → AreNamed trips numbers names → HaveNumbers trips numbers names rows
-      → number_in trips numbers id ≡ Some row.trip → AreNumbered trips numbers names (rows ++ row ∷ [])
+      → number_of_trip trips numbers id ≡ Some row.trip → AreNumbered trips numbers names (rows ++ row ∷ [])
   one_numbered numbers names rows row id named each here = record {
     named = named;
-    numbered = All-push (λ (r : StopTime). number_in trips numbers (name_at trips names r.trip) ≡ Some r.trip) rows row each (ap (number_in trips numbers) (named _ _ here).1 ∙ here);
+    numbered = All-push (λ (r : StopTime). number_of_trip trips numbers (name_at trips names r.trip) ≡ Some r.trip) rows row each (ap (number_of_trip trips numbers) (named _ _ here).1 ∙ here);
   }
 
 -- the map as it was

@@ -19,7 +19,7 @@ use Rattle.gtfs_columns.specs.declared.problem.Problem.{Problem as LentProblem}
 use Rattle.gtfs_trip_rules.specs.declared.trips.row.StopTime.{StopTime}
 use Rattle.gtfs_columns.specs.steps.Found.{Adds, Reports, is_same}
 use Rattle.gtfs_columns.specs.steps.Picks.{at_column}
-use Rattle.gtfs_columns.specs.Problems.{Problem, holds_in, is_listed, is_problem}
+use Rattle.gtfs_columns.specs.Problems.{Problem, holds_in, lists_problem, is_problem}
 use Rattle.gtfs_table.specs.Rows.{is_row, records_in, rows, is_empty}
 use Rattle.gtfs_trip_rules.specs.KeptTimes.{departs, is_untimed}
 use Rattle.gtfs_trip_rules.specs.TripOrder.{ends, is_left_later, is_untimed_end, last_left, left_before, repeats, row_cmp, same_sequence, same_trip, InOrder}
@@ -134,7 +134,7 @@ module _ (d : Dataset) (c : Code) (name : List ℕ) (rule : List TripStopTime �
       (λ p. ap (λ b. b && is_problem d p) (one_more (at_column c file.StopTimes name p) (p.row == e.row) (is_among p.row xs)))
       (reports_then d (seen c name xs) (at_row (at_column c file.StopTimes name) e.row) old mid new before
       (row_reported d c file.StopTimes name breaks r.is e.row mid new of.row
-      (λ p. adds p ∙ ap (λ b. is_listed mid p || (is_same (problem_at c file.StopTimes name e.row) p && b)) found)))
+      (λ p. adds p ∙ ap (λ b. lists_problem mid p || (is_same (problem_at c file.StopTimes name e.row) p && b)) found)))
     where
       found : test ≡ breaks e.row
       found = asked ∙ ap (rule (trip_stop_times_in d)) (sym of.same) ∙ sym (ap (λ b. b && rule (trip_stop_times_in d) (trip_stop_time_in d e.row)) of.has)
@@ -242,7 +242,7 @@ module _ (d : Dataset) (name : ℕ → List ℕ) (lent : List StopTime) (o : InO
   reported_here : (xs : List TripStopTime) → Reports d (seen c column xs) old mid → Reports d (seen c column (trip_stop_time name (get_or lent i z) ∷ xs)) old new
   reported_here xs reported =
       seen_more d c column rule r (trip_stop_time name (get_or lent i z)) xs test old mid new (is_row_here d name lent o i z below) asked reported
-      (λ p. adds p ∙ ap (λ q. is_listed mid p || (is_same q p && test)) here)
+      (λ p. adds p ∙ ap (λ q. lists_problem mid p || (is_same q p && test)) here)
 
   -- at the next row, and at the row before
   pub reported_forward : Reports d (seen c column (rows_before name lent i)) old mid → Reports d (seen c column (rows_before name lent (i + 1))) old new
@@ -263,7 +263,7 @@ pub silent_forward : (d : Dataset) (name : ℕ → List ℕ) (lent : List StopTi
 silent_forward d name lent o c column rule r i z below ps asked reported =
     subst (λ (xs : List TripStopTime). Reports d (seen c column xs) ps ps) (sym (rows_before_more name lent i z below))
     (seen_more d c column rule r (trip_stop_time name (get_or lent i z)) (rows_before name lent i) false ps ps ps (is_row_here d name lent o i z below) asked reported
-    (λ p. nothing_added (is_listed ps p) (is_same (problem_at c file.StopTimes column (get_or lent i z).row) p)))
+    (λ p. nothing_added (lists_problem ps p) (is_same (problem_at c file.StopTimes column (get_or lent i z).row) p)))
 
 -- ---- the three rules
 

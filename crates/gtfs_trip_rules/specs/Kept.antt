@@ -5,44 +5,44 @@ use Rattle.gtfs_table.specs.Tables.{Dataset}
 use Rattle.gtfs_table.specs.declared.file.File.TheVariants as file
 use Rattle.gtfs_table.specs.Rows.{is_empty}
 use Rattle.gtfs_columns.specs.Columns.{count, id, time, up_to}
-use Rattle.gtfs_columns.specs.IdNumbers.{number_in}
+use Rattle.gtfs_columns.specs.IdNumbers.{number_of_id}
 use Rattle.gtfs_columns.specs.ReadRules.{IsReadAs}
 use Rattle.gtfs_columns.specs.Reads.{amount_of, choice_of, word_of}
 use Rattle.gtfs_trip_rules.specs.declared.trips.row.StopTime.{StopTime}
 use Rattle.gtfs_trip_rules.specs.KeptChoices.{boarding_number, timepoint_number}
 use Rattle.gtfs_trip_rules.specs.KeptTimes.{arrival_time, departure_time, is_placed}
-use Rattle.gtfs_trip_rules.specs.StopTimes.{text_at}
+use Rattle.gtfs_trip_rules.specs.StopTimes.{stop_time_text}
 
 -- ---- a row
 
 -- the number of the trip that a text names, and of the stop
-abbrev pub trip_named : Dataset → List ℕ → Option ℕ
-trip_named d t = option_and_then (number_in d file.Trips (codes "trip_id")) (word_of id t)
+abbrev pub named_trip_number : Dataset → List ℕ → Option ℕ
+named_trip_number d t = option_and_then (number_of_id d file.Trips (codes "trip_id")) (word_of id t)
 
-abbrev pub stop_named : Dataset → List ℕ → Option ℕ
-stop_named d t = option_and_then (number_in d file.Stops (codes "stop_id")) (word_of id t)
+abbrev pub named_stop_number : Dataset → List ℕ → Option ℕ
+named_stop_number d t = option_and_then (number_of_id d file.Stops (codes "stop_id")) (word_of id t)
 
 -- both times of a row are readable, or empty
 pub record AreTimesRead (d : Dataset) (n : ℕ) : Type 0 where
-  pub arrival : IsReadAs time (text_at d n "arrival_time")
-  pub departure : IsReadAs time (text_at d n "departure_time")
+  pub arrival : IsReadAs time (stop_time_text d n "arrival_time")
+  pub departure : IsReadAs time (stop_time_text d n "departure_time")
 
 -- what is kept of a row, but for its trip
 pub record KeepsRow (d : Dataset) (n : ℕ) (r : StopTime) : Type 0 where
   pub row : r.row ≡ n
-  pub stop : (m : ℕ) → stop_named d (text_at d n "stop_id") ≡ Some m → r.stop ≡ m
-  pub sequence : (x : ℤ) → amount_of count (text_at d n "stop_sequence") ≡ Some x → pos r.stop_sequence ≡ x
-  pub arrival : is_placed r.times ≡ true → AreTimesRead d n → option_map pos (arrival_time r) ≡ amount_of time (text_at d n "arrival_time")
-  pub departure : is_placed r.times ≡ true → AreTimesRead d n → option_map pos (departure_time r) ≡ amount_of time (text_at d n "departure_time")
-  pub pickup_type : (x : ℤ) → choice_of ((0, 3) ∷ []) (codes "0") (text_at d n "pickup_type") ≡ Some x → pos (boarding_number r.pickup_type) ≡ x
-  pub drop_off_type : (x : ℤ) → choice_of ((0, 3) ∷ []) (codes "0") (text_at d n "drop_off_type") ≡ Some x → pos (boarding_number r.drop_off_type) ≡ x
-  pub headsign : r.has_headsign ≡ not (is_empty (text_at d n "stop_headsign"))
-  pub timepoint : IsReadAs (up_to 1) (text_at d n "timepoint") → option_map pos (timepoint_number r.timepoint) ≡ amount_of (up_to 1) (text_at d n "timepoint")
+  pub stop : (m : ℕ) → named_stop_number d (stop_time_text d n "stop_id") ≡ Some m → r.stop ≡ m
+  pub sequence : (x : ℤ) → amount_of count (stop_time_text d n "stop_sequence") ≡ Some x → pos r.stop_sequence ≡ x
+  pub arrival : is_placed r.times ≡ true → AreTimesRead d n → option_map pos (arrival_time r) ≡ amount_of time (stop_time_text d n "arrival_time")
+  pub departure : is_placed r.times ≡ true → AreTimesRead d n → option_map pos (departure_time r) ≡ amount_of time (stop_time_text d n "departure_time")
+  pub pickup_type : (x : ℤ) → choice_of ((0, 3) ∷ []) (codes "0") (stop_time_text d n "pickup_type") ≡ Some x → pos (boarding_number r.pickup_type) ≡ x
+  pub drop_off_type : (x : ℤ) → choice_of ((0, 3) ∷ []) (codes "0") (stop_time_text d n "drop_off_type") ≡ Some x → pos (boarding_number r.drop_off_type) ≡ x
+  pub headsign : r.has_headsign ≡ not (is_empty (stop_time_text d n "stop_headsign"))
+  pub timepoint : IsReadAs (up_to 1) (stop_time_text d n "timepoint") → option_map pos (timepoint_number r.timepoint) ≡ amount_of (up_to 1) (stop_time_text d n "timepoint")
 
 -- and with its trip
 pub record Keeps (d : Dataset) (r : StopTime) : Type 0 where
   pub rest : KeepsRow d r.row r
-  pub trip : (m : ℕ) → trip_named d (text_at d r.row "trip_id") ≡ Some m → r.trip ≡ m
+  pub trip : (m : ℕ) → named_trip_number d (stop_time_text d r.row "trip_id") ≡ Some m → r.trip ≡ m
 
 abbrev pub AllKeep : Dataset → List StopTime → Type 0
 AllKeep d rows = All (Keeps d) rows

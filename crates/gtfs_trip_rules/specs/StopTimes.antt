@@ -25,8 +25,8 @@ use Rattle.gtfs_columns.specs.steps.StopTypes.{AreStopTypes}
 use Rattle.gtfs_trip_rules.specs.StopTimePicks.{at_row}
 use Rattle.gtfs_columns.specs.Values.{Value, word, amount, readable}
 
-abbrev pub text_at : Dataset → ℕ → Literal → List ℕ
-text_at d n name = text_in d file.StopTimes n (codes name)
+abbrev pub stop_time_text : Dataset → ℕ → Literal → List ℕ
+stop_time_text d n name = text_in d file.StopTimes n (codes name)
 
 abbrev pub index_in : Dataset → Literal → Option ℕ
 index_in d name = column_of (records_in d file.StopTimes) (codes name)
@@ -55,16 +55,16 @@ pub record IsReading {V : Type 0} (kind : Kind) (as_value : V → Value) (t : Li
 pub record IsStopTime (d : Dataset) (n : ℕ) (s : ReadStopTime) : Type 0 where
   pub row : s.row ≡ n
   pub fields : s.fields ≡ field_count d file.StopTimes n
-  pub trip_id : IsReading id (λ t. word t.now) (text_at d n "trip_id") s.trip_id
-  pub arrival_time : IsReading time (λ x. amount (pos x)) (text_at d n "arrival_time") s.arrival_time
-  pub departure_time : IsReading time (λ x. amount (pos x)) (text_at d n "departure_time") s.departure_time
-  pub stop_id : IsReading id (λ t. word t.now) (text_at d n "stop_id") s.stop_id
-  pub stop_sequence : IsReading count (λ x. amount (pos x)) (text_at d n "stop_sequence") s.stop_sequence
-  pub stop_headsign : s.stop_headsign ≡ fault_of text (text_at d n "stop_headsign")
-  pub has_headsign : s.has_headsign ≡ not (is_empty (text_at d n "stop_headsign"))
-  pub pickup_type : IsReading (up_to 3) (λ b. amount (pos (boarding_number b))) (text_at d n "pickup_type") s.pickup_type
-  pub drop_off_type : IsReading (up_to 3) (λ b. amount (pos (boarding_number b))) (text_at d n "drop_off_type") s.drop_off_type
-  pub is_exact : IsReading (up_to 1) (λ e. amount (pos (exact_number e))) (text_at d n "timepoint") s.is_exact
+  pub trip_id : IsReading id (λ t. word t.now) (stop_time_text d n "trip_id") s.trip_id
+  pub arrival_time : IsReading time (λ x. amount (pos x)) (stop_time_text d n "arrival_time") s.arrival_time
+  pub departure_time : IsReading time (λ x. amount (pos x)) (stop_time_text d n "departure_time") s.departure_time
+  pub stop_id : IsReading id (λ t. word t.now) (stop_time_text d n "stop_id") s.stop_id
+  pub stop_sequence : IsReading count (λ x. amount (pos x)) (stop_time_text d n "stop_sequence") s.stop_sequence
+  pub stop_headsign : s.stop_headsign ≡ fault_of text (stop_time_text d n "stop_headsign")
+  pub has_headsign : s.has_headsign ≡ not (is_empty (stop_time_text d n "stop_headsign"))
+  pub pickup_type : IsReading (up_to 3) (λ b. amount (pos (boarding_number b))) (stop_time_text d n "pickup_type") s.pickup_type
+  pub drop_off_type : IsReading (up_to 3) (λ b. amount (pos (boarding_number b))) (stop_time_text d n "drop_off_type") s.drop_off_type
+  pub is_exact : IsReading (up_to 1) (λ e. amount (pos (exact_number e))) (stop_time_text d n "timepoint") s.is_exact
 
 -- ---- what is reported of a row
 

@@ -6,7 +6,7 @@ use Rattle.std.specs.List.{All}
 use Rattle.std.specs.Option.{unwrap_or}
 use Rattle.gtfs_trip_rules.specs.declared.trips.row.StopTime.{StopTime}
 use Rattle.gtfs_trip_rules.specs.KeptTimes.{is_placed}
-use Rattle.gtfs_trip_rules.specs.TripNumbers.{number_in, AreNumbered}
+use Rattle.gtfs_trip_rules.specs.TripNumbers.{number_of_trip, AreNumbered}
 
 -- of each number how many rows have it, up to two
 abbrev pub AreCounts : List ℕ → List StopTime → Type 0
@@ -14,7 +14,7 @@ AreCounts counts rows = (n : ℕ) → get_or counts n 0 ≡ min (length (filter 
 
 -- how many rows name a trip, up to two; a trip without a number has none
 abbrev pub count_of : List (List ℕ) → BTreeMap (Bor (List ℕ)) ℕ → List ℕ → List ℕ → ℕ
-count_of trips numbers counts trip = unwrap_or (option_map (λ n. get_or counts n 0) (number_in trips numbers trip)) 0
+count_of trips numbers counts trip = unwrap_or (option_map (λ n. get_or counts n 0) (number_of_trip trips numbers trip)) 0
 
 -- fewer than two rows name the trip
 abbrev pub are_few : List (List ℕ) → BTreeMap (Bor (List ℕ)) ℕ → List ℕ → List ℕ → Bool

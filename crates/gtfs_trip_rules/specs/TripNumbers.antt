@@ -14,8 +14,8 @@ abbrev pub other_number : BTreeMap (Bor (List ℕ)) ℕ → List ℕ → Option 
 other_number numbers id = get_by (λ key. slice_cmp nat_cmp id key.now) numbers
 
 -- the number of a trip: its rank in trips.txt by bytes, and of other trips the number that they were given
-abbrev pub number_in : List (List ℕ) → BTreeMap (Bor (List ℕ)) ℕ → List ℕ → Option ℕ
-number_in trips numbers id = option_or (position (λ k. bytes_eq k id) trips) (other_number numbers id)
+abbrev pub number_of_trip : List (List ℕ) → BTreeMap (Bor (List ℕ)) ℕ → List ℕ → Option ℕ
+number_of_trip trips numbers id = option_or (position (λ k. bytes_eq k id) trips) (other_number numbers id)
 
 -- the trip of a number
 abbrev pub name_at : List (List ℕ) → List (Bor (List ℕ)) → ℕ → List ℕ
@@ -23,16 +23,16 @@ name_at trips names n = get_or (trips ++ map (λ name. name.now) names) n []
 
 -- each number is that of one trip
 abbrev pub AreNamed : List (List ℕ) → BTreeMap (Bor (List ℕ)) ℕ → List (Bor (List ℕ)) → Type 0
-AreNamed trips numbers names = (id : List ℕ) (n : ℕ) → number_in trips numbers id ≡ Some n
+AreNamed trips numbers names = (id : List ℕ) (n : ℕ) → number_of_trip trips numbers id ≡ Some n
     → (n < length trips + length names) × (name_at trips names n ≡ id)
 
 -- each number stays
 abbrev pub Keeps : List (List ℕ) → BTreeMap (Bor (List ℕ)) ℕ → BTreeMap (Bor (List ℕ)) ℕ → Type 0
-Keeps trips old new = (id : List ℕ) (n : ℕ) → number_in trips old id ≡ Some n → number_in trips new id ≡ Some n
+Keeps trips old new = (id : List ℕ) (n : ℕ) → number_of_trip trips old id ≡ Some n → number_of_trip trips new id ≡ Some n
 
 -- each row has its trip's number
 abbrev pub HaveNumbers : List (List ℕ) → BTreeMap (Bor (List ℕ)) ℕ → List (Bor (List ℕ)) → List StopTime → Type 0
-HaveNumbers trips numbers names rows = All (λ r. number_in trips numbers (name_at trips names r.trip) ≡ Some r.trip) rows
+HaveNumbers trips numbers names rows = All (λ r. number_of_trip trips numbers (name_at trips names r.trip) ≡ Some r.trip) rows
 
 -- each number is that of one trip, and each row has its trip's number
 pub record AreNumbered (trips : List (List ℕ)) (numbers : BTreeMap (Bor (List ℕ)) ℕ) (names : List (Bor (List ℕ))) (rows : List StopTime) : Type 0 where

@@ -18,7 +18,12 @@ use gtfs_table::{File, Record, Tables};
 use std::alloc::Global;
 use trip_numbers::TripNumbers;
 
-// Reports each period that shares a second with an earlier one of its trip (E19).
+/// Reports each period of `frequencies.txt` that shares a second with an earlier one of its trip
+/// (E19).
+///
+/// # Errors
+/// `OutOfMemory` where the problems that were found cannot grow, or there is no room for the seconds
+/// that the trips' periods cover.
 pub fn report_overlaps<'a>(
     alloc: Global,
     tables: &'a Tables,
@@ -37,7 +42,7 @@ pub fn report_overlaps<'a>(
             column: "start_time",
         };
         let meets = meets_earlier(&columns, &record, &mut trips, &mut covered)?;
-        found.report(problem, meets)?;
+        found.report_if(problem, meets)?;
     }
     Ok(())
 }

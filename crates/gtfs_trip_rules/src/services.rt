@@ -25,7 +25,11 @@ use gtfs_field::OutOfMemory;
 use gtfs_table::{File, Tables};
 use std::alloc::Global;
 
-// Reports each service that runs on no day (W07).
+/// Reports each service that runs on no day (W07).
+///
+/// # Errors
+/// `OutOfMemory` where the problems that were found cannot grow, or there is no room for the rows
+/// of the services by their ids.
 pub fn report_services<'a>(
     alloc: Global,
     tables: &'a Tables,
@@ -154,7 +158,7 @@ fn report_source<'a>(
             code: Code::W07,
             column: "service_id",
         };
-        found.report(problem, reported)?;
+        found.report_if(problem, reported)?;
     }
     Ok(())
 }

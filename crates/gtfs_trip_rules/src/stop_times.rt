@@ -33,9 +33,12 @@ use gtfs_field::OutOfMemory;
 use gtfs_table::{File, Record, Tables};
 use std::alloc::Global;
 
-// Reports what is wrong with the rows of stop_times.txt by themselves, and what they name that is
-// not there or of another kind; and takes note of what they say of their trips. It is one pass, in
-// which each field is cut and read once.
+/// Reports what is wrong with the rows of `stop_times.txt` by themselves, and what they name that
+/// is not there or of another kind, and hands on what they say of their trips. It is one pass, in
+/// which each field is cut and read once. The ids and location types are those of these tables.
+///
+/// # Errors
+/// `OutOfMemory` where the problems that were found cannot grow, or there is no room for the notes.
 pub fn report_stop_times<'a, 'i>(
     alloc: Global,
     tables: &'a Tables,
@@ -65,7 +68,8 @@ fn read_rows<'a, 'i>(
 ) -> Result<(), OutOfMemory>
     requires ids { AreIdsOf tables.now ids.now }
     requires types { AreStopTypes tables.now types.now }
-    requires none { notes.old ≡ record { trips = ids_of ids.now.network.trips; notes = []; rows = [] } }
+    requires none { notes.old
+        ≡ record { trips = ids_of ids.now.network.trips; notes = []; rows = [] } }
     ensures reported { OnOk result (Reports tables.now in_stop_times found.old found.new) }
     ensures notes { OnOk result (notes.new.notes ≡ trip_notes_in tables.now) }
     ensures kept { OnOk result (AllKeep tables.now notes.new.rows) }

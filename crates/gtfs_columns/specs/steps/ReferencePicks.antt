@@ -10,9 +10,6 @@ stop_names =
     ∷ (file.Transfers, codes "to_stop_id")
     ∷ []
 
-abbrev pub agency_names : List (File × List ℕ)
-agency_names = (file.Routes, codes "agency_id") ∷ []
-
 abbrev pub route_names : List (File × List ℕ)
 route_names =
     (file.Trips, codes "route_id")

@@ -23,7 +23,7 @@ fn faults_of(alloc: Global, folders: &mut impl Folders) -> (Faults, u64) {
 }
 
 // Where a call is refused for this reason, the faults, how many calls failed, and the counts of the system.
-fn refusals(rt: HostRuntime, call: Call, kind: ErrorKind) -> (Faults, u64, [u64; 4]) {
+fn refusals(rt: HostRuntime, call: Call, kind: ErrorKind) -> (Faults, u64, [u64; 5]) {
     let counts = Counts::new();
     let system = StandIn {
         refusal: Some((call, kind)),
@@ -39,20 +39,20 @@ const WRITE: Option<FolderFault> = Some(FolderFault::Write);
 
 const MEMORY: Option<FolderFault> = Some(FolderFault::OutOfMemory);
 
-// What is told where a call is refused for this reason, how many calls failed, and how often files are opened, read,
-// made and written. Nothing is told as absent or as too large: what can be looked at is there. A file is made where
+// What is told where a call is refused for this reason, how many calls failed, and how often the folder is listed and
+// files are opened, read, made and written. Nothing is told as absent or as too large: what can be looked at is there. A file is made where
 // none is found, and memory is wanted of listings alone. No call is made again.
-fn wanted(call: Call, kind: ErrorKind) -> (Faults, u64, [u64; 4]) {
-    let all = [1, 6, 1, 1];
+fn wanted(call: Call, kind: ErrorKind) -> (Faults, u64, [u64; 5]) {
+    let all = [1, 1, 6, 1, 1];
     match (call, kind) {
         (Call::OpenFolder | Call::List, ErrorKind::OutOfMemory) => ([MEMORY, None, None], 0, all),
         (Call::OpenFolder | Call::List, _) => ([READ, None, None], 1, all),
-        (Call::Find, ErrorKind::NotFound) => ([None, READ, None], 1, [0, 0, 1, 1]),
-        (Call::Find, _) => ([None, READ, WRITE], 2, [0, 0, 0, 0]),
+        (Call::Find, ErrorKind::NotFound) => ([None, READ, None], 1, [1, 0, 0, 1, 1]),
+        (Call::Find, _) => ([None, READ, WRITE], 2, [1, 0, 0, 0, 0]),
         (Call::Look, _) => ([None, None, None], 0, all),
-        (Call::Open, _) => ([None, READ, None], 1, [1, 0, 1, 1]),
+        (Call::Open, _) => ([None, READ, None], 1, [1, 1, 0, 1, 1]),
         (Call::Read, _) => ([None, READ, None], 1, all),
-        (Call::Make, _) => ([None, None, WRITE], 1, [1, 6, 1, 0]),
+        (Call::Make, _) => ([None, None, WRITE], 1, [1, 1, 6, 1, 0]),
         (Call::Write, _) => ([None, None, WRITE], 1, all),
     }
 }
@@ -96,11 +96,17 @@ fn a_pipe_is_never_opened(rt: HostRuntime) {
     };
     let found = faults_of(rt.alloc(), &mut DiskFolders::new(&system));
     assert_is(&rt, found, ([None, READ, WRITE], 2), "faults and failures");
-    assert_is(&rt, counts.get(), [0; 4], "opens, reads, makes and writes");
+    let made = [1, 0, 0, 0, 0];
+    assert_is(
+        &rt,
+        counts.get(),
+        made,
+        "lists, opens, reads, makes and writes",
+    );
 }
 
 // What is told of a write to a file that takes so many bytes a call, and how often it is made and written.
-fn written_by(rt: HostRuntime, takes: usize) -> (Option<FolderFault>, [u64; 4]) {
+fn written_by(rt: HostRuntime, takes: usize) -> (Option<FolderFault>, [u64; 5]) {
     let counts = Counts::new();
     let file = Drip {
         takes,
@@ -114,9 +120,14 @@ fn written_by(rt: HostRuntime, takes: usize) -> (Option<FolderFault>, [u64; 4]) 
 
 #[test]
 fn a_file_is_made_once_and_written_until_it_takes_nothing(rt: HostRuntime) {
-    assert_is(&rt, written_by(rt, 8), (None, [0, 0, 1, 1]), "all");
-    assert_is(&rt, written_by(rt, 3), (None, [0, 0, 1, 3]), "three bytes");
-    assert_is(&rt, written_by(rt, 0), (WRITE, [0, 0, 1, 1]), "nothing");
+    assert_is(&rt, written_by(rt, 8), (None, [0, 0, 0, 1, 1]), "all");
+    assert_is(
+        &rt,
+        written_by(rt, 3),
+        (None, [0, 0, 0, 1, 3]),
+        "three bytes",
+    );
+    assert_is(&rt, written_by(rt, 0), (WRITE, [0, 0, 0, 1, 1]), "nothing");
 }
 
 fn assert_not_found(rt: &impl Abort, alloc: Global, folders: &mut impl Folders) {

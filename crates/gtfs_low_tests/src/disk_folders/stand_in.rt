@@ -1,5 +1,5 @@
 //! A file system that stands in for the real one. It has one folder, f1, with one file or none, and every call on it can
-//! fail. It counts what is opened, made, read and written.
+//! fail. It counts what is listed, opened, made, read and written.
 ghost use Rattle.std.specs.Prelude.{IsErr};
 
 use std::alloc::{Allocator, Global};
@@ -22,9 +22,10 @@ pub(super) enum Call {
     Write,
 }
 
-/// How often files were opened, made, read and written.
+/// How often the folder was listed, and how often files were opened, made, read and written.
 #[derive(Drop)]
 pub(super) struct Counts {
+    lists: Cell<u64>,
     opens: Cell<u64>,
     makes: Cell<u64>,
     reads: Cell<u64>,
@@ -34,6 +35,7 @@ pub(super) struct Counts {
 impl Counts {
     pub(super) fn new() -> Counts {
         Counts {
+            lists: Cell::new(0),
             opens: Cell::new(0),
             makes: Cell::new(0),
             reads: Cell::new(0),
@@ -45,9 +47,10 @@ impl Counts {
         self.reads.get()
     }
 
-    /// Those of opens, reads, makes and writes.
-    pub(super) fn get(&self) -> [u64; 4] {
+    /// Those of lists, opens, reads, makes and writes.
+    pub(super) fn get(&self) -> [u64; 5] {
         [
+            self.lists.get(),
             self.opens.get(),
             self.reads.get(),
             self.makes.get(),
@@ -274,6 +277,7 @@ impl<'a> Files for StandIn<'a> {
     }
 
     fn open_dir(&self, path: &str) -> io::Result<Entries> {
+        count(&self.counts.lists);
         self.allow(Call::OpenFolder)?;
         if path != "f1/" {
             return Err(Error::from(ErrorKind::NotFound));

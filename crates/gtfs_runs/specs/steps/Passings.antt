@@ -1,7 +1,7 @@
 -- When a trip passes the stop times at which riders can leave a place: so many seconds after each of its runs starts.
-use Rattle.std.specs.Prelude.{◌≡◌, ◌≤◌, ◌<◌, ℕ, ◌+◌, ◌-◌, ◌&&◌, All, AllPairs, Bool, true, false, List, [], ◌∷◌, filter, is_some, map, slice_index_or, unwrap_or}
+use Rattle.std.specs.Prelude.{◌≡◌, ◌≤◌, ◌<◌, ℕ, ◌+◌, ◌-◌, ◌&&◌, All, AllPairs, Bool, true, false, List, [], ◌∷◌, filter, is_some, map, slice_get, slice_index_or, Some, unwrap_or}
 use Rattle.std.specs.List.{enumerate_from}
-use Rattle.gtfs_rows.specs.Trips.{left_at}
+use Rattle.gtfs_rows.specs.Trips.{left_at, stop_rows_by_trip}
 use Rattle.gtfs_rows.specs.Views.{content_of_parts, stop_ids, stop_row_of, text_of_number, trip_of}
 use Rattle.gtfs_rows.specs.declared.frequency.Frequency.{Frequency}
 use Rattle.gtfs_rows.specs.declared.parts.Parts.{Parts}
@@ -36,6 +36,10 @@ leaves p s t rows fs x =
 -- all of these
 abbrev pub passings_of : Parts → ℕ → Trip → List StopRow → List Frequency → List Passing
 passings_of p s t rows fs = map (passing_at (first_left rows)) (filter (leaves p s t rows fs) (enumerate_from 0 rows))
+
+-- these are all of the trip of this number
+abbrev pub ArePassings : Parts → ℕ → ℕ → List Passing → Type 0
+ArePassings p s trip xs = (t : Trip) (rows : List StopRow) (fs : List Frequency) → slice_get (stop_rows_by_trip p) trip ≡ Some rows → xs ≡ passings_of p s t rows fs
 
 -- the event of a run of the trip of this number
 abbrev pub passing_event : ℕ → ℕ → Passing → Event

@@ -9,8 +9,9 @@ ghost use Rattle.gtfs_runs.specs.StopLanes.{period_value};
 ghost use Rattle.gtfs_runs.specs.declared.event.Event.{Event as EventValue};
 ghost use Rattle.gtfs_runs.specs.steps.Courses.{stopping_of, stops_in};
 ghost use Rattle.gtfs_runs.specs.steps.Finds.{AreFound, HasRuns, stopping_at, times_passed, times_passed_in, times_told};
-ghost use Rattle.gtfs_runs.specs.steps.Passings.{first_left};
+ghost use Rattle.gtfs_runs.specs.steps.Passings.{ArePassings, first_left};
 ghost use Rattle.gtfs_times.specs.TimedRows.{timed_parts};
+ghost use Rattle.gtfs_times.specs.declared.times.Times.{Times as Choice};
 
 use crate::place::Place;
 use crate::step_lane::StepLane;
@@ -81,14 +82,34 @@ fn add_trip<'a>(
         → AreFound (timed_parts times feed.now) s (trip.0 + 1) (map stopping_of listed.new.items)
         (map period_value periods.new.items)) }
 {
+    let passings = passings(alloc, feed, place, trip, times)?;
+    add_passings(feed, trip, &passings, listed, periods)
+}
+
+// Adds what leaves a place of one trip, by its stop times there.
+pub(crate) fn add_passings<'a>(
+    feed: &'a Feed,
+    trip: TripNo,
+    passings: &[Passing],
+    listed: &mut Vec<Listed<'a>>,
+    periods: &mut Vec<StepLane>,
+) -> Result<(), OutOfMemory>
+    requires trip { trip.0 < length feed.now.trips }
+    requires after { All (λ x. x.after ≤ 3_599_999) passings.now }
+    ensures { OnOk result ((times : Choice) (s : ℕ)
+        → ArePassings (timed_parts times feed.now) s trip.0 passings.now
+        → AreFound (timed_parts times feed.now) s trip.0 (map stopping_of listed.old.items)
+        (map period_value periods.old.items)
+        → AreFound (timed_parts times feed.now) s (trip.0 + 1) (map stopping_of listed.new.items)
+        (map period_value periods.new.items)) }
+{
     feed.soundness();
     let service = feed.trip_by_number(trip).service_id;
     let frequencies = feed.trip_frequencies(trip);
-    let passings = passings(alloc, feed, place, trip, times)?;
     if frequencies.is_empty() {
-        add_listed(service, trip, feed.trip_rows(trip), &passings, listed)?;
+        add_listed(service, trip, feed.trip_rows(trip), passings, listed)?;
     } else {
-        add_periods(service, trip, frequencies, &passings, periods)?;
+        add_periods(service, trip, frequencies, passings, periods)?;
     }
     Ok(())
 }

@@ -106,7 +106,7 @@ fn passings_in(alloc: Global, place: &Place, rows: &[StopRow]) -> Result<Vec<Pas
 }
 
 // The stop time of this position. No vehicle leaves it before the trip starts.
-fn passed(row: &StopRow, start: u32, position: usize) -> Passing
+pub(crate) fn passed(row: &StopRow, start: u32, position: usize) -> Passing
     requires { unwrap_or (left_at row.now) 0 ≤ 3_599_999 }
     ensures value { result ≡ passing_at start (position, row.now) }
     ensures after { result.after ≤ 3_599_999 }

@@ -2,13 +2,18 @@ ghost use Rattle.std.specs.Prelude.{◌<◌, IfOk, length, map};
 ghost use Rattle.gtfs_feed.specs.Content.{content_of};
 ghost use Rattle.gtfs_rows.specs.Views.{service_ids, stop_ids, text_of_number};
 ghost use Rattle.gtfs_runs.specs.StopLanes.{list_value, period_value};
+ghost use Rattle.gtfs_runs.specs.steps.Courses.{stopping_of};
+ghost use Rattle.gtfs_runs.specs.steps.Finds.{AreFound};
 ghost use Rattle.gtfs_runs.specs.steps.Whole.{AreWhole};
 ghost use Rattle.gtfs_times.specs.Filling.{timed};
+ghost use Rattle.gtfs_times.specs.TimedRows.{timed_parts};
 
 use crate::list_lane::ListLane;
 use crate::place::Place;
 use crate::step_lane::StepLane;
+use crate::stop_index::StopIndex;
 use crate::stop_lanes::found::Found;
+use crate::stop_lanes::indexed::found_in_index;
 use crate::stop_lanes::listed::sorted;
 use crate::stop_lanes::lists::lists;
 use crate::stop_lanes::numbered::numbered;
@@ -30,9 +35,41 @@ pub(crate) fn whole(
         (text_of_number (stop_ids feed.now) stop.0) (service_ids feed.now)
         (map list_value lanes.0.items) (map period_value lanes.1.items)) }
 {
-    feed.soundness();
     let place = Place::of_stop(alloc, feed, stop)?;
     let found = Found::at_place(alloc, feed, &place, times)?;
+    in_lanes(alloc, feed, stop, times, found)
+}
+
+// The same of the departure rows that an index has there.
+pub(crate) fn whole_in_index(
+    alloc: Global,
+    index: &StopIndex<'_>,
+    stop: StopNo,
+) -> Result<(Vec<ListLane>, Vec<StepLane>), OutOfMemory>
+    requires { stop.0 < length index.now.feed.stops }
+    ensures { IfOk result (λ lanes. AreWhole (timed index.now.times (content_of index.now.feed))
+        (text_of_number (stop_ids index.now.feed) stop.0) (service_ids index.now.feed)
+        (map list_value lanes.0.items) (map period_value lanes.1.items)) }
+{
+    let found = found_in_index(alloc, index, stop)?;
+    in_lanes(alloc, index.feed(), stop, index.times(), found)
+}
+
+// What leaves the place of a stop of the feed, in lanes.
+fn in_lanes(
+    alloc: Global,
+    feed: &Feed,
+    stop: StopNo,
+    times: Times,
+    found: Found<'_>,
+) -> Result<(Vec<ListLane>, Vec<StepLane>), OutOfMemory>
+    requires { AreFound (timed_parts times feed.now) stop.0 (length feed.now.trips)
+        (map stopping_of found.listed.items) (map period_value found.periods.items) }
+    ensures { IfOk result (λ lanes. AreWhole (timed times (content_of feed.now))
+        (text_of_number (stop_ids feed.now) stop.0) (service_ids feed.now)
+        (map list_value lanes.0.items) (map period_value lanes.1.items)) }
+{
+    feed.soundness();
     let listed = numbered(alloc, found.listed)?;
     let listed = sorted(listed);
     let lists = lists(alloc, &listed)?;

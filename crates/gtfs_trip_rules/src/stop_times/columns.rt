@@ -5,7 +5,7 @@ ghost use Rattle.gtfs_columns.specs.steps.ColumnView.{kind_of};
 ghost use Rattle.gtfs_trip_rules.specs.KeptRow.{kept_row, note_of_trip};
 ghost use Rattle.gtfs_trip_rules.specs.Readings.{fault_of, value_in};
 ghost use Rattle.gtfs_table.specs.Rows.{records_in};
-ghost use Rattle.gtfs_trip_rules.specs.StopTimes.{text_at, AreStopTimeColumns, IsReading, IsStopTime};
+ghost use Rattle.gtfs_trip_rules.specs.StopTimes.{stop_time_text, AreStopTimeColumns, IsReading, IsStopTime};
 ghost use Rattle.gtfs_columns.specs.Columns.{id};
 ghost use Rattle.gtfs_columns.specs.Values.{word};
 
@@ -63,8 +63,8 @@ impl<'a> ReadStopTime<'a> {
         trip: Option<usize>,
         stop: Option<usize>,
     ) -> Result<Option<TripNote<'a>>, OutOfMemory>
-        ensures { IfOk result (λ note. note ≡ option_map (note_of_trip trip (kept_row self.now stop))
-            (value_in self.now.trip_id)) }
+        ensures { IfOk result (λ note. note
+            ≡ option_map (note_of_trip trip (kept_row self.now stop)) (value_in self.now.trip_id)) }
     {
         match self.trip_id.value() {
             Some(trip_id) => Ok(Some(TripNote {
@@ -130,9 +130,9 @@ impl<'a> StopTimeColumns<'a> {
         requires fields { «record».now
             ≡ record_at (records_in self.now.tables.now file.StopTimes) row }
         requires trip { IsReading id (λ t. word t.now)
-            (text_at self.now.tables.now row "trip_id") trip_id }
+            (stop_time_text self.now.tables.now row "trip_id") trip_id }
         requires stop { IsReading id (λ t. word t.now)
-            (text_at self.now.tables.now row "stop_id") stop_id }
+            (stop_time_text self.now.tables.now row "stop_id") stop_id }
         ensures says { IsStopTime self.now.tables.now row result }
         ensures trip { result.trip_id ≡ trip_id.entry }
         ensures stop { result.stop_id ≡ stop_id.entry }

@@ -66,5 +66,5 @@ fn report<'a>(
     let Some(code) = code else {
         return Ok(());
     };
-    found.report(problem(row, code, column), true)
+    found.report_if(problem(row, code, column), true)
 }

@@ -66,11 +66,11 @@ impl<'a, 't> NamedRows<'a, 't> {
         let row = stop_time.row;
         let stop = ids.stop.row;
         let no_stop = problem(row, Code::E10, "stop_id");
-        found.report(no_stop, is_lost(stop_time.stop_id.value(), stop))?;
+        found.report_if(no_stop, is_lost(stop_time.stop_id.value(), stop))?;
         let no_trip = problem(row, Code::E10, "trip_id");
-        found.report(no_trip, is_lost(stop_time.trip_id.value(), ids.trip.row))?;
+        found.report_if(no_trip, is_lost(stop_time.trip_id.value(), ids.trip.row))?;
         let no_platform = problem(row, Code::E11, "stop_id");
-        found.report(no_platform, is_no_platform(self.types, stop))
+        found.report_if(no_platform, is_no_platform(self.types, stop))
     }
 }
 

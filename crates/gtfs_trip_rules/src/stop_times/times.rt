@@ -23,11 +23,11 @@ pub(crate) fn report_times<'a>(
     let arrival = &stop_time.arrival_time;
     let departure = &stop_time.departure_time;
     let early = problem(row, Code::E16, "departure_time");
-    found.report(early, is_before(departure.value(), arrival.value()))?;
+    found.report_if(early, is_before(departure.value(), arrival.value()))?;
     let lacks_arrival = problem(row, Code::W08, "arrival_time");
-    found.report(lacks_arrival, is_alone(departure, arrival))?;
+    found.report_if(lacks_arrival, is_alone(departure, arrival))?;
     let lacks_departure = problem(row, Code::W08, "departure_time");
-    found.report(lacks_departure, is_alone(arrival, departure))
+    found.report_if(lacks_departure, is_alone(arrival, departure))
 }
 
 // Whether both times are there, and the first lies before the second.

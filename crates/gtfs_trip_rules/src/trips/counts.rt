@@ -15,7 +15,11 @@ use gtfs_columns::{Code, FileName, Found, Problem, values};
 use gtfs_field::OutOfMemory;
 use gtfs_table::{File, Tables};
 
-// Reports each row of trips.txt whose trip has fewer than two rows in stop_times.txt.
+/// Reports each row of `trips.txt` whose trip has fewer than two rows in `stop_times.txt` (W06). The
+/// notes are those of these tables.
+///
+/// # Errors
+/// `OutOfMemory` where the problems that were found cannot grow.
 pub fn report_counts<'a>(
     tables: &'a Tables,
     notes: &TripNotes<'_>,
@@ -33,7 +37,7 @@ pub fn report_counts<'a>(
             code: Code::W06,
             column: "trip_id",
         };
-        found.report(problem, has_few_rows(&mut counts, record.value(trip_id)))?;
+        found.report_if(problem, has_few_rows(&mut counts, record.value(trip_id)))?;
     }
     Ok(())
 }

@@ -28,7 +28,8 @@ pub(crate) struct TripNote<'a> {
     pub(crate) kept: StopTime,
 }
 
-// What the rows of stop_times.txt say of their trips.
+/// What the rows of `stop_times.txt` say of their trips: how many name each trip, and the stop times
+/// that a feed keeps.
 #[derive(Drop)]
 pub struct TripNotes<'a> {
     trips: &'a Ids<'a>,

@@ -1,6 +1,6 @@
 ghost use Rattle.std.specs.Prelude.{◌≡◌, ◌+◌, ◌<◌, ◌^◌, None, Some, IfOk, length};
 ghost use Rattle.gtfs_columns.specs.steps.Ids.{ids_of, number_with};
-ghost use Rattle.gtfs_trip_rules.specs.TripNumbers.{number_in, AreNamed, Keeps};
+ghost use Rattle.gtfs_trip_rules.specs.TripNumbers.{number_of_trip, AreNamed, Keeps};
 
 use gtfs_columns::Ids;
 use gtfs_field::OutOfMemory;
@@ -18,7 +18,7 @@ pub(crate) fn trip_number<'a>(
     requires number { number ≡ number_with trips.now id.now }
     ensures named { AreNamed (ids_of trips.now) numbers.new names.new.items }
     ensures keeps { Keeps (ids_of trips.now) numbers.old numbers.new }
-    ensures number { IfOk result (λ n. number_in (ids_of trips.now) numbers.new id.now ≡ Some n) }
+    ensures number { IfOk result (λ n. number_of_trip (ids_of trips.now) numbers.new id.now ≡ Some n) }
 {
     match number {
         Some(number) => Ok(number),
@@ -37,7 +37,7 @@ fn number_of_other<'a>(
     requires other { number_with trips.now id.now ≡ None }
     ensures named { AreNamed (ids_of trips.now) numbers.new names.new.items }
     ensures keeps { Keeps (ids_of trips.now) numbers.old numbers.new }
-    ensures number { IfOk result (λ n. number_in (ids_of trips.now) numbers.new id.now ≡ Some n) }
+    ensures number { IfOk result (λ n. number_of_trip (ids_of trips.now) numbers.new id.now ≡ Some n) }
 {
     if let Some(number) = numbers.get(id) {
         return Ok(*number);

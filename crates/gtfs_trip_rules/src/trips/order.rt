@@ -22,8 +22,12 @@ use gtfs_field::OutOfMemory;
 use gtfs_table::{File, Tables};
 use std::cmp::Ordering;
 
-// Reports what the order of stop times breaks: a sequence of a trip that comes twice, a first or
-// last row without times, and a time that goes back. Hands on the stop times in their order.
+/// Reports what the order of stop times breaks: a sequence of a trip that comes twice (E09), a first
+/// or last row without times (E15), and a time that goes back (E17). Hands on the stop times in
+/// their order: by trip, sequence and row. The notes are those of these tables.
+///
+/// # Errors
+/// `OutOfMemory` where the problems that were found cannot grow.
 pub fn report_order<'a>(
     tables: &'a Tables,
     notes: TripNotes<'_>,
@@ -110,7 +114,7 @@ fn order(a: &StopTime, b: &StopTime) -> Ordering
 }
 
 // A number that grows with the trip, and within a trip with the sequence: one comparison in place of two.
-fn rank(row: &StopTime) -> u64
+pub(super) fn rank(row: &StopTime) -> u64
     ensures value { result ≡ rank row.now }
     ensures sequence { row.now.stop_sequence < 2 ^ 32 }
 {
@@ -126,7 +130,7 @@ fn report_repeats<'a>(rows: &[StopTime], found: &mut Found<'a>) -> Result<(), Ou
     for at in 0..rows.len() {
         let row = &rows[at];
         let problem = problem(row, Code::E09, "stop_sequence");
-        found.report(problem, repeats(&rows[..at], row))?;
+        found.report_if(problem, repeats(&rows[..at], row))?;
     }
     Ok(())
 }
@@ -142,7 +146,7 @@ fn report_untimed_ends<'a>(rows: &[StopTime], found: &mut Found<'a>) -> Result<(
         let row = &rows[at];
         ends_trip = ends(row, &rows[at + 1..], ends_trip);
         let problem = problem(row, Code::E15, "arrival_time");
-        found.report(problem, is_untimed_end(&rows[..at], row, ends_trip))?;
+        found.report_if(problem, is_untimed_end(&rows[..at], row, ends_trip))?;
     }
     Ok(())
 }
@@ -158,7 +162,7 @@ fn report_times_back<'a>(rows: &[StopTime], found: &mut Found<'a>) -> Result<(),
         let row = &rows[at];
         let left = left_before(&rows[..at], row, last_left);
         let problem = problem(row, Code::E17, "arrival_time");
-        found.report(problem, is_left_later(left, row.arrives()))?;
+        found.report_if(problem, is_left_later(left, row.arrives()))?;
         last_left = row.departs().or(left);
     }
     Ok(())

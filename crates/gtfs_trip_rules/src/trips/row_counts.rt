@@ -1,7 +1,7 @@
 ghost use Rattle.std.specs.Prelude.{◌≡◌, ◌<◌, ◌-◌, ◌^◌, ℕ, length, get_or, OnOk};
 ghost use Rattle.gtfs_columns.specs.steps.Ids.{ids_of};
 ghost use Rattle.gtfs_trip_rules.specs.TripCounts.{are_few};
-ghost use Rattle.gtfs_trip_rules.specs.TripNumbers.{number_in};
+ghost use Rattle.gtfs_trip_rules.specs.TripNumbers.{number_of_trip};
 
 use gtfs_columns::Finder;
 use gtfs_field::OutOfMemory;
@@ -35,7 +35,7 @@ impl RowCounts<'_, '_> {
     // The number of a trip, if it has one.
     fn number(&mut self, trip_id: &str) -> Option<usize>
         ensures number { result
-            ≡ number_in (ids_of self.old.trips.ids.now) self.old.numbers.now trip_id.now }
+            ≡ number_of_trip (ids_of self.old.trips.ids.now) self.old.numbers.now trip_id.now }
         ensures trips { self.new.trips.ids.now ≡ self.old.trips.ids.now }
         ensures numbers { self.new.numbers.now ≡ self.old.numbers.now }
         ensures counts { self.new.counts.now ≡ self.old.counts.now }

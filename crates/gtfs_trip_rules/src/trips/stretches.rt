@@ -1,13 +1,21 @@
 ghost use Rattle.std.specs.Prelude.{◌≡◌, ◌<◌, ◌≤◌, length, IfOk, IsPermutation};
 ghost use Rattle.std.specs.List.{flat_map};
 
+use crate::trips::order::rank;
 use crate::trips::row::StopTime;
 use gtfs_field::OutOfMemory;
 use std::alloc::Global;
-use std::cmp::Ordering;
 
 // Of so many rows one is looked at to tell how they stand.
 const SAMPLE: usize = 64;
+
+// Rows of one trip that ascend by their sequences.
+#[derive(Clone, Copy)]
+struct Stretch<'a> {
+    // The rank of the first one. It stands here so that sorting looks at no row, which may be far away.
+    rank: u64,
+    rows: &'a [StopTime],
+}
 
 // The rows in an order that is cheap to sort: stretches of ascending rows of one trip stay as they are, and stand in the
 // order of their first rows. Where that does not pay, or memory is refused, all rows stay where they are.
@@ -43,19 +51,22 @@ fn moved(alloc: Global, rows: &[StopTime]) -> Result<Vec<StopTime>, OutOfMemory>
     ensures { IfOk result (λ moved. IsPermutation rows.now moved.items) }
 {
     let mut stretches = stretches(alloc, rows)?;
-    stretches.sort_unstable_by(|a, b| order_of_first(a, b));
+    stretches.sort_unstable_by_key(|stretch| stretch.rank);
     joined(alloc, rows.len(), &stretches)
 }
 
 // The rows in stretches, each as long as it can be.
-fn stretches<'a>(alloc: Global, rows: &'a [StopTime]) -> Result<Vec<&'a [StopTime]>, OutOfMemory>
-    ensures { IfOk result (λ stretches. flat_map (λ s. s.now) stretches.items ≡ rows.now) }
+fn stretches<'a>(alloc: Global, rows: &'a [StopTime]) -> Result<Vec<Stretch<'a>>, OutOfMemory>
+    ensures { IfOk result (λ stretches. flat_map (λ s. s.rows.now) stretches.items ≡ rows.now) }
 {
     let mut stretches = Vec::new(alloc);
     let mut left = rows;
-    while !left.is_empty() {
+    while let Some(first) = left.first() {
         let (stretch, rest) = left.split_at(stretch_len(left));
-        stretches.push(stretch)?;
+        stretches.push(Stretch {
+            rank: rank(first),
+            rows: stretch,
+        })?;
         left = rest;
     }
     Ok(stretches)
@@ -78,27 +89,17 @@ fn is_next(row: &StopTime, next: &StopTime) -> bool {
     row.trip == next.trip && row.stop_sequence < next.stop_sequence
 }
 
-fn order_of_first(a: &[StopTime], b: &[StopTime]) -> Ordering {
-    match (a.first(), b.first()) {
-        (Some(a), Some(b)) => a
-            .trip
-            .cmp(&b.trip)
-            .then(a.stop_sequence.cmp(&b.stop_sequence)),
-        _ => Ordering::Equal,
-    }
-}
-
 // The stretches one after the other, which have so many rows.
 fn joined(
     alloc: Global,
     count: usize,
-    stretches: &[&[StopTime]],
+    stretches: &[Stretch<'_>],
 ) -> Result<Vec<StopTime>, OutOfMemory>
-    ensures { IfOk result (λ rows. rows.items ≡ flat_map (λ s. s.now) stretches.now) }
+    ensures { IfOk result (λ rows. rows.items ≡ flat_map (λ s. s.rows.now) stretches.now) }
 {
     let mut rows = Vec::with_capacity(alloc, count)?;
     for stretch in stretches {
-        rows.extend_from_slice(stretch)?;
+        rows.extend_from_slice(stretch.rows)?;
     }
     Ok(rows)
 }

@@ -1,16 +1,10 @@
-use Rattle.std.proofs.Common.{◌<◌, ◌+◌, ◌^◌, ◌∙◌, ap, subst, sym, length, arith}
-use Rattle.gtfs_rows.specs.Content.{Content}
+use Rattle.std.proofs.Common.{◌∙◌, ap, subst, sym}
 use Rattle.gtfs_rows.specs.Views.{IsSoundParts, content_of_parts}
-use Rattle.gtfs_merge.specs.Law.{AreFew}
 use Rattle.gtfs_merge.specs.MergedLists.{parts_with}
-use Rattle.gtfs_merge.specs.Renaming.{ids}
 use Rattle.gtfs_merge.specs.Sides.{content_a, content_b}
-use Rattle.gtfs_merge.specs.declared.kind.Kind.{Kind}
+use Rattle.gtfs_merge.proofs.Few.{few-enough}
 use Rattle.gtfs_merge.proofs.MergedFeed.{content-is, make-a-feed}
 use Rattle.gtfs_merge.proofs.merged_parts.parts_of_kinds.Goals as goal
-
-few-enough : (k : Kind) (a b : Content) → length (ids k a) + length (ids k b) < 2 ^ 65 → AreFew k a b
-few-enough k a b few = omega arith
 
 pub returns-clause-content : goal.returns-clause-content
 returns-clause-content c =

@@ -1,14 +1,8 @@
-use Rattle.std.proofs.Common.{◌<◌, ◌+◌, ◌^◌, length, arith}
-use Rattle.gtfs_rows.specs.Content.{Content}
 use Rattle.gtfs_rows.specs.Views.{content_of_parts}
-use Rattle.gtfs_merge.specs.Law.{AreFew}
-use Rattle.gtfs_merge.specs.Renaming.{ids}
 use Rattle.gtfs_merge.specs.declared.kind.Kind.{Kind}
 use Rattle.gtfs_merge.proofs.CutSides.{keeps-departures}
+use Rattle.gtfs_merge.proofs.Few.{few-enough}
 use Rattle.gtfs_merge.proofs.merging.merge.Goals as goal
-
-few-enough : (k : Kind) (a b : Content) → length (ids k a) + length (ids k b) < 2 ^ 65 → AreFew k a b
-few-enough k a b few = omega arith
 
 pub returns-clause-departures : goal.returns-clause-departures
 returns-clause-departures c =

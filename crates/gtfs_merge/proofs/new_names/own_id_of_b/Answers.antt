@@ -1,7 +1,7 @@
 use Rattle.std.proofs.Common.{◌≡◌, ◌∙◌, true, false, not, ap, sym, is_some, arith}
 use Rattle.std.specs.Prelude.{◌&&◌}
 use Rattle.gtfs_merge.specs.Law.{AreFew}
-use Rattle.gtfs_merge.specs.Renaming.{has_id, ids, renaming}
+use Rattle.gtfs_merge.specs.Renaming.{lists_id, ids, renaming}
 use Rattle.gtfs_merge.specs.Sides.{content_a, content_b, is_joined_id, nearness_of, side_names}
 use Rattle.gtfs_merge.specs.declared.kind.Kind.TheVariants as kind
 use Rattle.gtfs_merge.specs.declared.kind.Side.TheVariants as side
@@ -16,7 +16,7 @@ new_agency_id_of_b-requires-clause-there c = nameless-there c.args.sides.now.b.n
 pub new_agency_id_of_b-requires-clause-apart : goal.new_agency_id_of_b-requires-clause-apart
 new_agency_id_of_b-requires-clause-apart c =
     let sides = c.args.sides.now in
-    let none : has_id (ids c.args.kind (content_a sides)) (renaming (side_names side.B sides) c.args.kind c.args.id.now) ≡ false =
+    let none : lists_id (ids c.args.kind (content_a sides)) (renaming (side_names side.B sides) c.args.kind c.args.id.now) ≡ false =
     sym (has-twin sides c.soundness.ensures.a c.soundness.ensures.b c.soundness.ensures.few c.args.kind c.args.id.now) ∙ ap is_some (sym c.requires.alone) in
     nameless-apart (nearness_of sides) (content_a sides) (content_b sides) c.soundness.ensures.a.content c.soundness.ensures.few c.args.kind c.args.id.now (sym c.is_nameless.ensures ∙ c.if-is_nameless.true) none
 
@@ -32,7 +32,7 @@ returns-then-not-has_this_id c =
     let few : AreFew kind.Stop (content_a sides) (content_b sides) = omega (arith, c.soundness.ensures.few kind.Stop) in
     let there = has-known c.args.kind sides.b.now c.soundness.ensures.b c.args.id.now true c.requires.there in
     let named = ap (λ t. t && not (is_joined_id c.args.kind sides c.args.id.now)) (sym c.is_nameless.ensures ∙ c.if-is_nameless.false) in
-    let none : has_id (ids c.args.kind (content_a sides)) (renaming (side_names side.B sides) c.args.kind c.args.id.now) ≡ false =
+    let none : lists_id (ids c.args.kind (content_a sides)) (renaming (side_names side.B sides) c.args.kind c.args.id.now) ≡ false =
     sym (has-twin sides c.soundness.ensures.a c.soundness.ensures.b c.soundness.ensures.few c.args.kind c.args.id.now) ∙ ap is_some (sym c.requires.alone) in
     let lacks = has-known c.args.kind sides.a.now c.soundness.ensures.a c.args.id.now false (sym c.has_this_id.ensures ∙ c.if-not-has_this_id.true) in
     c.in_ok-from_str.ensures.ok
@@ -47,7 +47,7 @@ returns c =
     let few : AreFew kind.Stop (content_a sides) (content_b sides) = omega (arith, c.soundness.ensures.few kind.Stop) in
     let there = has-known c.args.kind sides.b.now c.soundness.ensures.b c.args.id.now true c.requires.there in
     let named = ap (λ t. t && not (is_joined_id c.args.kind sides c.args.id.now)) (sym c.is_nameless.ensures ∙ c.if-is_nameless.false) in
-    let none : has_id (ids c.args.kind (content_a sides)) (renaming (side_names side.B sides) c.args.kind c.args.id.now) ≡ false =
+    let none : lists_id (ids c.args.kind (content_a sides)) (renaming (side_names side.B sides) c.args.kind c.args.id.now) ≡ false =
     sym (has-twin sides c.soundness.ensures.a c.soundness.ensures.b c.soundness.ensures.few c.args.kind c.args.id.now) ∙ ap is_some (sym c.requires.alone) in
     let has = has-known c.args.kind sides.a.now c.soundness.ensures.a c.args.id.now true (sym c.has_this_id.ensures ∙ c.if-not-has_this_id.false) in
     on-ok c.free_id.result c.free_id.ensures

@@ -9,16 +9,16 @@ pub returns : goal.returns
 returns c =
     let d = c.args.tables.now in
     let x = c.args.file in
-    on_ok_weaker c.report-4.result (λ header.
-    code_reported d x code.E01 (code.E02 ∷ code.E05 ∷ []) c.args.found.now c.report.new.self c.report-4.new.self
-    (missing_reported d x c.args.found.now c.report.new.self
-    (asked d _ (problem_at code.E01 x [] 0) c.is_missing.result _ _ c.at_row.ensures c.is_missing.ensures c.in_ok-report.ensures))
-    (code_reported d x code.E02 (code.E05 ∷ []) c.report.new.self c.report-2.new.self c.report-4.new.self
-    (not_utf8_reported d x c.report.new.self c.report-2.new.self
-    (asked d _ (problem_at code.E02 x [] 0) c.is_not_utf8.result _ _ c.at_row-2.ensures c.is_not_utf8.ensures c.in_ok-report-2.ensures))
-    (code_reported d x code.E05 [] c.report-2.new.self c.report-4.new.self c.report-4.new.self
-    (empty_reported d x c.report-2.new.self c.report-3.new.self c.report-4.new.self
-    (asked d _ (problem_at code.E05 x [] 0) c.lacks_records.result _ _ c.at_row-3.ensures c.lacks_records.ensures c.in_ok-report-3.ensures)
+    on_ok_weaker c.report_if-4.result (λ header.
+    code_reported d x code.E01 (code.E02 ∷ code.E05 ∷ []) c.args.found.now c.report_if.new.self c.report_if-4.new.self
+    (missing_reported d x c.args.found.now c.report_if.new.self
+    (asked d _ (problem_at code.E01 x [] 0) c.is_missing.result _ _ c.at_row.ensures c.is_missing.ensures c.in_ok-report_if.ensures))
+    (code_reported d x code.E02 (code.E05 ∷ []) c.report_if.new.self c.report_if-2.new.self c.report_if-4.new.self
+    (not_utf8_reported d x c.report_if.new.self c.report_if-2.new.self
+    (asked d _ (problem_at code.E02 x [] 0) c.is_not_utf8.result _ _ c.at_row-2.ensures c.is_not_utf8.ensures c.in_ok-report_if-2.ensures))
+    (code_reported d x code.E05 [] c.report_if-2.new.self c.report_if-4.new.self c.report_if-4.new.self
+    (empty_reported d x c.report_if-2.new.self c.report_if-3.new.self c.report_if-4.new.self
+    (asked d _ (problem_at code.E05 x [] 0) c.lacks_records.result _ _ c.at_row-3.ensures c.lacks_records.ensures c.in_ok-report_if-3.ensures)
     (asked d _ (problem_at code.E05 x [] 1) c.lacks_agencies.result _ _ c.at_row-4.ensures c.lacks_agencies.ensures header))
-    (no_code_reported d x c.report-4.new.self))))
-    c.report-4.ensures
+    (no_code_reported d x c.report_if-4.new.self))))
+    c.report_if-4.ensures

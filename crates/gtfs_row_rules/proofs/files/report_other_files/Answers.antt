@@ -16,8 +16,8 @@ loop-name-preserved c =
     let name = get_or d.others i item in
     let within : i < length d.others = rw (← value) (omega arith) in
     let site = ap other_problem (c.as_str.ensures ∙ c.name-item.is ∙ ap (λ (names : List (List ℕ)). get_or names i item) value) in
-    each_more d (λ t. is_same (other_problem t)) d.others i item c.args.found.now c.loop-name.found c.report.new.self within c.loop-name.invariant
-    (asked d _ (other_problem name) _ _ _ site (sym (list_any_at (bytes_eq name) d.others i item within (text_itself name))) c.in_ok-report.ensures)
+    each_more d (λ t. is_same (other_problem t)) d.others i item c.args.found.now c.loop-name.found c.report_if.new.self within c.loop-name.invariant
+    (asked d _ (other_problem name) _ _ _ site (sym (list_any_at (bytes_eq name) d.others i item within (text_itself name))) c.in_ok-report_if.ensures)
 
 pub returns : goal.returns
 returns c =

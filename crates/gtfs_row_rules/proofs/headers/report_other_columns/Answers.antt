@@ -26,8 +26,8 @@ loop-n-preserved c =
     c.is_other.ensures ∙ ap (λ b. not (is_empty c.field-name.result.now) && not b) (kept_name x c.args.columns.now c.field-name.result.now c.requires)
     ∙ ap (λ t. not (is_empty t) && not (is_kept_column x t)) text in
     let holds = other ∙ other_holds d x name (list_any_at (bytes_eq name) names i [] within (text_itself name)) in
-    each_more d (at_column code.W04 x) names i [] c.args.found.now c.loop-n.found c.report.new.self within c.loop-n.invariant
-    (other_column_reported d x name c.loop-n.found c.report.new.self (asked d _ (problem_at code.W04 x name 1) _ _ _ index holds c.in_ok-report.ensures))
+    each_more d (at_column code.W04 x) names i [] c.args.found.now c.loop-n.found c.report_if.new.self within c.loop-n.invariant
+    (other_column_reported d x name c.loop-n.found c.report_if.new.self (asked d _ (problem_at code.W04 x name 1) _ _ _ index holds c.in_ok-report_if.ensures))
 
 pub returns : goal.returns
 returns c =

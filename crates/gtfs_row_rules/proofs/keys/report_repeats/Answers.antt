@@ -23,7 +23,7 @@ loop-row-preserved g c =
     record {
       reported = reported_more d (at_column code.E09 x name) taken n _ _ _ _ c.loop-row.invariant.reported
           (row_reported d code.E09 x name (repeats_key key d x) c.requires n _ _ t.is_row
-          (rw (← repeats) c.in_ok-report.ensures));
+          (rw (← repeats) c.in_ok-report_if.ensures));
       has = λ q. has_more g.K.Keys.parts key taken n _ g.K.Key.Ord.cmp g.met.K.Key.Ord.total g.met.K.Keys.alike c.key.result c.key.ensures q _ _
           (c.loop-row.invariant.has q) (c.in_ok-repeats.ensures.added q);
     }

@@ -22,7 +22,7 @@ loop-row-preserved g c =
       same = c.breaks.ensures.same ∙ c.loop-row.invariant.same;
       reported = reported_more d (at_column site.code site.file site.column.now) c.loop-row.yielded c.in-Some.row _ _ _ _ c.loop-row.invariant.reported
           (row_reported d site.code site.file site.column.now (λ n. g.R.Rule.breaks c.args.rule.now n (record_at (records_in d site.file) n)) c.requires c.in-Some.row _ _ t.is_row
-          (rw (← c.loop-row.invariant.same, ← t.record_is, ← c.breaks.ensures.answer) c.in_ok-report.ensures));
+          (rw (← c.loop-row.invariant.same, ← t.record_is, ← c.breaks.ensures.answer) c.in_ok-report_if.ensures));
     }
 
 pub returns : goal.returns

@@ -42,7 +42,7 @@ loop-row-preserved c =
     ∙ rule_asked d taken n r _ t in
     record {
       reported = reported_more d (at_column code.E19 file.Frequencies column) taken n r _ _ _ c.loop-row.invariant.reported
-          (row_asked d n c.in_ok-meets.meets _ _ t.is_row asked c.in_ok-report.ensures);
+          (row_asked d n c.in_ok-meets.meets _ _ t.is_row asked c.in_ok-report_if.ensures);
       known = λ trip start end.
           c.in_ok-meets.ensures.grown trip start end
           ∙ ap (λ b. b || meets_one (period_at columns r) trip start end) (c.loop-row.invariant.known trip start end)

@@ -24,7 +24,7 @@ loop-row-preserved c =
     c.rows-row-items.ensures ∙ ap (λ (y : File). map (numbered (records_in d y)) (rows d y)) c.file-file.ensures in
     let t = turn d x _ c.loop-row.yielded _ (c.into_iter-row-iterator.ensures.into_iter_gives ∙ of_file) c.loop-row.yielded_by c.in-Some.row c.in-Some.field-0-1 _ c.in-Some.ensures.steps in
     reported_more d (at_column code.W07 x name) c.loop-row.yielded c.in-Some.row _ _ _ _ c.loop-row.invariant
-    (row_reported d code.W07 x name reported c.requires c.in-Some.row _ _ t.is_row (rw (c.file-file.ensures, c.in_ok-reported.ensures) at c.in_ok-report.ensures))
+    (row_reported d code.W07 x name reported c.requires c.in-Some.row _ _ t.is_row (rw (c.file-file.ensures, c.in_ok-reported.ensures) at c.in_ok-report_if.ensures))
 
 pub returns : goal.returns
 returns c =

@@ -7,17 +7,17 @@ use Rattle.gtfs_columns.specs.Values.{word}
 use Rattle.gtfs_columns.specs.IdNumbers.{number_among}
 use Rattle.gtfs_columns.specs.steps.Ids.{first_row_with, ids_of, number_with}
 use Rattle.gtfs_trip_rules.specs.Readings.{text_of, value_in}
-use Rattle.gtfs_trip_rules.specs.StopTimes.{text_at, AreNumbersOf, IsReading, IsRow, IsStopTime}
+use Rattle.gtfs_trip_rules.specs.StopTimes.{stop_time_text, AreNumbersOf, IsReading, IsRow, IsStopTime}
 use Rattle.gtfs_trip_rules.proofs.stop_times.read_row.Goals as goal
 
 pub stop_time-stop_time-requires-clause-trip : goal.stop_time-stop_time-requires-clause-trip
 stop_time-stop_time-requires-clause-trip c =
-    let from : c.value.result.now ≡ text_at c.args.columns.now.tables.now c.args.row "trip_id" = c.value.ensures ∙ (λ i. field_under (c.requires.fields i) (c.requires.columns.trip_id i)) in
+    let from : c.value.result.now ≡ stop_time_text c.args.columns.now.tables.now c.args.row "trip_id" = c.value.ensures ∙ (λ i. field_under (c.requires.fields i) (c.requires.columns.trip_id i)) in
     subst (λ (text : List ℕ). IsReading id (λ t. word t.now) text c.find-ids.result.trip.reading) from c.find-ids.ensures.trip.reading
 
 pub stop_time-stop_time-requires-clause-stop : goal.stop_time-stop_time-requires-clause-stop
 stop_time-stop_time-requires-clause-stop c =
-    let from : c.value-2.result.now ≡ text_at c.args.columns.now.tables.now c.args.row "stop_id" = c.value-2.ensures ∙ (λ i. field_under (c.requires.fields i) (c.requires.columns.stop_id i)) in
+    let from : c.value-2.result.now ≡ stop_time_text c.args.columns.now.tables.now c.args.row "stop_id" = c.value-2.ensures ∙ (λ i. field_under (c.requires.fields i) (c.requires.columns.stop_id i)) in
     subst (λ (text : List ℕ). IsReading id (λ t. word t.now) text c.find-ids.result.stop.reading) from c.find-ids.ensures.stop.reading
 
 pub report_row-requires-clause-trip : goal.report_row-requires-clause-trip

@@ -4,6 +4,7 @@ use Rattle.gtfs_table.specs.Parts.{parts}
 use Rattle.gtfs_rows.specs.Reading.{content_of as content_of_dataset}
 use Rattle.gtfs_rows.specs.Views.{content_of_parts, stop_row_of}
 use Rattle.gtfs_parts.specs.FeedRows.{AreRowsOf}
+use Rattle.gtfs_stop_times.specs.FirstNamed.{headsigns_in}
 use Rattle.gtfs_feed.specs.Content.{content_of}
 use Rattle.gtfs_feed.proofs.ReadRows.{content_is, counted, make_a_feed}
 use Rattle.gtfs_feed.proofs.feed.Feed.new.Goals as goal
@@ -20,8 +21,8 @@ assemble-requires c =
     w.stop_rows w.starts w.headsigns
     (λ h. w.content d c.in_ok-rows.ensures.rows ((λ i. map (map (stop_row_of p)) (parts (sym w.starts i) (sym w.stop_rows i))) ∙ h))
 
-pub returns : goal.returns
-returns c =
+pub returns-clause-content : goal.returns-clause-content
+returns-clause-content c =
     let d = c.args.passed.now in
     let w = c.joined-parts.ensures in
     let p = c.joined-parts.result in
@@ -30,3 +31,9 @@ returns c =
     w.stop_rows w.starts w.headsigns
     (λ h. w.content d c.in_ok-rows.ensures.rows ((λ i. map (map (stop_row_of p)) (parts (sym w.starts i) (sym w.stop_rows i))) ∙ h)) in
     IfOk-weaker c.assemble.result (λ feed. feed ≡ p) (λ feed. content_of feed ≡ content_of_dataset d) (λ feed same. ap content_of_parts same ∙ is) c.assemble.ensures
+
+pub returns-clause-headsigns : goal.returns-clause-headsigns
+returns-clause-headsigns c =
+    let p = c.joined-parts.result in
+    let is : p.headsigns ≡ headsigns_in (content_of_dataset c.args.passed.now) = c.joined-parts.ensures.headsigns ∙ c.in_ok-stop_times.ensures.first_named in
+    IfOk-weaker c.assemble.result (λ feed. feed ≡ p) (λ feed. feed.headsigns ≡ headsigns_in (content_of_dataset c.args.passed.now)) (λ feed same. ap (λ q. q.headsigns) same ∙ is) c.assemble.ensures

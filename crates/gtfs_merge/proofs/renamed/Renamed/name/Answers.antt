@@ -12,7 +12,7 @@ returns-in-Some-get c =
     let there : slice_get xs n ≡ Some c.in-Some-get.name.now = slice_get_read xs _ n c.in-Some-get.name.now refl (ltb-true n _ (sym c.in-Some-get.ensures.lookup.0)) c.in-Some-get.ensures.lookup.1 in
     let found : slice_get c.self.inside.names.items n ≡ Some c.in-Some-get.name.now = ap (λ ys. slice_get ys n) (sym c.deref.ensures.value) ∙ there in
     ap Some c.as_str.ensures.value ∙ sym (ap (option_map string_bytes) found)
-    ∙ told-name string_bytes c.self.inside.ids.keys c.self.inside.names.items c.args.id.now c.args.self.now c.self.view_is (Some n) c.in-Some.ensures.index
+    ∙ told-name string_bytes c.self.inside.ids.keys c.self.inside.names.items c.args.id.now _ c.args.self.now c.self.view_is (Some n) c.in-Some.ensures.index
 
 pub returns-in-None-get : goal.returns-in-None-get
 returns-in-None-get c =
@@ -21,7 +21,7 @@ returns-in-None-get c =
     let there : slice_get xs n ≡ None = slice_get_past xs n (ltb-false n _ (sym c.in-None-get.ensures.lookup.0)) in
     let found : slice_get c.self.inside.names.items n ≡ None = ap (λ ys. slice_get ys n) (sym c.deref.ensures.value) ∙ there in
     sym (ap (option_map string_bytes) found)
-    ∙ told-name string_bytes c.self.inside.ids.keys c.self.inside.names.items c.args.id.now c.args.self.now c.self.view_is (Some n) c.in-Some.ensures.index
+    ∙ told-name string_bytes c.self.inside.ids.keys c.self.inside.names.items c.args.id.now _ c.args.self.now c.self.view_is (Some n) c.in-Some.ensures.index
 
 pub returns-in-None : goal.returns-in-None
-returns-in-None c = told-name string_bytes c.self.inside.ids.keys c.self.inside.names.items c.args.id.now c.args.self.now c.self.view_is None c.in-None.ensures.index
+returns-in-None c = told-name string_bytes c.self.inside.ids.keys c.self.inside.names.items c.args.id.now _ c.args.self.now c.self.view_is None c.in-None.ensures.index

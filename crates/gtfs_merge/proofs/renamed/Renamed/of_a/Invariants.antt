@@ -8,4 +8,4 @@ use Rattle.gtfs_merge.proofs.renamed.Renamed.of_a.Given as goal
 
 -- the ids so far
 abbrev pub invariant-loop-number : goal.invariant-loop-number
-invariant-loop-number l = l.ids ≡ new_ids (renaming (side_names side.A l.sides) l.kind) (take l.number (known_ids l.kind l.sides.a.now))
+invariant-loop-number l = l.ids ≡ new_ids l.fn.random (renaming (side_names side.A l.sides) l.kind) (take l.number (known_ids l.kind l.sides.a.now))

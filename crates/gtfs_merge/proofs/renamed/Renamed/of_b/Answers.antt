@@ -1,6 +1,6 @@
 use Rattle.std.proofs.Common.{◌<◌, ◌≤◌, ◌∙◌, None, ap, arith, get_or, length, sym}
 use Rattle.gtfs_merge.specs.Numbered.{known_ids}
-use Rattle.gtfs_merge.specs.Renaming.{has_id, renaming}
+use Rattle.gtfs_merge.specs.Renaming.{lists_id, renaming}
 use Rattle.gtfs_merge.specs.Sides.{side_names}
 use Rattle.gtfs_merge.specs.Twins.{of_kind, twin_number}
 use Rattle.gtfs_merge.specs.declared.kind.Side.TheVariants as side
@@ -12,7 +12,7 @@ use Rattle.gtfs_merge.proofs.renamed.Renamed.of_b.Goals as goal
 pub new_id_of_b-requires-clause-there : goal.new_id_of_b-requires-clause-there
 new_id_of_b-requires-clause-there c =
     let within : c.loop-number.number < length (known_ids c.args.kind c.args.sides.now.b.now) = omega (arith, c.count_of-number-end.ensures) in
-    ap (has_id (known_ids c.args.kind c.args.sides.now.b.now)) c.id_of-id.ensures ∙ has-at (known_ids c.args.kind c.args.sides.now.b.now) c.loop-number.number within
+    ap (lists_id (known_ids c.args.kind c.args.sides.now.b.now)) c.id_of-id.ensures ∙ has-at (known_ids c.args.kind c.args.sides.now.b.now) c.loop-number.number within
 
 pub of-twin-requires : goal.of-twin-requires
 of-twin-requires c =
@@ -29,7 +29,7 @@ new_id_of_b-requires-clause-twin c =
 pub push-requires : goal.push-requires
 push-requires c =
     let within : c.loop-number.number < length (known_ids c.args.kind c.args.sides.now.b.now) = omega (arith, c.count_of-number-end.ensures) in
-    known-fresh c.args.kind c.args.sides.now.b.now c.soundness.ensures.b c.loop-number.number (renaming (side_names side.B c.args.sides.now) c.args.kind) _ _ within
+    known-fresh c.args.random c.args.kind c.args.sides.now.b.now c.soundness.ensures.b c.loop-number.number (renaming (side_names side.B c.args.sides.now) c.args.kind) _ _ within
     c.loop-number.invariant c.id_of-id.ensures
 
 pub loop-number-preserved : goal.loop-number-preserved
@@ -37,10 +37,10 @@ loop-number-preserved c =
     let ids = known_ids c.args.kind c.args.sides.now.b.now in
     let rename = renaming (side_names side.B c.args.sides.now) c.args.kind in
     let within : c.loop-number.number < length ids = omega (arith, c.count_of-number-end.ensures) in
-    renamed-more rename ids c.loop-number.number _ _ c.id_of-id.result.now _ within c.loop-number.invariant c.in_ok-push.ensures c.id_of-id.ensures (c.in_ok-name.ensures ∙ ap rename c.id_of-id.ensures)
+    renamed-more c.args.random rename ids c.loop-number.number _ _ c.id_of-id.result.now _ within c.loop-number.invariant c.in_ok-push.ensures c.id_of-id.ensures (c.in_ok-name.ensures ∙ ap rename c.id_of-id.ensures)
 
 pub returns : goal.returns
 returns c =
     let ids = known_ids c.args.kind c.args.sides.now.b.now in
     let past : length ids ≤ c.loop-number.number = omega (arith, c.count_of-number-end.ensures) in
-    c.loop-number.invariant ∙ renamed-all (renaming (side_names side.B c.args.sides.now) c.args.kind) ids c.loop-number.number past
+    c.loop-number.invariant ∙ renamed-all c.args.random (renaming (side_names side.B c.args.sides.now) c.args.kind) ids c.loop-number.number past

@@ -1,58 +1,9 @@
-use Rattle.std.proofs.Common.{◌<◌, ◌+◌, ◌++◌, ◌∙◌, ◌==◌, ◌*◌, Some, cond, [], length, map, get_or, refl, sym, ap, subst}
-use Rattle.std.specs.List.{All}
-use Rattle.std.proofs.lemmas.List.{length-map}
-use Rattle.gtfs_rows.specs.Trips.{stop_rows_by_trip}
-use Rattle.gtfs_times.proofs.FilledContent.{sound-timed}
-use Rattle.gtfs_times.specs.TimedRows.{timed_parts, timed_stop_times}
-use Rattle.gtfs_runs.specs.Kinds.{IsPeriodLane}
-use Rattle.gtfs_runs.specs.StopLanes.{period_value}
-use Rattle.gtfs_runs.specs.steps.Courses.{stopping_of}
-use Rattle.gtfs_runs.specs.steps.Finds.{AreFound, stopping_at, times_passed_in, times_told}
-use Rattle.gtfs_runs.proofs.TripFinds.{listed_found, periods_found}
-use Rattle.gtfs_runs.proofs.TimedTrips.{first_timed, rows_timed, stops_timed}
-use Rattle.gtfs_runs.proofs.TripTimes.{none_left, periods_run, rows_at, some_left}
-use Rattle.gtfs_runs.proofs.stop_lanes.found.add_trip.Goals.{then-is_empty+in_ok-add_listed, else-is_empty+in_ok-add_periods}
+use Rattle.std.proofs.Common.{◌∙◌}
+use Rattle.std.proofs.lemmas.Result.{on_ok_weaker}
 use Rattle.gtfs_runs.proofs.stop_lanes.found.add_trip.Goals as goal
 
-pub add_periods-requires-clause-runs : goal.add_periods-requires-clause-runs
-add_periods-requires-clause-runs c = periods_run c.args.feed.now c.soundness.ensures c.args.trip.0 c.trip_frequencies-frequencies.result.now c.trip_frequencies-frequencies.ensures
-
 pub returns : goal.returns
-returns c = λ s place was.
-    let times = c.args.times in
-    let p = c.args.feed.now in
-    let q = timed_parts times p in
-    let sound = sound-timed p c.soundness.ensures times in
-    let t = c.args.trip.0 in
-    let row = c.trip_by_number.result.now in
-    let fs = c.trip_frequencies-frequencies.result.now in
-    let listed = map stopping_of c.args.listed.now.items in
-    let periods = map period_value c.args.periods.now.items in
-    elim c.if-is_empty.branch [
-      | then-is_empty+in_ok-add_listed w ↦
-          let own = w.trip_rows.result.now in
-          let rs = timed_stop_times times own in
-          let at_rows = rows_timed times p c.soundness.ensures t own rs w.trip_rows.ensures refl in
-          let none = none_left fs (sym c.is_empty.ensures ∙ w.if-is_empty.true) in
-          let found = w.deref.ensures.value ∙ c.in_ok-passings.ensures.passings s row rs [] place at_rows in
-          let pushed = ap (λ v. map stopping_of v.items) w.listed-is ∙ w.in_ok-add_listed.ensures
-          ∙ (λ i. listed ++ map (stopping_at (sym (stops_timed times own) i) row.service_id.0 t (sym (first_timed times own) i)) (found i)) in
-          listed_found q sound s t row rs c.trip_by_number.ensures at_rows (c.trip_frequencies-frequencies.ensures ∙ ap Some none)
-          listed (map stopping_of c.if-is_empty.listed.items) (map period_value c.if-is_empty.periods.items) pushed
-          (subst (λ v. AreFound q s t listed (map period_value v.items)) (sym w.periods-is) was)
-      | else-is_empty+in_ok-add_periods w ↦
-          let rs = get_or (stop_rows_by_trip q) t [] in
-          let at_rows = rows_at q sound t c.requires.trip in
-          let some = some_left fs (sym c.is_empty.ensures ∙ w.if-is_empty.false) in
-          let found = w.deref-else-is_empty.ensures.value ∙ c.in_ok-passings.ensures.passings s row rs fs place at_rows in
-          let new = ap (λ v. map period_value v.items) w.periods-is in
-          let size = ap (λ v. length v.items) w.periods-is in
-          periods_found q sound s t row rs fs c.trip_by_number.ensures at_rows c.trip_frequencies-frequencies.ensures some
-          (map stopping_of c.if-is_empty.listed.items) periods (map period_value c.if-is_empty.periods.items)
-          (λ k e. ap (times_told k e) new ∙ w.in_ok-add_periods.ensures.told k e ∙ ap (λ l. times_told k e periods + cond (row.service_id.0 == k) (times_passed_in t e l fs) 0) found)
-          (length-map c.if-is_empty.periods.items period_value ∙ size ∙ w.in_ok-add_periods.ensures.counted
-          ∙ (λ i. sym (length-map c.args.periods.now.items period_value) i + length fs * length (found i)))
-          (λ n serves known. subst (λ l. All (λ lane. lane.service < n) l) (sym new) (w.in_ok-add_periods.ensures.within n serves known))
-          (λ k v at rows were. subst (λ l. All (IsPeriodLane k) l) (sym new) (w.in_ok-add_periods.ensures.kind k v at rows were))
-          (subst (λ v. AreFound q s t (map stopping_of v.items) periods) (sym w.listed-is) was)
-    ]
+returns c =
+    on_ok_weaker c.add_passings.result
+    (λ told s place was. told c.args.times s (λ u rows fs at. c.deref.ensures.value ∙ c.in_ok-passings.ensures.passings s u rows fs place at) was)
+    c.add_passings.ensures

@@ -1,4 +1,4 @@
-use Rattle.std.proofs.Common.{◌∙◌, ◌+◌, ◌-◌, ◌++◌, ap, arith, codes, get_or, refl, subst, sym, take}
+use Rattle.std.proofs.Common.{◌≡◌, ◌∙◌, ◌+◌, ◌-◌, ◌++◌, ap, arith, codes, get_or, refl, subst, sym, take}
 use Rattle.std.specs.Prelude.{not, replicate}
 use Rattle.std.proofs.lemmas.List.{take_all}
 use Rattle.gtfs_table.specs.Rows.{is_empty, records_in}
@@ -9,6 +9,7 @@ use Rattle.gtfs_columns.specs.Columns as kind
 use Rattle.gtfs_columns.specs.Reads.{word_of}
 use Rattle.gtfs_stop_times.specs.Gathering.{AreGathered}
 use Rattle.gtfs_rows.specs.Headsigns.{NamesHeadsign}
+use Rattle.gtfs_stop_times.specs.HeadsignIndex.{with_headsign}
 use Rattle.gtfs_stop_times.proofs.Blank.{blank}
 use Rattle.gtfs_stop_times.proofs.Gathers.{gathered-next, gathered-none}
 use Rattle.gtfs_stop_times.proofs.RowSays.{in_time}
@@ -45,7 +46,8 @@ loop-stop_time-preserved c =
       trips = refl;
       added = c.in_ok-headsign.ensures.added;
       kept = c.in_ok-headsign.ensures.kept;
-      names = subst (λ t. NamesHeadsign c.number.new.self c.in_ok-headsign.headsign (word_of kind.text t)) text c.in_ok-headsign.ensures.named;
+      texts = subst (λ t. c.number.new.self.texts ≡ with_headsign g.headsigns.texts (word_of kind.text t)) text c.in_ok-headsign.ensures.texts;
+      names = subst (λ t. NamesHeadsign c.number.new.self.texts c.in_ok-headsign.headsign (word_of kind.text t)) text c.in_ok-headsign.ensures.named;
       starts = c.in_ok-resize.ensures.items ∙ (λ j. take (s.trip + 1) g.starts.items ++ replicate (s.trip + 1 - g.starts.ok.0 j) ((c.len.ensures ∙ g.rows.ok.0) j));
       rows = c.in_ok-push.ensures.items;
       says = c.stop_row.ensures;

@@ -6,7 +6,7 @@ use Rattle.gtfs_stop_times.proofs.headsigns.Headsigns.into_list.Goals as goal
 pub loop-text-init : goal.loop-text-init
 loop-text-init c =
     ap (λ ts. ts ++ map string_bytes c.into_iter-text-iterator.result) c.in_ok-list.ensures.items
-    ∙ ap (map string_bytes) c.into_iter-text-iterator.ensures.into_iter_gives.0 ∙ c.self.view_is
+    ∙ ap (map string_bytes) c.into_iter-text-iterator.ensures.into_iter_gives.0 ∙ ap (λ v. v.texts) c.self.view_is
 
 pub loop-text-preserved : goal.loop-text-preserved
 loop-text-preserved c =
@@ -21,4 +21,4 @@ returns-clause-texts c =
     ∙ ap (λ ks. c.loop-text.list.items ++ map string_bytes ks) (sym c.in-None.ensures.steps.0) ∙ c.loop-text.invariant
 
 pub returns-clause-distinct : goal.returns-clause-distinct
-returns-clause-distinct c = subst AreDistinct c.self.view_is (distinct-texts string_bytes c.self.inside.texts.keys c.into_iter-text-iterator.ensures.into_iter_gives.3)
+returns-clause-distinct c = subst (λ v. AreDistinct v.texts) c.self.view_is (distinct-texts string_bytes c.self.inside.texts.keys c.into_iter-text-iterator.ensures.into_iter_gives.3)

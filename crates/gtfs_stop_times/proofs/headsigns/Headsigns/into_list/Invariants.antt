@@ -3,4 +3,4 @@ use Rattle.gtfs_stop_times.proofs.headsigns.Headsigns.into_list.Given as goal
 
 -- the texts so far, and those that are left
 abbrev pub invariant-loop-text : goal.invariant-loop-text
-invariant-loop-text l = l.list.items ++ map string_bytes l.text-iterator ≡ l.fn.self
+invariant-loop-text l = l.list.items ++ map string_bytes l.text-iterator ≡ l.fn.self.texts

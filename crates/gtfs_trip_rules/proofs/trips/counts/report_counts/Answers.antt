@@ -35,7 +35,7 @@ loop-row-preserved c =
     let same = c.has_few_rows.ensures in
     record {
       reported = reported_more d (at_column code.W06 file.Trips (codes "trip_id")) c.loop-row.yielded c.in-Some.row _ _ _ _ c.loop-row.invariant.reported
-          (row_reported d code.W06 file.Trips (codes "trip_id") _ rule c.in-Some.row _ _ t.is_row (rw (same.few, text) at c.in_ok-report.ensures));
+          (row_reported d code.W06 file.Trips (codes "trip_id") _ rule c.in-Some.row _ _ t.is_row (rw (same.few, text) at c.in_ok-report_if.ensures));
       few = λ trip. (λ i. are_few (ids_of (same.trips i)) (same.numbers i) (same.counts i) trip) ∙ c.loop-row.invariant.few trip;
     }
 

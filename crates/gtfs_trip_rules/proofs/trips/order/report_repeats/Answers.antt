@@ -16,7 +16,7 @@ loop-at-preserved c = λ d o.
     reported_forward d o.name c.args.rows.now o.order code.E09 (codes "stop_sequence") repeats_among (repeats_reported d) c.loop-at.at _ c.loop-at-test.true c.problem-problem.result c.repeats.result _ _ _
     (ap problem_of c.problem-problem.ensures)
     (c.repeats.ensures o.number o.name (All-take (IsNumbered o.number o.name) c.loop-at.at c.args.rows.now o.numbered) (o.numbered c.loop-at.at _ c.loop-at-test.true)
-    ∙ repeats_here d o.name c.args.rows.now o.order c.loop-at.at _ c.loop-at-test.true) c.in_ok-report.ensures (c.loop-at.invariant d o)
+    ∙ repeats_here d o.name c.args.rows.now o.order c.loop-at.at _ c.loop-at-test.true) c.in_ok-report_if.ensures (c.loop-at.invariant d o)
 
 pub returns : goal.returns
 returns c = λ d o.

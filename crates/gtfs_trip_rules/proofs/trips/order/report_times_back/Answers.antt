@@ -23,7 +23,7 @@ loop-at-preserved c =
           (ap problem_of c.problem-problem.ensures)
           (c.is_left_later.ensures ∙ ap (λ a. is_left_later (option_map pos c.left_before-left.result) (option_map pos a)) c.arrives.ensures ∙ back_here d o.name rows o.order at _ c.loop-at-test.true _
           (c.left_before-left.ensures o.number o.name (All-take (IsNumbered o.number o.name) at rows o.numbered) (o.numbered at _ c.loop-at-test.true)
-          (c.loop-at.invariant.left o.number o.name o.numbered))) c.in_ok-report.ensures (c.loop-at.invariant.reported d o);
+          (c.loop-at.invariant.left o.number o.name o.numbered))) c.in_ok-report_if.ensures (c.loop-at.invariant.reported d o);
       left = λ number name each.
           left_more name rows at _ c.loop-at-test.true c.left_before-left.result c.or-last_left.result
           (c.left_before-left.ensures number name (All-take (IsNumbered number name) at rows each) (each at _ c.loop-at-test.true) (c.loop-at.invariant.left number name each))

@@ -36,7 +36,7 @@ loop-at-preserved c =
           reported_backward d o.name rows o.order code.E15 (codes "arrival_time") ends_untimed (ends_reported d) at _ below c.problem-problem.result c.is_untimed_end.result _ _ _
           (ap problem_of c.problem-problem.ensures)
           (c.is_untimed_end.ensures o.number o.name (All-take (IsNumbered o.number o.name) at rows o.numbered) (o.numbered at _ below)
-          ∙ ends_here d o.name rows o.order at _ below c.ends-ends_trip.result (ends_trip o.number o.name o.numbered)) c.in_ok-report.ensures
+          ∙ ends_here d o.name rows o.order at _ below c.ends-ends_trip.result (ends_trip o.number o.name o.numbered)) c.in_ok-report_if.ensures
           (subst (λ (n : ℕ). Reports d (seen code.E15 (codes "arrival_time") (rows_from o.name rows n)) c.args.found.now c.loop-at.found) (sym next) (c.loop-at.invariant.reported d o));
       ends_trip = ends_trip;
     }

@@ -9,6 +9,6 @@ if_ok (Err e) step h = tt
 
 pub returns : goal.returns
 returns c =
-    let same = IsPermutation-flat_map (λ s. s.now) _ _ c.sort_unstable_by.ensures.permutation in
-    if_ok c.joined.result (λ moved is. subst (IsPermutation c.args.rows.now) (sym (is ∙ ap (flat_map (λ s. s.now)) c.deref.ensures.value))
-    (subst (λ l. IsPermutation l (flat_map (λ s. s.now) c.sort_unstable_by.new.self.items)) c.in_ok-stretches.ensures same)) c.joined.ensures
+    let same = IsPermutation-flat_map (λ s. s.rows.now) _ _ c.sort_unstable_by_key.ensures.permutation in
+    if_ok c.joined.result (λ moved is. subst (IsPermutation c.args.rows.now) (sym (is ∙ ap (flat_map (λ s. s.rows.now)) c.deref.ensures.value))
+    (subst (λ l. IsPermutation l (flat_map (λ s. s.rows.now) c.sort_unstable_by_key.new.self.items)) c.in_ok-stretches.ensures same)) c.joined.ensures

@@ -4,7 +4,7 @@ use Rattle.std.specs.Option.{unwrap_or}
 use Rattle.gtfs_columns.specs.steps.Ids.{ids_of}
 use Rattle.gtfs_trip_rules.specs.KeptTimes.{is_placed}
 use Rattle.gtfs_trip_rules.specs.TripNotes.{rows_of_notes}
-use Rattle.gtfs_trip_rules.specs.TripNumbers.{AllNumbered, name_at, number_in}
+use Rattle.gtfs_trip_rules.specs.TripNumbers.{AllNumbered, name_at, number_of_trip}
 use Rattle.gtfs_trip_rules.specs.TripStopTimes.{trip_stop_time}
 use Rattle.std.specs.List.{All}
 use Rattle.std.proofs.lemmas.List.Elements.{All-filter, filter_passes}
@@ -26,9 +26,9 @@ returns-clause-numbered c =
       | else-not-are_sequenced w ↦ ap (λ v. v.items) w.rows-is ∙ sym (all_pass (λ r. is_placed r.times) all (c.self.invariant.located w.if-not-are_sequenced.false))
     ] in
     record {
-      number = λ id. unwrap_or (number_in trips numbers id) 0;
+      number = λ id. unwrap_or (number_of_trip trips numbers id) 0;
       name = name;
-      numbered = subst (AllNumbered (λ id. unwrap_or (number_in trips numbers id) 0) name) (sym kept) (kept_numbers trips numbers c.self.inside.names.items all (λ r. is_placed r.times) c.self.invariant.numbered);
+      numbered = subst (AllNumbered (λ id. unwrap_or (number_of_trip trips numbers id) 0) name) (sym kept) (kept_numbers trips numbers c.self.inside.names.items all (λ r. is_placed r.times) c.self.invariant.numbered);
       same = ap (map (trip_stop_time name)) kept ∙ rows_kept name all ∙ ap (λ v. rows_of_notes v.notes) c.self.view_is;
     }
 

@@ -1,0 +1,391 @@
+-- The departure rows at the place of a stop: of its stops put together, and cut by trip.
+use Rattle.std.proofs.Common.{◌≡◌, ◌≤◌, ◌<◌, ◌+◌, ◌++◌, ◌∙◌, ◌&&◌, ◌||◌, ◌==◌, ℕ, zero, suc, Bool, true, false, not, cond, List, [], ◌∷◌, length, map, filter, take, drop, add-one, get_or, Option, Some, None, nat_lt, nat_le, refl, sym, ap, subst, arith, rules, inl, inr}
+use Rattle.std.specs.Prelude.{option_map}
+use Rattle.std.specs.List.{All, list_any, slice_get}
+use Rattle.std.specs.List.Sorted.{IsPartitionedBy, IsPermutation, IsSorted}
+use Rattle.std.specs.Cmp.{IsTotalOrder, ranked, tied_itself}
+use Rattle.std.specs.Cmp.Derive.{both_true}
+use Rattle.std.specs.Cmp.Rules.{comparing}
+use Rattle.std.specs.declared.cmp.Ordering.{Ordering}
+use Rattle.std.specs.declared.cmp.Ordering.TheVariants.{Less, Equal, Greater}
+use Rattle.std.specs.Ordering.{is_lt, nat_cmp, ordering_reverse, ordering_then}
+use Rattle.std.proofs.lemmas.Cmp.{nat_cmp_total}
+use Rattle.std.proofs.lemmas.Bool.{and_parts, cases_Bool, eqb-true, false≢true, true≢false, le-leb, leb-true, lt-ltb, ltb-true, ltb-false, ne_eqb}
+use Rattle.std.proofs.lemmas.Bool.Decides.{nat_tests}
+use Rattle.std.proofs.Math.Seq.{take-suc}
+use Rattle.std.proofs.lemmas.List.Elements.{All-cons}
+use Rattle.std.proofs.lemmas.List.Kept.{AllPairs-filter}
+use Rattle.std.proofs.lemmas.List.Sorted.{ranks_by, sorted_far}
+use Rattle.std.proofs.lemmas.Option.{get_or_from_slice_get, slice_get-get_or, slice_get_within}
+use Rattle.gtfs_columns.specs.Values.{if_there}
+use Rattle.gtfs_field.proofs.ListFacts.{any_alike, any_silent, some_of}
+use Rattle.gtfs_field.proofs.NumberFacts.{number_itself as itself}
+use Rattle.gtfs_field.proofs.OrderingFacts.{first_at_most, tied_first as first_tie, tied_second as second_tie}
+use Rattle.gtfs_rows.specs.Choices.{location_code}
+use Rattle.gtfs_rows.specs.Places.{is_in_place, members}
+use Rattle.gtfs_rows.specs.Rows as content
+use Rattle.gtfs_rows.specs.Order.{Ascends}
+use Rattle.gtfs_rows.specs.Runs.{is_departure_row}
+use Rattle.gtfs_rows.specs.Trips.{frequencies_by_trip, stop_rows_by_trip}
+use Rattle.gtfs_rows.specs.Views.{IsSoundParts, content_of_parts, stop_ids, stop_row_of, text_of_number, trip_of}
+use Rattle.gtfs_rows.specs.declared.frequency.Frequency.{Frequency}
+use Rattle.gtfs_rows.specs.declared.parts.Parts.{Parts}
+use Rattle.gtfs_rows.specs.declared.stop.Stop.{Stop}
+use Rattle.gtfs_rows.specs.declared.stop_row.StopRow.{StopRow}
+use Rattle.gtfs_rows.specs.declared.trip.Trip.{Trip}
+use Rattle.gtfs_rows.proofs.SameElements.{pairs-head, pairs-tail}
+use Rattle.gtfs_rows.proofs.TripFacts.{stop_times}
+use Rattle.gtfs_rows.proofs.TripsAt.{content_trip}
+use Rattle.gtfs_table.proofs.PartFacts.{length-parts}
+use Rattle.gtfs_times.proofs.TimedContent.{content-timed}
+use Rattle.gtfs_times.specs.TimedRows.{timed_parts}
+use Rattle.gtfs_times.specs.declared.times.Times.{Times}
+use Rattle.gtfs_runs.specs.Counts.{tally}
+use Rattle.gtfs_runs.specs.StopIndex.{AreDepartureRows, departs_at, departure_row_cmp, is_row}
+use Rattle.gtfs_runs.specs.declared.stop_index.DepartureRow.{DepartureRow}
+use Rattle.gtfs_runs.specs.declared.stop_index.children.Child.{Child}
+use Rattle.gtfs_runs.specs.steps.Children.{is_child}
+use Rattle.gtfs_runs.specs.steps.Entries.{departs_of, leaves_stop}
+use Rattle.gtfs_runs.specs.steps.Passings.{leaves}
+use Rattle.gtfs_runs.specs.steps.Places.{ArePlaceRows, departs_in_place, first_trip}
+use Rattle.gtfs_runs.proofs.ChildFacts.{child_of}
+use Rattle.gtfs_runs.proofs.ContentEvents.{past_trips, row_at}
+use Rattle.gtfs_runs.proofs.ContentRows.{flag_at}
+use Rattle.gtfs_runs.proofs.EntryFacts.{own_rows, trip_within}
+use Rattle.gtfs_runs.proofs.IndexFacts.{any_kept}
+use Rattle.gtfs_runs.proofs.LaneTallies.{tally-nothing}
+use Rattle.gtfs_runs.proofs.NumberParts.{first_run}
+use Rattle.gtfs_runs.proofs.PlaceFacts.{place_at}
+use Rattle.gtfs_runs.proofs.Tallies.{any-tally, tally-append, tally-none, tally-permutation, tally-push, tally-same, two_at}
+
+-- ---- what is asked of a stop time
+
+module _ (p : Parts) (sound : IsSoundParts p) (s t : ℕ) (u : Trip) (rows : List StopRow) (fs : List Frequency) (at_trip : slice_get p.trips t ≡ Some u)
+    (at_rows : slice_get (stop_rows_by_trip p) t ≡ Some rows) (at_periods : slice_get (frequencies_by_trip p) t ≡ Some fs) where
+  pub in_place_of : (r : ℕ) → departs_in_place p s t r ≡ if_there (slice_get rows r) (λ x. leaves p s u rows fs (r, x))
+  in_place_of r =
+      let c = content_of_parts p in
+      let id = text_of_number (stop_ids p) s in
+      let asked : content.Trip → content.StopRow → Bool = λ v x. is_departure_row v x && is_in_place c id x.stop_id in
+      ap (λ o. if_there o (λ v. if_there (slice_get v.stop_rows r) (asked v))) (content_trip p t u rows fs at_trip at_rows at_periods)
+      ∙ row_at (stop_row_of p) (λ x. x.stop_id.0 < length p.stops) (asked (trip_of p u rows fs)) (λ x. leaves p s u rows fs (r, x)) rows r (stop_times p sound t rows at_rows).stops
+      (λ x h. ap (λ b. is_departure_row (trip_of p u rows fs) (stop_row_of p x) && b) (sym (flag_at p s x.stop_id.0 h)))
+
+-- past the last trip there is none
+pub place_within : (p : Parts) (s t r : ℕ) → departs_in_place p s t r ≡ true → t < length p.trips
+place_within p s t r holds = elim (cases_Bool (nat_lt t (length p.trips))) [
+  | inl is ↦ ltb-true t (length p.trips) is
+  | inr isnt ↦
+      let c = content_of_parts p in
+      let id = text_of_number (stop_ids p) s in
+      let none : departs_in_place p s t r ≡ false =
+      ap (λ o. if_there o (λ v. if_there (slice_get v.stop_rows r) (λ x. is_departure_row v x && is_in_place c id x.stop_id)))
+      (past_trips p p.trips (stop_rows_by_trip p) (frequencies_by_trip p) t (ltb-false t (length p.trips) isnt)) in
+      absurd (false≢true (sym none ∙ holds))
+]
+
+-- ---- the order of departure rows
+
+pub rows_total : IsTotalOrder departure_row_cmp
+rows_total = search (comparing, rules) depth 20
+
+row_itself : (x : DepartureRow) → is_row x.trip x.row x ≡ true
+row_itself x = both_true (itself x.trip) (itself x.row)
+
+tied : (x y : DepartureRow) → departure_row_cmp x y ≡ Equal → is_row x.trip x.row y ≡ true
+tied x y tie =
+    let trips : x.trip ≡ y.trip = ranked x.trip y.trip Equal (sym (first_tie _ _ tie)) in
+    let rows : x.row ≡ y.row = ranked x.row y.row Equal (sym (second_tie _ _ tie)) in
+    both_true (ap (λ n. x.trip == n) (sym trips) ∙ itself x.trip) (ap (λ n. x.row == n) (sym rows) ∙ itself x.row)
+
+less_if_apart : (r q : Ordering) → q ≡ ordering_reverse r → is_lt q ≡ false → (r ≡ Equal → ⊥) → r ≡ Less
+less_if_apart Less q turned far apart = refl
+less_if_apart Equal q turned far apart = absurd (apart refl)
+less_if_apart Greater q turned far apart = absurd (false≢true (sym far ∙ ap is_lt turned))
+
+-- sorted ones of which each stands there once
+rows_ascend : (xs : List DepartureRow) → IsSorted departure_row_cmp xs → ((t r : ℕ) → tally (is_row t r) xs ≤ 1) → Ascends departure_row_cmp xs
+rows_ascend xs up once i j d before within =
+    let a = get_or xs i d in
+    let b = get_or xs j d in
+    less_if_apart (departure_row_cmp a b) (departure_row_cmp b a) (rows_total.antisymm b a)
+    (sorted_far (λ x y. is_lt (departure_row_cmp x y)) (ranks_by rows_total (λ x. x)) xs up i j d (omega arith) within)
+    (λ tie. twice (tally (is_row a.trip a.row) xs) (two_at (is_row a.trip a.row) xs i j d before within (row_itself a) (tied a b tie)) (once a.trip a.row))
+  where
+    twice : (n : ℕ) → 2 ≤ n → n ≤ 1 → ⊥
+    twice n two one = omega arith
+
+-- in ascending ones each stands once
+not_again : (x y : DepartureRow) → departure_row_cmp x y ≡ Less → (t r : ℕ) → is_row t r x ≡ true → is_row t r y ≡ false
+not_again x y less t r is = elim (cases_Bool (is_row t r y)) [
+  | inr isnt ↦ isnt
+  | inl also ↦
+      let a = and_parts (t == x.trip) (r == x.row) is in
+      let b = and_parts (t == y.trip) (r == y.row) also in
+      let trips : x.trip ≡ y.trip = sym (eqb-true t x.trip a.0) ∙ eqb-true t y.trip b.0 in
+      let rows : x.row ≡ y.row = sym (eqb-true r x.row a.1) ∙ eqb-true r y.row b.1 in
+      absurd (never (sym (same_row trips rows) ∙ less))
+]
+  where
+    never : Equal ≡ Less → ⊥
+    never same = false≢true (ap is_lt same)
+
+    same_row : x.trip ≡ y.trip → x.row ≡ y.row → departure_row_cmp x y ≡ Equal
+    same_row trips rows =
+        (λ i. ordering_then (nat_cmp (trips i) y.trip) (nat_cmp (rows i) y.row))
+        ∙ (λ i. ordering_then (tied_itself nat_cmp_total y.trip i) (tied_itself nat_cmp_total y.row i))
+
+pub once : (xs : List DepartureRow) (t r : ℕ) → Ascends departure_row_cmp xs → tally (is_row t r) xs ≡ cond (list_any (is_row t r) xs) 1 0
+once [] t r up = refl
+once (x ∷ xs) t r up = elim (cases_Bool (is_row t r x)) [
+  | inl is ↦
+      let above = pairs-head (λ a b. departure_row_cmp a b ≡ Less) x xs up in
+      let none : tally (is_row t r) xs ≡ 0 = tally-none (is_row t r) xs (λ k d within. not_again x (get_or xs k d) (above k d within) t r is) in
+      rw (is, none) refl
+  | inr isnt ↦ rw isnt (ap (λ n. 0 + n) (once xs t r (pairs-tail (λ a b. departure_row_cmp a b ≡ Less) x xs up)) ∙ nothing (cond (list_any (is_row t r) xs) 1 0))
+]
+  where
+    nothing : (n : ℕ) → 0 + n ≡ n
+    nothing n = omega arith
+
+-- ---- those of the stops of a place
+
+-- how often the index has a stop time at a stop
+pub told_at : (choice : Times) (p : Parts) → IsSoundParts p → (index : List (List DepartureRow)) → AreDepartureRows choice p index → (s t r : ℕ) (xs : List DepartureRow) → s < length p.stops
+    → slice_get index s ≡ Some xs → tally (is_row t r) xs ≡ cond (departs_of (timed_parts choice p) s t r) 1 0
+told_at choice p sound index are s t r xs within at =
+    let q = timed_parts choice p in
+    let id = text_of_number (stop_ids p) s in
+    let there = slice_get_within index s xs at in
+    let known : nat_lt s (length p.stops) ≡ true = lt-ltb s (length p.stops) within in
+    once xs t r (subst (Ascends departure_row_cmp) (get_or_from_slice_get index s xs xs at) (are.in_order s xs there))
+    ∙ ap (λ l. cond (list_any (is_row t r) l) 1 0) (sym (get_or_from_slice_get index s xs [] at))
+    ∙ ap (λ b. cond b 1 0)
+    (are.all s t r within ∙ ap (λ c. departs_at c id t r) (sym (content-timed choice p sound)) ∙ ap (λ b. b && departs_at (content_of_parts q) id t r) (sym known))
+
+-- the steps of the code: first those of the stop, and then those of each child
+pub stop_first : {X Y : Type 0} (f : Y → Bool) (q : X → Bool) (b : Bool) (old new xs : List X) (ys : List Y) → old ≡ [] → new ≡ old ++ xs → tally q xs ≡ cond b 1 0
+    → tally q new ≡ cond b 1 0 + tally f (take 0 ys)
+stop_first f q b old new xs ys none pushed told = ap (tally q) (pushed ∙ ap (λ l. l ++ xs) none) ∙ told ∙ nothing (cond b 1 0)
+  where
+    nothing : (n : ℕ) → n ≡ n + 0
+    nothing n = omega arith
+
+pub children_more : {X Y : Type 0} (f : Y → Bool) (q : X → Bool) (a k : ℕ) (y : Y) (old new xs : List X) (ys : List Y) → k < length ys → y ≡ get_or ys k y
+    → tally q old ≡ a + tally f (take k ys) → new ≡ old ++ xs → tally q xs ≡ cond (f y) 1 0 → tally q new ≡ a + tally f (take (k + 1) ys)
+children_more f q a k y old new xs ys within item so_far pushed told =
+    rw (add-one, take-suc ys k y within)
+    (ap (tally q) pushed ∙ tally-append q old xs ∙ (λ i. so_far i + (told ∙ ap (λ z. cond (f z) 1 0) item) i) ∙ assoc a (tally f (take k ys)) (cond (f (get_or ys k y)) 1 0)
+    ∙ ap (λ n. a + n) (sym (tally-push f (take k ys) (get_or ys k y))))
+  where
+    assoc : (l m n : ℕ) → l + m + n ≡ l + (m + n)
+    assoc l m n = omega arith
+
+-- a stop time is at the place where it is at the stop, or at a child
+one_place : (a b e : Bool) → cond a 1 0 + cond (b && not a && e) 1 0 ≡ cond (a || (b && e)) 1 0
+one_place true true e = refl
+one_place true false e = refl
+one_place false true true = refl
+one_place false true false = refl
+one_place false false e = refl
+
+module _ (p : Parts) (sound : IsSoundParts p) (s : ℕ) (within : s < length p.stops) (xs : List Child) (own : (n : ℕ) → tally (λ x. n == x.stop) xs ≡ cond (is_child p s n) 1 0) where
+  -- of a departure row at a stop
+  member_sum : (n : ℕ) → n < length p.stops
+      → cond (n == s) 1 0 + tally (λ x. n == x.stop) xs ≡ cond (get_or (members (content_of_parts p) (text_of_number (stop_ids p) s)) n false) 1 0
+  member_sum n known =
+      let d : Stop = some_of p.stops n known in
+      let row = get_or p.stops n d in
+      let at : slice_get p.stops n ≡ Some row = slice_get-get_or p.stops n d known in
+      let plain = location_code row.location_type == 0 in
+      let named = if_there (option_map (λ m. m.0) row.parent_station) (λ m. s == m) in
+      ap (λ k. cond (n == s) 1 0 + k) (own n ∙ ap (λ b. cond b 1 0) (child_of p s n row at))
+      ∙ one_place (n == s) plain named
+      ∙ ap (λ b. cond b 1 0) (sym (flag_at p s n known ∙ place_at p sound d s n row within at))
+
+  of_row : (a flag : Bool) (n : ℕ) → cond (n == s) 1 0 + tally (λ x. n == x.stop) xs ≡ cond flag 1 0
+      → cond (a && (n == s)) 1 0 + tally (λ x. a && (n == x.stop)) xs ≡ cond (a && flag) 1 0
+  of_row true flag n sum = sum
+  of_row false flag n sum = ap (λ k. 0 + k) (tally-nothing (λ x. false) xs (λ x. refl))
+
+  of_rows : (u : Trip) (rows : List StopRow) (fs : List Frequency) (r : ℕ) → All (λ x. x.stop_id.0 < length p.stops) rows
+      → cond (if_there (slice_get rows r) (leaves_stop p u rows fs s)) 1 0 + tally (λ x. if_there (slice_get rows r) (leaves_stop p u rows fs x.stop)) xs
+      ≡ cond (if_there (slice_get rows r) (λ x. leaves p s u rows fs (r, x))) 1 0
+  of_rows u rows fs r known = by (slice_get rows r) refl
+    where
+      by : (o : Option StopRow) → slice_get rows r ≡ o
+          → cond (if_there o (leaves_stop p u rows fs s)) 1 0 + tally (λ x. if_there o (leaves_stop p u rows fs x.stop)) xs ≡ cond (if_there o (λ x. leaves p s u rows fs (r, x))) 1 0
+      by None at = ap (λ k. 0 + k) (tally-nothing (λ x. false) xs (λ x. refl))
+      by (Some x) at =
+          let n = x.stop_id.0 in
+          let inside : n < length p.stops =
+          subst (λ (y : StopRow). y.stop_id.0 < length p.stops) (get_or_from_slice_get rows r x x at) (known r x (slice_get_within rows r x at)) in
+          of_row (is_departure_row (trip_of p u rows fs) (stop_row_of p x)) (get_or (members (content_of_parts p) (text_of_number (stop_ids p) s)) n false) n (member_sum n inside)
+
+  pub place_sum : (t r : ℕ) → cond (departs_of p s t r) 1 0 + tally (λ x. departs_of p x.stop t r) xs ≡ cond (departs_in_place p s t r) 1 0
+  place_sum t r = elim (cases_Bool (nat_lt t (length p.trips))) [
+    | inl is ↦
+        let inside : t < length p.trips = ltb-true t (length p.trips) is in
+        let here : t < length (stop_rows_by_trip p) = omega (arith, inside, length-parts p.stop_row_starts p.stop_rows, sound.stop_rows.0) in
+        let periods : t < length (frequencies_by_trip p) = omega (arith, inside, length-parts p.frequency_starts p.frequencies, sound.frequencies.0) in
+        let some = some_of p.trips t inside in
+        let u = get_or p.trips t some in
+        let rows = get_or (stop_rows_by_trip p) t [] in
+        let fs = get_or (frequencies_by_trip p) t [] in
+        let at_trip = slice_get-get_or p.trips t some inside in
+        let at_rows = slice_get-get_or (stop_rows_by_trip p) t [] here in
+        let at_periods = slice_get-get_or (frequencies_by_trip p) t [] periods in
+        let known = (stop_times p sound t rows at_rows).stops in
+        let told : (n : ℕ) → departs_of p n t r ≡ if_there (slice_get rows r) (leaves_stop p u rows fs n) = λ n. sym (own_rows p sound t u rows fs at_trip at_rows at_periods known n r) in
+        (λ i. cond (told s i) 1 0 + tally-same (λ x. departs_of p x.stop t r) (λ x. if_there (slice_get rows r) (leaves_stop p u rows fs x.stop)) xs (λ x. told x.stop) i)
+        ∙ of_rows u rows fs r known
+        ∙ ap (λ b. cond b 1 0) (sym (in_place_of p sound s t u rows fs at_trip at_rows at_periods r))
+    | inr isnt ↦
+        let none : (n : ℕ) → departs_of p n t r ≡ false = λ n. refuted (departs_of p n t r) (λ holds. true≢false (sym (lt-ltb t (length p.trips) (trip_within p n t r holds)) ∙ isnt)) in
+        let also : departs_in_place p s t r ≡ false = refuted (departs_in_place p s t r) (λ holds. true≢false (sym (lt-ltb t (length p.trips) (place_within p s t r holds)) ∙ isnt)) in
+        (λ i. cond (none s i) 1 0 + tally-nothing (λ x. departs_of p x.stop t r) xs (λ x. none x.stop) i) ∙ ap (λ b. cond b 1 0) (sym also)
+  ]
+    where
+      refuted : (b : Bool) → (b ≡ true → ⊥) → b ≡ false
+      refuted true never = absurd (never refl)
+      refuted false never = refl
+
+-- all of them, sorted
+pub are-place-rows : (p : Parts) (s : ℕ) (found sorted : List DepartureRow) → ((t r : ℕ) → tally (is_row t r) found ≡ cond (departs_in_place p s t r) 1 0)
+    → IsPermutation found sorted → IsSorted departure_row_cmp sorted → ArePlaceRows p s 0 sorted
+are-place-rows p s found sorted told same up =
+    let every : (t r : ℕ) → tally (is_row t r) sorted ≡ cond (departs_in_place p s t r) 1 0 = λ t r. tally-permutation (is_row t r) found sorted same ∙ told t r in
+    record {
+      in_order = rows_ascend sorted up (λ t r. most (departs_in_place p s t r) (tally (is_row t r) sorted) (every t r));
+      all = λ t r. any-tally (is_row t r) sorted (departs_in_place p s t r) (every t r) ∙ ap (λ b. b && departs_in_place p s t r) (sym (le-leb 0 t (omega arith)));
+    }
+  where
+    most : (b : Bool) (n : ℕ) → n ≡ cond b 1 0 → n ≤ 1
+    most true n is = omega (arith, is)
+    most false n is = omega (arith, is)
+
+-- ---- cut by trip
+
+pub trips_rise : (xs : List DepartureRow) → Ascends departure_row_cmp xs → (i j : ℕ) (d : DepartureRow) → i < j → j < length xs → (get_or xs i d).trip ≤ (get_or xs j d).trip
+trips_rise xs up i j d before within =
+    let x = get_or xs i d in
+    let y = get_or xs j d in
+    first_at_most x.trip y.trip (nat_cmp x.row y.row) (up i j d before within)
+
+pub first_is : (n : ℕ) (xs : List DepartureRow) (d : DepartureRow) → 0 < length xs → first_trip n xs ≡ (get_or xs 0 d).trip
+first_is n [] d some = absurd (omega arith)
+first_is n (x ∷ xs) d some = refl
+
+-- no trip comes before that of the first
+pub first_lowest : (n : ℕ) (xs : List DepartureRow) → Ascends departure_row_cmp xs → All (λ x. first_trip n xs ≤ x.trip) xs
+first_lowest n [] up k d within = absurd (omega arith)
+first_lowest n (x ∷ xs) up zero d within = omega arith
+first_lowest n (x ∷ xs) up (suc k) d within = trips_rise (x ∷ xs) up 0 (suc k) d (omega arith) within
+
+-- those of the first trip come first
+pub first_parted : (xs : List DepartureRow) (t : ℕ) → Ascends departure_row_cmp xs → All (λ x. t ≤ x.trip) xs → IsPartitionedBy (λ x. x.trip == t) xs
+first_parted xs t up from i j d before within is = elim (cases_Bool (nat_lt i j)) [
+  | inl lower ↦
+      let rise = trips_rise xs up i j d (ltb-true i j lower) within in
+      let low = from i d (omega (arith, before, within)) in
+      let here = eqb-true (get_or xs j d).trip t is in
+      let same : (get_or xs i d).trip ≡ t = omega (arith, rise, low, here) in
+      ap (λ n. n == t) same ∙ itself t
+  | inr not_lower ↦ let same : i ≡ j = omega (arith, before, ltb-false i j not_lower) in ap (λ k. (get_or xs k d).trip == t) same ∙ is
+]
+
+-- and there is one of them
+pub first_counted : (n : ℕ) (xs : List DepartureRow) (t : ℕ) → first_trip n xs ≡ t → 0 < length xs → 0 < tally (λ x. x.trip == t) xs
+first_counted n [] t is some = absurd (omega arith)
+first_counted n (x ∷ xs) t is some = let here : (x.trip == t) ≡ true = ap (λ k. k == t) is ∙ itself t in rw here (omega arith)
+
+-- of a trip's number and a later one
+pub other_row : (t v r : ℕ) (x : DepartureRow) → (v == t) ≡ false → (is_row v r x && not (x.trip == t)) ≡ is_row v r x
+other_row t v r x other = elim (cases_Bool (v == x.trip)) [
+  | inr apart ↦ rw apart refl
+  | inl same ↦
+      let not_t : (x.trip == t) ≡ false = ap (λ n. n == t) (sym (eqb-true v x.trip same)) ∙ other in
+      rw (not_t, same) (alone (r == x.row))
+]
+  where
+    alone : (b : Bool) → (b && true) ≡ b
+    alone true = refl
+    alone false = refl
+
+pub own_row : (t r : ℕ) (x : DepartureRow) → (is_row t r x && (x.trip == t)) ≡ is_row t r x
+own_row t r x = elim (cases_Bool (t == x.trip)) [
+  | inr apart ↦ rw apart refl
+  | inl same ↦
+      let is_t : (x.trip == t) ≡ true = ap (λ n. n == t) (sym (eqb-true t x.trip same)) ∙ itself t in
+      rw (is_t, same) (alone (r == x.row))
+]
+  where
+    alone : (b : Bool) → (b && true) ≡ b
+    alone true = refl
+    alone false = refl
+
+pub none_left : (t r : ℕ) (x : DepartureRow) → (is_row t r x && not (x.trip == t)) ≡ false
+none_left t r x = elim (cases_Bool (t == x.trip)) [
+  | inr apart ↦ rw apart refl
+  | inl same ↦
+      let is_t : (x.trip == t) ≡ true = ap (λ n. n == t) (sym (eqb-true t x.trip same)) ∙ itself t in
+      rw is_t (never (is_row t r x))
+]
+  where
+    never : (b : Bool) → (b && false) ≡ false
+    never true = refl
+    never false = refl
+
+module _ (p : Parts) (s t n : ℕ) (xs : List DepartureRow) (are : ArePlaceRows p s t xs) (is : n ≡ tally (λ x. x.trip == t) xs) where
+  low : All (λ x. t ≤ x.trip) xs
+  low k d within =
+      let x = get_or xs k d in
+      let there = any_at (is_row x.trip x.row) xs k d within (row_itself x) in
+      leb-true t x.trip (and_parts (nat_le t x.trip) (departs_in_place p s x.trip x.row) (sym (are.all x.trip x.row) ∙ there)).0
+    where
+      any_at : (q : DepartureRow → Bool) (ys : List DepartureRow) (j : ℕ) (e : DepartureRow) → j < length ys → q (get_or ys j e) ≡ true → list_any q ys ≡ true
+      any_at q [] j e inside holds = absurd (omega arith)
+      any_at q (y ∷ ys) zero e inside holds = rw holds refl
+      any_at q (y ∷ ys) (suc j) e inside holds = rw (any_at q ys j e (omega arith) holds) (or_true (q y))
+        where
+          or_true : (b : Bool) → (b || true) ≡ true
+          or_true true = refl
+          or_true false = refl
+
+  cut : (take n xs ≡ filter (λ x. x.trip == t) xs) × (drop n xs ≡ filter (λ x. not (x.trip == t)) xs)
+  cut = subst (λ m. (take m xs ≡ filter (λ x. x.trip == t) xs) × (drop m xs ≡ filter (λ x. not (x.trip == t)) xs)) (sym is) (first_run (λ x. x.trip) xs t (trips_rise xs are.in_order) low)
+
+  pub own_up : Ascends departure_row_cmp (take n xs)
+  own_up = subst (Ascends departure_row_cmp) (sym cut.0) (AllPairs-filter (λ x y. departure_row_cmp x y ≡ Less) (λ x. x.trip == t) xs are.in_order)
+
+  pub own_trip : All (λ x. x.trip ≡ t) (take n xs)
+  own_trip = subst (All (λ x. x.trip ≡ t)) (sym cut.0) (kept_pass xs)
+    where
+      kept_pass : (ys : List DepartureRow) → All (λ x. x.trip ≡ t) (filter (λ x. x.trip == t) ys)
+      kept_pass [] = λ k d within. absurd (omega arith)
+      kept_pass (y ∷ ys) = elim (cases_Bool (y.trip == t)) [
+        | inl is ↦ rw is (All-cons (λ x. x.trip ≡ t) y (filter (λ x. x.trip == t) ys) (eqb-true y.trip t is) (kept_pass ys))
+        | inr isnt ↦ rw isnt (kept_pass ys)
+      ]
+
+  pub own_all : (r : ℕ) → list_any (is_row t r) (take n xs) ≡ departs_in_place p s t r
+  own_all r =
+      ap (list_any (is_row t r)) cut.0 ∙ any_kept (is_row t r) (λ x. x.trip == t) xs ∙ any_alike (λ x. is_row t r x && (x.trip == t)) (is_row t r) xs (own_row t r)
+      ∙ are.all t r ∙ ap (λ b. b && departs_in_place p s t r) (le-leb t t (omega arith))
+
+  pub left_rows : ArePlaceRows p s (t + 1) (drop n xs)
+  left_rows = record {
+    in_order = subst (Ascends departure_row_cmp) (sym cut.1) (AllPairs-filter (λ x y. departure_row_cmp x y ≡ Less) (λ x. not (x.trip == t)) xs are.in_order);
+    all = λ v r.
+        ap (list_any (is_row v r)) cut.1 ∙ any_kept (is_row v r) (λ x. not (x.trip == t)) xs
+        ∙ elim (cases_Bool (v == t)) [
+          | inl same ↦
+              let here : v ≡ t = eqb-true v t same in
+              let past : nat_le (t + 1) v ≡ false = grind (arith, nat_tests) in
+              any_silent (λ x. is_row v r x && not (x.trip == t)) xs (subst (λ n. (x : DepartureRow) → (is_row n r x && not (x.trip == t)) ≡ false) (sym here) (none_left t r))
+              ∙ ap (λ b. b && departs_in_place p s v r) (sym past)
+          | inr other ↦
+              let later : nat_le t v ≡ nat_le (t + 1) v = grind (arith, nat_tests) in
+              any_alike (λ x. is_row v r x && not (x.trip == t)) (is_row v r) xs (λ x. other_row t v r x other) ∙ are.all v r ∙ ap (λ b. b && departs_in_place p s v r) later
+        ];
+  }

@@ -1,0 +1,31 @@
+use Rattle.std.proofs.Common.{◌∙◌, length, refl, sym}
+use Rattle.std.proofs.lemmas.Result.{on_ok_weaker}
+use Rattle.gtfs_runs.proofs.EntryFacts.{trip_added}
+use Rattle.gtfs_runs.proofs.TimedTrips.{filled_under, times_of}
+use Rattle.gtfs_runs.proofs.stop_index.entries.add_trip.Goals as goal
+
+pub add_rows-requires : goal.add_rows-requires
+add_rows-requires c =
+    (times_of c.args.times c.args.feed.now c.soundness.ensures c.args.trip.0 (length c.args.feed.now.stops) c.trip_rows-rows.result.now _ c.trip_rows-rows.ensures
+    (c.deref.ensures.value ∙ c.in_ok-filled.ensures ∙ filled_under c.args.times c.trip_rows-rows.result.now (sym c.is_to_fill.ensures.value ∙ c.if-is_to_fill.true)) refl).ascend
+
+pub add_rows-requires-2 : goal.add_rows-requires-2
+add_rows-requires-2 c =
+    (times_of c.args.times c.args.feed.now c.soundness.ensures c.args.trip.0 (length c.args.feed.now.stops) c.trip_rows-rows.result.now _ c.trip_rows-rows.ensures
+    (sym (c.is_to_fill.ensures.kept c.if-is_to_fill.false)) refl).ascend
+
+pub returns-then-is_to_fill : goal.returns-then-is_to_fill
+returns-then-is_to_fill c =
+    let rows = c.trip_rows-rows.result.now in
+    let is = c.deref.ensures.value ∙ c.in_ok-filled.ensures ∙ filled_under c.args.times rows (sym c.is_to_fill.ensures.value ∙ c.if-is_to_fill.true) in
+    on_ok_weaker c.add_rows.result
+    (λ added. trip_added c.args.times c.args.feed.now c.soundness.ensures c.args.trip.0 rows _ _ _ c.trip_rows-rows.ensures is added)
+    c.add_rows.ensures
+
+pub returns : goal.returns
+returns c =
+    let rows = c.trip_rows-rows.result.now in
+    let is = sym (c.is_to_fill.ensures.kept c.if-is_to_fill.false) in
+    on_ok_weaker c.add_rows-2.result
+    (λ added. trip_added c.args.times c.args.feed.now c.soundness.ensures c.args.trip.0 rows _ _ _ c.trip_rows-rows.ensures is added)
+    c.add_rows-2.ensures

@@ -1,0 +1,89 @@
+use Rattle.std.proofs.Common.{◌≡◌, ◌≤◌, ◌<◌, ◌+◌, ◌∙◌, length, map, take, drop, get_or, sym, ap, subst, arith}
+use Rattle.std.proofs.lemmas.List.{length-take-le}
+use Rattle.gtfs_times.proofs.FilledContent.{sound-timed}
+use Rattle.gtfs_times.specs.TimedRows.{timed_parts}
+use Rattle.gtfs_runs.specs.StopLanes.{period_value}
+use Rattle.gtfs_runs.specs.declared.stop_index.DepartureRow.{DepartureRow}
+use Rattle.gtfs_runs.specs.steps.Courses.{stopping_of}
+use Rattle.gtfs_runs.specs.steps.Finds.{AreFound}
+use Rattle.gtfs_runs.specs.steps.Places.{ArePlaceRows, first_trip}
+use Rattle.gtfs_runs.proofs.PlaceFinds.{are-passings, first_within, raised, rows_raised, rows_within}
+use Rattle.gtfs_runs.proofs.PlaceRows.{first_counted, first_is, first_lowest, left_rows, own_all, own_trip, own_up}
+use Rattle.gtfs_runs.proofs.stop_lanes.indexed.add_trip.Goals as goal
+
+pub rows_of-count-requires-clause-up : goal.rows_of-count-requires-clause-up
+rows_of-count-requires-clause-up c = c.requires.rows.in_order
+
+pub rows_of-count-requires-clause-first : goal.rows_of-count-requires-clause-first
+rows_of-count-requires-clause-first c = λ d k within.
+    let xs = c.args.rows.now in
+    let n = length c.args.feed.now.trips in
+    let x : DepartureRow = record { trip = 0; row = 0 } in
+    let same : first_trip n xs ≡ c.trip-trip.result.0 = first_is n xs x c.requires.some ∙ sym c.trip-trip.ensures in
+    let low = first_lowest n xs c.requires.rows.in_order k d within in
+    omega (arith, low, same)
+
+pub passings_at-requires-clause-trip : goal.passings_at-requires-clause-trip
+passings_at-requires-clause-trip c =
+    let p = c.args.feed.now in
+    let q = timed_parts c.args.times p in
+    let xs = c.args.rows.now in
+    let x : DepartureRow = record { trip = 0; row = 0 } in
+    let t = c.trip-trip.result.0 in
+    let same : first_trip (length p.trips) xs ≡ t = first_is (length p.trips) xs x c.requires.some ∙ sym c.trip-trip.ensures in
+    first_within q c.args.stop.0 t xs (subst (λ n. ArePlaceRows q c.args.stop.0 n xs) same c.requires.rows) same c.requires.some
+
+pub add_passings-requires-clause-trip : goal.add_passings-requires-clause-trip
+add_passings-requires-clause-trip c =
+    let p = c.args.feed.now in
+    let q = timed_parts c.args.times p in
+    let xs = c.args.rows.now in
+    let x : DepartureRow = record { trip = 0; row = 0 } in
+    let t = c.trip-trip.result.0 in
+    let same : first_trip (length p.trips) xs ≡ t = first_is (length p.trips) xs x c.requires.some ∙ sym c.trip-trip.ensures in
+    first_within q c.args.stop.0 t xs (subst (λ n. ArePlaceRows q c.args.stop.0 n xs) same c.requires.rows) same c.requires.some
+
+pub passings_at-requires-clause-within : goal.passings_at-requires-clause-within
+passings_at-requires-clause-within c =
+    let p = c.args.feed.now in
+    let q = timed_parts c.args.times p in
+    let sound = sound-timed p c.soundness.ensures c.args.times in
+    let s = c.args.stop.0 in
+    let xs = c.args.rows.now in
+    let x : DepartureRow = record { trip = 0; row = 0 } in
+    let t = c.trip-trip.result.0 in
+    let n = c.rows_of-count.result in
+    let same : first_trip (length p.trips) xs ≡ t = first_is (length p.trips) xs x c.requires.some ∙ sym c.trip-trip.ensures in
+    let are : ArePlaceRows q s t xs = subst (λ m. ArePlaceRows q s m xs) same c.requires.rows in
+    let within : t < length q.trips = first_within q s t xs are same c.requires.some in
+    rows_within q sound s t within (take n xs) (own_trip q s t n xs are c.rows_of-count.ensures.value) (own_all q s t n xs are c.rows_of-count.ensures.value)
+
+pub returns : goal.returns
+returns c =
+    let p = c.args.feed.now in
+    let q = timed_parts c.args.times p in
+    let sound = sound-timed p c.soundness.ensures c.args.times in
+    let s = c.args.stop.0 in
+    let xs = c.args.rows.now in
+    let x : DepartureRow = record { trip = 0; row = 0 } in
+    let t = c.trip-trip.result.0 in
+    let n = c.rows_of-count.result in
+    let is = c.rows_of-count.ensures.value in
+    let upto = c.rows_of-count.ensures.upto in
+    let same : first_trip (length p.trips) xs ≡ t = first_is (length p.trips) xs x c.requires.some ∙ sym c.trip-trip.ensures in
+    let are : ArePlaceRows q s t xs = subst (λ m. ArePlaceRows q s m xs) same c.requires.rows in
+    let within : t < length q.trips = first_within q s t xs are same c.requires.some in
+    let some : 0 < n = omega (arith, is, first_counted (length p.trips) xs t same c.requires.some) in
+    let own : 0 < length (take n xs) = omega (arith, some, length-take-le n xs upto) in
+    let left = left_rows q s t n xs are is in
+    let last : t + 1 ≤ length q.trips = omega (arith, within) in
+    let passed = are-passings q sound s t within (take n xs) c.deref.result.now (own_up q s t n xs are is) (own_trip q s t n xs are is) (own_all q s t n xs are is)
+    (λ rows d at. c.deref.ensures.value ∙ c.in_ok-passings.ensures.passings rows d at) own in
+    record {
+      some = some;
+      upto = upto;
+      found = λ was.
+          raised q sound s (t + 1) (drop n xs) left last _ _
+          (c.in_ok-add_passings.ensures c.args.times s passed (subst (λ m. AreFound q s m (map stopping_of c.args.listed.now.items) (map period_value c.args.periods.now.items)) same was));
+      left = rows_raised q sound s (t + 1) (drop n xs) left last;
+    }

@@ -1,0 +1,23 @@
+use Rattle.std.proofs.Common.{length, map, sym, subst}
+use Rattle.std.specs.Prelude.{IfOk}
+use Rattle.gtfs_rows.specs.Views.{content_of_parts, service_ids, stop_ids, text_of_number}
+use Rattle.gtfs_rows.specs.declared.parts.Parts.{Parts}
+use Rattle.gtfs_times.specs.Filling.{timed}
+use Rattle.gtfs_times.specs.TimedRows.{timed_parts}
+use Rattle.gtfs_times.specs.declared.times.Times.{Times}
+use Rattle.gtfs_runs.specs.StopLanes.{list_value, period_value}
+use Rattle.gtfs_runs.specs.steps.Courses.{stopping_of}
+use Rattle.gtfs_runs.specs.steps.Finds.{AreFound}
+use Rattle.gtfs_runs.specs.steps.Whole.{AreWhole}
+use Rattle.gtfs_runs.proofs.stop_lanes.whole.whole_in_index.Goals as goal
+
+pub in_lanes-requires : goal.in_lanes-requires
+in_lanes-requires c =
+    subst (λ (r : Times × Parts). AreFound (timed_parts r.0 r.1) c.args.stop.0 (length r.1.trips) (map stopping_of c.in_ok-found.found.listed.items) (map period_value c.in_ok-found.found.periods.items))
+    (λ i. (sym c.times.ensures i, sym c.feed.ensures i)) c.in_ok-found.ensures
+
+pub returns : goal.returns
+returns c =
+    subst (λ (r : Times × Parts). IfOk c.in_lanes.result (λ lanes. AreWhole (timed r.0 (content_of_parts r.1)) (text_of_number (stop_ids r.1) c.args.stop.0) (service_ids r.1)
+    (map list_value lanes.0.items) (map period_value lanes.1.items)))
+    (λ i. (c.times.ensures i, c.feed.ensures i)) c.in_lanes.ensures

@@ -1,0 +1,41 @@
+-- The departure rows at each stop: the stop times of trips at which riders can leave that stop itself.
+-- GTFS Schedule Reference, stop_times.txt.
+use Rattle.std.specs.Prelude.{◌≡◌, ◌<◌, ℕ, ◌==◌, ◌&&◌, Bool, List, [], All, bytes_eq, length, slice_get, slice_index_or}
+use Rattle.std.specs.List.{list_any}
+use Rattle.std.specs.Ordering.{nat_cmp, on, then_cmp}
+use Rattle.std.specs.declared.cmp.Ordering.{Ordering}
+use Rattle.gtfs_columns.specs.Values.{if_there}
+use Rattle.gtfs_rows.specs.Content.{Content}
+use Rattle.gtfs_rows.specs.Order.{Ascends}
+use Rattle.gtfs_rows.specs.Runs.{is_departure_row}
+use Rattle.gtfs_rows.specs.Views.{content_of_parts, stop_ids, text_of_number}
+use Rattle.gtfs_rows.specs.declared.parts.Parts.{Parts}
+use Rattle.gtfs_times.specs.Filling.{timed}
+use Rattle.gtfs_times.specs.declared.times.Times.{Times}
+use Rattle.gtfs_runs.specs.declared.stop_index.DepartureRow.{DepartureRow}
+
+-- the stop time of a trip at a position, both from 0, is a departure row at the stop
+abbrev pub departs_at : Content → List ℕ → ℕ → ℕ → Bool
+departs_at c s trip row =
+    if_there (slice_get c.trips trip) (λ t. if_there (slice_get t.stop_rows row) (λ r. is_departure_row t r && bytes_eq r.stop_id s))
+
+-- by trip, and in each trip by position
+abbrev pub departure_row_cmp : DepartureRow → DepartureRow → Ordering
+departure_row_cmp = then_cmp (on (λ x. x.trip) nat_cmp) (on (λ x. x.row) nat_cmp)
+
+-- that of this trip at this position
+abbrev pub is_row : ℕ → ℕ → DepartureRow → Bool
+is_row trip row x = (trip == x.trip) && (row == x.row)
+
+-- what contracts see of an index: of which feed it is, under which times, and the departure rows at each stop, by its number
+pub record StopIndexValue : Type 0 where
+  pub feed : Parts
+  pub times : Times
+  pub rows : List (List DepartureRow)
+
+-- for each stop, by its number, every departure row there and no other, each once, in their order
+pub record AreDepartureRows (times : Times) (p : Parts) (index : List (List DepartureRow)) : Type 0 where
+  pub counted : length index ≡ length p.stops
+  pub in_order : All (Ascends departure_row_cmp) index
+  pub all : (s trip row : ℕ) → s < length p.stops
+      → list_any (is_row trip row) (slice_index_or index s []) ≡ departs_at (timed times (content_of_parts p)) (text_of_number (stop_ids p) s) trip row

@@ -1,0 +1,33 @@
+-- The departure rows at the place of a stop, of all trips from a number on.
+use Rattle.std.specs.Prelude.{◌≡◌, ℕ, ◌&&◌, Bool, nat_le, List, [], ◌∷◌, slice_get, slice_index_or}
+use Rattle.std.specs.List.{list_any}
+use Rattle.gtfs_columns.specs.Values.{if_there}
+use Rattle.gtfs_rows.specs.Order.{Ascends}
+use Rattle.gtfs_rows.specs.Places.{is_in_place}
+use Rattle.gtfs_rows.specs.Runs.{is_departure_row}
+use Rattle.gtfs_rows.specs.Views.{content_of_parts, stop_ids, text_of_number}
+use Rattle.gtfs_rows.specs.declared.parts.Parts.{Parts}
+use Rattle.gtfs_rows.specs.declared.stop_row.StopRow.{StopRow}
+use Rattle.gtfs_runs.specs.StopIndex.{departure_row_cmp, is_row}
+use Rattle.gtfs_runs.specs.declared.stop_index.DepartureRow.{DepartureRow}
+use Rattle.gtfs_runs.specs.declared.stop_lanes.passing.Passing.{Passing}
+use Rattle.gtfs_runs.specs.steps.Passings.{first_left, passing_at}
+
+-- the stop time of a trip at a position is a departure row at the place of a stop, all by their numbers
+abbrev pub departs_in_place : Parts → ℕ → ℕ → ℕ → Bool
+departs_in_place p s t r = if_there (slice_get (content_of_parts p).trips t) (λ u. if_there (slice_get u.stop_rows r)
+    (λ x. is_departure_row u x && is_in_place (content_of_parts p) (text_of_number (stop_ids p) s) x.stop_id))
+
+-- those of the trips from this number on and no other, each once, in their order
+pub record ArePlaceRows (p : Parts) (s from : ℕ) (xs : List DepartureRow) : Type 0 where
+  pub in_order : Ascends departure_row_cmp xs
+  pub all : (t r : ℕ) → list_any (is_row t r) xs ≡ (nat_le from t && departs_in_place p s t r)
+
+-- the trip of the first, or this number where there is none
+abbrev pub first_trip : ℕ → List DepartureRow → ℕ
+first_trip n [] = n
+first_trip n (x ∷ xs) = x.trip
+
+-- the departure row among the stop times of its trip
+abbrev pub passing_of : List StopRow → StopRow → DepartureRow → Passing
+passing_of rows d x = passing_at (first_left rows) (x.row, slice_index_or rows x.row d)

@@ -1,0 +1,137 @@
+ghost use Rattle.std.specs.Prelude.{◌≡◌, ◌<◌, ◌==◌, ℕ, IfOk, Some, cond, length, slice_get};
+ghost use Rattle.gtfs_runs.specs.Counts.{tally};
+ghost use Rattle.gtfs_runs.specs.StopIndex.{AreDepartureRows};
+ghost use Rattle.gtfs_runs.specs.steps.Children.{is_child};
+
+mod children;
+mod entries;
+mod place_rows;
+mod rows_by_stop;
+mod starts;
+
+use crate::stop_index::children::{Child, Children};
+pub(crate) use crate::stop_index::place_rows::place_rows;
+use crate::stop_index::rows_by_stop::RowsByStop;
+use gtfs_feed::Feed;
+use gtfs_field::OutOfMemory;
+use gtfs_rows::{StopNo, TripNo};
+use gtfs_times::Times;
+use std::alloc::Global;
+use std::marker::Model;
+
+/// A stop time at which riders can leave its stop: its trip, and its position among the stop times of that trip.
+#[derive(Clone, Copy, Debug, PartialEq, Eq, PartialOrd, Ord)]
+pub struct DepartureRow {
+    trip: u32,
+    row: u32,
+}
+
+impl DepartureRow {
+    // The stop time of a trip at a position, both as the index keeps them.
+    pub(crate) fn new(trip: u32, row: u32) -> DepartureRow
+        ensures { result ≡ record { trip = trip; row = row } }
+    {
+        DepartureRow { trip, row }
+    }
+
+    /// The trip.
+    pub fn trip(&self) -> TripNo
+        ensures { result.0 ≡ self.now.trip }
+    {
+        TripNo(self.trip as usize)
+    }
+
+    /// The position among the stop times of the trip, from 0.
+    pub fn row(&self) -> usize
+        ensures { result ≡ self.now.row }
+    {
+        self.row as usize
+    }
+}
+
+/// The departure rows of a feed by stop, of which the lanes of any stop can be made without a look at the other trips.
+///
+/// It keeps eight bytes for each departure row, eight for each stop, and eight for each stop or platform with a parent.
+#[derive(Drop)]
+pub struct StopIndex<'a> {
+    feed: &'a Feed,
+    times: Times,
+    rows: RowsByStop,
+    children: Children,
+}
+
+impl<'a> Model for StopIndex<'a> {
+    ghost use Rattle.gtfs_runs.specs.StopIndex.{StopIndexValue};
+    ghost use Rattle.gtfs_runs.specs.steps.Children.{IsIndex};
+
+    ghost Value = { StopIndexValue };
+
+    ghost view = { λ x. record { feed = x.feed.now; times = x.times; rows = x.rows } };
+
+    ghost invariant = { λ x. IsIndex x.times x.feed.now x.rows x.children };
+}
+
+impl<'a> StopIndex<'a> {
+    /// The index of a feed under a choice of times. Under [`Times::Interpolated`] stop times whose times are filled are
+    /// departure rows too.
+    ///
+    /// It looks at each stop and each stop time of the feed once, and sorts the departure rows. A trip with times to fill is
+    /// copied for as long as it is looked at.
+    ///
+    /// GTFS Schedule Reference, `stop_times.txt`, and `parent_station` of `stops.txt`.
+    ///
+    /// # Errors
+    /// [`OutOfMemory`] where memory ran out, or where the feed has more than 4,294,967,296 stops, trips or stop times of a trip.
+    pub fn build(alloc: Global, feed: &'a Feed, times: Times) -> Result<StopIndex<'a>, OutOfMemory>
+        ensures feed { IfOk result (λ index. index.feed ≡ feed.now) }
+        ensures times { IfOk result (λ index. index.times ≡ times) }
+    {
+        let rows = RowsByStop::build(alloc, feed, times)?;
+        let children = Children::build(alloc, feed)?;
+        Ok(StopIndex {
+            feed,
+            times,
+            rows,
+            children,
+        })
+    }
+
+    /// The feed.
+    pub fn feed(&self) -> &'a Feed
+        ensures { result.now ≡ self.now.feed }
+    {
+        self.feed
+    }
+
+    /// The choice of times.
+    pub fn times(&self) -> Times
+        ensures { result ≡ self.now.times }
+    {
+        self.times
+    }
+
+    /// The departure rows at a stop itself, whatever its parent, by trip and position. The stop's number is below
+    /// [`Feed::stop_count`] of the feed.
+    pub fn rows(&self, stop: StopNo) -> &[DepartureRow]
+        requires { stop.0 < length self.now.feed.stops }
+        ensures { slice_get self.now.rows stop.0 ≡ Some result.now }
+    {
+        self.rows.at(stop)
+    }
+
+    /// What each index keeps, for proofs: it has exactly the departure rows of its feed. It does nothing.
+    pub fn soundness(&self)
+        ensures { AreDepartureRows self.now.times self.now.feed self.now.rows }
+    {
+        let _rows = &self.rows;
+    }
+
+    // The stops and platforms whose parent a stop is, each once, but not the stop itself.
+    pub(crate) fn children(&self, stop: StopNo) -> &[Child]
+        requires { stop.0 < length self.now.feed.stops }
+        ensures { (n : ℕ) → tally (λ x. n == x.stop) result.now
+            ≡ cond (is_child self.now.feed stop.0 n) 1 0 }
+    {
+        self.children.of(stop, self.feed.stop_count())
+    }
+}

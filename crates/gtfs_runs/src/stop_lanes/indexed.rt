@@ -1,0 +1,109 @@
+ghost use Rattle.std.specs.Prelude.{◌≡◌, ◌≤◌, ◌<◌, ◌==◌, ℕ, IfOk, OnOk, drop, length, map, slice_index_or};
+ghost use Rattle.gtfs_runs.specs.Counts.{tally};
+ghost use Rattle.gtfs_runs.specs.StopIndex.{departure_row_cmp};
+ghost use Rattle.gtfs_rows.specs.Order.{Ascends};
+ghost use Rattle.gtfs_runs.specs.StopLanes.{period_value};
+ghost use Rattle.gtfs_runs.specs.declared.stop_index.DepartureRow.{DepartureRow as RowValue};
+ghost use Rattle.gtfs_runs.specs.steps.Courses.{stopping_of};
+ghost use Rattle.gtfs_runs.specs.steps.Finds.{AreFound};
+ghost use Rattle.gtfs_runs.specs.steps.Places.{ArePlaceRows, first_trip};
+ghost use Rattle.gtfs_times.specs.TimedRows.{timed_parts};
+
+use crate::step_lane::StepLane;
+use crate::stop_index::{DepartureRow, StopIndex, place_rows};
+use crate::stop_lanes::at_rows::passings_at;
+use crate::stop_lanes::found::{Found, add_passings};
+use crate::stop_lanes::listed::Listed;
+use gtfs_feed::Feed;
+use gtfs_field::OutOfMemory;
+use gtfs_rows::{StopNo, TripNo};
+use gtfs_times::Times;
+use std::alloc::Global;
+
+// What leaves the place of a stop, of the departure rows there.
+pub(crate) fn found_in_index<'a>(
+    alloc: Global,
+    index: &StopIndex<'a>,
+    stop: StopNo,
+) -> Result<Found<'a>, OutOfMemory>
+    requires { stop.0 < length index.now.feed.stops }
+    ensures { IfOk result (λ found. AreFound (timed_parts index.now.times index.now.feed) stop.0
+        (length index.now.feed.trips) (map stopping_of found.listed.items)
+        (map period_value found.periods.items)) }
+{
+    let feed = index.feed();
+    let rows = place_rows(alloc, index, stop)?;
+    let mut listed = Vec::new(alloc);
+    let mut periods = Vec::new(alloc);
+    let times = index.times();
+    add_rows(alloc, feed, stop, times, &rows, &mut listed, &mut periods)?;
+    Ok(Found { listed, periods })
+}
+
+// Adds what leaves the place of a stop at these departure rows, trip after trip.
+fn add_rows<'a>(
+    alloc: Global,
+    feed: &'a Feed,
+    stop: StopNo,
+    times: Times,
+    rows: &[DepartureRow],
+    listed: &mut Vec<Listed<'a>>,
+    periods: &mut Vec<StepLane>,
+) -> Result<(), OutOfMemory>
+    requires { ArePlaceRows (timed_parts times feed.now) stop.0 0 rows.now }
+    ensures { OnOk result (
+        AreFound (timed_parts times feed.now) stop.0 0
+        (map stopping_of listed.old.items) (map period_value periods.old.items)
+        → AreFound (timed_parts times feed.now) stop.0 (length feed.now.trips)
+        (map stopping_of listed.new.items) (map period_value periods.new.items)) }
+{
+    feed.soundness();
+    let mut at = 0;
+    while at < rows.len() {
+        at += add_trip(alloc, feed, stop, times, &rows[at..], listed, periods)?;
+    }
+    Ok(())
+}
+
+// Adds what leaves the place of the trip of the first of these rows. Answers how many of them are that trip's.
+fn add_trip<'a>(
+    alloc: Global,
+    feed: &'a Feed,
+    stop: StopNo,
+    times: Times,
+    rows: &[DepartureRow],
+    listed: &mut Vec<Listed<'a>>,
+    periods: &mut Vec<StepLane>,
+) -> Result<usize, OutOfMemory>
+    requires some { 0 < length rows.now }
+    requires rows { ArePlaceRows (timed_parts times feed.now) stop.0
+        (first_trip (length feed.now.trips) rows.now) rows.now }
+    ensures some { IfOk result (λ n. 0 < n) }
+    ensures upto { IfOk result (λ n. n ≤ length rows.now) }
+    ensures found { IfOk result (λ n.
+        AreFound (timed_parts times feed.now) stop.0 (first_trip (length feed.now.trips) rows.now)
+        (map stopping_of listed.old.items) (map period_value periods.old.items)
+        → AreFound (timed_parts times feed.now) stop.0
+        (first_trip (length feed.now.trips) (drop n rows.now))
+        (map stopping_of listed.new.items) (map period_value periods.new.items)) }
+    ensures left { IfOk result (λ n. ArePlaceRows (timed_parts times feed.now) stop.0
+        (first_trip (length feed.now.trips) (drop n rows.now)) (drop n rows.now)) }
+{
+    feed.soundness();
+    let trip = rows[0].trip();
+    let count = rows_of(rows, trip);
+    let passings = passings_at(alloc, feed, times, trip, &rows[..count])?;
+    add_passings(feed, trip, &passings, listed, periods)?;
+    Ok(count)
+}
+
+// How many of these rows are of a trip, before which no other comes.
+fn rows_of(rows: &[DepartureRow], trip: TripNo) -> usize
+    requires up { Ascends departure_row_cmp rows.now }
+    requires first { (d : RowValue) (k : ℕ) → k < length rows.now
+        → trip.0 ≤ (slice_index_or rows.now k d).trip }
+    ensures value { result ≡ tally (λ x. x.trip == trip.0) rows.now }
+    ensures upto { result ≤ length rows.now }
+{
+    rows.partition_point(|row| row.trip().0 == trip.0)
+}
