@@ -2,8 +2,8 @@
 use Rattle.std.proofs.Common.{◌≡◌, ◌⊎◌, inl, inr, refl, true, List, Option, Some, None}
 use Rattle.std.specs.Prelude.{codes, IsSome}
 use Rattle.clap.specs.Words.{Row, Text, first_of, subcommand_of, takes}
-use Rattle.gtfs_words.specs.Asked.{is_flagged, ForBoard, ForCheck, ForMerge, ForTimetable, HasBoard, HasMerge, HasTimetable, IsBoardOf, IsMergeOf, IsTimetableOf, IsWhole}
-use Rattle.gtfs_words.specs.Words.{gtfs_app, BoardTexts, MergeTexts, TimetableTexts}
+use Rattle.gtfs_words.specs.Asked.{is_flagged, ForBoard, ForBoards, ForCheck, ForMerge, ForTimetable, HasBoard, HasBoards, HasMerge, HasTimetable, IsBoardOf, IsBoardsOf, IsMergeOf, IsTimetableOf, IsWhole}
+use Rattle.gtfs_words.specs.Words.{gtfs_app, BoardTexts, BoardsTexts, MergeTexts, TimetableTexts}
 use Rattle.gtfs_words.proofs.GtfsWords.{whole}
 use Rattle.gtfs_cli.specs.WordsRun.{AsksOne}
 
@@ -29,6 +29,15 @@ board_of given has =
         interpolate = is_flagged (codes "interpolate") given;
       },
       record { dir = dir.1; zone = zone.1; stop = stop.1; from = from.1; until = until.1; limit = refl; after = refl; interpolate = refl },
+    )
+
+boards_of : (given : List Row) → HasBoards given → (asked : BoardsTexts) × IsBoardsOf given asked
+boards_of given has =
+    let dir = value_of (first_of (codes "DIR") given) has.dir in
+    let zone = value_of (first_of (codes "zone") given) has.zone in
+    let requests = value_of (first_of (codes "requests") given) has.requests in (
+      record { dir = dir.0; zone = zone.0; requests = requests.0; interpolate = is_flagged (codes "interpolate") given },
+      record { dir = dir.1; zone = zone.1; requests = requests.1; interpolate = refl },
     )
 
 timetable_of : (given : List Row) → HasTimetable given → (asked : TimetableTexts) × IsTimetableOf given asked
@@ -57,20 +66,22 @@ merge_of given has =
 
 abbrev ForOne : Option (Text × List Row) → Type 0
 ForOne found = ((dir : Text) × ForCheck found dir) ⊎ (((asked : BoardTexts) × ForBoard found asked)
-    ⊎ (((asked : TimetableTexts) × ForTimetable found asked) ⊎ ((asked : MergeTexts) × ForMerge found asked)))
+    ⊎ (((asked : TimetableTexts) × ForTimetable found asked) ⊎ (((asked : MergeTexts) × ForMerge found asked) ⊎ ((asked : BoardsTexts) × ForBoards found asked))))
 
 for_one : (found : Option (Text × List Row)) → IsWhole found → ForOne found
 for_one None none = absurd none
 for_one (Some found) (inl (named, has)) = let dir = value_of (first_of (codes "DIR") found.1) has in inl (dir.0, (named, dir.1))
 for_one (Some found) (inr (inl (named, has))) = let board = board_of found.1 has in inr (inl (board.0, (named, board.1)))
-for_one (Some found) (inr (inr (inl (named, has)))) = let table = timetable_of found.1 has in inr (inr (inl (table.0, (named, table.1))))
-for_one (Some found) (inr (inr (inr (named, has)))) = let merge = merge_of found.1 has in inr (inr (inr (merge.0, (named, merge.1))))
+for_one (Some found) (inr (inr (inl (named, has)))) = let boards = boards_of found.1 has in inr (inr (inr (inr (boards.0, (named, boards.1)))))
+for_one (Some found) (inr (inr (inr (inl (named, has))))) = let table = timetable_of found.1 has in inr (inr (inl (table.0, (named, table.1))))
+for_one (Some found) (inr (inr (inr (inr (named, has))))) = let merge = merge_of found.1 has in inr (inr (inr (inl (merge.0, (named, merge.1)))))
 
 asks : (words : List Text) → takes gtfs_app words ≡ true → ForOne (subcommand_of gtfs_app words) → AsksOne words
 asks words taken (inl (dir, is)) = inl (dir, record { taken = taken; asks = is })
 asks words taken (inr (inl (asked, is))) = inr (inl (asked, record { taken = taken; asks = is }))
 asks words taken (inr (inr (inl (asked, is)))) = inr (inr (inl (asked, record { taken = taken; asks = is })))
-asks words taken (inr (inr (inr (asked, is)))) = inr (inr (inr (asked, record { taken = taken; asks = is })))
+asks words taken (inr (inr (inr (inl (asked, is))))) = inr (inr (inr (inl (asked, record { taken = taken; asks = is }))))
+asks words taken (inr (inr (inr (inr (asked, is))))) = inr (inr (inr (inr (asked, record { taken = taken; asks = is }))))
 
 pub asks-one : (words : List Text) → takes gtfs_app words ≡ true → AsksOne words
 asks-one words taken = asks words taken (for_one (subcommand_of gtfs_app words) (whole words taken))

@@ -7,14 +7,15 @@ use Rattle.gtfs_devices.specs.Device.{Calls, FailsAtLast, MakesCalls}
 use Rattle.gtfs_table.proofs.FolderFacts.{calls-none}
 use Rattle.gtfs_words.specs.Words.{gtfs_app, IsCommandOf}
 use Rattle.gtfs_words.specs.declared.command.BoardWords.{BoardWords}
-use Rattle.gtfs_words.specs.declared.command.Command.TheVariants.{Board, Check, Merge, Timetable}
+use Rattle.gtfs_words.specs.declared.command.BoardsWords.{BoardsWords}
+use Rattle.gtfs_words.specs.declared.command.Command.TheVariants.{Board, Boards, Check, Merge, Timetable}
 use Rattle.gtfs_words.specs.declared.command.MergeWords.{MergeWords}
 use Rattle.gtfs_words.specs.declared.command.TimetableWords.{TimetableWords}
 use Rattle.gtfs_cli.specs.Calls.{AreCalls, MakesAtMost, TakesCalls}
 use Rattle.gtfs_cli.specs.declared.commands.refusal.Refusal.{Refusal}
 use Rattle.gtfs_cli.specs.declared.commands.refusal.Refusal.TheVariants.{OutOfMemory}
 use Rattle.gtfs_cli.proofs.CallsMade.{no-calls, not-done, takes-calls}
-use Rattle.gtfs_cli.proofs.CommandEnds.{board-named, check-named, merge-named, named, not-both, timetable-named}
+use Rattle.gtfs_cli.proofs.CommandEnds.{board-named, boards-named, check-named, merge-named, named, not-both, timetable-named}
 
 module _ (texts : List Text) (ended : Result Bool Refusal) (before after : ℕ) (old new : Option Calls) (taken : takes gtfs_app texts ≡ true)
     (last : after ≢ before → FailsAtLast new) where
@@ -30,6 +31,7 @@ module _ (texts : List Text) (ended : Result Bool Refusal) (before after : ℕ) 
       record {
         check = λ t asks. takes-calls ended 10 old new few all;
         board = λ asked asks. absurd (not-both _ _ _ refl refl name (board-named _ asked asks.asks));
+        boards = λ asked asks. absurd (not-both _ _ _ refl refl name (boards-named _ asked asks.asks));
         timetable = λ asked asks. absurd (not-both _ _ _ refl refl name (timetable-named _ asked asks.asks));
         merge = λ asked asks. absurd (not-both _ _ _ refl refl name (merge-named _ asked asks.asks));
         untaken = λ e. absurd (untaken e);
@@ -42,6 +44,20 @@ module _ (texts : List Text) (ended : Result Bool Refusal) (before after : ℕ) 
       record {
         check = λ t asks. absurd (not-both _ _ _ refl refl name (check-named _ t asks.asks));
         board = λ asked asks. takes-calls ended 11 old new few all;
+        boards = λ asked asks. absurd (not-both _ _ _ refl refl name (boards-named _ asked asks.asks));
+        timetable = λ asked asks. absurd (not-both _ _ _ refl refl name (timetable-named _ asked asks.asks));
+        merge = λ asked asks. absurd (not-both _ _ _ refl refl name (merge-named _ asked asks.asks));
+        untaken = λ e. absurd (untaken e);
+        last = last;
+      }
+
+  pub calls-boards : (words : BoardsWords) → IsCommandOf (subcommand_of gtfs_app texts) (Boards words) → MakesAtMost 12 old new → OnOk ended (MakesCalls 12 old new) → Made
+  calls-boards words is few all =
+      let name = named (subcommand_of gtfs_app texts) (Boards words) is in
+      record {
+        check = λ t asks. absurd (not-both _ _ _ refl refl name (check-named _ t asks.asks));
+        board = λ asked asks. absurd (not-both _ _ _ refl refl name (board-named _ asked asks.asks));
+        boards = λ asked asks. takes-calls ended 12 old new few all;
         timetable = λ asked asks. absurd (not-both _ _ _ refl refl name (timetable-named _ asked asks.asks));
         merge = λ asked asks. absurd (not-both _ _ _ refl refl name (merge-named _ asked asks.asks));
         untaken = λ e. absurd (untaken e);
@@ -55,6 +71,7 @@ module _ (texts : List Text) (ended : Result Bool Refusal) (before after : ℕ) 
       record {
         check = λ t asks. absurd (not-both _ _ _ refl refl name (check-named _ t asks.asks));
         board = λ asked asks. absurd (not-both _ _ _ refl refl name (board-named _ asked asks.asks));
+        boards = λ asked asks. absurd (not-both _ _ _ refl refl name (boards-named _ asked asks.asks));
         timetable = λ asked asks. takes-calls ended 10 old new few all;
         merge = λ asked asks. absurd (not-both _ _ _ refl refl name (merge-named _ asked asks.asks));
         untaken = λ e. absurd (untaken e);
@@ -67,6 +84,7 @@ module _ (texts : List Text) (ended : Result Bool Refusal) (before after : ℕ) 
       record {
         check = λ t asks. absurd (not-both _ _ _ refl refl name (check-named _ t asks.asks));
         board = λ asked asks. absurd (not-both _ _ _ refl refl name (board-named _ asked asks.asks));
+        boards = λ asked asks. absurd (not-both _ _ _ refl refl name (boards-named _ asked asks.asks));
         timetable = λ asked asks. absurd (not-both _ _ _ refl refl name (timetable-named _ asked asks.asks));
         merge = λ asked asks. takes-calls ended 29 old new few all;
         untaken = λ e. absurd (untaken e);
@@ -82,6 +100,7 @@ calls-words texts ended count calls memory =
     record {
       check = λ t asks. none 10 asks.taken;
       board = λ asked asks. none 11 asks.taken;
+      boards = λ asked asks. none 12 asks.taken;
       timetable = λ asked asks. none 10 asks.taken;
       merge = λ asked asks. none 29 asks.taken;
       untaken = λ _. calls-none calls;

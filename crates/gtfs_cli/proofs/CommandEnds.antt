@@ -7,18 +7,20 @@ use Rattle.std.proofs.lemmas.Result.{IfErr-weaker}
 use Rattle.clap.specs.Words.{Row, Text, subcommand_of, takes}
 use Rattle.gtfs_devices.specs.Folder.{Store}
 use Rattle.gtfs_table.proofs.StoreFacts.{on_ok-map}
-use Rattle.gtfs_words.specs.Asked.{ForBoard, ForCheck, ForMerge, ForTimetable}
-use Rattle.gtfs_words.specs.Words.{gtfs_app, merge_texts_of, texts_of, timetable_texts_of, AreRefused, BoardTexts, IsCommandOf, MergeTexts, TimetableTexts}
-use Rattle.gtfs_words.proofs.OneAsked.{same_board, same_check, same_merge, same_timetable}
+use Rattle.gtfs_words.specs.Asked.{ForBoard, ForBoards, ForCheck, ForMerge, ForTimetable}
+use Rattle.gtfs_words.specs.Words.{gtfs_app, boards_texts_of, merge_texts_of, texts_of, timetable_texts_of, AreRefused, BoardTexts, BoardsTexts, IsCommandOf, MergeTexts, TimetableTexts}
+use Rattle.gtfs_words.proofs.OneAsked.{same_board, same_boards, same_check, same_merge, same_timetable}
 use Rattle.gtfs_words.specs.declared.command.BoardWords.{BoardWords}
+use Rattle.gtfs_words.specs.declared.command.BoardsWords.{BoardsWords}
 use Rattle.gtfs_words.specs.declared.command.Command.{Command}
-use Rattle.gtfs_words.specs.declared.command.Command.TheVariants.{Board, Check, Merge, Timetable}
+use Rattle.gtfs_words.specs.declared.command.Command.TheVariants.{Board, Boards, Check, Merge, Timetable}
 use Rattle.gtfs_words.specs.declared.command.MergeWords.{MergeWords}
 use Rattle.gtfs_words.specs.declared.command.TimetableWords.{TimetableWords}
 use Rattle.gtfs_cli.specs.Boards.{EndsBoard, PrintsBoard}
 use Rattle.gtfs_cli.specs.CheckRun.{EndsCheck}
 use Rattle.gtfs_cli.specs.Checking.{IsReportOf}
 use Rattle.gtfs_cli.specs.CommandEnd.{answer_of, EndsCommand}
+use Rattle.gtfs_cli.specs.ManyBoards.{EndsBoards, IsBoardsCause, PrintsBoards}
 use Rattle.gtfs_cli.specs.Merges.{EndsMerge, IsMergeCause, PrintsMerge}
 use Rattle.gtfs_cli.specs.Refusals.{IsCause, IsCauseInWords, IsCheckCause, TellsFailure}
 use Rattle.gtfs_cli.specs.Running.{FailedNowhere, Failures}
@@ -27,7 +29,7 @@ use Rattle.gtfs_cli.specs.WordsRun.{IsAnswered, SendsAnswer}
 use Rattle.gtfs_cli.specs.declared.commands.refusal.Refusal.{Refusal}
 use Rattle.gtfs_cli.specs.declared.commands.refusal.Refusal.TheVariants.{OutOfMemory}
 use Rattle.gtfs_cli.proofs.FailuresTold.{of-refusal}
-use Rattle.gtfs_cli.proofs.Untaken.{unread-checked, unread-listed, unread-merged, unread-tabled, unread-unchecked, unread-unlisted, unread-unmerged, unread-untabled}
+use Rattle.gtfs_cli.proofs.Untaken.{unread-boarded, unread-checked, unread-listed, unread-merged, unread-tabled, unread-unboarded, unread-unchecked, unread-unlisted, unread-unmerged, unread-untabled}
 
 -- ---- words ask for one command
 
@@ -38,6 +40,7 @@ apart x y same differ e = absurd (true≢false (sym same ∙ subst (λ (t : Text
 abbrev name_of : Command → Text
 name_of (Check dir) = codes "check"
 name_of (Board words) = codes "board"
+name_of (Boards words) = codes "boards"
 name_of (Timetable words) = codes "timetable"
 name_of (Merge words) = codes "merge"
 
@@ -50,6 +53,7 @@ pub named : (found : Option (Text × List Row)) (x : Command) → IsCommandOf fo
 named None x is = absurd is
 named (Some found) (Check dir) is = is.0
 named (Some found) (Board words) is = is.0
+named (Some found) (Boards words) is = is.0
 named (Some found) (Timetable words) is = is.0
 named (Some found) (Merge words) is = is.0
 
@@ -60,6 +64,10 @@ check-named (Some found) dir asks = asks.0
 pub board-named : (found : Option (Text × List Row)) (asked : BoardTexts) → ForBoard found asked → IsNamed found (codes "board")
 board-named None asked asks = absurd asks
 board-named (Some found) asked asks = asks.0
+
+pub boards-named : (found : Option (Text × List Row)) (asked : BoardsTexts) → ForBoards found asked → IsNamed found (codes "boards")
+boards-named None asked asks = absurd asks
+boards-named (Some found) asked asks = asks.0
 
 pub timetable-named : (found : Option (Text × List Row)) (asked : TimetableTexts) → ForTimetable found asked → IsNamed found (codes "timetable")
 timetable-named None asked asks = absurd asks
@@ -80,6 +88,10 @@ for-check (Some found) dir is = is
 for-board : (found : Option (Text × List Row)) (words : BoardWords) → IsCommandOf found (Board words) → ForBoard found (texts_of words)
 for-board None words is = is
 for-board (Some found) words is = is
+
+for-boards : (found : Option (Text × List Row)) (words : BoardsWords) → IsCommandOf found (Boards words) → ForBoards found (boards_texts_of words)
+for-boards None words is = is
+for-boards (Some found) words is = is
 
 for-timetable : (found : Option (Text × List Row)) (words : TimetableWords) → IsCommandOf found (Timetable words) → ForTimetable found (timetable_texts_of words)
 for-timetable None words is = is
@@ -133,6 +145,8 @@ module _ (texts : List Text) (limit : ℕ) (held now : Option Store) (before aft
             }) cause cut told;
         listed = λ asked asks. absurd (not-both _ _ _ refl refl name (board-named _ asked asks.asks));
         unlisted = λ asked asks. absurd (not-both _ _ _ refl refl name (board-named _ asked asks.asks));
+        boarded = λ asked asks. absurd (not-both _ _ _ refl refl name (boards-named _ asked asks.asks));
+        unboarded = λ asked asks. absurd (not-both _ _ _ refl refl name (boards-named _ asked asks.asks));
         tabled = λ asked asks. absurd (not-both _ _ _ refl refl name (timetable-named _ asked asks.asks));
         untabled = λ asked asks. absurd (not-both _ _ _ refl refl name (timetable-named _ asked asks.asks));
         answered = λ e. absurd (untaken e);
@@ -168,6 +182,45 @@ module _ (texts : List Text) (limit : ℕ) (held now : Option Store) (before aft
               ends = subst (λ (x : BoardTexts). EndsBoard limit held x old new e) (same t asks.asks) cut;
               told = t;
             }) cause cut told;
+        boarded = λ asked asks. absurd (not-both _ _ _ refl refl name (boards-named _ asked asks.asks));
+        unboarded = λ asked asks. absurd (not-both _ _ _ refl refl name (boards-named _ asked asks.asks));
+        tabled = λ asked asks. absurd (not-both _ _ _ refl refl name (timetable-named _ asked asks.asks));
+        untabled = λ asked asks. absurd (not-both _ _ _ refl refl name (timetable-named _ asked asks.asks));
+        answered = λ e. absurd (untaken e);
+        answer = λ e. absurd (untaken e);
+        unanswered = λ e. absurd (untaken e);
+        nothing = λ no. absurd (untaken no.untaken);
+        untouched = λ e. absurd (untaken e);
+        merged = λ asked asks. absurd (not-both _ _ _ refl refl name (merge-named _ asked asks.asks));
+        unmerged = λ asked asks. absurd (not-both _ _ _ refl refl name (merge-named _ asked asks.asks));
+        unchanged = λ _. unchanged;
+        folders_grow = folders_grow;
+        output_grows = output_grows;
+        no_failure = no_failure;
+        told = told;
+      }
+
+  pub ends-boards : (words : BoardsWords) → IsCommandOf (subcommand_of gtfs_app texts) (Boards words) → now ≡ held
+      → IfOk ended (λ failed. PrintsBoards limit held (boards_texts_of words) old new × (failed ≡ false))
+      → IfErr ended (EndsBoards limit held (boards_texts_of words) old new) → IfErr ended (IsBoardsCause limit held (boards_texts_of words) before after)
+      → EndsCommand texts limit held now before after old new ended
+  ends-boards words is unchanged printed cut cause =
+      let name = named (subcommand_of gtfs_app texts) (Boards words) is in
+      let same : (t : BoardsTexts) → ForBoards (subcommand_of gtfs_app texts) t → boards_texts_of words ≡ t
+      = λ t asks. same_boards (subcommand_of gtfs_app texts) (boards_texts_of words) t (for-boards _ words is) asks in
+      record {
+        refused = IfErr-weaker ended _ _ (λ e c. inr (inr (inr (inr (inr (record { words = words; taken = taken; asks = is; fact = c })))))) cause;
+        checked = λ t asks. absurd (not-both _ _ _ refl refl name (check-named _ t asks.asks));
+        unchecked = λ t asks. absurd (not-both _ _ _ refl refl name (check-named _ t asks.asks));
+        listed = λ asked asks. absurd (not-both _ _ _ refl refl name (board-named _ asked asks.asks));
+        unlisted = λ asked asks. absurd (not-both _ _ _ refl refl name (board-named _ asked asks.asks));
+        boarded = λ t asks. subst (λ (x : BoardsTexts). IfOk ended (λ failed. PrintsBoards limit held x old new × (failed ≡ false))) (same t asks.asks) printed;
+        unboarded = λ t asks. all-err ended _ _ _ _
+            (λ e c cut t. record {
+              cause = subst (λ (x : BoardsTexts). IsBoardsCause limit held x before after e) (same t asks.asks) c;
+              ends = subst (λ (x : BoardsTexts). EndsBoards limit held x old new e) (same t asks.asks) cut;
+              told = t;
+            }) cause cut told;
         tabled = λ asked asks. absurd (not-both _ _ _ refl refl name (timetable-named _ asked asks.asks));
         untabled = λ asked asks. absurd (not-both _ _ _ refl refl name (timetable-named _ asked asks.asks));
         answered = λ e. absurd (untaken e);
@@ -198,6 +251,8 @@ module _ (texts : List Text) (limit : ℕ) (held now : Option Store) (before aft
         unchecked = λ t asks. absurd (not-both _ _ _ refl refl name (check-named _ t asks.asks));
         listed = λ asked asks. absurd (not-both _ _ _ refl refl name (board-named _ asked asks.asks));
         unlisted = λ asked asks. absurd (not-both _ _ _ refl refl name (board-named _ asked asks.asks));
+        boarded = λ asked asks. absurd (not-both _ _ _ refl refl name (boards-named _ asked asks.asks));
+        unboarded = λ asked asks. absurd (not-both _ _ _ refl refl name (boards-named _ asked asks.asks));
         tabled = λ t asks. subst (λ (x : TimetableTexts). IfOk ended (λ failed. PrintsTimetable limit held x old new × (failed ≡ false))) (same t asks.asks) printed;
         untabled = λ t asks. all-err ended _ _ _ _
             (λ e c cut t. record {
@@ -228,11 +283,13 @@ module _ (texts : List Text) (limit : ℕ) (held now : Option Store) (before aft
       let same : (t : MergeTexts) → ForMerge (subcommand_of gtfs_app texts) t → merge_texts_of words ≡ t
       = λ t asks. same_merge (subcommand_of gtfs_app texts) (merge_texts_of words) t (for-merge _ words is) asks in
       record {
-        refused = IfErr-weaker ended _ _ (λ e c. inr (inr (inr (inr (record { words = words; taken = taken; asks = is; fact = c }))))) cause;
+        refused = IfErr-weaker ended _ _ (λ e c. inr (inr (inr (inr (inl (record { words = words; taken = taken; asks = is; fact = c })))))) cause;
         checked = λ t asks. absurd (not-both _ _ _ refl refl name (check-named _ t asks.asks));
         unchecked = λ t asks. absurd (not-both _ _ _ refl refl name (check-named _ t asks.asks));
         listed = λ asked asks. absurd (not-both _ _ _ refl refl name (board-named _ asked asks.asks));
         unlisted = λ asked asks. absurd (not-both _ _ _ refl refl name (board-named _ asked asks.asks));
+        boarded = λ asked asks. absurd (not-both _ _ _ refl refl name (boards-named _ asked asks.asks));
+        unboarded = λ asked asks. absurd (not-both _ _ _ refl refl name (boards-named _ asked asks.asks));
         tabled = λ asked asks. absurd (not-both _ _ _ refl refl name (timetable-named _ asked asks.asks));
         untabled = λ asked asks. absurd (not-both _ _ _ refl refl name (timetable-named _ asked asks.asks));
         answered = λ e. absurd (untaken e);
@@ -270,6 +327,8 @@ module _ (texts : List Text) (limit : ℕ) (held : Option Store) (before after :
         unchecked = λ dir asks. unread-unchecked limit held before after old new ended (memory asks.taken) (unsent asks.taken) (nowhere asks.taken) dir;
         listed = λ asked asks. unread-listed limit held before after old new ended (memory asks.taken) (unsent asks.taken) (nowhere asks.taken) asked;
         unlisted = λ asked asks. unread-unlisted limit held before after old new ended (memory asks.taken) (unsent asks.taken) (nowhere asks.taken) asked;
+        boarded = λ asked asks. unread-boarded limit held before after old new ended (memory asks.taken) (unsent asks.taken) (nowhere asks.taken) asked;
+        unboarded = λ asked asks. unread-unboarded limit held before after old new ended (memory asks.taken) (unsent asks.taken) (nowhere asks.taken) asked;
         tabled = λ asked asks. unread-tabled limit held before after old new ended (memory asks.taken) (unsent asks.taken) (nowhere asks.taken) asked;
         untabled = λ asked asks. unread-untabled limit held before after old new ended (memory asks.taken) (unsent asks.taken) (nowhere asks.taken) asked;
         answered = λ _. answered;

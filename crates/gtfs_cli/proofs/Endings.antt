@@ -1,18 +1,20 @@
 -- Refusals, when they come, and the status that each gives.
 use Rattle.std.proofs.Common.{◌≡◌, ℕ, ◌<◌, ◌≤◌, length, inl, inr, Bool, true, false, List, Option, Result, Ok, Err, sym, subst, ◌∙◌, arith}
 use Rattle.std.specs.Prelude.{IfErr, IsErrAnd}
-use Rattle.gtfs_devices.specs.Folder.{CountsFault, Store, RefusesRead}
+use Rattle.gtfs_devices.specs.Folder.{Store}
 use Rattle.gtfs_devices.specs.declared.folders.FolderFault.{FolderFault}
 use Rattle.gtfs_devices.specs.declared.folders.FolderFault.TheVariants as faults
 use Rattle.clap.specs.Words.{Text}
-use Rattle.gtfs_cli.specs.Running.{AsksCheck, AsksFor, AsksTimetable, Failures, IsBadUsage, IsDeviceFault, IsFileOf, HasValues, KeepsFromReading}
+use Rattle.gtfs_cli.specs.Running.{AsksCheck, AsksFor, AsksTimetable, Failures, HasValues, KeepsFromReading}
+use Rattle.gtfs_cli.specs.Statuses.{IsBadUsage, IsCauseOf, IsDeviceFault}
 use Rattle.gtfs_words.specs.Words.{texts_of, BoardTexts, TimetableTexts}
 use Rattle.gtfs_cli.specs.TimetableOptions.{HasTimetableValues}
 use Rattle.gtfs_cli.specs.Timetables.{IsTimetableCause}
-use Rattle.gtfs_cli.specs.Refusals.{status_in, status_of, IsCause, IsCauseInWords, IsCauseOf, IsCheckCause, IsFileCause, IsReadingCause}
+use Rattle.gtfs_cli.specs.Refusals.{status_in, status_of, IsCause, IsCauseInWords, IsCheckCause, IsReadingCause}
 use Rattle.gtfs_cli.specs.declared.commands.refusal.Refusal.{Refusal}
 use Rattle.gtfs_cli.specs.declared.commands.refusal.Refusal.TheVariants.{Words, BadValue, NotThere, Unreadable, OverLimit, HasErrors, NoZone, UnknownStop, UnknownRoute, UntilBeforeFrom, Line, OutputFailed, OutOfMemory}
 use Rattle.gtfs_cli.specs.declared.commands.request_fault.RequestFault.TheVariants as requests
+use Rattle.gtfs_cli.proofs.BoardsEnded.{device-by-boards, usage-by-boards}
 use Rattle.gtfs_cli.proofs.Ended.{is-some}
 use Rattle.gtfs_cli.proofs.MergeEnded.{device-by-merge, usage-by-merge}
 
@@ -56,15 +58,6 @@ timetable-cause limit held asked before after (OverLimit path) v h = (v, h.0, h.
 timetable-cause limit held asked before after (HasErrors path) v h = (v, h.0, h.1)
 timetable-cause limit held asked before after OutOfMemory v h = h
 timetable-cause limit held asked before after _ v h = absurd h
-
-pub cause-file : (limit : ℕ) (held : Option Store) (path : List ℕ) (before after : Failures) (folder name : List ℕ) (fault : FolderFault) → IsFileOf path folder name
-    → 0 < length name → after.output ≡ before.output → CountsFault fault before.folders after.folders
-    → RefusesRead fault limit held folder name before.folders after.folders → IsFileCause limit held path before after fault
-cause-file limit held path before after folder name faults.Read of named quiet count h = h
-cause-file limit held path before after folder name faults.TooLarge of named quiet count h = record { folder = folder; name = name; file = of; fact = (named, h) }
-cause-file limit held path before after folder name faults.OutOfMemory of named quiet count h = (count, quiet)
-cause-file limit held path before after folder name faults.NoFolder of named quiet count h = record { folder = folder; name = name; file = of; fact = (named, inl h) }
-cause-file limit held path before after folder name faults.Write of named quiet count h = h
 
 -- ---- what statuses tell
 
@@ -114,7 +107,8 @@ usage-from texts limit held before after r status is (inl h) e = usage_by_words 
 usage-from texts limit held before after r status is (inr (inl h)) e = usage_by_check texts limit held before after r h (sym is ∙ e)
 usage-from texts limit held before after r status is (inr (inr (inl h))) e = usage_by_board texts limit held before after r h (sym is ∙ e)
 usage-from texts limit held before after r status is (inr (inr (inr (inl h)))) e = usage_by_timetable texts limit held before after r h (sym is ∙ e)
-usage-from texts limit held before after r status is (inr (inr (inr (inr h)))) e = usage-by-merge texts limit held before after r h (sym is ∙ e)
+usage-from texts limit held before after r status is (inr (inr (inr (inr (inl h))))) e = usage-by-merge texts limit held before after r h (sym is ∙ e)
+usage-from texts limit held before after r status is (inr (inr (inr (inr (inr h))))) e = usage-by-boards texts limit held before after r h (sym is ∙ e)
 
 abbrev pub TellsDevice : List Text → ℕ → Option Store → Failures → Failures → Refusal → Type 0
 TellsDevice texts limit held before after refusal = status_of refusal ≡ 3 → IsDeviceFault texts limit held before after
@@ -173,7 +167,8 @@ device-from texts limit held before after r status is (inl h) e = device_by_word
 device-from texts limit held before after r status is (inr (inl h)) e = device_by_check texts limit held before after r h (sym is ∙ e)
 device-from texts limit held before after r status is (inr (inr (inl h))) e = device_by_board texts limit held before after r h (sym is ∙ e)
 device-from texts limit held before after r status is (inr (inr (inr (inl h)))) e = device_by_timetable texts limit held before after r h (sym is ∙ e)
-device-from texts limit held before after r status is (inr (inr (inr (inr h)))) e = device-by-merge texts limit held before after r h (sym is ∙ e)
+device-from texts limit held before after r status is (inr (inr (inr (inr (inl h))))) e = device-by-merge texts limit held before after r h (sym is ∙ e)
+device-from texts limit held before after r status is (inr (inr (inr (inr (inr h))))) e = device-by-boards texts limit held before after r h (sym is ∙ e)
 
 pub statuses-from : (r : Refusal) (status : ℕ) → status ≡ status_of r → status ≤ 4
 statuses-from (Line (requests.BadRequest number)) status is = omega (arith, is)

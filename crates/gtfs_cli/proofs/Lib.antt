@@ -20,6 +20,7 @@ mod ReadBack
 mod MergeValues
 mod Unmerged
 mod MergeEnded
+mod BoardsEnded
 mod Unchecked
 mod CommandEnds
 mod AskedOne
@@ -34,3 +35,12 @@ mod OneBoard
 mod OneMerge
 mod RunOutcomes
 mod Told
+mod RequestFields
+mod RequestFaults
+mod RequestLines
+mod RequestBoards
+mod FilesRead
+mod ManyBoards
+mod RequestsEnds
+mod OneBoards
+mod RunBoards

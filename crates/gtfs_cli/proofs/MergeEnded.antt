@@ -10,7 +10,8 @@ use Rattle.gtfs_cli.specs.MergeRun.{IsMerged, IsMergeRun, IsUnmerged}
 use Rattle.gtfs_cli.specs.Merges.{IsMergeCause, OfEither}
 use Rattle.gtfs_cli.specs.Messages.{message}
 use Rattle.gtfs_cli.specs.Refusals.{status_in, status_of}
-use Rattle.gtfs_cli.specs.Running.{AsksMerge, Failures, HoldsKeptFile, IsBadUsage, IsDeviceFault, KeepsFromMerging, LacksFeed}
+use Rattle.gtfs_cli.specs.Running.{AsksMerge, Failures, HoldsKeptFile, KeepsFromMerging, LacksFeed}
+use Rattle.gtfs_cli.specs.Statuses.{IsBadUsage, IsDeviceFault}
 use Rattle.gtfs_cli.specs.Sending.{Output, Sends}
 use Rattle.gtfs_cli.specs.declared.commands.refusal.Refusal.{Refusal}
 use Rattle.gtfs_cli.specs.declared.commands.refusal.Refusal.TheVariants.{BadValue, NotThere, Unreadable, OverLimit, HasErrors, ZonesDiffer, MergeTooLarge, Unwritable, OutputFailed, OutOfMemory}
@@ -38,7 +39,7 @@ module _ (limit : ℕ) (held : Option Store) (asked : MergeTexts) (before after 
 pub usage-by-merge : (texts : List Text) (limit : ℕ) (held : Option Store) (before after : Failures) (r : Refusal)
     → AsksMerge texts (λ asked. IsMergeCause limit held asked before after r) → status_of r ≡ 2 → IsBadUsage texts limit held
 usage-by-merge texts limit held before after (BadValue option) h e =
-    inr (inr (inr (record { words = h.words; taken = h.taken; asks = h.asks; fact = is-some _ option.now h.fact })))
+    inr (inr (inr (inl (record { words = h.words; taken = h.taken; asks = h.asks; fact = is-some _ option.now h.fact }))))
 usage-by-merge texts limit held before after (NotThere path) h e = absurd (omega (arith, e))
 usage-by-merge texts limit held before after (Unreadable path) h e = absurd (omega (arith, e))
 usage-by-merge texts limit held before after (OverLimit path) h e = absurd (omega (arith, e))
@@ -65,7 +66,7 @@ module _ (limit : ℕ) (held : Option Store) (asked : MergeTexts) where
 
 module _ (texts : List Text) (limit : ℕ) (held : Option Store) (before after : Failures) where
   kept_from : (words : AsksMerge texts (KeepsFromMerging limit held)) → IsDeviceFault texts limit held before after
-  kept_from words = inr (inr (inr (inr words)))
+  kept_from words = inr (inr (inr (inr (inl words))))
 
   unwritten : (r : Refusal) (h : AsksMerge texts (λ asked. IsMergeCause limit held asked before after r))
       → ((merge_texts_of h.words).out ≡ []) ⊎ Rises before.folders after.folders → IsDeviceFault texts limit held before after

@@ -46,7 +46,7 @@ one_request asked p q a b =
 -- ---- the page of a board, in zones that say the same
 
 module _ (y z : Zone) (same : SaysSame y z) where
-  one_origin : zone_origin y ≡ zone_origin z
+  pub one_origin : zone_origin y ≡ zone_origin z
   one_origin = λ i n. same.origin n i
 
   lies_before : (r : Request) → LiesBefore y r → LiesBefore z r
@@ -58,7 +58,7 @@ module _ (y z : Zone) (same : SaysSame y z) where
       let moved = subst (λ (origin : Origins). IsBoard f origin stop (instant_at origin r.from) (instant_at origin r.until) r.after xs) one_origin a in
       one-list-of-keys f (zone_origin z) stop (instant_at (zone_origin z) r.from) (instant_at (zone_origin z) r.until) r.after xs ys moved b
 
-  one_text : (f : Content) (stop : List ℕ) (r : Request) (t u : List ℕ) → OfBoard IsPage f y stop r (Some []) (Some t) → OfBoard IsPage f z stop r (Some []) (Some u) → t ≡ u
+  pub one_text : (f : Content) (stop : List ℕ) (r : Request) (t u : List ℕ) → OfBoard IsPage f y stop r (Some []) (Some t) → OfBoard IsPage f z stop r (Some []) (Some u) → t ≡ u
   one_text f stop r t u a b =
       let keys = one_keys (timed r.times f) stop r (keys_of a.departures) (keys_of b.departures) a.lists.board b.lists.board in
       let listed = one_list f a.departures b.departures keys a.lists.shown b.lists.shown in

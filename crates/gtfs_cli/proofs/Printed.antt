@@ -55,16 +55,6 @@ has-passing limit held dir feed h = (h.dataset, h.holds, h.is_feed.0)
 pub moved : (P : ℕ → Option Store → Type 0) (l m : ℕ) (h k : Option Store) → l ≡ m → h ≡ k → P l h → P m k
 moved P l m h k same_limit same_held x = subst (λ (a : ℕ). P a k) same_limit (subst (λ (b : Option Store). P l b) same_held x)
 
--- the refusal has a cause under the path of the zone file, in the same folders later
-pub zone-cause : (limit : ℕ) (held : Option Store) (limit_then : ℕ) (held_then : Option Store) (asked : BoardTexts) (x mid y : ℕ) (r : Refusal) → limit_then ≡ limit → held_then ≡ held
-    → mid ≡ x → HasValues asked → HoldsPassing limit held asked.dir
-    → ((output : ℕ) → HasValues asked → HoldsPassing limit_then held_then asked.dir → IsCause limit_then held_then asked (counts mid output) (counts y output) r)
-    → CauseAside limit held asked x y r
-zone-cause limit held limit_then held_then asked x mid y r same_limit same_held since values passing h output =
-    subst (λ (n : ℕ). IsCause limit held asked (counts n output) (counts y output) r) since
-    (moved (λ l s. HoldsPassing l s asked.dir → IsCause l s asked (counts mid output) (counts y output) r) limit_then limit held_then held same_limit same_held
-    (h output values) passing)
-
 -- ---- from a feed and a zone to what the folders hold
 
 module _ (limit : ℕ) (held : Option Store) (asked : BoardTexts) (feed : Feed) (z : Zone) (v : Values) (h : HoldsFeed limit held asked.dir feed) (hz : HoldsZone limit held asked.zone z)

@@ -34,12 +34,12 @@ grows-by_nothing (Some xs) None keeps = keeps
 grows-by_nothing (Some xs) (Some ys) keeps = keeps ∙ sym (append-nil xs)
 
 -- no refusal but for want of memory has its status
-enough : (r : Refusal) (status : ℕ) → status ≡ status_of r → status ≢ 4 → r ≢ OutOfMemory
+pub enough : (r : Refusal) (status : ℕ) → status ≡ status_of r → status ≢ 4 → r ≢ OutOfMemory
 enough r status gives memory is = memory (gives ∙ ap status_of is)
 
 module _ (limit : ℕ) (store : Store) (before after : Failures) (old new : Option (List ℕ)) (err told : Output) (status : ℕ) (nothing : IsUnhindered before after status) where
   -- the line of a refusal, and its status
-  refused-so : (r : Refusal) → Keeps old new → Sends err told (message r) → status ≡ status_of r → EndsWith old new err told status (refused (message r) (status_of r))
+  pub refused-so : (r : Refusal) → Keeps old new → Sends err told (message r) → status ≡ status_of r → EndsWith old new err told status (refused (message r) (status_of r))
   refused-so r keeps line gives = record {
     text = grows-by_nothing old new keeps;
     line = line;
@@ -47,7 +47,7 @@ module _ (limit : ℕ) (store : Store) (before after : Failures) (old new : Opti
   }
 
   -- a text, and nothing on the error output
-  printed-so : (text : List ℕ) (end : ℕ) → Appends old new text → Keeps err.told told.told → status ≡ end → EndsWith old new err told status (record { text = text; told = []; status = end })
+  pub printed-so : (text : List ℕ) (end : ℕ) → Appends old new text → Keeps err.told told.told → status ≡ end → EndsWith old new err told status (record { text = text; told = []; status = end })
   printed-so text end out keeps gives = record { text = out; line = inl (grows-by_nothing err.told told.told keeps); gives = gives }
 
   -- ---- a check

@@ -5,10 +5,11 @@ use Rattle.std.specs.Io.KnownBytes.{Appends, Keeps}
 use Rattle.clap.specs.Words.{Text}
 use Rattle.gtfs_devices.specs.Folder.{Store}
 use Rattle.gtfs_cli.specs.BoardRun.{IsListed, IsUnlisted}
+use Rattle.gtfs_cli.specs.BoardsRun.{AreListed, AreUnlisted}
 use Rattle.gtfs_cli.specs.TimetableRun.{IsTabled, IsUntabled}
 use Rattle.gtfs_cli.specs.CheckRun.{IsUnchecked}
 use Rattle.gtfs_cli.specs.Checking.{IsReportOf}
-use Rattle.gtfs_words.specs.Words.{no_memory, AreRefused, BoardTexts, IsFaultOf, MergeTexts, TimetableTexts}
+use Rattle.gtfs_words.specs.Words.{no_memory, AreRefused, BoardTexts, BoardsTexts, IsFaultOf, MergeTexts, TimetableTexts}
 use Rattle.gtfs_words.specs.declared.fault.WordsFault.{WordsFault}
 use Rattle.gtfs_words.specs.declared.fault.WordsFault.TheVariants as faults
 use Rattle.gtfs_cli.specs.MergeRun.{IsMerged, IsUnmerged}
@@ -81,6 +82,13 @@ module _ (limit : ℕ) (held : Option Store) (before after : Failures) (old new 
 
   pub unread-unlisted : (asked : BoardTexts) → IfErr r (IsUnlisted limit held asked before after old new)
   unread-unlisted asked = told-up r OutOfMemory (IsUnlisted limit held asked before after old new) is (record { cause = nowhere; ends = inl keeps; told = nowhere })
+
+  pub unread-boarded : (asked : BoardsTexts) → IfOk r (AreListed limit held asked old new)
+  unread-boarded asked = none_read (AreListed limit held asked old new)
+
+  pub unread-unboarded : (asked : BoardsTexts) → IfErr r (AreUnlisted limit held asked before after old new)
+  unread-unboarded asked =
+      told-up r OutOfMemory (AreUnlisted limit held asked before after old new) is (record { cause = inl nowhere; ends = inl keeps; told = nowhere })
 
   pub unread-tabled : (asked : TimetableTexts) → IfOk r (IsTabled limit held asked old new)
   unread-tabled asked = none_read (IsTabled limit held asked old new)

@@ -40,38 +40,38 @@ module _ (limit : ℕ) (store : Store) (path : List ℕ) where
       let same : Some (Some xs) ≡ Some (Some ys) = sym first ∙ second in
       cc same
 
-  lacks_nameless : LacksFile (Some store) path → NamesNoFile path → ⊥
+  pub lacks_nameless : LacksFile (Some store) path → NamesNoFile path → ⊥
   lacks_nameless a b =
       let t = together path Lacks Nameless a b in
       not_named t.name t.fact.0.0 t.fact.1
 
-  lacks_over : LacksFile (Some store) path → HoldsFile limit (Some store) path → ⊥
+  pub lacks_over : LacksFile (Some store) path → HoldsFile limit (Some store) path → ⊥
   lacks_over a b =
       let t = together path Lacks IsOver a b in
       not_there_with t.folder t.name t.fact.1.1.0 t.fact.0.1 t.fact.1.1.1
 
-  lacks_bytes : (bytes : List ℕ) → LacksFile (Some store) path → HoldsBytes limit (Some store) path bytes → ⊥
+  pub lacks_bytes : (bytes : List ℕ) → LacksFile (Some store) path → HoldsBytes limit (Some store) path bytes → ⊥
   lacks_bytes bytes a b =
       let t = together path Lacks (HasBytes (Some store) bytes) a b.0 in
       not_there_with t.folder t.name bytes t.fact.0.1 t.fact.1.1
 
-  nameless_over : NamesNoFile path → HoldsFile limit (Some store) path → ⊥
+  pub nameless_over : NamesNoFile path → HoldsFile limit (Some store) path → ⊥
   nameless_over a b =
       let t = together path Nameless IsOver a b in
       not_named t.name t.fact.1.0 t.fact.0
 
-  nameless_bytes : (bytes : List ℕ) → NamesNoFile path → HoldsBytes limit (Some store) path bytes → ⊥
+  pub nameless_bytes : (bytes : List ℕ) → NamesNoFile path → HoldsBytes limit (Some store) path bytes → ⊥
   nameless_bytes bytes a b =
       let t = together path Nameless (HasBytes (Some store) bytes) a b.0 in
       not_named t.name t.fact.1.0 t.fact.0
 
-  over_bytes : (bytes : List ℕ) → HoldsFile limit (Some store) path → HoldsBytes limit (Some store) path bytes → ⊥
+  pub over_bytes : (bytes : List ℕ) → HoldsFile limit (Some store) path → HoldsBytes limit (Some store) path bytes → ⊥
   over_bytes bytes a b =
       let t = together path IsOver (HasBytes (Some store) bytes) a b.0 in
       let same = one_bytes t.folder t.name t.fact.0.1.0 bytes t.fact.0.1.1 t.fact.1.1 in
       omega (arith, t.fact.0.1.2, b.1, ap (λ (text : List ℕ). length text) same)
 
-  same_bytes : (xs ys : List ℕ) → HoldsBytes limit (Some store) path xs → HoldsBytes limit (Some store) path ys → xs ≡ ys
+  pub same_bytes : (xs ys : List ℕ) → HoldsBytes limit (Some store) path xs → HoldsBytes limit (Some store) path ys → xs ≡ ys
   same_bytes xs ys a b =
       let t = together path (HasBytes (Some store) xs) (HasBytes (Some store) ys) a.0 b.0 in
       one_bytes t.folder t.name xs ys t.fact.0.1 t.fact.1.1
@@ -103,13 +103,13 @@ module _ (limit : ℕ) (store : Store) (path : List ℕ) where
   abbrev pub no_zone : Outcome
   no_zone = refused (line_of path (codes " is no zone file")) 3
 
-  abbrev Lacking : Outcome → Type 0
+  abbrev pub Lacking : Outcome → Type 0
   Lacking o = EndsAs Outcome (LacksFile (Some store) path) (not_there limit store path) o
 
-  abbrev Unnamed : Outcome → Type 0
+  abbrev pub Unnamed : Outcome → Type 0
   Unnamed o = EndsAs Outcome (NamesNoFile path) not_readable o
 
-  abbrev Over : Outcome → Type 0
+  abbrev pub Over : Outcome → Type 0
   Over o = EndsAs Outcome (HoldsFile limit (Some store) path) (over_limit limit store path) o
 
   abbrev NoZone : Outcome → Type 0

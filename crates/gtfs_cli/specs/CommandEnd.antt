@@ -3,13 +3,15 @@ use Rattle.std.specs.Prelude.{◌≡◌, ◌≤◌, ℕ, Bool, false, List, Opti
 use Rattle.std.specs.Io.KnownBytes.{Keeps}
 use Rattle.clap.specs.Words.{Text, takes}
 use Rattle.gtfs_devices.specs.Folder.{Store}
-use Rattle.gtfs_words.specs.Words.{gtfs_app, AreRefused, AsksBoardOf, AsksCheckOf, AsksMergeOf, AsksTimetableOf, BoardTexts, MergeTexts, TimetableTexts}
+use Rattle.gtfs_words.specs.Words.{gtfs_app, AreRefused, AsksBoardOf, AsksBoardsOf, AsksCheckOf, AsksMergeOf, AsksTimetableOf, BoardTexts, BoardsTexts, MergeTexts, TimetableTexts}
 use Rattle.gtfs_cli.specs.BoardRun.{IsListed, IsUnlisted}
+use Rattle.gtfs_cli.specs.BoardsRun.{AreListed, AreUnlisted}
 use Rattle.gtfs_cli.specs.CheckRun.{IsUnchecked}
 use Rattle.gtfs_cli.specs.Checking.{IsReportOf}
 use Rattle.gtfs_cli.specs.MergeRun.{AsksNoMerge, IsMerged, IsUnmerged}
-use Rattle.gtfs_cli.specs.Refusals.{IsCauseInWords, IsCauseOf, TellsFailure}
+use Rattle.gtfs_cli.specs.Refusals.{IsCauseInWords, TellsFailure}
 use Rattle.gtfs_cli.specs.Running.{FailedNowhere, Failures}
+use Rattle.gtfs_cli.specs.Statuses.{IsCauseOf}
 use Rattle.gtfs_cli.specs.TimetableRun.{IsTabled, IsUntabled}
 use Rattle.gtfs_cli.specs.WordsRun.{IsAnswered, SendsAnswer}
 use Rattle.gtfs_cli.specs.declared.commands.refusal.Refusal.{Refusal}
@@ -27,6 +29,8 @@ pub record EndsCommand (texts : List Text) (limit : ℕ) (held now : Option Stor
   pub unchecked : (dir : List ℕ) → AsksCheckOf texts dir → IfErr ended (IsUnchecked limit held dir before after old new)
   pub listed : (asked : BoardTexts) → AsksBoardOf texts asked → IfOk ended (IsListed limit held asked old new)
   pub unlisted : (asked : BoardTexts) → AsksBoardOf texts asked → IfErr ended (IsUnlisted limit held asked before after old new)
+  pub boarded : (asked : BoardsTexts) → AsksBoardsOf texts asked → IfOk ended (AreListed limit held asked old new)
+  pub unboarded : (asked : BoardsTexts) → AsksBoardsOf texts asked → IfErr ended (AreUnlisted limit held asked before after old new)
   pub tabled : (asked : TimetableTexts) → AsksTimetableOf texts asked → IfOk ended (IsTabled limit held asked old new)
   pub untabled : (asked : TimetableTexts) → AsksTimetableOf texts asked → IfErr ended (IsUntabled limit held asked before after old new)
   pub answered : takes gtfs_app texts ≡ false → IfOk ended (IsAnswered texts)

@@ -4,8 +4,9 @@ use Rattle.gtfs_devices.specs.Folder.{Store}
 use Rattle.gtfs_table.specs.Tables.{Dataset}
 use Rattle.gtfs_columns.specs.Problems.{Problem, passes, IsReport}
 use Rattle.gtfs_rules.specs.Report.{report_text}
-use Rattle.gtfs_words.specs.Words.{BoardTexts, MergeTexts, TimetableTexts}
+use Rattle.gtfs_words.specs.Words.{BoardTexts, BoardsTexts, MergeTexts, TimetableTexts}
 use Rattle.gtfs_cli.specs.Boards.{PrintsBoard}
+use Rattle.gtfs_cli.specs.ManyBoards.{IsBoardsCause, IsBoardsText}
 use Rattle.gtfs_cli.specs.Merges.{IsMergeCause, PrintsMerge}
 use Rattle.gtfs_cli.specs.Messages.{message}
 use Rattle.gtfs_cli.specs.Refusals.{status_of, IsCause, IsCheckCause}
@@ -55,6 +56,12 @@ pub record IsBoarded (limit : ℕ) (held : Option Store) (asked : BoardTexts) (o
   pub told : o.told ≡ []
   pub status : o.status ≡ 0
 
+-- the boards that the words ask for
+pub record AreMade (limit : ℕ) (held : Option Store) (asked : BoardsTexts) (o : Outcome) : Type 0 where
+  pub text : IsBoardsText limit held asked o.text
+  pub told : o.told ≡ []
+  pub status : o.status ≡ 0
+
 -- how the check of a folder ends
 abbrev pub IsCheckOutcome : ℕ → Option Store → List ℕ → Outcome → Type 0
 IsCheckOutcome limit held dir o = IsReported limit held dir o ⊎ IsRefusedBy (IsCheckCause limit held dir none_failed none_failed) o
@@ -66,6 +73,10 @@ IsTimetableOutcome limit held asked o = IsTimetabled limit held asked o ⊎ IsRe
 -- how a board ends
 abbrev pub IsBoardOutcome : ℕ → Option Store → BoardTexts → Outcome → Type 0
 IsBoardOutcome limit held asked o = IsBoarded limit held asked o ⊎ IsRefusedBy (IsCause limit held asked none_failed none_failed) o
+
+-- how boards end
+abbrev pub IsBoardsOutcome : ℕ → Option Store → BoardsTexts → Outcome → Type 0
+IsBoardsOutcome limit held asked o = AreMade limit held asked o ⊎ IsRefusedBy (IsBoardsCause limit held asked none_failed none_failed) o
 
 -- ---- a merge
 

@@ -4,12 +4,8 @@ use Rattle.clap.specs.Words.{Text}
 use Rattle.gtfs_days.specs.Service.{is_service_day}
 use Rattle.gtfs_devices.specs.Device.{Rises}
 use Rattle.gtfs_devices.specs.Folder.{Store}
-use Rattle.gtfs_devices.specs.declared.folders.FolderFault.{FolderFault}
-use Rattle.gtfs_devices.specs.declared.folders.FolderFault.TheVariants as faults
 use Rattle.gtfs_words.specs.Words.{AreForHelpOrVersion, AreRefused, BoardTexts}
-use Rattle.gtfs_cli.specs.Running.{first_bad, AsksCheck, AsksFor, AsksMerge, AsksTimetable, EndsBeforeItBegins, FailedNowhere, Failures, HasValues, HoldsErrors, HoldsFile, HoldsKeptFile, HoldsNoZone, HoldsPassing, LacksFeed, LacksFile, LacksStop, NamesNoFile}
-use Rattle.gtfs_cli.specs.Merges.{IsMergeCause}
-use Rattle.gtfs_cli.specs.Timetables.{IsTimetableCause}
+use Rattle.gtfs_cli.specs.Running.{first_bad, EndsBeforeItBegins, FailedNowhere, Failures, HasValues, HoldsErrors, HoldsFile, HoldsKeptFile, HoldsNoZone, HoldsPassing, LacksFeed, LacksFile, LacksStop, NamesNoFile}
 use Rattle.gtfs_cli.specs.declared.commands.moments.Moment.{Moment}
 use Rattle.gtfs_cli.specs.declared.commands.moments.Moment.TheVariants.{Instant, ServiceDay}
 use Rattle.gtfs_cli.specs.declared.commands.refusal.Refusal.{Refusal}
@@ -112,22 +108,6 @@ IsCauseInWords texts before after (Words text) = AreRefused texts
 IsCauseInWords texts before after OutputFailed = AreForHelpOrVersion texts × Rises before after
 IsCauseInWords texts before after OutOfMemory = after ≡ before
 IsCauseInWords texts before after _ = ⊥
-
--- when a refusal comes
-abbrev pub IsCauseOf : List Text → ℕ → Option Store → Failures → Failures → Refusal → Type 0
-IsCauseOf texts limit held before after refusal =
-    IsCauseInWords texts before.output after.output refusal
-    ⊎ (AsksCheck texts (λ dir. IsCheckCause limit held dir before after refusal) ⊎ (AsksFor texts (λ asked. IsCause limit held asked before after refusal)
-    ⊎ (AsksTimetable texts (λ asked. IsTimetableCause limit held asked before after refusal)
-    ⊎ AsksMerge texts (λ asked. IsMergeCause limit held asked before after refusal))))
-
--- why the file of a path is not read
-abbrev pub IsFileCause : ℕ → Option Store → List ℕ → Failures → Failures → FolderFault → Type 0
-IsFileCause limit held path before after faults.Read = Rises before.folders after.folders
-IsFileCause limit held path before after faults.TooLarge = HoldsFile limit held path
-IsFileCause limit held path before after faults.OutOfMemory = FailedNowhere before after
-IsFileCause limit held path before after faults.NoFolder = LacksFile held path
-IsFileCause limit held path before after faults.Write = ⊥
 
 -- an instant of at most twelve digits, or a service day
 abbrev pub IsSound : Moment → Type 0

@@ -1,4 +1,4 @@
--- How the program ends: what is the matter where it ends with status 2 (usage) or 3 (folders, files and output).
+-- What the values of options say, what the folders hold under a path, and what keeps a command from being done.
 -- These definitions say nothing about folders whose contents are unknown, such as those of a disk.
 use Rattle.std.specs.Prelude.{◌≡◌, ◌≢◌, ◌<◌, ◌≤◌, ◌++◌, ◌⊎◌, ℕ, slice_index, ◌==◌, Bool, false, true, is_some, IsSome, if◌then◌else◌, codes, length, List, [], ◌∷◌, Option, Some, None, option_map, ℤ, ◌<ℤ◌}
 use Rattle.std.specs.Borrow.{Bor}
@@ -24,11 +24,12 @@ use Rattle.gtfs_times.specs.declared.times.Times.{Times}
 use Rattle.gtfs_cli.specs.Options.{first_of_bad, service_day, times_of}
 use Rattle.gtfs_cli.specs.MergeOptions.{HasBadMergeValue}
 use Rattle.gtfs_cli.specs.TimetableOptions.{HasBadTimetableValue}
-use Rattle.gtfs_words.specs.Words.{gtfs_app, texts_of, timetable_texts_of, AreRefused, BoardTexts, IsCommandOf, MergeTexts, TimetableTexts, merge_texts_of}
+use Rattle.gtfs_words.specs.Words.{gtfs_app, boards_texts_of, texts_of, timetable_texts_of, BoardTexts, BoardsTexts, IsCommandOf, MergeTexts, TimetableTexts, merge_texts_of}
 use Rattle.gtfs_cli.specs.declared.commands.moments.Moment.{Moment}
 use Rattle.gtfs_cli.specs.declared.commands.moments.Moment.TheVariants.{Instant, ServiceDay}
 use Rattle.gtfs_words.specs.declared.command.BoardWords.{BoardWords}
-use Rattle.gtfs_words.specs.declared.command.Command.TheVariants.{Board, Check, Merge, Timetable}
+use Rattle.gtfs_words.specs.declared.command.BoardsWords.{BoardsWords}
+use Rattle.gtfs_words.specs.declared.command.Command.TheVariants.{Board, Boards, Check, Merge, Timetable}
 use Rattle.gtfs_words.specs.declared.command.MergeWords.{MergeWords}
 use Rattle.gtfs_words.specs.declared.command.TimetableWords.{TimetableWords}
 
@@ -226,6 +227,13 @@ pub record AsksTimetable (texts : List Text) (Fact : TimetableTexts → Type 0) 
   pub asks : IsCommandOf (subcommand_of gtfs_app texts) (Timetable words)
   pub fact : Fact (timetable_texts_of words)
 
+-- `clap` takes the words, they ask for boards, and this is so of them
+pub record AsksBoards (texts : List Text) (Fact : BoardsTexts → Type 0) : Type 0 where
+  pub words : BoardsWords
+  pub taken : takes gtfs_app texts ≡ true
+  pub asks : IsCommandOf (subcommand_of gtfs_app texts) (Boards words)
+  pub fact : Fact (boards_texts_of words)
+
 -- `clap` takes the words, they ask for a merge, and this is so of them
 pub record AsksMerge (texts : List Text) (Fact : MergeTexts → Type 0) : Type 0 where
   pub words : MergeWords
@@ -233,13 +241,7 @@ pub record AsksMerge (texts : List Text) (Fact : MergeTexts → Type 0) : Type 0
   pub asks : IsCommandOf (subcommand_of gtfs_app texts) (Merge words)
   pub fact : Fact (merge_texts_of words)
 
--- `clap` does not take the words, which ask for neither help nor the version, or a value is bad, or until lies before from
-abbrev pub IsBadUsage : List Text → ℕ → Option Store → Type 0
-IsBadUsage texts limit held =
-    AreRefused texts ⊎ (AsksFor texts (λ asked. HasBadValue asked ⊎ EndsBeforeItBegins limit held asked)
-    ⊎ (AsksTimetable texts HasBadTimetableValue ⊎ AsksMerge texts HasBadMergeValue))
-
--- ---- status 3
+-- ---- what keeps a command from being done
 
 -- what can be the matter with folders that did not fail, for a check or a timetable
 abbrev pub KeepsFromChecking : ℕ → Option Store → Text → Type 0
@@ -263,10 +265,3 @@ pub record Failures : Type 0 where
 -- neither the folders nor the output failed: the counts are what they were
 abbrev pub FailedNowhere : Failures → Failures → Type 0
 FailedNowhere before after = (after.folders ≡ before.folders) × (after.output ≡ before.output)
-
--- the folders or the output failed, or what the folders hold keeps the words from their check, their board, their timetable or their merge
-abbrev pub IsDeviceFault : List Text → ℕ → Option Store → Failures → Failures → Type 0
-IsDeviceFault texts limit held before after =
-    (Rises before.folders after.folders ⊎ Rises before.output after.output)
-    ⊎ (AsksCheck texts (KeepsFromChecking limit held) ⊎ (AsksFor texts (KeepsFromReading limit held)
-    ⊎ (AsksTimetable texts (λ asked. KeepsFromChecking limit held asked.dir) ⊎ AsksMerge texts (KeepsFromMerging limit held))))

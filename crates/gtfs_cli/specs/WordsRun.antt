@@ -2,7 +2,7 @@
 use Rattle.std.specs.Prelude.{◌≡◌, ◌≤◌, ◌⊎◌, ℕ, Bool, false, List, Option, Some}
 use Rattle.std.specs.Io.KnownBytes.{Appends, Keeps}
 use Rattle.clap.specs.Words.{Text}
-use Rattle.gtfs_words.specs.Words.{AreForHelpOrVersion, AreRefused, AsksBoardOf, AsksCheckOf, AsksMergeOf, AsksTimetableOf, BoardTexts, IsFaultOf, MergeTexts, TimetableTexts}
+use Rattle.gtfs_words.specs.Words.{AreForHelpOrVersion, AreRefused, AsksBoardOf, AsksBoardsOf, AsksCheckOf, AsksMergeOf, AsksTimetableOf, BoardTexts, BoardsTexts, IsFaultOf, MergeTexts, TimetableTexts}
 use Rattle.gtfs_words.specs.declared.fault.WordsFault.{WordsFault}
 use Rattle.gtfs_cli.specs.Messages.{message}
 use Rattle.gtfs_cli.specs.Refusals.{status_of, IsCauseInWords}
@@ -11,10 +11,10 @@ use Rattle.gtfs_cli.specs.Sending.{Output, Sends}
 use Rattle.gtfs_cli.specs.UntakenWords.{text_for_output}
 use Rattle.gtfs_cli.specs.declared.commands.refusal.Refusal.{Refusal}
 
--- the words ask for a check, a board, a timetable or a merge
+-- the words ask for a check, a board, a timetable, a merge or boards
 abbrev pub AsksOne : List Text → Type 0
 AsksOne texts = ((dir : List ℕ) × AsksCheckOf texts dir) ⊎ (((asked : BoardTexts) × AsksBoardOf texts asked)
-    ⊎ (((asked : TimetableTexts) × AsksTimetableOf texts asked) ⊎ ((asked : MergeTexts) × AsksMergeOf texts asked)))
+    ⊎ (((asked : TimetableTexts) × AsksTimetableOf texts asked) ⊎ (((asked : MergeTexts) × AsksMergeOf texts asked) ⊎ ((asked : BoardsTexts) × AsksBoardsOf texts asked))))
 
 -- the words ask for help or for the version, and no check found an error
 abbrev pub IsAnswered : List Text → Bool → Type 0

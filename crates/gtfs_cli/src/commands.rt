@@ -2,15 +2,17 @@
 ghost use Rattle.std.specs.Prelude.{◌≡◌, ◌≢◌, ◌≤◌, List, ℕ, false, true, is_ok, map, IfOk, IfErr, IfSome, IsErrAnd, OnOk};
 ghost use Rattle.std.specs.Io.KnownBytes.{Appends, Keeps};
 ghost use Rattle.clap.specs.Words.{Text, takes};
-ghost use Rattle.gtfs_words.specs.Words.{gtfs_app, no_memory, AreRefused, AsksBoardOf, AsksCheckOf, AsksTimetableOf, BoardTexts, IsFaultOf, TimetableTexts, AsksMergeOf, MergeTexts};
+ghost use Rattle.gtfs_words.specs.Words.{gtfs_app, no_memory, AreRefused, AsksBoardOf, AsksBoardsOf, AsksCheckOf, AsksTimetableOf, BoardTexts, BoardsTexts, IsFaultOf, TimetableTexts, AsksMergeOf, MergeTexts};
 ghost use Rattle.gtfs_cli.specs.BoardRun.{IsBoardRun};
+ghost use Rattle.gtfs_cli.specs.BoardsRun.{IsBoardsRun};
 ghost use Rattle.gtfs_cli.specs.Calls.{AreCalls};
 ghost use Rattle.gtfs_cli.specs.CheckRun.{IsCheckRun};
 ghost use Rattle.gtfs_cli.specs.CommandEnd.{answer_of, EndsCommand};
 ghost use Rattle.gtfs_cli.specs.MergeRun.{AsksNoMerge, IsMergeRun};
 ghost use Rattle.gtfs_cli.specs.Messages.{message};
 ghost use Rattle.gtfs_cli.specs.Refusals.{status_in, IsCauseInWords, TellsOutput};
-ghost use Rattle.gtfs_cli.specs.Running.{FailedNowhere, IsBadUsage, IsDeviceFault};
+ghost use Rattle.gtfs_cli.specs.Running.{FailedNowhere};
+ghost use Rattle.gtfs_cli.specs.Statuses.{IsBadUsage, IsDeviceFault};
 ghost use Rattle.gtfs_cli.specs.Sending.{Sends};
 ghost use Rattle.gtfs_cli.specs.TimetableRun.{IsTimetableRun};
 ghost use Rattle.gtfs_cli.specs.WordsRun.{AsksOne, IsAnswered, IsUntakenRun};
@@ -18,8 +20,10 @@ ghost use Rattle.gtfs_cli.specs.UntakenWords.{text_for_output, AnswersRefused};
 ghost use Rattle.gtfs_cli.specs.declared.commands.refusal.Refusal.TheVariants.{OutOfMemory};
 
 mod board;
+mod boards;
 mod check;
 mod feed;
+mod files;
 mod folder;
 mod merge;
 mod merge_values;
@@ -29,11 +33,14 @@ mod names;
 mod paths;
 mod refusal;
 mod request_fault;
+mod request_lines;
+mod requests;
 mod send;
 mod times;
 mod timetable;
 mod timetable_values;
 mod values;
+mod zone_file;
 
 use gtfs_table::{Folders, Out, write_text};
 use gtfs_words::{Command, WordsFault, read_words};
@@ -45,37 +52,43 @@ use std::hash::RandomState;
 /// Does what the words of a command line ask for, of which the first is the program's name, and answers the status with
 /// which the program is to end.
 ///
-/// What the command prints goes to `out`, as does the help or the version that was asked for. Where the command is not done,
-/// `err` is told why: by `clap`'s text where it does not take the words, and else by one line that begins `gtfs: `. A check
-/// with status 1 is done: its report says why, and `err` is told nothing. A failure of `err` changes nothing.
+/// What the command prints goes to `out`, as does the help or the version that was asked for. Where the command is not
+/// done, `err` is told why: by `clap`'s text where it does not take the words, and else by one line that begins
+/// `gtfs: `. A check with status 1 is done: its report says why, and `err` is told nothing. A failure of `err` changes
+/// nothing.
 ///
 /// The words are judged first, then the values of the options in the order of the usage, then the folder, its feed, the
-/// zone file, the stop and the span, or the route. A merge judges its first folder and the feed in it, then the second
-/// folder and its feed, and then the zones of both and the length of the files to be written.
+/// zone file, the stop and the span, or the route. For boards it is the folder, its feed, the zone file, the requests'
+/// file and then each of its lines, before anything goes out. A merge judges its first folder and the feed in it, then
+/// the second folder and its feed, and then the zones of both and the length of the files to be written.
 ///
 /// - 0: done.
-/// - 1: the feed, or one of two, has errors, or no stop or route of that id; the zones of two feeds have different names, or
-///   a file of the merged feed would be longer than 1,073,741,824 bytes.
+/// - 1: the feed, or one of two, has errors, or no stop or route of that id, also in a line of requests; the zones of
+///   two feeds have different names, or a file of the merged feed would be longer than 1,073,741,824 bytes.
 /// - 2: `clap` refuses the words, the value of `--from` or `--until` is neither `@` and an instant nor a service day,
 ///   that of `--limit` or of `--near` is no count, that of `--after` is no key, that of `--date` is no date, that of
-///   `--direction` is neither 0 nor 1, that of `--cutoff` is no service day, or the board would end before it begins.
-/// - 3: the folder, the zone file or its folder is not there, cannot be read or holds a file over the limit, the zone file
-///   is none, the folder of the merged feed or a file in it cannot be written, or the output failed.
+///   `--direction` is neither 0 nor 1, that of `--cutoff` is no service day, the board would end before it begins, or a
+///   line of requests has too few or too many fields or one of these faults.
+/// - 3: the folder, the zone file, the requests' file or its folder is not there, cannot be read or holds a file over
+///   the limit, the zone file is none, the requests' file is not UTF-8, the folder of the merged feed or a file in it
+///   cannot be written, or the output failed.
 /// - 4: memory ran out, and neither the folders nor `out` failed.
 ///
-/// A check ends with 0 or 1 only where its whole report went out, and else with what went out of it before. A board ends
-/// with 0 only where a page of it went out: all its lines, or as many as `--limit` says. A timetable ends with 0 only where
-/// the text of all its sheets went out. A merge ends with 0 only where all nine files of the merged feed were written and
-/// then its whole report went out: the written folder passes the validator and has every departure and every board of
-/// both feeds, those of joined trips once; with a cutoff it has those of the first feed before that service day, and of the
-/// second feed from it on. Where a file could not be written, those before it were and no later one. Nothing is written but
-/// by a merge. What is printed does not depend on the random state.
+/// A check ends with 0 or 1 only where its whole report went out, and else with what went out of it before. A board
+/// ends with 0 only where a page of it went out: all its lines, or as many as `--limit` says. Boards end with 0 only
+/// where for each request of the file, in their order, its heading and the page of its board went out. A timetable ends
+/// with 0 only where the text of all its sheets went out. A merge ends with 0 only where all nine files of the merged
+/// feed were written and then its whole report went out: the written folder passes the validator and has every
+/// departure and every board of both feeds, those of joined trips once; with a cutoff it has those of the first feed
+/// before that service day, and of the second feed from it on. Where a file could not be written, those before it were
+/// and no later one. Nothing is written but by a merge. What is printed does not depend on the random state.
 ///
-/// The folders and `out` fail only in a run that ends with 3, and what failed is what `err` is told: after a failed call of
-/// the folders none is made and no later cause is told.
+/// The folders and `out` fail only in a run that ends with 3, and what failed is what `err` is told: after a failed
+/// call of the folders none is made and no later cause is told.
 ///
-/// A check and a timetable make at most 10 calls of the folders, a board 11 and a merge 29, of which the last nine write:
-/// exactly so many where they are done. For help, the version and words that are refused there is none.
+/// A check and a timetable make at most 10 calls of the folders, a board 11, boards 12 and a merge 29, of which the
+/// last nine write: exactly so many where they are done. For help, the version and words that are refused there is
+/// none.
 pub fn run<S: AsStr, F: Folders, O: Out, E: Out>(
     alloc: Global,
     random: RandomState,
@@ -99,6 +112,13 @@ pub fn run<S: AsStr, F: Folders, O: Out, E: Out>(
         (record { told = E.told err.new; failures = E.failure_count err.new }) result }
     ensures listed { (asked : BoardTexts) → AsksBoardOf (map S.text words.now) asked
         → IsBoardRun (F.limit folders.old) (F.held folders.old) asked
+        (record { folders = F.failure_count folders.old; output = O.failure_count out.old })
+        (record { folders = F.failure_count folders.new; output = O.failure_count out.new })
+        (O.told out.old) (O.told out.new)
+        (record { told = E.told err.old; failures = E.failure_count err.old })
+        (record { told = E.told err.new; failures = E.failure_count err.new }) result }
+    ensures boarded { (asked : BoardsTexts) → AsksBoardsOf (map S.text words.now) asked
+        → IsBoardsRun (F.limit folders.old) (F.held folders.old) asked
         (record { folders = F.failure_count folders.old; output = O.failure_count out.old })
         (record { folders = F.failure_count folders.new; output = O.failure_count out.new })
         (O.told out.old) (O.told out.new)
@@ -185,6 +205,9 @@ fn command<'w, S: AsStr, F: Folders, O: Out>(
         Ok(Command::Check(dir)) => check::print_report(alloc, dir, folders, out),
         Ok(Command::Board(given)) => {
             answer(board::print_board(alloc, random, &given, folders, out))
+        }
+        Ok(Command::Boards(given)) => {
+            answer(boards::print_boards(alloc, random, &given, folders, out))
         }
         Ok(Command::Timetable(given)) => {
             answer(timetable::print_timetable(alloc, random, &given, folders, out))

@@ -1,11 +1,12 @@
 //! What a command ends with is one thing.
 ghost use Rattle.std.specs.Prelude.{◌≡◌, ℕ, List, Option, Some};
 ghost use Rattle.gtfs_devices.specs.Folder.{Store};
-ghost use Rattle.gtfs_words.specs.Words.{BoardTexts, MergeTexts, TimetableTexts};
+ghost use Rattle.gtfs_words.specs.Words.{BoardTexts, BoardsTexts, MergeTexts, TimetableTexts};
 ghost use Rattle.gtfs_cli.specs.BoardRun.{IsBoardRun};
+ghost use Rattle.gtfs_cli.specs.BoardsRun.{IsBoardsRun};
 ghost use Rattle.gtfs_cli.specs.CheckRun.{IsCheckRun};
 ghost use Rattle.gtfs_cli.specs.MergeRun.{IsMergeRun};
-ghost use Rattle.gtfs_cli.specs.Outcomes.{IsBoardOutcome, IsCheckOutcome, IsMergeOutcome, IsTimetableOutcome, MergeOutcome, Outcome};
+ghost use Rattle.gtfs_cli.specs.Outcomes.{IsBoardOutcome, IsBoardsOutcome, IsCheckOutcome, IsMergeOutcome, IsTimetableOutcome, MergeOutcome, Outcome};
 ghost use Rattle.gtfs_cli.specs.RunEnds.{EndsAsOne, IsUnhindered, MergeEndsAsOne};
 ghost use Rattle.gtfs_cli.specs.Running.{Failures};
 ghost use Rattle.gtfs_cli.specs.Sending.{Output};
@@ -20,6 +21,9 @@ pub fn outcomes_are_one()
         → x ≡ y }
     ensures board { (limit : ℕ) (store : Store) (asked : BoardTexts) (x y : Outcome)
         → IsBoardOutcome limit (Some store) asked x → IsBoardOutcome limit (Some store) asked y
+        → x ≡ y }
+    ensures boards { (limit : ℕ) (store : Store) (asked : BoardsTexts) (x y : Outcome)
+        → IsBoardsOutcome limit (Some store) asked x → IsBoardsOutcome limit (Some store) asked y
         → x ≡ y }
     ensures timetable { (limit : ℕ) (store : Store) (asked : TimetableTexts) (x y : Outcome)
         → IsTimetableOutcome limit (Some store) asked x
@@ -44,6 +48,11 @@ pub fn runs_end_with_outcomes()
         → IsUnhindered before after status
         → IsBoardRun limit (Some store) asked before after old new err told status
         → EndsAsOne old new err told status (IsBoardOutcome limit (Some store) asked) }
+    ensures boards { (limit : ℕ) (store : Store) (asked : BoardsTexts)
+        (before after : Failures) (old new : Option (List ℕ)) (err told : Output) (status : ℕ)
+        → IsUnhindered before after status
+        → IsBoardsRun limit (Some store) asked before after old new err told status
+        → EndsAsOne old new err told status (IsBoardsOutcome limit (Some store) asked) }
     ensures timetable { (limit : ℕ) (store : Store) (asked : TimetableTexts)
         (before after : Failures) (old new : Option (List ℕ)) (err told : Output) (status : ℕ)
         → IsUnhindered before after status

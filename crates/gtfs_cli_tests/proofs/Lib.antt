@@ -1,3 +1,4 @@
 mod WorkedLines
 mod WorkedReports
 mod WorkedOptions
+mod WorkedRequests

@@ -1,6 +1,6 @@
 //! Times that are filled in where the words ask for that.
 
-use crate::fixtures::{FIRST_LINE, asked, assert_ends, folders, timetable_asked};
+use crate::fixtures::{FIRST_LINE, asked, assert_ends, boards_asked, folders, timetable_asked};
 use std::test::Fail;
 
 // Two stop times without times between one at 08:00:00 and one 601 seconds later.
@@ -56,6 +56,40 @@ fn a_board_has_filled_times_where_that_is_asked(rt: HostRuntime) -> Result<(), F
         &mut folders,
         &FILLED_BOARD,
         (0, TWO_LINES, ""),
+    )
+}
+
+const FILLED_BOARDS: [&str; 8] = [
+    "gtfs",
+    "boards",
+    "f1",
+    "--zone",
+    "z1",
+    "--requests",
+    "r1",
+    "--interpolate",
+];
+
+const GIVEN_PAGE: &str = "== S1 20240401 20240402\n\
+@1711958400/T1/28800/1/20240401\t2024-04-01 08:00:00+00:00\tS1\t10\t\ts\n";
+
+const FILLED_PAGE: &str = "== S1 20240401 20240402\n\
+@1711958400/T1/28800/1/20240401\t2024-04-01 08:00:00+00:00\tS1\t10\t\ts\n\
+@1711958800/T1/28800/5/20240401\t2024-04-01 08:06:40+00:00\tS1\t10\t\tsi\n";
+
+#[test]
+fn boards_have_filled_times_where_that_is_asked(rt: HostRuntime) -> Result<(), Fail> {
+    let mut folders = folders(rt.alloc())?;
+    folders.put("f1", "stop_times.txt", BETWEEN)?;
+    folders.put(".", "r1", b"S1\t20240401\t20240402\n")?;
+    let given = boards_asked("f1", "z1", "r1");
+    assert_ends(&rt, rt.alloc(), &mut folders, &given, (0, GIVEN_PAGE, ""))?;
+    assert_ends(
+        &rt,
+        rt.alloc(),
+        &mut folders,
+        &FILLED_BOARDS,
+        (0, FILLED_PAGE, ""),
     )
 }
 

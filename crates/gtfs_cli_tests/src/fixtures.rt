@@ -88,6 +88,19 @@ pub(super) fn asked_with<'w>(option: &'w str, value: &'w str) -> [&'w str; 13] {
     ]
 }
 
+// The words that ask for boards.
+pub(super) fn boards_asked<'w>(dir: &'w str, zone: &'w str, requests: &'w str) -> [&'w str; 7] {
+    [
+        "gtfs",
+        "boards",
+        dir,
+        "--zone",
+        zone,
+        "--requests",
+        requests,
+    ]
+}
+
 // The words that ask for a timetable on the day of the feed's trip.
 pub(super) fn timetable_asked<'w>(dir: &'w str, route: &'w str) -> [&'w str; 7] {
     [

@@ -22,6 +22,8 @@ mod fixtures;
 #[cfg(test)]
 mod folders;
 #[cfg(test)]
+mod many_boards;
+#[cfg(test)]
 mod merges;
 #[cfg(test)]
 mod near_stops;

@@ -15,7 +15,7 @@ use std::process::Abort;
 use std::test::Fail;
 
 // Words that are answered by this text, of which an output may take less.
-fn assert_cut(
+pub(super) fn assert_cut(
     rt: &impl Abort,
     alloc: Global,
     folders: &mut MemoryFolders,

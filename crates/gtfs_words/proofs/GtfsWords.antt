@@ -10,8 +10,8 @@ use Rattle.clap.specs.Walk.{answers_to, nothing_held, rows_after, walk}
 use Rattle.clap.specs.declared.error.kind.ErrorKind.{ErrorKind}
 use Rattle.clap.specs.declared.error.kind.ErrorKind.TheVariants as kind
 use Rattle.clap.specs.declared.parser.matches.ArgMatches.{ArgMatches}
-use Rattle.gtfs_words.specs.Asked.{HasBoard, HasCheck, HasMerge, HasTimetable, IsWhole}
-use Rattle.gtfs_words.specs.CommandLine.{board_app, check_app, gtfs_app, merge_app, timetable_app}
+use Rattle.gtfs_words.specs.Asked.{HasBoard, HasBoards, HasCheck, HasMerge, HasTimetable, IsWhole}
+use Rattle.gtfs_words.specs.CommandLine.{board_app, boards_app, check_app, gtfs_app, merge_app, timetable_app}
 use Rattle.gtfs_words.specs.Untaken.{no_memory, IsFaultOf, IsToldOf}
 use Rattle.gtfs_words.specs.declared.fault.WordsFault.{WordsFault}
 use Rattle.gtfs_words.specs.declared.fault.WordsFault.TheVariants as fault
@@ -39,14 +39,17 @@ check_built = below check_app
 abbrev board_built : Shape
 board_built = below board_app
 
+abbrev boards_built : Shape
+boards_built = below boards_app
+
 abbrev timetable_built : Shape
 timetable_built = below timetable_app
 
 abbrev merge_built : Shape
 merge_built = below merge_app
 
-are_four : (built gtfs_app).subs ≡ check_built ∷ board_built ∷ timetable_built ∷ merge_built ∷ []
-are_four = refl
+are_five : (built gtfs_app).subs ≡ check_built ∷ board_built ∷ boards_built ∷ timetable_built ∷ merge_built ∷ []
+are_five = refl
 
 -- where nothing required is wanting, the id of `check` has a text
 has_check : (rows : List Row) → are_filled rows ≡ true → (take.is_given (codes "DIR") rows && true) ≡ true → HasCheck rows
@@ -73,6 +76,22 @@ has_board rows filled all =
       stop = given_text (codes "stop") rows filled stops.0;
       from = given_text (codes "from") rows filled froms.0;
       until = given_text (codes "until") rows filled untils.0;
+    }
+
+-- and each id that `boards` needs
+has_boards : (rows : List Row) → are_filled rows ≡ true
+    → (take.is_given (codes "DIR") rows && (take.is_given (codes "zone") rows && (take.is_given (codes "requests") rows && true))) ≡ true
+    → HasBoards rows
+has_boards rows filled all =
+    let requests = take.is_given (codes "requests") rows && true in
+    let zone = take.is_given (codes "zone") rows && requests in
+    let dirs = and_parts (take.is_given (codes "DIR") rows) zone all in
+    let zones = and_parts (take.is_given (codes "zone") rows) requests dirs.1 in
+    let files = and_parts (take.is_given (codes "requests") rows) true zones.1 in
+    record {
+      dir = given_text (codes "DIR") rows filled dirs.0;
+      zone = given_text (codes "zone") rows filled zones.0;
+      requests = given_text (codes "requests") rows filled files.0;
     }
 
 -- and each id that `timetable` needs
@@ -111,39 +130,45 @@ entered_whole : (stop : Option (Text × List Text)) → take.entered_passes (bui
     → IsWhole (entered (built gtfs_app) stop)
 entered_whole None passes has = cc
 entered_whole (Some p) passes has =
-    go (answers_to p.0 (label_of check_built)) (answers_to p.0 (label_of board_built)) (answers_to p.0 (label_of timetable_built))
-    (answers_to p.0 (label_of merge_built)) passes has
+    go (answers_to p.0 (label_of check_built)) (answers_to p.0 (label_of board_built)) (answers_to p.0 (label_of boards_built))
+    (answers_to p.0 (label_of timetable_built)) (answers_to p.0 (label_of merge_built)) passes has
   where
-    named : Bool → Bool → Bool → Bool → Option Shape
-    named checks boards timetables merges =
-        if checks then Some check_built else (if boards then Some board_built
-        else (if timetables then Some timetable_built else (if merges then Some merge_built else None)))
+    named : Bool → Bool → Bool → Bool → Bool → Option Shape
+    named checks single boards timetables merges =
+        if checks then Some check_built else (if single then Some board_built else (if boards then Some boards_built
+        else (if timetables then Some timetable_built else (if merges then Some merge_built else None))))
 
-    go : (checks boards timetables merges : Bool)
-        → option_map_or (λ s. take.level_passes s [] nothing_held p.1 false) (named checks boards timetables merges) true ≡ true
-        → is_some (option_map (λ s. rows_at s p.1) (named checks boards timetables merges)) ≡ true
-        → IsWhole (option_map (λ s. rows_at s p.1) (named checks boards timetables merges))
-    go true boards timetables merges passes has =
+    go : (checks single boards timetables merges : Bool)
+        → option_map_or (λ s. take.level_passes s [] nothing_held p.1 false) (named checks single boards timetables merges) true ≡ true
+        → is_some (option_map (λ s. rows_at s p.1) (named checks single boards timetables merges)) ≡ true
+        → IsWhole (option_map (λ s. rows_at s p.1) (named checks single boards timetables merges))
+    go true single boards timetables merges passes has =
         inl (refl, has_check (rows_after check_built.rules [] p.1) (level_filled check_built [] p.1 false refl passes) (level_given check_built [] p.1 passes))
-    go false true timetables merges passes has =
+    go false true boards timetables merges passes has =
         inr (inl (
           refl,
           has_board (rows_after board_built.rules [] p.1) (level_filled board_built [] p.1 false refl passes)
               (level_given board_built [] p.1 passes),
         ))
-    go false false true merges passes has =
+    go false false true timetables merges passes has =
         inr (inr (inl (
+          refl,
+          has_boards (rows_after boards_built.rules [] p.1) (level_filled boards_built [] p.1 false refl passes)
+              (level_given boards_built [] p.1 passes),
+        )))
+    go false false false true merges passes has =
+        inr (inr (inr (inl (
           refl,
           has_timetable (rows_after timetable_built.rules [] p.1) (level_filled timetable_built [] p.1 false refl passes)
               (level_given timetable_built [] p.1 passes),
-        )))
-    go false false false true passes has =
-        inr (inr (inr (
+        ))))
+    go false false false false true passes has =
+        inr (inr (inr (inr (
           refl,
           has_merge (rows_after merge_built.rules [] p.1) (level_filled merge_built [] p.1 false refl passes)
               (level_given merge_built [] p.1 passes),
-        )))
-    go false false false false passes has = cc
+        ))))
+    go false false false false false passes has = cc
 
 -- words that are taken name a command and give all that it needs
 pub whole : (words : List Text) → takes gtfs_app words ≡ true → IsWhole (subcommand_of gtfs_app words)

@@ -6,8 +6,9 @@ use Rattle.clap.specs.declared.parser.matches.ValueSource.{ValueSource}
 use Rattle.clap.specs.declared.parser.matches.ValueSource.TheVariants as source
 use Rattle.gtfs_words.specs.CommandLine.{gtfs_app}
 use Rattle.gtfs_words.specs.declared.command.BoardWords.{BoardWords}
+use Rattle.gtfs_words.specs.declared.command.BoardsWords.{BoardsWords}
 use Rattle.gtfs_words.specs.declared.command.Command.{Command}
-use Rattle.gtfs_words.specs.declared.command.Command.TheVariants.{Board, Check, Merge, Timetable}
+use Rattle.gtfs_words.specs.declared.command.Command.TheVariants.{Board, Boards, Check, Merge, Timetable}
 use Rattle.gtfs_words.specs.declared.command.MergeWords.{MergeWords}
 use Rattle.gtfs_words.specs.declared.command.TimetableWords.{TimetableWords}
 
@@ -22,6 +23,13 @@ pub record BoardTexts : Type 0 where
   pub until : Text
   pub limit : Option Text
   pub after : Option Text
+  pub interpolate : Bool
+
+-- what is given to `boards`; the last says whether its flag is given
+pub record BoardsTexts : Type 0 where
+  pub dir : Text
+  pub zone : Text
+  pub requests : Text
   pub interpolate : Bool
 
 -- what is given to `timetable`; a direction may be missing, and the last says whether its flag is given
@@ -49,6 +57,14 @@ texts_of words = record {
   until = words.until.now;
   limit = option_map (λ text. text.now) words.limit;
   after = option_map (λ text. text.now) words.after;
+  interpolate = words.interpolate;
+}
+
+abbrev pub boards_texts_of : BoardsWords → BoardsTexts
+boards_texts_of words = record {
+  dir = words.dir.now;
+  zone = words.zone.now;
+  requests = words.requests.now;
   interpolate = words.interpolate;
 }
 
@@ -96,6 +112,13 @@ pub record IsBoardOf (given : List Row) (asked : BoardTexts) : Type 0 where
   pub after : first_of (codes "after") given ≡ asked.after
   pub interpolate : is_flagged (codes "interpolate") given ≡ asked.interpolate
 
+-- each is the text that was given for it; the flag is told as it was given
+pub record IsBoardsOf (given : List Row) (asked : BoardsTexts) : Type 0 where
+  pub dir : first_of (codes "DIR") given ≡ Some asked.dir
+  pub zone : first_of (codes "zone") given ≡ Some asked.zone
+  pub requests : first_of (codes "requests") given ≡ Some asked.requests
+  pub interpolate : is_flagged (codes "interpolate") given ≡ asked.interpolate
+
 -- each is the text that was given for it, and None where none was given; the flag is told as it was given
 pub record IsTimetableOf (given : List Row) (asked : TimetableTexts) : Type 0 where
   pub dir : first_of (codes "DIR") given ≡ Some asked.dir
@@ -124,6 +147,11 @@ abbrev pub ForBoard : Option (Text × List Row) → BoardTexts → Type 0
 ForBoard None asked = ⊥
 ForBoard (Some found) asked = (found.0 ≡ codes "board") × IsBoardOf found.1 asked
 
+-- it is the boards of these texts
+abbrev pub ForBoards : Option (Text × List Row) → BoardsTexts → Type 0
+ForBoards None asked = ⊥
+ForBoards (Some found) asked = (found.0 ≡ codes "boards") × IsBoardsOf found.1 asked
+
 -- it is the timetable of these texts
 abbrev pub ForTimetable : Option (Text × List Row) → TimetableTexts → Type 0
 ForTimetable None asked = ⊥
@@ -139,6 +167,7 @@ abbrev pub IsCommandOf : Option (Text × List Row) → Command → Type 0
 IsCommandOf None command = ⊥
 IsCommandOf (Some found) (Check dir) = (found.0 ≡ codes "check") × IsCheckOf found.1 dir.now
 IsCommandOf (Some found) (Board words) = (found.0 ≡ codes "board") × IsBoardOf found.1 (texts_of words)
+IsCommandOf (Some found) (Boards words) = (found.0 ≡ codes "boards") × IsBoardsOf found.1 (boards_texts_of words)
 IsCommandOf (Some found) (Timetable words) = (found.0 ≡ codes "timetable") × IsTimetableOf found.1 (timetable_texts_of words)
 IsCommandOf (Some found) (Merge words) = (found.0 ≡ codes "merge") × IsMergeOf found.1 (merge_texts_of words)
 
@@ -151,6 +180,11 @@ pub record AsksCheckOf (words : List Text) (dir : Text) : Type 0 where
 pub record AsksBoardOf (words : List Text) (asked : BoardTexts) : Type 0 where
   pub taken : takes gtfs_app words ≡ true
   pub asks : ForBoard (subcommand_of gtfs_app words) asked
+
+-- `clap` takes the words, and they ask for the boards of these texts
+pub record AsksBoardsOf (words : List Text) (asked : BoardsTexts) : Type 0 where
+  pub taken : takes gtfs_app words ≡ true
+  pub asks : ForBoards (subcommand_of gtfs_app words) asked
 
 -- `clap` takes the words, and they ask for the timetable of these texts
 pub record AsksTimetableOf (words : List Text) (asked : TimetableTexts) : Type 0 where
@@ -176,6 +210,12 @@ pub record HasBoard (given : List Row) : Type 0 where
   pub from : IsSome (first_of (codes "from") given)
   pub until : IsSome (first_of (codes "until") given)
 
+-- a text was given for each id that `boards` needs
+pub record HasBoards (given : List Row) : Type 0 where
+  pub dir : IsSome (first_of (codes "DIR") given)
+  pub zone : IsSome (first_of (codes "zone") given)
+  pub requests : IsSome (first_of (codes "requests") given)
+
 -- a text was given for each id that `timetable` needs
 pub record HasTimetable (given : List Row) : Type 0 where
   pub dir : IsSome (first_of (codes "DIR") given)
@@ -192,4 +232,5 @@ pub record HasMerge (given : List Row) : Type 0 where
 abbrev pub IsWhole : Option (Text × List Row) → Type 0
 IsWhole None = ⊥
 IsWhole (Some found) = ((found.0 ≡ codes "check") × HasCheck found.1) ⊎ (((found.0 ≡ codes "board") × HasBoard found.1)
-    ⊎ (((found.0 ≡ codes "timetable") × HasTimetable found.1) ⊎ ((found.0 ≡ codes "merge") × HasMerge found.1)))
+    ⊎ (((found.0 ≡ codes "boards") × HasBoards found.1) ⊎ (((found.0 ≡ codes "timetable") × HasTimetable found.1)
+    ⊎ ((found.0 ≡ codes "merge") × HasMerge found.1))))

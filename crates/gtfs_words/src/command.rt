@@ -7,6 +7,8 @@ pub enum Command<'w> {
     Check(&'w str),
     /// `gtfs board`: the departures at a stop.
     Board(BoardWords<'w>),
+    /// `gtfs boards`: the departures that each line of a file asks for.
+    Boards(BoardsWords<'w>),
     /// `gtfs timetable`: the runs of a route on a date.
     Timetable(TimetableWords<'w>),
     /// `gtfs merge`: one feed of two.
@@ -30,6 +32,19 @@ pub struct BoardWords<'w> {
     pub limit: Option<&'w str>,
     /// The key after which the board begins, if one was given.
     pub after: Option<&'w str>,
+    /// Whether stop times without times of their own get times between those that have them.
+    pub interpolate: bool,
+}
+
+/// What was given to `gtfs boards`: each text as it stands in the words, and whether the flag stands there.
+#[derive(Clone, Copy)]
+pub struct BoardsWords<'w> {
+    /// The folder of the feed.
+    pub dir: &'w str,
+    /// The file of the time zone.
+    pub zone: &'w str,
+    /// The file of the requests, one a line.
+    pub requests: &'w str,
     /// Whether stop times without times of their own get times between those that have them.
     pub interpolate: bool,
 }

@@ -4,7 +4,8 @@ ghost use Rattle.clap.specs.Words.{kind_of};
 ghost use Rattle.gtfs_words.specs.Untaken.{no_memory, IsToldOf};
 
 use clap::error::{Error, ErrorKind};
-use std::alloc::{AllocError, Global};
+pub(super) use std::alloc::AllocError as OutOfMemory;
+use std::alloc::Global;
 
 /// Why the words name no command.
 #[derive(Drop)]
@@ -19,10 +20,10 @@ pub enum WordsFault {
     OutOfMemory,
 }
 
-impl From<AllocError> for WordsFault {
+impl From<OutOfMemory> for WordsFault {
     ghost from_gives = { λ _ fault. fault ≡ no_memory };
 
-    fn from(_error: AllocError) -> WordsFault {
+    fn from(_refused: OutOfMemory) -> WordsFault {
         WordsFault::OutOfMemory
     }
 }

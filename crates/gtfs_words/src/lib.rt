@@ -3,6 +3,7 @@
 //! ```text
 //! gtfs check DIR
 //! gtfs board DIR --zone FILE --stop ID --from T --until T [--limit N] [--after KEY] [--interpolate]
+//! gtfs boards DIR --zone FILE --requests FILE [--interpolate]
 //! gtfs timetable DIR --route ID --date D [--direction 0|1] [--interpolate]
 //! gtfs merge A B OUT [--near N] [--cutoff D]
 //! ```
@@ -24,7 +25,7 @@ mod fault;
 mod law;
 mod read;
 
-pub use command::{BoardWords, Command, MergeWords, TimetableWords};
+pub use command::{BoardWords, BoardsWords, Command, MergeWords, TimetableWords};
 pub use fault::WordsFault;
 pub use law::words_ask_for_one;
 pub use read::read_words;

@@ -1,11 +1,11 @@
 //! From the words to the command.
 ghost use Rattle.std.specs.Prelude.{◌≡◌, map, Some, option_map, true, IfOk, IfErr, IfSome, IsSome};
 ghost use Rattle.clap.specs.Words.{first_of, found_of, rows_of, subcommand_of, subcommand_rows_of, takes};
-ghost use Rattle.gtfs_words.specs.Asked.{is_flagged, is_from_words, merge_texts_of, texts_of, timetable_texts_of, HasBoard, HasMerge, HasTimetable, IsBoardOf, IsCommandOf, IsMergeOf, IsTimetableOf, IsWhole};
+ghost use Rattle.gtfs_words.specs.Asked.{boards_texts_of, is_flagged, is_from_words, merge_texts_of, texts_of, timetable_texts_of, HasBoard, HasBoards, HasMerge, HasTimetable, IsBoardOf, IsBoardsOf, IsCommandOf, IsMergeOf, IsTimetableOf, IsWhole};
 ghost use Rattle.gtfs_words.specs.CommandLine.{gtfs_app};
 ghost use Rattle.gtfs_words.specs.Untaken.{no_memory, IsFaultOf};
 
-use crate::command::{BoardWords, Command, MergeWords, TimetableWords};
+use crate::command::{BoardWords, BoardsWords, Command, MergeWords, TimetableWords};
 use crate::definitions::gtfs;
 use crate::fault::{WordsFault, fault_of};
 use clap::ArgMatches;
@@ -48,6 +48,7 @@ fn command_named<'w>(name: &str, given: &ArgMatches<'w>) -> Option<Command<'w>>
     match name {
         "check" => Some(Command::Check(given_text(given, "DIR")?)),
         "board" => Some(Command::Board(board_words(given)?)),
+        "boards" => Some(Command::Boards(boards_words(given)?)),
         "timetable" => Some(Command::Timetable(timetable_words(given)?)),
         "merge" => Some(Command::Merge(merge_words(given)?)),
         _ => None,
@@ -67,6 +68,19 @@ fn board_words<'w>(given: &ArgMatches<'w>) -> Option<BoardWords<'w>>
         until: given_text(given, "until")?,
         limit: given_text(given, "limit"),
         after: given_text(given, "after"),
+        interpolate: is_flagged(given, "interpolate"),
+    })
+}
+
+fn boards_words<'w>(given: &ArgMatches<'w>) -> Option<BoardsWords<'w>>
+    ensures value { IfSome result (λ words. IsBoardsOf (rows_of (found_of given.now))
+        (boards_texts_of words)) }
+    ensures given { HasBoards (rows_of (found_of given.now)) → IsSome result }
+{
+    Some(BoardsWords {
+        dir: given_text(given, "DIR")?,
+        zone: given_text(given, "zone")?,
+        requests: given_text(given, "requests")?,
         interpolate: is_flagged(given, "interpolate"),
     })
 }

@@ -4,7 +4,7 @@ use Rattle.std.proofs.Common.{refl}
 use Rattle.clap.specs.Words.{Text, fault_of, takes}
 use Rattle.clap.specs.declared.error.kind.ErrorKind.TheVariants as kind
 use Rattle.clap.proofs.OnLiterals.{clap_on_literals}
-use Rattle.gtfs_words.specs.Words.{gtfs_app, AreForHelp, AreForVersion, AreRefused, AsksBoardOf, AsksCheckOf, AsksMergeOf, AsksTimetableOf, BoardTexts, MergeTexts, TimetableTexts}
+use Rattle.gtfs_words.specs.Words.{gtfs_app, AreForHelp, AreForVersion, AreRefused, AsksBoardOf, AsksBoardsOf, AsksCheckOf, AsksMergeOf, AsksTimetableOf, BoardTexts, BoardsTexts, MergeTexts, TimetableTexts}
 
 -- a check
 abbrev check_words : List Text
@@ -47,6 +47,37 @@ flagged_board_asked = record {
   taken = refl;
   asks = (refl, record { dir = refl; zone = refl; stop = refl; from = refl; until = refl; limit = refl; after = refl; interpolate = refl });
 }
+
+-- boards of a file of requests
+abbrev boards_words : List Text
+boards_words = codes "gtfs" ∷ codes "boards" ∷ codes "feed" ∷ codes "--requests" ∷ codes "R" ∷ codes "--zone=Z" ∷ []
+
+abbrev boards_texts : BoardsTexts
+boards_texts = record { dir = codes "feed"; zone = codes "Z"; requests = codes "R"; interpolate = false }
+
+boards_asked : AsksBoardsOf boards_words boards_texts
+unfolding clap_on_literals
+boards_asked = record { taken = refl; asks = (refl, record { dir = refl; zone = refl; requests = refl; interpolate = refl }) }
+
+-- the same with the flag
+abbrev flagged_boards : List Text
+flagged_boards = codes "gtfs" ∷ codes "boards" ∷ codes "--interpolate" ∷ codes "feed" ∷ codes "--requests=R" ∷ codes "--zone" ∷ codes "Z" ∷ []
+
+flagged_boards_asked : AsksBoardsOf flagged_boards (record boards_texts { interpolate = true })
+unfolding clap_on_literals
+flagged_boards_asked = record { taken = refl; asks = (refl, record { dir = refl; zone = refl; requests = refl; interpolate = refl }) }
+
+-- boards without their requests
+abbrev without_requests : List Text
+without_requests = codes "gtfs" ∷ codes "boards" ∷ codes "feed" ∷ codes "--zone" ∷ codes "Z" ∷ []
+
+without_requests_is : fault_of gtfs_app without_requests ≡ kind.MissingRequiredArgument ∷ []
+unfolding clap_on_literals
+without_requests_is = refl
+
+without_requests_not_taken : takes gtfs_app without_requests ≡ false
+unfolding clap_on_literals
+without_requests_not_taken = refl
 
 -- a timetable of both directions
 abbrev timetable_words : List Text

@@ -1,12 +1,11 @@
 //! Words that ask for a command.
 
 use crate::asserts::assert_equal;
-use gtfs_words::{Command, read_words, words_ask_for_one};
+use gtfs_words::{Command, read_words};
 use std::test::Fail;
 
 #[test]
 fn check_has_its_folder(rt: HostRuntime) -> Result<(), Fail> {
-    words_ask_for_one();
     let Ok(Command::Check(dir)) = read_words(rt.alloc(), &["gtfs", "check", "f1"]) else {
         return Err("no check".into());
     };
@@ -43,6 +42,39 @@ fn board_has_all_that_is_given(rt: HostRuntime) -> Result<(), Fail> {
     assert_equal(&rt, board.limit, Some(""));
     assert_equal(&rt, board.after, Some("@0/T/0/1/20240401"));
     assert_equal(&rt, board.interpolate, true);
+    Ok(())
+}
+
+#[test]
+fn boards_have_all_that_is_given(rt: HostRuntime) -> Result<(), Fail> {
+    let words = [
+        "gtfs",
+        "boards",
+        "--requests=-",
+        "--interpolate",
+        "f1",
+        "--zone",
+        "z1",
+    ];
+    let Ok(Command::Boards(boards)) = read_words(rt.alloc(), &words) else {
+        return Err("no boards".into());
+    };
+    assert_equal(&rt, boards.dir, "f1");
+    assert_equal(&rt, boards.zone, "z1");
+    assert_equal(&rt, boards.requests, "-");
+    assert_equal(&rt, boards.interpolate, true);
+    Ok(())
+}
+
+#[test]
+fn boards_may_lack_the_flag(rt: HostRuntime) -> Result<(), Fail> {
+    let words = ["gtfs", "boards", "f1", "--zone=", "--requests", "r1"];
+    let Ok(Command::Boards(boards)) = read_words(rt.alloc(), &words) else {
+        return Err("no boards".into());
+    };
+    assert_equal(&rt, boards.zone, "");
+    assert_equal(&rt, boards.requests, "r1");
+    assert_equal(&rt, boards.interpolate, false);
     Ok(())
 }
 

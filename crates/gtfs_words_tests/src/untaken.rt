@@ -43,6 +43,8 @@ fn refused(alloc: Global, words: &[&str]) -> Result<(), &'static str> {
 const BOARD: &str =
     "gtfs board DIR --zone FILE --stop ID --from T --until T [--limit N] [--after KEY] [--interpolate]\n";
 
+const BOARDS: &str = "gtfs boards DIR --zone FILE --requests FILE [--interpolate]\n";
+
 const TIMETABLE: &str =
     "gtfs timetable DIR --route ID --date D [--direction 0|1] [--interpolate]\n";
 
@@ -50,7 +52,7 @@ const MERGE: &str = "gtfs merge A B OUT [--near N] [--cutoff D]\n";
 
 #[test]
 fn help_of_the_program_has_the_line_of_each_command(rt: HostRuntime) {
-    for line in ["gtfs check DIR", BOARD, TIMETABLE, MERGE] {
+    for line in ["gtfs check DIR", BOARD, BOARDS, TIMETABLE, MERGE] {
         let found = helped(rt.alloc(), &["gtfs", "--help"], line);
         assert_equal_at(&rt, line, found, Ok(()));
     }
@@ -62,6 +64,15 @@ const EXAMPLES: &[(&[&str], &str)] = &[
     (
         &["gtfs", "board", "f1", "--help"],
         "@1711958400/T1/28800/3/20240401",
+    ),
+    (&["gtfs", "boards", "-h"], "== S1 20240401 20240402"),
+    (
+        &["gtfs", "boards", "f1", "--help"],
+        "stop_id, from, until, limit, key\n",
+    ),
+    (
+        &["gtfs", "boards", "--help"],
+        "a pipe, as /dev/stdin may be one, cannot be read",
     ),
     (&["gtfs", "timetable", "-h"], "20240401"),
     (&["gtfs", "merge", "--help"], "S1_merged_1"),
@@ -120,6 +131,35 @@ const REFUSED: &[&[&str]] = &[
     &["gtfs", "help"],
     &["gtfs", "check"],
     &["gtfs", "board", "f1", "--stop", "S1"],
+    &["gtfs", "boards", "f1", "--zone=z1"],
+    &["gtfs", "boards", "f1", "--requests=r1"],
+    &["gtfs", "boards", "--zone=z1", "--requests=r1"],
+    &["gtfs", "boards", "f1", "--zone=z1", "--requests"],
+    &[
+        "gtfs",
+        "boards",
+        "f1",
+        "--zone=z1",
+        "--requests=r1",
+        "--requests=r1",
+    ],
+    &[
+        "gtfs",
+        "boards",
+        "f1",
+        "--zone=z1",
+        "--requests=r1",
+        "--limit=1",
+    ],
+    &[
+        "gtfs",
+        "boards",
+        "f1",
+        "--zone=z1",
+        "--requests=r1",
+        "--version",
+    ],
+    &["gtfs", "board", "f1", "--zone=z1", "--requests=r1"],
     &["gtfs", "timetable", "f1", "--route", "R1"],
     &["gtfs", "check", "f1", "--interpolate"],
     &[
@@ -170,6 +210,27 @@ const REFUSED: &[&[&str]] = &[
     &["gtfs", "check", "f1", "-V"],
     &["gtfs", "merge", "north", "south", "both", "--version"],
 ];
+
+// So many words that no small number stands for want of memory.
+const MANY: usize = 1_000;
+
+#[test]
+fn many_words_are_refused_as_words(rt: HostRuntime) {
+    let mut words = ["more"; MANY];
+    words[0] = "gtfs";
+    words[1] = "check";
+    assert_equal_at(&rt, MANY, refused(rt.alloc(), &words), Ok(()));
+    words[1] = "more";
+    assert_equal_at(&rt, MANY, refused(rt.alloc(), &words), Ok(()));
+}
+
+#[test]
+fn help_is_told_of_many_words(rt: HostRuntime) {
+    let mut words = ["--help"; MANY];
+    words[0] = "gtfs";
+    let found = helped(rt.alloc(), &words, "gtfs check DIR");
+    assert_equal_at(&rt, MANY, found, Ok(()));
+}
 
 #[test]
 fn words_are_refused(rt: HostRuntime) {

@@ -1,22 +1,19 @@
-ghost use Rattle.std.specs.Prelude.{◌≡◌, ◌≢◌, ◌≤◌, ℕ, Option, IfOk, IfErr, OnOk};
-ghost use Rattle.gtfs_days.specs.Zone.{IsZoneOf};
+ghost use Rattle.std.specs.Prelude.{◌≡◌, ◌≢◌, ◌≤◌, IfOk, IfErr, OnOk};
 ghost use Rattle.gtfs_rows.specs.Views.{content_of_parts as content_of};
 ghost use Rattle.gtfs_devices.specs.Device.{FailsAtLast, MakesCalls};
-ghost use Rattle.gtfs_devices.specs.Folder.{Store};
 ghost use Rattle.gtfs_board.specs.Page.{IsPage};
 ghost use Rattle.gtfs_cli.specs.Boards.{request_of, AreValues, EndsBoard, EndsLines, IsLinesCause, IsOpeningCause, ListsBoard, OfBoard, PrintsBoard};
 ghost use Rattle.gtfs_cli.specs.Calls.{MakesAtMost};
 ghost use Rattle.gtfs_words.specs.Words.{texts_of};
-ghost use Rattle.gtfs_cli.specs.Running.{FailedNowhere, Failures, FitsZone, HasValues, HoldsBytes, HoldsPassing, HoldsZone};
-ghost use Rattle.gtfs_cli.specs.Refusals.{IsCause, TellsFailure, TellsFolders, TellsOutput};
+ghost use Rattle.gtfs_cli.specs.Running.{FailedNowhere};
+ghost use Rattle.gtfs_cli.specs.Refusals.{IsCause, TellsFailure, TellsOutput};
 
 use crate::commands::feed::read_feed;
-use crate::commands::folder::of_folder;
-use crate::commands::paths::cut_path;
 use crate::commands::refusal::Refusal;
 use crate::commands::values::{Values, read_values};
+use crate::commands::zone_file::read_zone;
 use gtfs_board::{Board, BoardFault, Feed, PageFault, Span, write_page};
-use gtfs_days::{Zone, ZoneFault};
+use gtfs_days::Zone;
 use gtfs_table::{Folders, Out};
 use gtfs_words::BoardWords;
 use std::alloc::Global;
@@ -57,60 +54,8 @@ pub(super) fn print_board<'w, F: Folders, O: Out>(
 {
     let values = read_values(words)?;
     let feed = read_feed(alloc, random, folders, words.dir)?;
-    let zone = read_zone(alloc, folders, words)?;
+    let zone = read_zone(alloc, folders, words.zone)?;
     print_lines(alloc, &feed, &zone, words, &values, out)
-}
-
-// The zone of the zone file. A path that ends in `/` names no file.
-fn read_zone<'w, F: Folders>(
-    alloc: Global,
-    folders: &mut F,
-    words: &BoardWords<'w>,
-) -> Result<Zone, Refusal<'w>>
-    ensures read { IfOk result
-        (HoldsZone (F.limit folders.old) (F.held folders.old) words.now.zone.now) }
-    ensures refused { IfErr result (λ refusal. (output : ℕ) → HasValues (texts_of words.now)
-        → HoldsPassing (F.limit folders.old) (F.held folders.old) words.now.dir.now
-        → IsCause (F.limit folders.old) (F.held folders.old) (texts_of words.now)
-        (record { folders = F.failure_count folders.old; output = output })
-        (record { folders = F.failure_count folders.new; output = output }) refusal) }
-    ensures unchanged { F.held folders.new ≡ F.held folders.old }
-    ensures grows { F.failure_count folders.old ≤ F.failure_count folders.new }
-    ensures no_failure { OnOk result
-        (F.failure_count folders.new ≡ F.failure_count folders.old) }
-    ensures told { IfErr result
-        (TellsFolders (F.failure_count folders.old) (F.failure_count folders.new)) }
-    ensures called { OnOk result (MakesCalls 1 (F.calls folders.old) (F.calls folders.new)) }
-    ensures few { MakesAtMost 1 (F.calls folders.old) (F.calls folders.new) }
-    ensures last { F.failure_count folders.new ≢ F.failure_count folders.old
-        → FailsAtLast (F.calls folders.new) }
-{
-    let (folder, name) = cut_path(words.zone);
-    if name.is_empty() {
-        return Err(Refusal::Unreadable(words.zone));
-    }
-    match folders.read(alloc, folder, name) {
-        Ok(Some(bytes)) => zone_of(alloc, bytes.as_slice(), words),
-        Ok(None) => Err(Refusal::NotThere(words.zone)),
-        Err(fault) => Err(of_folder(fault, words.zone)),
-    }
-}
-
-// The zone of the bytes of the zone file.
-fn zone_of<'w>(alloc: Global, bytes: &[u8], words: &BoardWords<'w>) -> Result<Zone, Refusal<'w>>
-    ensures read { IfOk result (IsZoneOf bytes.now) }
-    ensures fits { OnOk result (FitsZone bytes.now) }
-    ensures refused { IfErr result
-        (λ refusal. (limit : ℕ) (held : Option Store) (before after : Failures)
-        → HasValues (texts_of words.now) → HoldsPassing limit held words.now.dir.now
-        → HoldsBytes limit held words.now.zone.now bytes.now → FailedNowhere before after
-        → IsCause limit held (texts_of words.now) before after refusal) }
-{
-    match Zone::read(alloc, bytes) {
-        Ok(zone) => Ok(zone),
-        Err(ZoneFault::Unreadable) => Err(Refusal::NoZone(words.zone)),
-        Err(ZoneFault::OutOfMemory) => Err(Refusal::OutOfMemory),
-    }
 }
 
 // Prints the board of a feed in a zone: a page of as many lines as are asked for, each sent out whole before the next

@@ -2,10 +2,10 @@ ghost use Rattle.std.specs.Prelude.{◌≡◌, ◌≢◌, ◌<◌, ◌≤◌, �
 ghost use Rattle.gtfs_devices.specs.Device.{FailsAtLast, MakesCalls};
 ghost use Rattle.gtfs_devices.specs.Folder.{CountsFault, Store};
 ghost use Rattle.gtfs_table.specs.Reading.{HoldsDataset, RefusesDataset};
-ghost use Rattle.gtfs_words.specs.Words.{BoardTexts};
 ghost use Rattle.gtfs_cli.specs.Calls.{MakesAtMost};
-ghost use Rattle.gtfs_cli.specs.Running.{Failures, HasValues, HoldsPassing, HoldsTables};
-ghost use Rattle.gtfs_cli.specs.Refusals.{IsCause, IsCheckCause, IsFileCause, TellsFolders};
+ghost use Rattle.gtfs_cli.specs.FileRead.{IsFileCause, IsPathCause};
+ghost use Rattle.gtfs_cli.specs.Running.{Failures, HoldsTables};
+ghost use Rattle.gtfs_cli.specs.Refusals.{IsCheckCause, TellsFolders};
 
 use crate::commands::refusal::Refusal;
 use gtfs_table::{FolderFault, Folders, Tables};
@@ -48,10 +48,9 @@ pub(super) fn read_tables<'w, F: Folders>(
 
 // What a fault of the folders means for the path that was asked for.
 pub(super) fn of_folder(fault: FolderFault, path: &str) -> Refusal<'_>
-    ensures board { (limit : ℕ) (held : Option Store) (asked : BoardTexts) (before after : Failures)
-        → path.now ≡ asked.zone → HasValues asked → HoldsPassing limit held asked.dir
-        → IsFileCause limit held asked.zone before after fault
-        → IsCause limit held asked before after result }
+    ensures file { (limit : ℕ) (held : Option Store) (before after : ℕ)
+        → IsFileCause limit held path.now before after fault
+        → IsPathCause limit held path.now before after result }
     ensures check { (limit : ℕ) (held : Option Store) (before after : Failures)
         → 0 < length path.now
         → RefusesDataset fault limit held path.now before.folders after.folders

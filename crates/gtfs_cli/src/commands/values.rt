@@ -58,7 +58,7 @@ pub(super) fn read_values<'w>(words: &BoardWords<'w>) -> Result<Values<'w>, Refu
 }
 
 // Reads the value of `--limit`, a count. None where it is not.
-fn read_limit(text: Option<&str>) -> Option<u64>
+pub(super) fn read_limit(text: Option<&str>) -> Option<u64>
     ensures { result ≡ limit_of (option_map (λ t. t.now) text.entry) }
 {
     match text {
@@ -71,7 +71,7 @@ fn read_limit(text: Option<&str>) -> Option<u64>
 }
 
 // Reads the value of `--after`, the text of a key. None where it is not.
-fn read_after<'w>(text: Option<&'w str>) -> Option<Option<Key<'w>>>
+pub(super) fn read_after<'w>(text: Option<&'w str>) -> Option<Option<Key<'w>>>
     ensures { option_map (λ key. option_map plain_key key) result
         ≡ after_of (option_map (λ t. t.now) text.entry) }
 {

@@ -3,16 +3,17 @@ ghost use Rattle.std.specs.Prelude.{◌≡◌, IfOk};
 ghost use Rattle.clap.specs.Words.{app_of};
 ghost use Rattle.gtfs_words.specs.CommandLine.{board_app, needed_board_app};
 
-use super::rules::{DIR, INTERPOLATE, new_command, with_choice, with_flag, with_option, with_word};
+use super::rules::{
+    DIR, INTERPOLATE, ZONE, new_command, with_choice, with_flag, with_option, with_word,
+};
+use crate::fault::OutOfMemory;
 use clap::Command;
-use std::alloc::{AllocError, Global};
+use std::alloc::Global;
 
 const ABOUT: &str = "Print the departures at a stop, in the order of their times";
 
 const BOARD: &str =
     "gtfs board DIR --zone FILE --stop ID --from T --until T [--limit N] [--after KEY] [--interpolate]";
-
-const ZONE: &str = "The zone file (TZif) of the time zone";
 
 const STOP: &str = "The stop, by its stop_id";
 
@@ -32,7 +33,7 @@ const TEXTS: &str = "T is an instant or a service date:\n  \
     the run in seconds, stop_sequence and service date, as @1711958400/T1/28800/3/20240401.\n\
     The last key of one board opens the next.";
 
-pub(super) fn board_command<'w>(alloc: Global) -> Result<Command<'w>, AllocError>
+pub(super) fn board_command<'w>(alloc: Global) -> Result<Command<'w>, OutOfMemory>
     ensures { IfOk result (λ c. app_of c ≡ board_app) }
 {
     let limit = with_choice(needed_board(alloc), alloc, "limit", "N", LIMIT);
@@ -41,7 +42,7 @@ pub(super) fn board_command<'w>(alloc: Global) -> Result<Command<'w>, AllocError
 }
 
 // The command with the texts that it needs.
-fn needed_board<'w>(alloc: Global) -> Result<Command<'w>, AllocError>
+fn needed_board<'w>(alloc: Global) -> Result<Command<'w>, OutOfMemory>
     ensures { IfOk result (λ c. app_of c ≡ needed_board_app) }
 {
     let board = new_command(alloc, "board", ABOUT, BOARD, TEXTS);

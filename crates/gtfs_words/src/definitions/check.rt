@@ -4,8 +4,9 @@ ghost use Rattle.clap.specs.Words.{app_of};
 ghost use Rattle.gtfs_words.specs.CommandLine.{check_app};
 
 use super::rules::{DIR, new_command, with_word};
+use crate::fault::OutOfMemory;
 use clap::Command;
-use std::alloc::{AllocError, Global};
+use std::alloc::Global;
 
 const ABOUT: &str = "Print what is wrong with a feed";
 
@@ -15,7 +16,7 @@ const LINES: &str =
     "A line for each problem, as E05 trips.txt:7 route_id and what it means, and last\n\
     errors N warnings N. The status is 1 where there is an error.";
 
-pub(super) fn check_command<'w>(alloc: Global) -> Result<Command<'w>, AllocError>
+pub(super) fn check_command<'w>(alloc: Global) -> Result<Command<'w>, OutOfMemory>
     ensures { IfOk result (λ c. app_of c ≡ check_app) }
 {
     let check = new_command(alloc, "check", ABOUT, CHECK, LINES);

@@ -4,8 +4,9 @@ ghost use Rattle.clap.specs.Words.{app_of};
 ghost use Rattle.gtfs_words.specs.CommandLine.{merge_app};
 
 use super::rules::{new_command, with_choice, with_word};
+use crate::fault::OutOfMemory;
 use clap::Command;
-use std::alloc::{AllocError, Global};
+use std::alloc::Global;
 
 const ABOUT: &str = "Make one feed of two";
 
@@ -30,7 +31,7 @@ const TEXTS: &str =
     A millionth of a degree of latitude is 11 centimetres.\n\n\
     D is a service day YYYYMMDD, as 20240401.";
 
-pub(super) fn merge_command<'w>(alloc: Global) -> Result<Command<'w>, AllocError>
+pub(super) fn merge_command<'w>(alloc: Global) -> Result<Command<'w>, OutOfMemory>
     ensures { IfOk result (λ c. app_of c ≡ merge_app) }
 {
     let merge = new_command(alloc, "merge", ABOUT, MERGE, TEXTS);

@@ -3,11 +3,15 @@ ghost use Rattle.std.specs.Prelude.{◌≡◌, IfOk, false};
 ghost use Rattle.clap.specs.Words.{App, app_of, new_app, rule_of, with_rule};
 ghost use Rattle.gtfs_words.specs.CommandLine.{choice_rule, flag_rule, option_rule, text_rule, word_rule};
 
+use crate::fault::OutOfMemory;
 use clap::{Arg, ArgAction, Command};
-use std::alloc::{AllocError, Global};
+use std::alloc::Global;
 
 // What help says of the folder of a feed.
 pub(super) const DIR: &str = "The folder of the feed";
+
+// What help says of the zone file.
+pub(super) const ZONE: &str = "The zone file (TZif) of the time zone";
 
 // What help says of the flag that fills times in.
 pub(super) const INTERPOLATE: &str =
@@ -40,11 +44,11 @@ pub(super) fn described<'w>(
 
 // The command, if it was made, with one more text that must be given, known by its position among the words.
 pub(super) fn with_word<'w>(
-    command: Result<Command<'w>, AllocError>,
+    command: Result<Command<'w>, OutOfMemory>,
     alloc: Global,
     id: &'w str,
     help: &'w str,
-) -> Result<Command<'w>, AllocError>
+) -> Result<Command<'w>, OutOfMemory>
     ensures { (app : App) → IfOk command.entry (λ c. app_of c ≡ app)
         → IfOk result (λ c. app_of c ≡ with_rule app (word_rule id.entry.now)) }
 {
@@ -53,12 +57,12 @@ pub(super) fn with_word<'w>(
 
 // The command, if it was made, with one more text that must be given after `--id`; help names the text `value`.
 pub(super) fn with_option<'w>(
-    command: Result<Command<'w>, AllocError>,
+    command: Result<Command<'w>, OutOfMemory>,
     alloc: Global,
     id: &'w str,
     value: &'w str,
     help: &'w str,
-) -> Result<Command<'w>, AllocError>
+) -> Result<Command<'w>, OutOfMemory>
     ensures { (app : App) → IfOk command.entry (λ c. app_of c ≡ app)
         → IfOk result (λ c. app_of c ≡ with_rule app (option_rule id.entry.now)) }
 {
@@ -67,12 +71,12 @@ pub(super) fn with_option<'w>(
 
 // The command, if it was made, with one more text that may be given after `--id`; help names the text `value`.
 pub(super) fn with_choice<'w>(
-    command: Result<Command<'w>, AllocError>,
+    command: Result<Command<'w>, OutOfMemory>,
     alloc: Global,
     id: &'w str,
     value: &'w str,
     help: &'w str,
-) -> Result<Command<'w>, AllocError>
+) -> Result<Command<'w>, OutOfMemory>
     ensures { (app : App) → IfOk command.entry (λ c. app_of c ≡ app)
         → IfOk result (λ c. app_of c ≡ with_rule app (choice_rule id.entry.now)) }
 {
@@ -81,11 +85,11 @@ pub(super) fn with_choice<'w>(
 
 // The command, if it was made, with one more flag `--id`, which has no text and may be given once.
 pub(super) fn with_flag<'w>(
-    command: Result<Command<'w>, AllocError>,
+    command: Result<Command<'w>, OutOfMemory>,
     alloc: Global,
     id: &'w str,
     help: &'w str,
-) -> Result<Command<'w>, AllocError>
+) -> Result<Command<'w>, OutOfMemory>
     ensures { (app : App) → IfOk command.entry (λ c. app_of c ≡ app)
         → IfOk result (λ c. app_of c ≡ with_rule app (flag_rule id.entry.now)) }
 {

@@ -4,8 +4,9 @@ ghost use Rattle.clap.specs.Words.{app_of};
 ghost use Rattle.gtfs_words.specs.CommandLine.{timetable_app};
 
 use super::rules::{DIR, INTERPOLATE, new_command, with_choice, with_flag, with_option, with_word};
+use crate::fault::OutOfMemory;
 use clap::Command;
-use std::alloc::{AllocError, Global};
+use std::alloc::Global;
 
 const ABOUT: &str =
     "Print the runs of a route on a date, a sheet for each direction and list of stops";
@@ -22,7 +23,7 @@ const TEXTS: &str =
     "D is a date YYYYMMDD, as 20240401. On a date without service nothing is printed.\n\n\
     The direction is 0 or 1, as --direction 1.";
 
-pub(super) fn timetable_command<'w>(alloc: Global) -> Result<Command<'w>, AllocError>
+pub(super) fn timetable_command<'w>(alloc: Global) -> Result<Command<'w>, OutOfMemory>
     ensures { IfOk result (λ c. app_of c ≡ timetable_app) }
 {
     let timetable = new_command(alloc, "timetable", ABOUT, TIMETABLE, TEXTS);

@@ -8,8 +8,8 @@ use Rattle.gtfs_cli.specs.declared.commands.refusal.Refusal.{Refusal}
 use Rattle.std.proofs.lemmas.Result.{IfErr-weaker}
 use Rattle.std.specs.Prelude.{is_ok}
 use Rattle.gtfs_cli.specs.Calls.{AreCalls}
-use Rattle.gtfs_cli.proofs.CommandCalls.{calls-board, calls-check, calls-merge, calls-timetable, calls-words}
-use Rattle.gtfs_cli.proofs.CommandEnds.{answered-err, answered-done, answered-ok, ends-board, ends-check, ends-merge, ends-timetable, ends-words}
+use Rattle.gtfs_cli.proofs.CommandCalls.{calls-board, calls-boards, calls-check, calls-merge, calls-timetable, calls-words}
+use Rattle.gtfs_cli.proofs.CommandEnds.{answered-err, answered-done, answered-ok, ends-board, ends-boards, ends-check, ends-merge, ends-timetable, ends-words}
 use Rattle.gtfs_cli.proofs.FailuresTold.{folders-kept}
 use Rattle.gtfs_cli.proofs.Untaken.{answer-sent}
 use Rattle.gtfs_cli.proofs.commands.command.Goals as goal
@@ -67,6 +67,36 @@ returns-in-Ok-Board-clause-ends g c =
     (ends-board texts limit held now before after old new (answer_of r) c.in-Ok-Board.ensures.taken c.print_board.ensures.folders_grow c.print_board.ensures.output_grows
     (answered-done r _ c.print_board.ensures.no_failure) (answered-err r _ c.print_board.ensures.told) c.in-Ok-Board.given is c.print_board.ensures.unchanged
     (answered-ok r _ c.print_board.ensures.printed) (answered-err r _ c.print_board.ensures.cut_short) (answered-err r _ c.print_board.ensures.refused))
+
+pub returns-in-Ok-Boards-clause-called : goal.returns-in-Ok-Boards-clause-called
+returns-in-Ok-Boards-clause-called g c =
+    let texts = map g.S.AsStr.text c.args.words.now in
+    let is = subst (λ (x : Command). IsCommandOf (subcommand_of gtfs_app texts) x) c.in-Ok-Boards.field-0-is c.in-Ok-Boards.ensures.read in
+    let r = c.print_boards.result in
+    let before = g.F.Folders.failure_count c.args.folders.now in
+    let after = g.F.Folders.failure_count c.print_boards.new.folders in
+    let old = g.F.Folders.calls c.args.folders.now in
+    let new = g.F.Folders.calls c.print_boards.new.folders in
+    subst (λ (e : Result Bool Refusal). AreCalls texts (is_ok e ≡ true) (is_ok e ≡ true) before after old new) (sym c.answer-in-Ok-Boards.ensures)
+    (calls-boards texts (answer_of r) before after old new c.in-Ok-Boards.ensures.taken c.print_boards.ensures.last
+    c.in-Ok-Boards.given is c.print_boards.ensures.few (answered-done r _ c.print_boards.ensures.called))
+
+pub returns-in-Ok-Boards-clause-ends : goal.returns-in-Ok-Boards-clause-ends
+returns-in-Ok-Boards-clause-ends g c =
+    let texts = map g.S.AsStr.text c.args.words.now in
+    let limit = g.F.Folders.limit c.args.folders.now in
+    let held = g.F.Folders.held c.args.folders.now in
+    let before : Failures = record { folders = g.F.Folders.failure_count c.args.folders.now; output = g.O.Out.failure_count c.args.out.now } in
+    let now = g.F.Folders.held c.print_boards.new.folders in
+    let after : Failures = record { folders = g.F.Folders.failure_count c.print_boards.new.folders; output = g.O.Out.failure_count c.print_boards.new.out } in
+    let old = g.O.Out.told c.args.out.now in
+    let new = g.O.Out.told c.print_boards.new.out in
+    let is = subst (λ (x : Command). IsCommandOf (subcommand_of gtfs_app texts) x) c.in-Ok-Boards.field-0-is c.in-Ok-Boards.ensures.read in
+    let r = c.print_boards.result in
+    subst (λ (e : Result Bool Refusal). EndsCommand texts limit held now before after old new e) (sym c.answer-in-Ok-Boards.ensures)
+    (ends-boards texts limit held now before after old new (answer_of r) c.in-Ok-Boards.ensures.taken c.print_boards.ensures.folders_grow c.print_boards.ensures.output_grows
+    (answered-done r _ c.print_boards.ensures.no_failure) (answered-err r _ c.print_boards.ensures.told) c.in-Ok-Boards.given is c.print_boards.ensures.unchanged
+    (answered-ok r _ c.print_boards.ensures.printed) (answered-err r _ c.print_boards.ensures.cut_short) (answered-err r _ c.print_boards.ensures.refused))
 
 pub returns-in-Ok-Timetable-clause-called : goal.returns-in-Ok-Timetable-clause-called
 returns-in-Ok-Timetable-clause-called g c =

@@ -2,6 +2,7 @@ use Rattle.std.proofs.Common.{map}
 use Rattle.gtfs_cli.specs.Running.{Failures}
 use Rattle.gtfs_cli.specs.Sending.{Output}
 use Rattle.gtfs_cli.proofs.AskedOne.{asks-one}
+use Rattle.gtfs_cli.proofs.BoardsEnded.{boards-ended}
 use Rattle.gtfs_cli.proofs.CallsMade.{takes-by}
 use Rattle.gtfs_cli.proofs.Ended.{board-ended, well-done}
 use Rattle.gtfs_cli.proofs.Endings.{device-ended, statuses-ended, usage-ended}
@@ -51,6 +52,17 @@ returns-clause-listed g c = λ asked asks.
     let told : Output = record { told = g.E.Out.told c.finish.new.err; failures = g.E.Out.failure_count c.finish.new.err } in
     board-ended limit held asked before after (g.O.Out.told c.args.out.now) (g.O.Out.told c.command-ended.new.out) c.command-ended.result c.finish.result err told
     c.finish.ensures.status (c.command-ended.ensures.ends.listed asked asks) (c.command-ended.ensures.ends.unlisted asked asks) c.finish.ensures.silent c.finish.ensures.told
+
+pub returns-clause-boarded : goal.returns-clause-boarded
+returns-clause-boarded g c = λ asked asks.
+    let limit = g.F.Folders.limit c.args.folders.now in
+    let held = g.F.Folders.held c.args.folders.now in
+    let before : Failures = record { folders = g.F.Folders.failure_count c.args.folders.now; output = g.O.Out.failure_count c.args.out.now } in
+    let after : Failures = record { folders = g.F.Folders.failure_count c.command-ended.new.folders; output = g.O.Out.failure_count c.command-ended.new.out } in
+    let err : Output = record { told = g.E.Out.told c.args.err.now; failures = g.E.Out.failure_count c.args.err.now } in
+    let told : Output = record { told = g.E.Out.told c.finish.new.err; failures = g.E.Out.failure_count c.finish.new.err } in
+    boards-ended limit held asked before after (g.O.Out.told c.args.out.now) (g.O.Out.told c.command-ended.new.out) c.command-ended.result c.finish.result err told
+    c.finish.ensures.status (c.command-ended.ensures.ends.boarded asked asks) (c.command-ended.ensures.ends.unboarded asked asks) c.finish.ensures.silent c.finish.ensures.told
 
 pub returns-clause-tabled : goal.returns-clause-tabled
 returns-clause-tabled g c = λ asked asks.
@@ -113,6 +125,7 @@ returns-clause-called g c =
           (check-done limit held dir before after (g.O.Out.told c.args.out.now) (g.O.Out.told c.command-ended.new.out) ended status c.finish.ensures.status
           (c.command-ended.ensures.ends.unchecked dir asks)) (made.check dir asks);
       board = λ asked asks. takes-by 11 old new (well-done ended status c.finish.ensures.status) (made.board asked asks);
+      boards = λ asked asks. takes-by 12 old new (well-done ended status c.finish.ensures.status) (made.boards asked asks);
       timetable = λ asked asks. takes-by 10 old new (well-done ended status c.finish.ensures.status) (made.timetable asked asks);
       merge = λ asked asks. takes-by 29 old new (well-done ended status c.finish.ensures.status) (made.merge asked asks);
       untaken = made.untaken;

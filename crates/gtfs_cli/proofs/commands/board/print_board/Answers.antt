@@ -10,7 +10,8 @@ use Rattle.gtfs_cli.specs.Refusals.{IsCause, TellsFailure}
 use Rattle.gtfs_cli.proofs.CallsMade.{at-most, few-more, no-calls}
 use Rattle.gtfs_cli.proofs.Endings.{board-cause, counts, told-up}
 use Rattle.gtfs_cli.proofs.FailuresTold.{folders-kept, folders-since, output-kept}
-use Rattle.gtfs_cli.proofs.Printed.{cause-of, ends-of, first-bad-cause, first-bad-ends, has-passing, has-values, kept, lists-of, moved, none-out, zone-cause}
+use Rattle.gtfs_cli.proofs.FilesRead.{zone-cause}
+use Rattle.gtfs_cli.proofs.Printed.{cause-of, ends-of, first-bad-cause, first-bad-ends, has-passing, has-values, kept, lists-of, moved, none-out}
 use Rattle.gtfs_cli.proofs.commands.board.print_board.Goals as goal
 
 pub returns-in_err-values-clause-refused : goal.returns-in_err-values-clause-refused

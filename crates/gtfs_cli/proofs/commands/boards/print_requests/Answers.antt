@@ -1,0 +1,77 @@
+use Rattle.std.proofs.Common.{◌≡◌, ◌∙◌, ap, sym, arith, map, Some}
+use Rattle.std.specs.Prelude.{option_map}
+use Rattle.gtfs_days.specs.Zone.{zone_origin}
+use Rattle.gtfs_rows.specs.Views.{content_of_parts}
+use Rattle.gtfs_cli.specs.LentRequests.{stop_request_of}
+use Rattle.gtfs_cli.specs.ManyBoards.{EndsRequests}
+use Rattle.gtfs_cli.specs.Checking.{IsSendingCause}
+use Rattle.gtfs_cli.proofs.Endings.{told-up}
+use Rattle.gtfs_cli.proofs.FailuresTold.{sending-since}
+use Rattle.gtfs_cli.proofs.RequestBoards.{at_line, none_printed, one_cut, past_board, past_nothing, printed_all}
+use Rattle.gtfs_cli.proofs.RequestLines.{asked_from}
+use Rattle.gtfs_cli.proofs.commands.boards.print_requests.Goals as goal
+
+pub loop-line-preserved : goal.loop-line-preserved
+loop-line-preserved g c =
+    let f = content_of_parts c.args.feed.now in
+    let z = c.args.zone.now in
+    let times = c.args.times in
+    let xs = c.args.lines.now in
+    let texts = map (λ x. x.now) xs in
+    let old = g.O.Out.told c.args.out.now in
+    let i = c.loop-line.line-index in
+    let asks = ap (option_map stop_request_of) (sym c.in-Some.is) ∙ c.read_request.ensures.request in
+    let here = at_line f z times texts old xs i _ c.loop-line-test.true _ c.loop-line.invariant.printed in
+    record {
+      printed = past_board f z times texts old (i + 1) _ _ _ _ (stop_request_of c.in-Some.request) here asks c.in_ok-print_request.ensures.printed;
+      grows = omega (arith, c.loop-line.invariant.grows, c.print_request.ensures.grows);
+      no_failure = c.in_ok-print_request.ensures.no_failure ∙ c.loop-line.invariant.no_failure;
+    }
+
+pub loop-line-preserved-in_default : goal.loop-line-preserved-in_default
+loop-line-preserved-in_default g c =
+    let f = content_of_parts c.args.feed.now in
+    let z = c.args.zone.now in
+    let times = c.args.times in
+    let xs = c.args.lines.now in
+    let texts = map (λ x. x.now) xs in
+    let old = g.O.Out.told c.args.out.now in
+    let i = c.loop-line.line-index in
+    let asks = ap (option_map stop_request_of) (sym c.in_default.is) ∙ c.read_request.ensures.request in
+    let here = at_line f z times texts old xs i _ c.loop-line-test.true _ c.loop-line.invariant.printed in
+    record {
+      printed = past_nothing f z times texts old (i + 1) _ _ _ here asks;
+      grows = c.loop-line.invariant.grows;
+      no_failure = c.loop-line.invariant.no_failure;
+    }
+
+pub returns-clause-printed : goal.returns-clause-printed
+returns-clause-printed g c =
+    let f = content_of_parts c.args.feed.now in
+    let xs = c.args.lines.now in
+    printed_all f c.args.zone.now c.args.times (map (λ x. x.now) xs) (g.O.Out.told c.args.out.now) xs c.loop-line.line-index _ c.loop-line-test.false c.loop-line.invariant.printed
+
+pub returns-in_err-print_request-clause-cut_short : goal.returns-in_err-print_request-clause-cut_short
+returns-in_err-print_request-clause-cut_short g c =
+    let f = content_of_parts c.args.feed.now in
+    let z = c.args.zone.now in
+    let times = c.args.times in
+    let xs = c.args.lines.now in
+    let texts = map (λ x. x.now) xs in
+    let old = g.O.Out.told c.args.out.now in
+    let new = g.O.Out.told c.print_request.new.out in
+    let i = c.loop-line.line-index in
+    let r = c.in_err-print_request.field-0.0 in
+    let asks = ap (option_map stop_request_of) (sym c.in-Some.is) ∙ c.read_request.ensures.request in
+    let here = at_line f z times texts old xs i _ c.loop-line-test.true _ c.loop-line.invariant.printed in
+    told-up c.from_residual.result r (EndsRequests f z (asked_from f (zone_origin z) times 1 texts) old new) c.from_residual.ensures.1
+    (one_cut f z times texts old (i + 1) _ _ _ new (stop_request_of c.in-Some.request) here asks r c.in_err-print_request.ensures.cut_short)
+
+pub returns-in_err-print_request-clause-refused : goal.returns-in_err-print_request-clause-refused
+returns-in_err-print_request-clause-refused g c =
+    let first = g.O.Out.failure_count c.args.out.now in
+    let before = g.O.Out.failure_count c.loop-line.out in
+    let after = g.O.Out.failure_count c.print_request.new.out in
+    let r = c.in_err-print_request.field-0.0 in
+    told-up c.from_residual.result r (IsSendingCause first after) c.from_residual.ensures.1
+    (sending-since first before after c.loop-line.invariant.no_failure r c.in_err-print_request.ensures.refused)

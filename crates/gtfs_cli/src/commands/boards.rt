@@ -1,0 +1,273 @@
+ghost use Rattle.std.specs.Prelude.{◌≡◌, ◌≢◌, ◌≤◌, map, None, string_bytes, IfOk, IfErr, IsUtf8, OnOk};
+ghost use Rattle.gtfs_days.specs.Zone.{zone_origin};
+ghost use Rattle.gtfs_devices.specs.Device.{FailsAtLast, MakesCalls};
+ghost use Rattle.gtfs_table.specs.Tables.{without_marks};
+ghost use Rattle.gtfs_rows.specs.Content.{Content};
+ghost use Rattle.gtfs_rows.specs.Views.{content_of_parts as content_of};
+ghost use Rattle.gtfs_words.specs.Words.{boards_texts_of};
+ghost use Rattle.gtfs_cli.specs.Boards.{request_of, ListsBoard};
+ghost use Rattle.gtfs_cli.specs.Calls.{MakesAtMost};
+ghost use Rattle.gtfs_cli.specs.Checking.{IsSendingCause};
+ghost use Rattle.gtfs_cli.specs.LentRequests.{request_texts_of, stop_request_of};
+ghost use Rattle.gtfs_cli.specs.ManyBoards.{EndsBoards, EndsOne, EndsRequests, IsBoardsCause, IsFileFault, IsRequestsFault, PrintsBoards, PrintsOne, PrintsRequests};
+ghost use Rattle.gtfs_cli.specs.Options.{times_of};
+ghost use Rattle.gtfs_cli.specs.Refusals.{IsSound, TellsFailure, TellsOutput};
+ghost use Rattle.gtfs_cli.specs.Requests.{fault_in, heading_of, numbered_from, requests_in, requests_of};
+ghost use Rattle.gtfs_cli.specs.Running.{FailedNowhere};
+
+use crate::commands::feed::read_feed;
+use crate::commands::files::read_file;
+use crate::commands::refusal::Refusal;
+use crate::commands::request_lines::{lines_of, text_of};
+use crate::commands::requests::{LineRequest, RequestTexts, first_fault, read_request};
+use crate::commands::times::read_times;
+use crate::commands::zone_file::read_zone;
+use gtfs_board::{Board, Feed, PageFault, Span, Times, write_page};
+use gtfs_days::Zone;
+use gtfs_field::OutOfMemory;
+use gtfs_table::{Folders, Out, write_text};
+use gtfs_words::BoardsWords;
+use std::alloc::Global;
+use std::hash::RandomState;
+
+// Prints the boards that the requests' file of the words asks for.
+// Errors: In the order in which they are judged: `NotThere`, `Unreadable`, `OverLimit` and `HasErrors` of the feed's
+// folder; the first three and `NoZone` of the zone file; the first three of the requests' file; `Line` of the first line
+// that is refused; `OutputFailed` at any board. `OutOfMemory` at any point.
+pub(super) fn print_boards<'w, F: Folders, O: Out>(
+    alloc: Global,
+    random: RandomState,
+    words: &BoardsWords<'w>,
+    folders: &mut F,
+    out: &mut O,
+) -> Result<(), Refusal<'w>>
+    ensures printed { OnOk result (PrintsBoards (F.limit folders.old) (F.held folders.old)
+        (boards_texts_of words.now) (O.told out.old) (O.told out.new)) }
+    ensures cut_short { IfErr result (EndsBoards (F.limit folders.old) (F.held folders.old)
+        (boards_texts_of words.now) (O.told out.old) (O.told out.new)) }
+    ensures refused { IfErr result (IsBoardsCause
+        (F.limit folders.old) (F.held folders.old) (boards_texts_of words.now)
+        (record { folders = F.failure_count folders.old; output = O.failure_count out.old })
+        (record { folders = F.failure_count folders.new; output = O.failure_count out.new })) }
+    ensures unchanged { F.held folders.new ≡ F.held folders.old }
+    ensures folders_grow { F.failure_count folders.old ≤ F.failure_count folders.new }
+    ensures output_grows { O.failure_count out.old ≤ O.failure_count out.new }
+    ensures no_failure { OnOk result (FailedNowhere
+        (record { folders = F.failure_count folders.old; output = O.failure_count out.old })
+        (record { folders = F.failure_count folders.new; output = O.failure_count out.new })) }
+    ensures told { IfErr result (TellsFailure
+        (record { folders = F.failure_count folders.old; output = O.failure_count out.old })
+        (record { folders = F.failure_count folders.new; output = O.failure_count out.new })) }
+    ensures called { OnOk result (MakesCalls 12 (F.calls folders.old) (F.calls folders.new)) }
+    ensures few { MakesAtMost 12 (F.calls folders.old) (F.calls folders.new) }
+    ensures last { F.failure_count folders.new ≢ F.failure_count folders.old
+        → FailsAtLast (F.calls folders.new) }
+{
+    let feed = read_feed(alloc, random, folders, words.dir)?;
+    let zone = read_zone(alloc, folders, words.zone)?;
+    let bytes = read_file(alloc, folders, words.requests)?;
+    print_file(alloc, &feed, &zone, bytes.as_slice(), words, out)
+}
+
+// Prints the boards that the bytes of the requests' file ask for.
+fn print_file<'w, O: Out>(
+    alloc: Global,
+    feed: &Feed,
+    zone: &Zone,
+    bytes: &[u8],
+    words: &BoardsWords<'w>,
+    out: &mut O,
+) -> Result<(), Refusal<'w>>
+    ensures utf8 { OnOk result (IsUtf8 (without_marks bytes.now)) }
+    ensures printed { OnOk result (PrintsRequests (content_of feed.now) zone.now
+        (requests_of (content_of feed.now) (zone_origin zone.now)
+        (times_of words.now.interpolate) bytes.now)
+        (O.told out.old) (O.told out.new)) }
+    ensures cut_short { IfErr result (EndsRequests (content_of feed.now) zone.now
+        (requests_of (content_of feed.now) (zone_origin zone.now)
+        (times_of words.now.interpolate) bytes.now)
+        (O.told out.old) (O.told out.new)) }
+    ensures refused { IfErr result (IsFileFault words.now.requests.now bytes.now
+        (requests_of (content_of feed.now) (zone_origin zone.now)
+        (times_of words.now.interpolate) bytes.now)
+        (O.failure_count out.old) (O.failure_count out.new)) }
+    ensures grows { O.failure_count out.old ≤ O.failure_count out.new }
+    ensures no_failure { OnOk result (O.failure_count out.new ≡ O.failure_count out.old) }
+    ensures told { IfErr result (TellsOutput (O.failure_count out.old) (O.failure_count out.new)) }
+{
+    let Some(text) = text_of(bytes) else {
+        return Err(Refusal::Unreadable(words.requests));
+    };
+    let lines = lines_of(alloc, text)?;
+    print_lines(
+        alloc,
+        feed,
+        zone,
+        lines.as_slice(),
+        read_times(words.interpolate),
+        out,
+    )
+}
+
+// Prints the boards that lines ask for. All are judged before anything goes out.
+fn print_lines<'w, O: Out>(
+    alloc: Global,
+    feed: &Feed,
+    zone: &Zone,
+    lines: &[&str],
+    times: Times,
+    out: &mut O,
+) -> Result<(), Refusal<'w>>
+    ensures printed { OnOk result (PrintsRequests (content_of feed.now) zone.now
+        (requests_in (content_of feed.now) (zone_origin zone.now) times
+        (numbered_from 1 (map (λ l. l.now) lines.now)))
+        (O.told out.old) (O.told out.new)) }
+    ensures cut_short { IfErr result (EndsRequests (content_of feed.now) zone.now
+        (requests_in (content_of feed.now) (zone_origin zone.now) times
+        (numbered_from 1 (map (λ l. l.now) lines.now)))
+        (O.told out.old) (O.told out.new)) }
+    ensures refused { IfErr result (IsRequestsFault
+        (requests_in (content_of feed.now) (zone_origin zone.now) times
+        (numbered_from 1 (map (λ l. l.now) lines.now)))
+        (O.failure_count out.old) (O.failure_count out.new)) }
+    ensures grows { O.failure_count out.old ≤ O.failure_count out.new }
+    ensures no_failure { OnOk result (O.failure_count out.new ≡ O.failure_count out.old) }
+    ensures told { IfErr result (TellsOutput (O.failure_count out.old) (O.failure_count out.new)) }
+{
+    if let Some(fault) = first_fault(alloc, feed, zone, lines, times)? {
+        return Err(Refusal::Line(fault));
+    }
+    print_requests(alloc, feed, zone, lines, times, out)
+}
+
+// Prints the board of each line that is not empty. All were judged.
+fn print_requests<'w, O: Out>(
+    alloc: Global,
+    feed: &Feed,
+    zone: &Zone,
+    lines: &[&str],
+    times: Times,
+    out: &mut O,
+) -> Result<(), Refusal<'w>>
+    requires { fault_in (requests_in (content_of feed.now) (zone_origin zone.now) times
+        (numbered_from 1 (map (λ l. l.now) lines.now))) ≡ None }
+    ensures printed { OnOk result (PrintsRequests (content_of feed.now) zone.now
+        (requests_in (content_of feed.now) (zone_origin zone.now) times
+        (numbered_from 1 (map (λ l. l.now) lines.now)))
+        (O.told out.old) (O.told out.new)) }
+    ensures cut_short { IfErr result (EndsRequests (content_of feed.now) zone.now
+        (requests_in (content_of feed.now) (zone_origin zone.now) times
+        (numbered_from 1 (map (λ l. l.now) lines.now)))
+        (O.told out.old) (O.told out.new)) }
+    ensures refused { IfErr result (IsSendingCause (O.failure_count out.old)
+        (O.failure_count out.new)) }
+    ensures grows { O.failure_count out.old ≤ O.failure_count out.new }
+    ensures no_failure { OnOk result (O.failure_count out.new ≡ O.failure_count out.old) }
+{
+    for line in lines {
+        let Some(request) = read_request(line, times) else {
+            continue;
+        };
+        print_request(alloc, feed, zone, &request, out)?;
+    }
+    Ok(())
+}
+
+// Prints the heading and the board of a request.
+fn print_request<'w, O: Out>(
+    alloc: Global,
+    feed: &Feed,
+    zone: &Zone,
+    request: &LineRequest<'_>,
+    out: &mut O,
+) -> Result<(), Refusal<'w>>
+    requires from { IsSound request.now.values.from }
+    requires until { IsSound request.now.values.until }
+    ensures printed { OnOk result (PrintsOne (content_of feed.now) zone.now
+        (stop_request_of request.now) (O.told out.old) (O.told out.new)) }
+    ensures cut_short { IfErr result (EndsOne (content_of feed.now) zone.now
+        (stop_request_of request.now) (O.told out.old) (O.told out.new)) }
+    ensures refused { IfErr result (IsSendingCause (O.failure_count out.old)
+        (O.failure_count out.new)) }
+    ensures grows { O.failure_count out.old ≤ O.failure_count out.new }
+    ensures no_failure { OnOk result (O.failure_count out.new ≡ O.failure_count out.old) }
+{
+    let mut board = open(alloc, feed, zone, request)?;
+    print_opened(alloc, &mut board, request, out)
+}
+
+// The board of a request, whose line was judged: its stop is known, and it does not end before it begins.
+fn open<'a>(
+    alloc: Global,
+    feed: &'a Feed,
+    zone: &'a Zone,
+    request: &LineRequest<'_>,
+) -> Result<Board<'a>, OutOfMemory>
+    requires from { IsSound request.now.values.from }
+    requires until { IsSound request.now.values.until }
+    ensures board { IfOk result (λ board. ListsBoard (content_of feed.now) zone.now
+        request.now.texts.stop.now (request_of request.now.values) board.rest) }
+    ensures zone { IfOk result (λ board. board.zone ≡ zone.now) }
+{
+    let values = &request.values;
+    let span = Span {
+        from: values.from.instant(alloc, zone)?,
+        until: values.until.instant(alloc, zone)?,
+    };
+    match Board::open(
+        alloc,
+        feed,
+        zone,
+        request.texts.stop,
+        span,
+        values.after.as_ref(),
+        values.times,
+    ) {
+        Ok(board) => Ok(board),
+        Err(_) => Err(OutOfMemory),
+    }
+}
+
+// Prints the heading of a request, and below it a page of its board.
+fn print_opened<'w, O: Out>(
+    alloc: Global,
+    board: &mut Board<'_>,
+    request: &LineRequest<'_>,
+    out: &mut O,
+) -> Result<(), Refusal<'w>>
+    ensures printed { (f : Content) → ListsBoard f board.old.zone request.now.texts.stop.now
+        (request_of request.now.values) board.old.rest
+        → OnOk result (PrintsOne f board.old.zone (stop_request_of request.now)
+        (O.told out.old) (O.told out.new)) }
+    ensures cut_short { (f : Content) → ListsBoard f board.old.zone request.now.texts.stop.now
+        (request_of request.now.values) board.old.rest
+        → IfErr result (EndsOne f board.old.zone (stop_request_of request.now)
+        (O.told out.old) (O.told out.new)) }
+    ensures refused { IfErr result (IsSendingCause (O.failure_count out.old)
+        (O.failure_count out.new)) }
+    ensures grows { O.failure_count out.old ≤ O.failure_count out.new }
+    ensures no_failure { OnOk result (O.failure_count out.new ≡ O.failure_count out.old) }
+{
+    let heading = heading(alloc, &request.texts)?;
+    write_text(out, heading.as_bytes())?;
+    match write_page(alloc, board, request.values.limit, out) {
+        Ok(_) => Ok(()),
+        Err(PageFault::Out(_)) => Err(Refusal::OutputFailed),
+        Err(PageFault::OutOfMemory(_)) => Err(Refusal::OutOfMemory),
+    }
+}
+
+// The line above a board.
+fn heading(alloc: Global, texts: &RequestTexts<'_>) -> Result<String, OutOfMemory>
+    ensures { IfOk result (λ text. string_bytes text ≡ heading_of (request_texts_of texts.now)) }
+{
+    let mut text = String::new(alloc);
+    text.push_str("== ")?;
+    text.push_str(texts.stop)?;
+    text.push_str(" ")?;
+    text.push_str(texts.from)?;
+    text.push_str(" ")?;
+    text.push_str(texts.until)?;
+    text.push_str("\n")?;
+    Ok(text)
+}

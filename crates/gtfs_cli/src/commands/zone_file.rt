@@ -1,0 +1,56 @@
+ghost use Rattle.std.specs.Prelude.{◌≡◌, ◌≢◌, ◌≤◌, ℕ, Option, IfOk, IfErr, OnOk};
+ghost use Rattle.gtfs_days.specs.Zone.{IsZoneOf};
+ghost use Rattle.gtfs_devices.specs.Folder.{Store};
+ghost use Rattle.gtfs_devices.specs.Device.{FailsAtLast, MakesCalls};
+ghost use Rattle.gtfs_cli.specs.Calls.{MakesAtMost};
+ghost use Rattle.gtfs_cli.specs.FileRead.{IsZoneCause};
+ghost use Rattle.gtfs_cli.specs.Refusals.{TellsFolders};
+ghost use Rattle.gtfs_cli.specs.Running.{FitsZone, HoldsBytes, HoldsZone};
+
+use crate::commands::files::read_file;
+use crate::commands::refusal::Refusal;
+use gtfs_days::{Zone, ZoneFault};
+use gtfs_table::Folders;
+use std::alloc::Global;
+
+// The zone of the zone file of a path.
+// Errors: `NotThere`, `Unreadable`, `OverLimit`, `NoZone` and `OutOfMemory`.
+pub(super) fn read_zone<'w, F: Folders>(
+    alloc: Global,
+    folders: &mut F,
+    path: &'w str,
+) -> Result<Zone, Refusal<'w>>
+    ensures read { IfOk result (HoldsZone (F.limit folders.old) (F.held folders.old) path.now) }
+    ensures refused { IfErr result (IsZoneCause (F.limit folders.old) (F.held folders.old) path.now
+        (F.failure_count folders.old) (F.failure_count folders.new)) }
+    ensures unchanged { F.held folders.new ≡ F.held folders.old }
+    ensures same_limit { F.limit folders.new ≡ F.limit folders.old }
+    ensures grows { F.failure_count folders.old ≤ F.failure_count folders.new }
+    ensures no_failure { OnOk result
+        (F.failure_count folders.new ≡ F.failure_count folders.old) }
+    ensures told { IfErr result
+        (TellsFolders (F.failure_count folders.old) (F.failure_count folders.new)) }
+    ensures called { OnOk result (MakesCalls 1 (F.calls folders.old) (F.calls folders.new)) }
+    ensures few { MakesAtMost 1 (F.calls folders.old) (F.calls folders.new) }
+    ensures last { F.failure_count folders.new ≢ F.failure_count folders.old
+        → FailsAtLast (F.calls folders.new) }
+{
+    let bytes = read_file(alloc, folders, path)?;
+    zone_of(alloc, bytes.as_slice(), path)
+}
+
+// The zone of the bytes of the zone file.
+fn zone_of<'w>(alloc: Global, bytes: &[u8], path: &'w str) -> Result<Zone, Refusal<'w>>
+    ensures read { IfOk result (IsZoneOf bytes.now) }
+    ensures fits { OnOk result (FitsZone bytes.now) }
+    ensures refused { IfErr result
+        (λ refusal. (limit : ℕ) (held : Option Store) (before after : ℕ)
+        → HoldsBytes limit held path.now bytes.now → after ≡ before
+        → IsZoneCause limit held path.now before after refusal) }
+{
+    match Zone::read(alloc, bytes) {
+        Ok(zone) => Ok(zone),
+        Err(ZoneFault::Unreadable) => Err(Refusal::NoZone(path)),
+        Err(ZoneFault::OutOfMemory) => Err(Refusal::OutOfMemory),
+    }
+}
