@@ -1,4 +1,4 @@
-use Rattle.std.proofs.Common.{◌∙◌, inl, inr, refl, subst, arith, ℕ}
+use Rattle.std.proofs.Common.{◌∙◌, inl, inr, refl, subst, sym, arith, List, ℕ}
 use Rattle.std.proofs.lemmas.Result.{IfErr-weaker}
 use Rattle.gtfs_table.proofs.FolderFacts.{calls-more}
 use Rattle.gtfs_table.proofs.StoreFacts.{on_ok-always, on_ok-map}
@@ -104,9 +104,10 @@ returns-clause-printed g c =
     let same_limit = c.read_zone.ensures.same_limit ∙ c.read_feed.ensures.same_limit in
     let same_held = c.read_zone.ensures.unchanged ∙ c.read_feed.ensures.unchanged in
     let zone_held = moved (λ l h. HoldsZone l h asked.zone c.in_ok-zone.zone) _ _ _ _ c.read_feed.ensures.same_limit c.read_feed.ensures.unchanged c.in_ok-zone.ensures.read in
-    let bytes_held = moved (λ l h. HoldsBytes l h asked.requests c.in_ok-bytes.bytes.items) _ _ _ _ same_limit same_held c.in_ok-bytes.ensures.read in
+    let bytes_held = subst (λ (bytes : List ℕ). HoldsBytes limit held asked.requests bytes) (sym c.as_slice.ensures.value)
+    (moved (λ l h. HoldsBytes l h asked.requests c.in_ok-bytes.bytes.items) _ _ _ _ same_limit same_held c.in_ok-bytes.ensures.read) in
     ok-both c.print_file.result _ _ _
-    (boards-of limit held asked c.in_ok-feed.feed c.in_ok-zone.zone c.in_ok-bytes.bytes.items c.in_ok-feed.ensures.read zone_held bytes_held
+    (boards-of limit held asked c.in_ok-feed.feed c.in_ok-zone.zone c.as_slice.result.now c.in_ok-feed.ensures.read zone_held bytes_held
     (g.O.Out.told c.args.out.now) (g.O.Out.told c.print_file.new.out))
     c.print_file.ensures.utf8 c.print_file.ensures.printed
 
@@ -118,9 +119,10 @@ returns-clause-cut_short g c =
     let same_limit = c.read_zone.ensures.same_limit ∙ c.read_feed.ensures.same_limit in
     let same_held = c.read_zone.ensures.unchanged ∙ c.read_feed.ensures.unchanged in
     let zone_held = moved (λ l h. HoldsZone l h asked.zone c.in_ok-zone.zone) _ _ _ _ c.read_feed.ensures.same_limit c.read_feed.ensures.unchanged c.in_ok-zone.ensures.read in
-    let bytes_held = moved (λ l h. HoldsBytes l h asked.requests c.in_ok-bytes.bytes.items) _ _ _ _ same_limit same_held c.in_ok-bytes.ensures.read in
+    let bytes_held = subst (λ (bytes : List ℕ). HoldsBytes limit held asked.requests bytes) (sym c.as_slice.ensures.value)
+    (moved (λ l h. HoldsBytes l h asked.requests c.in_ok-bytes.bytes.items) _ _ _ _ same_limit same_held c.in_ok-bytes.ensures.read) in
     err-both c.print_file.result _ _ _
-    (ends-by limit held asked c.in_ok-feed.feed c.in_ok-zone.zone c.in_ok-bytes.bytes.items c.in_ok-feed.ensures.read zone_held bytes_held
+    (ends-by limit held asked c.in_ok-feed.feed c.in_ok-zone.zone c.as_slice.result.now c.in_ok-feed.ensures.read zone_held bytes_held
     (g.O.Out.told c.args.out.now) (g.O.Out.told c.print_file.new.out) (g.O.Out.failure_count c.args.out.now) (g.O.Out.failure_count c.print_file.new.out))
     c.print_file.ensures.refused c.print_file.ensures.cut_short
 
@@ -134,9 +136,10 @@ returns-clause-refused g c =
     let same_limit = c.read_zone.ensures.same_limit ∙ c.read_feed.ensures.same_limit in
     let same_held = c.read_zone.ensures.unchanged ∙ c.read_feed.ensures.unchanged in
     let zone_held = moved (λ l h. HoldsZone l h asked.zone c.in_ok-zone.zone) _ _ _ _ c.read_feed.ensures.same_limit c.read_feed.ensures.unchanged c.in_ok-zone.ensures.read in
-    let bytes_held = moved (λ l h. HoldsBytes l h asked.requests c.in_ok-bytes.bytes.items) _ _ _ _ same_limit same_held c.in_ok-bytes.ensures.read in
+    let bytes_held = subst (λ (bytes : List ℕ). HoldsBytes limit held asked.requests bytes) (sym c.as_slice.ensures.value)
+    (moved (λ l h. HoldsBytes l h asked.requests c.in_ok-bytes.bytes.items) _ _ _ _ same_limit same_held c.in_ok-bytes.ensures.read) in
     IfErr-weaker c.print_file.result _ _
-    (fault-by limit held asked c.in_ok-feed.feed c.in_ok-zone.zone c.in_ok-bytes.bytes.items c.in_ok-feed.ensures.read zone_held bytes_held before after)
+    (fault-by limit held asked c.in_ok-feed.feed c.in_ok-zone.zone c.as_slice.result.now c.in_ok-feed.ensures.read zone_held bytes_held before after)
     c.print_file.ensures.refused
 
 pub returns-clause-no_failure : goal.returns-clause-no_failure

@@ -1,4 +1,4 @@
-use Rattle.std.proofs.Common.{◌≡◌, ◌∙◌, ap, sym, arith, map, Some}
+use Rattle.std.proofs.Common.{◌≡◌, ◌∙◌, ◌+◌, ap, sym, refl, arith, map, Some}
 use Rattle.std.specs.Prelude.{option_map}
 use Rattle.gtfs_days.specs.Zone.{zone_origin}
 use Rattle.gtfs_rows.specs.Views.{content_of_parts}
@@ -10,6 +10,15 @@ use Rattle.gtfs_cli.proofs.FailuresTold.{sending-since}
 use Rattle.gtfs_cli.proofs.RequestBoards.{at_line, none_printed, one_cut, past_board, past_nothing, printed_all}
 use Rattle.gtfs_cli.proofs.RequestLines.{asked_from}
 use Rattle.gtfs_cli.proofs.commands.boards.print_requests.Goals as goal
+
+pub loop-line-init : goal.loop-line-init
+loop-line-init g c =
+    let f = content_of_parts c.args.feed.now in
+    record {
+      printed = none_printed f c.args.zone.now c.args.times (map (λ x. x.now) c.args.lines.now) (g.O.Out.told c.args.out.now) c.requires;
+      grows = omega arith;
+      no_failure = refl;
+    }
 
 pub loop-line-preserved : goal.loop-line-preserved
 loop-line-preserved g c =

@@ -1,7 +1,9 @@
+use Rattle.std.proofs.Common.{List, ℕ, subst, sym}
 use Rattle.std.proofs.lemmas.Result.{IfErr-weaker}
 use Rattle.gtfs_table.proofs.StoreFacts.{on_ok-always}
 use Rattle.gtfs_cli.specs.FileRead.{IsZoneCause}
 use Rattle.gtfs_cli.specs.Refusals.{TellsFolders}
+use Rattle.gtfs_cli.specs.Running.{HoldsBytes}
 use Rattle.gtfs_cli.proofs.Endings.{told-up}
 use Rattle.gtfs_cli.proofs.FailuresTold.{each-err, folders-kept}
 use Rattle.gtfs_cli.proofs.FilesRead.{zone-path}
@@ -25,9 +27,11 @@ returns-in_err-bytes-clause-told g c =
 
 pub returns-clause-refused : goal.returns-clause-refused
 returns-clause-refused g c =
+    let limit = g.F.Folders.limit c.args.folders.now in
+    let held = g.F.Folders.held c.args.folders.now in
+    let read = subst (λ (bytes : List ℕ). HoldsBytes limit held c.args.path.now bytes) (sym c.as_slice.ensures.value) c.in_ok-bytes.ensures.read in
     IfErr-weaker c.zone_of.result _ _
-    (λ e h. h (g.F.Folders.limit c.args.folders.now) (g.F.Folders.held c.args.folders.now) (g.F.Folders.failure_count c.args.folders.now)
-    (g.F.Folders.failure_count c.read_file.new.folders) c.in_ok-bytes.ensures.read c.in_ok-bytes.ensures.no_failure)
+    (λ e h. h limit held (g.F.Folders.failure_count c.args.folders.now) (g.F.Folders.failure_count c.read_file.new.folders) read c.in_ok-bytes.ensures.no_failure)
     c.zone_of.ensures.refused
 
 pub returns-clause-told : goal.returns-clause-told
