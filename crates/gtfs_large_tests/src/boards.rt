@@ -1,8 +1,11 @@
 //! Departures of a board, one after the other, of which few wait at a time.
 
 use crate::assertions::{assert_is, assert_that};
-use gtfs_board::{Board, Span, Times};
-use gtfs_fixtures::{Clocks, FileText, feed_with};
+use crate::merges::{LIMIT, put_files};
+use gtfs_board::{Board, Span, StopIndex, Times};
+use gtfs_fixtures::{Clocks, FileText, feed_with, read_feed};
+use gtfs_table::MemoryFolders;
+use std::hash::RandomState;
 use std::process::Abort;
 use std::test::Fail;
 
@@ -56,5 +59,32 @@ fn many_departures_are_taken_from_one_board(rt: HostRuntime) -> Result<(), Fail>
     let after = take(&rt, &mut board, DEPARTURES);
     assert_is(&rt, after, -2_188_988_800, "the instant after the last");
     assert_that(&rt, board.held() <= 4, "four or fewer wait");
+    Ok(())
+}
+
+// How many departures are left, at most so many.
+fn count_left(rt: &impl Abort, board: &mut Board<'_>, most: u64) -> u64 {
+    let mut count = 0u64;
+    for _ in 0..most {
+        match board.next() {
+            Ok(Some(_)) => count = count.saturating_add(1),
+            Ok(None) => return count,
+            Err(fault) => panic!(rt; "{fault}"),
+        }
+    }
+    count
+}
+
+// Two runs of 70,000 trips on each of three days.
+#[test]
+fn a_board_of_many_lanes_is_opened_over_an_index(rt: HostRuntime) -> Result<(), Fail> {
+    let mut folders = MemoryFolders::new(rt.alloc(), LIMIT, None);
+    put_files(rt.alloc(), &mut folders)?;
+    let feed = read_feed(rt.alloc(), RandomState::new(&rt)?, &mut folders, "f1")?;
+    let zone = Clocks::Utc.zone(rt.alloc())?;
+    let index = StopIndex::build(rt.alloc(), &feed, Times::Given)?;
+    let mut board = Board::open_indexed(rt.alloc(), &index, &zone, "S0", SPAN, None)?;
+    let count = count_left(&rt, &mut board, 1_000_000);
+    assert_is(&rt, count, 420_000, "departures");
     Ok(())
 }

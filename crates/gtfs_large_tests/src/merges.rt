@@ -15,7 +15,7 @@ use std::test::Fail;
 const MANY: u32 = 70_000;
 
 // No file of the feed or of a merge has so many bytes.
-const LIMIT: u64 = 100_000_000;
+pub(crate) const LIMIT: u64 = 100_000_000;
 
 // Each file by its name, its header, and what stands before and between the numbers of a row.
 const FILES: &[(&str, &str, &[&str])] = &[
@@ -44,8 +44,7 @@ const FILES: &[(&str, &str, &[&str])] = &[
         "trip_id,arrival_time,departure_time,stop_id,stop_sequence,stop_headsign\n",
         &[
             "T",
-            ",08:00:00,08:00:00,S",
-            ",1,To ",
+            ",08:00:00,08:00:00,S0,1,To ",
             "\nT",
             ",08:10:00,08:10:00,S",
             ",2,\n",
@@ -99,7 +98,8 @@ fn rows_of(alloc: Global, header: &str, parts: &[&str]) -> Result<String, OutOfM
     Ok(text)
 }
 
-fn put_files(alloc: Global, folders: &mut MemoryFolders) -> Result<(), OutOfMemory> {
+// Puts the files of the feed into the folder f1. Each trip goes from the first stop to another one.
+pub(crate) fn put_files(alloc: Global, folders: &mut MemoryFolders) -> Result<(), OutOfMemory> {
     for (name, header, parts) in FILES {
         let text = rows_of(alloc, header, parts)?;
         folders.put("f1", name, text.as_bytes())?;
