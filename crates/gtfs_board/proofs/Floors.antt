@@ -1,8 +1,8 @@
 -- Which departures lie above a floor.
-use Rattle.std.proofs.Common.{◌≡◌, ◌<◌, ◌≤◌, ℕ, ℤ, ◌&&◌, Bool, false, List, length, Some, None, refl, sym, ap, ◌∙◌, inl, inr, arith}
+use Rattle.std.proofs.Common.{◌≡◌, ◌<◌, ℕ, ℤ, ◌&&◌, Bool, false, List, length, Some, None, refl, sym, ap, ◌∙◌, inl, inr, arith}
 use Rattle.std.specs.Prelude.{bytes_eq, int_le, nat_lt, ◌<ℤ◌, ◌≤ℤ◌}
 use Rattle.std.specs.Cmp.{int_cmp_is, nat_cmp_is}
-use Rattle.std.specs.Ordering.{int_cmp, is_lt, nat_cmp, on, ordering_then}
+use Rattle.std.specs.Ordering.{int_cmp, is_lt, nat_cmp, ordering_then}
 use Rattle.std.specs.declared.cmp.Ordering.{Ordering}
 use Rattle.std.specs.declared.cmp.Ordering.TheVariants.{Less, Equal, Greater}
 use Rattle.std.proofs.lemmas.Bool.{cases_Bool}
