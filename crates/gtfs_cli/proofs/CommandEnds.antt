@@ -138,10 +138,10 @@ module _ (texts : List Text) (limit : ℕ) (held now : Option Store) (before aft
         refused = IfErr-weaker ended _ _ (λ e c. inr (inl (record { dir = dir; taken = taken; asks = is; fact = c }))) cause;
         checked = λ t asks. subst (λ (x : Text). IfOk ended (IsReportOf limit held x old new)) (same t asks.asks) printed;
         unchecked = λ t asks. all-err ended _ _ _ _
-            (λ e c cut t. record {
+            (λ e c cut tells. record {
               cause = subst (λ (x : Text). IsCheckCause limit held x before after e) (same t asks.asks) c;
               ends = subst (λ (x : Text). EndsCheck limit held x old new e) (same t asks.asks) cut;
-              told = t;
+              told = tells;
             }) cause cut told;
         listed = λ asked asks. absurd (not-both _ _ _ refl refl name (board-named _ asked asks.asks));
         unlisted = λ asked asks. absurd (not-both _ _ _ refl refl name (board-named _ asked asks.asks));
@@ -177,10 +177,10 @@ module _ (texts : List Text) (limit : ℕ) (held now : Option Store) (before aft
         unchecked = λ t asks. absurd (not-both _ _ _ refl refl name (check-named _ t asks.asks));
         listed = λ t asks. subst (λ (x : BoardTexts). IfOk ended (λ failed. PrintsBoard limit held x old new × (failed ≡ false))) (same t asks.asks) printed;
         unlisted = λ t asks. all-err ended _ _ _ _
-            (λ e c cut t. record {
+            (λ e c cut tells. record {
               cause = subst (λ (x : BoardTexts). IsCause limit held x before after e) (same t asks.asks) c;
               ends = subst (λ (x : BoardTexts). EndsBoard limit held x old new e) (same t asks.asks) cut;
-              told = t;
+              told = tells;
             }) cause cut told;
         boarded = λ asked asks. absurd (not-both _ _ _ refl refl name (boards-named _ asked asks.asks));
         unboarded = λ asked asks. absurd (not-both _ _ _ refl refl name (boards-named _ asked asks.asks));
@@ -216,10 +216,10 @@ module _ (texts : List Text) (limit : ℕ) (held now : Option Store) (before aft
         unlisted = λ asked asks. absurd (not-both _ _ _ refl refl name (board-named _ asked asks.asks));
         boarded = λ t asks. subst (λ (x : BoardsTexts). IfOk ended (λ failed. PrintsBoards limit held x old new × (failed ≡ false))) (same t asks.asks) printed;
         unboarded = λ t asks. all-err ended _ _ _ _
-            (λ e c cut t. record {
+            (λ e c cut tells. record {
               cause = subst (λ (x : BoardsTexts). IsBoardsCause limit held x before after e) (same t asks.asks) c;
               ends = subst (λ (x : BoardsTexts). EndsBoards limit held x old new e) (same t asks.asks) cut;
-              told = t;
+              told = tells;
             }) cause cut told;
         tabled = λ asked asks. absurd (not-both _ _ _ refl refl name (timetable-named _ asked asks.asks));
         untabled = λ asked asks. absurd (not-both _ _ _ refl refl name (timetable-named _ asked asks.asks));
@@ -255,10 +255,10 @@ module _ (texts : List Text) (limit : ℕ) (held now : Option Store) (before aft
         unboarded = λ asked asks. absurd (not-both _ _ _ refl refl name (boards-named _ asked asks.asks));
         tabled = λ t asks. subst (λ (x : TimetableTexts). IfOk ended (λ failed. PrintsTimetable limit held x old new × (failed ≡ false))) (same t asks.asks) printed;
         untabled = λ t asks. all-err ended _ _ _ _
-            (λ e c cut t. record {
+            (λ e c cut tells. record {
               cause = subst (λ (x : TimetableTexts). IsTimetableCause limit held x before after e) (same t asks.asks) c;
               ends = subst (λ (x : TimetableTexts). EndsTimetable limit held x old new e) (same t asks.asks) cut;
-              told = t;
+              told = tells;
             }) cause cut told;
         answered = λ e. absurd (untaken e);
         answer = λ e. absurd (untaken e);
@@ -299,10 +299,10 @@ module _ (texts : List Text) (limit : ℕ) (held now : Option Store) (before aft
         untouched = λ e. absurd (untaken e);
         merged = λ t asks. subst (λ (x : MergeTexts). IfOk ended (λ failed. PrintsMerge limit held x now old new × (failed ≡ false))) (same t asks.asks) printed;
         unmerged = λ t asks. all-err ended _ _ _ _
-            (λ e c cut t. record {
+            (λ e c cut tells. record {
               cause = subst (λ (x : MergeTexts). IsMergeCause limit held x before after e) (same t asks.asks) c;
               ends = subst (λ (x : MergeTexts). EndsMerge limit held x now old new e) (same t asks.asks) cut;
-              told = t;
+              told = tells;
             }) cause cut told;
         unchanged = λ none. absurd (none (merge_texts_of words) (record { taken = taken; asks = for-merge _ words is }));
         folders_grow = folders_grow;

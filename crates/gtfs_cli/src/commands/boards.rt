@@ -22,7 +22,7 @@ use crate::commands::request_lines::{lines_of, text_of};
 use crate::commands::requests::{LineRequest, RequestTexts, first_fault, read_request};
 use crate::commands::times::read_times;
 use crate::commands::zone_file::read_zone;
-use gtfs_board::{Board, Feed, PageFault, Span, Times, write_page};
+use gtfs_board::{Board, Feed, PageFault, Span, StopIndex, Times, write_page};
 use gtfs_days::Zone;
 use gtfs_field::OutOfMemory;
 use gtfs_table::{Folders, Out, write_text};
@@ -137,26 +137,28 @@ fn print_lines<'w, O: Out>(
     if let Some(fault) = first_fault(alloc, feed, zone, lines, times)? {
         return Err(Refusal::Line(fault));
     }
-    print_requests(alloc, feed, zone, lines, times, out)
+    let index = StopIndex::build(alloc, feed, times)?;
+    print_requests(alloc, &index, zone, lines, times, out)
 }
 
-// Prints the board of each line that is not empty. All were judged.
+// Prints the board of each line that is not empty, from an index of the feed. All were judged.
 fn print_requests<'w, O: Out>(
     alloc: Global,
-    feed: &Feed,
+    index: &StopIndex<'_>,
     zone: &Zone,
     lines: &[&str],
     times: Times,
     out: &mut O,
 ) -> Result<(), Refusal<'w>>
-    requires { fault_in (requests_in (content_of feed.now) (zone_origin zone.now) times
+    requires indexed { times ≡ index.now.times }
+    requires known { fault_in (requests_in (content_of index.now.feed) (zone_origin zone.now) times
         (numbered_from 1 (map (λ l. l.now) lines.now))) ≡ None }
-    ensures printed { OnOk result (PrintsRequests (content_of feed.now) zone.now
-        (requests_in (content_of feed.now) (zone_origin zone.now) times
+    ensures printed { OnOk result (PrintsRequests (content_of index.now.feed) zone.now
+        (requests_in (content_of index.now.feed) (zone_origin zone.now) times
         (numbered_from 1 (map (λ l. l.now) lines.now)))
         (O.told out.old) (O.told out.new)) }
-    ensures cut_short { IfErr result (EndsRequests (content_of feed.now) zone.now
-        (requests_in (content_of feed.now) (zone_origin zone.now) times
+    ensures cut_short { IfErr result (EndsRequests (content_of index.now.feed) zone.now
+        (requests_in (content_of index.now.feed) (zone_origin zone.now) times
         (numbered_from 1 (map (λ l. l.now) lines.now)))
         (O.told out.old) (O.told out.new)) }
     ensures refused { IfErr result (IsSendingCause (O.failure_count out.old)
@@ -168,7 +170,7 @@ fn print_requests<'w, O: Out>(
         let Some(request) = read_request(line, times) else {
             continue;
         };
-        print_request(alloc, feed, zone, &request, out)?;
+        print_request(alloc, index, zone, &request, out)?;
     }
     Ok(())
 }
@@ -176,36 +178,38 @@ fn print_requests<'w, O: Out>(
 // Prints the heading and the board of a request.
 fn print_request<'w, O: Out>(
     alloc: Global,
-    feed: &Feed,
+    index: &StopIndex<'_>,
     zone: &Zone,
     request: &LineRequest<'_>,
     out: &mut O,
 ) -> Result<(), Refusal<'w>>
+    requires times { request.now.values.times ≡ index.now.times }
     requires from { IsSound request.now.values.from }
     requires until { IsSound request.now.values.until }
-    ensures printed { OnOk result (PrintsOne (content_of feed.now) zone.now
+    ensures printed { OnOk result (PrintsOne (content_of index.now.feed) zone.now
         (stop_request_of request.now) (O.told out.old) (O.told out.new)) }
-    ensures cut_short { IfErr result (EndsOne (content_of feed.now) zone.now
+    ensures cut_short { IfErr result (EndsOne (content_of index.now.feed) zone.now
         (stop_request_of request.now) (O.told out.old) (O.told out.new)) }
     ensures refused { IfErr result (IsSendingCause (O.failure_count out.old)
         (O.failure_count out.new)) }
     ensures grows { O.failure_count out.old ≤ O.failure_count out.new }
     ensures no_failure { OnOk result (O.failure_count out.new ≡ O.failure_count out.old) }
 {
-    let mut board = open(alloc, feed, zone, request)?;
+    let mut board = open(alloc, index, zone, request)?;
     print_opened(alloc, &mut board, request, out)
 }
 
 // The board of a request, whose line was judged: its stop is known, and it does not end before it begins.
 fn open<'a>(
     alloc: Global,
-    feed: &'a Feed,
+    index: &StopIndex<'a>,
     zone: &'a Zone,
     request: &LineRequest<'_>,
 ) -> Result<Board<'a>, OutOfMemory>
+    requires times { request.now.values.times ≡ index.now.times }
     requires from { IsSound request.now.values.from }
     requires until { IsSound request.now.values.until }
-    ensures board { IfOk result (λ board. ListsBoard (content_of feed.now) zone.now
+    ensures board { IfOk result (λ board. ListsBoard (content_of index.now.feed) zone.now
         request.now.texts.stop.now (request_of request.now.values) board.rest) }
     ensures zone { IfOk result (λ board. board.zone ≡ zone.now) }
 {
@@ -214,14 +218,13 @@ fn open<'a>(
         from: values.from.instant(alloc, zone)?,
         until: values.until.instant(alloc, zone)?,
     };
-    match Board::open(
+    match Board::open_indexed(
         alloc,
-        feed,
+        index,
         zone,
         request.texts.stop,
         span,
         values.after.as_ref(),
-        values.times,
     ) {
         Ok(board) => Ok(board),
         Err(_) => Err(OutOfMemory),

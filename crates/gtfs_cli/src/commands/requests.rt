@@ -98,6 +98,7 @@ fn lies_before(alloc: Global, zone: &Zone, values: &Values<'_>) -> Result<bool, 
 // What a line asks for. None where it has too few or too many fields, or a bad value, so also where it is empty.
 pub(super) fn read_request<'w>(line: &'w str, times: Times) -> Option<LineRequest<'w>>
     ensures request { option_map stop_request_of result ≡ stop_request times line.now }
+    ensures times { IfSome result (λ q. q.values.times ≡ times) }
     ensures from { IfSome result (λ q. IsSound q.values.from) }
     ensures until { IfSome result (λ q. IsSound q.values.until) }
 {
@@ -113,6 +114,7 @@ pub(super) fn read_request<'w>(line: &'w str, times: Times) -> Option<LineReques
 // The values of the texts of a request. None where one is bad.
 fn read_request_values<'w>(texts: &RequestTexts<'w>, times: Times) -> Option<Values<'w>>
     ensures values { option_map request_of result ≡ request_from times (request_texts_of texts.now) }
+    ensures times { IfSome result (λ v. v.times ≡ times) }
     ensures from { IfSome result (λ v. IsSound v.from) }
     ensures until { IfSome result (λ v. IsSound v.until) }
 {

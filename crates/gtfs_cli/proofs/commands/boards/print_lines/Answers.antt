@@ -1,8 +1,10 @@
-use Rattle.std.proofs.Common.{◌≡◌, ◌∙◌, ap, inl, refl, sym, map, Some, None}
+use Rattle.std.proofs.Common.{◌≡◌, ◌∙◌, ap, inl, refl, subst, sym, map, Some, None}
+use Rattle.std.specs.Prelude.{IfErr, OnOk}
 use Rattle.std.proofs.lemmas.Result.{IfErr-weaker}
 use Rattle.gtfs_days.specs.Zone.{zone_origin}
 use Rattle.gtfs_rows.specs.Views.{content_of_parts}
-use Rattle.gtfs_cli.specs.ManyBoards.{EndsRequests, IsRequestsFault}
+use Rattle.gtfs_rows.specs.declared.parts.Parts.{Parts as Feed}
+use Rattle.gtfs_cli.specs.ManyBoards.{EndsRequests, IsRequestsFault, PrintsRequests}
 use Rattle.gtfs_cli.specs.Refusals.{TellsOutput}
 use Rattle.gtfs_cli.specs.declared.commands.refusal.Refusal.TheVariants.{OutOfMemory}
 use Rattle.gtfs_cli.proofs.Endings.{told-up}
@@ -41,6 +43,20 @@ returns-in-Some-clause-refused g c =
     let f = content_of_parts c.args.feed.now in
     let z = c.args.zone.now in
     refused_by (asked_from f (zone_origin z) c.args.times 1 (map (λ l. l.now) c.args.lines.now)) c.in-Some.fault (sym c.in-Some.is ∙ c.in_ok-fault.ensures)
+
+pub returns-clause-printed : goal.returns-clause-printed
+returns-clause-printed g c =
+    let z = c.args.zone.now in
+    let texts = map (λ l. l.now) c.args.lines.now in
+    subst (λ (x : Feed). OnOk c.print_requests.result (PrintsRequests (content_of_parts x) z (asked_from (content_of_parts x) (zone_origin z) c.args.times 1 texts)
+    (g.O.Out.told c.args.out.now) (g.O.Out.told c.print_requests.new.out))) c.in_ok-index.ensures.feed c.print_requests.ensures.printed
+
+pub returns-clause-cut_short : goal.returns-clause-cut_short
+returns-clause-cut_short g c =
+    let z = c.args.zone.now in
+    let texts = map (λ l. l.now) c.args.lines.now in
+    subst (λ (x : Feed). IfErr c.print_requests.result (EndsRequests (content_of_parts x) z (asked_from (content_of_parts x) (zone_origin z) c.args.times 1 texts)
+    (g.O.Out.told c.args.out.now) (g.O.Out.told c.print_requests.new.out))) c.in_ok-index.ensures.feed c.print_requests.ensures.cut_short
 
 pub returns-clause-refused : goal.returns-clause-refused
 returns-clause-refused g c =

@@ -13,7 +13,7 @@ use Rattle.gtfs_cli.proofs.commands.boards.print_request.Goals as goal
 
 pub returns-in_err-board-clause-cut_short : goal.returns-in_err-board-clause-cut_short
 returns-in_err-board-clause-cut_short g c =
-    let f = content_of_parts c.args.feed.now in
+    let f = content_of_parts c.args.index.now.feed in
     let z = c.args.zone.now in
     let q = stop_request_of c.args.request.now in
     let told = g.O.Out.told c.args.out.now in
@@ -26,7 +26,7 @@ returns-in_err-board-clause-refused g c =
 
 pub returns-clause-printed : goal.returns-clause-printed
 returns-clause-printed g c =
-    let f = content_of_parts c.args.feed.now in
+    let f = content_of_parts c.args.index.now.feed in
     let q = stop_request_of c.args.request.now in
     let same = c.in_ok-board.ensures.zone in
     let lists = subst (λ (z : Zone). ListsBoard f z c.args.request.now.texts.stop.now (request_of c.args.request.now.values) c.in_ok-board.board.rest) (sym same) c.in_ok-board.ensures.board in
@@ -35,7 +35,7 @@ returns-clause-printed g c =
 
 pub returns-clause-cut_short : goal.returns-clause-cut_short
 returns-clause-cut_short g c =
-    let f = content_of_parts c.args.feed.now in
+    let f = content_of_parts c.args.index.now.feed in
     let q = stop_request_of c.args.request.now in
     let same = c.in_ok-board.ensures.zone in
     let lists = subst (λ (z : Zone). ListsBoard f z c.args.request.now.texts.stop.now (request_of c.args.request.now.values) c.in_ok-board.board.rest) (sym same) c.in_ok-board.ensures.board in

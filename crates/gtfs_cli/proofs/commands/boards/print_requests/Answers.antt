@@ -13,16 +13,16 @@ use Rattle.gtfs_cli.proofs.commands.boards.print_requests.Goals as goal
 
 pub loop-line-init : goal.loop-line-init
 loop-line-init g c =
-    let f = content_of_parts c.args.feed.now in
+    let f = content_of_parts c.args.index.now.feed in
     record {
-      printed = none_printed f c.args.zone.now c.args.times (map (λ x. x.now) c.args.lines.now) (g.O.Out.told c.args.out.now) c.requires;
+      printed = none_printed f c.args.zone.now c.args.times (map (λ x. x.now) c.args.lines.now) (g.O.Out.told c.args.out.now) c.requires.known;
       grows = omega arith;
       no_failure = refl;
     }
 
 pub loop-line-preserved : goal.loop-line-preserved
 loop-line-preserved g c =
-    let f = content_of_parts c.args.feed.now in
+    let f = content_of_parts c.args.index.now.feed in
     let z = c.args.zone.now in
     let times = c.args.times in
     let xs = c.args.lines.now in
@@ -39,7 +39,7 @@ loop-line-preserved g c =
 
 pub loop-line-preserved-in_default : goal.loop-line-preserved-in_default
 loop-line-preserved-in_default g c =
-    let f = content_of_parts c.args.feed.now in
+    let f = content_of_parts c.args.index.now.feed in
     let z = c.args.zone.now in
     let times = c.args.times in
     let xs = c.args.lines.now in
@@ -56,13 +56,13 @@ loop-line-preserved-in_default g c =
 
 pub returns-clause-printed : goal.returns-clause-printed
 returns-clause-printed g c =
-    let f = content_of_parts c.args.feed.now in
+    let f = content_of_parts c.args.index.now.feed in
     let xs = c.args.lines.now in
     printed_all f c.args.zone.now c.args.times (map (λ x. x.now) xs) (g.O.Out.told c.args.out.now) xs c.loop-line.line-index _ c.loop-line-test.false c.loop-line.invariant.printed
 
 pub returns-in_err-print_request-clause-cut_short : goal.returns-in_err-print_request-clause-cut_short
 returns-in_err-print_request-clause-cut_short g c =
-    let f = content_of_parts c.args.feed.now in
+    let f = content_of_parts c.args.index.now.feed in
     let z = c.args.zone.now in
     let times = c.args.times in
     let xs = c.args.lines.now in
