@@ -23,20 +23,3 @@ returns-in-Ok-clause-few g c = so-many 1 1 (g.F.Folders.calls c.args.folders.now
 
 pub returns-in-Ok-clause-last : goal.returns-in-Ok-clause-last
 returns-in-Ok-clause-last g c = λ differ. absurd (differ c.in-Ok.ensures.no_failure)
-
-pub returns-in-Err-clause-told : goal.returns-in-Err-clause-told
-returns-in-Err-clause-told g c =
-    c.of_writing.ensures.told (g.F.Folders.failure_count c.args.folders.now) (g.F.Folders.failure_count c.write.new.self) c.in-Err.ensures.counts_fault
-
-pub returns-in-Err-clause-few : goal.returns-in-Err-clause-few
-returns-in-Err-clause-few g c = so-many 1 1 (g.F.Folders.calls c.args.folders.now) (g.F.Folders.calls c.write.new.self) (omega arith) c.write.ensures.called
-
-pub returns-in-Err-clause-last : goal.returns-in-Err-clause-last
-returns-in-Err-clause-last g c =
-    let old = g.F.Folders.held c.args.folders.now in
-    let new = g.F.Folders.held c.write.new.self in
-    let x = g.F.Folders.failure_count c.args.folders.now in
-    let y = g.F.Folders.failure_count c.write.new.self in
-    last-of c.in-Err.fault x y _ c.in-Err.ensures.counts_fault
-    (λ is. absurd (subst (λ (f : FolderFault). RefusesWrite f old new c.args.dir.now c.name.result.now x y) is c.in-Err.ensures.refused))
-    (λ is. c.in-Err.ensures.ends (ap (λ (f : FolderFault). Err f) is))
