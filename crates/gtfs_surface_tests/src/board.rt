@@ -100,7 +100,7 @@ fn key<'a>(key: Key<'a>) -> (i64, &'a str, u32, u32, Day) {
     (instant, trip, run, seq, day)
 }
 
-fn departure<'a>(departure: Departure<'a>) -> (Key<'a>, &'a str, &'a str, &'a str, Mark) {
+fn departure<'b, 'a>(departure: &'b Departure<'a>) -> (&'b &'a str, &'b &'a str, &'b &'a str) {
     let Departure {
         key,
         stop,
@@ -108,8 +108,11 @@ fn departure<'a>(departure: Departure<'a>) -> (Key<'a>, &'a str, &'a str, &'a st
         headsign,
         mark,
     } = departure;
-    (key, stop, route, headsign, mark)
+    key_and_mark(key, mark);
+    (stop, route, headsign)
 }
+
+fn key_and_mark(_key: &Key<'_>, _mark: &Mark) {}
 
 fn sheet<'b, 'a>(sheet: &'b Sheet<'a>) -> (&'b &'a str, &'b Option<u8>, &'b Day) {
     let Sheet {
