@@ -1,9 +1,7 @@
 -- Refusals, when they come, and the status that each gives.
-use Rattle.std.proofs.Common.{◌≡◌, ℕ, ◌<◌, ◌≤◌, length, inl, inr, Bool, true, false, List, Option, Result, Ok, Err, sym, subst, ◌∙◌, arith}
+use Rattle.std.proofs.Common.{◌≡◌, ℕ, ◌≤◌, inl, inr, Bool, true, false, List, Option, Result, Ok, Err, sym, subst, ◌∙◌, arith}
 use Rattle.std.specs.Prelude.{IfErr, IsErrAnd}
 use Rattle.gtfs_devices.specs.Folder.{Store}
-use Rattle.gtfs_devices.specs.declared.folders.FolderFault.{FolderFault}
-use Rattle.gtfs_devices.specs.declared.folders.FolderFault.TheVariants as faults
 use Rattle.clap.specs.Words.{Text}
 use Rattle.gtfs_cli.specs.Running.{AsksCheck, AsksFor, AsksTimetable, Failures, HasValues, KeepsFromReading}
 use Rattle.gtfs_cli.specs.Statuses.{IsBadUsage, IsCauseOf, IsDeviceFault}

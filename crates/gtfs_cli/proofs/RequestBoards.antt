@@ -1,5 +1,5 @@
 -- The boards of requests, one after another.
-use Rattle.std.proofs.Common.{◌≡◌, ◌∙◌, ℕ, ◌+◌, ◌<◌, ◌≤◌, List, [], ◌∷◌, ◌++◌, length, map, drop, Option, Some, None, Result, Ok, Err, inl, inr, refl, sym, ap, subst, append-nil, append_assoc, get_or}
+use Rattle.std.proofs.Common.{◌≡◌, ◌∙◌, ℕ, ◌+◌, ◌<◌, ◌≤◌, List, [], ◌∷◌, ◌++◌, length, map, drop, Option, Some, None, Ok, inl, inr, refl, sym, ap, subst, append-nil, append_assoc, get_or}
 use Rattle.std.specs.Borrow.{Bor}
 use Rattle.std.specs.Prelude.{IsOkAnd}
 use Rattle.std.specs.Io.KnownBytes.{Appends}
@@ -11,7 +11,7 @@ use Rattle.gtfs_rows.specs.Content.{Content}
 use Rattle.gtfs_board.specs.Lines.{Listed}
 use Rattle.gtfs_board.specs.Page.{AreWritten, IsCutShort, IsPage, IsStopped}
 use Rattle.gtfs_times.specs.declared.times.Times.{Times}
-use Rattle.gtfs_cli.specs.Boards.{ListsBoard, OfBoard}
+use Rattle.gtfs_cli.specs.Boards.{ListsBoard}
 use Rattle.gtfs_cli.specs.ManyBoards.{AreAllBoards, AreBoards, BeginsBoard, BeginsWhole, EndsOne, EndsRequests, IsTextOf, PrintsOne, PrintsRequests, StopsIn}
 use Rattle.gtfs_cli.specs.Requests.{fault_in, heading_of, stop_request, StopRequest}
 use Rattle.gtfs_cli.specs.Sending.{SendsBeginning}

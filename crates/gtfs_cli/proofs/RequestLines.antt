@@ -1,5 +1,5 @@
 -- What the lines of a requests' file ask for, line after line.
-use Rattle.std.proofs.Common.{◌≡◌, ◌∙◌, ℕ, ◌+◌, ◌<◌, ◌≤◌, ◌==◌, Bool, true, false, not, List, [], ◌∷◌, length, map, drop, Option, Some, None, Result, Ok, Err, refl, sym, ap, arith, get_or}
+use Rattle.std.proofs.Common.{◌≡◌, ◌∙◌, ℕ, ◌+◌, ◌<◌, ◌≤◌, ◌==◌, Bool, true, false, not, List, ◌∷◌, length, map, drop, Option, Some, None, Result, Ok, Err, refl, sym, ap, get_or}
 use Rattle.std.specs.Borrow.{Bor}
 use Rattle.std.specs.Prelude.{int_lt, is_some, if◌then◌else◌}
 use Rattle.std.proofs.lemmas.Bool.{eqb-true}
@@ -11,7 +11,7 @@ use Rattle.gtfs_times.specs.declared.times.Times.{Times}
 use Rattle.gtfs_cli.specs.Requests.{all_or_first, fault_in, judged, numbered_from, onto_all, requests_in, stop_request, StopRequest}
 use Rattle.gtfs_cli.specs.Running.{instant_at}
 use Rattle.gtfs_cli.specs.declared.commands.request_fault.RequestFault.{RequestFault}
-use Rattle.gtfs_cli.specs.declared.commands.request_fault.RequestFault.TheVariants.{BadRequest, UnknownStop, UntilBeforeFrom}
+use Rattle.gtfs_cli.specs.declared.commands.request_fault.RequestFault.TheVariants.{UnknownStop, UntilBeforeFrom}
 
 -- what a line asks for, and then the others
 abbrev pub then_others : Result StopRequest RequestFault → Result (List StopRequest) RequestFault → Result (List StopRequest) RequestFault

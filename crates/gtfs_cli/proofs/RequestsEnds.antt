@@ -1,5 +1,5 @@
 -- How boards end by what the folders hold under the path of their requests' file.
-use Rattle.std.proofs.Common.{◌≡◌, ◌⊎◌, inl, inr, subst, ℕ, List, Some}
+use Rattle.std.proofs.Common.{◌⊎◌, inl, inr, subst, ℕ, List, Some}
 use Rattle.std.specs.Prelude.{IsUtf8}
 use Rattle.gtfs_devices.specs.Folder.{Store}
 use Rattle.gtfs_table.specs.Tables.{without_marks}

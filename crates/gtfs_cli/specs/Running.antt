@@ -8,7 +8,6 @@ use Rattle.clap.specs.Words.{Text, subcommand_of, takes}
 use Rattle.gtfs_field.specs.Kinds.{count_of, date_of, instant_of}
 use Rattle.gtfs_days.specs.Zone.{zone_origin, IsTooLong, IsUnreadable, IsZoneOf}
 use Rattle.gtfs_days.specs.declared.zone.Zone.{Zone}
-use Rattle.gtfs_devices.specs.Device.{Rises}
 use Rattle.gtfs_table.specs.Files.{file_name}
 use Rattle.gtfs_devices.specs.Folder.{Store, Finds, HasFileOver, LacksFolder}
 use Rattle.gtfs_table.specs.Reading.{kept_files, AllHoldWithin, HoldsDataset}
@@ -22,8 +21,6 @@ use Rattle.gtfs_rows.specs.Key.{Key}
 use Rattle.gtfs_board.specs.KeyTexts.{key_of}
 use Rattle.gtfs_times.specs.declared.times.Times.{Times}
 use Rattle.gtfs_cli.specs.Options.{first_of_bad, service_day, times_of}
-use Rattle.gtfs_cli.specs.MergeOptions.{HasBadMergeValue}
-use Rattle.gtfs_cli.specs.TimetableOptions.{HasBadTimetableValue}
 use Rattle.gtfs_words.specs.Words.{gtfs_app, boards_texts_of, texts_of, timetable_texts_of, BoardTexts, BoardsTexts, IsCommandOf, MergeTexts, TimetableTexts, merge_texts_of}
 use Rattle.gtfs_cli.specs.declared.commands.moments.Moment.{Moment}
 use Rattle.gtfs_cli.specs.declared.commands.moments.Moment.TheVariants.{Instant, ServiceDay}

@@ -1,4 +1,4 @@
-use Rattle.std.proofs.Common.{◌∙◌, inl, inr, refl, subst, sym, arith, List, ℕ}
+use Rattle.std.proofs.Common.{◌∙◌, inl, inr, subst, sym, arith, List, ℕ}
 use Rattle.std.proofs.lemmas.Result.{IfErr-weaker}
 use Rattle.gtfs_table.proofs.FolderFacts.{calls-more}
 use Rattle.gtfs_table.proofs.StoreFacts.{on_ok-always, on_ok-map}

@@ -1,4 +1,4 @@
-use Rattle.std.proofs.Common.{◌≡◌, ◌∙◌, ap, map, inl, refl, subst, List, ℕ, Result}
+use Rattle.std.proofs.Common.{◌≡◌, ◌∙◌, ap, map, inl, refl, subst, List, Result}
 use Rattle.std.specs.Prelude.{IfErr, OnOk}
 use Rattle.std.specs.Str.Lines.{lines}
 use Rattle.std.proofs.lemmas.Result.{IfErr-weaker}

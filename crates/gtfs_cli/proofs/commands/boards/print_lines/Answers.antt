@@ -1,4 +1,4 @@
-use Rattle.std.proofs.Common.{◌≡◌, ◌∙◌, ap, inl, refl, subst, sym, map, Some, None}
+use Rattle.std.proofs.Common.{◌∙◌, inl, refl, subst, sym, map}
 use Rattle.std.specs.Prelude.{IfErr, OnOk}
 use Rattle.std.proofs.lemmas.Result.{IfErr-weaker}
 use Rattle.gtfs_days.specs.Zone.{zone_origin}

@@ -1,4 +1,4 @@
-use Rattle.std.proofs.Common.{◌≡◌, ◌∙◌, ◌+◌, ap, sym, refl, arith, map, Some}
+use Rattle.std.proofs.Common.{◌∙◌, ◌+◌, ap, sym, refl, arith, map}
 use Rattle.std.specs.Prelude.{option_map}
 use Rattle.gtfs_days.specs.Zone.{zone_origin}
 use Rattle.gtfs_rows.specs.Views.{content_of_parts}

@@ -1,9 +1,7 @@
-use Rattle.std.proofs.Common.{ap, refl, subst, arith, Err}
-use Rattle.gtfs_devices.specs.Folder.{RefusesWrite}
-use Rattle.gtfs_devices.specs.declared.folders.FolderFault.{FolderFault}
+use Rattle.std.proofs.Common.{refl, arith}
 use Rattle.gtfs_cli.specs.Refusals.{TellsFolders}
 use Rattle.gtfs_cli.specs.declared.commands.refusal.Refusal.TheVariants.{OutOfMemory}
-use Rattle.gtfs_cli.proofs.CallsMade.{last-of, no-calls, so-many}
+use Rattle.gtfs_cli.proofs.CallsMade.{no-calls, so-many}
 use Rattle.gtfs_cli.proofs.Endings.{told-up}
 use Rattle.gtfs_cli.proofs.commands.merge.write_file.Goals as goal
 

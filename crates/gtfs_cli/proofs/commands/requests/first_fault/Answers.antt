@@ -1,4 +1,4 @@
-use Rattle.std.proofs.Common.{◌≡◌, ◌∙◌, ◌+◌, ap, sym, arith, refl}
+use Rattle.std.proofs.Common.{◌∙◌, ◌+◌, sym, refl}
 use Rattle.gtfs_days.specs.Zone.{zone_origin}
 use Rattle.gtfs_rows.specs.Views.{content_of_parts}
 use Rattle.gtfs_cli.proofs.RequestLines.{fault_at, fault_past, fault_past_empty, no_fault_left}

@@ -1,4 +1,4 @@
-use Rattle.std.proofs.Common.{◌≡◌, ◌∙◌, not, Some, sym, ap}
+use Rattle.std.proofs.Common.{◌∙◌, not, sym, ap}
 use Rattle.std.specs.Prelude.{option_map}
 use Rattle.gtfs_days.specs.Zone.{zone_origin}
 use Rattle.gtfs_rows.specs.Views.{content_of_parts}

@@ -1,4 +1,4 @@
-use Rattle.std.proofs.Common.{◌≡◌, ◌∙◌, false, Some, sym, ap}
+use Rattle.std.proofs.Common.{◌≡◌, ◌∙◌, false, sym, ap}
 use Rattle.std.specs.Prelude.{is_some, option_map}
 use Rattle.std.specs.List.{slice_get}
 use Rattle.std.specs.Option.{option_and_then}
