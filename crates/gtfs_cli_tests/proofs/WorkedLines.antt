@@ -10,9 +10,6 @@ use Rattle.gtfs_rows.specs.Key.{Key}
 use Rattle.gtfs_board.specs.KeyTexts.{key_text}
 use Rattle.gtfs_board.specs.Lines.{clock_text, line_text}
 use Rattle.gtfs_board.proofs.TextVectors.{same_digits}
-use Rattle.gtfs_cli.specs.Messages.{message}
-use Rattle.gtfs_cli.specs.declared.commands.refusal.Refusal.TheVariants.{Line}
-use Rattle.gtfs_cli.specs.declared.commands.request_fault.RequestFault.TheVariants as requests
 
 -- ---- 1 April 2024 is day 19814
 
@@ -71,17 +68,3 @@ line-frequency : line_text (record { year = pos 2024; month = 4; day = 1; hour =
     ≡ codes "@1711958400/T1/28800/1/20240401\t2024-04-01 10:00:00+02:00\tS1\t10\tHarbour\tf\n"
 unfolding digits
 line-frequency = ap (λ t. t ++ codes "\t2024-04-01 10:00:00+02:00\tS1\t10\tHarbour\tf\n") key
-
--- ---- lines for the error output
-
-bad-request : message (Line (requests.BadRequest 12)) ≡ codes "gtfs: bad request in line 12\n"
-unfolding digits
-bad-request = refl
-
-unknown-stop : message (Line (requests.UnknownStop 1)) ≡ codes "gtfs: unknown stop in line 1\n"
-unfolding digits
-unknown-stop = refl
-
-until-before-from : message (Line (requests.UntilBeforeFrom 305)) ≡ codes "gtfs: until lies before from in line 305\n"
-unfolding digits
-until-before-from = refl
