@@ -40,10 +40,6 @@ shaped has_shape r = if has_shape then r else Err Form
 abbrev pub count_of : List ℕ → Result ℕ FieldFault
 count_of t = shaped (is_number t) (within (nat_le (number t) 2_147_483_647) (number t))
 
--- a count that is not 0
-abbrev pub positive_of : List ℕ → Result ℕ FieldFault
-positive_of t = shaped (is_number t) (within (nat_le 1 (number t) && nat_le (number t) 2_147_483_647) (number t))
-
 -- a choice: a count in one of these ranges of numbers, each given by its first and its last
 abbrev pub is_in_ranges : List (ℕ × ℕ) → ℕ → Bool
 is_in_ranges ranges n = list_any (λ r. nat_le r.0 n && nat_le n r.1) ranges
