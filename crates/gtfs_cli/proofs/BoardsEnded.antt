@@ -12,7 +12,8 @@ use Rattle.gtfs_cli.specs.FileRead.{IsPathCause, IsZoneCause}
 use Rattle.gtfs_cli.specs.ManyBoards.{IsBoardsCause, IsLineCause, IsRequestsCause}
 use Rattle.gtfs_cli.specs.Messages.{message}
 use Rattle.gtfs_cli.specs.Refusals.{request_status, status_in, status_of, IsReadingCause}
-use Rattle.gtfs_cli.specs.Running.{AsksBoards, Failures}
+use Rattle.gtfs_cli.specs.Asking.{AsksBoards}
+use Rattle.gtfs_cli.specs.Failures.{Failures}
 use Rattle.gtfs_cli.specs.Sending.{Output, Sends}
 use Rattle.gtfs_cli.specs.Statuses.{HasBadLine, IsBadUsage, IsDeviceFault, KeepsFromBoards, KeepsFromFile}
 use Rattle.gtfs_cli.specs.declared.commands.refusal.Refusal.{Refusal}

@@ -23,7 +23,7 @@ use Rattle.gtfs_cli.specs.CommandEnd.{answer_of, EndsCommand}
 use Rattle.gtfs_cli.specs.ManyBoards.{EndsBoards, IsBoardsCause, PrintsBoards}
 use Rattle.gtfs_cli.specs.Merges.{EndsMerge, IsMergeCause, PrintsMerge}
 use Rattle.gtfs_cli.specs.Refusals.{IsCause, IsCauseInWords, IsCheckCause, TellsFailure}
-use Rattle.gtfs_cli.specs.Running.{FailedNowhere, Failures}
+use Rattle.gtfs_cli.specs.Failures.{FailedNowhere, Failures}
 use Rattle.gtfs_cli.specs.Timetables.{EndsTimetable, IsTimetableCause, PrintsTimetable}
 use Rattle.gtfs_cli.specs.WordsRun.{IsAnswered, SendsAnswer}
 use Rattle.gtfs_cli.specs.declared.commands.refusal.Refusal.{Refusal}

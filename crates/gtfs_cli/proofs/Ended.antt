@@ -8,7 +8,7 @@ use Rattle.gtfs_cli.specs.BoardRun.{IsBoardRun, IsListed, IsUnlisted}
 use Rattle.gtfs_words.specs.Words.{BoardTexts}
 use Rattle.gtfs_cli.specs.Messages.{message}
 use Rattle.gtfs_cli.specs.Refusals.{status_in, status_of}
-use Rattle.gtfs_cli.specs.Running.{Failures}
+use Rattle.gtfs_cli.specs.Failures.{Failures}
 use Rattle.gtfs_cli.specs.Sending.{Output, Sends, SendsBeginning}
 use Rattle.gtfs_cli.specs.declared.commands.refusal.Refusal.{Refusal}
 use Rattle.gtfs_cli.specs.declared.commands.refusal.Refusal.TheVariants.{Line}

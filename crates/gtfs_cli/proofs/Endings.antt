@@ -3,7 +3,10 @@ use Rattle.std.proofs.Common.{◌≡◌, ℕ, ◌≤◌, inl, inr, Bool, true, f
 use Rattle.std.specs.Prelude.{IfErr, IsErrAnd}
 use Rattle.gtfs_devices.specs.Folder.{Store}
 use Rattle.clap.specs.Words.{Text}
-use Rattle.gtfs_cli.specs.Running.{AsksCheck, AsksFor, AsksTimetable, Failures, HasValues, KeepsFromReading}
+use Rattle.gtfs_cli.specs.OptionValues.{HasValues}
+use Rattle.gtfs_cli.specs.Asking.{AsksCheck, AsksFor, AsksTimetable}
+use Rattle.gtfs_cli.specs.Causes.{KeepsFromReading}
+use Rattle.gtfs_cli.specs.Failures.{Failures}
 use Rattle.gtfs_cli.specs.Statuses.{IsBadUsage, IsCauseOf, IsDeviceFault}
 use Rattle.gtfs_words.specs.Words.{texts_of, BoardTexts, TimetableTexts}
 use Rattle.gtfs_cli.specs.TimetableOptions.{HasTimetableValues}

@@ -6,7 +6,8 @@ use Rattle.gtfs_devices.specs.declared.folders.FolderFault.TheVariants as faults
 use Rattle.gtfs_words.specs.Words.{BoardTexts}
 use Rattle.gtfs_cli.specs.FileRead.{IsFileCause, IsPathCause, IsZoneCause}
 use Rattle.gtfs_cli.specs.Refusals.{IsCause}
-use Rattle.gtfs_cli.specs.Running.{HasValues, HoldsPassing, IsFileOf}
+use Rattle.gtfs_cli.specs.OptionValues.{HasValues}
+use Rattle.gtfs_cli.specs.HeldFiles.{HoldsPassing, IsFileOf}
 use Rattle.gtfs_cli.specs.declared.commands.refusal.Refusal.{Refusal}
 use Rattle.gtfs_cli.specs.declared.commands.refusal.Refusal.TheVariants.{NotThere, Unreadable, OverLimit, NoZone, OutOfMemory}
 use Rattle.gtfs_cli.proofs.Endings.{counts}

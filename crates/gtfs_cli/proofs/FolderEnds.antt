@@ -3,7 +3,7 @@ use Rattle.std.proofs.Common.{◌⊎◌, ℕ, List, Some, codes}
 use Rattle.gtfs_devices.specs.Folder.{Store}
 use Rattle.gtfs_cli.specs.Messages.{line_of}
 use Rattle.gtfs_cli.specs.Outcomes.{Outcome}
-use Rattle.gtfs_cli.specs.Running.{HoldsErrors, HoldsKeptFile, HoldsPassing, LacksFeed}
+use Rattle.gtfs_cli.specs.HeldFiles.{HoldsErrors, HoldsKeptFile, HoldsPassing, LacksFeed}
 use Rattle.gtfs_cli.proofs.Apart.{either, from_both, one_as, Apart, EndsAs, One}
 use Rattle.gtfs_cli.proofs.Outcomes.{not_errors, not_lacking, not_lacking_over, not_over, not_there, over_limit, refused}
 

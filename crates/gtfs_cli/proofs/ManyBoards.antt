@@ -17,7 +17,8 @@ use Rattle.gtfs_cli.specs.ManyBoards.{AreAllBoards, BoardsSetting, BeginsBoard, 
 use Rattle.gtfs_cli.specs.Options.{times_of}
 use Rattle.gtfs_cli.specs.Refusals.{IsReadingCause}
 use Rattle.gtfs_cli.specs.Requests.{requests_of, StopRequest}
-use Rattle.gtfs_cli.specs.Running.{Failures, HoldsBytes, HoldsZone}
+use Rattle.gtfs_cli.specs.HeldFiles.{HoldsBytes, HoldsZone}
+use Rattle.gtfs_cli.specs.Failures.{Failures}
 use Rattle.gtfs_cli.specs.declared.commands.refusal.Refusal.{Refusal}
 use Rattle.gtfs_cli.specs.declared.commands.refusal.Refusal.TheVariants.{Unreadable, Line, OutputFailed, OutOfMemory}
 use Rattle.gtfs_cli.specs.declared.commands.request_fault.RequestFault.{RequestFault}

@@ -10,7 +10,10 @@ use Rattle.gtfs_cli.specs.MergeRun.{IsMerged, IsMergeRun, IsUnmerged}
 use Rattle.gtfs_cli.specs.Merges.{IsMergeCause, OfEither}
 use Rattle.gtfs_cli.specs.Messages.{message}
 use Rattle.gtfs_cli.specs.Refusals.{status_in, status_of}
-use Rattle.gtfs_cli.specs.Running.{AsksMerge, Failures, HoldsKeptFile, KeepsFromMerging, LacksFeed}
+use Rattle.gtfs_cli.specs.HeldFiles.{HoldsKeptFile, LacksFeed}
+use Rattle.gtfs_cli.specs.Asking.{AsksMerge}
+use Rattle.gtfs_cli.specs.Causes.{KeepsFromMerging}
+use Rattle.gtfs_cli.specs.Failures.{Failures}
 use Rattle.gtfs_cli.specs.Statuses.{IsBadUsage, IsDeviceFault}
 use Rattle.gtfs_cli.specs.Sending.{Output, Sends}
 use Rattle.gtfs_cli.specs.declared.commands.refusal.Refusal.{Refusal}

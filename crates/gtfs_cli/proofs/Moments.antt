@@ -16,7 +16,7 @@ use Rattle.gtfs_days.specs.Service.{first_service_day, is_service_day, last_serv
 use Rattle.clap.specs.Lexer.{strip_byte}
 use Rattle.gtfs_field.proofs.Numerals.{numerals}
 use Rattle.gtfs_cli.specs.Options.{service_day}
-use Rattle.gtfs_cli.specs.Running.{after_at}
+use Rattle.gtfs_cli.specs.OptionValues.{after_at}
 use Rattle.gtfs_board.specs.Span.{is_span}
 use Rattle.gtfs_board.specs.declared.span.Span.{Span}
 

@@ -20,7 +20,8 @@ use Rattle.gtfs_cli.specs.Boards.{OfBoard}
 use Rattle.gtfs_cli.specs.Messages.{line_of, message}
 use Rattle.gtfs_cli.specs.Outcomes.{none_failed, IsBoarded, IsBoardOutcome, Outcome}
 use Rattle.gtfs_cli.specs.Refusals.{status_of, IsCause}
-use Rattle.gtfs_cli.specs.Running.{first_bad, instant_at, EndsBeforeItBegins, HasValues, IsRequest, LacksStop, LiesBefore, Request, Setting}
+use Rattle.gtfs_cli.specs.OptionValues.{first_bad, instant_at, HasValues, IsRequest, Request}
+use Rattle.gtfs_cli.specs.BoardSetting.{EndsBeforeItBegins, LacksStop, LiesBefore, Setting}
 use Rattle.gtfs_cli.specs.declared.commands.refusal.Refusal.{Refusal}
 use Rattle.gtfs_cli.specs.declared.commands.refusal.Refusal.TheVariants.{BadValue, NotThere, Unreadable, OverLimit, HasErrors, NoZone, UnknownStop, UntilBeforeFrom, OutputFailed, OutOfMemory}
 use Rattle.gtfs_cli.proofs.Apart.{either, one_as, Apart, EndsAs, One}

@@ -17,7 +17,7 @@ use Rattle.gtfs_cli.specs.Options.{times_of}
 use Rattle.gtfs_cli.specs.Outcomes.{none_failed, AreMade, IsBoardsOutcome, Outcome}
 use Rattle.gtfs_cli.specs.Refusals.{request_status, status_of, IsReadingCause}
 use Rattle.gtfs_cli.specs.Requests.{heading_of, requests_of, StopRequest}
-use Rattle.gtfs_cli.specs.Running.{HoldsPassing}
+use Rattle.gtfs_cli.specs.HeldFiles.{HoldsPassing}
 use Rattle.gtfs_cli.specs.declared.commands.refusal.Refusal.{Refusal}
 use Rattle.gtfs_cli.specs.declared.commands.refusal.Refusal.TheVariants.{NotThere, Unreadable, OverLimit, HasErrors, NoZone, Line, OutputFailed, OutOfMemory}
 use Rattle.gtfs_cli.specs.declared.commands.request_fault.RequestFault.{RequestFault}

@@ -17,7 +17,7 @@ use Rattle.gtfs_board.specs.Span.{is_span}
 use Rattle.gtfs_board.specs.declared.key.Key.{Key as LentKey}
 use Rattle.gtfs_board.specs.declared.span.Span.{Span}
 use Rattle.gtfs_cli.specs.Boards.{GoesOut, ListsBoard, OfBoard}
-use Rattle.gtfs_cli.specs.Running.{instant_at, Request}
+use Rattle.gtfs_cli.specs.OptionValues.{instant_at, Request}
 
 -- a span that ends before it begins is bad
 backward : (s : Span) → s.until <ℤ s.from → is_span s ≡ false

@@ -20,7 +20,7 @@ use Rattle.gtfs_words.specs.Words.{TimetableTexts}
 use Rattle.gtfs_cli.specs.Messages.{line_of, message}
 use Rattle.gtfs_cli.specs.Outcomes.{none_failed, IsCheckOutcome, IsReported, IsTimetabled, IsTimetableOutcome, Outcome}
 use Rattle.gtfs_cli.specs.Refusals.{status_of, IsCheckCause}
-use Rattle.gtfs_cli.specs.Running.{HoldsErrors, HoldsKeptFile, HoldsTables, LacksFeed}
+use Rattle.gtfs_cli.specs.HeldFiles.{HoldsErrors, HoldsKeptFile, HoldsTables, LacksFeed}
 use Rattle.gtfs_cli.specs.TimetableOptions.{first_bad_timetable, HasTimetableValues, IsTimetableRequest, TimetableRequest}
 use Rattle.gtfs_cli.specs.Timetables.{timetable_text, IsTimetableCause, IsTimetableText, LacksRoute}
 use Rattle.gtfs_cli.specs.declared.commands.refusal.Refusal.{Refusal}

@@ -12,7 +12,10 @@ use Rattle.gtfs_board.specs.Page.{IsCutShort, IsStopped}
 use Rattle.gtfs_cli.specs.Boards.{request_of, AreValues, EndsBoard, EndsLines, GoesOut, HoldsFeed, IsFeedCause, IsLinesCause, IsOpeningCause, Lists, OfBoard}
 use Rattle.gtfs_words.specs.Words.{BoardTexts}
 use Rattle.gtfs_cli.specs.Refusals.{IsCause, IsFirstBad, IsReadingCause}
-use Rattle.gtfs_cli.specs.Running.{after_of, first_bad, limit_of, moment_of, FailedNowhere, Failures, HasValues, HoldsPassing, HoldsTables, HoldsZone, Request, Setting}
+use Rattle.gtfs_cli.specs.OptionValues.{after_of, first_bad, limit_of, moment_of, HasValues, Request}
+use Rattle.gtfs_cli.specs.HeldFiles.{HoldsPassing, HoldsTables, HoldsZone}
+use Rattle.gtfs_cli.specs.BoardSetting.{Setting}
+use Rattle.gtfs_cli.specs.Failures.{FailedNowhere, Failures}
 use Rattle.gtfs_cli.specs.declared.commands.moments.Moment.{Moment}
 use Rattle.gtfs_cli.specs.declared.commands.refusal.Refusal.{Refusal}
 use Rattle.gtfs_cli.specs.declared.commands.refusal.Refusal.TheVariants.{BadValue, HasErrors, UnknownStop, UntilBeforeFrom, OutputFailed, OutOfMemory}

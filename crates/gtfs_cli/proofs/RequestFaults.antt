@@ -10,7 +10,7 @@ use Rattle.gtfs_board.specs.Board.{is_stop}
 use Rattle.gtfs_board.proofs.Opened.{stop_none, stop_some}
 use Rattle.gtfs_times.specs.declared.times.Times.{Times}
 use Rattle.gtfs_cli.specs.Requests.{fault_in, judged, request_from, request_texts, RequestTexts, stop_request, StopRequest}
-use Rattle.gtfs_cli.specs.Running.{instant_at, Request}
+use Rattle.gtfs_cli.specs.OptionValues.{instant_at, Request}
 use Rattle.gtfs_cli.specs.declared.commands.request_fault.RequestFault.TheVariants.{UnknownStop, UntilBeforeFrom}
 
 -- the feed has the stop whose number is found, and no other

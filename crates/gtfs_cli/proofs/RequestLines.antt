@@ -9,7 +9,7 @@ use Rattle.gtfs_rows.specs.Departures.{Origins}
 use Rattle.gtfs_board.specs.Board.{is_stop}
 use Rattle.gtfs_times.specs.declared.times.Times.{Times}
 use Rattle.gtfs_cli.specs.Requests.{all_or_first, fault_in, judged, numbered_from, onto_all, requests_in, stop_request, StopRequest}
-use Rattle.gtfs_cli.specs.Running.{instant_at}
+use Rattle.gtfs_cli.specs.OptionValues.{instant_at}
 use Rattle.gtfs_cli.specs.declared.commands.request_fault.RequestFault.{RequestFault}
 use Rattle.gtfs_cli.specs.declared.commands.request_fault.RequestFault.TheVariants.{UnknownStop, UntilBeforeFrom}
 

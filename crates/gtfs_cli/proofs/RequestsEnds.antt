@@ -5,7 +5,7 @@ use Rattle.gtfs_devices.specs.Folder.{Store}
 use Rattle.gtfs_table.specs.Tables.{without_marks}
 use Rattle.gtfs_cli.specs.FileRead.{HoldsNoUtf8, HoldsUtf8}
 use Rattle.gtfs_cli.specs.Outcomes.{Outcome}
-use Rattle.gtfs_cli.specs.Running.{HoldsFile, LacksFile, NamesNoFile}
+use Rattle.gtfs_cli.specs.HeldFiles.{HoldsFile, LacksFile, NamesNoFile}
 use Rattle.gtfs_cli.proofs.Apart.{either, one_as, Apart, EndsAs, One}
 use Rattle.gtfs_cli.proofs.Outcomes.{not_there, over_limit}
 use Rattle.gtfs_cli.proofs.ZoneEnds.{lacks_bytes, lacks_nameless, lacks_over, nameless_bytes, nameless_over, not_readable, over_bytes, same_bytes, Lacking, Over, Unnamed}

@@ -11,7 +11,7 @@ use Rattle.gtfs_cli.specs.Messages.{message}
 use Rattle.gtfs_cli.specs.Outcomes.{none_failed, IsBoardsOutcome}
 use Rattle.gtfs_cli.specs.Refusals.{status_of, IsReadingCause}
 use Rattle.gtfs_cli.specs.RunEnds.{EndsAsOne, IsUnhindered}
-use Rattle.gtfs_cli.specs.Running.{Failures}
+use Rattle.gtfs_cli.specs.Failures.{Failures}
 use Rattle.gtfs_cli.specs.Sending.{Output}
 use Rattle.gtfs_cli.specs.declared.commands.refusal.Refusal.{Refusal}
 use Rattle.gtfs_cli.specs.declared.commands.refusal.Refusal.TheVariants.{NoZone, Unreadable, OutputFailed, OutOfMemory}

@@ -19,7 +19,7 @@ use Rattle.gtfs_cli.specs.Messages.{message}
 use Rattle.gtfs_cli.specs.Outcomes.{none_failed, IsBoardOutcome, IsCheckOutcome, IsMergeOutcome, IsTimetableOutcome}
 use Rattle.gtfs_cli.specs.Refusals.{status_of, IsCause, IsCheckCause}
 use Rattle.gtfs_cli.specs.RunEnds.{EndsAsOne, EndsWith, IsUnhindered, MergeEndsAsOne}
-use Rattle.gtfs_cli.specs.Running.{Failures}
+use Rattle.gtfs_cli.specs.Failures.{Failures}
 use Rattle.gtfs_cli.specs.Sending.{Output, Sends}
 use Rattle.gtfs_cli.specs.TimetableRun.{IsTimetableRefused, IsTimetableRun}
 use Rattle.gtfs_cli.specs.Timetables.{EndsTimetable, IsTimetableCause, PrintsTimetable}

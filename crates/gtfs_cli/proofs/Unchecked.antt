@@ -7,7 +7,7 @@ use Rattle.gtfs_cli.specs.CheckRun.{BeginsReport, EndsCheck, IsCheckRun, IsUnche
 use Rattle.gtfs_cli.specs.Refusals.{status_in, status_of, IsCheckCause}
 use Rattle.gtfs_cli.specs.Checking.{IsReportOf, IsSendingCause}
 use Rattle.gtfs_cli.specs.Messages.{message}
-use Rattle.gtfs_cli.specs.Running.{Failures}
+use Rattle.gtfs_cli.specs.Failures.{Failures}
 use Rattle.gtfs_cli.specs.Sending.{Output, Sends}
 use Rattle.gtfs_cli.specs.declared.commands.refusal.Refusal.{Refusal}
 use Rattle.gtfs_cli.specs.declared.commands.refusal.Refusal.TheVariants.{NotThere, Unreadable, OverLimit, OutputFailed, OutOfMemory}

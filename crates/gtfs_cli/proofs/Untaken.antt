@@ -15,7 +15,7 @@ use Rattle.gtfs_words.specs.declared.fault.WordsFault.TheVariants as faults
 use Rattle.gtfs_cli.specs.MergeRun.{IsMerged, IsUnmerged}
 use Rattle.gtfs_cli.specs.Messages.{message}
 use Rattle.gtfs_cli.specs.Refusals.{status_in, IsCauseInWords}
-use Rattle.gtfs_cli.specs.Running.{FailedNowhere, Failures}
+use Rattle.gtfs_cli.specs.Failures.{FailedNowhere, Failures}
 use Rattle.gtfs_cli.specs.Sending.{Output, Sends}
 use Rattle.gtfs_cli.specs.UntakenWords.{text_for_output, AnswersRefused}
 use Rattle.gtfs_cli.specs.WordsRun.{IsAnswered, IsUntakenRun, SendsAnswer}

@@ -10,7 +10,7 @@ use Rattle.jiff_tz.specs.Tzif as Table
 use Rattle.gtfs_devices.specs.Folder.{file_in, Files, Finds, HasFileOver, LacksFolder, Store}
 use Rattle.gtfs_cli.specs.Messages.{line_of}
 use Rattle.gtfs_cli.specs.Outcomes.{Outcome}
-use Rattle.gtfs_cli.specs.Running.{FitsZone, HasBytes, HoldsBytes, HoldsFile, HoldsNoZone, HoldsZone, LacksFile, NamesNoFile}
+use Rattle.gtfs_cli.specs.HeldFiles.{FitsZone, HasBytes, HoldsBytes, HoldsFile, HoldsNoZone, HoldsZone, LacksFile, NamesNoFile}
 use Rattle.gtfs_cli.proofs.Apart.{either, one_as, Apart, EndsAs, One}
 use Rattle.gtfs_cli.proofs.Outcomes.{not_there, over_limit, refused}
 use Rattle.gtfs_cli.proofs.PathCuts.{together}

@@ -20,7 +20,9 @@ use Rattle.gtfs_board.specs.Page.{IsCutShort, IsPage, IsStopped}
 use Rattle.gtfs_board.specs.Shown.{IsShown}
 use Rattle.gtfs_words.specs.Words.{BoardTexts}
 use Rattle.gtfs_cli.specs.Refusals.{IsSound}
-use Rattle.gtfs_cli.specs.Running.{instant_at, HoldsTables, IsRequest, LiesBefore, Request, Setting}
+use Rattle.gtfs_cli.specs.OptionValues.{instant_at, IsRequest, Request}
+use Rattle.gtfs_cli.specs.HeldFiles.{HoldsTables}
+use Rattle.gtfs_cli.specs.BoardSetting.{LiesBefore, Setting}
 use Rattle.gtfs_cli.specs.declared.commands.refusal.Refusal.{Refusal}
 use Rattle.gtfs_cli.specs.declared.commands.refusal.Refusal.TheVariants.{HasErrors, UnknownStop, UntilBeforeFrom, OutputFailed, OutOfMemory}
 use Rattle.gtfs_cli.specs.declared.commands.values.Values.{Values}

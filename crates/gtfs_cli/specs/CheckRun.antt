@@ -8,7 +8,8 @@ use Rattle.gtfs_rules.specs.Report.{report_text}
 use Rattle.gtfs_cli.specs.Checking.{IsReportOf}
 use Rattle.gtfs_cli.specs.Messages.{message}
 use Rattle.gtfs_cli.specs.Refusals.{status_of, IsCheckCause, TellsFailure}
-use Rattle.gtfs_cli.specs.Running.{Failures, HoldsTables}
+use Rattle.gtfs_cli.specs.HeldFiles.{HoldsTables}
+use Rattle.gtfs_cli.specs.Failures.{Failures}
 use Rattle.gtfs_cli.specs.Sending.{Output, Sends, SendsBeginning}
 use Rattle.gtfs_cli.specs.declared.commands.refusal.Refusal.{Refusal}
 use Rattle.gtfs_cli.specs.declared.commands.refusal.Refusal.TheVariants.{OutputFailed, OutOfMemory}

@@ -7,7 +7,7 @@ use Rattle.gtfs_table.specs.Tables.{Dataset}
 use Rattle.gtfs_columns.specs.Codes.{code_name, code_text}
 use Rattle.gtfs_columns.specs.Problems.{Problem, name_bytes, passes, IsReport}
 use Rattle.gtfs_rules.specs.Report.{report_text}
-use Rattle.gtfs_cli.specs.Running.{HoldsTables}
+use Rattle.gtfs_cli.specs.HeldFiles.{HoldsTables}
 use Rattle.gtfs_cli.specs.declared.commands.refusal.Refusal.{Refusal}
 use Rattle.gtfs_cli.specs.declared.commands.refusal.Refusal.TheVariants.{OutputFailed, OutOfMemory}
 

@@ -10,7 +10,7 @@ use Rattle.gtfs_cli.specs.CheckRun.{IsUnchecked}
 use Rattle.gtfs_cli.specs.Checking.{IsReportOf}
 use Rattle.gtfs_cli.specs.MergeRun.{AsksNoMerge, IsMerged, IsUnmerged}
 use Rattle.gtfs_cli.specs.Refusals.{IsCauseInWords, TellsFailure}
-use Rattle.gtfs_cli.specs.Running.{FailedNowhere, Failures}
+use Rattle.gtfs_cli.specs.Failures.{FailedNowhere, Failures}
 use Rattle.gtfs_cli.specs.Statuses.{IsCauseOf}
 use Rattle.gtfs_cli.specs.TimetableRun.{IsTabled, IsUntabled}
 use Rattle.gtfs_cli.specs.WordsRun.{IsAnswered, SendsAnswer}

@@ -5,7 +5,7 @@ use Rattle.gtfs_devices.specs.Folder.{Store}
 use Rattle.gtfs_devices.specs.declared.folders.FolderFault.{FolderFault}
 use Rattle.gtfs_devices.specs.declared.folders.FolderFault.TheVariants as faults
 use Rattle.gtfs_table.specs.Tables.{without_marks}
-use Rattle.gtfs_cli.specs.Running.{HoldsBytes, HoldsFile, HoldsNoZone, HoldsZone, LacksFile, NamesNoFile}
+use Rattle.gtfs_cli.specs.HeldFiles.{HoldsBytes, HoldsFile, HoldsNoZone, HoldsZone, LacksFile, NamesNoFile}
 use Rattle.gtfs_days.specs.declared.zone.Zone.{Zone}
 use Rattle.gtfs_cli.specs.declared.commands.refusal.Refusal.{Refusal}
 use Rattle.gtfs_cli.specs.declared.commands.refusal.Refusal.TheVariants.{NotThere, Unreadable, OverLimit, NoZone, OutOfMemory}

@@ -16,7 +16,8 @@ use Rattle.gtfs_cli.specs.FileRead.{HoldsNoUtf8, HoldsSomeZone, HoldsUtf8, IsPat
 use Rattle.gtfs_cli.specs.Options.{times_of}
 use Rattle.gtfs_cli.specs.Refusals.{IsReadingCause}
 use Rattle.gtfs_cli.specs.Requests.{heading_of, requests_of, StopRequest}
-use Rattle.gtfs_cli.specs.Running.{Failures, HoldsPassing, HoldsTables, HoldsZone}
+use Rattle.gtfs_cli.specs.HeldFiles.{HoldsPassing, HoldsTables, HoldsZone}
+use Rattle.gtfs_cli.specs.Failures.{Failures}
 use Rattle.gtfs_cli.specs.declared.commands.refusal.Refusal.{Refusal}
 use Rattle.gtfs_cli.specs.declared.commands.refusal.Refusal.TheVariants.{Unreadable, Line, OutputFailed, OutOfMemory}
 use Rattle.gtfs_cli.specs.declared.commands.request_fault.RequestFault.{RequestFault}

@@ -19,7 +19,8 @@ use Rattle.gtfs_merge.specs.Merging.{KeepsDepartures}
 use Rattle.gtfs_merge.specs.Near.{report as report_of}
 use Rattle.gtfs_words.specs.Words.{MergeTexts}
 use Rattle.gtfs_cli.specs.MergeOptions.{first_bad_merge, HasMergeValues, IsMergeRequest, MergeRequest}
-use Rattle.gtfs_cli.specs.Running.{FailedNowhere, Failures, HoldsErrors, HoldsKeptFile, HoldsPassing, HoldsTables, LacksFeed}
+use Rattle.gtfs_cli.specs.HeldFiles.{HoldsErrors, HoldsKeptFile, HoldsPassing, HoldsTables, LacksFeed}
+use Rattle.gtfs_cli.specs.Failures.{FailedNowhere, Failures}
 use Rattle.gtfs_cli.specs.Sending.{SendsBeginning}
 use Rattle.gtfs_cli.specs.declared.commands.refusal.Refusal.{Refusal}
 use Rattle.gtfs_cli.specs.declared.commands.refusal.Refusal.TheVariants.{BadValue, NotThere, Unreadable, OverLimit, HasErrors, ZonesDiffer, MergeTooLarge, Unwritable, OutputFailed, OutOfMemory}

@@ -10,7 +10,8 @@ use Rattle.gtfs_cli.specs.ManyBoards.{IsBoardsCause, IsBoardsText}
 use Rattle.gtfs_cli.specs.Merges.{IsMergeCause, PrintsMerge}
 use Rattle.gtfs_cli.specs.Messages.{message}
 use Rattle.gtfs_cli.specs.Refusals.{status_of, IsCause, IsCheckCause}
-use Rattle.gtfs_cli.specs.Running.{Failures, HoldsTables}
+use Rattle.gtfs_cli.specs.HeldFiles.{HoldsTables}
+use Rattle.gtfs_cli.specs.Failures.{Failures}
 use Rattle.gtfs_cli.specs.Timetables.{IsTimetableCause, IsTimetableText}
 use Rattle.gtfs_cli.specs.declared.commands.refusal.Refusal.{Refusal}
 use Rattle.gtfs_cli.specs.declared.commands.refusal.Refusal.TheVariants.{OutOfMemory}

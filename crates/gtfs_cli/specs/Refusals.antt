@@ -5,7 +5,10 @@ use Rattle.gtfs_days.specs.Service.{is_service_day}
 use Rattle.gtfs_devices.specs.Device.{Rises}
 use Rattle.gtfs_devices.specs.Folder.{Store}
 use Rattle.gtfs_words.specs.Words.{AreForHelpOrVersion, AreRefused, BoardTexts}
-use Rattle.gtfs_cli.specs.Running.{first_bad, EndsBeforeItBegins, FailedNowhere, Failures, HasValues, HoldsErrors, HoldsFile, HoldsKeptFile, HoldsNoZone, HoldsPassing, LacksFeed, LacksFile, LacksStop, NamesNoFile}
+use Rattle.gtfs_cli.specs.OptionValues.{first_bad, HasValues}
+use Rattle.gtfs_cli.specs.HeldFiles.{HoldsErrors, HoldsFile, HoldsKeptFile, HoldsNoZone, HoldsPassing, LacksFeed, LacksFile, NamesNoFile}
+use Rattle.gtfs_cli.specs.BoardSetting.{EndsBeforeItBegins, LacksStop}
+use Rattle.gtfs_cli.specs.Failures.{FailedNowhere, Failures}
 use Rattle.gtfs_cli.specs.declared.commands.moments.Moment.{Moment}
 use Rattle.gtfs_cli.specs.declared.commands.moments.Moment.TheVariants.{Instant, ServiceDay}
 use Rattle.gtfs_cli.specs.declared.commands.refusal.Refusal.{Refusal}

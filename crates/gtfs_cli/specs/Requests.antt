@@ -10,7 +10,7 @@ use Rattle.gtfs_rows.specs.Content.{Content}
 use Rattle.gtfs_rows.specs.Departures.{Origins}
 use Rattle.gtfs_board.specs.Board.{is_stop}
 use Rattle.gtfs_times.specs.declared.times.Times.{Times}
-use Rattle.gtfs_cli.specs.Running.{after_of, instant_at, limit_of, moment_of, Request}
+use Rattle.gtfs_cli.specs.OptionValues.{after_of, instant_at, limit_of, moment_of, Request}
 use Rattle.gtfs_cli.specs.declared.commands.request_fault.RequestFault.{RequestFault}
 use Rattle.gtfs_cli.specs.declared.commands.request_fault.RequestFault.TheVariants.{BadRequest, UnknownStop, UntilBeforeFrom}
 

@@ -10,7 +10,12 @@ use Rattle.gtfs_cli.specs.ManyBoards.{requests_at, BoardsSetting, IsBoardsCause}
 use Rattle.gtfs_cli.specs.MergeOptions.{HasBadMergeValue}
 use Rattle.gtfs_cli.specs.Merges.{IsMergeCause}
 use Rattle.gtfs_cli.specs.Refusals.{request_status, IsCause, IsCauseInWords, IsCheckCause}
-use Rattle.gtfs_cli.specs.Running.{AsksBoards, AsksCheck, AsksFor, AsksMerge, AsksTimetable, EndsBeforeItBegins, Failures, HasBadValue, HoldsFile, HoldsNoZone, KeepsFromChecking, KeepsFromMerging, KeepsFromReading, LacksFile, NamesNoFile}
+use Rattle.gtfs_cli.specs.OptionValues.{HasBadValue}
+use Rattle.gtfs_cli.specs.HeldFiles.{HoldsFile, HoldsNoZone, LacksFile, NamesNoFile}
+use Rattle.gtfs_cli.specs.BoardSetting.{EndsBeforeItBegins}
+use Rattle.gtfs_cli.specs.Asking.{AsksBoards, AsksCheck, AsksFor, AsksMerge, AsksTimetable}
+use Rattle.gtfs_cli.specs.Causes.{KeepsFromChecking, KeepsFromMerging, KeepsFromReading}
+use Rattle.gtfs_cli.specs.Failures.{Failures}
 use Rattle.gtfs_cli.specs.TimetableOptions.{HasBadTimetableValue}
 use Rattle.gtfs_cli.specs.Timetables.{IsTimetableCause}
 use Rattle.gtfs_cli.specs.declared.commands.refusal.Refusal.{Refusal}

@@ -11,7 +11,8 @@ use Rattle.gtfs_rows.specs.Reading.{content_of}
 use Rattle.gtfs_times.specs.Filling.{timed}
 use Rattle.gtfs_board.specs.Timetable.{is_route, sheet_text, sheets}
 use Rattle.gtfs_words.specs.Words.{TimetableTexts}
-use Rattle.gtfs_cli.specs.Running.{FailedNowhere, Failures, HoldsErrors, HoldsKeptFile, HoldsTables, LacksFeed}
+use Rattle.gtfs_cli.specs.HeldFiles.{HoldsErrors, HoldsKeptFile, HoldsTables, LacksFeed}
+use Rattle.gtfs_cli.specs.Failures.{FailedNowhere, Failures}
 use Rattle.gtfs_cli.specs.Sending.{SendsBeginning}
 use Rattle.gtfs_cli.specs.TimetableOptions.{first_bad_timetable, HasTimetableValues, IsTimetableRequest, TimetableRequest}
 use Rattle.gtfs_cli.specs.declared.commands.refusal.Refusal.{Refusal}

@@ -6,7 +6,7 @@ use Rattle.gtfs_words.specs.Words.{AreForHelpOrVersion, AreRefused, AsksBoardOf,
 use Rattle.gtfs_words.specs.declared.fault.WordsFault.{WordsFault}
 use Rattle.gtfs_cli.specs.Messages.{message}
 use Rattle.gtfs_cli.specs.Refusals.{status_of, IsCauseInWords}
-use Rattle.gtfs_cli.specs.Running.{Failures}
+use Rattle.gtfs_cli.specs.Failures.{Failures}
 use Rattle.gtfs_cli.specs.Sending.{Output, Sends}
 use Rattle.gtfs_cli.specs.UntakenWords.{text_for_output}
 use Rattle.gtfs_cli.specs.declared.commands.refusal.Refusal.{Refusal}

@@ -11,7 +11,7 @@ ghost use Rattle.gtfs_cli.specs.CommandEnd.{answer_of, EndsCommand};
 ghost use Rattle.gtfs_cli.specs.MergeRun.{AsksNoMerge, IsMergeRun};
 ghost use Rattle.gtfs_cli.specs.Messages.{message};
 ghost use Rattle.gtfs_cli.specs.Refusals.{status_in, IsCauseInWords, TellsOutput};
-ghost use Rattle.gtfs_cli.specs.Running.{FailedNowhere};
+ghost use Rattle.gtfs_cli.specs.Failures.{FailedNowhere};
 ghost use Rattle.gtfs_cli.specs.Statuses.{IsBadUsage, IsDeviceFault};
 ghost use Rattle.gtfs_cli.specs.Sending.{Sends};
 ghost use Rattle.gtfs_cli.specs.TimetableRun.{IsTimetableRun};

@@ -8,7 +8,7 @@ ghost use Rattle.gtfs_cli.specs.CheckRun.{IsCheckRun};
 ghost use Rattle.gtfs_cli.specs.MergeRun.{IsMergeRun};
 ghost use Rattle.gtfs_cli.specs.Outcomes.{IsBoardOutcome, IsBoardsOutcome, IsCheckOutcome, IsMergeOutcome, IsTimetableOutcome, MergeOutcome, Outcome};
 ghost use Rattle.gtfs_cli.specs.RunEnds.{EndsAsOne, IsUnhindered, MergeEndsAsOne};
-ghost use Rattle.gtfs_cli.specs.Running.{Failures};
+ghost use Rattle.gtfs_cli.specs.Failures.{Failures};
 ghost use Rattle.gtfs_cli.specs.Sending.{Output};
 ghost use Rattle.gtfs_cli.specs.TimetableRun.{IsTimetableRun};
 

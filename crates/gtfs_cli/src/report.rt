@@ -3,7 +3,6 @@
 mod counts;
 mod line;
 mod pieces;
-mod plain;
 mod renamed;
 
 pub(crate) use counts::push_counts;

@@ -5,7 +5,7 @@ ghost use Rattle.gtfs_board.specs.Page.{IsPage};
 ghost use Rattle.gtfs_cli.specs.Boards.{request_of, AreValues, EndsBoard, EndsLines, IsLinesCause, IsOpeningCause, ListsBoard, OfBoard, PrintsBoard};
 ghost use Rattle.gtfs_cli.specs.Calls.{MakesAtMost};
 ghost use Rattle.gtfs_words.specs.Words.{texts_of};
-ghost use Rattle.gtfs_cli.specs.Running.{FailedNowhere};
+ghost use Rattle.gtfs_cli.specs.Failures.{FailedNowhere};
 ghost use Rattle.gtfs_cli.specs.Refusals.{IsCause, TellsFailure, TellsOutput};
 
 use crate::commands::feed::read_feed;

@@ -13,7 +13,7 @@ ghost use Rattle.gtfs_cli.specs.ManyBoards.{EndsBoards, EndsOne, EndsRequests, I
 ghost use Rattle.gtfs_cli.specs.Options.{times_of};
 ghost use Rattle.gtfs_cli.specs.Refusals.{IsSound, TellsFailure, TellsOutput};
 ghost use Rattle.gtfs_cli.specs.Requests.{fault_in, heading_of, numbered_from, requests_in, requests_of};
-ghost use Rattle.gtfs_cli.specs.Running.{FailedNowhere};
+ghost use Rattle.gtfs_cli.specs.Failures.{FailedNowhere};
 
 use crate::commands::feed::read_feed;
 use crate::commands::files::read_file;

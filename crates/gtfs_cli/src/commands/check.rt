@@ -9,7 +9,7 @@ ghost use Rattle.gtfs_cli.specs.Calls.{MakesAtMost};
 ghost use Rattle.gtfs_cli.specs.CheckRun.{EndsCheck};
 ghost use Rattle.gtfs_cli.specs.Sending.{SendsBeginning};
 ghost use Rattle.gtfs_cli.specs.Refusals.{IsCheckCause, TellsFailure};
-ghost use Rattle.gtfs_cli.specs.Running.{FailedNowhere};
+ghost use Rattle.gtfs_cli.specs.Failures.{FailedNowhere};
 
 use crate::commands::folder::read_tables;
 use crate::commands::refusal::Refusal;

@@ -3,7 +3,7 @@ ghost use Rattle.gtfs_devices.specs.Device.{FailsAtLast, MakesCalls};
 ghost use Rattle.gtfs_cli.specs.Calls.{MakesAtMost};
 ghost use Rattle.gtfs_cli.specs.FileRead.{IsPathCause};
 ghost use Rattle.gtfs_cli.specs.Refusals.{TellsFolders};
-ghost use Rattle.gtfs_cli.specs.Running.{HoldsBytes};
+ghost use Rattle.gtfs_cli.specs.HeldFiles.{HoldsBytes};
 
 use crate::commands::folder::of_folder;
 use crate::commands::paths::cut_path;

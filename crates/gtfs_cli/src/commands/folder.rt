@@ -4,7 +4,8 @@ ghost use Rattle.gtfs_devices.specs.Folder.{CountsFault, Store};
 ghost use Rattle.gtfs_table.specs.Reading.{HoldsDataset, RefusesDataset};
 ghost use Rattle.gtfs_cli.specs.Calls.{MakesAtMost};
 ghost use Rattle.gtfs_cli.specs.FileRead.{IsFileCause, IsPathCause};
-ghost use Rattle.gtfs_cli.specs.Running.{Failures, HoldsTables};
+ghost use Rattle.gtfs_cli.specs.HeldFiles.{HoldsTables};
+ghost use Rattle.gtfs_cli.specs.Failures.{Failures};
 ghost use Rattle.gtfs_cli.specs.Refusals.{IsCheckCause, TellsFolders};
 
 use crate::commands::refusal::Refusal;

@@ -13,7 +13,7 @@ ghost use Rattle.gtfs_cli.specs.Merges.{file_limit, file_text, EndsMerge, HoldsF
 ghost use Rattle.gtfs_cli.specs.MergeOptions.{IsMergeRequest};
 ghost use Rattle.gtfs_cli.specs.MergeParts.{merge_request_of, AllReadAs, HoldsMerge, ReadsAs};
 ghost use Rattle.gtfs_cli.specs.Refusals.{TellsFailure, TellsFolders};
-ghost use Rattle.gtfs_cli.specs.Running.{FailedNowhere};
+ghost use Rattle.gtfs_cli.specs.Failures.{FailedNowhere};
 
 use crate::commands::feed::read_feed;
 use crate::commands::merge_values::{MergeValues, read_merge_values};

@@ -2,7 +2,7 @@ ghost use Rattle.std.specs.Prelude.{◌≡◌, ◌<◌, ◌^◌, option_map, uns
 ghost use Rattle.gtfs_field.specs.Kinds.{date_of};
 ghost use Rattle.gtfs_days.specs.Zone.{zone_origin};
 ghost use Rattle.gtfs_cli.specs.Options.{service_day};
-ghost use Rattle.gtfs_cli.specs.Running.{after_at, instant_at, moment_of};
+ghost use Rattle.gtfs_cli.specs.OptionValues.{after_at, instant_at, moment_of};
 ghost use Rattle.gtfs_cli.specs.Refusals.{IsSound};
 
 use gtfs_days::{LAST_SERVICE_DAY, Zone};

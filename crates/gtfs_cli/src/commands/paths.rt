@@ -1,4 +1,4 @@
-ghost use Rattle.gtfs_cli.specs.Running.{IsFileOf};
+ghost use Rattle.gtfs_cli.specs.HeldFiles.{IsFileOf};
 
 // The folder and the name of a file: what stands before the last `/` of its path and after it. A path without one names
 // a file of the folder `.`; where the only one is the first character, the folder is `/`.

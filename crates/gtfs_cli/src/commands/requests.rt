@@ -6,7 +6,7 @@ ghost use Rattle.gtfs_cli.specs.LentRequests.{request_texts_of, stop_request_of}
 ghost use Rattle.gtfs_cli.specs.Boards.{request_of};
 ghost use Rattle.gtfs_cli.specs.Refusals.{IsSound};
 ghost use Rattle.gtfs_cli.specs.Requests.{fault_in, fields_of, judged, numbered_from, request_from, request_texts, requests_in, stop_request, text_if_any};
-ghost use Rattle.gtfs_cli.specs.Running.{instant_at};
+ghost use Rattle.gtfs_cli.specs.OptionValues.{instant_at};
 
 use crate::commands::moments::read_moment;
 use crate::commands::request_fault::RequestFault;

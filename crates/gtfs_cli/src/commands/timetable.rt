@@ -10,7 +10,7 @@ ghost use Rattle.gtfs_words.specs.Words.{timetable_texts_of};
 ghost use Rattle.gtfs_cli.specs.Calls.{MakesAtMost};
 ghost use Rattle.gtfs_cli.specs.Checking.{IsSendingCause};
 ghost use Rattle.gtfs_cli.specs.Refusals.{TellsFailure, TellsOutput};
-ghost use Rattle.gtfs_cli.specs.Running.{FailedNowhere};
+ghost use Rattle.gtfs_cli.specs.Failures.{FailedNowhere};
 ghost use Rattle.gtfs_cli.specs.Sending.{SendsBeginning};
 ghost use Rattle.gtfs_cli.specs.Timetables.{timetable_request_of, timetable_text, EndsSheets, EndsTimetable, IsSheetsCause, IsTimetableCause, PrintsTimetable};
 

@@ -3,7 +3,7 @@ ghost use Rattle.gtfs_board.specs.Lent.{plain_key};
 ghost use Rattle.gtfs_cli.specs.Boards.{AreValues};
 ghost use Rattle.gtfs_words.specs.Words.{texts_of};
 ghost use Rattle.gtfs_cli.specs.Refusals.{IsFirstBad};
-ghost use Rattle.gtfs_cli.specs.Running.{after_of, limit_of};
+ghost use Rattle.gtfs_cli.specs.OptionValues.{after_of, limit_of};
 
 use crate::commands::moments::{Moment, read_moment};
 use crate::commands::refusal::Refusal;

@@ -5,7 +5,7 @@ ghost use Rattle.gtfs_devices.specs.Device.{FailsAtLast, MakesCalls};
 ghost use Rattle.gtfs_cli.specs.Calls.{MakesAtMost};
 ghost use Rattle.gtfs_cli.specs.FileRead.{IsZoneCause};
 ghost use Rattle.gtfs_cli.specs.Refusals.{TellsFolders};
-ghost use Rattle.gtfs_cli.specs.Running.{FitsZone, HoldsBytes, HoldsZone};
+ghost use Rattle.gtfs_cli.specs.HeldFiles.{FitsZone, HoldsBytes, HoldsZone};
 
 use crate::commands::files::read_file;
 use crate::commands::refusal::Refusal;

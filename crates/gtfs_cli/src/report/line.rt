@@ -6,7 +6,7 @@ ghost use Rattle.gtfs_columns.specs.View.{problem_of};
 ghost use Rattle.gtfs_cli.specs.Checking.{names_len};
 
 use crate::report::pieces::push_piece;
-use crate::report::plain::push_plain;
+use gtfs_columns::push_plain;
 use gtfs_field::OutOfMemory;
 use gtfs_rules::Problem;
 use itoa::Buffer;

@@ -4,7 +4,7 @@ ghost use Rattle.gtfs_merge.specs.Report.{joined_line, kind_name, renamed_line};
 ghost use Rattle.gtfs_cli.specs.NamesReport.{near_text, renamed_len};
 
 use crate::report::pieces::push_piece;
-use crate::report::plain::push_plain;
+use gtfs_columns::push_plain;
 use gtfs_field::OutOfMemory;
 use gtfs_merge::{Kind, Side};
 use itoa::Buffer;

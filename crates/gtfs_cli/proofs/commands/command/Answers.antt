@@ -3,7 +3,7 @@ use Rattle.clap.specs.Words.{subcommand_of}
 use Rattle.gtfs_words.specs.Words.{gtfs_app, IsCommandOf}
 use Rattle.gtfs_words.specs.declared.command.Command.{Command}
 use Rattle.gtfs_cli.specs.CommandEnd.{answer_of, EndsCommand}
-use Rattle.gtfs_cli.specs.Running.{Failures}
+use Rattle.gtfs_cli.specs.Failures.{Failures}
 use Rattle.gtfs_cli.specs.declared.commands.refusal.Refusal.{Refusal}
 use Rattle.std.proofs.lemmas.Result.{IfErr-weaker}
 use Rattle.std.specs.Prelude.{is_ok}

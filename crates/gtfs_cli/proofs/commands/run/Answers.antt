@@ -1,5 +1,5 @@
 use Rattle.std.proofs.Common.{map}
-use Rattle.gtfs_cli.specs.Running.{Failures}
+use Rattle.gtfs_cli.specs.Failures.{Failures}
 use Rattle.gtfs_cli.specs.Sending.{Output}
 use Rattle.gtfs_cli.proofs.AskedOne.{asks-one}
 use Rattle.gtfs_cli.proofs.BoardsEnded.{boards-ended}

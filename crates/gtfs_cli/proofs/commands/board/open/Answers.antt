@@ -5,7 +5,7 @@ use Rattle.gtfs_board.specs.Lent.{plain_key}
 use Rattle.gtfs_board.specs.declared.board.BoardFault.{BoardFault}
 use Rattle.gtfs_board.specs.declared.span.Span.{Span}
 use Rattle.gtfs_cli.specs.Boards.{request_of}
-use Rattle.gtfs_cli.specs.Running.{instant_at}
+use Rattle.gtfs_cli.specs.OptionValues.{instant_at}
 use Rattle.gtfs_cli.proofs.Moments.{ends-at}
 use Rattle.gtfs_cli.proofs.Opening.{after-lent, lists-board}
 use Rattle.gtfs_cli.proofs.commands.board.open.Goals as goal

@@ -6,7 +6,7 @@ use Rattle.gtfs_words.specs.Words.{boards_texts_of}
 use Rattle.gtfs_cli.specs.FileRead.{IsPathCause, IsZoneCause}
 use Rattle.gtfs_cli.specs.ManyBoards.{EndsBoards, IsBoardsCause}
 use Rattle.gtfs_cli.specs.Refusals.{TellsFailure}
-use Rattle.gtfs_cli.specs.Running.{HoldsBytes, HoldsZone}
+use Rattle.gtfs_cli.specs.HeldFiles.{HoldsBytes, HoldsZone}
 use Rattle.gtfs_cli.proofs.CallsMade.{at-most, few-more}
 use Rattle.gtfs_cli.proofs.Endings.{counts, told-up}
 use Rattle.gtfs_cli.proofs.FailuresTold.{folders-kept, folders-since, output-kept}

@@ -5,7 +5,7 @@ use Rattle.gtfs_table.proofs.StoreFacts.{on_ok-always, on_ok-map}
 use Rattle.gtfs_columns.specs.Problems.{IsReport}
 use Rattle.gtfs_columns.specs.View.{problem_of}
 use Rattle.gtfs_cli.specs.CheckRun.{BeginsReport, EndsCheck}
-use Rattle.gtfs_cli.specs.Running.{Failures}
+use Rattle.gtfs_cli.specs.Failures.{Failures}
 use Rattle.gtfs_cli.specs.Refusals.{IsCheckCause, TellsFailure}
 use Rattle.gtfs_cli.proofs.Endings.{told-up}
 use Rattle.gtfs_cli.proofs.FailuresTold.{folders-kept, output-kept, sending-told}

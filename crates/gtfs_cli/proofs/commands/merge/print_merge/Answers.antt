@@ -11,7 +11,7 @@ use Rattle.gtfs_cli.specs.MergeParts.{merge_request_of}
 use Rattle.gtfs_cli.specs.Merges.{EndsMerge, HoldsFiles, IsMergeCause, IsWritingEnd}
 use Rattle.gtfs_cli.specs.NamesReport.{names_report}
 use Rattle.gtfs_cli.specs.Refusals.{TellsFailure}
-use Rattle.gtfs_cli.specs.Running.{Failures}
+use Rattle.gtfs_cli.specs.Failures.{Failures}
 use Rattle.gtfs_cli.proofs.CallsMade.{at-most, few-more, no-calls}
 use Rattle.gtfs_cli.proofs.Endings.{counts, told-up}
 use Rattle.gtfs_cli.proofs.FailuresTold.{folders-kept, folders-since, output-kept, sending-told}

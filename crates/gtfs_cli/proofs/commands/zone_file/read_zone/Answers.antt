@@ -3,7 +3,7 @@ use Rattle.std.proofs.lemmas.Result.{IfErr-weaker}
 use Rattle.gtfs_table.proofs.StoreFacts.{on_ok-always}
 use Rattle.gtfs_cli.specs.FileRead.{IsZoneCause}
 use Rattle.gtfs_cli.specs.Refusals.{TellsFolders}
-use Rattle.gtfs_cli.specs.Running.{HoldsBytes}
+use Rattle.gtfs_cli.specs.HeldFiles.{HoldsBytes}
 use Rattle.gtfs_cli.proofs.Endings.{told-up}
 use Rattle.gtfs_cli.proofs.FailuresTold.{each-err, folders-kept}
 use Rattle.gtfs_cli.proofs.FilesRead.{zone-path}
