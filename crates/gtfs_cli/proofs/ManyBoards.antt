@@ -1,4 +1,4 @@
--- What was printed of the boards of a requests' file, and why there are none.
+-- What was printed of the boards of a file of requests, and why there are none.
 use Rattle.std.proofs.Common.{◌≡◌, ℕ, List, Option, Result, Ok, Err, inl, inr, subst}
 use Rattle.std.specs.Prelude.{IfErr, IsOkAnd, IsUtf8, OnOk}
 use Rattle.std.specs.Io.KnownBytes.{Keeps}

@@ -1,4 +1,4 @@
--- Boards of a requests' file have one outcome.
+-- Boards of a file of requests have one outcome.
 use Rattle.std.proofs.Common.{◌≡◌, ◌≢◌, ◌∙◌, ap, ap₂, sym, subst, refl, ℕ, inl, inr, ◌⊎◌, List, [], ◌∷◌, ◌++◌, Result, Ok, Err, Some, codes, arith}
 use Rattle.std.specs.Prelude.{decimal, IsOkAnd}
 use Rattle.gtfs_days.specs.Zone.{zone_origin, SaysSame}
@@ -68,7 +68,7 @@ module _ (limit : ℕ) (store : Store) (asked : BoardsTexts) where
   abbrev AfterFolder : Outcome → Type 0
   AfterFolder o = ZoneEnd limit store asked.zone AfterZone o
 
-  -- the folder is judged, and then the zone file, the requests' file and its lines
+  -- the folder is judged, and then the zone file, the file of requests and its lines
   abbrev BoardsEnds : Outcome → Type 0
   BoardsEnds o = FolderEnd Outcome (λ e. e) limit store asked.dir AfterFolder o
 

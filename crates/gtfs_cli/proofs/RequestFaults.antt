@@ -1,4 +1,4 @@
--- What is the matter with a line of a requests' file.
+-- What is the matter with a line of a file of requests.
 use Rattle.std.proofs.Common.{◌≡◌, ◌∙◌, ℕ, true, false, List, Option, Some, None, refl, sym, ap}
 use Rattle.std.specs.Prelude.{bytes_eq, int_lt, is_some, option_map, position}
 use Rattle.std.specs.Option.{option_and_then}

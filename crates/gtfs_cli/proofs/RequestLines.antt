@@ -1,4 +1,4 @@
--- What the lines of a requests' file ask for, line after line.
+-- What the lines of a file of requests ask for, line after line.
 use Rattle.std.proofs.Common.{◌≡◌, ◌∙◌, ℕ, ◌+◌, ◌<◌, ◌≤◌, ◌==◌, Bool, true, false, not, List, ◌∷◌, length, map, drop, Option, Some, None, Result, Ok, Err, refl, sym, ap, get_or}
 use Rattle.std.specs.Borrow.{Bor}
 use Rattle.std.specs.Prelude.{int_lt, is_some, if◌then◌else◌}

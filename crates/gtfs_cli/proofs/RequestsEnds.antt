@@ -1,4 +1,4 @@
--- How boards end by what the folders hold under the path of their requests' file.
+-- How boards end by what the folders hold under the path of their file of requests.
 use Rattle.std.proofs.Common.{◌⊎◌, inl, inr, subst, ℕ, List, Some}
 use Rattle.std.specs.Prelude.{IsUtf8}
 use Rattle.gtfs_devices.specs.Folder.{Store}

@@ -24,7 +24,7 @@ pub record AreUnlisted (limit : ℕ) (held : Option Store) (asked : BoardsTexts)
 
 -- ---- how the program ends
 
--- what kept the boards from going out whole gives the status and the line, which names the path or the line of the requests' file that is
+-- what kept the boards from going out whole gives the status and the line, which names the path or the line of the file of requests that is
 -- at fault; where the error output failed, a beginning of the line went out
 pub record AreBoardsRefused (limit : ℕ) (held : Option Store) (asked : BoardsTexts) (before after : Failures) (old new : Option (List ℕ)) (err told : Output) (status : ℕ) : Type 0 where
   pub refusal : Refusal

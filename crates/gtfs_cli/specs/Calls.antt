@@ -16,7 +16,7 @@ pub record TakesCalls (most : ℕ) (Done : Type 0) (old new : Option Calls) : Ty
   pub all : Done → MakesCalls most old new
 
 -- a check asks for the names in the folder and for each of the nine files once, and so does a timetable; a board asks for the zone file
--- too, and boards for the zone file and the requests' file; a merge asks for two folders so, and writes nine files. Words that `clap` does not take make no call. Where the folders' count of
+-- too, and boards for the zone file and the file of requests; a merge asks for two folders so, and writes nine files. Words that `clap` does not take make no call. Where the folders' count of
 -- failures changed, the call that failed was the last; one that stands at 2 ^ 64 - 1 does not change
 pub record AreCalls (texts : List Text) (Checked Done : Type 0) (before after : ℕ) (old new : Option Calls) : Type 0 where
   pub check : (dir : List ℕ) → AsksCheckOf texts dir → TakesCalls 10 Checked old new

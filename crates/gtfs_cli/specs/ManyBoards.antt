@@ -57,7 +57,7 @@ pub record StopsIn (Part : Content → Zone → StopRequest → List ℕ → Typ
   pub is_part : Part f z next part
   pub out : Appends before after (text ++ part)
 
--- ---- of a folder, a zone file and a requests' file
+-- ---- of a folder, a zone file and a file of requests
 
 -- what boards are made of: the dataset that the folder holds and that passes, the zone of the one file, and the bytes of the other, which
 -- are UTF-8
@@ -123,7 +123,7 @@ IsLineCause limit held asked (Line fault) = (s : BoardsSetting limit held asked)
 IsLineCause limit held asked _ = ⊥
 
 -- when a refusal comes where the words ask for boards: that it names the path or the line that is at fault, and that all that is judged
--- before was found good. The folder is judged first, then the zone file, the requests' file, its lines, and at last the output
+-- before was found good. The folder is judged first, then the zone file, the file of requests, its lines, and at last the output
 abbrev pub IsBoardsCause : ℕ → Option Store → BoardsTexts → Failures → Failures → Refusal → Type 0
 IsBoardsCause limit held asked before after refusal =
     IsReadingCause limit held asked.dir before after refusal

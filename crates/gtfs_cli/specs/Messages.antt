@@ -10,7 +10,7 @@ use Rattle.gtfs_cli.specs.declared.commands.request_fault.RequestFault.TheVarian
 abbrev pub line_of : List ℕ → List ℕ → List ℕ
 line_of first second = codes "gtfs: " ++ (plain first ++ (plain second ++ codes "\n"))
 
--- what is told of the line of a requests' file that is at fault, before its number
+-- what is told of the line of a file of requests that is at fault, before its number
 abbrev pub request_text : RequestFault → List ℕ
 request_text (requests.BadRequest number) = codes "bad request in line "
 request_text (requests.UnknownStop number) = codes "unknown stop in line "
@@ -41,7 +41,7 @@ message (Line fault) = line_of (request_text fault) (decimal (request_line fault
 message OutputFailed = line_of (codes "output failed") []
 message OutOfMemory = line_of (codes "out of memory") []
 
--- what is told of the refusal is the line of these two texts, but for words that are refused and for a line of a requests' file
+-- what is told of the refusal is the line of these two texts, but for words that are refused and for a line of a file of requests
 abbrev pub HasLine : Refusal → List ℕ → List ℕ → Type 0
 HasLine (Words text) first second = ⊤
 HasLine (Line fault) first second = ⊤

@@ -16,7 +16,7 @@ use Rattle.gtfs_cli.specs.declared.commands.refusal.Refusal.TheVariants.{Words, 
 use Rattle.gtfs_cli.specs.declared.commands.request_fault.RequestFault.{RequestFault}
 use Rattle.gtfs_cli.specs.declared.commands.request_fault.RequestFault.TheVariants as requests
 
--- the status for the line of a requests' file that is at fault
+-- the status for the line of a file of requests that is at fault
 abbrev pub request_status : RequestFault → ℕ
 request_status (requests.BadRequest number) = 2
 request_status (requests.UnknownStop number) = 1

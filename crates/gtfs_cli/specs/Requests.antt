@@ -1,4 +1,4 @@
--- What a requests' file asks for: on each line that is not empty a board, and which line is refused first.
+-- What a file of requests asks for: on each line that is not empty a board, and which line is refused first.
 -- A line ends in LF or CRLF, and the last one also where the text ends. Lines are numbered from 1, empty ones too. The fields of a
 -- line stand between tabs: the stop, from and until, and then perhaps a limit and a key, of which an empty one is none.
 use Rattle.std.specs.Prelude.{ℕ, ◌==◌, ◌++◌, not, int_lt, codes, filter, if◌then◌else◌, length, List, [], ◌∷◌, map, Option, Some, None, option_map, Result, Ok, Err}

@@ -32,7 +32,7 @@ IsCauseOf texts limit held before after refusal =
 
 -- ---- status 2
 
--- the first line of the requests' file that is refused has a bad value, too few or too many fields, or a span that ends before it begins
+-- the first line of the file of requests that is refused has a bad value, too few or too many fields, or a span that ends before it begins
 abbrev pub HasBadLine : ℕ → Option Store → BoardsTexts → Type 0
 HasBadLine limit held asked = (s : BoardsSetting limit held asked) × (fault : RequestFault) × (requests_at limit held asked s ≡ Err fault) × (request_status fault ≡ 2)
 

@@ -69,8 +69,8 @@ use std::hash::RandomState;
 ///   that of `--limit` or of `--near` is no count, that of `--after` is no key, that of `--date` is no date, that of
 ///   `--direction` is neither 0 nor 1, that of `--cutoff` is no service day, the board would end before it begins, or a
 ///   line of requests has too few or too many fields or one of these faults.
-/// - 3: the folder, the zone file, the requests' file or its folder is not there, cannot be read or holds a file over
-///   the limit, the zone file is none, the requests' file is not UTF-8, the folder of the merged feed or a file in it
+/// - 3: the folder, the zone file, the file of requests or its folder is not there, cannot be read or holds a file over
+///   the limit, the zone file is none, the file of requests is not UTF-8, the folder of the merged feed or a file in it
 ///   cannot be written, or the output failed.
 /// - 4: memory ran out, and neither the folders nor `out` failed.
 ///

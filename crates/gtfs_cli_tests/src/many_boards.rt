@@ -202,7 +202,7 @@ fn a_requests_file_may_be_as_long_as_the_limit(rt: HostRuntime) -> Result<(), Fa
     assert_ends(&rt, rt.alloc(), &mut folders, &words, (0, "", ""))
 }
 
-// Ten calls for the folder, one for the zone file, and one for the requests' file.
+// Ten calls for the folder, one for the zone file, and one for the file of requests.
 #[test]
 fn a_device_that_fails_has_no_boards(rt: HostRuntime) -> Result<(), Fail> {
     let words = boards_asked("f1", "z1", "r1");

@@ -30,9 +30,9 @@ use gtfs_words::BoardsWords;
 use std::alloc::Global;
 use std::hash::RandomState;
 
-// Prints the boards that the requests' file of the words asks for.
+// Prints the boards that the file of requests of the words asks for.
 // Errors: In the order in which they are judged: `NotThere`, `Unreadable`, `OverLimit` and `HasErrors` of the feed's
-// folder; the first three and `NoZone` of the zone file; the first three of the requests' file; `Line` of the first line
+// folder; the first three and `NoZone` of the zone file; the first three of the file of requests; `Line` of the first line
 // that is refused; `OutputFailed` at any board. `OutOfMemory` at any point.
 pub(super) fn print_boards<'w, F: Folders, O: Out>(
     alloc: Global,
@@ -69,7 +69,7 @@ pub(super) fn print_boards<'w, F: Folders, O: Out>(
     print_file(alloc, &feed, &zone, bytes.as_slice(), words, out)
 }
 
-// Prints the boards that the bytes of the requests' file ask for.
+// Prints the boards that the bytes of the file of requests ask for.
 fn print_file<'w, O: Out>(
     alloc: Global,
     feed: &Feed,

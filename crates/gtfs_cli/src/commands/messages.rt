@@ -33,7 +33,7 @@ impl Refusal<'_> {
     }
 
     // The two texts of the line, after `gtfs: `, where neither is made: for refused words `clap`'s text stands in place of a line,
-    // and the number of a line of a requests' file is written by `write`.
+    // and the number of a line of a file of requests is written by `write`.
     fn line_texts(&self) -> (&str, &str)
         ensures { HasLine self.now result.0.now result.1.now }
     {

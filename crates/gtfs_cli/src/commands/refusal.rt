@@ -28,7 +28,7 @@ pub(super) enum Refusal<'w> {
     UnknownRoute,
     // The board would end before it begins.
     UntilBeforeFrom,
-    // A line of the requests' file is at fault.
+    // A line of the file of requests is at fault.
     Line(RequestFault),
     // The zones of the feeds that are to be merged have different names.
     ZonesDiffer,
