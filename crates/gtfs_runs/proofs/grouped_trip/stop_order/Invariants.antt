@@ -1,8 +1,8 @@
 use Rattle.std.proofs.Common.{◌≡◌, length}
 use Rattle.std.specs.Cmp.Lexicographic.{slice_cmp}
 use Rattle.std.specs.Ordering.{nat_cmp}
-use Rattle.gtfs_runs.specs.steps.Courses.{stops_in}
-use Rattle.gtfs_runs.proofs.stop_lanes.numbered.stop_order.Given as goal
+use Rattle.gtfs_runs.specs.steps.Groups.{stops_in}
+use Rattle.gtfs_runs.proofs.grouped_trip.stop_order.Given as goal
 
 -- what is left compares like the whole
 abbrev pub invariant-loop-stop : goal.invariant-loop-stop
