@@ -1,62 +1,89 @@
 -- Texts that grow by a piece at a time.
-use Rattle.std.proofs.Common.{◌≡◌, ◌∙◌, ap, sym, ℕ, if◌then◌else◌, int_lt, pos, List, [], ◌++◌, codes, unsigned_abs, append_assoc}
+use Rattle.std.proofs.Common.{◌≡◌, ◌∙◌, ap, refl, ℕ, ◌-◌, ◌/◌, ◌%◌, ◌==◌, nat_lt, Bool, true, false, if◌then◌else◌, int_lt, pos, List, [], ◌∷◌, ◌++◌, take, drop, codes, unsigned_abs, append_assoc}
 use Rattle.std.specs.Prelude.{decimal}
 use Rattle.std.specs.Fmt.{signed_decimal}
+use Rattle.std.specs.List.{list_all}
+use Rattle.std.specs.Str.{IsAscii}
+use Rattle.std.proofs.lemmas.Bool.{and_parts, ltb-true}
+use Rattle.std.proofs.lemmas.Str.Ascii.{IsAscii-nil, IsAscii-cons}
 use Rattle.gtfs_field.specs.Digits.{wide}
 use Rattle.gtfs_days.specs.declared.civil.Civil.{Civil}
 use Rattle.gtfs_field.specs.Canonical.{date_text}
 use Rattle.gtfs_rows.specs.Key.{Key}
 use Rattle.gtfs_board.specs.KeyTexts.{key_text}
-use Rattle.gtfs_board.specs.Lines.{Listed, clock_text, line_text, mark_text, offset_text}
-
--- the digits of a clock's date and time
-abbrev pub digits_of_clock : Civil → List ℕ
-digits_of_clock c = wide 4 (unsigned_abs c.year) ++ codes "-" ++ wide 2 c.month ++ codes "-" ++ wide 2 c.day ++ codes " " ++ wide 2 c.hour
-    ++ codes ":" ++ wide 2 c.minute ++ codes ":" ++ wide 2 c.second
+use Rattle.gtfs_board.specs.Lines.{Listed, clock_text, line_text, mark_text}
 
 -- a piece, and then the rest
 pub joined : (old mid new piece rest : List ℕ) → mid ≡ old ++ piece → new ≡ mid ++ rest → new ≡ old ++ (piece ++ rest)
 joined old mid new piece rest first next = next ∙ ap (λ t. t ++ rest) first ∙ append_assoc old piece rest
 
--- two pieces after a whole
-pub grown : (old mid new whole before piece : List ℕ) → mid ≡ old ++ whole → new ≡ mid ++ (before ++ piece) → new ≡ old ++ (whole ++ before ++ piece)
-grown old mid new whole before piece first next =
-    joined old mid new whole (before ++ piece) first next ∙ ap (λ t. old ++ t) (sym (append_assoc whole before piece))
+-- ASCII, as a test tells
+pub ascii-tested : (bs : List ℕ) → list_all (λ b. nat_lt b 128) bs ≡ true → IsAscii bs
+ascii-tested [] h = IsAscii-nil
+ascii-tested (b ∷ bs) h =
+    let parts = and_parts (nat_lt b 128) (list_all (λ b. nat_lt b 128) bs) h in
+    IsAscii-cons b bs (ltb-true b 128 parts.0) (ascii-tested bs parts.1)
 
--- a sign before the parts of a clock
-signed : (s y a m b d e h f n g t o : List ℕ) → s ++ (y ++ a ++ m ++ b ++ d ++ e ++ h ++ f ++ n ++ g ++ t ++ o) ≡ s ++ y ++ a ++ m ++ b ++ d ++ e ++ h ++ f ++ n ++ g ++ t ++ o
-signed s y a m b d e h f n g t o = simp append_assoc
+-- a tab, a clock with room for the sign of its year and the seconds of its offset, and a tab
+abbrev framed : Bool → Bool → Bool → ℕ → ℕ → ℕ → ℕ → ℕ → ℕ → ℕ → List ℕ
+framed negative behind whole y m d h n t o = codes "\t" ++ (if negative then codes "-" else codes "\t") ++ wide 4 y ++ codes "-" ++ wide 2 m ++ codes "-" ++ wide 2 d ++ codes " " ++ wide 2 h
+    ++ codes ":" ++ wide 2 n ++ codes ":" ++ wide 2 t ++ (if behind then codes "-" else codes "+") ++ wide 2 (o / 3600) ++ codes ":" ++ wide 2 (o / 60 % 60)
+    ++ (if whole then codes "\t" else codes ":") ++ wide 2 (o % 60) ++ codes "\t"
 
--- the sign of the year, the digits of date and time, and the offset
-pub clock-joined : (old mid timed new before sign : List ℕ) (c : Civil) → sign ≡ (if int_lt c.year (pos 0) then codes "-" else [])
-    → mid ≡ old ++ (before ++ sign) → timed ≡ mid ++ digits_of_clock c → new ≡ timed ++ offset_text c.offset → new ≡ old ++ (before ++ clock_text c)
-clock-joined old mid timed new before sign c sign-is s t o =
-    let rest = digits_of_clock c ++ offset_text c.offset in
-    joined old mid new (before ++ sign) rest s (joined mid timed new (digits_of_clock c) (offset_text c.offset) t o)
-    ∙ ap (λ k. old ++ ((before ++ k) ++ rest)) sign-is
-    ∙ ap (λ k. old ++ k) (append_assoc before (if int_lt c.year (pos 0) then codes "-" else []) rest)
-    ∙ ap (λ k. old ++ (before ++ k)) (signed (if int_lt c.year (pos 0) then codes "-" else []) (wide 4 (unsigned_abs c.year)) (codes "-") (wide 2 c.month) (codes "-")
-    (wide 2 c.day) (codes " ") (wide 2 c.hour) (codes ":") (wide 2 c.minute) (codes ":") (wide 2 c.second) (offset_text c.offset))
+abbrev shown : Bool → Bool → Bool → ℕ → ℕ → ℕ → ℕ → ℕ → ℕ → ℕ → List ℕ
+shown negative behind whole y m d h n t o = ((if negative then codes "-" else []) ++ wide 4 y) ++ codes "-" ++ wide 2 m ++ codes "-" ++ wide 2 d ++ codes " " ++ wide 2 h
+    ++ codes ":" ++ wide 2 n ++ codes ":" ++ wide 2 t ++ ((if behind then codes "-" else codes "+") ++ wide 2 (o / 3600) ++ codes ":" ++ wide 2 (o / 60 % 60)
+    ++ (if whole then [] else codes ":" ++ wide 2 (o % 60)))
+
+cut-out : (negative behind whole : Bool) (y m d h n t o : ℕ)
+    → take ((if whole then 28 else 31) - (if negative then 0 else 1)) (drop (if negative then 0 else 1) (framed negative behind whole y m d h n t o))
+    ≡ codes "\t" ++ shown negative behind whole y m d h n t o ++ codes "\t"
+cut-out true true true y m d h n t o = refl
+cut-out true true false y m d h n t o = refl
+cut-out true false true y m d h n t o = refl
+cut-out true false false y m d h n t o = refl
+cut-out false true true y m d h n t o = refl
+cut-out false true false y m d h n t o = refl
+cut-out false false true y m d h n t o = refl
+cut-out false false false y m d h n t o = refl
+
+abbrev pub clock_frame : Civil → List ℕ
+clock_frame c = framed (int_lt c.year (pos 0)) (int_lt c.offset (pos 0)) (unsigned_abs c.offset % 60 == 0) (unsigned_abs c.year) c.month c.day c.hour c.minute c.second (unsigned_abs c.offset)
+
+-- what is shown of it
+pub clock-shown : (c : Civil) (bytes : List ℕ) (start end : ℕ) → bytes ≡ clock_frame c → start ≡ (if int_lt c.year (pos 0) then 0 else 1)
+    → end ≡ (if unsigned_abs c.offset % 60 == 0 then 28 else 31) → take (end - start) (drop start bytes) ≡ codes "\t" ++ clock_text c ++ codes "\t"
+clock-shown c bytes start end is from to =
+    (λ i. take (to i - from i) (drop (from i) (is i)))
+    ∙ cut-out (int_lt c.year (pos 0)) (int_lt c.offset (pos 0)) (unsigned_abs c.offset % 60 == 0) (unsigned_abs c.year) c.month c.day c.hour c.minute c.second (unsigned_abs c.offset)
 
 -- the columns of a line
-pub line-joined : (old key clock stop route headsign mark new letter : List ℕ) (c : Civil) (d : Listed) → letter ≡ mark_text d.mark
-    → key ≡ old ++ key_text d.key → clock ≡ key ++ (codes "\t" ++ clock_text c) → stop ≡ clock ++ (codes "\t" ++ d.stop) → route ≡ stop ++ (codes "\t" ++ d.route)
-    → headsign ≡ route ++ (codes "\t" ++ d.headsign) → mark ≡ headsign ++ (codes "\t" ++ letter) → new ≡ mark ++ codes "\n" → new ≡ old ++ line_text c d
-line-joined old key clock stop route headsign mark new letter c d letter-is k l s r h m e =
-    let to_clock = grown old key clock (key_text d.key) (codes "\t") (clock_text c) k l in
-    let to_stop = grown old clock stop _ (codes "\t") d.stop to_clock s in
-    let to_route = grown old stop route _ (codes "\t") d.route to_stop r in
-    let to_headsign = grown old route headsign _ (codes "\t") d.headsign to_route h in
-    let to_mark = grown old headsign mark _ (codes "\t") (mark_text d.mark) to_headsign (m ∙ ap (λ t. headsign ++ (codes "\t" ++ t)) letter-is) in
-    joined old mark new _ (codes "\n") to_mark e
+regrouped : (old k t c s r h m n : List ℕ) → (((((old ++ k) ++ (t ++ c ++ t)) ++ (s ++ t)) ++ (r ++ t)) ++ h) ++ (t ++ m ++ n)
+    ≡ old ++ (k ++ t ++ c ++ t ++ s ++ t ++ r ++ t ++ h ++ t ++ m ++ n)
+regrouped old k t c s r h m n = simp append_assoc
+
+pub line-joined : (old key clock stop route headsign new ending : List ℕ) (c : Civil) (d : Listed) → ending ≡ codes "\t" ++ mark_text d.mark ++ codes "\n"
+    → key ≡ old ++ key_text d.key → clock ≡ key ++ (codes "\t" ++ clock_text c ++ codes "\t") → stop ≡ clock ++ (d.stop ++ codes "\t") → route ≡ stop ++ (d.route ++ codes "\t")
+    → headsign ≡ route ++ d.headsign → new ≡ headsign ++ ending → new ≡ old ++ line_text c d
+line-joined old key clock stop route headsign new ending c d ending-is k l s r h e =
+    let tab = codes "\t" in
+    let to_clock = l ∙ ap (λ x. x ++ (tab ++ clock_text c ++ tab)) k in
+    let to_stop = s ∙ ap (λ x. x ++ (d.stop ++ tab)) to_clock in
+    let to_route = r ∙ ap (λ x. x ++ (d.route ++ tab)) to_stop in
+    let to_headsign = h ∙ ap (λ x. x ++ d.headsign) to_route in
+    e ∙ ap (λ x. headsign ++ x) ending-is ∙ ap (λ x. x ++ (tab ++ mark_text d.mark ++ codes "\n")) to_headsign
+    ∙ regrouped old (key_text d.key) tab (clock_text c) d.stop d.route d.headsign (mark_text d.mark) (codes "\n")
 
 -- the parts of a key
-pub key-joined : (old instant trip run sequence new first second third : List ℕ) (k : Key) → first ≡ signed_decimal k.instant → second ≡ decimal k.run → third ≡ decimal k.sequence
-    → instant ≡ old ++ (codes "@" ++ first) → trip ≡ instant ++ (codes "/" ++ k.trip) → run ≡ trip ++ (codes "/" ++ second)
-    → sequence ≡ run ++ (codes "/" ++ third) → new ≡ sequence ++ (codes "/" ++ date_text k.day) → new ≡ old ++ key_text k
-key-joined old instant trip run sequence new first second third k first-is second-is third-is i t r s d =
-    let to_instant = i ∙ ap (λ x. old ++ (codes "@" ++ x)) first-is in
-    let to_trip = grown old instant trip (codes "@" ++ signed_decimal k.instant) (codes "/") k.trip to_instant t in
-    let to_run = grown old trip run _ (codes "/") (decimal k.run) to_trip (r ∙ ap (λ x. trip ++ (codes "/" ++ x)) second-is) in
-    let to_sequence = grown old run sequence _ (codes "/") (decimal k.sequence) to_run (s ∙ ap (λ x. run ++ (codes "/" ++ x)) third-is) in
-    grown old sequence new _ (codes "/") (date_text k.day) to_sequence d
+in_a_row : (old a i s t r n d : List ℕ) → (((((old ++ a) ++ i) ++ s) ++ t) ++ (s ++ r ++ s ++ n ++ s ++ d)) ≡ old ++ (a ++ i ++ s ++ t ++ s ++ r ++ s ++ n ++ s ++ d)
+in_a_row old a i s t r n d = simp append_assoc
+
+pub key-joined : (old at instant slash trip new shown : List ℕ) (k : Key) → shown ≡ signed_decimal k.instant
+    → at ≡ old ++ codes "@" → instant ≡ at ++ shown → slash ≡ instant ++ codes "/" → trip ≡ slash ++ k.trip
+    → new ≡ trip ++ (codes "/" ++ decimal k.run ++ codes "/" ++ decimal k.sequence ++ codes "/" ++ date_text k.day) → new ≡ old ++ key_text k
+key-joined old at instant slash trip new shown k shown-is a i s t n =
+    let last = codes "/" ++ decimal k.run ++ codes "/" ++ decimal k.sequence ++ codes "/" ++ date_text k.day in
+    let to_instant = i ∙ ap (λ x. at ++ x) shown-is ∙ ap (λ x. x ++ signed_decimal k.instant) a in
+    let to_slash = s ∙ ap (λ x. x ++ codes "/") to_instant in
+    let to_trip = t ∙ ap (λ x. x ++ k.trip) to_slash in
+    n ∙ ap (λ x. x ++ last) to_trip ∙ in_a_row old (codes "@") (signed_decimal k.instant) (codes "/") k.trip (decimal k.run) (decimal k.sequence) (date_text k.day)

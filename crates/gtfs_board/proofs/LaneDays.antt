@@ -36,7 +36,7 @@ use Rattle.gtfs_board.specs.merge.Candidates.{candidate_lt, IsAside, AreCandidat
 use Rattle.gtfs_board.specs.merge.Lanes.{AreAll}
 use Rattle.gtfs_board.specs.merge.Order.{In, Each, IsAscending}
 use Rattle.gtfs_board.proofs.Candidates.{candidates_strict, not_lt-instant}
-use Rattle.gtfs_board.proofs.Orders.{Each-in, find-agree}
+use Rattle.gtfs_board.proofs.Orders.{Each-in, each-all, find-agree, in-left, in-right, in-either}
 use Rattle.gtfs_board.proofs.Rests.{in-filter, filter-in}
 use Rattle.gtfs_board.proofs.ServiceDays.{day_listed}
 use Rattle.gtfs_board.proofs.Window.{each_in, each_weaker}
@@ -53,18 +53,6 @@ map-in f (x ∷ xs) y here = elim here [
   | inl e ↦ (x, (inl refl, e))
   | inr later ↦ let r = map-in f xs y later in (r.0, (inr r.1.0, r.1.1))
 ]
-
-pub in-left : {A : Type 0} (xs ys : List A) (x : A) → In x xs → In x (xs ++ ys)
-in-left [] ys x here = absurd here
-in-left (y ∷ xs) ys x here = elim here [ inl e ↦ inl e | inr later ↦ inr (in-left xs ys x later) ]
-
-pub in-right : {A : Type 0} (xs ys : List A) (x : A) → In x ys → In x (xs ++ ys)
-in-right [] ys x here = here
-in-right (y ∷ xs) ys x here = inr (in-right xs ys x here)
-
-pub in-either : {A : Type 0} (xs ys : List A) (x : A) → In x (xs ++ ys) → In x xs ⊎ In x ys
-in-either [] ys x here = inr here
-in-either (z ∷ xs) ys x here = elim here [ inl e ↦ inl (inl e) | inr later ↦ elim (in-either xs ys x later) [ inl a ↦ inl (inr a) | inr b ↦ inr b ] ]
 
 pub in-flat_map : {A B : Type 0} (f : A → List B) (xs : List A) (x : A) (y : B) → In x xs → In y (f x) → In y (flat_map f xs)
 in-flat_map f [] x y here there = absurd here
@@ -93,10 +81,6 @@ range-in a (suc n) i here = elim here [
   | inl e ↦ (omega arith, omega arith)
   | inr later ↦ let r = range-in (a + 1) n i later in (omega (arith, r.0), omega (arith, r.1))
 ]
-
-pub each-all : {A : Type 0} (P : A → Type 0) (xs : List A) → All P xs → Each P xs
-each-all P [] all = tt
-each-all P (x ∷ xs) all = (all 0 x (omega arith), each-all P xs (All-tail P x xs all))
 
 -- ---- ascending lists
 

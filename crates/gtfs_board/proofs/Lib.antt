@@ -7,6 +7,7 @@ pub mod Reach
 pub mod Rests
 pub mod Days
 pub mod Candidates
+pub mod Queues
 pub mod Gathers
 pub mod Merges
 pub mod Starts

@@ -11,33 +11,16 @@ use Rattle.gtfs_board.specs.declared.merge.candidate.Candidate.{Candidate}
 use Rattle.gtfs_board.specs.merge.Order.{In, Each, IsUpward, same, tally}
 use Rattle.gtfs_board.specs.merge.Lanes.{Events, AreLanes, AreHeads, AreAll, IsStopped, IsFrom, IsStartDay, AreStepsFew, is_reached, is_opened, rest_of}
 use Rattle.gtfs_board.specs.merge.Candidates.{candidate_lt, least_from, day_of, lane_of, instant_of, IsWithin, AreGathered, position, IsAside, IsFirst, IsWaiting, head_of}
-use Rattle.gtfs_board.proofs.Orders.{Each-in, find-in, find-least}
+use Rattle.gtfs_board.proofs.Orders.{Each-in, find-in, find-least, in-either}
 use Rattle.gtfs_board.proofs.Heads.{in-from_tally, head-waits, least_of_all, heads_taken, head-found, find-passes}
 use Rattle.gtfs_board.proofs.Opening.{tally-append}
 use Rattle.gtfs_board.proofs.Window.{each_in, each_weaker, in_tally, waits-head, held_bound}
 use Rattle.gtfs_board.proofs.Reach.{reached-opened, opened-reached}
 use Rattle.gtfs_board.proofs.Rests.{rest_taken, rest_empty, in-in_order, in-filter}
 use Rattle.gtfs_board.proofs.Candidates.{candidates_strict, not_lt-instant}
+use Rattle.gtfs_board.proofs.Queues.{in_alike, each_alike, uncounted}
 use Rattle.gtfs_board.proofs.Gathers.{least_from-is, least_from-above}
-use Rattle.gtfs_board.proofs.LaneDays.{in-either}
 use Rattle.gtfs_board.proofs.Days.{least_from-none as least_none}
-
-pub tally_sum : {C : Type 0} (p : C → Bool) (xs : List C) → sum_by (λ x. cond (p x) 1 0) xs ≡ tally p xs
-tally_sum p [] = refl
-tally_sum p (x ∷ xs) = sum_by-cons (λ x. cond (p x) 1 0) x xs ∙ ap (λ n. cond (p x) 1 0 + n) (tally_sum p xs)
-
-pub tally-permutation : {C : Type 0} (p : C → Bool) (xs ys : List C) → IsPermutation xs ys → tally p ys ≡ tally p xs
-tally-permutation p xs ys h = sym (tally_sum p ys) ∙ sum_by-IsPermutation (λ x. cond (p x) 1 0) xs ys h ∙ tally_sum p xs
-
--- what is counted alike stands in both
-pub in_alike : (xs ys : List Candidate) → ((x : Candidate) → tally (same candidate_lt x) ys ≡ tally (same candidate_lt x) xs) → (x : Candidate) → In x ys → In x xs
-in_alike xs ys alike x there =
-    let some = in_tally candidates_strict x ys there in
-    let e = alike x in
-    in-from_tally candidates_strict x xs (omega (arith, some, e))
-
-each_alike : (P : Candidate → Type 0) (xs ys : List Candidate) → ((x : Candidate) → tally (same candidate_lt x) ys ≡ tally (same candidate_lt x) xs) → Each P xs → Each P ys
-each_alike P xs ys alike all = each_in P ys (λ x there. Each-in P xs x all (in_alike xs ys alike x there))
 
 in-option : {C : Type 0} (o : Option C) (x : C) → In x (option_to_list o) → o ≡ Some x
 in-option None x here = absurd here
@@ -50,49 +33,6 @@ times_le (suc n) a b h = let rest = times_le n a b h in grind (arith, rest)
 no_earlier : (end : ℤ) (first : Option Candidate) (others : List Candidate) → IsFirst first others → Each (λ y. position end first ≤ℤ y.instant) (option_to_list first ++ others)
 no_earlier end None others e = rw e tt
 no_earlier end (Some c) others least = (omega (arith, ints), each_weaker (λ y. candidate_lt y c ≡ false) (λ y. c.instant ≤ℤ y.instant) (λ y h. not_lt-instant y c h) others least)
-
-uncounted : (xs : List Candidate) → ((x : Candidate) → tally (same candidate_lt x) xs ≡ 0) → xs ≡ []
-uncounted [] h = refl
-uncounted (x ∷ xs) h =
-    let some = in_tally candidates_strict x (x ∷ xs) (inl refl) in
-    let none = h x in
-    absurd (omega (arith, some, none))
-
--- a heap that took in another list
-pub appended_counts : (others fresh added joined : List Candidate) → IsPermutation fresh added → IsPermutation (others ++ added) joined
-    → (x : Candidate) → tally (same candidate_lt x) joined ≡ tally (same candidate_lt x) (others ++ fresh)
-appended_counts others fresh added joined from join x =
-    let t = same candidate_lt x in
-    let a = tally-permutation t (others ++ added) joined join in
-    let b = tally-permutation t fresh added from in
-    a ∙ tally-append t others added ∙ ap (λ n. tally t others + n) b ∙ sym (tally-append t others fresh)
-
--- a heap that took in one, where no list is
-pub pushed_counts : (others fresh joined : List Candidate) (c : Candidate) → fresh ≡ [] → IsPermutation (c ∷ others) joined
-    → (x : Candidate) → tally (same candidate_lt x) joined ≡ tally (same candidate_lt x) ((others ++ c ∷ []) ++ fresh)
-pushed_counts others fresh joined c none push x =
-    let t = same candidate_lt x in
-    let a = tally-permutation t (c ∷ others) joined push in
-    let b = tally-append t others (c ∷ []) in
-    let d : tally t ((others ++ c ∷ []) ++ fresh) ≡ tally t (others ++ c ∷ []) = ap (λ k. tally t ((others ++ c ∷ []) ++ k)) none ∙ ap (tally t) (append-nil (others ++ c ∷ [])) in
-    a ∙ omega (arith, b) ∙ sym d
-
--- what the list has is counted alike before it and at its end
-pub moved_counts : (others fresh more joined : List Candidate) (c : Candidate) → more ≡ fresh ++ c ∷ []
-    → ((x : Candidate) → tally (same candidate_lt x) joined ≡ tally (same candidate_lt x) (others ++ more))
-    → (x : Candidate) → tally (same candidate_lt x) joined ≡ tally (same candidate_lt x) ((others ++ c ∷ []) ++ fresh)
-moved_counts others fresh more joined c is counts x =
-    let t = same candidate_lt x in
-    let a = tally-append t others more in
-    let b : tally t more ≡ tally t fresh + tally t (c ∷ []) = ap (tally t) is ∙ tally-append t fresh (c ∷ []) in
-    let d = tally-append t (others ++ c ∷ []) fresh in
-    let e = tally-append t others (c ∷ []) in
-    counts x ∙ omega (arith, a, b, d, e)
-
--- a heap that gave one away
-pub popped_counts : (all joined rest : List Candidate) (c : Candidate) → ((x : Candidate) → tally (same candidate_lt x) joined ≡ tally (same candidate_lt x) all)
-    → IsPermutation joined (c ∷ rest) → (x : Candidate) → tally (same candidate_lt x) (c ∷ rest) ≡ tally (same candidate_lt x) all
-popped_counts all joined rest c counts pops x = tally-permutation (same candidate_lt x) joined (c ∷ rest) pops ∙ counts x
 
 none_found : {C : Type 0} (p : C → Bool) (xs : List C) → ((c : C) → In c xs → p c ≡ false) → find p xs ≡ None
 none_found p [] h = refl

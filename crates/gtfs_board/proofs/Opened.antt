@@ -50,7 +50,7 @@ use Rattle.gtfs_board.specs.merge.Order.{Each, In, IsAscending, tally}
 use Rattle.gtfs_board.proofs.BoardKeys.{board-of, in-member}
 use Rattle.gtfs_board.proofs.CandidateKeys.{compares}
 use Rattle.gtfs_board.proofs.EventFacts.{any_at, lane_there, map_at, trip_back}
-use Rattle.gtfs_board.proofs.Merges.{tally_sum}
+use Rattle.gtfs_board.proofs.Queues.{tally_sum}
 use Rattle.gtfs_board.proofs.KeyOrder.{key_cmp_total}
 use Rattle.gtfs_board.proofs.LaneDays.{day_there, serves_within}
 use Rattle.gtfs_board.proofs.Orders.{Each-in}

@@ -1,5 +1,6 @@
-use Rattle.std.specs.List.{AllByRecursion}
-use Rattle.std.proofs.Common.{◌≡◌, ◌<◌, length, get_or, Bool, true, List, [], ◌∷◌, ◌⊎◌, inl, inr, Some, refl, sym, ◌∙◌, ap, subst, arith, find}
+use Rattle.std.specs.List.{All, AllByRecursion}
+use Rattle.std.proofs.Common.{◌≡◌, ◌<◌, length, get_or, Bool, true, List, [], ◌∷◌, ◌++◌, ◌⊎◌, inl, inr, Some, refl, sym, ◌∙◌, ap, subst, arith, find}
+use Rattle.std.proofs.lemmas.List.Elements.{All-tail}
 use Rattle.std.proofs.lemmas.Bool.{true≢false, false≢true, cases_Bool}
 use Rattle.gtfs_board.specs.merge.Order.{IsStrict, In, Each, IsAscending, same, IsUpward}
 
@@ -53,3 +54,19 @@ in-first (y ∷ ys) x h e = inl e
 pub each_from_recursion : {C : Type 0} (P : C → Type 0) (xs : List C) → AllByRecursion P xs → Each P xs
 each_from_recursion P [] h = tt
 each_from_recursion P (x ∷ xs) h = (h.0, each_from_recursion P xs h.1)
+
+pub in-left : {A : Type 0} (xs ys : List A) (x : A) → In x xs → In x (xs ++ ys)
+in-left [] ys x here = absurd here
+in-left (y ∷ xs) ys x here = elim here [ inl e ↦ inl e | inr later ↦ inr (in-left xs ys x later) ]
+
+pub in-right : {A : Type 0} (xs ys : List A) (x : A) → In x ys → In x (xs ++ ys)
+in-right [] ys x here = here
+in-right (y ∷ xs) ys x here = inr (in-right xs ys x here)
+
+pub in-either : {A : Type 0} (xs ys : List A) (x : A) → In x (xs ++ ys) → In x xs ⊎ In x ys
+in-either [] ys x here = inr here
+in-either (z ∷ xs) ys x here = elim here [ inl e ↦ inl (inl e) | inr later ↦ elim (in-either xs ys x later) [ inl a ↦ inl (inr a) | inr b ↦ inr b ] ]
+
+pub each-all : {A : Type 0} (P : A → Type 0) (xs : List A) → All P xs → Each P xs
+each-all P [] all = tt
+each-all P (x ∷ xs) all = (all 0 x (omega arith), each-all P xs (All-tail P x xs all))

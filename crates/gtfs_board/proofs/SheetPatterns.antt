@@ -47,7 +47,8 @@ use Rattle.gtfs_board.specs.merge.Order.{In, IsAscending, IsStrict}
 use Rattle.gtfs_runs.proofs.TripIds.{numbers}
 use Rattle.gtfs_board.proofs.Candidates.{strict_from_total}
 use Rattle.gtfs_board.proofs.EventFacts.{at_in, in_at}
-use Rattle.gtfs_board.proofs.LaneDays.{flat_map-in, in-flat_map, in-map, in-range, in-right, map-in}
+use Rattle.gtfs_board.proofs.Orders.{in-right}
+use Rattle.gtfs_board.proofs.LaneDays.{flat_map-in, in-flat_map, in-map, in-range, map-in}
 use Rattle.gtfs_board.proofs.Rests.{filter-in, in-filter}
 use Rattle.gtfs_board.proofs.SheetColumns.{all-in, trip-of}
 use Rattle.gtfs_board.proofs.SheetLists.{ascending-mapped, below}

@@ -56,9 +56,9 @@ pub struct Board<'a> {
 }
 
 // A board is small itself: beside what it is lent it has the lanes and the queue, and no other collection.
-const _: () = prove!(size_of::<Board<'static>>() == 272);
+const _: () = prove!(size_of::<Board<'static>>() == 296);
 
-const _: () = prove!(size_of::<Merge<Days<'static>>>() == 256);
+const _: () = prove!(size_of::<Merge<Days<'static>>>() == 280);
 
 const _: () = prove!(size_of::<Days<'static>>() == 104);
 

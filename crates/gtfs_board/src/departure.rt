@@ -1,4 +1,4 @@
-ghost use Rattle.std.specs.Prelude.{◌≡◌, ◌≤◌, length};
+ghost use Rattle.std.specs.Prelude.{◌≡◌, ◌≤◌, ◌++◌, codes, length};
 ghost use Rattle.gtfs_board.specs.Lines.{mark_text};
 ghost use Rattle.gtfs_board.specs.Shown.{mark_if};
 
@@ -31,16 +31,16 @@ impl Mark {
         }
     }
 
-    // The mark's letters.
-    pub(crate) fn text(self) -> &'static str
-        ensures value { result.now ≡ mark_text self }
-        ensures len { length result.now ≤ 2 }
+    // How a line ends: a tab, the mark's letters and a line feed.
+    pub(crate) fn ending(self) -> &'static str
+        ensures value { result.now ≡ codes "\t" ++ mark_text self ++ codes "\n" }
+        ensures len { length result.now ≤ 4 }
     {
         match self {
-            Mark::Scheduled => "s",
-            Mark::Frequency => "f",
-            Mark::ScheduledFilled => "si",
-            Mark::FrequencyFilled => "fi",
+            Mark::Scheduled => "\ts\n",
+            Mark::Frequency => "\tf\n",
+            Mark::ScheduledFilled => "\tsi\n",
+            Mark::FrequencyFilled => "\tfi\n",
         }
     }
 }

@@ -4,19 +4,6 @@ ghost use Rattle.std.specs.String.{string_capacity};
 ghost use Rattle.std.specs.Str.{IsAscii};
 ghost use Rattle.gtfs_field.specs.Digits.{wide};
 
-// Appends what stands before a piece, and the piece.
-pub(crate) fn push_piece(text: &mut String, before: &str, piece: &str)
-    requires { string_len text.old + (length before.now + length piece.now)
-        ≤ string_capacity text.old }
-    ensures appended { string_bytes text.new ≡ string_bytes text.old ++ (before.now ++ piece.now) }
-    ensures len { string_len text.new
-        ≡ string_len text.old + (length before.now + length piece.now) }
-    ensures capacity { string_capacity text.old ≤ string_capacity text.new }
-{
-    text.push_str(before).unwrap();
-    text.push_str(piece).unwrap();
-}
-
 // Appends ASCII bytes.
 pub(crate) fn push_ascii(text: &mut String, bytes: &[u8])
     requires ascii { IsAscii bytes.now }

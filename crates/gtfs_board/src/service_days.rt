@@ -13,11 +13,11 @@ mod seeking;
 use crate::merge::{Candidate, Source};
 use crate::service_days::any_lane::AnyLane;
 use gtfs_days::{FIRST_SERVICE_DAY, LAST_SERVICE_DAY, Service, Zone};
-use gtfs_field::Day;
+use gtfs_field::{Day, OutOfMemory};
 use gtfs_rows::TripNo;
 use gtfs_runs::{Event, Feed, Moment, Steps, StopLanes};
 use seeking::moment_from;
-use std::alloc::{AllocError, Global};
+use std::alloc::Global;
 
 // The departures of the lanes of a stop on each service day, up to an instant.
 #[derive(Drop)]
@@ -106,7 +106,7 @@ impl<'a> Days<'a> {
     }
 
     // The origin of a day, if the service of a lane runs on it.
-    fn origin(&self, lane: usize, day: i32) -> Result<Option<i64>, AllocError>
+    fn origin(&self, lane: usize, day: i32) -> Result<Option<i64>, OutOfMemory>
         requires { lane < length (lanes_of self.now.lanes) }
         ensures { IfOk result (λ o. o
             ≡ (if serves_on self.now.feed.now (lane_at self.now.lanes lane).service day
@@ -272,7 +272,7 @@ impl Source for Days<'_> {
         day: i32,
         floor: &Candidate,
         steps: &mut Steps,
-    ) -> Result<Option<Candidate>, AllocError> {
+    ) -> Result<Option<Candidate>, OutOfMemory> {
         let origin = self.origin(lane, day)?;
         match origin {
             Some(origin) => Ok(self.head_on(lane, day, origin, floor, steps)),

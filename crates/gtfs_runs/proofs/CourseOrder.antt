@@ -46,8 +46,8 @@ course_is a b h =
     let x = both_equal _ _ (equal _ h) in
     let y = both_equal _ _ x.1 in
     let services = nat_cmp-IsAntisymmetric a.service b.service x.0 in
-    let rows = nat_cmp-IsAntisymmetric a.row b.row y.0 in
-    let stops = slice_cmp-IsAntisymmetric nat_cmp-IsAntisymmetric a.stops b.stops y.1 in
+    let stops = slice_cmp-IsAntisymmetric nat_cmp-IsAntisymmetric a.stops b.stops y.0 in
+    let rows = nat_cmp-IsAntisymmetric a.row b.row y.1 in
     λ i. record { service = services i; row = rows i; stops = stops i }
 
 pub course_itself : (a : CourseNo) → is_same_course a a ≡ true

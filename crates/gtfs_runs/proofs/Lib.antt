@@ -18,7 +18,7 @@ mod TripFinds
 pub mod TripTimes
 mod Ranks
 mod Numbers
-mod OneList
+mod GroupFacts
 pub mod CourseOrder
 mod Latest
 mod CourseCounts

@@ -1,120 +1,178 @@
--- The numbers of stops: what they count, and that they compare like the stops.
-use Rattle.std.proofs.Common.{rules, ◌≡◌, ◌≤◌, ◌<◌, ◌+◌, ◌-◌, ◌++◌, ◌∙◌, ℕ, true, List, [], ◌∷◌, cond, length, map, drop, get_or, nat_lt, sym, ap, subst, arith, inl, inr, ◌≢◌, get_or-set_other, get_or-set_same}
+-- The numbers of groups: what they count, and that they compare like the groups.
+use Rattle.std.proofs.Common.{rules, ◌≡◌, ◌≤◌, ◌<◌, ◌+◌, ◌-◌, ◌++◌, ◌∙◌, ℕ, true, List, [], ◌∷◌, cond, length, map, drop, get_or, nat_lt, sym, ap, subst, arith, inl, inr, ◌≢◌, ◌==◌, ◌&&◌, get_or-set_other, get_or-set_same, Result, Ok, Err}
+use Rattle.std.specs.Prelude.{IfOk}
 use Rattle.std.specs.List.{All, slice_set}
 use Rattle.std.specs.List.Sorted.{IsPermutation, IsSorted}
-use Rattle.std.specs.Cmp.{IsTotalOrder, tied_itself}
+use Rattle.std.specs.Cmp.{IsTotalOrder, both_ways, tied_itself}
+use Rattle.std.specs.Cmp.Derive.{both_true}
 use Rattle.std.specs.Cmp.Rules.{comparing}
-use Rattle.std.specs.FinMap.{nat_cmp-IsAntisymmetric, slice_cmp-IsAntisymmetric}
+use Rattle.std.specs.FinMap.{IsAntisymmetric, nat_cmp-IsAntisymmetric, slice_cmp-IsAntisymmetric}
+use Rattle.std.specs.declared.cmp.Ordering.{Ordering}
+use Rattle.std.specs.declared.cmp.Ordering.TheVariants.{Less, Equal, Greater}
 use Rattle.std.specs.Ordering.{is_eq, is_lt, nat_cmp, ordering_then}
 use Rattle.std.proofs.Math.Seq.{map-set_same}
-use Rattle.std.proofs.lemmas.Bool.{cases_Bool, ltb-false, ltb-true}
-use Rattle.std.proofs.lemmas.List.{get_or_default}
-use Rattle.std.proofs.lemmas.Cmp.{lists_total, nat_cmp_total}
-use Rattle.std.proofs.lemmas.List.Elements.{All-drop}
+use Rattle.std.proofs.lemmas.Bool.{and_parts, cases_Bool, eq-eqb as equal_holds, eqb-true, ltb-false, ltb-true}
+use Rattle.std.proofs.lemmas.Cmp.{nat_cmp_total}
+use Rattle.std.proofs.lemmas.List.Elements.{All-drop, All-map}
 use Rattle.std.proofs.lemmas.List.Sorted.{All-permutation}
-use Rattle.gtfs_runs.specs.Order.{event_cmp}
+use Rattle.gtfs_field.proofs.OrderingFacts.{equal, tied as both_equal}
+use Rattle.gtfs_rows.specs.declared.parts.Parts.{Parts}
+use Rattle.gtfs_runs.specs.declared.grouped_trip.GroupedTrip.{GroupedTrip}
 use Rattle.gtfs_runs.specs.declared.stop_lanes.listed.Listed.{Listed}
-use Rattle.gtfs_runs.specs.steps.Courses.{course_no_cmp, stopping_cmp, stopping_of}
-use Rattle.gtfs_runs.specs.steps.Numbers.{AreNumbered, HaveOneList, IsNumbered, below, list_cmp, list_of, listed_cmp, number_cmp, sharing}
+use Rattle.gtfs_runs.specs.steps.Courses.{course_no_cmp, is_same_course, stopping_cmp, stopping_of}
+use Rattle.gtfs_runs.specs.steps.Groups.{Group, below, group_cmp, group_of, sharing, trip_group}
+use Rattle.gtfs_runs.specs.steps.Numbers.{AreNumbered, IsNumbered, listed_cmp}
 use Rattle.gtfs_runs.proofs.Chunks.{all_mapped}
 use Rattle.gtfs_runs.proofs.Ranks.{ranks_compare}
 use Rattle.gtfs_runs.proofs.Tallies.{tally-permutation, tally-push}
 
-pub list_total : IsTotalOrder list_cmp
-list_total = lists_total nat_cmp_total
+pub groups_total : IsTotalOrder group_cmp
+groups_total = search (comparing, rules) depth 20
 
-pub listed_total : IsTotalOrder listed_cmp
-listed_total = search (comparing, rules) depth 20
+pub groups_antisymmetric : IsAntisymmetric group_cmp
+groups_antisymmetric a b h =
+    let x = both_equal _ _ h in
+    let services = nat_cmp-IsAntisymmetric a.0 b.0 x.0 in
+    let stops = slice_cmp-IsAntisymmetric nat_cmp-IsAntisymmetric a.1 b.1 x.1 in
+    λ i. (services i, stops i)
 
 -- ---- pairs of a list
 
 pub pairs_permuted : {X : Type 0} (R : X → X → Type 0) (xs ys : List X) → IsPermutation xs ys → All (λ x. All (R x) xs) xs → All (λ x. All (R x) ys) ys
 pairs_permuted R xs ys same all = All-permutation (λ x. All (R x) ys) xs ys same (λ k d h. All-permutation (R (get_or xs k d)) xs ys same (all k d h))
 
-pub numbers_left : (n : ℕ) (xs : List Listed) → AreNumbered xs → AreNumbered (drop n xs)
-numbers_left n xs all = All-drop (λ x. All (IsNumbered x) (drop n xs)) n xs (λ k d h. All-drop (IsNumbered (get_or xs k d)) n xs (all k d h))
+pub numbers_left : (p : Parts) (n : ℕ) (xs : List Listed) → AreNumbered p xs → AreNumbered p (drop n xs)
+numbers_left p n xs all = All-drop (λ x. All (IsNumbered p x) (drop n xs)) n xs (λ k d h. All-drop (IsNumbered p (get_or xs k d)) n xs (all k d h))
 
--- ---- events of one trip
+-- ---- who shares groups
 
-pub one_list : (xs : List Listed) → HaveOneList (map stopping_of xs) → (i j : ℕ) (d : Listed) → i < length xs → j < length xs
-    → (get_or xs i d).event.trip.0 ≡ (get_or xs j d).event.trip.0 → list_of (get_or xs i d) ≡ list_of (get_or xs j d)
-one_list xs all i j d within inside same =
-    let x = get_or xs i d in
-    let ys = map stopping_of xs in
-    all_mapped (λ y. x.event.trip.0 ≡ y.event.trip.0 → list_of x ≡ y.course.stops) stopping_of xs
-    (all_mapped (λ z. All (λ y. z.event.trip.0 ≡ y.event.trip.0 → z.course.stops ≡ y.course.stops) ys) stopping_of xs all i d within) j d inside same
+pub sharing_more : (trips : List GroupedTrip) (x : GroupedTrip) (g : Group) → 1 ≤ sharing trips g → 1 ≤ sharing (trips ++ x ∷ []) g
+sharing_more trips x g some = let more = tally-push (λ y. is_eq (group_cmp (group_of y) g)) trips x in omega (arith, more, some)
 
--- ---- who shares stops
-
-pub sharing_more : (xs : List Listed) (x : Listed) (l : List ℕ) → 1 ≤ sharing xs l → 1 ≤ sharing (xs ++ x ∷ []) l
-sharing_more xs x l some = let more = tally-push (λ y. is_eq (list_cmp (list_of y) l)) xs x in omega (arith, more, some)
-
-pub sharing_own : (xs : List Listed) (x : Listed) → 1 ≤ sharing (xs ++ x ∷ []) (list_of x)
-sharing_own xs x =
-    let more = tally-push (λ y. is_eq (list_cmp (list_of y) (list_of x))) xs x in
-    let own : is_eq (list_cmp (list_of x) (list_of x)) ≡ true = ap is_eq (tied_itself list_total (list_of x)) in
-    let one : ◌≡◌ {A = ℕ} (cond (is_eq (list_cmp (list_of x) (list_of x))) 1 0) 1 = ap (λ b. cond b 1 0) own in
+pub sharing_own : (trips : List GroupedTrip) (x : GroupedTrip) → 1 ≤ sharing (trips ++ x ∷ []) (group_of x)
+sharing_own trips x =
+    let more = tally-push (λ y. is_eq (group_cmp (group_of y) (group_of x))) trips x in
+    let own : is_eq (group_cmp (group_of x) (group_of x)) ≡ true = ap is_eq (tied_itself groups_total (group_of x)) in
+    let one : ◌≡◌ {A = ℕ} (cond (is_eq (group_cmp (group_of x) (group_of x))) 1 0) 1 = ap (λ b. cond b 1 0) own in
     omega (arith, more, one)
 
--- a further event is among the first ones, or shares the stops of the one before
-pub first_more : (xs firsts new : List Listed) (n : ℕ) (x : Listed) → x ≡ get_or xs n x → n < length xs → new ≡ firsts ++ x ∷ []
-    → ((k : ℕ) (d : Listed) → k < n → 1 ≤ sharing firsts (list_of (get_or xs k d))) → (k : ℕ) (d : Listed) → k < n + 1 → 1 ≤ sharing new (list_of (get_or xs k d))
-first_more xs firsts new n x is within pushed so_far k d upto = subst (λ l. 1 ≤ sharing l (list_of (get_or xs k d))) (sym pushed) (elim (cases_Bool (nat_lt k n)) [
-  | inl low ↦ sharing_more firsts x (list_of (get_or xs k d)) (so_far k d (ltb-true k n low))
+-- the trip of a further event is among these, or it is that of the event before
+pub trips_more : (p : Parts) (xs : List Listed) (trips new : List GroupedTrip) (n : ℕ) (x : GroupedTrip) → ((d : Listed) → group_of x ≡ trip_group p (get_or xs n d).trip)
+    → new ≡ trips ++ x ∷ [] → ((k : ℕ) (d : Listed) → k < n → 1 ≤ sharing trips (trip_group p (get_or xs k d).trip))
+    → (k : ℕ) (d : Listed) → k < n + 1 → 1 ≤ sharing new (trip_group p (get_or xs k d).trip)
+trips_more p xs trips new n x is pushed so_far k d upto = subst (λ l. 1 ≤ sharing l (trip_group p (get_or xs k d).trip)) (sym pushed) (elim (cases_Bool (nat_lt k n)) [
+  | inl low ↦ sharing_more trips x (trip_group p (get_or xs k d).trip) (so_far k d (ltb-true k n low))
   | inr high ↦
       let last : k ≡ n = omega (arith, ltb-false k n high, upto) in
-      let here : get_or xs k d ≡ x = ap (λ m. get_or xs m d) last ∙ sym (is ∙ get_or_default xs n x d within) in
-      subst (λ y. 1 ≤ sharing (firsts ++ x ∷ []) (list_of y)) (sym here) (sharing_own firsts x)
+      subst (λ g. 1 ≤ sharing (trips ++ x ∷ []) g) (is d ∙ ap (λ m. trip_group p (get_or xs m d).trip) (sym last)) (sharing_own trips x)
 ])
 
-pub first_kept : (xs firsts new : List Listed) (n : ℕ) → 0 < n → ((d : Listed) → list_of (get_or xs (n - 1) d) ≡ list_of (get_or xs n d)) → new ≡ firsts
-    → ((k : ℕ) (d : Listed) → k < n → 1 ≤ sharing firsts (list_of (get_or xs k d))) → (k : ℕ) (d : Listed) → k < n + 1 → 1 ≤ sharing new (list_of (get_or xs k d))
-first_kept xs firsts new n some before kept so_far k d upto = subst (λ l. 1 ≤ sharing l (list_of (get_or xs k d))) (sym kept) (elim (cases_Bool (nat_lt k n)) [
+pub trips_kept : (p : Parts) (xs : List Listed) (trips new : List GroupedTrip) (n : ℕ) → 0 < n → ((d : Listed) → (get_or xs (n - 1) d).trip ≡ (get_or xs n d).trip) → new ≡ trips
+    → ((k : ℕ) (d : Listed) → k < n → 1 ≤ sharing trips (trip_group p (get_or xs k d).trip)) → (k : ℕ) (d : Listed) → k < n + 1 → 1 ≤ sharing new (trip_group p (get_or xs k d).trip)
+trips_kept p xs trips new n some before kept so_far k d upto = subst (λ l. 1 ≤ sharing l (trip_group p (get_or xs k d).trip)) (sym kept) (elim (cases_Bool (nat_lt k n)) [
   | inl low ↦ so_far k d (ltb-true k n low)
   | inr high ↦
       let last : k ≡ n = omega (arith, ltb-false k n high, upto) in
-      subst (λ l. 1 ≤ sharing firsts l) (before d ∙ ap (λ m. list_of (get_or xs m d)) (sym last)) (so_far (n - 1) d (omega (arith, some)))
+      subst (λ t. 1 ≤ sharing trips (trip_group p t)) (before d ∙ ap (λ m. (get_or xs m d).trip) (sym last)) (so_far (n - 1) d (omega (arith, some)))
 ])
 
--- ---- numbers against stops
+-- ---- numbers against groups
 
 -- a further event has its number
-pub number_more : (firsts xs : List Listed) (n : ℕ) (x y : Listed) → x ≡ get_or xs n x → n < length xs → stopping_of y ≡ stopping_of x → y.number ≡ below firsts (list_of x)
-    → ((k : ℕ) (d : Listed) → k < n → (get_or xs k d).number ≡ below firsts (list_of (get_or xs k d)))
-    → (k : ℕ) (d : Listed) → k < n + 1 → (get_or (slice_set xs n y) k d).number ≡ below firsts (list_of (get_or (slice_set xs n y) k d))
-number_more firsts xs n x y is within same number so_far k d upto = elim (cases_Bool (nat_lt k n)) [
+pub number_more : (p : Parts) (trips : List GroupedTrip) (xs : List Listed) (n : ℕ) (y : Listed) → n < length xs → y.group ≡ below trips (trip_group p y.trip)
+    → ((k : ℕ) (d : Listed) → k < n → (get_or xs k d).group ≡ below trips (trip_group p (get_or xs k d).trip))
+    → (k : ℕ) (d : Listed) → k < n + 1 → (get_or (slice_set xs n y) k d).group ≡ below trips (trip_group p (get_or (slice_set xs n y) k d).trip)
+number_more p trips xs n y within number so_far k d upto = elim (cases_Bool (nat_lt k n)) [
   | inl low ↦
       let before : k < n = ltb-true k n low in
       let other : k ≢ n = omega (arith, before) in
-      subst (λ z. z.number ≡ below firsts (list_of z)) (sym (get_or-set_other xs n k y d other)) (so_far k d before)
+      subst (λ z. z.group ≡ below trips (trip_group p z.trip)) (sym (get_or-set_other xs n k y d other)) (so_far k d before)
   | inr high ↦
       let last : k ≡ n = omega (arith, ltb-false k n high, upto) in
       let here : get_or (slice_set xs n y) k d ≡ y = ap (λ m. get_or (slice_set xs n y) m d) last ∙ get_or-set_same xs n y d within in
-      subst (λ z. z.number ≡ below firsts (list_of z)) (sym here) (number ∙ ap (λ s. below firsts s.course.stops) (sym same))
+      subst (λ z. z.group ≡ below trips (trip_group p z.trip)) (sym here) number
 ]
 
-pub stops_kept : (xs : List Listed) (n : ℕ) (x y : Listed) → x ≡ get_or xs n x → stopping_of y ≡ stopping_of x → map stopping_of (slice_set xs n y) ≡ map stopping_of xs
-stops_kept xs n x y is same = map-set_same stopping_of xs n y x (same ∙ ap stopping_of is)
+pub kept_by : {X Y : Type 0} (f : X → Y) (xs : List X) (n : ℕ) (x y : X) → x ≡ get_or xs n x → f y ≡ f x → map f (slice_set xs n y) ≡ map f xs
+kept_by f xs n x y is same = map-set_same f xs n y x (same ∙ ap f is)
 
-pub are_numbered : (firsts sorted xs : List Listed) → IsPermutation firsts sorted → All (λ x. 1 ≤ sharing firsts (list_of x)) xs → All (λ x. x.number ≡ below sorted (list_of x)) xs
-    → AreNumbered xs
-are_numbered firsts sorted xs same shared numbers i d within j e inside =
-    let x = get_or xs i d in
-    let y = get_or xs j e in
-    let anti = slice_cmp-IsAntisymmetric nat_cmp-IsAntisymmetric in
-    let kept : (l : List ℕ) → sharing sorted l ≡ sharing firsts l = λ l. tally-permutation (λ z. is_eq (list_cmp (list_of z) l)) firsts sorted same in
+pub are_numbered : (p : Parts) (trips sorted : List GroupedTrip) (xs : List Listed) → IsPermutation trips sorted → All (λ x. 1 ≤ sharing trips (trip_group p x.trip)) xs
+    → All (λ x. x.group ≡ below sorted (trip_group p x.trip)) xs → AreNumbered p xs
+are_numbered p trips sorted xs same shared numbers i d within j e inside =
+    let g = trip_group p (get_or xs i d).trip in
+    let h = trip_group p (get_or xs j e).trip in
+    let kept : (l : Group) → sharing sorted l ≡ sharing trips l = λ l. tally-permutation (λ z. is_eq (group_cmp (group_of z) l)) trips sorted same in
     (λ k. nat_cmp (numbers i d within k) (numbers j e inside k))
-    ∙ ranks_compare list_cmp list_total list_of sorted (list_of x) (list_of y) anti
-    (subst (λ n. 1 ≤ n) (sym (kept (list_of x))) (shared i d within)) (subst (λ n. 1 ≤ n) (sym (kept (list_of y))) (shared j e inside))
+    ∙ ranks_compare group_cmp groups_total group_of sorted g h groups_antisymmetric
+    (subst (λ n. 1 ≤ n) (sym (kept g)) (shared i d within)) (subst (λ n. 1 ≤ n) (sym (kept h)) (shared j e inside))
 
-pub same_course_order : (x y : Listed) → IsNumbered x y → number_cmp x y ≡ course_no_cmp (stopping_of x).course (stopping_of y).course
-same_course_order x y is = ap (λ r. ordering_then (nat_cmp x.service.0 y.service.0) (ordering_then (nat_cmp x.event.row y.event.row) r)) is
+-- ---- the order of events
 
-pub same_order : (x y : Listed) → IsNumbered x y → listed_cmp x y ≡ stopping_cmp (stopping_of x) (stopping_of y)
-same_order x y is = ap (λ r. ordering_then r (event_cmp x.event y.event)) (same_course_order x y is)
+then_assoc : (r s t : Ordering) → ordering_then (ordering_then r s) t ≡ ordering_then r (ordering_then s t)
+then_assoc Less s t = λ i. Less
+then_assoc Equal s t = λ i. ordering_then s t
+then_assoc Greater s t = λ i. Greater
 
-pub in_order : (xs : List Listed) → AreNumbered xs → IsSorted listed_cmp xs → IsSorted (λ x y. stopping_cmp (stopping_of x) (stopping_of y)) xs
-in_order xs numbers up k d from within =
+-- what is equal already decides nothing more
+decided : (r a b c s : Ordering) → ordering_then r (ordering_then a (ordering_then b (ordering_then c s)))
+    ≡ ordering_then r (ordering_then a (ordering_then b (ordering_then c (ordering_then s r))))
+decided Less a b c s = λ i. Less
+decided Equal a b c s = ap (λ o. ordering_then a (ordering_then b (ordering_then c o))) (last s)
+  where
+    last : (o : Ordering) → o ≡ ordering_then o Equal
+    last Less = λ i. Less
+    last Equal = λ i. Equal
+    last Greater = λ i. Greater
+decided Greater a b c s = λ i. Greater
+
+pub same_order : (p : Parts) (x y : Listed) → IsNumbered p x y → listed_cmp x y ≡ stopping_cmp (stopping_of p x) (stopping_of p y)
+same_order p x y is =
+    let g = trip_group p x.trip in
+    let h = trip_group p y.trip in
+    let r = nat_cmp x.row y.row in
+    let stops = course_no_cmp (stopping_of p x).course (stopping_of p y).course in
+    let rest = ordering_then (nat_cmp x.at y.at) (ordering_then (nat_cmp x.trip y.trip) (ordering_then (nat_cmp x.run y.run) (nat_cmp x.seq y.seq))) in
+    let whole = ordering_then (nat_cmp x.at y.at) (ordering_then (nat_cmp x.trip y.trip) (ordering_then (nat_cmp x.run y.run) (ordering_then (nat_cmp x.seq y.seq) r))) in
+    ap (λ o. ordering_then o (ordering_then r rest)) is
+    ∙ ap (ordering_then (group_cmp g h)) (decided r (nat_cmp x.at y.at) (nat_cmp x.trip y.trip) (nat_cmp x.run y.run) (nat_cmp x.seq y.seq))
+    ∙ sym (then_assoc (group_cmp g h) r whole)
+    ∙ ap (λ o. ordering_then o whole) (same_course_order p x y)
+  where
+    same_course_order : (q : Parts) (a b : Listed) → ordering_then (group_cmp (trip_group q a.trip) (trip_group q b.trip)) (nat_cmp a.row b.row)
+        ≡ course_no_cmp (stopping_of q a).course (stopping_of q b).course
+    same_course_order q a b = then_assoc (nat_cmp (trip_group q a.trip).0 (trip_group q b.trip).0) _ (nat_cmp a.row b.row)
+
+same_pair : (a b m n : ℕ) → ((a == b) && (m == n)) ≡ is_eq (ordering_then (nat_cmp a b) (nat_cmp m n))
+same_pair a b m n = both_ways ((a == b) && (m == n)) (is_eq (ordering_then (nat_cmp a b) (nat_cmp m n)))
+    (λ holds.
+    let both = and_parts (a == b) (m == n) holds in
+    (λ i. is_eq (ordering_then (nat_cmp a (sym (eqb-true a b both.0) i)) (nat_cmp m (sym (eqb-true m n both.1) i))))
+    ∙ (λ i. is_eq (ordering_then (tied_itself nat_cmp_total a i) (tied_itself nat_cmp_total m i))))
+    (λ holds.
+    let both = both_equal _ _ (equal _ holds) in
+    both_true (equal_holds a b (nat_cmp-IsAntisymmetric a b both.0)) (equal_holds m n (nat_cmp-IsAntisymmetric m n both.1)))
+
+-- two events of one course
+pub same_course : (p : Parts) (x y : Listed) → IsNumbered p x y → ((x.group == y.group) && (x.row == y.row)) ≡ is_same_course (stopping_of p x).course (stopping_of p y).course
+same_course p x y is =
+    same_pair x.group y.group x.row y.row
+    ∙ ap is_eq (ap (λ o. ordering_then o (nat_cmp x.row y.row)) is ∙ then_assoc (nat_cmp (trip_group p x.trip).0 (trip_group p y.trip).0) _ (nat_cmp x.row y.row))
+
+pub in_order : (p : Parts) (xs : List Listed) → AreNumbered p xs → IsSorted listed_cmp xs → IsSorted (λ x y. stopping_cmp (stopping_of p x) (stopping_of p y)) xs
+in_order p xs numbers up k d from within =
     let x = get_or xs (k + 1) d in
     let y = get_or xs k d in
-    ap is_lt (sym (same_order x y (numbers (k + 1) d within k d (omega (arith, within))))) ∙ up k d from within
+    ap is_lt (sym (same_order p x y (numbers (k + 1) d within k d (omega (arith, within))))) ∙ up k d from within
+
+-- ---- the steps of the code
+
+pub both_made : {A E : Type 0} (r : Result A E) (P Q R : A → Type 0) → ((x : A) → P x → Q x → R x) → IfOk r P → IfOk r Q → IfOk r R
+both_made (Ok x) P Q R take first second = take x first second
+both_made (Err e) P Q R take first second = tt
+
+-- events of the same trips share with as many
+pub shared_by : (p : Parts) (trips : List GroupedTrip) (xs ys : List Listed) → ((q : Parts) → map (stopping_of q) xs ≡ map (stopping_of q) ys)
+    → All (λ x. 1 ≤ sharing trips (trip_group p x.trip)) xs → All (λ x. 1 ≤ sharing trips (trip_group p x.trip)) ys
+shared_by p trips xs ys same all =
+    all_mapped (λ z. 1 ≤ sharing trips (trip_group p z.event.trip.0)) (stopping_of p) ys
+    (subst (All (λ z. 1 ≤ sharing trips (trip_group p z.event.trip.0))) (same p) (All-map (λ z. 1 ≤ sharing trips (trip_group p z.event.trip.0)) (stopping_of p) xs all))

@@ -29,7 +29,8 @@ use Rattle.gtfs_runs.specs.StopLanes.{LaneValue}
 use Rattle.gtfs_runs.specs.declared.event.Event.{Event}
 use Rattle.gtfs_runs.specs.declared.stop_index.DepartureRow.{DepartureRow}
 use Rattle.gtfs_runs.specs.declared.stop_lanes.passing.Passing.{Passing}
-use Rattle.gtfs_runs.specs.steps.Courses.{Stopping, stops_in}
+use Rattle.gtfs_runs.specs.steps.Courses.{Stopping}
+use Rattle.gtfs_runs.specs.steps.Groups.{stops_in}
 use Rattle.gtfs_runs.specs.steps.Finds.{AreFound, stopping_at, times_passed_in, times_told}
 use Rattle.gtfs_runs.specs.steps.Passings.{ArePassings, first_left, leaves, passing_at, passings_of}
 use Rattle.gtfs_runs.specs.steps.Places.{ArePlaceRows, departs_in_place, first_trip, passing_of}

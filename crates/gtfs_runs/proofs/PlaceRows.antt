@@ -250,15 +250,20 @@ module _ (p : Parts) (sound : IsSoundParts p) (s : ℕ) (within : s < length p.s
       refuted true never = absurd (never refl)
       refuted false never = refl
 
--- all of them, sorted
+-- all of them, in order
+pub rows-in-order : (p : Parts) (s : ℕ) (rows : List DepartureRow) → ((t r : ℕ) → tally (is_row t r) rows ≡ cond (departs_in_place p s t r) 1 0) → Ascends departure_row_cmp rows
+    → ArePlaceRows p s 0 rows
+rows-in-order p s rows told up = record {
+  in_order = up;
+  all = λ t r. any-tally (is_row t r) rows (departs_in_place p s t r) (told t r) ∙ ap (λ b. b && departs_in_place p s t r) (sym (le-leb 0 t (omega arith)));
+}
+
+-- and sorted
 pub are-place-rows : (p : Parts) (s : ℕ) (found sorted : List DepartureRow) → ((t r : ℕ) → tally (is_row t r) found ≡ cond (departs_in_place p s t r) 1 0)
     → IsPermutation found sorted → IsSorted departure_row_cmp sorted → ArePlaceRows p s 0 sorted
 are-place-rows p s found sorted told same up =
     let every : (t r : ℕ) → tally (is_row t r) sorted ≡ cond (departs_in_place p s t r) 1 0 = λ t r. tally-permutation (is_row t r) found sorted same ∙ told t r in
-    record {
-      in_order = rows_ascend sorted up (λ t r. most (departs_in_place p s t r) (tally (is_row t r) sorted) (every t r));
-      all = λ t r. any-tally (is_row t r) sorted (departs_in_place p s t r) (every t r) ∙ ap (λ b. b && departs_in_place p s t r) (sym (le-leb 0 t (omega arith)));
-    }
+    rows-in-order p s sorted every (rows_ascend sorted up (λ t r. most (departs_in_place p s t r) (tally (is_row t r) sorted) (every t r)))
   where
     most : (b : Bool) (n : ℕ) → n ≡ cond b 1 0 → n ≤ 1
     most true n is = omega (arith, is)

@@ -19,7 +19,7 @@ use Rattle.gtfs_times.specs.declared.times.Times.{Times}
 use Rattle.gtfs_times.specs.declared.times.Times.TheVariants as times
 use Rattle.gtfs_runs.specs.declared.stop_index.DepartureRow.{DepartureRow}
 use Rattle.gtfs_runs.specs.declared.stop_lanes.passing.Passing.{Passing}
-use Rattle.gtfs_runs.specs.steps.Courses.{stops_in}
+use Rattle.gtfs_runs.specs.steps.Groups.{stops_in}
 use Rattle.gtfs_runs.specs.steps.Passings.{AreTripTimes, first_left, passings_of}
 use Rattle.gtfs_runs.specs.steps.Places.{passing_of}
 use Rattle.gtfs_runs.proofs.TripTimes.{left_within, starts_before}

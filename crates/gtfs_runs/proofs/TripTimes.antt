@@ -49,6 +49,10 @@ left_within p sound t rs at_rows k d within =
     let fs = get_or (frequencies_by_trip p) t [] in
     at_most (left_at (get_or rs k d)) (rows_within p sound t (get_or p.trips t some) rs fs (slice_get-get_or p.trips t some trips) at_rows (slice_get-get_or (frequencies_by_trip p) t [] periods) k d within)
 
+pub starts_within : (p : Parts) → IsSoundParts p → (t : ℕ) (rs : List StopRow) → slice_get (stop_rows_by_trip p) t ≡ Some rs → first_left rs ≤ 3_599_999
+starts_within p sound t [] at = omega arith
+starts_within p sound t (r ∷ rs) at = left_within p sound t (r ∷ rs) at 0 r (omega arith)
+
 pub rows_at : (p : Parts) → IsSoundParts p → (t : ℕ) → t < length p.trips → slice_get (stop_rows_by_trip p) t ≡ Some (get_or (stop_rows_by_trip p) t [])
 rows_at p sound t within =
     let here : t < length (stop_rows_by_trip p) = omega (arith, within, length-parts p.stop_row_starts p.stop_rows, sound.stop_rows.0) in

@@ -1,4 +1,5 @@
 pub mod Passings
+pub mod Groups
 pub mod Courses
 pub mod Finds
 pub mod Lists

@@ -1,4 +1,4 @@
-ghost use Rattle.std.specs.Prelude.{◌≡◌, ◌<◌, ◌&&◌, All, AllPairs, List, false, length, slice_index_or};
+ghost use Rattle.std.specs.Prelude.{◌≡◌, ◌≤◌, ◌<◌, ◌&&◌, All, AllPairs, List, false, length, slice_index_or, unwrap_or};
 ghost use Rattle.gtfs_rows.specs.Trips.{left_at};
 ghost use Rattle.gtfs_rows.specs.Views.{stop_row_of, trip_of};
 ghost use Rattle.gtfs_rows.specs.declared.frequency.Frequency.{Frequency};
@@ -6,6 +6,7 @@ ghost use Rattle.gtfs_rows.specs.declared.parts.Parts.{Parts};
 ghost use Rattle.gtfs_rows.specs.declared.stop_row.StopRow.{StopRow as StopTime};
 ghost use Rattle.gtfs_rows.specs.declared.trip.Trip.{Trip};
 ghost use Rattle.gtfs_rows.specs.Runs.{allows_boarding, is_departure_row, is_timed};
+ghost use Rattle.gtfs_runs.specs.steps.Passings.{first_left};
 
 use crate::place::Place;
 use gtfs_field::Clock;
@@ -50,4 +51,20 @@ pub(crate) fn leaves_place(place: &Place, rows: &[StopRow], position: usize) -> 
         && slice_index_or place.now (slice_index_or rows.now position d).stop_id.0 false) }
 {
     is_departure_row(rows, position) && place.has(rows[position].stop_id)
+}
+
+// When a vehicle leaves the first of the stop times of a trip, 0 where there is none.
+pub(crate) fn trip_start(rows: &[StopRow]) -> u32
+    ensures value { result ≡ first_left rows.now }
+    ensures bound { result ≤ 7_199_999 }
+{
+    rows.first().map_or(0, left)
+}
+
+// When a vehicle leaves, 0 where the stop time has no time.
+pub(crate) fn left(row: &StopRow) -> u32
+    ensures value { result ≡ unwrap_or (left_at row.now) 0 }
+    ensures bound { result ≤ 7_199_999 }
+{
+    departure(row).map_or(0, |clock| clock.seconds())
 }

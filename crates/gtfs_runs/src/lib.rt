@@ -20,6 +20,7 @@ mod departure_row;
 mod event;
 mod filled_lane;
 mod flat;
+mod grouped_trip;
 mod lane;
 mod list_lane;
 mod moment;

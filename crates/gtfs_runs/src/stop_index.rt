@@ -2,15 +2,20 @@ ghost use Rattle.std.specs.Prelude.{◌≡◌, ◌<◌, ◌==◌, ℕ, IfOk, Som
 ghost use Rattle.gtfs_runs.specs.Counts.{tally};
 ghost use Rattle.gtfs_runs.specs.StopIndex.{AreDepartureRows};
 ghost use Rattle.gtfs_runs.specs.steps.Children.{is_child};
+ghost use Rattle.gtfs_runs.specs.steps.Groups.{AreIndexedTrips};
 
 mod children;
 mod entries;
+mod indexed_trips;
 mod place_rows;
 mod rows_by_stop;
 mod starts;
 
 use crate::stop_index::children::{Child, Children};
-pub(crate) use crate::stop_index::place_rows::place_rows;
+pub(crate) use crate::stop_index::entries::small_number;
+use crate::stop_index::indexed_trips::indexed_trips;
+pub(crate) use crate::stop_index::indexed_trips::{IndexedTrip, trip_at};
+pub(crate) use crate::stop_index::place_rows::{lent_rows, place_rows};
 use crate::stop_index::rows_by_stop::RowsByStop;
 use gtfs_feed::Feed;
 use gtfs_field::OutOfMemory;
@@ -51,13 +56,15 @@ impl DepartureRow {
 
 /// The departure rows of a feed by stop, of which the lanes of any stop can be made without a look at the other trips.
 ///
-/// It keeps eight bytes for each departure row, eight for each stop, and eight for each stop or platform with a parent.
+/// It keeps eight bytes for each departure row, eight for each stop, eight for each stop or platform with a parent, and eight
+/// for each trip.
 #[derive(Drop)]
 pub struct StopIndex<'a> {
     feed: &'a Feed,
     times: Times,
     rows: RowsByStop,
     children: Children,
+    trips: Vec<IndexedTrip>,
 }
 
 impl<'a> Model for StopIndex<'a> {
@@ -68,15 +75,15 @@ impl<'a> Model for StopIndex<'a> {
 
     ghost view = { λ x. record { feed = x.feed.now; times = x.times; rows = x.rows } };
 
-    ghost invariant = { λ x. IsIndex x.times x.feed.now x.rows x.children };
+    ghost invariant = { λ x. IsIndex x.times x.feed.now x.rows x.children x.trips.items };
 }
 
 impl<'a> StopIndex<'a> {
     /// The index of a feed under a choice of times. Under [`Times::Interpolated`] stop times whose times are filled are
     /// departure rows too.
     ///
-    /// It looks at each stop and each stop time of the feed once, and sorts the departure rows. A trip with times to fill is
-    /// copied for as long as it is looked at.
+    /// It looks at each stop and each stop time of the feed once, and sorts the departure rows, and the trips by service and
+    /// stops. A trip with times to fill is copied for as long as it is looked at.
     ///
     /// GTFS Schedule Reference, `stop_times.txt`, and `parent_station` of `stops.txt`.
     ///
@@ -88,11 +95,13 @@ impl<'a> StopIndex<'a> {
     {
         let rows = RowsByStop::build(alloc, feed, times)?;
         let children = Children::build(alloc, feed)?;
+        let trips = indexed_trips(alloc, feed)?;
         Ok(StopIndex {
             feed,
             times,
             rows,
             children,
+            trips,
         })
     }
 
@@ -133,5 +142,12 @@ impl<'a> StopIndex<'a> {
             ≡ cond (is_child self.now.feed stop.0 n) 1 0 }
     {
         self.children.of(stop, self.feed.stop_count())
+    }
+
+    // What it keeps of each trip, by their numbers.
+    pub(crate) fn trips(&self) -> &[IndexedTrip]
+        ensures { AreIndexedTrips self.now.feed result.now }
+    {
+        &self.trips
     }
 }

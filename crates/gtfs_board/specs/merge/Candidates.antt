@@ -1,6 +1,7 @@
--- The order of candidates.
+-- Candidates: their order, what a source of them keeps, and what waits of them while a board is read.
 use Rattle.std.specs.Option.{option_to_list}
 use Rattle.std.specs.BinaryHeap.{IsHeap}
+use Rattle.std.specs.List.Sorted.{IsSorted}
 use Rattle.std.specs.Prelude.{◌≡◌, ◌≤◌, ◌+◌, ◌*◌, ◌/◌, ◌∷◌, length, Bool, false, ℕ, ℤ, List, [], Option, Some, None, MatchOption, map, ◌++◌, pos, ◌+ℤ◌, ◌-ℤ◌, ◌*ℤ◌, ◌≤ℤ◌, ◌<ℤ◌, ◌⊎◌}
 use Rattle.gtfs_board.specs.merge.Order.{In, Each, tally, same}
 use Rattle.std.specs.List.{find, filter_map, range_with_len, fold}
@@ -113,6 +114,15 @@ abbrev pub IsFirst : Option Candidate → List Candidate → Type 0
 IsFirst None others = others ≡ []
 IsFirst (Some c) others = Each (λ y. candidate_lt y c ≡ false) others
 
+-- what is at the head of candidates: one of them before which no other comes, and none where there is none
+abbrev pub AreHeadedBy : Option Candidate → List Candidate → Type 0
+AreHeadedBy o cs = MatchOption o (cs ≡ []) (λ c. In c cs × Each (λ y. candidate_lt y c ≡ false) cs)
+
+-- what waits in two parts: candidates one after another, of which the last comes first, and a heap
+pub record AreInOrder (list heap : List Candidate) : Type 0 where
+  pub sorted : IsSorted (flip_args candidate_cmp) list
+  pub ordered : IsHeap (flip_args candidate_cmp) heap
+
 -- the floor lies on an earlier day, or belongs to none of the lanes
 abbrev pub IsAside : Candidate → ℤ → ℕ → Type 0
 IsAside floor day count = (floor.day <ℤ day) ⊎ (count ≤ floor.lane)
@@ -131,7 +141,6 @@ head_of (x ∷ xs) = Some x
 -- what the fields of a board keep
 pub record IsMerge (events : Events Candidate) (end from last : ℤ) (floor : Candidate) (first : Option Candidate) (others : List Candidate) (day low : ℤ) : Type 0 where
   pub waiting : IsWaiting events end last floor first others day
-  pub ordered : IsHeap (flip_args candidate_cmp) others
   pub low_in : IsFrom low last day
   pub from_in : from ≤ℤ day
   pub to_in : day ≤ℤ (last +ℤ pos 1)

@@ -1,6 +1,5 @@
-ghost use Rattle.std.specs.Prelude.{◌≡◌, ◌++◌, ◌≤◌, ◌+◌, codes, length, string_bytes, string_len, Ok, OnOk, OnErr};
+ghost use Rattle.std.specs.Prelude.{◌≡◌, ◌++◌, ◌≤◌, ◌+◌, codes, decimal, drop, length, string_bytes, string_len, Ok, OnOk, OnErr};
 ghost use Rattle.std.specs.String.{string_capacity};
-ghost use Rattle.std.specs.Str.{IsAscii};
 ghost use Rattle.gtfs_field.specs.Calendar.{date_of_day};
 ghost use Rattle.gtfs_field.specs.Canonical.{date_text, digits_of_date};
 ghost use Rattle.gtfs_rows.specs.Key.{IsInRange};
@@ -8,9 +7,9 @@ ghost use Rattle.gtfs_board.specs.KeyTexts.{key_text, key_of};
 ghost use Rattle.gtfs_board.specs.Lent.{plain_key};
 
 use crate::key::Key;
-use crate::pieces::{push_ascii, push_piece, write_two_digits};
+use crate::pieces::{push_ascii, write_two_digits};
 use gtfs_field::{Day, OutOfMemory};
-use itoa::Buffer;
+use itoa::{Buffer, write_digits};
 use jiff_core::civil::Date;
 use std::alloc::Global;
 
@@ -44,35 +43,49 @@ pub(crate) fn write_key(text: &mut String, key: &Key<'_>)
     ensures len { string_len text.new ≤ string_len text.old + (53 + length key.now.trip.now) }
     ensures capacity { string_capacity text.old ≤ string_capacity text.new }
 {
-    push_piece(text, "@", Buffer::new().format(key.instant));
-    push_piece(text, "/", key.trip);
-    push_piece(text, "/", Buffer::new().format(key.run));
-    push_piece(text, "/", Buffer::new().format(key.seq));
-    push_day(text, key.day);
+    text.push('@').unwrap();
+    text.push_str(Buffer::new().format(key.instant)).unwrap();
+    text.push('/').unwrap();
+    text.push_str(key.trip).unwrap();
+    push_run(text, key.run, key.seq, key.day);
 }
 
-// Appends the slash before a day, and the day as YYYYMMDD.
-fn push_day(text: &mut String, day: Day)
-    requires { string_len text.old + 9 ≤ string_capacity text.old }
-    ensures appended { string_bytes text.new ≡ string_bytes text.old
-        ++ (codes "/" ++ date_text day) }
-    ensures len { string_len text.new ≡ string_len text.old + 9 }
+// Appends a run, a sequence and a day, `/<run>/<sequence>/<YYYYMMDD>`.
+fn push_run(text: &mut String, run: u32, sequence: u32, day: Day)
+    requires { string_len text.old + 31 ≤ string_capacity text.old }
+    ensures appended { string_bytes text.new ≡ string_bytes text.old ++ (codes "/" ++ decimal run
+        ++ codes "/" ++ decimal sequence ++ codes "/" ++ date_text day) }
+    ensures len { string_len text.new ≤ string_len text.old + 31 }
     ensures capacity { string_capacity text.old ≤ string_capacity text.new }
 {
-    push_ascii(text, &date_bytes(date_of(day)));
+    let mut bytes = date_bytes(date_of(day));
+    let end = write_number(&mut bytes, 22, sequence);
+    let start = write_number(&mut bytes, end, run);
+    push_ascii(text, &bytes[start..]);
 }
 
-// A slash and a date, `/YYYYMMDD`.
-fn date_bytes(date: Date) -> [u8; 9]
-    ensures value { result ≡ codes "/" ++ digits_of_date date }
-    ensures ascii { IsAscii result }
+// Writes a slash and a number, whose digits end at an index, and answers where the slash stands.
+fn write_number(bytes: &mut [u8], end: usize, number: u32) -> usize
+    requires { (11 ≤ end) × (end ≤ length bytes.old) }
+    ensures start { end ≤ result + 11 }
+    ensures written { drop result bytes.new
+        ≡ codes "/" ++ decimal number ++ drop end bytes.old }
 {
-    let mut bytes = *b"/00000000";
+    let start = write_digits(u64::from(number), bytes, end) - 1;
+    bytes[start] = b'/';
+    start
+}
+
+// A slash and a date, `/YYYYMMDD`, behind room for two numbers.
+fn date_bytes(date: Date) -> [u8; 31]
+    ensures { drop 22 result ≡ codes "/" ++ digits_of_date date }
+{
+    let mut bytes = *b"                      /00000000";
     let year = u32::from(date.year.unsigned_abs());
-    write_two_digits(&mut bytes, 1, year / 10 / 10);
-    write_two_digits(&mut bytes, 3, year);
-    write_two_digits(&mut bytes, 5, u32::from(date.month));
-    write_two_digits(&mut bytes, 7, u32::from(date.day));
+    write_two_digits(&mut bytes, 23, year / 100);
+    write_two_digits(&mut bytes, 25, year);
+    write_two_digits(&mut bytes, 27, u32::from(date.month));
+    write_two_digits(&mut bytes, 29, u32::from(date.day));
     bytes
 }
 

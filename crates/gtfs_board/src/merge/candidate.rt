@@ -4,7 +4,7 @@ ghost use Rattle.std.specs.Cmp.{partial_order_from_own_ties};
 ghost use Rattle.std.specs.Cmp.Rules.{comparing};
 ghost use Rattle.std.specs.Ordering.{flip_args, as_partial_cmp};
 ghost use Rattle.gtfs_board.specs.CandidateKeys.{ComparesAsKeys};
-ghost use Rattle.gtfs_board.specs.merge.Candidates.{candidate_cmp, departure_cmp, lane_cmp};
+ghost use Rattle.gtfs_board.specs.merge.Candidates.{candidate_cmp, candidate_lt, departure_cmp, lane_cmp};
 
 use std::cmp::Ordering;
 use std::mem::size_of;
@@ -36,6 +36,14 @@ pub struct Candidate {
 const _: () = prove!(size_of::<Candidate>() == 48);
 
 impl Candidate {
+    // Whether it comes first of the two.
+    pub fn comes_before(&self, other: &Candidate) -> bool
+        ensures { result ≡ candidate_lt self.now other.now }
+    {
+        // The greater one comes first.
+        other.cmp(self).is_lt()
+    }
+
     // The order of the departures: by instant, trip, run, sequence and day. It is the order of their keys.
     fn cmp_departure(&self, other: &Candidate) -> Ordering
         ensures value { result ≡ departure_cmp self.now other.now }

@@ -1,16 +1,15 @@
 ghost use Rattle.std.specs.Prelude.{◌≡◌, ◌≤◌, ◌+◌, ◌*◌, ◌++◌, pos, negsuc, ◌+ℤ◌, ◌-ℤ◌, ◌*ℤ◌, ◌≤ℤ◌, ◌<ℤ◌, OnOk, IfOk, IsTrue, false};
 ghost use Rattle.std.specs.Option.{option_to_list};
-ghost use Rattle.std.specs.BinaryHeap.{heap_items, IsHeap};
-ghost use Rattle.std.specs.Ordering.{flip_args};
 ghost use Rattle.gtfs_board.specs.merge.Order.{Each, tally};
 ghost use Rattle.gtfs_board.specs.merge.Lanes.{IsStopped, AreStepsFew, IsStartDay};
-ghost use Rattle.gtfs_board.specs.merge.Candidates.{AreGathered, AreHeadsAbove, AreWithinLeast, IsAside, candidate_cmp, heads_on, least_from, with_head};
+ghost use Rattle.gtfs_board.specs.merge.Candidates.{AreGathered, AreHeadsAbove, AreWithinLeast, IsAside, heads_on, least_from, with_head};
 
 use crate::merge::candidate::Candidate;
+use crate::merge::queue::Queue;
 use crate::merge::source::Source;
+use gtfs_field::OutOfMemory;
 use gtfs_runs::Steps;
-use std::alloc::{AllocError, Global};
-use std::collections::BinaryHeap;
+use std::alloc::Global;
 
 // The seconds of a day on which no clock changes.
 const SECONDS_OF_DAY: i64 = 86_400;
@@ -32,28 +31,25 @@ pub struct Gathered {
 pub(super) fn gather<S: Source>(
     alloc: Global,
     source: &S,
-    queue: &BinaryHeap<Candidate>,
+    queue: &Queue,
     head: Option<Candidate>,
     floor: &Candidate,
     mut day: i32,
     steps: &mut Steps,
-) -> Result<Gathered, AllocError>
-    requires ordered { IsHeap (flip_args candidate_cmp) (heap_items queue.now) }
-    requires ended { Each (λ c. c.instant ≤ℤ S.end source.now) (heap_items queue.now) }
-    requires heads { AreHeadsAbove (S.events source.now) floor.now day
-        (with_head (heap_items queue.now) head) }
-    requires within { AreWithinLeast (S.end source.now) (with_head (heap_items queue.now) head) }
+) -> Result<Gathered, OutOfMemory>
+    requires ended { Each (λ c. c.instant ≤ℤ S.end source.now) queue.now }
+    requires heads { AreHeadsAbove (S.events source.now) floor.now day (with_head queue.now head) }
+    requires within { AreWithinLeast (S.end source.now) (with_head queue.now head) }
     requires aside { IsAside floor.now day (S.count source.now) }
     requires from { S.first source.now ≤ℤ day }
     requires to { day ≤ℤ (S.last source.now +ℤ pos 1) }
     ensures gathered { IfOk result (λ r. AreGathered (S.events source.now) floor.now
-        (S.end source.now)
-        (with_head (heap_items queue.now) head) r.fresh.items r.day r.least) }
+        (S.end source.now) (with_head queue.now head) r.fresh.items r.day r.least) }
     ensures stopped { IfOk result (λ r. IsStopped (S.last source.now) r.day r.least) }
     ensures range { IfOk result (λ r. (day ≤ℤ r.day) × (r.day ≤ℤ (S.last source.now +ℤ pos 1))) }
     ensures steps { IfOk result (λ r. AreStepsFew (S.count source.now) (S.last source.now)
         (S.days source.now)
-        steps.old day (least_from (S.end source.now) (with_head (heap_items queue.now) head))
+        steps.old day (least_from (S.end source.now) (with_head queue.now head))
         steps.new r.day r.least) }
 {
     source.laws();
@@ -69,12 +65,11 @@ pub(super) fn gather<S: Source>(
 }
 
 // The least instant that waits, or the end.
-fn least_waiting(queue: &BinaryHeap<Candidate>, end: i64) -> i64
-    requires ordered { IsHeap (flip_args candidate_cmp) (heap_items queue.now) }
-    requires ended { Each (λ c. c.instant ≤ℤ end) (heap_items queue.now) }
-    ensures { result ≡ least_from end (heap_items queue.now) }
+fn least_waiting(queue: &Queue, end: i64) -> i64
+    requires { Each (λ c. c.instant ≤ℤ end) queue.now }
+    ensures { result ≡ least_from end queue.now }
 {
-    match queue.peek() {
+    match queue.first() {
         Some(first) => first.instant,
         None => end,
     }
@@ -88,7 +83,7 @@ fn open_day<S: Source>(
     fresh: &mut Vec<Candidate>,
     mut least: i64,
     steps: &mut Steps,
-) -> Result<i64, AllocError>
+) -> Result<i64, OutOfMemory>
     requires { IsAside floor.now day (S.count source.now) }
     ensures heads { OnOk result (fresh.new.items
         ≡ fresh.old.items ++ heads_on (S.events source.now) floor.now day (S.count source.now)) }
@@ -104,7 +99,7 @@ fn open_day<S: Source>(
 }
 
 // A head, if there is one, joins those that wait, and the least instant so far is answered.
-fn keep(fresh: &mut Vec<Candidate>, head: Option<Candidate>, least: i64) -> Result<i64, AllocError>
+fn keep(fresh: &mut Vec<Candidate>, head: Option<Candidate>, least: i64) -> Result<i64, OutOfMemory>
     ensures heads { OnOk result (fresh.new.items ≡ fresh.old.items ++ option_to_list head) }
     ensures least { IfOk result (λ t. t ≡ least_from least (option_to_list head)) }
 {

@@ -3,11 +3,11 @@ ghost use Rattle.gtfs_board.specs.merge.Candidates.{AreStepsWithin, HasSettings,
 
 use crate::merge::candidate::Candidate;
 use crate::merge::gathering::{first_due, gather};
-use crate::merge::queue::join;
+use crate::merge::queue::Queue;
 use crate::merge::source::Source;
+use gtfs_field::OutOfMemory;
 use gtfs_runs::Steps;
-use std::alloc::{AllocError, Global};
-use std::collections::BinaryHeap;
+use std::alloc::Global;
 use std::marker::Model;
 
 // The events of all lanes in order, of which only the next of each opened day of each lane wait.
@@ -15,9 +15,9 @@ use std::marker::Model;
 pub struct Merge<S: Source> {
     alloc: Global,
     source: S,
-    // The next event, which stands outside the heap so that the least of the others is known before it is taken.
+    // The next event, which stands outside the queue so that the least of the others is known before it is taken.
     first: Option<Candidate>,
-    others: BinaryHeap<Candidate>,
+    others: Queue,
     // The first service day that is not opened.
     day: i32,
     // The instant from which events are looked for.
@@ -30,14 +30,13 @@ pub struct Merge<S: Source> {
 impl<S: Source> Model for Merge<S> {
     ghost use Rattle.std.specs.Prelude.{◌++◌, ◌+◌, pos, ◌-ℤ◌};
     ghost use Rattle.std.specs.Option.{option_to_list};
-    ghost use Rattle.std.specs.BinaryHeap.{heap_items};
     ghost use Rattle.gtfs_board.specs.merge.Candidates.{MergeValue, IsMerge, IsSource, rest_above};
 
     ghost Value = { MergeValue };
 
     ghost view = { λ b. record {
       rest = rest_above (S.all b.source) b.floor;
-      queue = option_to_list b.first ++ heap_items b.others;
+      queue = option_to_list b.first ++ b.others;
       lanes = S.count b.source;
       latest = S.latest b.source;
       start = b.start;
@@ -49,7 +48,7 @@ impl<S: Source> Model for Merge<S> {
     ghost invariant = { λ b. IsSource (S.count b.source) (S.latest b.source) (S.end b.source)
         (S.first b.source) (S.last b.source) (S.days b.source) (S.events b.source) (S.all b.source)
         × IsMerge (S.events b.source) (S.end b.source) (S.first b.source)
-        (S.last b.source) b.floor b.first (heap_items b.others) b.day
+        (S.last b.source) b.floor b.first b.others b.day
         (b.start -ℤ pos (S.latest b.source + 93_599)) };
 }
 
@@ -60,7 +59,7 @@ impl<S: Source + Drop> Merge<S> {
         source: S,
         floor: Candidate,
         mut steps: Steps,
-    ) -> Result<Merge<S>, AllocError>
+    ) -> Result<Merge<S>, OutOfMemory>
         requires instant { negsuc 999_999_999_999 ≤ℤ floor.instant }
         requires aside { IsAside floor (S.first source) (S.count source) }
         ensures rest { IfOk result (λ b. b.rest ≡ rest_above (S.all source) floor) }
@@ -73,9 +72,9 @@ impl<S: Source + Drop> Merge<S> {
         let start = floor.instant;
         let from = first_due(source.first(), source.last(), start, source.latest());
         let day = source.next_day(from);
-        let mut others = BinaryHeap::new(alloc);
+        let mut others = Queue::new(alloc);
         let gathered = gather(alloc, &source, &others, None, &floor, day, &mut steps)?;
-        let first = join(&mut others, None, gathered.fresh)?;
+        let first = others.join(None, gathered.fresh)?;
         Ok(Merge {
             alloc,
             source,
@@ -89,7 +88,7 @@ impl<S: Source + Drop> Merge<S> {
     }
 
     // Takes the first of the rest: none where nothing is left, and from then on always.
-    pub fn next(&mut self) -> Result<Option<Candidate>, AllocError>
+    pub fn next(&mut self) -> Result<Option<Candidate>, OutOfMemory>
         ensures first { IfOk result (TakesFirst self.old self.new) }
         ensures kept { OnErr result (KeepsLists self.old self.new) }
         ensures settings { SameSettings self.old self.new }
@@ -111,7 +110,7 @@ impl<S: Source + Drop> Merge<S> {
             &mut self.steps,
         )?;
         // The last that can be refused: until here nothing but the count of steps is written.
-        self.first = join(&mut self.others, head, gathered.fresh)?;
+        self.first = self.others.join(head, gathered.fresh)?;
         self.floor = first;
         self.day = gathered.day;
         Ok(Some(first))

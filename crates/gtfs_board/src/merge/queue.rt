@@ -1,65 +1,165 @@
-ghost use Rattle.std.specs.Prelude.{◌≡◌, ◌++◌, IfOk, OnErr, OnOk};
+ghost use Rattle.std.specs.Prelude.{◌≡◌, ◌++◌, ◌∷◌, [], ◌<◌, ◌+◌, ◌-◌, ◌^◌, false, length, slice_get, IfOk, Some, OnErr, OnOk, IsTrue};
 ghost use Rattle.std.specs.Option.{option_to_list};
 ghost use Rattle.std.specs.Ordering.{flip_args};
 ghost use Rattle.std.specs.BinaryHeap.{heap_items, IsHeap};
-ghost use Rattle.gtfs_board.specs.merge.Candidates.{HaveSameMembers, IsFirst, candidate_cmp, with_head};
+ghost use Rattle.std.specs.List.Sorted.{IsSorted};
+ghost use Rattle.gtfs_board.specs.merge.Candidates.{AreHeadedBy, HaveSameMembers, IsFirst, candidate_cmp, candidate_lt, with_head};
 
 use crate::merge::candidate::Candidate;
-use std::alloc::AllocError;
+use gtfs_field::OutOfMemory;
+use std::alloc::Global;
 use std::collections::BinaryHeap;
+use std::marker::Model;
 
-// The heap takes in a head and what was gathered, and the first of all leaves it. A refused heap is as it was.
-pub(super) fn join(
-    others: &mut BinaryHeap<Candidate>,
-    head: Option<Candidate>,
-    fresh: Vec<Candidate>,
-) -> Result<Option<Candidate>, AllocError>
-    requires { IsHeap (flip_args candidate_cmp) (heap_items others.old) }
-    ensures kept { OnErr result (heap_items others.new ≡ heap_items others.old) }
-    ensures ordered { IsHeap (flip_args candidate_cmp) (heap_items others.new) }
-    ensures counts { IfOk result (λ o. HaveSameMembers (option_to_list o ++ heap_items others.new)
-        (with_head (heap_items others.old) head ++ fresh.items)) }
-    ensures first { IfOk result (λ o. IsFirst o (heap_items others.new)) }
-{
-    take_in(others, head, fresh)?;
-    match others.pop() {
-        Some(first) => Ok(Some(first)),
-        None => Ok(None),
+// The candidates that wait, of which the first can be taken.
+//
+// Those that came together are sorted once, and are taken from the end of a list. What lanes give afterwards, one at a time,
+// waits in a heap.
+#[derive(Drop)]
+pub struct Queue {
+    // The last comes first.
+    sorted: Vec<Candidate>,
+    heap: BinaryHeap<Candidate>,
+}
+
+impl Model for Queue {
+    ghost use Rattle.std.specs.Prelude.{List, ◌++◌};
+    ghost use Rattle.std.specs.BinaryHeap.{heap_items};
+    ghost use Rattle.gtfs_board.specs.declared.merge.candidate.Candidate.{Candidate};
+    ghost use Rattle.gtfs_board.specs.merge.Candidates.{AreInOrder};
+
+    ghost Value = { List Candidate };
+
+    ghost view = { λ q. q.sorted.items ++ heap_items q.heap };
+
+    ghost invariant = { λ q. AreInOrder q.sorted.items (heap_items q.heap) };
+}
+
+impl Queue {
+    // A queue in which none waits.
+    pub fn new(alloc: Global) -> Queue
+        ensures { result ≡ [] }
+    {
+        Queue {
+            sorted: Vec::new(alloc),
+            heap: BinaryHeap::new(alloc),
+        }
+    }
+
+    // How many wait.
+    pub fn len(&self) -> usize
+        ensures value { result ≡ length self.now }
+        ensures bound { result + 1 < 2 ^ 64 }
+    {
+        self.sorted.len() + self.heap.len()
+    }
+
+    // The first of those that wait.
+    pub fn first(&self) -> Option<Candidate>
+        ensures { AreHeadedBy result self.now }
+    {
+        if is_top_first(self.sorted.as_slice(), &self.heap) {
+            self.heap.peek().copied()
+        } else {
+            self.sorted.last().copied()
+        }
+    }
+
+    // A head and what was gathered join those that wait, and the first of all leaves. A refused queue is as it was.
+    pub fn join(
+        &mut self,
+        head: Option<Candidate>,
+        mut fresh: Vec<Candidate>,
+    ) -> Result<Option<Candidate>, OutOfMemory>
+        ensures kept { OnErr result (self.new ≡ self.old) }
+        ensures counts { IfOk result (λ o. HaveSameMembers (option_to_list o ++ self.new)
+            (with_head self.old head ++ fresh.items)) }
+        ensures first { IfOk result (λ o. IsFirst o self.new) }
+    {
+        if fresh.is_empty() {
+            return self.exchange(head);
+        }
+        if let Some(head) = head {
+            fresh.push(head)?;
+        }
+        self.sort_in(fresh)?;
+        Ok(self.pop())
+    }
+
+    // A head, if there is one, joins those that wait, and the first of all leaves. A refused queue is as it was.
+    fn exchange(&mut self, head: Option<Candidate>) -> Result<Option<Candidate>, OutOfMemory>
+        ensures kept { OnErr result (self.new ≡ self.old) }
+        ensures counts { IfOk result (λ o. HaveSameMembers (option_to_list o ++ self.new)
+            (with_head self.old head)) }
+        ensures first { IfOk result (λ o. IsFirst o self.new) }
+    {
+        let Some(head) = head else {
+            return Ok(self.pop());
+        };
+        let Some(first) = self.first() else {
+            return Ok(Some(head));
+        };
+        if head.comes_before(&first) {
+            return Ok(Some(head));
+        }
+        if is_top_first(self.sorted.as_slice(), &self.heap) {
+            return Ok(Some(replace_top(&mut self.heap, head)));
+        }
+        self.heap.push(head)?;
+        Ok(self.sorted.pop())
+    }
+
+    // The first leaves.
+    fn pop(&mut self) -> Option<Candidate>
+        ensures counts { HaveSameMembers (option_to_list result ++ self.new) self.old }
+        ensures first { IsFirst result self.new }
+    {
+        if is_top_first(self.sorted.as_slice(), &self.heap) {
+            self.heap.pop()
+        } else {
+            self.sorted.pop()
+        }
+    }
+
+    // Sorts in what was gathered. A refused queue is as it was.
+    fn sort_in(&mut self, mut fresh: Vec<Candidate>) -> Result<(), OutOfMemory>
+        ensures kept { OnErr result (self.new ≡ self.old) }
+        ensures counts { OnOk result (HaveSameMembers self.new (self.old ++ fresh.items)) }
+    {
+        fresh.append(&mut self.sorted)?;
+        fresh.sort_unstable();
+        self.sorted = fresh;
+        Ok(())
     }
 }
 
-// The heap takes in a head and what was gathered. Mostly there is a head alone, for which no heap is made.
-fn take_in(
-    others: &mut BinaryHeap<Candidate>,
-    head: Option<Candidate>,
-    mut fresh: Vec<Candidate>,
-) -> Result<(), AllocError>
-    requires { IsHeap (flip_args candidate_cmp) (heap_items others.old) }
-    ensures kept { OnErr result (heap_items others.new ≡ heap_items others.old) }
-    ensures ordered { IsHeap (flip_args candidate_cmp) (heap_items others.new) }
-    ensures counts { OnOk result (HaveSameMembers (heap_items others.new)
-        (with_head (heap_items others.old) head ++ fresh.items)) }
+// Whether the top of the heap is the first of all: it comes before the last of the sorted ones, or is alone.
+fn is_top_first(sorted: &[Candidate], heap: &BinaryHeap<Candidate>) -> bool
+    requires sorted { IsSorted (flip_args candidate_cmp) sorted.now }
+    requires heap { IsHeap (flip_args candidate_cmp) (heap_items heap.now) }
+    ensures top { IsTrue result → AreHeadedBy (slice_get (heap_items heap.now) 0)
+        (sorted.now ++ heap_items heap.now) }
+    ensures last { result ≡ false → AreHeadedBy (slice_get sorted.now (length sorted.now - 1))
+        (sorted.now ++ heap_items heap.now) }
 {
-    let Some(head) = head else {
-        return append(others, fresh);
-    };
-    if fresh.is_empty() {
-        others.push(head)?;
-        return Ok(());
+    match (heap.peek(), sorted.last()) {
+        (None, _) => false,
+        (Some(_), None) => true,
+        (Some(top), Some(last)) => top.comes_before(last),
     }
-    fresh.push(head)?;
-    append(others, fresh)
 }
 
-// The heap takes in a list.
-fn append(others: &mut BinaryHeap<Candidate>, fresh: Vec<Candidate>) -> Result<(), AllocError>
-    requires { IsHeap (flip_args candidate_cmp) (heap_items others.old) }
-    ensures kept { OnErr result (heap_items others.new ≡ heap_items others.old) }
-    ensures ordered { IsHeap (flip_args candidate_cmp) (heap_items others.new) }
-    ensures counts { OnOk result (HaveSameMembers (heap_items others.new)
-        (heap_items others.old ++ fresh.items)) }
+// A head takes the place of the top of a heap, which leaves.
+fn replace_top(heap: &mut BinaryHeap<Candidate>, head: Candidate) -> Candidate
+    requires some { 0 < length (heap_items heap.old) }
+    requires ordered { IsHeap (flip_args candidate_cmp) (heap_items heap.old) }
+    ensures counts { HaveSameMembers (result ∷ heap_items heap.new)
+        (heap_items heap.old ++ head ∷ []) }
+    ensures top { slice_get (heap_items heap.old) 0 ≡ Some result }
+    ensures ordered { IsHeap (flip_args candidate_cmp) (heap_items heap.new) }
 {
-    let mut fresh = BinaryHeap::from(fresh);
-    others.append(&mut fresh)?;
-    Ok(())
+    let mut top = heap.peek_mut().unwrap();
+    let first = *top;
+    *top = head;
+    first
 }

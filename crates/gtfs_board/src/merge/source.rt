@@ -3,8 +3,8 @@ ghost use Rattle.gtfs_board.specs.merge.Candidates.{IsAside, IsSource, first_abo
 ghost use Rattle.gtfs_board.specs.merge.Order.{In};
 
 use crate::merge::candidate::Candidate;
+use gtfs_field::OutOfMemory;
 use gtfs_runs::Steps;
-use std::alloc::AllocError;
 
 // Lanes that tell their departures day by day, each in the order of candidates.
 pub trait Source {
@@ -72,7 +72,7 @@ pub trait Source {
         day: i32,
         floor: &Candidate,
         steps: &mut Steps,
-    ) -> Result<Option<Candidate>, AllocError>
+    ) -> Result<Option<Candidate>, OutOfMemory>
         requires inside { lane < count self.now }
         requires aside { IsAside floor.now day (count self.now) }
         ensures first { IfOk result (λ o. o ≡ first_above floor.now (events self.now lane day)) }

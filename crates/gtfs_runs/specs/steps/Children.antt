@@ -12,6 +12,8 @@ use Rattle.gtfs_runs.specs.Counts.{tally}
 use Rattle.gtfs_runs.specs.StopIndex.{AreDepartureRows}
 use Rattle.gtfs_runs.specs.declared.stop_index.DepartureRow.{DepartureRow}
 use Rattle.gtfs_runs.specs.declared.stop_index.children.Child.{Child}
+use Rattle.gtfs_runs.specs.declared.stop_index.indexed_trips.IndexedTrip.{IndexedTrip}
+use Rattle.gtfs_runs.specs.steps.Groups.{AreIndexedTrips}
 
 -- the second is a stop or platform, other than the first, which is its parent
 abbrev pub is_child : Parts → ℕ → ℕ → Bool
@@ -36,6 +38,7 @@ abbrev pub below_parent : List Child → ℕ → ℕ
 below_parent xs s = tally (λ x. nat_lt x.parent s) xs
 
 -- what an index of a feed keeps
-pub record IsIndex (times : Times) (p : Parts) (index : List (List DepartureRow)) (xs : List Child) : Type 0 where
+pub record IsIndex (times : Times) (p : Parts) (index : List (List DepartureRow)) (xs : List Child) (ts : List IndexedTrip) : Type 0 where
   pub rows : AreDepartureRows times p index
   pub children : AreChildren p xs
+  pub trips : AreIndexedTrips p ts

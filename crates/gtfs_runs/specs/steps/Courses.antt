@@ -6,12 +6,12 @@ use Rattle.std.specs.Ordering.{nat_cmp, on, then_cmp, is_eq}
 use Rattle.std.specs.declared.cmp.Ordering.{Ordering}
 use Rattle.gtfs_rows.specs.Views.{content_of_parts, service_ids, stop_ids, text_of_number}
 use Rattle.gtfs_rows.specs.declared.parts.Parts.{Parts}
-use Rattle.gtfs_rows.specs.declared.stop_row.StopRow.{StopRow}
 use Rattle.gtfs_runs.specs.Kinds.{course_at, is_listed}
 use Rattle.gtfs_runs.specs.Lanes.{Course}
 use Rattle.gtfs_runs.specs.Order.{event_cmp}
 use Rattle.gtfs_runs.specs.declared.event.Event.{Event}
 use Rattle.gtfs_runs.specs.declared.stop_lanes.listed.Listed.{Listed}
+use Rattle.gtfs_runs.specs.steps.Groups.{trip_group}
 
 -- the service, the position of a stop time and the stops of a trip
 pub record CourseNo : Type 0 where
@@ -24,21 +24,22 @@ pub record Stopping : Type 0 where
   pub course : CourseNo
   pub event : Event
 
-abbrev pub stops_in : List StopRow → List ℕ
-stops_in rows = map (λ row. row.stop_id.0) rows
+abbrev pub event_of : Listed → Event
+event_of x = record { at = x.at; trip = record { 0 = x.trip }; run = x.run; seq = x.seq; row = x.row }
 
-abbrev pub stopping_of : Listed → Stopping
-stopping_of x = record {
-  course = record { service = x.service.0; row = x.event.row; stops = stops_in x.rows.now };
-  event = x.event;
+-- of a trip of these parts
+abbrev pub stopping_of : Parts → Listed → Stopping
+stopping_of p x = record {
+  course = record { service = (trip_group p x.trip).0; row = x.row; stops = (trip_group p x.trip).1 };
+  event = event_of x;
 }
 
 -- ---- order
 
 abbrev pub course_no_cmp : CourseNo → CourseNo → Ordering
 course_no_cmp = then_cmp (on (λ c. c.service) nat_cmp)
-    (then_cmp (on (λ c. c.row) nat_cmp)
-    (on (λ c. c.stops) (slice_cmp nat_cmp)))
+    (then_cmp (on (λ c. c.stops) (slice_cmp nat_cmp))
+    (on (λ c. c.row) nat_cmp))
 
 -- by course, then by event
 abbrev pub stopping_cmp : Stopping → Stopping → Ordering

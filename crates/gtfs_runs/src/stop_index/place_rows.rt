@@ -1,4 +1,4 @@
-ghost use Rattle.std.specs.Prelude.{◌≡◌, ◌<◌, ℕ, IfOk, cond, length};
+ghost use Rattle.std.specs.Prelude.{◌≡◌, ◌<◌, ℕ, IfOk, IfSome, cond, length};
 ghost use Rattle.gtfs_runs.specs.Counts.{tally};
 ghost use Rattle.gtfs_runs.specs.StopIndex.{is_row};
 ghost use Rattle.gtfs_runs.specs.steps.Places.{ArePlaceRows, departs_in_place};
@@ -8,6 +8,22 @@ use crate::stop_index::{DepartureRow, StopIndex};
 use gtfs_field::OutOfMemory;
 use gtfs_rows::StopNo;
 use std::alloc::Global;
+
+// The departure rows at the place of a stop without children, by trip and position, which the index lends.
+pub(crate) fn lent_rows<'b>(index: &'b StopIndex<'_>, stop: StopNo) -> Option<&'b [DepartureRow]>
+    requires { stop.0 < length index.now.feed.stops }
+    ensures { IfSome result (λ rows. ArePlaceRows (timed_parts index.now.times index.now.feed)
+        stop.0 0 rows.now) }
+{
+    index.soundness();
+    index.feed().soundness();
+    let rows = index.rows(stop);
+    if index.children(stop).is_empty() {
+        Some(rows)
+    } else {
+        None
+    }
+}
 
 // The departure rows at the place of a stop, by trip and position.
 pub(crate) fn place_rows(

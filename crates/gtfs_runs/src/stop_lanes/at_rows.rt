@@ -1,26 +1,29 @@
-ghost use Rattle.std.specs.Prelude.{◌≡◌, ◌≤◌, ◌<◌, All, IfOk, List, Some, length, map, slice_get, unwrap_or};
+ghost use Rattle.std.specs.Prelude.{◌≡◌, ◌≤◌, ◌<◌, All, IfOk, List, [], Some, length, map, slice_get, slice_index_or, unwrap_or};
 ghost use Rattle.gtfs_rows.specs.Trips.{left_at, stop_rows_by_trip};
 ghost use Rattle.gtfs_rows.specs.declared.stop_row.StopRow.{StopRow as StopTime};
+ghost use Rattle.gtfs_runs.specs.steps.Passings.{first_left};
 ghost use Rattle.gtfs_runs.specs.steps.Places.{passing_of};
 ghost use Rattle.gtfs_times.specs.TimedRows.{timed_parts};
 
 use crate::stop_index::DepartureRow;
-use crate::stop_lanes::passing::{Passing, passed, trip_start};
+use crate::stop_lanes::passing::{Passing, passed};
 use gtfs_feed::Feed;
 use gtfs_field::OutOfMemory;
 use gtfs_rows::{StopRow, TripNo};
 use gtfs_times::{Times, filled, is_to_fill};
 use std::alloc::Global;
 
-// The passings of a trip at these of its stop times.
+// The passings of a trip, which starts at a second, at these of its stop times.
 pub(crate) fn passings_at(
     alloc: Global,
     feed: &Feed,
     times: Times,
     trip: TripNo,
+    start: u32,
     own: &[DepartureRow],
 ) -> Result<Vec<Passing>, OutOfMemory>
     requires trip { trip.0 < length feed.now.trips }
+    requires start { start ≡ first_left (slice_index_or (stop_rows_by_trip feed.now) trip.0 []) }
     requires within { (rows : List StopTime)
         → slice_get (stop_rows_by_trip (timed_parts times feed.now)) trip.0 ≡ Some rows
         → All (λ x. x.row < length rows) own.now }
@@ -32,24 +35,25 @@ pub(crate) fn passings_at(
     feed.soundness();
     let rows = feed.trip_rows(trip);
     if is_to_fill(rows, times) {
-        return passings_among(alloc, &filled(alloc, rows)?, own);
+        return passings_among(alloc, &filled(alloc, rows)?, start, own);
     }
-    passings_among(alloc, rows, own)
+    passings_among(alloc, rows, start, own)
 }
 
-// Those at these of the stop times of a trip.
+// Those at these of the stop times of a trip that starts at a second.
 fn passings_among(
     alloc: Global,
     rows: &[StopRow],
+    start: u32,
     own: &[DepartureRow],
 ) -> Result<Vec<Passing>, OutOfMemory>
+    requires start { start ≡ first_left rows.now }
     requires within { All (λ x. x.row < length rows.now) own.now }
     requires to { All (λ r. unwrap_or (left_at r) 0 ≤ 3_599_999) rows.now }
     ensures passings { IfOk result (λ found. (d : StopTime)
         → found.items ≡ map (passing_of rows.now d) own.now) }
     ensures after { IfOk result (λ found. All (λ x. x.after ≤ 3_599_999) found.items) }
 {
-    let start = trip_start(rows);
     let mut found = Vec::with_capacity(alloc, own.len())?;
     for row in own {
         found.push(passed(&rows[row.row()], start, row.row()))?;

@@ -1,22 +1,27 @@
-ghost use Rattle.std.specs.Prelude.{◌≡◌, ◌≤◌, ◌<◌, ◌+◌, ◌*◌, ◌++◌, ◌==◌, ℕ, All, IfOk, OnOk, Some, cond, length, map, slice_get};
+ghost use Rattle.std.specs.Prelude.{◌≡◌, ◌≤◌, ◌<◌, ◌+◌, ◌*◌, ◌++◌, ◌==◌, ℕ, All, IfOk, OnOk, Some, [], cond, length, map, slice_get, slice_index_or};
 ghost use Rattle.gtfs_feed.specs.Content.{content_of};
 ghost use Rattle.gtfs_rows.specs.Content.{Content};
 ghost use Rattle.gtfs_rows.specs.Rows.{Trip};
+ghost use Rattle.gtfs_rows.specs.Trips.{stop_rows_by_trip};
 ghost use Rattle.gtfs_rows.specs.Views.{frequency_of, stop_ids, text_of_number};
 ghost use Rattle.gtfs_runs.specs.Kinds.{IsPeriodLane};
 ghost use Rattle.gtfs_rows.specs.Places.{members};
+ghost use Rattle.gtfs_rows.specs.declared.parts.Parts.{Parts};
 ghost use Rattle.gtfs_runs.specs.StopLanes.{period_value};
 ghost use Rattle.gtfs_runs.specs.declared.event.Event.{Event as EventValue};
-ghost use Rattle.gtfs_runs.specs.steps.Courses.{stopping_of, stops_in};
+ghost use Rattle.gtfs_runs.specs.steps.Courses.{stopping_of};
 ghost use Rattle.gtfs_runs.specs.steps.Finds.{AreFound, HasRuns, stopping_at, times_passed, times_passed_in, times_told};
+ghost use Rattle.gtfs_runs.specs.steps.Groups.{trip_group};
 ghost use Rattle.gtfs_runs.specs.steps.Passings.{ArePassings, first_left};
 ghost use Rattle.gtfs_times.specs.TimedRows.{timed_parts};
 ghost use Rattle.gtfs_times.specs.declared.times.Times.{Times as Choice};
 
+use crate::departure_row::trip_start;
 use crate::place::Place;
 use crate::step_lane::StepLane;
+use crate::stop_index::IndexedTrip;
 use crate::stop_lanes::listed::Listed;
-use crate::stop_lanes::passing::{Passing, passings, trip_start};
+use crate::stop_lanes::passing::{Passing, passings};
 use gtfs_feed::Feed;
 use gtfs_field::OutOfMemory;
 use gtfs_rows::{Frequency, ServiceNo, StopRow, TripNo};
@@ -25,26 +30,26 @@ use std::alloc::Global;
 
 // What leaves the place of a stop.
 #[derive(Drop)]
-pub(crate) struct Found<'a> {
+pub(crate) struct Found {
     // The events of trips without frequencies.
-    pub(crate) listed: Vec<Listed<'a>>,
+    pub(crate) listed: Vec<Listed>,
     // A lane for each row of frequencies.txt and each stop time of its trip there.
     pub(crate) periods: Vec<StepLane>,
 }
 
-impl<'a> Found<'a> {
+impl Found {
     // What leaves the place, of all trips.
     pub(crate) fn at_place(
         alloc: Global,
-        feed: &'a Feed,
+        feed: &Feed,
         place: &Place,
         times: Times,
-    ) -> Result<Found<'a>, OutOfMemory>
+    ) -> Result<Found, OutOfMemory>
         requires { length place.now ≡ length feed.now.stops }
         ensures { IfOk result (λ found. (s : ℕ)
             → place.now ≡ members (content_of feed.now) (text_of_number (stop_ids feed.now) s)
             → AreFound (timed_parts times feed.now) s (length feed.now.trips)
-            (map stopping_of found.listed.items) (map period_value found.periods.items)) }
+            (map (stopping_of feed.now) found.listed.items) (map period_value found.periods.items)) }
     {
         let mut listed = Vec::new(alloc);
         let mut periods = Vec::new(alloc);
@@ -64,50 +69,61 @@ impl<'a> Found<'a> {
 }
 
 // Adds what leaves the place of one trip.
-fn add_trip<'a>(
+fn add_trip(
     alloc: Global,
-    feed: &'a Feed,
+    feed: &Feed,
     place: &Place,
     trip: TripNo,
     times: Times,
-    listed: &mut Vec<Listed<'a>>,
+    listed: &mut Vec<Listed>,
     periods: &mut Vec<StepLane>,
 ) -> Result<(), OutOfMemory>
     requires trip { trip.0 < length feed.now.trips }
     requires stops { length place.now ≡ length feed.now.stops }
     ensures { OnOk result ((s : ℕ)
         → place.now ≡ members (content_of feed.now) (text_of_number (stop_ids feed.now) s)
-        → AreFound (timed_parts times feed.now) s trip.0 (map stopping_of listed.old.items)
+        → AreFound (timed_parts times feed.now) s trip.0 (map (stopping_of feed.now) listed.old.items)
         (map period_value periods.old.items)
-        → AreFound (timed_parts times feed.now) s (trip.0 + 1) (map stopping_of listed.new.items)
+        → AreFound (timed_parts times feed.now) s (trip.0 + 1) (map (stopping_of feed.now) listed.new.items)
         (map period_value periods.new.items)) }
 {
+    feed.soundness();
     let passings = passings(alloc, feed, place, trip, times)?;
-    add_passings(feed, trip, &passings, listed, periods)
+    let indexed = IndexedTrip {
+        group: 0,
+        start: trip_start(feed.trip_rows(trip)),
+    };
+    add_passings(feed, trip, indexed, &passings, listed, periods)
 }
 
 // Adds what leaves a place of one trip, by its stop times there.
-pub(crate) fn add_passings<'a>(
-    feed: &'a Feed,
+pub(crate) fn add_passings(
+    feed: &Feed,
     trip: TripNo,
+    indexed: IndexedTrip,
     passings: &[Passing],
-    listed: &mut Vec<Listed<'a>>,
+    listed: &mut Vec<Listed>,
     periods: &mut Vec<StepLane>,
 ) -> Result<(), OutOfMemory>
     requires trip { trip.0 < length feed.now.trips }
+    requires start { indexed.start
+        ≡ first_left (slice_index_or (stop_rows_by_trip feed.now) trip.0 []) }
     requires after { All (λ x. x.after ≤ 3_599_999) passings.now }
-    ensures { OnOk result ((times : Choice) (s : ℕ)
+    ensures found { OnOk result ((times : Choice) (s : ℕ)
         → ArePassings (timed_parts times feed.now) s trip.0 passings.now
-        → AreFound (timed_parts times feed.now) s trip.0 (map stopping_of listed.old.items)
+        → AreFound (timed_parts times feed.now) s trip.0 (map (stopping_of feed.now) listed.old.items)
         (map period_value periods.old.items)
-        → AreFound (timed_parts times feed.now) s (trip.0 + 1) (map stopping_of listed.new.items)
+        → AreFound (timed_parts times feed.now) s (trip.0 + 1) (map (stopping_of feed.now) listed.new.items)
         (map period_value periods.new.items)) }
+    ensures groups { OnOk result ((groups : ℕ → ℕ) → groups trip.0 ≡ indexed.group
+        → All (λ x. groups x.trip ≡ x.group) listed.old.items
+        → All (λ x. groups x.trip ≡ x.group) listed.new.items) }
 {
     feed.soundness();
     let service = feed.trip_by_number(trip).service_id;
     let frequencies = feed.trip_frequencies(trip);
     if frequencies.is_empty() {
-        add_listed(service, trip, feed.trip_rows(trip), passings, listed)?;
+        add_listed(trip, indexed, passings, listed)?;
     } else {
         add_periods(service, trip, frequencies, passings, periods)?;
     }
@@ -115,26 +131,23 @@ pub(crate) fn add_passings<'a>(
 }
 
 // Adds the events of a trip without frequencies.
-fn add_listed<'a>(
-    service: ServiceNo,
+fn add_listed(
     trip: TripNo,
-    rows: &'a [StopRow],
+    indexed: IndexedTrip,
     passings: &[Passing],
-    listed: &mut Vec<Listed<'a>>,
+    listed: &mut Vec<Listed>,
 ) -> Result<(), OutOfMemory>
-    requires { All (λ x. x.after ≤ 3_599_999) passings.now }
-    ensures { OnOk result (map stopping_of listed.new.items ≡ map stopping_of listed.old.items
-        ++ map (stopping_at (stops_in rows.now) service.0 trip.0
-        (first_left rows.now)) passings.now) }
+    requires after { All (λ x. x.after ≤ 3_599_999) passings.now }
+    requires start { indexed.start ≤ 7_199_999 }
+    ensures events { OnOk result ((p : Parts) → map (stopping_of p) listed.new.items
+        ≡ map (stopping_of p) listed.old.items ++ map (stopping_at (trip_group p trip.0).1
+        (trip_group p trip.0).0 trip.0 indexed.start) passings.now) }
+    ensures groups { OnOk result ((groups : ℕ → ℕ) → groups trip.0 ≡ indexed.group
+        → All (λ x. groups x.trip ≡ x.group) listed.old.items
+        → All (λ x. groups x.trip ≡ x.group) listed.new.items) }
 {
-    let start = trip_start(rows);
     for passing in passings {
-        listed.push(Listed {
-            service,
-            rows,
-            number: 0,
-            event: passing.event(trip, start),
-        })?;
+        listed.push(Listed::of(trip, indexed, passing)?)?;
     }
     Ok(())
 }

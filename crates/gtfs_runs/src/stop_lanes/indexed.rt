@@ -1,16 +1,19 @@
-ghost use Rattle.std.specs.Prelude.{◌≡◌, ◌≤◌, ◌<◌, ◌==◌, ℕ, IfOk, OnOk, drop, length, map, slice_index_or};
+ghost use Rattle.std.specs.Prelude.{◌≡◌, ◌≤◌, ◌<◌, ◌==◌, ℕ, All, IfOk, OnOk, drop, length, map, slice_index_or};
 ghost use Rattle.gtfs_runs.specs.Counts.{tally};
 ghost use Rattle.gtfs_runs.specs.StopIndex.{departure_row_cmp};
 ghost use Rattle.gtfs_rows.specs.Order.{Ascends};
 ghost use Rattle.gtfs_runs.specs.StopLanes.{period_value};
 ghost use Rattle.gtfs_runs.specs.declared.stop_index.DepartureRow.{DepartureRow as RowValue};
+ghost use Rattle.gtfs_runs.specs.declared.stop_index.indexed_trips.IndexedTrip.{IndexedTrip as TripValue};
 ghost use Rattle.gtfs_runs.specs.steps.Courses.{stopping_of};
 ghost use Rattle.gtfs_runs.specs.steps.Finds.{AreFound};
+ghost use Rattle.gtfs_runs.specs.steps.Groups.{AreIndexedTrips};
+ghost use Rattle.gtfs_runs.specs.steps.Numbers.{AreNumbered};
 ghost use Rattle.gtfs_runs.specs.steps.Places.{ArePlaceRows, first_trip};
 ghost use Rattle.gtfs_times.specs.TimedRows.{timed_parts};
 
 use crate::step_lane::StepLane;
-use crate::stop_index::{DepartureRow, StopIndex, place_rows};
+use crate::stop_index::{DepartureRow, IndexedTrip, StopIndex, lent_rows, place_rows, trip_at};
 use crate::stop_lanes::at_rows::passings_at;
 use crate::stop_lanes::found::{Found, add_passings};
 use crate::stop_lanes::listed::Listed;
@@ -21,79 +24,112 @@ use gtfs_times::Times;
 use std::alloc::Global;
 
 // What leaves the place of a stop, of the departure rows there.
-pub(crate) fn found_in_index<'a>(
+pub(crate) fn found_in_index(
     alloc: Global,
-    index: &StopIndex<'a>,
+    index: &StopIndex<'_>,
     stop: StopNo,
-) -> Result<Found<'a>, OutOfMemory>
+) -> Result<Found, OutOfMemory>
     requires { stop.0 < length index.now.feed.stops }
-    ensures { IfOk result (λ found. AreFound (timed_parts index.now.times index.now.feed) stop.0
-        (length index.now.feed.trips) (map stopping_of found.listed.items)
+    ensures found { IfOk result (λ found. AreFound (timed_parts index.now.times index.now.feed)
+        stop.0 (length index.now.feed.trips)
+        (map (stopping_of index.now.feed) found.listed.items)
         (map period_value found.periods.items)) }
+    ensures numbers { IfOk result (λ found. AreNumbered index.now.feed found.listed.items) }
+{
+    match lent_rows(index, stop) {
+        Some(rows) => found_at_rows(alloc, index, stop, rows),
+        None => found_at_rows(alloc, index, stop, &place_rows(alloc, index, stop)?),
+    }
+}
+
+// The same of these departure rows, which are all that are there.
+fn found_at_rows(
+    alloc: Global,
+    index: &StopIndex<'_>,
+    stop: StopNo,
+    rows: &[DepartureRow],
+) -> Result<Found, OutOfMemory>
+    requires { ArePlaceRows (timed_parts index.now.times index.now.feed) stop.0 0 rows.now }
+    ensures found { IfOk result (λ found. AreFound (timed_parts index.now.times index.now.feed)
+        stop.0 (length index.now.feed.trips)
+        (map (stopping_of index.now.feed) found.listed.items)
+        (map period_value found.periods.items)) }
+    ensures numbers { IfOk result (λ found. AreNumbered index.now.feed found.listed.items) }
 {
     let feed = index.feed();
-    let rows = place_rows(alloc, index, stop)?;
+    let times = index.times();
+    let trips = index.trips();
     let mut listed = Vec::new(alloc);
     let mut periods = Vec::new(alloc);
-    let times = index.times();
-    add_rows(alloc, feed, stop, times, &rows, &mut listed, &mut periods)?;
+    add_rows(alloc, feed, trips, stop, times, rows, &mut listed, &mut periods)?;
     Ok(Found { listed, periods })
 }
 
 // Adds what leaves the place of a stop at these departure rows, trip after trip.
-fn add_rows<'a>(
+fn add_rows(
     alloc: Global,
-    feed: &'a Feed,
+    feed: &Feed,
+    trips: &[IndexedTrip],
     stop: StopNo,
     times: Times,
     rows: &[DepartureRow],
-    listed: &mut Vec<Listed<'a>>,
+    listed: &mut Vec<Listed>,
     periods: &mut Vec<StepLane>,
 ) -> Result<(), OutOfMemory>
-    requires { ArePlaceRows (timed_parts times feed.now) stop.0 0 rows.now }
-    ensures { OnOk result (
+    requires trips { AreIndexedTrips feed.now trips.now }
+    requires rows { ArePlaceRows (timed_parts times feed.now) stop.0 0 rows.now }
+    ensures found { OnOk result (
         AreFound (timed_parts times feed.now) stop.0 0
-        (map stopping_of listed.old.items) (map period_value periods.old.items)
+        (map (stopping_of feed.now) listed.old.items) (map period_value periods.old.items)
         → AreFound (timed_parts times feed.now) stop.0 (length feed.now.trips)
-        (map stopping_of listed.new.items) (map period_value periods.new.items)) }
+        (map (stopping_of feed.now) listed.new.items) (map period_value periods.new.items)) }
+    ensures groups { OnOk result ((e : TripValue)
+        → All (λ x. (slice_index_or trips.now x.trip e).group ≡ x.group) listed.old.items
+        → All (λ x. (slice_index_or trips.now x.trip e).group ≡ x.group) listed.new.items) }
 {
     feed.soundness();
     let mut at = 0;
     while at < rows.len() {
-        at += add_trip(alloc, feed, stop, times, &rows[at..], listed, periods)?;
+        at += add_trip(alloc, feed, trips, stop, times, &rows[at..], listed, periods)?;
     }
     Ok(())
 }
 
 // Adds what leaves the place of the trip of the first of these rows. Answers how many of them are that trip's.
-fn add_trip<'a>(
+fn add_trip(
     alloc: Global,
-    feed: &'a Feed,
+    feed: &Feed,
+    trips: &[IndexedTrip],
     stop: StopNo,
     times: Times,
     rows: &[DepartureRow],
-    listed: &mut Vec<Listed<'a>>,
+    listed: &mut Vec<Listed>,
     periods: &mut Vec<StepLane>,
 ) -> Result<usize, OutOfMemory>
     requires some { 0 < length rows.now }
+    requires trips { AreIndexedTrips feed.now trips.now }
     requires rows { ArePlaceRows (timed_parts times feed.now) stop.0
         (first_trip (length feed.now.trips) rows.now) rows.now }
     ensures some { IfOk result (λ n. 0 < n) }
     ensures upto { IfOk result (λ n. n ≤ length rows.now) }
     ensures found { IfOk result (λ n.
         AreFound (timed_parts times feed.now) stop.0 (first_trip (length feed.now.trips) rows.now)
-        (map stopping_of listed.old.items) (map period_value periods.old.items)
+        (map (stopping_of feed.now) listed.old.items) (map period_value periods.old.items)
         → AreFound (timed_parts times feed.now) stop.0
         (first_trip (length feed.now.trips) (drop n rows.now))
-        (map stopping_of listed.new.items) (map period_value periods.new.items)) }
+        (map (stopping_of feed.now) listed.new.items) (map period_value periods.new.items)) }
     ensures left { IfOk result (λ n. ArePlaceRows (timed_parts times feed.now) stop.0
         (first_trip (length feed.now.trips) (drop n rows.now)) (drop n rows.now)) }
+    ensures groups { IfOk result (λ n. (e : TripValue)
+        → All (λ x. (slice_index_or trips.now x.trip e).group ≡ x.group) listed.old.items
+        → All (λ x. (slice_index_or trips.now x.trip e).group ≡ x.group) listed.new.items) }
 {
     feed.soundness();
     let trip = rows[0].trip();
     let count = rows_of(rows, trip);
-    let passings = passings_at(alloc, feed, times, trip, &rows[..count])?;
-    add_passings(feed, trip, &passings, listed, periods)?;
+    let indexed = trip_at(trips, trip);
+    let passings = passings_at(alloc, feed, times, trip, indexed.start, &rows[..count])?;
+    add_passings(feed, trip, indexed, &passings, listed, periods)?;
     Ok(count)
 }
 

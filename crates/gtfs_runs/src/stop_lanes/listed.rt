@@ -1,56 +1,99 @@
-ghost use Rattle.std.specs.Prelude.{◌≡◌, map};
+ghost use Rattle.std.specs.Prelude.{◌≡◌, ◌≤◌, ◌<◌, IfOk, length, map};
 ghost use Rattle.std.specs.List.Sorted.{IsPermutation, IsSorted};
-ghost use Rattle.gtfs_runs.specs.steps.Courses.{is_same_course, stopping_cmp, stopping_of};
-ghost use Rattle.gtfs_runs.specs.steps.Numbers.{AreNumbered, IsNumbered, listed_cmp, number_cmp};
+ghost use Rattle.gtfs_rows.specs.declared.parts.Parts.{Parts};
+ghost use Rattle.gtfs_runs.specs.steps.Courses.{event_of, is_same_course, stopping_cmp, stopping_of};
+ghost use Rattle.gtfs_runs.specs.steps.Groups.{trip_group};
+ghost use Rattle.gtfs_runs.specs.steps.Numbers.{AreNumbered, IsNumbered, listed_cmp};
+ghost use Rattle.gtfs_runs.specs.steps.Passings.{passing_event};
 
 use crate::event::Event;
-use gtfs_rows::{ServiceNo, StopRow};
-use std::cmp::Ordering;
+use crate::stop_index::{IndexedTrip, small_number};
+use crate::stop_lanes::passing::Passing;
+use gtfs_feed::Feed;
+use gtfs_field::OutOfMemory;
+use gtfs_rows::{ServiceNo, TripNo};
 
 // An event of a trip without frequencies.
 //
-// Its lane is that of its course: the service, the position of the stop time and the stops of the trip.
-#[derive(Clone, Copy)]
-pub(crate) struct Listed<'a> {
-    pub(crate) service: ServiceNo,
-    // The stop times of the trip, which the feed lends.
-    pub(crate) rows: &'a [StopRow],
-    // The number of the trip's stops, by which they are compared; 0 until it is known.
-    pub(crate) number: usize,
-    pub(crate) event: Event,
+// Its lane is that of its course: the group of the trip and the position of the stop time. The order of the fields is that of
+// lanes, and in a lane that of events, since the trip decides between those at one second.
+#[derive(Clone, Copy, PartialEq, Eq, PartialOrd, Ord)]
+pub(crate) struct Listed {
+    // The number of the group, by which groups are compared; 0 until it is known.
+    pub(crate) group: u32,
+    row: u32,
+    at: u32,
+    trip: u32,
+    run: u32,
+    seq: u32,
+}
+
+impl Listed {
+    // That of a trip at one of its stop times.
+    pub(crate) fn of(
+        trip: TripNo,
+        indexed: IndexedTrip,
+        passing: &Passing,
+    ) -> Result<Listed, OutOfMemory>
+        requires after { passing.now.after ≤ 3_599_999 }
+        requires start { indexed.start ≤ 7_199_999 }
+        ensures event { IfOk result (λ x. event_of x
+            ≡ passing_event trip.0 indexed.start passing.now) }
+        ensures group { IfOk result (λ x. x.group ≡ indexed.group) }
+    {
+        Ok(Listed {
+            group: indexed.group,
+            row: small_number(passing.row)?,
+            at: indexed.start + passing.after,
+            trip: small_number(trip.0)?,
+            run: indexed.start,
+            seq: passing.seq,
+        })
+    }
+
+    // The trip.
+    pub(crate) fn trip(&self) -> TripNo
+        ensures { result.0 ≡ self.now.trip }
+    {
+        TripNo(self.trip as usize)
+    }
+
+    // The service of the trip, which is one of the feed.
+    pub(crate) fn service(&self, feed: &Feed) -> ServiceNo
+        requires { self.now.trip < length feed.now.trips }
+        ensures { result.0 ≡ (trip_group feed.now self.now.trip).0 }
+    {
+        feed.trip_by_number(self.trip()).service_id
+    }
+
+    // The event.
+    pub(crate) fn event(&self) -> Event
+        ensures { result ≡ event_of self.now }
+    {
+        Event {
+            at: self.at,
+            trip: self.trip(),
+            run: self.run,
+            seq: self.seq,
+            row: self.row as usize,
+        }
+    }
 }
 
 // The events by course and in each course in their order.
-pub(crate) fn sorted(mut listed: Vec<Listed<'_>>) -> Vec<Listed<'_>>
-    requires { AreNumbered listed.items }
-    ensures same { IsPermutation (map stopping_of listed.entry.items)
-        (map stopping_of result.items) }
-    ensures in_order { IsSorted stopping_cmp (map stopping_of result.items) }
-    ensures numbers { AreNumbered result.items }
+pub(crate) fn sorted(mut listed: Vec<Listed>) -> Vec<Listed>
+    ensures same { IsPermutation listed.items result.items }
+    ensures in_order { (p : Parts) → AreNumbered p listed.items
+        → IsSorted stopping_cmp (map (stopping_of p) result.items) }
 {
-    listed.sort_unstable_by(|a, b| order(a, b));
+    listed.sort_unstable();
     listed
 }
 
-fn order(a: &Listed<'_>, b: &Listed<'_>) -> Ordering
-    ensures { result ≡ listed_cmp a.now b.now }
-{
-    course_order(a, b).then(a.event.cmp(&b.event))
-}
-
-fn course_order(a: &Listed<'_>, b: &Listed<'_>) -> Ordering
-    ensures { result ≡ number_cmp a.now b.now }
-{
-    let row_order = a.event.row.cmp(&b.event.row);
-    a.service
-        .cmp(&b.service)
-        .then(row_order.then(a.number.cmp(&b.number)))
-}
-
 // Whether two events have one course.
-pub(crate) fn is_one_course(a: &Listed<'_>, b: &Listed<'_>) -> bool
-    requires { IsNumbered a.now b.now }
-    ensures { result ≡ is_same_course (stopping_of a.now).course (stopping_of b.now).course }
+pub(crate) fn is_one_course(a: &Listed, b: &Listed) -> bool
+    ensures { (p : Parts) → IsNumbered p a.now b.now
+        → result ≡ is_same_course (stopping_of p a.now).course (stopping_of p b.now).course }
 {
-    course_order(a, b).is_eq()
+    a.group == b.group && a.row == b.row
 }

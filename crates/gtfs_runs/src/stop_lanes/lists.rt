@@ -6,33 +6,40 @@ ghost use Rattle.gtfs_runs.specs.Kinds.{IsListLane};
 ghost use Rattle.gtfs_runs.specs.Order.{event_cmp};
 ghost use Rattle.gtfs_runs.specs.StopLanes.{events_of_service, list_value};
 ghost use Rattle.gtfs_runs.specs.declared.stop_lanes.listed.Listed.{Listed as ListedValue};
+ghost use Rattle.gtfs_runs.specs.steps.Groups.{trip_group};
 ghost use Rattle.gtfs_runs.specs.steps.Numbers.{AreNumbered};
-ghost use Rattle.gtfs_runs.specs.steps.Courses.{IsListed, how_many, is_same_course, stopping_cmp, stopping_events, stopping_of};
+ghost use Rattle.gtfs_runs.specs.steps.Courses.{IsListed, event_of, how_many, is_same_course, stopping_cmp, stopping_events, stopping_of};
 
 use crate::list_lane::ListLane;
 use crate::stop_lanes::listed::{Listed, is_one_course};
+use gtfs_feed::Feed;
 use gtfs_field::OutOfMemory;
 use gtfs_rows::ServiceNo;
 use std::alloc::Global;
 
 // A lane for each course of these events, which are sorted.
-pub(crate) fn lists(alloc: Global, listed: &[Listed<'_>]) -> Result<Vec<ListLane>, OutOfMemory>
-    requires sorted { Ascends stopping_cmp (map stopping_of listed.now) }
-    requires numbers { AreNumbered listed.now }
+pub(crate) fn lists(
+    alloc: Global,
+    feed: &Feed,
+    listed: &[Listed],
+) -> Result<Vec<ListLane>, OutOfMemory>
+    requires known { All (λ x. x.trip < length feed.now.trips) listed.now }
+    requires sorted { Ascends stopping_cmp (map (stopping_of feed.now) listed.now) }
+    requires numbers { AreNumbered feed.now listed.now }
     ensures told { IfOk result (λ lists. (k : ℕ) → events_of_service k (map list_value lists.items)
-        ≡ stopping_events k (map stopping_of listed.now)) }
+        ≡ stopping_events k (map (stopping_of feed.now) listed.now)) }
     ensures counted { IfOk result (λ lists. length lists.items
-        ≡ how_many is_same_course (map (λ x. x.course) (map stopping_of listed.now))) }
-    ensures within { IfOk result (λ lists. (n : ℕ) → All (λ x. x.service.0 < n) listed.now
+        ≡ how_many is_same_course (map (λ x. x.course) (map (stopping_of feed.now) listed.now))) }
+    ensures within { IfOk result (λ lists. (n : ℕ) → All (λ x. (trip_group feed.now x.trip).0 < n) listed.now
         → All (λ lane. lane.service < n) (map list_value lists.items)) }
     ensures alike { IfOk result (λ lists. (p : Parts)
-        → All (λ x. IsListed p (stopping_of x)) listed.now
+        → All (λ x. IsListed p (stopping_of feed.now x)) listed.now
         → All (IsListLane (content_of_parts p)) (map list_value lists.items)) }
 {
     let mut lists = Vec::new(alloc);
     let mut at = 0;
     while at < listed.len() {
-        at += add_list(alloc, &listed[at..], &mut lists)?;
+        at += add_list(alloc, feed, &listed[at..], &mut lists)?;
     }
     Ok(lists)
 }
@@ -40,48 +47,50 @@ pub(crate) fn lists(alloc: Global, listed: &[Listed<'_>]) -> Result<Vec<ListLane
 // Adds the lane of the first course of these events, which are sorted. Answers how many they are.
 fn add_list(
     alloc: Global,
-    listed: &[Listed<'_>],
+    feed: &Feed,
+    listed: &[Listed],
     lists: &mut Vec<ListLane>,
 ) -> Result<usize, OutOfMemory>
     requires some { 0 < length listed.now }
-    requires sorted { Ascends stopping_cmp (map stopping_of listed.now) }
-    requires numbers { AreNumbered listed.now }
+    requires known { All (λ x. x.trip < length feed.now.trips) listed.now }
+    requires sorted { Ascends stopping_cmp (map (stopping_of feed.now) listed.now) }
+    requires numbers { AreNumbered feed.now listed.now }
     ensures some { IfOk result (λ n. 0 < n) }
     ensures upto { IfOk result (λ n. n ≤ length listed.now) }
     ensures told { IfOk result (λ n. (k : ℕ) → events_of_service k (map list_value lists.new.items)
-        ++ stopping_events k (map stopping_of (drop n listed.now))
+        ++ stopping_events k (map (stopping_of feed.now) (drop n listed.now))
         ≡ events_of_service k (map list_value lists.old.items)
-        ++ stopping_events k (map stopping_of listed.now)) }
+        ++ stopping_events k (map (stopping_of feed.now) listed.now)) }
     ensures counted { IfOk result (λ n. length lists.new.items + how_many is_same_course
-        (map (λ x. x.course) (map stopping_of (drop n listed.now)))
+        (map (λ x. x.course) (map (stopping_of feed.now) (drop n listed.now)))
         ≡ length lists.old.items + how_many is_same_course
-        (map (λ x. x.course) (map stopping_of listed.now))) }
-    ensures within { IfOk result (λ n. (m : ℕ) → All (λ x. x.service.0 < m) listed.now
+        (map (λ x. x.course) (map (stopping_of feed.now) listed.now))) }
+    ensures within { IfOk result (λ n. (m : ℕ) → All (λ x. (trip_group feed.now x.trip).0 < m) listed.now
         → All (λ lane. lane.service < m) (map list_value lists.old.items)
         → All (λ lane. lane.service < m) (map list_value lists.new.items)) }
     ensures alike { IfOk result (λ n. (p : Parts)
-        → All (λ x. IsListed p (stopping_of x)) listed.now
+        → All (λ x. IsListed p (stopping_of feed.now x)) listed.now
         → All (IsListLane (content_of_parts p)) (map list_value lists.old.items)
         → All (IsListLane (content_of_parts p)) (map list_value lists.new.items)) }
 {
     let len = course_len(listed);
-    let list = list_lane(alloc, listed[0].service, &listed[..len])?;
+    let list = list_lane(alloc, listed[0].service(feed), &listed[..len])?;
     lists.push(list)?;
     Ok(len)
 }
 
 // How many events at the beginning have the course of the first.
-fn course_len(listed: &[Listed<'_>]) -> usize
-    requires some { 0 < length listed.now }
-    requires numbers { AreNumbered listed.now }
+fn course_len(listed: &[Listed]) -> usize
+    requires { 0 < length listed.now }
     ensures some { 0 < result }
     ensures within { result ≤ length listed.now }
-    ensures same { (k : ℕ) (d : ListedValue) → k < result
-        → (stopping_of (slice_index_or listed.now k d)).course
-        ≡ (stopping_of (slice_index_or listed.now 0 d)).course }
-    ensures ends { (d : ListedValue) → result < length listed.now
-        → is_same_course (stopping_of (slice_index_or listed.now 0 d)).course
-        (stopping_of (slice_index_or listed.now result d)).course ≡ false }
+    ensures same { (p : Parts) (k : ℕ) (d : ListedValue) → AreNumbered p listed.now → k < result
+        → (stopping_of p (slice_index_or listed.now k d)).course
+        ≡ (stopping_of p (slice_index_or listed.now 0 d)).course }
+    ensures ends { (p : Parts) (d : ListedValue) → AreNumbered p listed.now
+        → result < length listed.now
+        → is_same_course (stopping_of p (slice_index_or listed.now 0 d)).course
+        (stopping_of p (slice_index_or listed.now result d)).course ≡ false }
 {
     let mut len = 1;
     while len < listed.len() && is_one_course(&listed[0], &listed[len]) {
@@ -94,15 +103,15 @@ fn course_len(listed: &[Listed<'_>]) -> usize
 fn list_lane(
     alloc: Global,
     service: ServiceNo,
-    listed: &[Listed<'_>],
+    listed: &[Listed],
 ) -> Result<ListLane, OutOfMemory>
-    requires { Ascends event_cmp (map (λ x. x.event) listed.now) }
+    requires { Ascends event_cmp (map event_of listed.now) }
     ensures service { IfOk result (λ lane. lane.service ≡ service) }
-    ensures events { IfOk result (λ lane. lane.events.items ≡ map (λ x. x.event) listed.now) }
+    ensures events { IfOk result (λ lane. lane.events.items ≡ map event_of listed.now) }
 {
     let mut events = Vec::with_capacity(alloc, listed.len())?;
     for stopping in listed {
-        events.push(stopping.event)?;
+        events.push(stopping.event())?;
     }
     Ok(ListLane::new(service, events))
 }

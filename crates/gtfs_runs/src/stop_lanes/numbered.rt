@@ -1,121 +1,109 @@
 ghost use Rattle.std.specs.Prelude.{◌≡◌, ◌≤◌, ◌<◌, ◌-◌, ℕ, true, All, IfOk, length, map, slice_index_or};
-ghost use Rattle.std.specs.List.Sorted.{IsPermutation, IsSorted};
+ghost use Rattle.std.specs.List.Sorted.{IsSorted};
+ghost use Rattle.gtfs_rows.specs.declared.parts.Parts.{Parts};
 ghost use Rattle.gtfs_runs.specs.declared.stop_lanes.listed.Listed.{Listed as ListedValue};
-ghost use Rattle.gtfs_runs.specs.steps.Courses.{stopping_of, stops_in};
-ghost use Rattle.gtfs_runs.specs.steps.Numbers.{AreNumbered, HaveOneList, below, list_cmp, list_of, sharing};
+ghost use Rattle.gtfs_runs.specs.steps.Courses.{stopping_of};
+ghost use Rattle.gtfs_runs.specs.steps.Groups.{below, group_cmp, group_of, sharing, trip_group};
+ghost use Rattle.gtfs_runs.specs.steps.Numbers.{AreNumbered};
 
+use crate::grouped_trip::{GroupedTrip, by_group, group_order};
+use crate::stop_index::small_number;
 use crate::stop_lanes::listed::Listed;
+use gtfs_feed::Feed;
 use gtfs_field::OutOfMemory;
-use gtfs_rows::StopRow;
 use std::alloc::Global;
-use std::cmp::Ordering;
 
-// Numbers the stops of trips: how many of the trips that pass the place have lower ones.
+// Numbers the groups of trips: how many of the trips that pass the place have lower ones.
 //
 // So lists of stops are compared a few times for each trip, and not for each two of its events.
-pub(crate) fn numbered<'a>(
+pub(crate) fn numbered(
     alloc: Global,
-    listed: Vec<Listed<'a>>,
-) -> Result<Vec<Listed<'a>>, OutOfMemory>
-    requires { HaveOneList (map stopping_of listed.items) }
-    ensures same { IfOk result (λ found. map stopping_of found.items
-        ≡ map stopping_of listed.entry.items) }
-    ensures numbers { IfOk result (λ found. AreNumbered found.items) }
+    feed: &Feed,
+    listed: Vec<Listed>,
+) -> Result<Vec<Listed>, OutOfMemory>
+    requires { All (λ x. x.trip < length feed.now.trips) listed.items }
+    ensures same { IfOk result (λ found. (p : Parts) → map (stopping_of p) found.items
+        ≡ map (stopping_of p) listed.items) }
+    ensures numbers { IfOk result (λ found. AreNumbered feed.now found.items) }
 {
-    let heads = firsts(alloc, &listed)?;
-    let heads = by_stops(heads);
-    Ok(with_numbers(&heads, listed))
+    let trips = by_group(trips_of(alloc, feed, &listed)?);
+    with_groups(feed, &trips, listed)
 }
 
-// The first event of each trip, where the events of a trip stand together.
-fn firsts<'a>(alloc: Global, listed: &[Listed<'a>]) -> Result<Vec<Listed<'a>>, OutOfMemory>
-    requires { HaveOneList (map stopping_of listed.now) }
-    ensures { IfOk result (λ firsts. All (λ x. 1 ≤ sharing firsts.items x.course.stops)
-        (map stopping_of listed.now)) }
+// The trips of these events, where the events of a trip stand together.
+fn trips_of<'a>(
+    alloc: Global,
+    feed: &'a Feed,
+    listed: &[Listed],
+) -> Result<Vec<GroupedTrip<'a>>, OutOfMemory>
+    requires { All (λ x. x.trip < length feed.now.trips) listed.now }
+    ensures { IfOk result (λ trips. All (λ x. 1 ≤ sharing trips.items (trip_group feed.now x.trip))
+        listed.now) }
 {
-    let mut firsts = Vec::new(alloc);
+    let mut trips = Vec::new(alloc);
     for n in 0..listed.len() {
         if !goes_on(listed, n) {
-            firsts.push(listed[n])?;
+            trips.push(GroupedTrip::of(feed, listed[n].trip()))?;
         }
     }
-    Ok(firsts)
+    Ok(trips)
 }
 
-// Whether the event at this index is of the trip of the one before it, and so has its stops.
-fn goes_on(listed: &[Listed<'_>], n: usize) -> bool
-    requires lists { HaveOneList (map stopping_of listed.now) }
-    requires within { n < length listed.now }
+// Whether the event at this index is of the trip of the one before it.
+fn goes_on(listed: &[Listed], n: usize) -> bool
+    requires { n < length listed.now }
     ensures before { result ≡ true → 0 < n }
-    ensures stops { (d : ListedValue) → result ≡ true
-        → list_of (slice_index_or listed.now (n - 1) d)
-        ≡ list_of (slice_index_or listed.now n d) }
+    ensures trip { (d : ListedValue) → result ≡ true
+        → (slice_index_or listed.now (n - 1) d).trip ≡ (slice_index_or listed.now n d).trip }
 {
-    n > 0 && listed[n - 1].event.trip.0 == listed[n].event.trip.0
+    n > 0 && listed[n - 1].trip().0 == listed[n].trip().0
 }
 
-// The events by the stops of their trips.
-fn by_stops(mut firsts: Vec<Listed<'_>>) -> Vec<Listed<'_>>
-    ensures same { IsPermutation firsts.entry.items result.items }
-    ensures in_order { IsSorted (λ x y. list_cmp (list_of x) (list_of y)) result.items }
-{
-    firsts.sort_unstable_by(|a, b| stop_order(a.rows, b.rows));
-    firsts
-}
-
-// The events, each with the number of its stops.
-fn with_numbers<'a>(firsts: &[Listed<'a>], mut listed: Vec<Listed<'a>>) -> Vec<Listed<'a>>
-    requires in_order { IsSorted (λ x y. list_cmp (list_of x) (list_of y)) firsts.now }
-    requires lists { HaveOneList (map stopping_of listed.items) }
-    ensures same { map stopping_of result.items ≡ map stopping_of listed.entry.items }
-    ensures numbers { All (λ x. x.number ≡ below firsts.now (list_of x)) result.items }
+// The events, each with the number of the group of its trip.
+fn with_groups(
+    feed: &Feed,
+    trips: &[GroupedTrip<'_>],
+    mut listed: Vec<Listed>,
+) -> Result<Vec<Listed>, OutOfMemory>
+    requires in_order { IsSorted (λ x y. group_cmp (group_of x) (group_of y)) trips.now }
+    requires known { All (λ x. x.trip < length feed.now.trips) listed.items }
+    ensures same { IfOk result (λ found. (p : Parts) → map (stopping_of p) found.items
+        ≡ map (stopping_of p) listed.items) }
+    ensures numbers { IfOk result (λ found. All (λ x. x.group
+        ≡ below trips.now (trip_group feed.now x.trip)) found.items) }
 {
     for n in 0..listed.len() {
-        let number = number_at(firsts, &listed, n);
-        listed[n].number = number;
+        let group = group_at(feed, trips, &listed, n)?;
+        listed[n].group = group;
     }
-    listed
+    Ok(listed)
 }
 
-// The number of the stops of the event at this index, where the events before it have theirs.
-fn number_at(firsts: &[Listed<'_>], listed: &[Listed<'_>], n: usize) -> usize
-    requires in_order { IsSorted (λ x y. list_cmp (list_of x) (list_of y)) firsts.now }
-    requires lists { HaveOneList (map stopping_of listed.now) }
+// The number of the group of the event at this index, where the events before it have theirs.
+fn group_at(
+    feed: &Feed,
+    trips: &[GroupedTrip<'_>],
+    listed: &[Listed],
+    n: usize,
+) -> Result<u32, OutOfMemory>
+    requires in_order { IsSorted (λ x y. group_cmp (group_of x) (group_of y)) trips.now }
+    requires known { All (λ x. x.trip < length feed.now.trips) listed.now }
     requires within { n < length listed.now }
-    requires before { (k : ℕ) (d : ListedValue) → k < n
-        → (slice_index_or listed.now k d).number
-        ≡ below firsts.now (list_of (slice_index_or listed.now k d)) }
-    ensures { (d : ListedValue)
-        → result ≡ below firsts.now (list_of (slice_index_or listed.now n d)) }
+    requires before { (k : ℕ) (d : ListedValue) → k < n → (slice_index_or listed.now k d).group
+        ≡ below trips.now (trip_group feed.now (slice_index_or listed.now k d).trip) }
+    ensures { IfOk result (λ group. (d : ListedValue) → group
+        ≡ below trips.now (trip_group feed.now (slice_index_or listed.now n d).trip)) }
 {
     if goes_on(listed, n) {
-        return listed[n - 1].number;
+        return Ok(listed[n - 1].group);
     }
-    number_of(firsts, listed[n].rows)
+    small_number(trips_below(trips, &GroupedTrip::of(feed, listed[n].trip())))
 }
 
-// How many of these events, which are sorted by stops, have lower ones.
-fn number_of(firsts: &[Listed<'_>], rows: &[StopRow]) -> usize
-    requires { IsSorted (λ x y. list_cmp (list_of x) (list_of y)) firsts.now }
-    ensures { result ≡ below firsts.now (stops_in rows.now) }
+// How many of these trips, which are sorted by group, have a lower one.
+fn trips_below(trips: &[GroupedTrip<'_>], trip: &GroupedTrip<'_>) -> usize
+    requires { IsSorted (λ x y. group_cmp (group_of x) (group_of y)) trips.now }
+    ensures { result ≡ below trips.now (group_of trip.now) }
 {
-    firsts.partition_point(|first| stop_order(first.rows, rows).is_lt())
-}
-
-// Stops of trips compare like the letters of words.
-fn stop_order(a: &[StopRow], b: &[StopRow]) -> Ordering
-    ensures { result ≡ list_cmp (stops_in a.now) (stops_in b.now) }
-{
-    let (mut left, mut right) = (a, b);
-    while let (Some((stop, left_rest)), Some((other, right_rest))) = (
-        left.split_first(),
-        right.split_first(),
-    ) {
-        let order = stop.stop_id.cmp(&other.stop_id);
-        if order.is_ne() {
-            return order;
-        }
-        (left, right) = (left_rest, right_rest);
-    }
-    left.len().cmp(&right.len())
+    trips.partition_point(|other| group_order(other, trip).is_lt())
 }

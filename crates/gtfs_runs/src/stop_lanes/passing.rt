@@ -10,7 +10,7 @@ ghost use Rattle.gtfs_rows.specs.Places.{members};
 ghost use Rattle.gtfs_runs.specs.steps.Passings.{AreTripTimes, first_left, passing_at, passing_event, passings_of};
 ghost use Rattle.gtfs_times.specs.TimedRows.{timed_parts};
 
-use crate::departure_row::{departure, leaves_place};
+use crate::departure_row::{leaves_place, left, trip_start};
 use crate::event::Event;
 use crate::place::Place;
 use gtfs_feed::Feed;
@@ -44,22 +44,6 @@ impl Passing {
             row: self.row,
         }
     }
-}
-
-// When a vehicle leaves the first of the stop times of a trip, 0 where there is none.
-pub(crate) fn trip_start(rows: &[StopRow]) -> u32
-    ensures value { result ≡ first_left rows.now }
-    ensures bound { result ≤ 7_199_999 }
-{
-    rows.first().map_or(0, left)
-}
-
-// When a vehicle leaves, 0 where the stop time has no time.
-fn left(row: &StopRow) -> u32
-    ensures value { result ≡ unwrap_or (left_at row.now) 0 }
-    ensures bound { result ≤ 7_199_999 }
-{
-    departure(row).map_or(0, |clock| clock.seconds())
 }
 
 // The stop times of a trip at which riders can leave the place of a stop, by position.

@@ -4,6 +4,7 @@ ghost use Rattle.gtfs_rows.specs.Views.{service_ids, stop_ids, text_of_number};
 ghost use Rattle.gtfs_runs.specs.StopLanes.{list_value, period_value};
 ghost use Rattle.gtfs_runs.specs.steps.Courses.{stopping_of};
 ghost use Rattle.gtfs_runs.specs.steps.Finds.{AreFound};
+ghost use Rattle.gtfs_runs.specs.steps.Numbers.{AreNumbered};
 ghost use Rattle.gtfs_runs.specs.steps.Whole.{AreWhole};
 ghost use Rattle.gtfs_times.specs.Filling.{timed};
 ghost use Rattle.gtfs_times.specs.TimedRows.{timed_parts};
@@ -14,7 +15,7 @@ use crate::step_lane::StepLane;
 use crate::stop_index::StopIndex;
 use crate::stop_lanes::found::Found;
 use crate::stop_lanes::indexed::found_in_index;
-use crate::stop_lanes::listed::sorted;
+use crate::stop_lanes::listed::{Listed, sorted};
 use crate::stop_lanes::lists::lists;
 use crate::stop_lanes::numbered::numbered;
 use gtfs_feed::Feed;
@@ -37,7 +38,8 @@ pub(crate) fn whole(
 {
     let place = Place::of_stop(alloc, feed, stop)?;
     let found = Found::at_place(alloc, feed, &place, times)?;
-    in_lanes(alloc, feed, stop, times, found)
+    let listed = numbered(alloc, feed, found.listed)?;
+    in_lanes(alloc, feed, stop, times, listed, found.periods)
 }
 
 // The same of the departure rows that an index has there.
@@ -52,26 +54,28 @@ pub(crate) fn whole_in_index(
         (map list_value lanes.0.items) (map period_value lanes.1.items)) }
 {
     let found = found_in_index(alloc, index, stop)?;
-    in_lanes(alloc, index.feed(), stop, index.times(), found)
+    let (listed, periods) = (found.listed, found.periods);
+    in_lanes(alloc, index.feed(), stop, index.times(), listed, periods)
 }
 
-// What leaves the place of a stop of the feed, in lanes.
+// What leaves the place of a stop of the feed, in lanes, where the groups of trips have their numbers.
 fn in_lanes(
     alloc: Global,
     feed: &Feed,
     stop: StopNo,
     times: Times,
-    found: Found<'_>,
+    listed: Vec<Listed>,
+    periods: Vec<StepLane>,
 ) -> Result<(Vec<ListLane>, Vec<StepLane>), OutOfMemory>
-    requires { AreFound (timed_parts times feed.now) stop.0 (length feed.now.trips)
-        (map stopping_of found.listed.items) (map period_value found.periods.items) }
+    requires found { AreFound (timed_parts times feed.now) stop.0 (length feed.now.trips)
+        (map (stopping_of feed.now) listed.items) (map period_value periods.items) }
+    requires numbers { AreNumbered feed.now listed.items }
     ensures { IfOk result (λ lanes. AreWhole (timed times (content_of feed.now))
         (text_of_number (stop_ids feed.now) stop.0) (service_ids feed.now)
         (map list_value lanes.0.items) (map period_value lanes.1.items)) }
 {
     feed.soundness();
-    let listed = numbered(alloc, found.listed)?;
     let listed = sorted(listed);
-    let lists = lists(alloc, &listed)?;
-    Ok((lists, found.periods))
+    let lists = lists(alloc, feed, &listed)?;
+    Ok((lists, periods))
 }

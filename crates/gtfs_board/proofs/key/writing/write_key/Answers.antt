@@ -1,4 +1,4 @@
-use Rattle.std.proofs.Common.{◌∙◌, ap, FitsSigned, w64}
+use Rattle.std.proofs.Common.{◌∙◌, ◌++◌, ap, lit<, string_bytes, FitsSigned, w64}
 use Rattle.std.specs.Fmt.{signed_decimal}
 use Rattle.std.proofs.lemmas.Int.{to_z-of_z}
 use Rattle.gtfs_board.specs.Lent.{plain_key}
@@ -9,5 +9,8 @@ pub returns-clause-appended : goal.returns-clause-appended
 returns-clause-appended c =
     let instant = c.args.key.now.instant in
     let fits : FitsSigned w64 instant = assumption in
-    key-joined _ _ _ _ _ _ _ _ _ (plain_key c.args.key.now) (c.format.ensures.text ∙ ap signed_decimal (to_z-of_z w64 instant fits)) c.format-2.ensures.text c.format-3.ensures.text
-    c.push_piece.ensures.appended c.push_piece-2.ensures.appended c.push_piece-3.ensures.appended c.push_piece-4.ensures.appended c.push_day.ensures.appended
+    let at = rw c.unwrap.ensures at c.push.ensures.bytes ∙ ap (λ k. string_bytes c.args.text.now ++ k) (c.push.ensures.ascii (lit< tt)) in
+    let shown = rw c.unwrap-2.ensures at c.push_str.ensures.bytes in
+    let slash = rw c.unwrap-3.ensures at c.push-2.ensures.bytes ∙ ap (λ k. string_bytes c.push_str.new.self ++ k) (c.push-2.ensures.ascii (lit< tt)) in
+    let trip = rw c.unwrap-4.ensures at c.push_str-2.ensures.bytes in
+    key-joined _ _ _ _ _ _ _ (plain_key c.args.key.now) (c.format.ensures.text ∙ ap signed_decimal (to_z-of_z w64 instant fits)) at shown slash trip c.push_run.ensures.appended

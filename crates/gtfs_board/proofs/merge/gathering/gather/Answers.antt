@@ -1,4 +1,4 @@
-use Rattle.std.proofs.Common.{rules, ◌++◌, w32, w64, SFits, to_z, arith, refl, ◌∙◌, ap, heap_items}
+use Rattle.std.proofs.Common.{rules, ◌++◌, w32, w64, SFits, to_z, arith, refl, ◌∙◌, ap}
 use Rattle.std.specs.Prelude.{pos, ◌+ℤ◌, ◌≤ℤ◌}
 use Rattle.std.specs.Option.{option_to_list}
 use Rattle.std.proofs.Math.Nat.{le_refl}
@@ -13,7 +13,7 @@ use Rattle.gtfs_board.proofs.merge.gathering.gather.Goals as goal
 pub loop-fresh-init : goal.loop-fresh-init
 loop-fresh-init g c =
     let source = c.args.source.now in
-    let items = heap_items c.args.queue.now in
+    let items = c.args.queue.now in
     let waiting = c.least_waiting-waiting.result in
     let least = c.least_with-least.result in
     let end_fits : SFits w64 c.end.result = search rules in
@@ -87,10 +87,10 @@ loop-fresh-preserved g c =
     let plus = day_after (g.S.Source.first source) c.args.day day (g.S.Source.last source) last.low last.high c.requires.from since in_time in
     let up : (day +ℤ pos 1) ≤ℤ next_day = rw plus at next.up in
     let skips = rw plus at next.skips in
-    let more = gathered_more (c.laws.ensures.lanes) c.args.floor.now (g.S.Source.end source) (heap_items c.args.queue.now ++ option_to_list c.args.head)
+    let more = gathered_more (c.laws.ensures.lanes) c.args.floor.now (g.S.Source.end source) (c.args.queue.now ++ option_to_list c.args.head)
     c.loop-fresh.fresh.items c.open_day.new.fresh.items day next_day mark falls i.gathered due.1 step.heads step.least up skips in
     let there = c.laws.ensures.listed day (le_chain _ c.args.day day c.requires.from since) in_time in
-    let begins = least_from (g.S.Source.end source) (heap_items c.args.queue.now ++ option_to_list c.args.head) in
+    let begins = least_from (g.S.Source.end source) (c.args.queue.now ++ option_to_list c.args.head) in
     let few = rw day_is at i.steps in
     let steps = steps_few_more (g.S.Source.last source) day next_day mark falls (g.S.Source.days source) (g.S.Source.count source) _ _ _ c.args.day begins few there since in_time up more.1 more.2 step.steps in
     record {

@@ -30,7 +30,7 @@ loop-row-preserved c =
       passings = λ d.
           pushed-more (passing_of rows d) own n x _ _ c.passed.result c.loop-row-test.true (get_or_default own n none x c.loop-row-test.true) (c.loop-row.invariant.passings d) c.in_ok-push.ensures.items
           (c.passed.ensures.value
-          ∙ (λ i. passing_at (c.trip_start-start.ensures.value i)
+          ∙ (λ i. passing_at (c.requires.start i)
           (c.row-in-loop-row.ensures i, (c.index-rows-row.is ∙ get_or_default rows c.row.result c.index-rows-row.result d inside ∙ ap (λ m. get_or rows m d) c.row.ensures) i)));
       after = subst (All (λ y. y.after ≤ 3_599_999)) (sym c.in_ok-push.ensures.items)
           (All-push (λ y. y.after ≤ 3_599_999) c.loop-row.found.items c.passed.result c.loop-row.invariant.after c.passed.ensures.after);

@@ -1,10 +1,15 @@
-use Rattle.std.proofs.Common.{◌≡◌, ◌++◌, map, take}
-use Rattle.gtfs_runs.specs.steps.Courses.{stopping_of, stops_in}
+use Rattle.std.proofs.Common.{◌≡◌, ◌++◌, ℕ, map, take}
+use Rattle.std.specs.List.{All}
+use Rattle.gtfs_rows.specs.declared.parts.Parts.{Parts}
+use Rattle.gtfs_runs.specs.steps.Courses.{stopping_of}
 use Rattle.gtfs_runs.specs.steps.Finds.{stopping_at}
-use Rattle.gtfs_runs.specs.steps.Passings.{first_left}
+use Rattle.gtfs_runs.specs.steps.Groups.{trip_group}
 use Rattle.gtfs_runs.proofs.stop_lanes.found.add_listed.Given as goal
 
 -- the events of the stop times so far
 abbrev pub invariant-loop-passing : goal.invariant-loop-passing
-invariant-loop-passing l = map stopping_of l.listed.items
-    ≡ map stopping_of l.fn.listed.items ++ map (stopping_at (stops_in l.rows) l.service.0 l.trip.0 (first_left l.rows)) (take l.passing-index l.passings)
+invariant-loop-passing l = record {
+  events : (p : Parts) → map (stopping_of p) l.listed.items
+      ≡ map (stopping_of p) l.fn.listed.items ++ map (stopping_at (trip_group p l.trip.0).1 (trip_group p l.trip.0).0 l.trip.0 l.indexed.start) (take l.passing-index l.passings);
+  groups : (groups : ℕ → ℕ) → groups l.trip.0 ≡ l.indexed.group → All (λ x. groups x.trip ≡ x.group) l.fn.listed.items → All (λ x. groups x.trip ≡ x.group) l.listed.items;
+}

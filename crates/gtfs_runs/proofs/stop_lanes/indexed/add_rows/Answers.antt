@@ -23,8 +23,9 @@ loop-at-init c =
     let sound = sound-timed p c.soundness.ensures c.args.times in
     record {
       upto = omega arith;
-      found = raised q sound c.args.stop.0 0 c.args.rows.now c.requires (omega arith) _ _;
-      left = rows_raised q sound c.args.stop.0 0 c.args.rows.now c.requires (omega arith);
+      found = raised q sound c.args.stop.0 0 c.args.rows.now c.requires.rows (omega arith) _ _;
+      left = rows_raised q sound c.args.stop.0 0 c.args.rows.now c.requires.rows (omega arith);
+      groups = λ e was. was;
     }
 
 pub loop-at-preserved : goal.loop-at-preserved
@@ -41,16 +42,21 @@ loop-at-preserved c =
     record {
       upto = upto_more xs at n so_far.upto told.upto;
       found = λ was.
-          subst (λ l. AreFound q s (first_trip (length p.trips) l) (map stopping_of c.add_trip.new.listed.items) (map period_value c.add_trip.new.periods.items)) left
-          (told.found (subst (λ l. AreFound q s (first_trip (length p.trips) l) (map stopping_of c.loop-at.listed.items) (map period_value c.loop-at.periods.items)) (sym (take_rest xs at)) (so_far.found was)));
+          subst (λ l. AreFound q s (first_trip (length p.trips) l) (map (stopping_of p) c.add_trip.new.listed.items) (map period_value c.add_trip.new.periods.items)) left
+          (told.found (subst (λ l. AreFound q s (first_trip (length p.trips) l) (map (stopping_of p) c.loop-at.listed.items) (map period_value c.loop-at.periods.items)) (sym (take_rest xs at)) (so_far.found was)));
       left = subst (λ l. ArePlaceRows q s (first_trip (length p.trips) l) l) left told.left;
+      groups = λ e was. told.groups e (so_far.groups e was);
     }
 
 pub returns : goal.returns
-returns c = λ was.
+returns c =
     let p = c.args.feed.now in
     let q = timed_parts c.args.times p in
     let xs = c.args.rows.now in
     let past : length xs ≤ c.loop-at.at = omega (arith, c.loop-at-test.false) in
-    subst (λ l. AreFound q c.args.stop.0 (first_trip (length p.trips) l) (map stopping_of c.loop-at.listed.items) (map period_value c.loop-at.periods.items)) (nothing_left xs c.loop-at.at past)
-    (c.loop-at.invariant.found was)
+    record {
+      groups = c.loop-at.invariant.groups;
+      found = λ was.
+    subst (λ l. AreFound q c.args.stop.0 (first_trip (length p.trips) l) (map (stopping_of p) c.loop-at.listed.items) (map period_value c.loop-at.periods.items)) (nothing_left xs c.loop-at.at past)
+    (c.loop-at.invariant.found was);
+    }

@@ -1,4 +1,4 @@
-use Rattle.std.proofs.Common.{◌≡◌, ◌≤◌, ◌<◌, ◌+◌, ◌∙◌, length, map, take, drop, sym, subst, arith}
+use Rattle.std.proofs.Common.{◌≡◌, ◌≤◌, ◌<◌, ◌+◌, ◌∙◌, length, map, take, drop, get_or, sym, ap, subst, arith}
 use Rattle.std.proofs.lemmas.List.{length-take-le}
 use Rattle.gtfs_times.proofs.FilledContent.{sound-timed}
 use Rattle.gtfs_times.specs.TimedRows.{timed_parts}
@@ -7,6 +7,7 @@ use Rattle.gtfs_runs.specs.declared.stop_index.DepartureRow.{DepartureRow}
 use Rattle.gtfs_runs.specs.steps.Courses.{stopping_of}
 use Rattle.gtfs_runs.specs.steps.Finds.{AreFound}
 use Rattle.gtfs_runs.specs.steps.Places.{ArePlaceRows, first_trip}
+use Rattle.gtfs_runs.proofs.GroupFacts.{no_trip, starts_at, trips_counted}
 use Rattle.gtfs_runs.proofs.PlaceFinds.{are-passings, first_within, raised, rows_raised, rows_within}
 use Rattle.gtfs_runs.proofs.PlaceRows.{first_counted, first_is, first_lowest, left_rows, own_all, own_trip, own_up}
 use Rattle.gtfs_runs.proofs.stop_lanes.indexed.add_trip.Goals as goal
@@ -84,6 +85,41 @@ returns c =
       upto = upto;
       found = λ was.
           raised q sound s (t + 1) (drop n xs) left last _ _
-          (c.in_ok-add_passings.ensures c.args.times s passed (subst (λ m. AreFound q s m (map stopping_of c.args.listed.now.items) (map period_value c.args.periods.now.items)) same was));
+          (c.in_ok-add_passings.ensures.found c.args.times s passed (subst (λ m. AreFound q s m (map (stopping_of p) c.args.listed.now.items) (map period_value c.args.periods.now.items)) same was));
       left = rows_raised q sound s (t + 1) (drop n xs) left last;
+      groups = λ e. c.in_ok-add_passings.ensures.groups (λ u. (get_or c.args.trips.now u e).group)
+          (ap (λ z. z.group) (sym (c.trip_at-indexed.ensures e)));
     }
+
+pub trip_at-indexed-requires : goal.trip_at-indexed-requires
+trip_at-indexed-requires c =
+    let p = c.args.feed.now in
+    let q = timed_parts c.args.times p in
+    let xs = c.args.rows.now in
+    let x : DepartureRow = record { trip = 0; row = 0 } in
+    let t = c.trip-trip.result.0 in
+    let same : first_trip (length p.trips) xs ≡ t = first_is (length p.trips) xs x c.requires.some ∙ sym c.trip-trip.ensures in
+    let within : t < length p.trips = first_within q c.args.stop.0 t xs (subst (λ n. ArePlaceRows q c.args.stop.0 n xs) same c.requires.rows) same c.requires.some in
+    omega (arith, within, trips_counted p c.soundness.ensures c.args.trips.now c.requires.trips.starts)
+
+pub passings_at-requires-clause-start : goal.passings_at-requires-clause-start
+passings_at-requires-clause-start c =
+    let p = c.args.feed.now in
+    let q = timed_parts c.args.times p in
+    let xs = c.args.rows.now in
+    let x : DepartureRow = record { trip = 0; row = 0 } in
+    let t = c.trip-trip.result.0 in
+    let same : first_trip (length p.trips) xs ≡ t = first_is (length p.trips) xs x c.requires.some ∙ sym c.trip-trip.ensures in
+    let within : t < length p.trips = first_within q c.args.stop.0 t xs (subst (λ n. ArePlaceRows q c.args.stop.0 n xs) same c.requires.rows) same c.requires.some in
+    ap (λ z. z.start) (c.trip_at-indexed.ensures no_trip) ∙ starts_at p c.soundness.ensures c.args.trips.now c.requires.trips.starts t no_trip within
+
+pub add_passings-requires-clause-start : goal.add_passings-requires-clause-start
+add_passings-requires-clause-start c =
+    let p = c.args.feed.now in
+    let q = timed_parts c.args.times p in
+    let xs = c.args.rows.now in
+    let x : DepartureRow = record { trip = 0; row = 0 } in
+    let t = c.trip-trip.result.0 in
+    let same : first_trip (length p.trips) xs ≡ t = first_is (length p.trips) xs x c.requires.some ∙ sym c.trip-trip.ensures in
+    let within : t < length p.trips = first_within q c.args.stop.0 t xs (subst (λ n. ArePlaceRows q c.args.stop.0 n xs) same c.requires.rows) same c.requires.some in
+    ap (λ z. z.start) (c.trip_at-indexed.ensures no_trip) ∙ starts_at p c.soundness.ensures c.args.trips.now c.requires.trips.starts t no_trip within

@@ -1,12 +1,12 @@
-use Rattle.std.proofs.Common.{◌<◌, ◌∙◌, [], ◌∷◌, length, map, drop, sym, ap, subst}
+use Rattle.std.proofs.Common.{◌<◌, ◌∙◌, [], ◌∷◌, length, map, drop, get_or, sym, ap, subst}
 use Rattle.std.specs.List.{All}
-use Rattle.std.proofs.lemmas.List.{length-append, map-append}
+use Rattle.std.proofs.lemmas.List.{get_or_default, length-append, map-append}
 use Rattle.std.proofs.lemmas.List.Elements.{All-push}
 use Rattle.gtfs_rows.specs.Views.{content_of_parts}
 use Rattle.gtfs_runs.specs.Kinds.{IsListLane}
 use Rattle.gtfs_runs.specs.StopLanes.{list_value}
 use Rattle.gtfs_runs.specs.steps.Courses.{how_many, is_same_course, stopping_of}
-use Rattle.gtfs_runs.proofs.Chunks.{fewer, lane_of_course, lane_up, told_list}
+use Rattle.gtfs_runs.proofs.Chunks.{fewer, lane_of_course, lane_up, no_event, told_list}
 use Rattle.gtfs_runs.proofs.CourseOrder.{count_more}
 use Rattle.gtfs_runs.proofs.Pushes.{none-made}
 use Rattle.gtfs_runs.proofs.stop_lanes.lists.add_list.Goals as goal
@@ -14,26 +14,31 @@ use Rattle.gtfs_runs.proofs.stop_lanes.lists.add_list.Goals as goal
 pub list_lane-requires : goal.list_lane-requires
 list_lane-requires c =
     let len = c.course_len-len in
-    lane_up c.args.listed.now len.result c.index-listed-0.result len.ensures.some len.ensures.within c.requires.sorted len.ensures.same c.index-listed-0.is
+    let xs = c.args.listed.now in
+    let first = get_or xs 0 no_event in
+    lane_up c.args.feed.now xs len.result first len.ensures.some len.ensures.within c.requires.sorted (λ k d. len.ensures.same c.args.feed.now k d c.requires.numbers)
+    (get_or_default xs 0 no_event first c.requires.some)
 
 pub returns-clause-told : goal.returns-clause-told
 returns-clause-told c = λ k.
     let len = c.course_len-len in
+    let first = get_or c.args.listed.now 0 no_event in
     let lane = c.in_ok-list.list in
     let old = c.args.lists.now.items in
-    told_list c.args.listed.now len.result c.index-listed-0.result len.ensures.some len.ensures.within c.requires.sorted len.ensures.same c.index-listed-0.is
+    told_list c.args.feed.now c.args.listed.now len.result first len.ensures.some len.ensures.within c.requires.sorted (λ k d. len.ensures.same c.args.feed.now k d c.requires.numbers) (get_or_default c.args.listed.now 0 no_event first c.requires.some)
     k (map list_value old) (map list_value c.push.new.self.items) (list_value lane) (ap (map list_value) c.in_ok-push.ensures.items ∙ map-append list_value old (lane ∷ []))
-    c.in_ok-list.ensures.events (ap (λ x. x.0) c.in_ok-list.ensures.service ∙ ap (λ x. x.service.0) (sym c.index-listed-0.is))
+    c.in_ok-list.ensures.events (ap (λ x. x.0) c.in_ok-list.ensures.service ∙ c.service.ensures)
 
 pub returns-clause-alike : goal.returns-clause-alike
 returns-clause-alike c = λ p own was.
     let len = c.course_len-len in
+    let first = get_or c.args.listed.now 0 no_event in
     let lane = c.in_ok-list.list in
     let old = c.args.lists.now.items in
     let pushed = ap (map list_value) c.in_ok-push.ensures.items ∙ map-append list_value old (lane ∷ []) in
     subst (λ l. All (IsListLane (content_of_parts p)) l) (sym pushed)
     (All-push (IsListLane (content_of_parts p)) (map list_value old) (list_value lane) was
-    (lane_of_course c.args.listed.now len.result c.index-listed-0.result len.ensures.some len.ensures.within c.requires.sorted len.ensures.same c.index-listed-0.is p (list_value lane)
+    (lane_of_course c.args.feed.now c.args.listed.now len.result first len.ensures.some len.ensures.within c.requires.sorted (λ k d. len.ensures.same c.args.feed.now k d c.requires.numbers) (get_or_default c.args.listed.now 0 no_event first c.requires.some) p (list_value lane)
     c.in_ok-list.ensures.events own))
 
 pub returns-clause-within : goal.returns-clause-within
@@ -43,15 +48,16 @@ returns-clause-within c = λ m serve were.
     let pushed = ap (map list_value) c.in_ok-push.ensures.items ∙ map-append list_value old (lane ∷ []) in
     subst (λ l. All (λ x. x.service < m) l) (sym pushed)
     (All-push (λ x. x.service < m) (map list_value old) (list_value lane) were
-    (subst (λ n. n < m) (sym (ap (λ x. x.0) c.in_ok-list.ensures.service)) (serve 0 c.index-listed-0.result c.requires.some)))
+    (subst (λ n. n < m) (sym (ap (λ x. x.0) c.in_ok-list.ensures.service ∙ c.service.ensures)) (serve 0 no_event c.requires.some)))
 
 pub returns-clause-counted : goal.returns-clause-counted
 returns-clause-counted c =
     let len = c.course_len-len in
+    let first = get_or c.args.listed.now 0 no_event in
     let more = ap length c.in_ok-push.ensures.items ∙ length-append c.args.lists.now.items (c.in_ok-list.list ∷ []) in
-    count_more (length c.args.lists.now.items) (length c.push.new.self.items) (how_many is_same_course (map (λ x. x.course) (map stopping_of (drop len.result c.args.listed.now))))
-    (how_many is_same_course (map (λ x. x.course) (map stopping_of c.args.listed.now))) more
-    (fewer c.args.listed.now len.result c.index-listed-0.result len.ensures.some len.ensures.within c.requires.sorted len.ensures.same c.index-listed-0.is len.ensures.ends)
+    count_more (length c.args.lists.now.items) (length c.push.new.self.items) (how_many is_same_course (map (λ x. x.course) (map (stopping_of c.args.feed.now) (drop len.result c.args.listed.now))))
+    (how_many is_same_course (map (λ x. x.course) (map (stopping_of c.args.feed.now) c.args.listed.now))) more
+    (fewer c.args.feed.now c.args.listed.now len.result first len.ensures.some len.ensures.within c.requires.sorted (λ k d. len.ensures.same c.args.feed.now k d c.requires.numbers) (get_or_default c.args.listed.now 0 no_event first c.requires.some) (λ d. len.ensures.ends c.args.feed.now d c.requires.numbers))
 
 pub returns-in_err-list : goal.returns-in_err-list
 returns-in_err-list c =

@@ -1,18 +1,24 @@
-use Rattle.std.proofs.Common.{◌∙◌, sym, subst}
+use Rattle.std.proofs.Common.{◌∙◌, get_or, sym, subst}
+use Rattle.std.proofs.lemmas.List.{get_or_default}
 use Rattle.gtfs_rows.specs.Order.{Ascends}
 use Rattle.gtfs_runs.specs.Order.{event_cmp}
+use Rattle.gtfs_runs.specs.steps.Courses.{event_of}
+use Rattle.gtfs_runs.proofs.Chunks.{no_event}
 use Rattle.gtfs_runs.proofs.Pushes.{mapped-all, pushed-more}
 use Rattle.gtfs_runs.proofs.stop_lanes.lists.list_lane.Goals as goal
 
 pub loop-stopping-preserved : goal.loop-stopping-preserved
 loop-stopping-preserved c =
-    pushed-more (λ x. x.event) c.args.listed.now c.loop-stopping.stopping-index c.stopping-item.result _ _ _ c.loop-stopping-test.true c.stopping-item.is
-    c.loop-stopping.invariant c.in_ok-push.ensures.items (λ i. c.stopping-item.result.event)
+    let xs = c.args.listed.now in
+    let n = c.loop-stopping.stopping-index in
+    let x = get_or xs n no_event in
+    pushed-more event_of xs n x _ _ _ c.loop-stopping-test.true (get_or_default xs n no_event x c.loop-stopping-test.true)
+    c.loop-stopping.invariant c.in_ok-push.ensures.items c.event.ensures
 
 pub new-requires : goal.new-requires
 new-requires c =
-    subst (Ascends event_cmp) (sym (mapped-all (λ x. x.event) c.args.listed.now c.loop-stopping.stopping-index _ c.loop-stopping-test.false c.loop-stopping.invariant)) c.requires
+    subst (Ascends event_cmp) (sym (mapped-all event_of c.args.listed.now c.loop-stopping.stopping-index _ c.loop-stopping-test.false c.loop-stopping.invariant)) c.requires
 
 pub returns-clause-events : goal.returns-clause-events
 returns-clause-events c =
-    c.new.ensures.events ∙ mapped-all (λ x. x.event) c.args.listed.now c.loop-stopping.stopping-index _ c.loop-stopping-test.false c.loop-stopping.invariant
+    c.new.ensures.events ∙ mapped-all event_of c.args.listed.now c.loop-stopping.stopping-index _ c.loop-stopping-test.false c.loop-stopping.invariant

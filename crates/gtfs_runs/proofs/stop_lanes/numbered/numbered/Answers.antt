@@ -1,18 +1,17 @@
-use Rattle.std.proofs.Common.{◌≡◌, ◌≤◌, ◌∙◌, map, sym, ap, subst}
+use Rattle.std.proofs.Common.{◌≡◌, ◌≤◌, sym, subst}
 use Rattle.std.specs.List.{All}
-use Rattle.gtfs_runs.specs.steps.Courses.{stopping_of}
-use Rattle.gtfs_runs.specs.steps.Numbers.{below, list_of, sharing}
-use Rattle.gtfs_runs.proofs.Chunks.{all_mapped}
-use Rattle.gtfs_runs.proofs.Numbers.{are_numbered}
+use Rattle.gtfs_runs.specs.steps.Groups.{below, sharing, trip_group}
+use Rattle.gtfs_runs.proofs.Numbers.{are_numbered, both_made, shared_by}
 use Rattle.gtfs_runs.proofs.stop_lanes.numbered.numbered.Goals as goal
 
 pub returns-clause-numbers : goal.returns-clause-numbers
 returns-clause-numbers c =
-    let firsts = c.in_ok-heads.heads.items in
-    let sorted = c.by_stops-heads.result.items in
-    let xs = c.with_numbers.result.items in
-    let shared : All (λ x. 1 ≤ sharing firsts x.course.stops) (map stopping_of xs) =
-    subst (All (λ x. 1 ≤ sharing firsts x.course.stops)) (ap (map stopping_of) c.deref.ensures.value ∙ sym c.with_numbers.ensures.same) c.in_ok-heads.ensures in
-    let numbers : All (λ x. x.number ≡ below sorted (list_of x)) xs =
-    subst (λ l. All (λ x. x.number ≡ below l (list_of x)) xs) c.deref-2.ensures.value c.with_numbers.ensures.numbers in
-    are_numbered firsts sorted xs c.by_stops-heads.ensures.same (all_mapped (λ x. 1 ≤ sharing firsts x.course.stops) stopping_of xs shared) numbers
+    let p = c.args.feed.now in
+    let trips = c.in_ok-trips_of.field-0.items in
+    let sorted = c.by_group-trips.result.items in
+    both_made c.with_groups.result _ _ _
+    (λ found same numbers.
+    are_numbered p trips sorted found.items c.by_group-trips.ensures.same
+    (shared_by p trips c.args.listed.items found.items (λ q. sym (same q)) (subst (All (λ x. 1 ≤ sharing trips (trip_group p x.trip))) c.deref.ensures.value c.in_ok-trips_of.ensures))
+    (subst (λ l. All (λ x. x.group ≡ below l (trip_group p x.trip)) found.items) c.deref-2.ensures.value numbers))
+    c.with_groups.ensures.same c.with_groups.ensures.numbers

@@ -1,4 +1,17 @@
+use Rattle.std.proofs.Common.{length, map, sym, subst}
+use Rattle.gtfs_times.specs.TimedRows.{timed_parts}
+use Rattle.gtfs_runs.specs.StopLanes.{period_value}
+use Rattle.gtfs_runs.specs.steps.Finds.{AreFound}
+use Rattle.gtfs_runs.proofs.GroupFacts.{trips_listed}
 use Rattle.gtfs_runs.proofs.stop_lanes.whole.whole.Goals as goal
 
-pub in_lanes-requires : goal.in_lanes-requires
-in_lanes-requires c = c.in_ok-found.ensures c.args.stop.0 c.in_ok-place.ensures
+pub numbered-requires : goal.numbered-requires
+numbered-requires c =
+    let p = c.args.feed.now in
+    trips_listed p (timed_parts c.args.times p) c.in_ok-found.found.listed.items (c.in_ok-found.ensures c.args.stop.0 c.in_ok-place.ensures).own
+
+pub in_lanes-requires-clause-found : goal.in_lanes-requires-clause-found
+in_lanes-requires-clause-found c =
+    let p = c.args.feed.now in
+    subst (λ l. AreFound (timed_parts c.args.times p) c.args.stop.0 (length p.trips) l (map period_value c.in_ok-found.found.periods.items)) (sym (c.in_ok-listed.ensures.same p))
+    (c.in_ok-found.ensures c.args.stop.0 c.in_ok-place.ensures)

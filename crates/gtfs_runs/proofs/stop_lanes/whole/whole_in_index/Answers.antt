@@ -8,13 +8,17 @@ use Rattle.gtfs_times.specs.declared.times.Times.{Times}
 use Rattle.gtfs_runs.specs.StopLanes.{list_value, period_value}
 use Rattle.gtfs_runs.specs.steps.Courses.{stopping_of}
 use Rattle.gtfs_runs.specs.steps.Finds.{AreFound}
+use Rattle.gtfs_runs.specs.steps.Numbers.{AreNumbered}
 use Rattle.gtfs_runs.specs.steps.Whole.{AreWhole}
 use Rattle.gtfs_runs.proofs.stop_lanes.whole.whole_in_index.Goals as goal
 
-pub in_lanes-requires : goal.in_lanes-requires
-in_lanes-requires c =
-    subst (λ (r : Times × Parts). AreFound (timed_parts r.0 r.1) c.args.stop.0 (length r.1.trips) (map stopping_of c.in_ok-found.found.listed.items) (map period_value c.in_ok-found.found.periods.items))
-    (λ i. (sym c.times.ensures i, sym c.feed.ensures i)) c.in_ok-found.ensures
+pub in_lanes-requires-clause-found : goal.in_lanes-requires-clause-found
+in_lanes-requires-clause-found c =
+    subst (λ (r : Times × Parts). AreFound (timed_parts r.0 r.1) c.args.stop.0 (length r.1.trips) (map (stopping_of r.1) c.in_ok-found.found.listed.items) (map period_value c.in_ok-found.found.periods.items))
+    (λ i. (sym c.times.ensures i, sym c.feed.ensures i)) c.in_ok-found.ensures.found
+
+pub in_lanes-requires-clause-numbers : goal.in_lanes-requires-clause-numbers
+in_lanes-requires-clause-numbers c = subst (λ p. AreNumbered p c.in_ok-found.found.listed.items) (sym c.feed.ensures) c.in_ok-found.ensures.numbers
 
 pub returns : goal.returns
 returns c =

@@ -1,4 +1,4 @@
-use Rattle.std.proofs.Common.{rules, ◌≡◌, ◌+◌, ◌++◌, [], w32, w64, SFits, to_z, of_z, sym, ◌∙◌, heap_items, None, pos}
+use Rattle.std.proofs.Common.{rules, ◌≡◌, ◌+◌, ◌++◌, [], w32, w64, SFits, to_z, of_z, sym, ◌∙◌, None, pos}
 use Rattle.std.specs.Prelude.{◌-ℤ◌}
 use Rattle.std.specs.Option.{option_to_list}
 use Rattle.std.proofs.lemmas.Int.{to_z-of_z}
@@ -31,7 +31,7 @@ gather-requires-clause-heads g c =
     let start = heads_start (g.S.Source.events s) floor begin past in
     let skips = rw (to_z-of_z w32 begin begin_fits) at c.next_day-day.ensures.skips in
     let skipped = heads_skipped candidates_strict (c.laws.ensures.lanes) (candidate_lt floor) begin next_day [] up1 skips start in
-    rw (c.new-others.ensures.items, to_z-of_z w32 next_day next_fits) skipped
+    rw (c.new-others.ensures, to_z-of_z w32 next_day next_fits) skipped
 
 pub gather-requires-clause-aside : goal.gather-requires-clause-aside
 gather-requires-clause-aside g c =
@@ -89,13 +89,12 @@ invariant_of-result g c =
     let up2 = rw (to_z-of_z w32 next_day next_fits) at got.range.0 in
     let up = le_chain begin next_day day up1 up2 in
     let r = committed_either (c.laws.ensures.lanes) (g.S.Source.end s) (g.S.Source.last s) (c.laws.ensures.ends) (c.laws.ensures.beyond)
-    floor (heap_items c.new-others.result ++ []) c.in_ok-gathered.gathered.fresh.items (heap_items c.join.new.others) c.in_ok-first.first day c.in_ok-gathered.gathered.least
+    floor (c.new-others.result ++ []) c.in_ok-gathered.gathered.fresh.items c.join.new.self c.in_ok-first.first day c.in_ok-gathered.gathered.least
     got.gathered got.stopped j.counts j.first in
     rw (to_z-of_z w32 day day_fits, to_z-of_z w64 floor.instant instant_fits) (
       c.laws.ensures,
       record {
         waiting = r.0;
-        ordered = j.ordered;
         low_in = still_from _ (g.S.Source.last s) begin day began.unopened up;
         from_in = le_chain (g.S.Source.first s) begin day from up;
         to_in = got.range.1;
@@ -109,10 +108,10 @@ returns-clause-queued g c =
     let j = c.in_ok-first.ensures in
     let day = c.in_ok-gathered.gathered.day in
     let r = committed_either (c.laws.ensures.lanes) (g.S.Source.end s) (g.S.Source.last s) (c.laws.ensures.ends) (c.laws.ensures.beyond)
-    c.args.floor (heap_items c.new-others.result ++ []) c.in_ok-gathered.gathered.fresh.items (heap_items c.join.new.others) c.in_ok-first.first day c.in_ok-gathered.gathered.least
+    c.args.floor (c.new-others.result ++ []) c.in_ok-gathered.gathered.fresh.items c.join.new.self c.in_ok-first.first day c.in_ok-gathered.gathered.least
     got.gathered got.stopped j.counts j.first in
-    let q = queued (c.laws.ensures.lanes) (g.S.Source.end s) (g.S.Source.last s) (c.laws.ensures.ends) (c.laws.ensures.beyond) (g.S.Source.all s) (c.laws.ensures.whole) c.args.floor c.in_ok-first.first (heap_items c.join.new.others) day r.0 in
-    let b = waiting_bound (c.laws.ensures.lanes) (g.S.Source.end s) (g.S.Source.last s) (c.laws.ensures.ends) (c.laws.ensures.beyond) c.args.floor c.in_ok-first.first (heap_items c.join.new.others) day r.0 in
+    let q = queued (c.laws.ensures.lanes) (g.S.Source.end s) (g.S.Source.last s) (c.laws.ensures.ends) (c.laws.ensures.beyond) (g.S.Source.all s) (c.laws.ensures.whole) c.args.floor c.in_ok-first.first c.join.new.self day r.0 in
+    let b = waiting_bound (c.laws.ensures.lanes) (g.S.Source.end s) (g.S.Source.last s) (c.laws.ensures.ends) (c.laws.ensures.beyond) c.args.floor c.in_ok-first.first c.join.new.self day r.0 in
     record { within = q.2; same_first = q.0; bounded = b }
 
 pub returns-clause-steps : goal.returns-clause-steps
@@ -137,11 +136,11 @@ returns-clause-steps g c =
     let least = c.in_ok-gathered.gathered.least in
     let low = floor.instant -ℤ pos (g.S.Source.latest s + 93_599) in
     let r = committed_either (c.laws.ensures.lanes) (g.S.Source.end s) (g.S.Source.last s) (c.laws.ensures.ends) (c.laws.ensures.beyond)
-    floor (heap_items c.new-others.result ++ []) c.in_ok-gathered.gathered.fresh.items (heap_items c.join.new.others) c.in_ok-first.first day least
+    floor (c.new-others.result ++ []) c.in_ok-gathered.gathered.fresh.items c.join.new.self c.in_ok-first.first day least
     got.gathered got.stopped j.counts j.first in
-    let q = queued (c.laws.ensures.lanes) (g.S.Source.end s) (g.S.Source.last s) (c.laws.ensures.ends) (c.laws.ensures.beyond) (g.S.Source.all s) (c.laws.ensures.whole) floor c.in_ok-first.first (heap_items c.join.new.others) day r.0 in
+    let q = queued (c.laws.ensures.lanes) (g.S.Source.end s) (g.S.Source.last s) (c.laws.ensures.ends) (c.laws.ensures.beyond) (g.S.Source.all s) (c.laws.ensures.whole) floor c.in_ok-first.first c.join.new.self day r.0 in
     let few = rw (to_z-of_z w32 next_day next_fits) at got.steps in
-    let mark = least_from (g.S.Source.end s) (heap_items c.new-others.result ++ option_to_list None) in
+    let mark = least_from (g.S.Source.end s) (c.new-others.result ++ option_to_list None) in
     let began_next = still_from low (g.S.Source.last s) begin next_day began.unopened up1 in
     rw (to_z-of_z w64 floor.instant instant_fits) (steps_opened_from (g.S.Source.count s) low (g.S.Source.last s) least _ next_day mark day (g.S.Source.days s) _ c.gather.new.steps began_next few (q.1 ∙ sym r.1))
 

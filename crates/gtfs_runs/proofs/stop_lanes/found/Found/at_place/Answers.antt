@@ -9,4 +9,4 @@ pub returns : goal.returns
 returns c = λ s place.
     let p = timed_parts c.args.times c.args.feed.now in
     let all : c.loop-number.number ≡ length p.trips = omega (arith, c.trip_count-number-end.ensures, c.loop-number-test.false, c.loop-number.auto.number-end) in
-    subst (λ n. AreFound p s n (map stopping_of c.loop-number.listed.items) (map period_value c.loop-number.periods.items)) all (c.loop-number.invariant s place)
+    subst (λ n. AreFound p s n (map (stopping_of c.args.feed.now) c.loop-number.listed.items) (map period_value c.loop-number.periods.items)) all (c.loop-number.invariant s place)

@@ -10,4 +10,4 @@ use Rattle.gtfs_runs.proofs.stop_lanes.found.Found.at_place.Given as goal
 -- what leaves the place, of the trips so far
 abbrev pub invariant-loop-number : goal.invariant-loop-number
 invariant-loop-number l = (s : ℕ) → l.place ≡ members (content_of_parts l.feed) (text_of_number (stop_ids l.feed) s)
-    → AreFound (timed_parts l.times l.feed) s l.number (map stopping_of l.listed.items) (map period_value l.periods.items)
+    → AreFound (timed_parts l.times l.feed) s l.number (map (stopping_of l.feed) l.listed.items) (map period_value l.periods.items)

@@ -1,0 +1,40 @@
+use Rattle.std.proofs.Common.{◌≡◌, ◌≤◌, ◌<◌, ◌∙◌, length, get_or, refl, sym, ap, arith}
+use Rattle.std.specs.Ordering.{nat_cmp}
+use Rattle.std.proofs.lemmas.List.{get_or_default, length-map}
+use Rattle.gtfs_runs.specs.declared.stop_index.indexed_trips.IndexedTrip.{IndexedTrip}
+use Rattle.gtfs_runs.proofs.GroupFacts.{higher_number, numbered_more, same_number, stands_once}
+use Rattle.gtfs_runs.proofs.Numbers.{kept_by}
+use Rattle.gtfs_runs.proofs.stop_index.indexed_trips.with_groups.Goals.{then-begins_group+in_ok-group, else-begins_group}
+use Rattle.gtfs_runs.proofs.stop_index.indexed_trips.with_groups.Goals as goal
+
+pub loop-n-preserved : goal.loop-n-preserved
+loop-n-preserved c =
+    let xs = c.args.sorted.now in
+    let ys = c.loop-n.trips.items in
+    let n = c.loop-n.n in
+    let old = c.loop-n.group in
+    let new = c.if-begins_group.group in
+    let x = c.index-sorted-n.result in
+    let t = (get_or xs n x).trip.0 in
+    let y : IndexedTrip = record { group = new; start = c.index_mut.result.now.start } in
+    let within : n < length xs = c.loop-n-test.true in
+    let size : length ys ≡ length c.args.trips.items = sym (length-map ys (λ z. z.start)) ∙ ap length c.loop-n.invariant.starts ∙ length-map c.args.trips.items (λ z. z.start) in
+    let inside : t < length ys = omega (arith, size, c.requires.within n x within) in
+    let were = c.loop-n.invariant.numbered in
+    let more = numbered_more xs ys n t old new y within inside (λ d. ap (λ z. z.trip.0) (get_or_default xs n d x within))
+    (λ k d before same. stands_once xs c.requires.once k n d before within (same ∙ ap (λ z. z.trip.0) (get_or_default xs n x d within))) refl in
+    record {
+      starts = kept_by (λ z. z.start) ys t c.index_mut.result.now y c.index_mut.ensures.value refl ∙ c.loop-n.invariant.starts;
+      numbered = elim c.if-begins_group.branch [
+        | then-begins_group+in_ok-group w ↦
+            let is : new ≡ n = w.group-is ∙ w.in_ok-group.ensures in
+            more (λ some. let upto = were.upto some in omega (arith, is, upto)) (omega (arith, is))
+            (λ k d e before. ap (nat_cmp (get_or ys (get_or xs k d).trip.0 e).group) is
+            ∙ higher_number xs ys n old c.requires.in_order within (λ a. c.begins_group.ensures.higher a w.if-begins_group.true) were k d e before) were
+        | else-begins_group w ↦
+            let is : new ≡ old = w.group-is in
+            more (λ some. omega (arith, is)) (omega (arith, is, were.most))
+            (λ k d e before. ap (nat_cmp (get_or ys (get_or xs k d).trip.0 e).group) is
+            ∙ same_number xs ys n old (λ a some. c.begins_group.ensures.same a w.if-begins_group.false some) were k d e before) were
+      ];
+    }

@@ -1,0 +1,105 @@
+ghost use Rattle.std.specs.Prelude.{◌≡◌, ◌≤◌, ◌<◌, ◌-◌, ◌==◌, ℕ, All, IfOk, false, length, map, slice_index_or, true};
+ghost use Rattle.std.specs.List.Sorted.{IsSorted};
+ghost use Rattle.std.specs.Ordering.{is_lt};
+ghost use Rattle.gtfs_runs.specs.Counts.{tally};
+ghost use Rattle.gtfs_runs.specs.declared.grouped_trip.GroupedTrip.{GroupedTrip as TripValue};
+ghost use Rattle.gtfs_runs.specs.declared.stop_index.indexed_trips.IndexedTrip.{IndexedTrip as IndexedValue};
+ghost use Rattle.gtfs_runs.specs.steps.Groups.{AreIndexedTrips, AreOfTrips, AreStarted, HaveGroups, group_cmp, group_of};
+
+use crate::departure_row::trip_start;
+use crate::grouped_trip::{GroupedTrip, by_group, group_order};
+use crate::stop_index::entries::small_number;
+use gtfs_feed::Feed;
+use gtfs_field::OutOfMemory;
+use gtfs_rows::TripNo;
+use std::alloc::Global;
+
+// What the index keeps of a trip.
+#[derive(Clone, Copy)]
+pub(crate) struct IndexedTrip {
+    // The number of its group, by which groups are compared.
+    pub(crate) group: u32,
+    // The second at which it leaves its first stop.
+    pub(crate) start: u32,
+}
+
+// That of a trip, of those of a feed.
+pub(crate) fn trip_at(trips: &[IndexedTrip], trip: TripNo) -> IndexedTrip
+    requires { trip.0 < length trips.now }
+    ensures { (e : IndexedValue) → result ≡ slice_index_or trips.now trip.0 e }
+{
+    trips[trip.0]
+}
+
+// The trips of a feed, by their numbers.
+pub(crate) fn indexed_trips(alloc: Global, feed: &Feed) -> Result<Vec<IndexedTrip>, OutOfMemory>
+    ensures { IfOk result (λ trips. AreIndexedTrips feed.now trips.items) }
+{
+    feed.soundness();
+    let sorted = by_group(grouped_trips(alloc, feed)?);
+    let trips = started_trips(alloc, feed)?;
+    with_groups(&sorted, trips)
+}
+
+// The trips, by their numbers.
+fn grouped_trips(alloc: Global, feed: &Feed) -> Result<Vec<GroupedTrip<'_>>, OutOfMemory>
+    ensures { IfOk result (λ trips. AreOfTrips feed.now (length feed.now.trips) trips.items) }
+{
+    let mut trips = Vec::with_capacity(alloc, feed.trip_count())?;
+    for number in 0..feed.trip_count() {
+        trips.push(GroupedTrip::of(feed, TripNo(number)))?;
+    }
+    Ok(trips)
+}
+
+// The trips, before their groups are numbered.
+fn started_trips(alloc: Global, feed: &Feed) -> Result<Vec<IndexedTrip>, OutOfMemory>
+    ensures { IfOk result (λ trips. AreStarted feed.now trips.items) }
+{
+    feed.soundness();
+    let mut trips = Vec::with_capacity(alloc, feed.trip_count())?;
+    for number in 0..feed.trip_count() {
+        trips.push(IndexedTrip {
+            group: 0,
+            start: trip_start(feed.trip_rows(TripNo(number))),
+        })?;
+    }
+    Ok(trips)
+}
+
+// The trips with the numbers of their groups, of trips that are sorted by group: how many come before the first of the group.
+fn with_groups(
+    sorted: &[GroupedTrip<'_>],
+    mut trips: Vec<IndexedTrip>,
+) -> Result<Vec<IndexedTrip>, OutOfMemory>
+    requires in_order { IsSorted (λ x y. group_cmp (group_of x) (group_of y)) sorted.now }
+    requires within { All (λ x. x.trip.0 < length trips.items) sorted.now }
+    requires once { (t : ℕ) → tally (λ x. t == x.trip.0) sorted.now ≤ 1 }
+    ensures starts { IfOk result (λ found. map (λ x. x.start) found.items
+        ≡ map (λ x. x.start) trips.items) }
+    ensures groups { IfOk result (λ found. HaveGroups (length sorted.now) sorted.now found.items) }
+{
+    let mut group = 0;
+    for n in 0..sorted.len() {
+        if begins_group(sorted, n) {
+            group = small_number(n)?;
+        }
+        trips[sorted[n].trip.0].group = group;
+    }
+    Ok(trips)
+}
+
+// Whether the trip at this index has a higher group than the one before it.
+fn begins_group(sorted: &[GroupedTrip<'_>], n: usize) -> bool
+    requires in_order { IsSorted (λ x y. group_cmp (group_of x) (group_of y)) sorted.now }
+    requires within { n < length sorted.now }
+    ensures after { result ≡ true → 0 < n }
+    ensures higher { (d : TripValue) → result ≡ true
+        → is_lt (group_cmp (group_of (slice_index_or sorted.now (n - 1) d))
+        (group_of (slice_index_or sorted.now n d))) ≡ true }
+    ensures same { (d : TripValue) → result ≡ false → 0 < n
+        → group_of (slice_index_or sorted.now (n - 1) d)
+        ≡ group_of (slice_index_or sorted.now n d) }
+{
+    n > 0 && group_order(&sorted[n - 1], &sorted[n]).is_lt()
+}
