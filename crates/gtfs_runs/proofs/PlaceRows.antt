@@ -163,14 +163,7 @@ told_at choice p sound index are s t r xs within at =
     ∙ ap (λ b. cond b 1 0)
     (are.all s t r within ∙ ap (λ c. departs_at c id t r) (sym (content-timed choice p sound)) ∙ ap (λ b. b && departs_at (content_of_parts q) id t r) (sym known))
 
--- the steps of the code: first those of the stop, and then those of each child
-pub stop_first : {X Y : Type 0} (f : Y → Bool) (q : X → Bool) (b : Bool) (old new xs : List X) (ys : List Y) → old ≡ [] → new ≡ old ++ xs → tally q xs ≡ cond b 1 0
-    → tally q new ≡ cond b 1 0 + tally f (take 0 ys)
-stop_first f q b old new xs ys none pushed told = ap (tally q) (pushed ∙ ap (λ l. l ++ xs) none) ∙ told ∙ nothing (cond b 1 0)
-  where
-    nothing : (n : ℕ) → n ≡ n + 0
-    nothing n = omega arith
-
+-- those of each child
 pub children_more : {X Y : Type 0} (f : Y → Bool) (q : X → Bool) (a k : ℕ) (y : Y) (old new xs : List X) (ys : List Y) → k < length ys → y ≡ get_or ys k y
     → tally q old ≡ a + tally f (take k ys) → new ≡ old ++ xs → tally q xs ≡ cond (f y) 1 0 → tally q new ≡ a + tally f (take (k + 1) ys)
 children_more f q a k y old new xs ys within item so_far pushed told =
