@@ -42,7 +42,16 @@ pub(crate) fn found_in_index(
     let trips = index.trips();
     let mut listed = Vec::new(alloc);
     let mut periods = Vec::new(alloc);
-    add_rows(alloc, feed, trips, stop, times, &rows, &mut listed, &mut periods)?;
+    add_rows(
+        alloc,
+        feed,
+        trips,
+        stop,
+        times,
+        &rows,
+        &mut listed,
+        &mut periods,
+    )?;
     Ok(Found { listed, periods })
 }
 
@@ -71,7 +80,16 @@ fn add_rows(
     feed.soundness();
     let mut at = 0;
     while at < rows.len() {
-        at += add_trip(alloc, feed, trips, stop, times, &rows[at..], listed, periods)?;
+        at += add_trip(
+            alloc,
+            feed,
+            trips,
+            stop,
+            times,
+            &rows[at..],
+            listed,
+            periods,
+        )?;
     }
     Ok(())
 }
@@ -122,5 +140,9 @@ fn rows_of(rows: &[DepartureRow], trip: TripNo) -> usize
     ensures value { result ≡ tally (λ x. x.trip == trip.0) rows.now }
     ensures upto { result ≤ length rows.now }
 {
-    rows.partition_point(|row| row.trip().0 == trip.0)
+    let mut count = 0;
+    while count < rows.len() && rows[count].trip().0 == trip.0 {
+        count += 1;
+    }
+    count
 }

@@ -101,11 +101,7 @@ fn course_len(listed: &[Listed]) -> usize
 }
 
 // The lane of these events.
-fn list_lane(
-    alloc: Global,
-    service: ServiceNo,
-    listed: &[Listed],
-) -> Result<ListLane, OutOfMemory>
+fn list_lane(alloc: Global, service: ServiceNo, listed: &[Listed]) -> Result<ListLane, OutOfMemory>
     requires { Ascends event_cmp (map event_of listed.now) }
     ensures service { IfOk result (λ lane. lane.service ≡ service) }
     ensures events { IfOk result (λ lane. lane.events.items ≡ map event_of listed.now) }

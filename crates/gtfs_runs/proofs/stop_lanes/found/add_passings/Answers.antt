@@ -18,8 +18,8 @@ use Rattle.gtfs_runs.proofs.stop_lanes.found.add_passings.Goals as goal
 
 pub add_listed-requires-clause-start : goal.add_listed-requires-clause-start
 add_listed-requires-clause-start c =
-            let p = c.args.feed.now in
-            let t = c.args.trip.0 in
+    let p = c.args.feed.now in
+    let t = c.args.trip.0 in
     let bound = starts_within p c.soundness.ensures t (get_or (stop_rows_by_trip p) t []) (rows_at p c.soundness.ensures t c.requires.trip) in
     omega (arith, c.requires.start, bound)
 
@@ -53,22 +53,22 @@ returns-then-is_empty c =
 pub returns : goal.returns
 returns c = record {
   found = λ times s are was.
-            let p = c.args.feed.now in
-            let q = timed_parts times p in
-            let sound = sound-timed p c.soundness.ensures times in
-            let t = c.args.trip.0 in
-            let row = c.trip_by_number.result.now in
-            let fs = c.trip_frequencies-frequencies.result.now in
-            let listed = map (stopping_of p) c.args.listed.now.items in
-            let periods = map period_value c.args.periods.now.items in
-            let rs = get_or (stop_rows_by_trip q) t [] in
-            let at_rows = rows_at q sound t c.requires.trip in
-            let some = some_left fs (sym c.is_empty.ensures ∙ c.if-is_empty.false) in
-            let found = are row rs fs at_rows in
-    periods_found q sound s t row rs fs c.trip_by_number.ensures at_rows c.trip_frequencies-frequencies.ensures some listed periods (map period_value c.add_periods.new.periods.items)
-    (λ k e. c.in_ok-add_periods.ensures.told k e ∙ ap (λ l. times_told k e periods + cond (row.service_id.0 == k) (times_passed_in t e l fs) 0) found)
-    (length-map c.add_periods.new.periods.items period_value ∙ c.in_ok-add_periods.ensures.counted
-    ∙ (λ i. sym (length-map c.args.periods.now.items period_value) i + length fs * length (found i)))
-    c.in_ok-add_periods.ensures.within c.in_ok-add_periods.ensures.kind was;
+      let p = c.args.feed.now in
+      let q = timed_parts times p in
+      let sound = sound-timed p c.soundness.ensures times in
+      let t = c.args.trip.0 in
+      let row = c.trip_by_number.result.now in
+      let fs = c.trip_frequencies-frequencies.result.now in
+      let listed = map (stopping_of p) c.args.listed.now.items in
+      let periods = map period_value c.args.periods.now.items in
+      let rs = get_or (stop_rows_by_trip q) t [] in
+      let at_rows = rows_at q sound t c.requires.trip in
+      let some = some_left fs (sym c.is_empty.ensures ∙ c.if-is_empty.false) in
+      let found = are row rs fs at_rows in
+      periods_found q sound s t row rs fs c.trip_by_number.ensures at_rows c.trip_frequencies-frequencies.ensures some listed periods (map period_value c.add_periods.new.periods.items)
+      (λ k e. c.in_ok-add_periods.ensures.told k e ∙ ap (λ l. times_told k e periods + cond (row.service_id.0 == k) (times_passed_in t e l fs) 0) found)
+      (length-map c.add_periods.new.periods.items period_value ∙ c.in_ok-add_periods.ensures.counted
+      ∙ (λ i. sym (length-map c.args.periods.now.items period_value) i + length fs * length (found i)))
+      c.in_ok-add_periods.ensures.within c.in_ok-add_periods.ensures.kind was;
   groups = λ groups is were. were;
 }
