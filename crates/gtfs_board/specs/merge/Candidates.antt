@@ -2,7 +2,7 @@
 use Rattle.std.specs.Option.{option_to_list}
 use Rattle.std.specs.BinaryHeap.{IsHeap}
 use Rattle.std.specs.List.Sorted.{IsSorted}
-use Rattle.std.specs.Prelude.{◌≡◌, ◌≤◌, ◌+◌, ◌*◌, ◌/◌, ◌∷◌, length, Bool, false, ℕ, ℤ, List, [], Option, Some, None, MatchOption, map, ◌++◌, pos, ◌+ℤ◌, ◌-ℤ◌, ◌*ℤ◌, ◌≤ℤ◌, ◌<ℤ◌, ◌⊎◌}
+use Rattle.std.specs.Prelude.{◌≡◌, ◌≤◌, ◌+◌, ◌*◌, ◌∷◌, length, Bool, false, ℕ, ℤ, List, [], Option, Some, None, MatchOption, map, ◌++◌, pos, ◌+ℤ◌, ◌-ℤ◌, ◌*ℤ◌, ◌≤ℤ◌, ◌<ℤ◌, ◌⊎◌}
 use Rattle.gtfs_board.specs.Board.{origin_distance, width}
 use Rattle.gtfs_board.specs.merge.Order.{In, Each, tally, same}
 use Rattle.std.specs.List.{find, filter_map, range_with_len, fold}
