@@ -58,21 +58,21 @@ clock-shown c bytes start end is from to =
     ∙ cut-out (int_lt c.year (pos 0)) (int_lt c.offset (pos 0)) (unsigned_abs c.offset % 60 == 0) (unsigned_abs c.year) c.month c.day c.hour c.minute c.second (unsigned_abs c.offset)
 
 -- the columns of a line
-regrouped : (old k t c s r h m n : List ℕ) → (((((old ++ k) ++ (t ++ c ++ t)) ++ (s ++ t)) ++ (r ++ t)) ++ h) ++ (t ++ m ++ n)
+in_columns : (old k t c s r h m n : List ℕ) → (((((((old ++ k) ++ (t ++ c ++ t)) ++ s) ++ t) ++ r) ++ t) ++ h) ++ (t ++ m ++ n)
     ≡ old ++ (k ++ t ++ c ++ t ++ s ++ t ++ r ++ t ++ h ++ t ++ m ++ n)
-regrouped old k t c s r h m n = simp append_assoc
+in_columns old k t c s r h m n = simp append_assoc
 
-pub line-joined : (old key clock stop route headsign new ending : List ℕ) (c : Civil) (d : Listed) → ending ≡ codes "\t" ++ mark_text d.mark ++ codes "\n"
-    → key ≡ old ++ key_text d.key → clock ≡ key ++ (codes "\t" ++ clock_text c ++ codes "\t") → stop ≡ clock ++ (d.stop ++ codes "\t") → route ≡ stop ++ (d.route ++ codes "\t")
-    → headsign ≡ route ++ d.headsign → new ≡ headsign ++ ending → new ≡ old ++ line_text c d
-line-joined old key clock stop route headsign new ending c d ending-is k l s r h e =
+pub line-joined : (old key clock stop second route third headsign new ending : List ℕ) (c : Civil) (d : Listed) → ending ≡ codes "\t" ++ mark_text d.mark ++ codes "\n"
+    → key ≡ old ++ key_text d.key → clock ≡ key ++ (codes "\t" ++ clock_text c ++ codes "\t") → stop ≡ clock ++ d.stop → second ≡ stop ++ codes "\t"
+    → route ≡ second ++ d.route → third ≡ route ++ codes "\t" → headsign ≡ third ++ d.headsign → new ≡ headsign ++ ending → new ≡ old ++ line_text c d
+line-joined old key clock stop second route third headsign new ending c d ending-is k l s t r u h e =
     let tab = codes "\t" in
     let to_clock = l ∙ ap (λ x. x ++ (tab ++ clock_text c ++ tab)) k in
-    let to_stop = s ∙ ap (λ x. x ++ (d.stop ++ tab)) to_clock in
-    let to_route = r ∙ ap (λ x. x ++ (d.route ++ tab)) to_stop in
-    let to_headsign = h ∙ ap (λ x. x ++ d.headsign) to_route in
+    let to_second = t ∙ ap (λ x. x ++ tab) (s ∙ ap (λ x. x ++ d.stop) to_clock) in
+    let to_third = u ∙ ap (λ x. x ++ tab) (r ∙ ap (λ x. x ++ d.route) to_second) in
+    let to_headsign = h ∙ ap (λ x. x ++ d.headsign) to_third in
     e ∙ ap (λ x. headsign ++ x) ending-is ∙ ap (λ x. x ++ (tab ++ mark_text d.mark ++ codes "\n")) to_headsign
-    ∙ regrouped old (key_text d.key) tab (clock_text c) d.stop d.route d.headsign (mark_text d.mark) (codes "\n")
+    ∙ in_columns old (key_text d.key) tab (clock_text c) d.stop d.route d.headsign (mark_text d.mark) (codes "\n")
 
 -- the parts of a key
 in_a_row : (old a i s t r n d : List ℕ) → (((((old ++ a) ++ i) ++ s) ++ t) ++ (s ++ r ++ s ++ n ++ s ++ d)) ≡ old ++ (a ++ i ++ s ++ t ++ s ++ r ++ s ++ n ++ s ++ d)

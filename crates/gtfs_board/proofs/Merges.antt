@@ -1,20 +1,18 @@
-use Rattle.std.proofs.Common.{◌≡◌, ℕ, zero, suc, ◌+◌, ◌*◌, ◌/◌, ◌≤◌, Bool, true, false, cond, List, [], ◌∷◌, ◌++◌, inl, inr, Option, Some, None, refl, sym, ◌∙◌, ap, subst, arith, find, length, append-nil, IsPermutation}
+use Rattle.std.proofs.Common.{◌≡◌, ℕ, zero, suc, ◌+◌, ◌*◌, ◌/◌, ◌≤◌, Bool, true, false, List, [], ◌∷◌, ◌++◌, inl, inr, Option, Some, None, refl, sym, ◌∙◌, ap, subst, arith, find, length}
 use Rattle.std.specs.Prelude.{ℤ, int_lt, pos, ◌+ℤ◌, ◌-ℤ◌, ◌*ℤ◌, ◌≤ℤ◌, ◌<ℤ◌}
-use Rattle.std.specs.List.{sum_by, filter}
+use Rattle.std.specs.List.{filter}
 use Rattle.std.specs.Option.{option_to_list}
 use Rattle.std.proofs.lemmas.Int.{ints}
 use Rattle.std.proofs.lemmas.Bool.{cases_Bool}
-use Rattle.std.proofs.lemmas.List.Sums.{sum_by-cons}
-use Rattle.std.proofs.lemmas.List.Sorted.{sum_by-IsPermutation}
 use Rattle.gtfs_field.proofs.NumberFacts.{cases_int, int_lt-true}
 use Rattle.gtfs_board.specs.declared.merge.candidate.Candidate.{Candidate}
 use Rattle.gtfs_board.specs.merge.Order.{In, Each, IsUpward, same, tally}
 use Rattle.gtfs_board.specs.merge.Lanes.{Events, AreLanes, AreHeads, AreAll, IsStopped, IsFrom, IsStartDay, AreStepsFew, is_reached, is_opened, rest_of}
 use Rattle.gtfs_board.specs.merge.Candidates.{candidate_lt, least_from, day_of, lane_of, instant_of, IsWithin, AreGathered, position, IsAside, IsFirst, IsWaiting, head_of}
 use Rattle.gtfs_board.proofs.Orders.{Each-in, find-in, find-least, in-either}
-use Rattle.gtfs_board.proofs.Heads.{in-from_tally, head-waits, least_of_all, heads_taken, head-found, find-passes}
+use Rattle.gtfs_board.proofs.Heads.{head-waits, least_of_all, heads_taken, head-found, find-passes}
 use Rattle.gtfs_board.proofs.Opening.{tally-append}
-use Rattle.gtfs_board.proofs.Window.{each_in, each_weaker, in_tally, waits-head, held_bound}
+use Rattle.gtfs_board.proofs.Window.{each_in, each_weaker, waits-head, held_bound}
 use Rattle.gtfs_board.proofs.Reach.{reached-opened, opened-reached}
 use Rattle.gtfs_board.proofs.Rests.{rest_taken, rest_empty, in-in_order, in-filter}
 use Rattle.gtfs_board.proofs.Candidates.{candidates_strict, not_lt-instant}

@@ -44,6 +44,17 @@ pub enum BoardFault {
     OutOfMemory = 3,
 }
 
+impl From<OutOfMemory> for BoardFault {
+    ghost use Rattle.std.specs.Prelude.{◌≡◌};
+    ghost use Rattle.gtfs_board.specs.declared.board.BoardFault.TheVariants.{OutOfMemory as no_memory};
+
+    ghost from_gives = { λ _ fault. fault ≡ no_memory };
+
+    fn from(_refused: OutOfMemory) -> BoardFault {
+        BoardFault::OutOfMemory
+    }
+}
+
 /// The departures of a stop in order: those of its place, from one instant until another, on each service day.
 ///
 /// Each departure is taken away as it is told. What waits in memory does not grow with the span: a service day is
@@ -165,10 +176,7 @@ impl<'a> Board<'a> {
         if !span.is_valid() {
             return Err(BoardFault::BadSpan);
         }
-        match Board::of_stop(alloc, feed, zone, stop, span, after, times) {
-            Ok(board) => Ok(board),
-            Err(_) => Err(BoardFault::OutOfMemory),
-        }
+        Ok(Board::of_stop(alloc, feed, zone, stop, span, after, times)?)
     }
 
     // The board of the stop of a number.
@@ -208,10 +216,7 @@ impl<'a> Board<'a> {
             (option_map (λ k. plain_key k.now) after.entry)) }
     {
         if span.is_valid() {
-            match Board::of_stop_indexed(alloc, index, zone, stop, span, after) {
-                Ok(board) => Ok(board),
-                Err(_) => Err(BoardFault::OutOfMemory),
-            }
+            Ok(Board::of_stop_indexed(alloc, index, zone, stop, span, after)?)
         } else {
             Err(BoardFault::BadSpan)
         }

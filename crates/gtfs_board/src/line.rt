@@ -1,5 +1,5 @@
 //! The line of a departure.
-ghost use Rattle.std.specs.Prelude.{◌≡◌, ◌++◌, ◌≤◌, ◌+◌, ◌-◌, ◌^◌, codes, length, min, string_bytes, string_len, OnOk, OnErr};
+ghost use Rattle.std.specs.Prelude.{◌≡◌, ◌++◌, ◌≤◌, ◌+◌, ◌-◌, ◌^◌, min, string_bytes, string_len, OnOk, OnErr};
 ghost use Rattle.std.specs.String.{string_capacity};
 ghost use Rattle.gtfs_days.specs.Zone.{IsInstant};
 ghost use Rattle.gtfs_board.specs.Lent.{listed};
@@ -66,19 +66,10 @@ fn write_line(text: &mut String, civil: Civil, departure: &Departure<'_>)
 {
     write_key(text, &departure.key);
     push_clock(text, civil);
-    push_column(text, departure.stop);
-    push_column(text, departure.route);
+    text.push_str(departure.stop).unwrap();
+    text.push('\t').unwrap();
+    text.push_str(departure.route).unwrap();
+    text.push('\t').unwrap();
     text.push_str(departure.headsign).unwrap();
     text.push_str(departure.mark.ending()).unwrap();
-}
-
-// Appends a column and the tab behind it.
-fn push_column(text: &mut String, column: &str)
-    requires { string_len text.old + (length column.now + 1) ≤ string_capacity text.old }
-    ensures appended { string_bytes text.new ≡ string_bytes text.old ++ (column.now ++ codes "\t") }
-    ensures len { string_len text.new ≡ string_len text.old + (length column.now + 1) }
-    ensures capacity { string_capacity text.old ≤ string_capacity text.new }
-{
-    text.push_str(column).unwrap();
-    text.push('\t').unwrap();
 }

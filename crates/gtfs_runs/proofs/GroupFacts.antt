@@ -9,7 +9,7 @@ use Rattle.std.specs.declared.cmp.Ordering.TheVariants.{Less, Equal, Greater}
 use Rattle.std.specs.Ordering.{is_lt, nat_cmp, ordering_reverse}
 use Rattle.std.proofs.lemmas.Bool.{cases_Bool, eqb-true, lt-ltb, ltb-false, ltb-true, true≢false}
 use Rattle.std.proofs.lemmas.Cmp.{nat_cmp_total}
-use Rattle.std.proofs.lemmas.List.{get_or-map, length-map}
+use Rattle.std.proofs.lemmas.List.{get_or-map, get_or_default, length-map}
 use Rattle.std.proofs.lemmas.List.Elements.{All-push}
 use Rattle.std.proofs.lemmas.List.Sorted.{All-permutation, ranks_by, sorted_far}
 use Rattle.std.proofs.lemmas.Option.{get_or_from_slice_get}
@@ -198,6 +198,20 @@ neither_lower g h first second = by (group_cmp g h) refl
     by Less is = absurd (true≢false (sym (ap is_lt is) ∙ first))
     by Equal is = groups_antisymmetric g h is
     by Greater is = absurd (true≢false (sym (ap is_lt (groups_total.antisymm h g ∙ ap ordering_reverse is)) ∙ second))
+
+pub same_as_before : (xs : List GroupedTrip) (n : ℕ) → IsSorted (λ x y. group_cmp (group_of x) (group_of y)) xs → 0 < n → n < length xs
+    → ((d : GroupedTrip) → is_lt (group_cmp (group_of (get_or xs (n - 1) d)) (group_of (get_or xs n d))) ≡ false) → (d : GroupedTrip) → group_of (get_or xs (n - 1) d) ≡ group_of (get_or xs n d)
+same_as_before xs n up some within low d =
+    let g = group_of (get_or xs (n - 1) d) in
+    let next : n - 1 + 1 ≡ n = omega (arith, some) in
+    neither_lower g (group_of (get_or xs n d)) (low d)
+    (ap (λ m. is_lt (group_cmp (group_of (get_or xs m d)) g)) (sym next) ∙ up (n - 1) d (omega arith) (omega (arith, next, within)))
+
+-- what the code has compared
+pub order_read : (xs : List GroupedTrip) (n : ℕ) (a b : GroupedTrip) → 0 < n → n < length xs → a ≡ get_or xs (n - 1) a → b ≡ get_or xs n b
+    → (r : Bool) → is_lt (group_cmp (group_of a) (group_of b)) ≡ r → (d : GroupedTrip) → is_lt (group_cmp (group_of (get_or xs (n - 1) d)) (group_of (get_or xs n d))) ≡ r
+order_read xs n a b some within first last r is d =
+    (λ i. is_lt (group_cmp (group_of ((get_or_default xs (n - 1) d a (omega (arith, some, within)) ∙ sym first) i)) (group_of ((get_or_default xs n d b within ∙ sym last) i)))) ∙ is
 
 -- no trip stands twice
 pub stands_once : (xs : List GroupedTrip) → ((t : ℕ) → tally (λ x. t == x.trip.0) xs ≤ 1) → (i j : ℕ) (d : GroupedTrip) → i < j → j < length xs → (get_or xs i d).trip.0 ≢ (get_or xs j d).trip.0

@@ -10,9 +10,10 @@ use Rattle.std.specs.declared.cmp.Ordering.{Ordering}
 use Rattle.std.specs.declared.cmp.Ordering.TheVariants.{Less, Equal, Greater}
 use Rattle.std.specs.Ordering.{is_lt, nat_cmp, ordering_reverse, ordering_then}
 use Rattle.std.proofs.lemmas.Cmp.{nat_cmp_total}
-use Rattle.std.proofs.lemmas.Bool.{and_parts, cases_Bool, eqb-true, false≢true, true≢false, le-leb, leb-true, lt-ltb, ltb-true, ltb-false}
+use Rattle.std.proofs.lemmas.Bool.{and_parts, cases_Bool, eqb-true, false≢true, true≢false, le-leb, leb-true, lt-ltb, ne_eqb, ltb-true, ltb-false}
 use Rattle.std.proofs.lemmas.Bool.Decides.{nat_tests}
 use Rattle.std.proofs.Math.Seq.{take-suc}
+use Rattle.std.proofs.lemmas.List.{get_or_default}
 use Rattle.std.proofs.lemmas.List.Elements.{All-cons}
 use Rattle.std.proofs.lemmas.List.Kept.{AllPairs-filter}
 use Rattle.std.proofs.lemmas.List.Sorted.{ranks_by, sorted_far}
@@ -56,6 +57,7 @@ use Rattle.gtfs_runs.proofs.IndexFacts.{any_kept}
 use Rattle.gtfs_runs.proofs.LaneTallies.{tally-nothing}
 use Rattle.gtfs_runs.proofs.NumberParts.{first_run}
 use Rattle.gtfs_runs.proofs.PlaceFacts.{place_at}
+use Rattle.gtfs_runs.proofs.Ranks.{parted_tally}
 use Rattle.gtfs_runs.proofs.Tallies.{any-tally, tally-append, tally-none, tally-permutation, tally-push, tally-same, two_at}
 
 -- ---- what is asked of a stop time
@@ -163,14 +165,7 @@ told_at choice p sound index are s t r xs within at =
     ∙ ap (λ b. cond b 1 0)
     (are.all s t r within ∙ ap (λ c. departs_at c id t r) (sym (content-timed choice p sound)) ∙ ap (λ b. b && departs_at (content_of_parts q) id t r) (sym known))
 
--- the steps of the code: first those of the stop, and then those of each child
-pub stop_first : {X Y : Type 0} (f : Y → Bool) (q : X → Bool) (b : Bool) (old new xs : List X) (ys : List Y) → old ≡ [] → new ≡ old ++ xs → tally q xs ≡ cond b 1 0
-    → tally q new ≡ cond b 1 0 + tally f (take 0 ys)
-stop_first f q b old new xs ys none pushed told = ap (tally q) (pushed ∙ ap (λ l. l ++ xs) none) ∙ told ∙ nothing (cond b 1 0)
-  where
-    nothing : (n : ℕ) → n ≡ n + 0
-    nothing n = omega arith
-
+-- those of each child
 pub children_more : {X Y : Type 0} (f : Y → Bool) (q : X → Bool) (a k : ℕ) (y : Y) (old new xs : List X) (ys : List Y) → k < length ys → y ≡ get_or ys k y
     → tally q old ≡ a + tally f (take k ys) → new ≡ old ++ xs → tally q xs ≡ cond (f y) 1 0 → tally q new ≡ a + tally f (take (k + 1) ys)
 children_more f q a k y old new xs ys within item so_far pushed told =
@@ -298,6 +293,26 @@ first_parted xs t up from i j d before within is = elim (cases_Bool (nat_lt i j)
       ap (λ n. n == t) same ∙ itself t
   | inr not_lower ↦ let same : i ≡ j = omega (arith, before, ltb-false i j not_lower) in ap (λ k. (get_or xs k d).trip == t) same ∙ is
 ]
+
+pub one_row_more : (xs : List DepartureRow) (n t : ℕ) (e : DepartureRow) → n < length xs → (get_or xs n e).trip ≡ t → ((k : ℕ) (d : DepartureRow) → k < n → (get_or xs k d).trip ≡ t)
+    → (k : ℕ) (d : DepartureRow) → k < n + 1 → (get_or xs k d).trip ≡ t
+one_row_more xs n t e within is so_far k d below = elim (cases_Bool (nat_lt k n)) [
+  | inl low ↦ so_far k d (ltb-true k n low)
+  | inr high ↦ let last : k ≡ n = omega (arith, ltb-false k n high, below) in ap (λ m. (get_or xs m d).trip) last ∙ ap (λ x. x.trip) (get_or_default xs n d e within) ∙ is
+]
+
+-- those before the first of another trip are all
+pub first_ones : (xs : List DepartureRow) (n t : ℕ) → Ascends departure_row_cmp xs → All (λ x. t ≤ x.trip) xs → n ≤ length xs → ((k : ℕ) (d : DepartureRow) → k < n → (get_or xs k d).trip ≡ t)
+    → ((d : DepartureRow) → n < length xs → ((get_or xs n d).trip == t) ≡ false) → n ≡ tally (λ x. x.trip == t) xs
+first_ones xs n t up from upto own ends = parted_tally (λ x. x.trip == t) xs n upto
+    (λ k d low high. ap (λ m. m == t) (own k d high) ∙ itself t)
+    (λ k d low high. elim (cases_Bool ((get_or xs k d).trip == t)) [
+      | inr other ↦ other
+      | inl is ↦ absurd (true≢false (sym (first_parted xs t up from n k d low high is) ∙ ends d (omega (arith, low, high))))
+    ])
+
+pub other_trip : (xs : List DepartureRow) (n t : ℕ) (e d : DepartureRow) → n < length xs → ((get_or xs n e).trip ≡ t → ⊥) → ((get_or xs n d).trip == t) ≡ false
+other_trip xs n t e d within apart = ne_eqb (get_or xs n d).trip t (λ same. apart (ap (λ x. x.trip) (get_or_default xs n e d within) ∙ same))
 
 -- and there is one of them
 pub first_counted : (n : ℕ) (xs : List DepartureRow) (t : ℕ) → first_trip n xs ≡ t → 0 < length xs → 0 < tally (λ x. x.trip == t) xs

@@ -1,5 +1,6 @@
-ghost use Rattle.std.specs.Prelude.{◌≡◌, ◌<◌, length};
+ghost use Rattle.std.specs.Prelude.{◌≡◌, ◌<◌, Some, length, slice_get};
 ghost use Rattle.std.specs.List.Sorted.{IsPermutation, IsSorted};
+ghost use Rattle.gtfs_rows.specs.Trips.{stop_rows_by_trip};
 ghost use Rattle.gtfs_runs.specs.steps.Groups.{group_cmp, group_of, list_cmp, stops_in, trip_group};
 
 use gtfs_feed::Feed;
@@ -20,6 +21,7 @@ impl<'a> GroupedTrip<'a> {
     pub(crate) fn of(feed: &'a Feed, trip: TripNo) -> GroupedTrip<'a>
         requires { trip.0 < length feed.now.trips }
         ensures trip { result.trip ≡ trip }
+        ensures rows { slice_get (stop_rows_by_trip feed.now) trip.0 ≡ Some result.rows.now }
         ensures group { group_of result ≡ trip_group feed.now trip.0 }
     {
         GroupedTrip {

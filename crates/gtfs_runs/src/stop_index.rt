@@ -15,7 +15,7 @@ use crate::stop_index::children::{Child, Children};
 pub(crate) use crate::stop_index::entries::small_number;
 use crate::stop_index::indexed_trips::indexed_trips;
 pub(crate) use crate::stop_index::indexed_trips::{IndexedTrip, trip_at};
-pub(crate) use crate::stop_index::place_rows::{lent_rows, place_rows};
+pub(crate) use crate::stop_index::place_rows::place_rows;
 use crate::stop_index::rows_by_stop::RowsByStop;
 use gtfs_feed::Feed;
 use gtfs_field::OutOfMemory;

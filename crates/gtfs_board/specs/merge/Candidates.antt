@@ -2,7 +2,8 @@
 use Rattle.std.specs.Option.{option_to_list}
 use Rattle.std.specs.BinaryHeap.{IsHeap}
 use Rattle.std.specs.List.Sorted.{IsSorted}
-use Rattle.std.specs.Prelude.{◌≡◌, ◌≤◌, ◌+◌, ◌*◌, ◌/◌, ◌∷◌, length, Bool, false, ℕ, ℤ, List, [], Option, Some, None, MatchOption, map, ◌++◌, pos, ◌+ℤ◌, ◌-ℤ◌, ◌*ℤ◌, ◌≤ℤ◌, ◌<ℤ◌, ◌⊎◌}
+use Rattle.std.specs.Prelude.{◌≡◌, ◌≤◌, ◌+◌, ◌*◌, ◌∷◌, length, Bool, false, ℕ, ℤ, List, [], Option, Some, None, MatchOption, map, ◌++◌, pos, ◌+ℤ◌, ◌-ℤ◌, ◌*ℤ◌, ◌≤ℤ◌, ◌<ℤ◌, ◌⊎◌}
+use Rattle.gtfs_board.specs.Board.{origin_distance, width}
 use Rattle.gtfs_board.specs.merge.Order.{In, Each, tally, same}
 use Rattle.std.specs.List.{find, filter_map, range_with_len, fold}
 use Rattle.std.specs.Int.{int_min}
@@ -69,7 +70,7 @@ abbrev pub instant_of : Candidate → ℤ
 instant_of c = c.instant
 
 abbrev pub IsWithin : ℤ → Candidate → Type 0
-IsWithin mark c = (c.day *ℤ pos 86_400) ≤ℤ (mark +ℤ pos 93_599)
+IsWithin mark c = (c.day *ℤ pos 86_400) ≤ℤ (mark +ℤ pos origin_distance)
 
 -- lanes of candidates, in their order
 abbrev pub AreCandidateLanes : ℕ → ℕ → Events Candidate → Type 0
@@ -164,11 +165,11 @@ stands v = position v.end (head_of v.rest)
 pub record IsQueued (v : MergeValue) : Type 0 where
   pub within : Each (λ c. In c v.rest) v.queue
   pub same_first : head_of v.queue ≡ head_of v.rest
-  pub bounded : length v.queue ≤ v.lanes * ((v.latest + 187_198) / 86_400 + 1)
+  pub bounded : length v.queue ≤ v.lanes * width v.latest
 
 -- how many days may have been opened for a board that stands there
 abbrev pub reach : MergeValue → ℕ
-reach v = tally (is_reached (v.start -ℤ pos (v.latest + 93_599)) (stands v)) v.days
+reach v = tally (is_reached (v.start -ℤ pos (v.latest + origin_distance)) (stands v)) v.days
 
 -- what a board was opened with
 abbrev pub HasSettings : ℕ → ℕ → ℤ → ℤ → List ℤ → MergeValue → Type 0

@@ -1,6 +1,7 @@
 -- What waits: of each opened day of each lane the first event above a floor.
 use Rattle.std.specs.Prelude.{◌≡◌, ◌⊎◌, ℕ, ◌+◌, ◌*◌, ◌≤◌, Bool, true, cond, ◌&&◌, List, [], ℤ, pos, ◌+ℤ◌, ◌*ℤ◌, ◌≤ℤ◌, ◌<ℤ◌, int_lt, int_le}
 use Rattle.std.specs.List.{find, filter}
+use Rattle.gtfs_board.specs.Board.{origin_distance}
 use Rattle.gtfs_board.specs.merge.Order.{In, IsAscending, tally, same, holds, in_order}
 
 -- the events of each lane on each day
@@ -13,8 +14,8 @@ pub record AreLanes {C : Type 0} (lt : C → C → Bool) (instant day : C → �
   pub of_lane : (i : ℕ) (d : ℤ) (x : C) → In x (events i d) → lane x ≡ i
   pub of_day : (i : ℕ) (d : ℤ) (x : C) → In x (events i d) → day x ≡ d
   pub few : (i : ℕ) (d : ℤ) → count ≤ i → events i d ≡ []
-  pub early : (i : ℕ) (d : ℤ) (x : C) → In x (events i d) → (d *ℤ pos 86_400) ≤ℤ (instant x +ℤ pos 93_599)
-  pub late : (i : ℕ) (d : ℤ) (x : C) → In x (events i d) → instant x ≤ℤ (d *ℤ pos 86_400 +ℤ pos (latest + 93_599))
+  pub early : (i : ℕ) (d : ℤ) (x : C) → In x (events i d) → (d *ℤ pos 86_400) ≤ℤ (instant x +ℤ pos origin_distance)
+  pub late : (i : ℕ) (d : ℤ) (x : C) → In x (events i d) → instant x ≤ℤ (d *ℤ pos 86_400 +ℤ pos (latest + origin_distance))
   pub follow : (x y : C) → lt x y ≡ true → instant x ≤ℤ instant y
 
 -- the event is the first above the floor of its lane, on a day before the first unopened one
@@ -36,7 +37,7 @@ pub record AreAll {C : Type 0} (day : C → ℤ) (lane : C → ℕ) (events : Ev
 
 -- a day that may have been opened for a board that looks from `low` on and stands at x
 abbrev pub is_reached : ℤ → ℤ → ℤ → Bool
-is_reached low x d = int_le low (d *ℤ pos 86_400) && int_le (d *ℤ pos 86_400) (x +ℤ pos 93_599)
+is_reached low x d = int_le low (d *ℤ pos 86_400) && int_le (d *ℤ pos 86_400) (x +ℤ pos origin_distance)
 
 -- such a day before the first unopened one
 abbrev pub is_opened : ℤ → ℤ → ℤ → ℤ → Bool
@@ -44,7 +45,7 @@ is_opened low opened x d = int_lt d opened && is_reached low x d
 
 -- every unopened day lies above x
 abbrev pub IsStopped : ℤ → ℤ → ℤ → Type 0
-IsStopped last opened x = (last <ℤ opened) ⊎ ((x +ℤ pos 93_599) <ℤ (opened *ℤ pos 86_400))
+IsStopped last opened x = (last <ℤ opened) ⊎ ((x +ℤ pos origin_distance) <ℤ (opened *ℤ pos 86_400))
 
 -- every unopened day begins at or after a low mark, as far as its date tells
 abbrev pub IsFrom : ℤ → ℤ → ℤ → Type 0

@@ -1,5 +1,6 @@
 ghost use Rattle.std.specs.Prelude.{◌≡◌, ◌≤◌, ◌+◌, ◌*◌, ◌++◌, pos, negsuc, ◌+ℤ◌, ◌-ℤ◌, ◌*ℤ◌, ◌≤ℤ◌, ◌<ℤ◌, OnOk, IfOk, IsTrue, false};
 ghost use Rattle.std.specs.Option.{option_to_list};
+ghost use Rattle.gtfs_board.specs.Board.{origin_distance};
 ghost use Rattle.gtfs_board.specs.merge.Order.{Each, tally};
 ghost use Rattle.gtfs_board.specs.merge.Lanes.{IsStopped, AreStepsFew, IsStartDay};
 ghost use Rattle.gtfs_board.specs.merge.Candidates.{AreGathered, AreHeadsAbove, AreWithinLeast, IsAside, heads_on, least_from, with_head};
@@ -121,7 +122,8 @@ fn least_with(least: i64, head: Option<Candidate>) -> i64
 
 // A day that is not past the last may hold an event at or below the mark.
 fn is_due(day: i32, last: i32, least: i64) -> bool
-    ensures due { IsTrue result → (day ≤ℤ last) × ((day *ℤ pos 86_400) ≤ℤ (least +ℤ pos 93_599)) }
+    ensures due { IsTrue result → (day ≤ℤ last)
+        × ((day *ℤ pos 86_400) ≤ℤ (least +ℤ pos origin_distance)) }
     ensures stopped { result ≡ false → IsStopped last day least }
 {
     day <= last && earliest(day) <= least
@@ -129,7 +131,7 @@ fn is_due(day: i32, last: i32, least: i64) -> bool
 
 // No event of a day comes before this instant.
 fn earliest(day: i32) -> i64
-    ensures { (result +ℤ pos 93_599) ≡ day *ℤ pos 86_400 }
+    ensures { (result +ℤ pos origin_distance) ≡ day *ℤ pos 86_400 }
 {
     i64::from(day) * SECONDS_OF_DAY - ORIGIN_DISTANCE
 }
@@ -143,7 +145,7 @@ pub(super) fn first_due(first: i32, last: i32, start: i64, latest: u32) -> i32
     requires start { negsuc 999_999_999_999 ≤ℤ start }
     ensures from { first ≤ℤ result }
     ensures within { result ≤ℤ (last +ℤ pos 1) }
-    ensures start { IsStartDay (start -ℤ pos (latest + 93_599)) first last result }
+    ensures start { IsStartDay (start -ℤ pos (latest + origin_distance)) first last result }
 {
     let day = first_begun(low_mark(start, latest));
     day.clamp(i64::from(first), i64::from(last) + 1) as i32
@@ -152,7 +154,7 @@ pub(super) fn first_due(first: i32, last: i32, start: i64, latest: u32) -> i32
 // A day whose date begins before this instant has no event at or above the start.
 fn low_mark(start: i64, latest: u32) -> i64
     requires { negsuc 999_999_999_999 ≤ℤ start }
-    ensures { result ≡ start -ℤ pos (latest + 93_599) }
+    ensures { result ≡ start -ℤ pos (latest + origin_distance) }
 {
     start - i64::from(latest) - ORIGIN_DISTANCE
 }

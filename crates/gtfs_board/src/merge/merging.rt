@@ -30,6 +30,7 @@ pub struct Merge<S: Source> {
 impl<S: Source> Model for Merge<S> {
     ghost use Rattle.std.specs.Prelude.{◌++◌, ◌+◌, pos, ◌-ℤ◌};
     ghost use Rattle.std.specs.Option.{option_to_list};
+    ghost use Rattle.gtfs_board.specs.Board.{origin_distance};
     ghost use Rattle.gtfs_board.specs.merge.Candidates.{MergeValue, IsMerge, IsSource, rest_above};
 
     ghost Value = { MergeValue };
@@ -49,7 +50,7 @@ impl<S: Source> Model for Merge<S> {
         (S.first b.source) (S.last b.source) (S.days b.source) (S.events b.source) (S.all b.source)
         × IsMerge (S.events b.source) (S.end b.source) (S.first b.source)
         (S.last b.source) b.floor b.first b.others b.day
-        (b.start -ℤ pos (S.latest b.source + 93_599)) };
+        (b.start -ℤ pos (S.latest b.source + origin_distance)) };
 }
 
 impl<S: Source + Drop> Merge<S> {

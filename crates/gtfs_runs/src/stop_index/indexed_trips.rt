@@ -36,35 +36,30 @@ pub(crate) fn indexed_trips(alloc: Global, feed: &Feed) -> Result<Vec<IndexedTri
     ensures { IfOk result (λ trips. AreIndexedTrips feed.now trips.items) }
 {
     feed.soundness();
-    let sorted = by_group(grouped_trips(alloc, feed)?);
-    let trips = started_trips(alloc, feed)?;
-    with_groups(&sorted, trips)
+    let (trips, indexed) = trips_of(alloc, feed)?;
+    with_groups(&by_group(trips), indexed)
 }
 
-// The trips, by their numbers.
-fn grouped_trips(alloc: Global, feed: &Feed) -> Result<Vec<GroupedTrip<'_>>, OutOfMemory>
-    ensures { IfOk result (λ trips. AreOfTrips feed.now (length feed.now.trips) trips.items) }
-{
-    let mut trips = Vec::with_capacity(alloc, feed.trip_count())?;
-    for number in 0..feed.trip_count() {
-        trips.push(GroupedTrip::of(feed, TripNo(number)))?;
-    }
-    Ok(trips)
-}
-
-// The trips, before their groups are numbered.
-fn started_trips(alloc: Global, feed: &Feed) -> Result<Vec<IndexedTrip>, OutOfMemory>
-    ensures { IfOk result (λ trips. AreStarted feed.now trips.items) }
+// The trips, by their numbers, and the same before their groups are numbered.
+fn trips_of(
+    alloc: Global,
+    feed: &Feed,
+) -> Result<(Vec<GroupedTrip<'_>>, Vec<IndexedTrip>), OutOfMemory>
+    ensures trips { IfOk result (λ both. AreOfTrips feed.now (length feed.now.trips) both.0.items) }
+    ensures started { IfOk result (λ both. AreStarted feed.now both.1.items) }
 {
     feed.soundness();
     let mut trips = Vec::with_capacity(alloc, feed.trip_count())?;
+    let mut indexed = Vec::with_capacity(alloc, feed.trip_count())?;
     for number in 0..feed.trip_count() {
-        trips.push(IndexedTrip {
+        let trip = GroupedTrip::of(feed, TripNo(number));
+        trips.push(trip)?;
+        indexed.push(IndexedTrip {
             group: 0,
-            start: trip_start(feed.trip_rows(TripNo(number))),
+            start: trip_start(trip.rows),
         })?;
     }
-    Ok(trips)
+    Ok((trips, indexed))
 }
 
 // The trips with the numbers of their groups, of trips that are sorted by group: how many come before the first of the group.
@@ -81,25 +76,10 @@ fn with_groups(
 {
     let mut group = 0;
     for n in 0..sorted.len() {
-        if begins_group(sorted, n) {
+        if n > 0 && group_order(&sorted[n - 1], &sorted[n]).is_lt() {
             group = small_number(n)?;
         }
         trips[sorted[n].trip.0].group = group;
     }
     Ok(trips)
-}
-
-// Whether the trip at this index has a higher group than the one before it.
-fn begins_group(sorted: &[GroupedTrip<'_>], n: usize) -> bool
-    requires in_order { IsSorted (λ x y. group_cmp (group_of x) (group_of y)) sorted.now }
-    requires within { n < length sorted.now }
-    ensures after { result ≡ true → 0 < n }
-    ensures higher { (d : TripValue) → result ≡ true
-        → is_lt (group_cmp (group_of (slice_index_or sorted.now (n - 1) d))
-        (group_of (slice_index_or sorted.now n d))) ≡ true }
-    ensures same { (d : TripValue) → result ≡ false → 0 < n
-        → group_of (slice_index_or sorted.now (n - 1) d)
-        ≡ group_of (slice_index_or sorted.now n d) }
-{
-    n > 0 && group_order(&sorted[n - 1], &sorted[n]).is_lt()
 }

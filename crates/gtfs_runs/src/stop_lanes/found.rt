@@ -120,13 +120,12 @@ pub(crate) fn add_passings(
         → All (λ x. groups x.trip ≡ x.group) listed.new.items) }
 {
     feed.soundness();
-    let service = feed.trip_by_number(trip).service_id;
     let frequencies = feed.trip_frequencies(trip);
     if frequencies.is_empty() {
-        add_listed(trip, indexed, passings, listed)?;
-    } else {
-        add_periods(service, trip, frequencies, passings, periods)?;
+        return add_listed(trip, indexed, passings, listed);
     }
+    let service = feed.trip_by_number(trip).service_id;
+    add_periods(service, trip, frequencies, passings, periods)?;
     Ok(())
 }
 

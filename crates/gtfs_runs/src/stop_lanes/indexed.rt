@@ -13,7 +13,7 @@ ghost use Rattle.gtfs_runs.specs.steps.Places.{ArePlaceRows, first_trip};
 ghost use Rattle.gtfs_times.specs.TimedRows.{timed_parts};
 
 use crate::step_lane::StepLane;
-use crate::stop_index::{DepartureRow, IndexedTrip, StopIndex, lent_rows, place_rows, trip_at};
+use crate::stop_index::{DepartureRow, IndexedTrip, StopIndex, place_rows, trip_at};
 use crate::stop_lanes::at_rows::passings_at;
 use crate::stop_lanes::found::{Found, add_passings};
 use crate::stop_lanes::listed::Listed;
@@ -36,32 +36,22 @@ pub(crate) fn found_in_index(
         (map period_value found.periods.items)) }
     ensures numbers { IfOk result (λ found. AreNumbered index.now.feed found.listed.items) }
 {
-    match lent_rows(index, stop) {
-        Some(rows) => found_at_rows(alloc, index, stop, rows),
-        None => found_at_rows(alloc, index, stop, &place_rows(alloc, index, stop)?),
-    }
-}
-
-// The same of these departure rows, which are all that are there.
-fn found_at_rows(
-    alloc: Global,
-    index: &StopIndex<'_>,
-    stop: StopNo,
-    rows: &[DepartureRow],
-) -> Result<Found, OutOfMemory>
-    requires { ArePlaceRows (timed_parts index.now.times index.now.feed) stop.0 0 rows.now }
-    ensures found { IfOk result (λ found. AreFound (timed_parts index.now.times index.now.feed)
-        stop.0 (length index.now.feed.trips)
-        (map (stopping_of index.now.feed) found.listed.items)
-        (map period_value found.periods.items)) }
-    ensures numbers { IfOk result (λ found. AreNumbered index.now.feed found.listed.items) }
-{
+    let rows = place_rows(alloc, index, stop)?;
     let feed = index.feed();
     let times = index.times();
     let trips = index.trips();
     let mut listed = Vec::new(alloc);
     let mut periods = Vec::new(alloc);
-    add_rows(alloc, feed, trips, stop, times, rows, &mut listed, &mut periods)?;
+    add_rows(
+        alloc,
+        feed,
+        trips,
+        stop,
+        times,
+        &rows,
+        &mut listed,
+        &mut periods,
+    )?;
     Ok(Found { listed, periods })
 }
 
@@ -90,7 +80,16 @@ fn add_rows(
     feed.soundness();
     let mut at = 0;
     while at < rows.len() {
-        at += add_trip(alloc, feed, trips, stop, times, &rows[at..], listed, periods)?;
+        at += add_trip(
+            alloc,
+            feed,
+            trips,
+            stop,
+            times,
+            &rows[at..],
+            listed,
+            periods,
+        )?;
     }
     Ok(())
 }
@@ -141,5 +140,9 @@ fn rows_of(rows: &[DepartureRow], trip: TripNo) -> usize
     ensures value { result ≡ tally (λ x. x.trip == trip.0) rows.now }
     ensures upto { result ≤ length rows.now }
 {
-    rows.partition_point(|row| row.trip().0 == trip.0)
+    let mut count = 0;
+    while count < rows.len() && rows[count].trip().0 == trip.0 {
+        count += 1;
+    }
+    count
 }

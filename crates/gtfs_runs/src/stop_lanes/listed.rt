@@ -1,17 +1,15 @@
-ghost use Rattle.std.specs.Prelude.{◌≡◌, ◌≤◌, ◌<◌, IfOk, length, map};
+ghost use Rattle.std.specs.Prelude.{◌≡◌, ◌≤◌, IfOk, map};
 ghost use Rattle.std.specs.List.Sorted.{IsPermutation, IsSorted};
 ghost use Rattle.gtfs_rows.specs.declared.parts.Parts.{Parts};
 ghost use Rattle.gtfs_runs.specs.steps.Courses.{event_of, is_same_course, stopping_cmp, stopping_of};
-ghost use Rattle.gtfs_runs.specs.steps.Groups.{trip_group};
 ghost use Rattle.gtfs_runs.specs.steps.Numbers.{AreNumbered, IsNumbered, listed_cmp};
 ghost use Rattle.gtfs_runs.specs.steps.Passings.{passing_event};
 
 use crate::event::Event;
 use crate::stop_index::{IndexedTrip, small_number};
 use crate::stop_lanes::passing::Passing;
-use gtfs_feed::Feed;
 use gtfs_field::OutOfMemory;
-use gtfs_rows::{ServiceNo, TripNo};
+use gtfs_rows::TripNo;
 
 // An event of a trip without frequencies.
 //
@@ -56,14 +54,6 @@ impl Listed {
         ensures { result.0 ≡ self.now.trip }
     {
         TripNo(self.trip as usize)
-    }
-
-    // The service of the trip, which is one of the feed.
-    pub(crate) fn service(&self, feed: &Feed) -> ServiceNo
-        requires { self.now.trip < length feed.now.trips }
-        ensures { result.0 ≡ (trip_group feed.now self.now.trip).0 }
-    {
-        feed.trip_by_number(self.trip()).service_id
     }
 
     // The event.

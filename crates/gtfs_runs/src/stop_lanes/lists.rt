@@ -74,7 +74,8 @@ fn add_list(
         → All (IsListLane (content_of_parts p)) (map list_value lists.new.items)) }
 {
     let len = course_len(listed);
-    let list = list_lane(alloc, listed[0].service(feed), &listed[..len])?;
+    let service = feed.trip_by_number(listed[0].trip()).service_id;
+    let list = list_lane(alloc, service, &listed[..len])?;
     lists.push(list)?;
     Ok(len)
 }
@@ -100,11 +101,7 @@ fn course_len(listed: &[Listed]) -> usize
 }
 
 // The lane of these events.
-fn list_lane(
-    alloc: Global,
-    service: ServiceNo,
-    listed: &[Listed],
-) -> Result<ListLane, OutOfMemory>
+fn list_lane(alloc: Global, service: ServiceNo, listed: &[Listed]) -> Result<ListLane, OutOfMemory>
     requires { Ascends event_cmp (map event_of listed.now) }
     ensures service { IfOk result (λ lane. lane.service ≡ service) }
     ensures events { IfOk result (λ lane. lane.events.items ≡ map event_of listed.now) }

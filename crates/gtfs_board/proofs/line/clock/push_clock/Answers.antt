@@ -1,4 +1,4 @@
-use Rattle.std.proofs.Common.{◌≡◌, ◌∙◌, ap, sym, ◌++◌, ◌%◌, ◌==◌, if◌then◌else◌, true, false, int_lt, pos, string_bytes, unsigned_abs, arith, FitsSigned, w16, w32}
+use Rattle.std.proofs.Common.{◌≡◌, ◌∙◌, ap, ◌++◌, ◌%◌, ◌==◌, if◌then◌else◌, false, int_lt, pos, string_bytes, unsigned_abs, arith, FitsSigned, w16, w32}
 use Rattle.std.proofs.lemmas.Bool.Decides.{nat_tests}
 use Rattle.std.proofs.lemmas.Int.{to_z-of_z}
 use Rattle.std.proofs.lemmas.Str.{IsAscii-drop, IsAscii-take}

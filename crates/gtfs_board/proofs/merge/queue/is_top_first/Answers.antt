@@ -1,4 +1,4 @@
-use Rattle.std.proofs.Common.{◌≡◌, [], ◌∙◌, sym, ap, subst, true, false, arith, heap_items}
+use Rattle.std.proofs.Common.{◌≡◌, [], ◌∙◌, sym, subst, true, false, arith, heap_items}
 use Rattle.std.proofs.lemmas.Bool.{ltb-true}
 use Rattle.gtfs_board.specs.merge.Candidates.{candidate_lt}
 use Rattle.gtfs_board.proofs.Orders.{each_from_recursion}

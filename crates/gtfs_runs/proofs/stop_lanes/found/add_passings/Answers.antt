@@ -1,6 +1,9 @@
 use Rattle.std.proofs.Common.{◌≡◌, ◌+◌, ◌++◌, ◌∙◌, ◌==◌, ◌*◌, Some, cond, [], length, map, get_or, refl, sym, ap, arith}
 use Rattle.std.specs.Prelude.{option_map, unwrap_or}
 use Rattle.std.proofs.lemmas.List.{length-map}
+use Rattle.std.proofs.lemmas.Option.{slice_get-get_or}
+use Rattle.std.proofs.lemmas.Result.{on_ok_weaker}
+use Rattle.gtfs_field.proofs.ListFacts.{some_of}
 use Rattle.gtfs_rows.specs.Trips.{stop_rows_by_trip}
 use Rattle.gtfs_times.proofs.FilledContent.{sound-timed}
 use Rattle.gtfs_times.specs.TimedRows.{timed_parts, timed_stop_times}
@@ -15,56 +18,57 @@ use Rattle.gtfs_runs.proofs.stop_lanes.found.add_passings.Goals as goal
 
 pub add_listed-requires-clause-start : goal.add_listed-requires-clause-start
 add_listed-requires-clause-start c =
-            let p = c.args.feed.now in
-            let t = c.args.trip.0 in
+    let p = c.args.feed.now in
+    let t = c.args.trip.0 in
     let bound = starts_within p c.soundness.ensures t (get_or (stop_rows_by_trip p) t []) (rows_at p c.soundness.ensures t c.requires.trip) in
     omega (arith, c.requires.start, bound)
 
 pub add_periods-requires-clause-runs : goal.add_periods-requires-clause-runs
 add_periods-requires-clause-runs c = periods_run c.args.feed.now c.soundness.ensures c.args.trip.0 c.trip_frequencies-frequencies.result.now c.trip_frequencies-frequencies.ensures
 
-pub returns-in_ok-add_listed : goal.returns-in_ok-add_listed
-returns-in_ok-add_listed c = record {
-  found = λ times s are was.
-            let p = c.args.feed.now in
-            let q = timed_parts times p in
-            let sound = sound-timed p c.soundness.ensures times in
-            let t = c.args.trip.0 in
-            let row = c.trip_by_number.result.now in
-            let fs = c.trip_frequencies-frequencies.result.now in
-            let listed = map (stopping_of p) c.args.listed.now.items in
-            let periods = map period_value c.args.periods.now.items in
-            let own = get_or (stop_rows_by_trip p) t [] in
-            let rs = timed_stop_times times own in
-            let at_rows = rows_timed times p c.soundness.ensures t own rs (rows_at p c.soundness.ensures t c.requires.trip) refl in
-            let service : (trip_group p t).0 ≡ row.service_id.0 = ap (λ o. unwrap_or (option_map (λ u. u.service_id.0) o) 0) c.trip_by_number.ensures in
-            let none = none_left fs (sym c.is_empty.ensures ∙ c.if-is_empty.true) in
-            let found = are row rs [] at_rows in
-            let pushed = c.in_ok-add_listed.ensures.events p
-    ∙ (λ i. listed ++ map (stopping_at (sym (stops_timed times own) i) (service i) t ((c.requires.start ∙ sym (first_timed times own)) i)) (found i)) in
-    listed_found q sound s t row rs c.trip_by_number.ensures at_rows (c.trip_frequencies-frequencies.ensures ∙ ap Some none) listed _ periods pushed was;
-  groups = c.in_ok-add_listed.ensures.groups;
-}
+pub returns-then-is_empty : goal.returns-then-is_empty
+returns-then-is_empty c =
+    let p = c.args.feed.now in
+    let t = c.args.trip.0 in
+    let row = get_or p.trips t (some_of p.trips t c.requires.trip) in
+    let at_trip = slice_get-get_or p.trips t (some_of p.trips t c.requires.trip) c.requires.trip in
+    let fs = c.trip_frequencies-frequencies.result.now in
+    let listed = map (stopping_of p) c.args.listed.now.items in
+    let own = get_or (stop_rows_by_trip p) t [] in
+    let none = none_left fs (sym c.is_empty.ensures ∙ c.if-is_empty.true) in
+    let service : (trip_group p t).0 ≡ row.service_id.0 = ap (λ o. unwrap_or (option_map (λ u. u.service_id.0) o) 0) at_trip in
+    record {
+      found = on_ok_weaker c.add_listed.result
+          (λ told times s are was.
+          let q = timed_parts times p in
+          let rs = timed_stop_times times own in
+          let at_rows = rows_timed times p c.soundness.ensures t own rs (rows_at p c.soundness.ensures t c.requires.trip) refl in
+          let found = are row rs [] at_rows in
+          let pushed = told p ∙ (λ i. listed ++ map (stopping_at (sym (stops_timed times own) i) (service i) t ((c.requires.start ∙ sym (first_timed times own)) i)) (found i)) in
+          listed_found q (sound-timed p c.soundness.ensures times) s t row rs at_trip at_rows (c.trip_frequencies-frequencies.ensures ∙ ap Some none) listed _ (map period_value c.args.periods.now.items) pushed was)
+          c.add_listed.ensures.events;
+      groups = c.add_listed.ensures.groups;
+    }
 
-pub returns-in_ok-add_periods : goal.returns-in_ok-add_periods
-returns-in_ok-add_periods c = record {
+pub returns : goal.returns
+returns c = record {
   found = λ times s are was.
-            let p = c.args.feed.now in
-            let q = timed_parts times p in
-            let sound = sound-timed p c.soundness.ensures times in
-            let t = c.args.trip.0 in
-            let row = c.trip_by_number.result.now in
-            let fs = c.trip_frequencies-frequencies.result.now in
-            let listed = map (stopping_of p) c.args.listed.now.items in
-            let periods = map period_value c.args.periods.now.items in
-            let rs = get_or (stop_rows_by_trip q) t [] in
-            let at_rows = rows_at q sound t c.requires.trip in
-            let some = some_left fs (sym c.is_empty.ensures ∙ c.if-is_empty.false) in
-            let found = are row rs fs at_rows in
-    periods_found q sound s t row rs fs c.trip_by_number.ensures at_rows c.trip_frequencies-frequencies.ensures some listed periods (map period_value c.add_periods.new.periods.items)
-    (λ k e. c.in_ok-add_periods.ensures.told k e ∙ ap (λ l. times_told k e periods + cond (row.service_id.0 == k) (times_passed_in t e l fs) 0) found)
-    (length-map c.add_periods.new.periods.items period_value ∙ c.in_ok-add_periods.ensures.counted
-    ∙ (λ i. sym (length-map c.args.periods.now.items period_value) i + length fs * length (found i)))
-    c.in_ok-add_periods.ensures.within c.in_ok-add_periods.ensures.kind was;
+      let p = c.args.feed.now in
+      let q = timed_parts times p in
+      let sound = sound-timed p c.soundness.ensures times in
+      let t = c.args.trip.0 in
+      let row = c.trip_by_number.result.now in
+      let fs = c.trip_frequencies-frequencies.result.now in
+      let listed = map (stopping_of p) c.args.listed.now.items in
+      let periods = map period_value c.args.periods.now.items in
+      let rs = get_or (stop_rows_by_trip q) t [] in
+      let at_rows = rows_at q sound t c.requires.trip in
+      let some = some_left fs (sym c.is_empty.ensures ∙ c.if-is_empty.false) in
+      let found = are row rs fs at_rows in
+      periods_found q sound s t row rs fs c.trip_by_number.ensures at_rows c.trip_frequencies-frequencies.ensures some listed periods (map period_value c.add_periods.new.periods.items)
+      (λ k e. c.in_ok-add_periods.ensures.told k e ∙ ap (λ l. times_told k e periods + cond (row.service_id.0 == k) (times_passed_in t e l fs) 0) found)
+      (length-map c.add_periods.new.periods.items period_value ∙ c.in_ok-add_periods.ensures.counted
+      ∙ (λ i. sym (length-map c.args.periods.now.items period_value) i + length fs * length (found i)))
+      c.in_ok-add_periods.ensures.within c.in_ok-add_periods.ensures.kind was;
   groups = λ groups is were. were;
 }

@@ -57,6 +57,6 @@ returns c =
     record {
       groups = c.loop-at.invariant.groups;
       found = λ was.
-    subst (λ l. AreFound q c.args.stop.0 (first_trip (length p.trips) l) (map (stopping_of p) c.loop-at.listed.items) (map period_value c.loop-at.periods.items)) (nothing_left xs c.loop-at.at past)
-    (c.loop-at.invariant.found was);
+          subst (λ l. AreFound q c.args.stop.0 (first_trip (length p.trips) l) (map (stopping_of p) c.loop-at.listed.items) (map period_value c.loop-at.periods.items)) (nothing_left xs c.loop-at.at past)
+          (c.loop-at.invariant.found was);
     }

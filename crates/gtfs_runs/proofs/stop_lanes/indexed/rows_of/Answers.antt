@@ -1,15 +1,28 @@
-use Rattle.std.proofs.Common.{rules, of_calls, Bool, List, ◌==◌}
-use Rattle.std.proofs.lemmas.List.Sorted.{IsPartitionPoint-from_clause}
+use Rattle.std.proofs.Common.{◌≤◌, ◌<◌, ◌∙◌, ◌==◌, length, sym, ap, arith, inl, inr, true, false}
 use Rattle.gtfs_runs.specs.declared.stop_index.DepartureRow.{DepartureRow}
-use Rattle.gtfs_runs.proofs.PlaceRows.{first_parted}
-use Rattle.gtfs_runs.proofs.Ranks.{parted_tally}
+use Rattle.gtfs_runs.proofs.PlaceRows.{first_ones, one_row_more, other_trip}
 use Rattle.gtfs_runs.proofs.stop_lanes.indexed.rows_of.Goals as goal
 
-pub returns-clause-value : goal.returns-clause-value
-returns-clause-value c =
-    let xs : List DepartureRow = c.args.rows.now in
+pub loop-count-preserved : goal.loop-count-preserved
+loop-count-preserved c =
+    let none : DepartureRow = record { trip = 0; row = 0 } in
+    let inside : c.loop-count.count < length c.args.rows.now = c.loop-count-test.true in
+    record {
+      upto = omega (arith, inside);
+      own = one_row_more c.args.rows.now c.loop-count.count c.args.trip.0 none inside (sym c.trip.ensures ∙ c.if-trip.true) c.loop-count.invariant.own;
+    }
+
+pub returns-else-trip-clause-value : goal.returns-else-trip-clause-value
+returns-else-trip-clause-value c =
+    let xs = c.args.rows.now in
+    let n = c.loop-count.count in
     let t = c.args.trip.0 in
-    let test : DepartureRow → Bool = λ x. x.trip == t in
-    let n = c.partition_point.result in
-    let parted = IsPartitionPoint-from_clause test xs n c.partition_point.ensures.partitioned (first_parted xs t c.requires.up (λ k d within. c.requires.first d k within)) (λ a r f k. search (rules, of_calls)) in
-    parted_tally test xs n c.partition_point.ensures.bound parted.0 parted.1
+    let none : DepartureRow = record { trip = 0; row = 0 } in
+    first_ones xs n t c.requires.up (λ k d within. c.requires.first d k within) c.loop-count.invariant.upto c.loop-count.invariant.own
+    (λ d within. other_trip xs n t none d within (λ same. c.if-trip.false (c.trip.ensures ∙ same)))
+
+pub returns-after-loop-count-clause-value : goal.returns-after-loop-count-clause-value
+returns-after-loop-count-clause-value c =
+    let past : length c.args.rows.now ≤ c.loop-count.count = omega (arith, c.loop-count-test.false) in
+    first_ones c.args.rows.now c.loop-count.count c.args.trip.0 c.requires.up (λ k d within. c.requires.first d k within) c.loop-count.invariant.upto c.loop-count.invariant.own
+    (λ d within. absurd (omega (arith, past, within)))

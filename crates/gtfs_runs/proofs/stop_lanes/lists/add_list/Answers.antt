@@ -1,5 +1,6 @@
 use Rattle.std.proofs.Common.{◌<◌, ◌∙◌, [], ◌∷◌, length, map, drop, get_or, sym, ap, subst}
-use Rattle.std.specs.List.{All}
+use Rattle.std.specs.Prelude.{option_map, unwrap_or}
+use Rattle.std.specs.List.{All, slice_get}
 use Rattle.std.proofs.lemmas.List.{get_or_default, length-append, map-append}
 use Rattle.std.proofs.lemmas.List.Elements.{All-push}
 use Rattle.gtfs_rows.specs.Views.{content_of_parts}
@@ -27,7 +28,7 @@ returns-clause-told c = λ k.
     let old = c.args.lists.now.items in
     told_list c.args.feed.now c.args.listed.now len.result first len.ensures.some len.ensures.within c.requires.sorted (λ k d. len.ensures.same c.args.feed.now k d c.requires.numbers) (get_or_default c.args.listed.now 0 no_event first c.requires.some)
     k (map list_value old) (map list_value c.push.new.self.items) (list_value lane) (ap (map list_value) c.in_ok-push.ensures.items ∙ map-append list_value old (lane ∷ []))
-    c.in_ok-list.ensures.events (ap (λ x. x.0) c.in_ok-list.ensures.service ∙ c.service.ensures)
+    c.in_ok-list.ensures.events (ap (λ x. x.0) c.in_ok-list.ensures.service ∙ sym (ap (λ o. unwrap_or (option_map (λ u. u.service_id.0) o) 0) (ap (slice_get c.args.feed.now.trips) (sym c.trip.ensures) ∙ c.trip_by_number.ensures)))
 
 pub returns-clause-alike : goal.returns-clause-alike
 returns-clause-alike c = λ p own was.
@@ -48,7 +49,7 @@ returns-clause-within c = λ m serve were.
     let pushed = ap (map list_value) c.in_ok-push.ensures.items ∙ map-append list_value old (lane ∷ []) in
     subst (λ l. All (λ x. x.service < m) l) (sym pushed)
     (All-push (λ x. x.service < m) (map list_value old) (list_value lane) were
-    (subst (λ n. n < m) (sym (ap (λ x. x.0) c.in_ok-list.ensures.service ∙ c.service.ensures)) (serve 0 no_event c.requires.some)))
+    (subst (λ n. n < m) (sym (ap (λ x. x.0) c.in_ok-list.ensures.service ∙ sym (ap (λ o. unwrap_or (option_map (λ u. u.service_id.0) o) 0) (ap (slice_get c.args.feed.now.trips) (sym c.trip.ensures) ∙ c.trip_by_number.ensures)))) (serve 0 no_event c.requires.some)))
 
 pub returns-clause-counted : goal.returns-clause-counted
 returns-clause-counted c =

@@ -1,4 +1,4 @@
-use Rattle.std.proofs.Common.{◌≡◌, ◌∙◌, ◌++◌, Some, sym, arith, heap_items}
+use Rattle.std.proofs.Common.{◌∙◌, ◌++◌, Some, sym, arith, heap_items}
 use Rattle.std.specs.Option.{option_to_list}
 use Rattle.gtfs_board.proofs.Queues.{before_first, first_exchanged, last_got, last_replaced, one_more, replaced_beside, sorted_front}
 use Rattle.gtfs_board.proofs.merge.queue.Queue.exchange.Goals as goal

@@ -1,4 +1,4 @@
-use Rattle.std.proofs.Common.{◌≡◌, ◌∙◌, ◌++◌, ap, sym, append-nil}
+use Rattle.std.proofs.Common.{◌≡◌, ◌++◌, sym, append-nil}
 use Rattle.std.specs.Option.{option_to_list}
 use Rattle.gtfs_board.proofs.Queues.{joined_left}
 use Rattle.gtfs_board.proofs.merge.queue.Queue.join.Goals.{in-Some+in_ok-push, in_default}

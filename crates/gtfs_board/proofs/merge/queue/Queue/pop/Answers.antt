@@ -1,5 +1,4 @@
-use Rattle.std.proofs.Common.{◌≡◌, ◌++◌, ◌-◌, length, slice_get, subst, sym, arith, heap_items}
-use Rattle.gtfs_board.specs.merge.Candidates.{AreHeadedBy}
+use Rattle.std.proofs.Common.{◌++◌, arith, heap_items}
 use Rattle.gtfs_board.proofs.Queues.{first_left, last_got, last_left, top_got, top_left}
 use Rattle.gtfs_board.proofs.merge.queue.Queue.pop.Goals as goal
 

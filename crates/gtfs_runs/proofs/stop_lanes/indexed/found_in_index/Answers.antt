@@ -11,11 +11,12 @@ use Rattle.gtfs_runs.specs.steps.Numbers.{AreNumbered}
 use Rattle.gtfs_runs.specs.steps.Places.{ArePlaceRows}
 use Rattle.gtfs_runs.proofs.GroupFacts.{no_trip, nothing_numbered, numbers_of, trips_listed}
 use Rattle.gtfs_runs.proofs.PlaceFinds.{nothing_found}
-use Rattle.gtfs_runs.proofs.stop_lanes.indexed.found_at_rows.Goals as goal
+use Rattle.gtfs_runs.proofs.stop_lanes.indexed.found_in_index.Goals as goal
 
 pub add_rows-requires-clause-rows : goal.add_rows-requires-clause-rows
 add_rows-requires-clause-rows c =
-    subst (λ (r : Times × Parts). ArePlaceRows (timed_parts r.0 r.1) c.args.stop.0 0 c.args.rows.now) (λ i. (sym c.times-times.ensures i, sym c.feed-feed.ensures i)) c.requires
+    subst (λ l. ArePlaceRows (timed_parts c.times-times.result c.feed-feed.result.now) c.args.stop.0 0 l) (sym c.deref.ensures.value)
+    (subst (λ (r : Times × Parts). ArePlaceRows (timed_parts r.0 r.1) c.args.stop.0 0 c.in_ok-rows.rows.items) (λ i. (sym c.times-times.ensures i, sym c.feed-feed.ensures i)) c.in_ok-rows.ensures)
 
 pub add_rows-requires-clause-trips : goal.add_rows-requires-clause-trips
 add_rows-requires-clause-trips c = subst (λ p. AreIndexedTrips p c.trips-trips.result.now) (sym c.feed-feed.ensures) c.trips-trips.ensures

@@ -1,8 +1,0 @@
-use Rattle.std.proofs.Common.{◌≡◌, map, take}
-use Rattle.gtfs_rows.specs.Trips.{stop_rows_by_trip}
-use Rattle.gtfs_runs.specs.steps.Passings.{first_left}
-use Rattle.gtfs_runs.proofs.stop_index.indexed_trips.started_trips.Given as goal
-
--- the trips so far
-abbrev pub invariant-loop-number : goal.invariant-loop-number
-invariant-loop-number l = map (λ x. x.start) l.trips.items ≡ map first_left (take l.number (stop_rows_by_trip l.feed))

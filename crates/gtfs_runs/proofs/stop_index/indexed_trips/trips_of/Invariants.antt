@@ -1,0 +1,12 @@
+use Rattle.std.proofs.Common.{◌≡◌, map, take}
+use Rattle.gtfs_rows.specs.Trips.{stop_rows_by_trip}
+use Rattle.gtfs_runs.specs.steps.Groups.{AreOfTrips}
+use Rattle.gtfs_runs.specs.steps.Passings.{first_left}
+use Rattle.gtfs_runs.proofs.stop_index.indexed_trips.trips_of.Given as goal
+
+-- the trips so far
+abbrev pub invariant-loop-number : goal.invariant-loop-number
+invariant-loop-number l = record {
+  trips : AreOfTrips l.feed l.number l.trips.items;
+  started : map (λ x. x.start) l.indexed.items ≡ map first_left (take l.number (stop_rows_by_trip l.feed));
+}
