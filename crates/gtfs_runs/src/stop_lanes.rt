@@ -67,14 +67,14 @@ impl StopLanes {
     /// The lanes of the place of a stop, whose number is below [`Feed::stop_count`], and a count of steps, which begins at 0:
     /// nothing else makes one.
     ///
-    /// It looks at each stop time of the feed once, and sorts the trips without frequencies that pass the place by their
+    /// It looks at each stop time of the feed once, and sorts the trips without frequencies that pass the place by service and
     /// stops, and then their events there by numbers. A row of `frequencies.txt` takes the same memory however many runs it
     /// has. A trip with times to fill is copied for as long as it is looked at.
     ///
     /// GTFS Schedule Reference, `stop_times.txt`, `frequencies.txt`, and `parent_station` of `stops.txt`.
     ///
     /// # Errors
-    /// [`OutOfMemory`] where memory ran out.
+    /// [`OutOfMemory`] where memory ran out, or where the feed has more than 4,294,967,296 trips or stop times of a trip.
     pub fn build(
         alloc: Global,
         feed: &Feed,
@@ -99,7 +99,7 @@ impl StopLanes {
     /// The stop's number is below [`Feed::stop_count`] of that feed.
     ///
     /// It looks at the departure rows at the place and at no other stop time, but that a trip with times to fill is looked at
-    /// and copied whole. Beside that it does what [`StopLanes::build`] does with what it found.
+    /// and copied whole. It sorts the events there by numbers, which the index has, and compares no stops.
     ///
     /// GTFS Schedule Reference, `stop_times.txt`, `frequencies.txt`, and `parent_station` of `stops.txt`.
     ///

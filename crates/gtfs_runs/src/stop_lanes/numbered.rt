@@ -97,13 +97,6 @@ fn group_at(
     if goes_on(listed, n) {
         return Ok(listed[n - 1].group);
     }
-    small_number(trips_below(trips, &GroupedTrip::of(feed, listed[n].trip())))
-}
-
-// How many of these trips, which are sorted by group, have a lower one.
-fn trips_below(trips: &[GroupedTrip<'_>], trip: &GroupedTrip<'_>) -> usize
-    requires { IsSorted (λ x y. group_cmp (group_of x) (group_of y)) trips.now }
-    ensures { result ≡ below trips.now (group_of trip.now) }
-{
-    trips.partition_point(|other| group_order(other, trip).is_lt())
+    let trip = GroupedTrip::of(feed, listed[n].trip());
+    small_number(trips.partition_point(|other| group_order(other, &trip).is_lt()))
 }
