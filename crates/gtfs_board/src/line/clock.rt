@@ -24,8 +24,8 @@ pub(crate) fn push_clock(text: &mut String, civil: Civil)
     push_ascii(text, &clock_bytes(civil)[start..end]);
 }
 
-// A tab, a clock and a tab, with room for the sign of a year and the seconds of an offset. Where either is left out, the
-// tab beside it stands in its place.
+// A tab, a clock and a tab, with room for the sign of a year and the seconds of an offset. Where
+// either is left out, the tab beside it stands in its place.
 fn clock_bytes(civil: Civil) -> [u8; 31]
     ensures value { result ≡ codes "\t"
         ++ (if int_lt civil.year (pos 0) then codes "-" else codes "\t")
@@ -74,7 +74,8 @@ fn before_offset(offset: i32) -> u8
     if offset < 0 { b'-' } else { b'+' }
 }
 
-// What stands after the minutes of an offset of so many seconds: a colon before more seconds, or the tab.
+// What stands after the minutes of an offset of so many seconds: a colon before more seconds, or
+// the tab.
 fn after_minutes(offset: u32) -> u8
     ensures value { result ∷ [] ≡ (if offset % 60 == 0 then codes "\t" else codes ":") }
     ensures ascii { result < 128 }

@@ -15,7 +15,8 @@ use std::marker::Model;
 pub struct Merge<S: Source> {
     alloc: Global,
     source: S,
-    // The next event, which stands outside the queue so that the least of the others is known before it is taken.
+    // The next event, which stands outside the queue so that the least of the others is known
+    // before it is taken.
     first: Option<Candidate>,
     others: Queue,
     // The first service day that is not opened.

@@ -13,8 +13,8 @@ use std::marker::Model;
 
 // The candidates that wait, of which the first can be taken.
 //
-// Those that came together are sorted once, and are taken from the end of a list. What lanes give afterwards, one at a time,
-// waits in a heap.
+// Those that came together are sorted once, and are taken from the end of a list. What lanes give
+// afterwards, one at a time, waits in a heap.
 #[derive(Drop)]
 pub struct Queue {
     // The last comes first.
@@ -65,7 +65,8 @@ impl Queue {
         }
     }
 
-    // A head and what was gathered join those that wait, and the first of all leaves. A refused queue is as it was.
+    // A head and what was gathered join those that wait, and the first of all leaves. A refused
+    // queue is as it was.
     pub fn join(
         &mut self,
         head: Option<Candidate>,
@@ -86,7 +87,8 @@ impl Queue {
         Ok(self.pop())
     }
 
-    // A head, if there is one, joins those that wait, and the first of all leaves. A refused queue is as it was.
+    // A head, if there is one, joins those that wait, and the first of all leaves. Mostly it takes
+    // the place of the top of the heap. A refused queue is as it was.
     fn exchange(&mut self, head: Option<Candidate>) -> Result<Option<Candidate>, OutOfMemory>
         ensures kept { OnErr result (self.new ≡ self.old) }
         ensures counts { IfOk result (λ o. HaveSameMembers (option_to_list o ++ self.new)
@@ -133,7 +135,8 @@ impl Queue {
     }
 }
 
-// Whether the top of the heap is the first of all: it comes before the last of the sorted ones, or is alone.
+// Whether the top of the heap is the first of all: it comes before the last of the sorted ones,
+// or is alone.
 fn is_top_first(sorted: &[Candidate], heap: &BinaryHeap<Candidate>) -> bool
     requires sorted { IsSorted (flip_args candidate_cmp) sorted.now }
     requires heap { IsHeap (flip_args candidate_cmp) (heap_items heap.now) }
