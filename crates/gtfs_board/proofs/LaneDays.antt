@@ -372,18 +372,6 @@ idle_none p n v day from d is from_is none since = elim (cases_int d first_servi
   | inr later ↦ serves_is p n v d is ∙ none d (omega (arith, ints, clamps, from_is, since, later))
 ]
 
-pub origin_some : (p : Parts) (n : ℕ) (v : ServiceDates) (d o z : ℤ) → option_map (λ s. s.service) (slice_get p.services n) ≡ Some v → is_active v d ≡ true → o ≡ z
-    → Some o ≡ cond (serves_on p n d) (Some z) None
-origin_some p n v d o z is active same = rw (serves_is p n v d is ∙ active) (ap Some same)
-
-pub some_if : (b : Bool) (x z : ℤ) → Some x ≡ cond b (Some z) None → (b ≡ true) × (x ≡ z)
-some_if true x z e = (refl, ap (λ o. unwrap_or o x) e)
-some_if false x z e = cc
-
-pub none_if : (b : Bool) (z : ℤ) → None ≡ cond b (Some z) None → b ≡ false
-none_if true z e = cc
-none_if false z e = refl
-
 small_from : (d o : ℤ) → first_service_day ≤ℤ d → d ≤ℤ last_service_day → IsWithin 93_599 (d *ℤ pos 86_400 -ℤ o) → (negsuc 999_999_999_999 ≤ℤ o) × (o ≤ℤ pos 999_999_999_999)
 small_from d o low high near = (omega (arith, ints, low, high, near.1), omega (arith, ints, low, high, near.0))
 

@@ -227,6 +227,18 @@ sorted_in list heap fresh joined new is sort x =
     let f = tally-append t list heap in
     omega (arith, a, b, d, e, f)
 
+-- a heap took in a list
+pub heaped_in : (list heap fresh added new : List Candidate) → IsPermutation fresh added → IsPermutation (heap ++ added) new → HaveSameMembers (list ++ new) ((list ++ heap) ++ fresh)
+heaped_in list heap fresh added new from join x =
+    let t = same candidate_lt x in
+    let a = tally-permutation t fresh added from in
+    let b = tally-permutation t (heap ++ added) new join in
+    let d = tally-append t heap added in
+    let e = tally-append t list new in
+    let f = tally-append t (list ++ heap) fresh in
+    let h = tally-append t list heap in
+    omega (arith, a, b, d, e, f, h)
+
 -- the first leaves once a head, if any, and a list have joined
 pub joined_left : (all fresh more joined new : List Candidate) (head o : Option Candidate) → more ≡ fresh ++ option_to_list head → HaveSameMembers joined (all ++ more)
     → HaveSameMembers (option_to_list o ++ new) joined → HaveSameMembers (option_to_list o ++ new) ((all ++ option_to_list head) ++ fresh)

@@ -1,6 +1,6 @@
 //! The departures of the lanes of a stop, day by day.
-ghost use Rattle.std.specs.Prelude.{◌≡◌, ◌<◌, ◌≤◌, ◌+◌, ℤ, false, length, pos, negsuc, ◌+ℤ◌, ◌≤ℤ◌, ◌<ℤ◌, find, true, IfOk, None, Some, option_map, slice_get, if◌then◌else◌};
-ghost use Rattle.gtfs_days.specs.Service.{first_service_day, is_service_day, last_service_day, service_days};
+ghost use Rattle.std.specs.Prelude.{◌≡◌, ◌<◌, ◌≤◌, ◌+◌, ℤ, false, length, pos, negsuc, ◌+ℤ◌, ◌≤ℤ◌, ◌<ℤ◌, find, true, None, Some, option_map, slice_get, if◌then◌else◌};
+ghost use Rattle.gtfs_days.specs.Service.{first_service_day, last_service_day, service_days};
 ghost use Rattle.gtfs_days.specs.Zone.{zone_origin};
 ghost use Rattle.gtfs_runs.specs.Order.{is_above, is_later};
 ghost use Rattle.gtfs_runs.specs.StopLanes.{lanes_of};
@@ -105,21 +105,14 @@ impl<'a> Days<'a> {
         self.lane(lane).next(self.feed, event, steps)
     }
 
-    // The origin of a day, if the service of a lane runs on it.
-    fn origin(&self, lane: usize, day: i32) -> Result<Option<i64>, OutOfMemory>
-        requires { lane < length (lanes_of self.now.lanes) }
-        ensures { IfOk result (λ o. o
-            ≡ (if serves_on self.now.feed.now (lane_at self.now.lanes lane).service day
-            then Some (zone_origin self.now.zone.now day) else None)) }
+    // Whether the service of a lane runs on a service day.
+    fn runs(&self, lane: usize, day: i32) -> bool
+        requires lane { lane < length (lanes_of self.now.lanes) }
+        requires from { first_service_day ≤ℤ day }
+        requires to { day ≤ℤ last_service_day }
+        ensures { result ≡ serves_on self.now.feed.now (lane_at self.now.lanes lane).service day }
     {
-        if !is_service_day(day) {
-            return Ok(None);
-        }
-        let date = Day::from_number(day);
-        if !self.service(lane).active(date) {
-            return Ok(None);
-        }
-        Ok(Some(self.zone.origin(self.alloc, date)?))
+        self.service(lane).active(Day::from_number(day))
     }
 
     // The first day from this one on on which the service of a lane runs: the one after the last where there is none.
@@ -175,13 +168,6 @@ impl<'a> Days<'a> {
     }
 }
 
-// Whether services can run on the day.
-fn is_service_day(day: i32) -> bool
-    ensures { result ≡ is_service_day day }
-{
-    FIRST_SERVICE_DAY <= day && day <= LAST_SERVICE_DAY
-}
-
 // The departure that an event of a lane is on a day with this origin.
 fn departing(origin: i64, day: i32, lane: usize, event: Event) -> Candidate
     requires low { negsuc 999_999_999_999 ≤ℤ origin }
@@ -226,6 +212,8 @@ impl Source for Days<'_> {
 
     ghost days = { λ s. service_days };
 
+    ghost origins = { λ s. zone_origin s.zone.now };
+
     ghost events = { λ s. departures_on s.feed.now (zone_origin s.zone.now) s.lanes s.end };
 
     ghost all = { λ s. all_departures s.feed.now (zone_origin s.zone.now) s.lanes s.end };
@@ -266,17 +254,22 @@ impl Source for Days<'_> {
         first
     }
 
+    fn origin(&self, day: i32) -> Result<i64, OutOfMemory> {
+        self.zone.origin(self.alloc, Day::from_number(day))
+    }
+
     fn head(
         &self,
         lane: usize,
         day: i32,
+        origin: i64,
         floor: &Candidate,
         steps: &mut Steps,
-    ) -> Result<Option<Candidate>, OutOfMemory> {
-        let origin = self.origin(lane, day)?;
-        match origin {
-            Some(origin) => Ok(self.head_on(lane, day, origin, floor, steps)),
-            None => Ok(None),
+    ) -> Option<Candidate> {
+        if self.runs(lane, day) {
+            self.head_on(lane, day, origin, floor, steps)
+        } else {
+            None
         }
     }
 

@@ -77,6 +77,7 @@ fn least_waiting(queue: &Queue, end: i64) -> i64
 }
 
 // The heads of all lanes on a day join those that wait, and the least instant so far is answered.
+// The origin of the day is asked for once.
 fn open_day<S: Source>(
     source: &S,
     day: i32,
@@ -85,15 +86,18 @@ fn open_day<S: Source>(
     mut least: i64,
     steps: &mut Steps,
 ) -> Result<i64, OutOfMemory>
-    requires { IsAside floor.now day (S.count source.now) }
+    requires from { S.first source.now ≤ℤ day }
+    requires to { day ≤ℤ S.last source.now }
+    requires aside { IsAside floor.now day (S.count source.now) }
     ensures heads { OnOk result (fresh.new.items
         ≡ fresh.old.items ++ heads_on (S.events source.now) floor.now day (S.count source.now)) }
     ensures least { IfOk result (λ t. t
         ≡ least_from least (heads_on (S.events source.now) floor.now day (S.count source.now))) }
     ensures steps { OnOk result (steps.new ≤ steps.old + S.count source.now) }
 {
+    let origin = source.origin(day)?;
     for lane in 0..source.count() {
-        let head = source.head(lane, day, floor, steps)?;
+        let head = source.head(lane, day, origin, floor, steps);
         least = keep(fresh, head, least)?;
     }
     Ok(least)

@@ -13,8 +13,8 @@ use std::marker::Model;
 
 // The candidates that wait, of which the first can be taken.
 //
-// Those that came together are sorted once, and are taken from the end of a list. What lanes give
-// afterwards, one at a time, waits in a heap.
+// Many that came together are sorted, and are taken from the end of a list. Few that came together,
+// and what lanes give one at a time, wait in a heap.
 #[derive(Drop)]
 pub struct Queue {
     // The last comes first.
@@ -83,7 +83,7 @@ impl Queue {
         if let Some(head) = head {
             fresh.push(head)?;
         }
-        self.sort_in(fresh)?;
+        self.take_in(fresh)?;
         Ok(self.pop())
     }
 
@@ -123,6 +123,21 @@ impl Queue {
         }
     }
 
+    // What was gathered joins those that wait. A refused queue is as it was.
+    //
+    // A list is sorted again only where as many come, so that over time the sorting costs no more
+    // than a heap would.
+    fn take_in(&mut self, fresh: Vec<Candidate>) -> Result<(), OutOfMemory>
+        ensures kept { OnErr result (self.new ≡ self.old) }
+        ensures counts { OnOk result (HaveSameMembers self.new (self.old ++ fresh.items)) }
+    {
+        if self.sorted.len() <= fresh.len() {
+            self.sort_in(fresh)
+        } else {
+            self.add_to_heap(fresh)
+        }
+    }
+
     // Sorts in what was gathered. A refused queue is as it was.
     fn sort_in(&mut self, mut fresh: Vec<Candidate>) -> Result<(), OutOfMemory>
         ensures kept { OnErr result (self.new ≡ self.old) }
@@ -131,6 +146,16 @@ impl Queue {
         fresh.append(&mut self.sorted)?;
         fresh.sort_unstable();
         self.sorted = fresh;
+        Ok(())
+    }
+
+    // What was gathered joins the heap. A refused queue is as it was.
+    fn add_to_heap(&mut self, fresh: Vec<Candidate>) -> Result<(), OutOfMemory>
+        ensures kept { OnErr result (self.new ≡ self.old) }
+        ensures counts { OnOk result (HaveSameMembers self.new (self.old ++ fresh.items)) }
+    {
+        let mut fresh = BinaryHeap::from(fresh);
+        self.heap.append(&mut fresh)?;
         Ok(())
     }
 }

@@ -27,6 +27,9 @@ pub trait Source {
     // All service days.
     ghost days: { Self → List ℤ };
 
+    // The origin of each day.
+    ghost origins: { Self → ℤ → ℤ };
+
     // The events of a lane on a day.
     ghost events: { Self → ℕ → ℤ → List Candidate };
 
@@ -64,18 +67,28 @@ pub trait Source {
         ensures within { result ≤ℤ (last self.now +ℤ pos 1) }
         ensures skips { (i : ℕ) (d : ℤ) → day ≤ℤ d → d <ℤ result → events self.now i d ≡ [] };
 
-    // The first event of a lane on a day above a floor, which lies on an earlier day or belongs to no lane. It may ask the
-    // lane once.
+    // The origin of a service day, which its lanes share.
+    fn origin(&self, day: i32) -> Result<i64, OutOfMemory>
+        requires from { first self.now ≤ℤ day }
+        requires to { day ≤ℤ last self.now }
+        ensures { IfOk result (λ o. o ≡ origins self.now day) };
+
+    // The first event of a lane above a floor, on a service day with this origin. The floor lies on
+    // an earlier day or belongs to no lane. It may ask the lane once.
     fn head(
         &self,
         lane: usize,
         day: i32,
+        origin: i64,
         floor: &Candidate,
         steps: &mut Steps,
-    ) -> Result<Option<Candidate>, OutOfMemory>
+    ) -> Option<Candidate>
         requires inside { lane < count self.now }
+        requires from { first self.now ≤ℤ day }
+        requires to { day ≤ℤ last self.now }
+        requires origin { origin ≡ origins self.now day }
         requires aside { IsAside floor.now day (count self.now) }
-        ensures first { IfOk result (λ o. o ≡ first_above floor.now (events self.now lane day)) }
+        ensures first { result ≡ first_above floor.now (events self.now lane day) }
         ensures steps { steps.new ≤ steps.old + 1 };
 
     // The event after one, in its lane on its day. It may ask the lane once.

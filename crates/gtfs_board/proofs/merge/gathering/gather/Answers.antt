@@ -35,8 +35,14 @@ loop-fresh-init g c =
       steps = λ low from. rw (least_is, r.1) (le_refl _);
     }
 
-pub open_day-requires : goal.open_day-requires
-open_day-requires g c = aside_later c.args.floor.now c.args.day (to_z w32 c.loop-fresh.day-bits) (g.S.Source.count c.args.source.now) (rw (to_z-of_z w32 c.args.day c.ranges.day) at c.loop-fresh.invariant.up) c.requires.aside
+pub open_day-requires-clause-from : goal.open_day-requires-clause-from
+open_day-requires-clause-from g c = le_chain (g.S.Source.first c.args.source.now) c.args.day (to_z w32 c.loop-fresh.day-bits) c.requires.from (rw (to_z-of_z w32 c.args.day c.ranges.day) at c.loop-fresh.invariant.up)
+
+pub open_day-requires-clause-to : goal.open_day-requires-clause-to
+open_day-requires-clause-to g c = rw c.loop-fresh.invariant.last at (c.loop-fresh-test.ensures.due (search rules)).0
+
+pub open_day-requires-clause-aside : goal.open_day-requires-clause-aside
+open_day-requires-clause-aside g c = aside_later c.args.floor.now c.args.day (to_z w32 c.loop-fresh.day-bits) (g.S.Source.count c.args.source.now) (rw (to_z-of_z w32 c.args.day c.ranges.day) at c.loop-fresh.invariant.up) c.requires.aside
 
 pub next_day-day-requires : goal.next_day-day-requires
 next_day-day-requires g c =

@@ -15,16 +15,16 @@ loop-lane-init g c = record {
 pub loop-lane-preserved : goal.loop-lane-preserved
 loop-lane-preserved g c =
     let i = c.loop-lane.invariant in
-    let first = c.in_ok-head.ensures.first in
+    let first = c.head-head.ensures.first in
     let kept = c.in_ok-least.ensures in
     record {
       heads = opened_more _ _ _ _ _ _ _ _ kept.heads i.heads first;
       least = let fits : SFits w64 c.in_ok-least.least = search rules in to_z-of_z w64 c.in_ok-least.least fits ∙ least_more _ _ _ _ _ _ _ _ kept.least i.least first;
-      steps = omega (arith, c.in_ok-head.ensures.steps);
+      steps = omega (arith, c.head-head.ensures.steps);
     }
 
-pub returns-in_err-head : goal.returns-in_err-head
-returns-in_err-head g c =
+pub returns-in_err-origin : goal.returns-in_err-origin
+returns-in_err-origin g c =
     let r = c.from_residual.result in
     let refused = c.from_residual.ensures.1 in
     record { heads = none-done r _ _ refused; least = none-made r _ _ refused; steps = none-done r _ _ refused }

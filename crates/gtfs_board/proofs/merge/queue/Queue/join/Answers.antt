@@ -11,4 +11,4 @@ returns-clause-counts c =
       | in-Some+in_ok-push w ↦ rw (w.fresh-is, w.in-Some.is) w.in_ok-push.ensures.items
       | in_default w ↦ rw (w.fresh-is, w.in_default.is) (sym (append-nil fresh))
     ] in
-    joined_left c.args.self.now fresh c.match-head.fresh.items c.sort_in.new.self c.pop.new.self c.args.head c.pop.result more c.in_ok-sort_in.ensures.counts c.pop.ensures.counts
+    joined_left c.args.self.now fresh c.match-head.fresh.items c.take_in.new.self c.pop.new.self c.args.head c.pop.result more c.in_ok-take_in.ensures.counts c.pop.ensures.counts
