@@ -1,5 +1,5 @@
 -- The numbers of the groups of all trips of a feed: how they are made, and that they compare like the groups.
-use Rattle.std.proofs.Common.{◌≡◌, ◌≤◌, ◌<◌, ◌+◌, ◌-◌, ◌++◌, ◌∙◌, ◌==◌, ◌&&◌, ℕ, zero, suc, Bool, true, false, not, cond, List, [], ◌∷◌, Option, Some, None, length, map, take, get_or, nat_lt, refl, sym, ap, subst, arith, inl, inr, ◌≢◌, get_or-set_other, get_or-set_same}
+use Rattle.std.proofs.Common.{◌≡◌, ◌≤◌, ◌<◌, ◌+◌, ◌-◌, ◌++◌, ◌∙◌, ◌==◌, ◌&&◌, ℕ, suc, Bool, true, false, not, cond, List, [], ◌∷◌, Some, length, map, take, get_or, nat_lt, refl, sym, ap, subst, arith, inl, inr, ◌≢◌, get_or-set_other, get_or-set_same}
 use Rattle.std.specs.Prelude.{option_map, unwrap_or}
 use Rattle.std.specs.List.{All, slice_get, slice_set}
 use Rattle.std.specs.List.Sorted.{IsPermutation, IsSorted}

@@ -1,4 +1,4 @@
-use Rattle.std.proofs.Common.{◌≡◌, ◌+◌, ◌++◌, ◌∙◌, ℕ, cond, sym, ap, subst}
+use Rattle.std.proofs.Common.{◌+◌, ◌++◌, ◌∙◌, cond, sym, ap, subst}
 use Rattle.std.proofs.lemmas.Option.{get_or_from_slice_get, slice_get_within}
 use Rattle.gtfs_rows.specs.Order.{Ascends}
 use Rattle.gtfs_rows.specs.Views.{IsSoundParts}
@@ -8,7 +8,7 @@ use Rattle.gtfs_runs.specs.Counts.{tally}
 use Rattle.gtfs_runs.specs.StopIndex.{departure_row_cmp, is_row}
 use Rattle.gtfs_runs.specs.declared.stop_index.children.Child.{Child}
 use Rattle.gtfs_runs.specs.steps.Entries.{departs_of}
-use Rattle.gtfs_runs.specs.steps.Places.{ArePlaceRows, departs_in_place}
+use Rattle.gtfs_runs.specs.steps.Places.{ArePlaceRows}
 use Rattle.gtfs_runs.proofs.ChildFacts.{children_within}
 use Rattle.gtfs_runs.proofs.LaneTallies.{plus-zero}
 use Rattle.gtfs_runs.proofs.PlaceRows.{are-place-rows, place_sum, rows-in-order, told_at}

@@ -1,4 +1,4 @@
-use Rattle.std.proofs.Common.{◌≤◌, ◌<◌, ◌∙◌, ◌==◌, length, sym, ap, arith, inl, inr, true, false}
+use Rattle.std.proofs.Common.{◌≤◌, ◌<◌, ◌∙◌, length, sym, arith}
 use Rattle.gtfs_runs.specs.declared.stop_index.DepartureRow.{DepartureRow}
 use Rattle.gtfs_runs.proofs.PlaceRows.{first_ones, one_row_more, other_trip}
 use Rattle.gtfs_runs.proofs.stop_lanes.indexed.rows_of.Goals as goal

@@ -1,4 +1,4 @@
-use Rattle.std.proofs.Common.{◌≤◌, ◌∙◌, ap, arith}
+use Rattle.std.proofs.Common.{◌∙◌, ap, arith}
 use Rattle.std.proofs.lemmas.List.{get_or_default}
 use Rattle.gtfs_runs.specs.steps.Groups.{trip_group}
 use Rattle.gtfs_runs.proofs.Numbers.{trips_kept, trips_more}
