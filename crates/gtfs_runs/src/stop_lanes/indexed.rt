@@ -14,9 +14,10 @@ ghost use Rattle.gtfs_times.specs.TimedRows.{timed_parts};
 
 use crate::step_lane::StepLane;
 use crate::stop_index::{DepartureRow, IndexedTrip, StopIndex, place_rows, trip_at};
-use crate::stop_lanes::at_rows::passings_at;
+use crate::stop_lanes::at_rows::put_passings_at;
 use crate::stop_lanes::found::{Found, add_passings};
 use crate::stop_lanes::listed::Listed;
+use crate::stop_lanes::passing::Passing;
 use gtfs_feed::Feed;
 use gtfs_field::OutOfMemory;
 use gtfs_rows::{StopNo, TripNo};
@@ -78,6 +79,7 @@ fn add_rows(
         → All (λ x. (slice_index_or trips.now x.trip e).group ≡ x.group) listed.new.items) }
 {
     feed.soundness();
+    let mut passings = Vec::new(alloc);
     let mut at = 0;
     while at < rows.len() {
         at += add_trip(
@@ -87,6 +89,7 @@ fn add_rows(
             stop,
             times,
             &rows[at..],
+            &mut passings,
             listed,
             periods,
         )?;
@@ -95,6 +98,7 @@ fn add_rows(
 }
 
 // Adds what leaves the place of the trip of the first of these rows. Answers how many of them are that trip's.
+// The passings are only room for its own.
 fn add_trip(
     alloc: Global,
     feed: &Feed,
@@ -102,6 +106,7 @@ fn add_trip(
     stop: StopNo,
     times: Times,
     rows: &[DepartureRow],
+    passings: &mut Vec<Passing>,
     listed: &mut Vec<Listed>,
     periods: &mut Vec<StepLane>,
 ) -> Result<usize, OutOfMemory>
@@ -127,8 +132,9 @@ fn add_trip(
     let trip = rows[0].trip();
     let count = rows_of(rows, trip);
     let indexed = trip_at(trips, trip);
-    let passings = passings_at(alloc, feed, times, trip, indexed.start, &rows[..count])?;
-    add_passings(feed, trip, indexed, &passings, listed, periods)?;
+    let own = &rows[..count];
+    put_passings_at(alloc, feed, times, trip, indexed.start, own, passings)?;
+    add_passings(feed, trip, indexed, passings, listed, periods)?;
     Ok(count)
 }
 

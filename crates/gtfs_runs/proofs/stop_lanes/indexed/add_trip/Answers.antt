@@ -24,8 +24,8 @@ rows_of-count-requires-clause-first c = λ d k within.
     let low = first_lowest n xs c.requires.rows.in_order k d within in
     omega (arith, low, same)
 
-pub passings_at-requires-clause-trip : goal.passings_at-requires-clause-trip
-passings_at-requires-clause-trip c =
+pub put_passings_at-requires-clause-trip : goal.put_passings_at-requires-clause-trip
+put_passings_at-requires-clause-trip c =
     let p = c.args.feed.now in
     let q = timed_parts c.args.times p in
     let xs = c.args.rows.now in
@@ -44,8 +44,8 @@ add_passings-requires-clause-trip c =
     let same : first_trip (length p.trips) xs ≡ t = first_is (length p.trips) xs x c.requires.some ∙ sym c.trip-trip.ensures in
     first_within q c.args.stop.0 t xs (subst (λ n. ArePlaceRows q c.args.stop.0 n xs) same c.requires.rows) same c.requires.some
 
-pub passings_at-requires-clause-within : goal.passings_at-requires-clause-within
-passings_at-requires-clause-within c =
+pub put_passings_at-requires-clause-within : goal.put_passings_at-requires-clause-within
+put_passings_at-requires-clause-within c =
     let p = c.args.feed.now in
     let q = timed_parts c.args.times p in
     let sound = sound-timed p c.soundness.ensures c.args.times in
@@ -78,8 +78,8 @@ returns c =
     let own : 0 < length (take n xs) = omega (arith, some, length-take-le n xs upto) in
     let left = left_rows q s t n xs are is in
     let last : t + 1 ≤ length q.trips = omega (arith, within) in
-    let passed = are-passings q sound s t within (take n xs) c.deref.result.now (own_up q s t n xs are is) (own_trip q s t n xs are is) (own_all q s t n xs are is)
-    (λ rows d at. c.deref.ensures.value ∙ c.in_ok-passings.ensures.passings rows d at) own in
+    let passed = are-passings q sound s t within (take n xs) _ (own_up q s t n xs are is) (own_trip q s t n xs are is) (own_all q s t n xs are is)
+    (λ rows d at. c.deref.ensures.value ∙ c.in_ok-put_passings_at.ensures.passings rows d at) own in
     record {
       some = some;
       upto = upto;
@@ -102,8 +102,8 @@ trip_at-indexed-requires c =
     let within : t < length p.trips = first_within q c.args.stop.0 t xs (subst (λ n. ArePlaceRows q c.args.stop.0 n xs) same c.requires.rows) same c.requires.some in
     omega (arith, within, trips_counted p c.soundness.ensures c.args.trips.now c.requires.trips.starts)
 
-pub passings_at-requires-clause-start : goal.passings_at-requires-clause-start
-passings_at-requires-clause-start c =
+pub put_passings_at-requires-clause-start : goal.put_passings_at-requires-clause-start
+put_passings_at-requires-clause-start c =
     let p = c.args.feed.now in
     let q = timed_parts c.args.times p in
     let xs = c.args.rows.now in

@@ -1,27 +1,27 @@
 use Rattle.std.proofs.Common.{◌∙◌, length, refl, sym}
-use Rattle.std.proofs.lemmas.Result.{IfOk-weaker}
-use Rattle.gtfs_runs.proofs.Pushes.{none-made}
+use Rattle.std.proofs.lemmas.Result.{on_ok_weaker}
+use Rattle.gtfs_runs.proofs.Pushes.{none-done}
 use Rattle.gtfs_runs.proofs.TimedTrips.{filled_under, passed_at, rows_timed, times_of}
-use Rattle.gtfs_runs.proofs.stop_lanes.at_rows.passings_at.Goals as goal
+use Rattle.gtfs_runs.proofs.stop_lanes.at_rows.put_passings_at.Goals as goal
 
-pub passings_among-requires-clause-within : goal.passings_among-requires-clause-within
-passings_among-requires-clause-within c =
+pub put_passings_among-requires-clause-within : goal.put_passings_among-requires-clause-within
+put_passings_among-requires-clause-within c =
     c.requires.within _
     (rows_timed c.args.times c.args.feed.now c.soundness.ensures c.args.trip.0 c.trip_rows-rows.result.now _ c.trip_rows-rows.ensures
     (c.deref.ensures.value ∙ c.in_ok-filled.ensures ∙ filled_under c.args.times c.trip_rows-rows.result.now (sym c.is_to_fill.ensures.value ∙ c.if-is_to_fill.true)))
 
-pub passings_among-requires-clause-to : goal.passings_among-requires-clause-to
-passings_among-requires-clause-to c =
+pub put_passings_among-requires-clause-to : goal.put_passings_among-requires-clause-to
+put_passings_among-requires-clause-to c =
     (times_of c.args.times c.args.feed.now c.soundness.ensures c.args.trip.0 (length c.args.feed.now.stops) c.trip_rows-rows.result.now _ c.trip_rows-rows.ensures
     (c.deref.ensures.value ∙ c.in_ok-filled.ensures ∙ filled_under c.args.times c.trip_rows-rows.result.now (sym c.is_to_fill.ensures.value ∙ c.if-is_to_fill.true)) refl).to
 
-pub passings_among-requires-2-clause-within : goal.passings_among-requires-2-clause-within
-passings_among-requires-2-clause-within c =
+pub put_passings_among-requires-2-clause-within : goal.put_passings_among-requires-2-clause-within
+put_passings_among-requires-2-clause-within c =
     c.requires.within _
     (rows_timed c.args.times c.args.feed.now c.soundness.ensures c.args.trip.0 c.trip_rows-rows.result.now _ c.trip_rows-rows.ensures (sym (c.is_to_fill.ensures.kept c.if-is_to_fill.false)))
 
-pub passings_among-requires-2-clause-to : goal.passings_among-requires-2-clause-to
-passings_among-requires-2-clause-to c =
+pub put_passings_among-requires-2-clause-to : goal.put_passings_among-requires-2-clause-to
+put_passings_among-requires-2-clause-to c =
     (times_of c.args.times c.args.feed.now c.soundness.ensures c.args.trip.0 (length c.args.feed.now.stops) c.trip_rows-rows.result.now _ c.trip_rows-rows.ensures
     (sym (c.is_to_fill.ensures.kept c.if-is_to_fill.false)) refl).to
 
@@ -30,10 +30,10 @@ returns-then-is_to_fill c =
     let rows = c.trip_rows-rows.result.now in
     let is = c.deref.ensures.value ∙ c.in_ok-filled.ensures ∙ filled_under c.args.times rows (sym c.is_to_fill.ensures.value ∙ c.if-is_to_fill.true) in
     record {
-      passings = IfOk-weaker c.passings_among.result _ _
-          (λ found told. passed_at c.args.times c.args.feed.now c.soundness.ensures c.args.trip.0 rows _ c.args.own.now found.items c.trip_rows-rows.ensures is told)
-          c.passings_among.ensures.passings;
-      after = c.passings_among.ensures.after;
+      passings = on_ok_weaker c.put_passings_among.result
+          (λ told. passed_at c.args.times c.args.feed.now c.soundness.ensures c.args.trip.0 rows _ c.args.own.now _ c.trip_rows-rows.ensures is told)
+          c.put_passings_among.ensures.passings;
+      after = c.put_passings_among.ensures.after;
     }
 
 pub returns : goal.returns
@@ -41,14 +41,14 @@ returns c =
     let rows = c.trip_rows-rows.result.now in
     let is = sym (c.is_to_fill.ensures.kept c.if-is_to_fill.false) in
     record {
-      passings = IfOk-weaker c.passings_among-2.result _ _
-          (λ found told. passed_at c.args.times c.args.feed.now c.soundness.ensures c.args.trip.0 rows _ c.args.own.now found.items c.trip_rows-rows.ensures is told)
-          c.passings_among-2.ensures.passings;
-      after = c.passings_among-2.ensures.after;
+      passings = on_ok_weaker c.put_passings_among-2.result
+          (λ told. passed_at c.args.times c.args.feed.now c.soundness.ensures c.args.trip.0 rows _ c.args.own.now _ c.trip_rows-rows.ensures is told)
+          c.put_passings_among-2.ensures.passings;
+      after = c.put_passings_among-2.ensures.after;
     }
 
 pub returns-in_err-filled : goal.returns-in_err-filled
 returns-in_err-filled c =
     let r = c.from_residual.result in
     let refused = c.from_residual.ensures.1 in
-    record { passings = none-made r _ _ refused; after = none-made r _ _ refused }
+    record { passings = none-done r _ _ refused; after = none-done r _ _ refused }

@@ -9,7 +9,7 @@ use Rattle.gtfs_runs.specs.declared.stop_index.DepartureRow.{DepartureRow}
 use Rattle.gtfs_runs.specs.steps.Passings.{passing_at}
 use Rattle.gtfs_runs.specs.steps.Places.{passing_of}
 use Rattle.gtfs_runs.proofs.Pushes.{mapped-all, pushed-more}
-use Rattle.gtfs_runs.proofs.stop_lanes.at_rows.passings_among.Goals as goal
+use Rattle.gtfs_runs.proofs.stop_lanes.at_rows.put_passings_among.Goals as goal
 
 pub passed-requires : goal.passed-requires
 passed-requires c =
@@ -33,7 +33,7 @@ loop-row-preserved c =
           ∙ (λ i. passing_at (c.requires.start i)
           (c.row-in-loop-row.ensures i, (c.index-rows-row.is ∙ get_or_default rows c.row.result c.index-rows-row.result d inside ∙ ap (λ m. get_or rows m d) c.row.ensures) i)));
       after = subst (All (λ y. y.after ≤ 3_599_999)) (sym c.in_ok-push.ensures.items)
-          (All-push (λ y. y.after ≤ 3_599_999) c.loop-row.found.items c.passed.result c.loop-row.invariant.after c.passed.ensures.after);
+          (All-push (λ y. y.after ≤ 3_599_999) c.loop-row.passings.items c.passed.result c.loop-row.invariant.after c.passed.ensures.after);
     }
 
 pub returns : goal.returns
