@@ -441,23 +441,25 @@ kept_some end o d i found e dep r first is some departs kept =
 pub kept_none : (end : ℤ) (o d : ℤ) (i : ℕ) (found : Option Event) (first : Option Candidate) → first ≡ keep (ends_by end) (map_option (departing o d i) found) → found ≡ None → None ≡ first
 kept_none end o d i found first is none = sym (is ∙ ap (λ x. keep (ends_by end) (map_option (departing o d i) x)) none)
 
--- one lane more has no events before the first day on which its service runs
-pub skip_more : (p : Parts) (origin : Origins) (lanes : StopLanesValue) (end day first falls next : ℤ) (n : ℕ) → falls ≡ int_min first next
-    → ((i : ℕ) (d : ℤ) → i < n → day ≤ℤ d → d <ℤ first → departures_on p origin lanes end i d ≡ [])
+-- no service of the first n lanes runs from a day on until another
+abbrev pub AreIdle : Parts → StopLanesValue → ℤ → ℤ → ℕ → Type 0
+AreIdle p lanes day first n = (i : ℕ) (d : ℤ) → i < n → day ≤ℤ d → d <ℤ first → serves_on p (lane_at lanes i).service d ≡ false
+
+-- one lane more, before the first day on which its service runs
+pub idle_more : (p : Parts) (lanes : StopLanesValue) (day first falls next : ℤ) (n : ℕ) → falls ≡ int_min first next → AreIdle p lanes day first n
     → ((d : ℤ) → day ≤ℤ d → d <ℤ next → serves_on p (lane_at lanes n).service d ≡ false)
-    → (i : ℕ) (d : ℤ) → i < n + 1 → day ≤ℤ d → d <ℤ falls → departures_on p origin lanes end i d ≡ []
-skip_more p origin lanes end day first falls next n is old idle i d inside since before = elim (cases_lt i n) [
+    → AreIdle p lanes day falls (n + 1)
+idle_more p lanes day first falls next n is old idle i d inside since before = elim (cases_lt i n) [
   | inl earlier ↦ old i d earlier since (omega (arith, ints, clamps, is, before))
   | inr here ↦
       let same : i ≡ n = omega (arith, inside, here) in
-      on-idle p origin lanes end i d (ap (λ k. serves_on p (lane_at lanes k).service d) same ∙ idle d since (omega (arith, ints, clamps, is, before)))
+      ap (λ k. serves_on p (lane_at lanes k).service d) same ∙ idle d since (omega (arith, ints, clamps, is, before))
 ]
 
-pub skip_all : (p : Parts) (origin : Origins) (lanes : StopLanesValue) (end day first : ℤ) (n : ℕ) → length (lanes_of lanes) ≤ n
-    → ((i : ℕ) (d : ℤ) → i < n → day ≤ℤ d → d <ℤ first → departures_on p origin lanes end i d ≡ [])
+pub skip_all : (p : Parts) (origin : Origins) (lanes : StopLanesValue) (end day first : ℤ) (n : ℕ) → length (lanes_of lanes) ≤ n → AreIdle p lanes day first n
     → (i : ℕ) (d : ℤ) → day ≤ℤ d → d <ℤ first → departures_on p origin lanes end i d ≡ []
-skip_all p origin lanes end day first n all old i d since before = elim (cases_lt i n) [
-  | inl inside ↦ old i d inside since before
+skip_all p origin lanes end day first n all idle i d since before = elim (cases_lt i n) [
+  | inl inside ↦ on-idle p origin lanes end i d (idle i d inside since before)
   | inr past ↦ none_past p origin lanes end i d (omega (arith, all, past))
 ]
 

@@ -1,5 +1,5 @@
 //! The departures of the lanes of a stop, day by day.
-ghost use Rattle.std.specs.Prelude.{◌≡◌, ◌<◌, ◌≤◌, ◌+◌, ℤ, false, length, pos, negsuc, ◌+ℤ◌, ◌≤ℤ◌, ◌<ℤ◌, find, true, None, Some, option_map, slice_get, if◌then◌else◌};
+ghost use Rattle.std.specs.Prelude.{◌≡◌, ◌<◌, ◌≤◌, ◌+◌, ◌-◌, ℤ, false, length, pos, negsuc, ◌+ℤ◌, ◌≤ℤ◌, ◌<ℤ◌, find, true, IsTrue, None, Some, option_map, slice_get, if◌then◌else◌};
 ghost use Rattle.gtfs_days.specs.Service.{first_service_day, last_service_day, service_days};
 ghost use Rattle.gtfs_days.specs.Zone.{zone_origin};
 ghost use Rattle.gtfs_runs.specs.Order.{is_above, is_later};
@@ -85,6 +85,15 @@ impl<'a> Days<'a> {
             ≡ Some result.now }
     {
         self.feed.service_by_number(self.lane(lane).service())
+    }
+
+    // Whether a lane has the service of the lane before it.
+    fn repeats_service(&self, lane: usize) -> bool
+        requires { lane < length (lanes_of self.now.lanes) }
+        ensures { IsTrue result → (0 < lane) × ((lane_at self.now.lanes lane).service
+            ≡ (lane_at self.now.lanes (lane - 1)).service) }
+    {
+        lane > 0 && self.lane(lane).service().0 == self.lane(lane - 1).service().0
     }
 
     // The first event of a lane above a position.
@@ -245,6 +254,10 @@ impl Source for Days<'_> {
     fn next_day(&self, day: i32) -> i32 {
         let mut first = LAST_SERVICE_DAY + 1;
         for lane in 0..self.count() {
+            // Lanes of one service stand together, so most services are asked once.
+            if self.repeats_service(lane) {
+                continue;
+            }
             first = first.min(self.next_active(lane, day));
             // No day comes earlier.
             if first == day {

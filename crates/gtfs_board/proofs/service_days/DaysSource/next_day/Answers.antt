@@ -3,7 +3,7 @@ use Rattle.std.specs.Int.{int_min}
 use Rattle.std.proofs.lemmas.Int.{ints, clamps, to_z-of_z}
 use Rattle.gtfs_days.specs.Zone.{zone_origin}
 use Rattle.gtfs_runs.specs.StopLanes.{lanes_of}
-use Rattle.gtfs_board.proofs.LaneDays.{skip_all, skip_more}
+use Rattle.gtfs_board.proofs.LaneDays.{idle_more, skip_all}
 use Rattle.gtfs_board.proofs.service_days.DaysSource.next_day.Goals as goal
 
 pub loop-lane-preserved : goal.loop-lane-preserved
@@ -23,7 +23,7 @@ loop-lane-preserved c =
     rw (day_is, min_is) (record {
       up = omega (arith, ints, clamps, least, old.up, active.up);
       within = omega (arith, ints, clamps, least, old.within, active.within);
-      skips = skip_more s.feed.now (zone_origin s.zone.now) s.lanes s.end c.args.day first c.min-first.result next c.loop-lane.lane least old.skips active.skips;
+      idle = idle_more s.feed.now s.lanes c.args.day first c.min-first.result next c.loop-lane.lane least old.idle active.skips;
     })
 
 pub returns-clause-skips : goal.returns-clause-skips
@@ -31,4 +31,4 @@ returns-clause-skips c =
     let s = c.args.self.now in
     let past : length (lanes_of s.lanes) ≤ c.loop-lane.lane = search rules in
     let day_is = to_z-of_z w32 c.args.day c.ranges.day in
-    skip_all s.feed.now (zone_origin s.zone.now) s.lanes s.end c.args.day _ c.loop-lane.lane past (rw day_is at c.loop-lane.invariant.skips)
+    skip_all s.feed.now (zone_origin s.zone.now) s.lanes s.end c.args.day _ c.loop-lane.lane past (rw day_is at c.loop-lane.invariant.idle)
