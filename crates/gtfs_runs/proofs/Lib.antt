@@ -31,7 +31,7 @@ pub mod TimedTrips
 pub mod Tallies
 pub mod TripIds
 mod SeekOrder
-mod EntryFacts
+mod AtStopFacts
 mod IndexFacts
 mod NumberParts
 mod ChildFacts

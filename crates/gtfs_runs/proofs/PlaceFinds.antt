@@ -34,7 +34,7 @@ use Rattle.gtfs_runs.specs.steps.Groups.{stops_in}
 use Rattle.gtfs_runs.specs.steps.Finds.{AreFound, stopping_at, times_passed_in, times_told}
 use Rattle.gtfs_runs.specs.steps.Passings.{ArePassings, first_left, leaves, passing_at, passings_of}
 use Rattle.gtfs_runs.specs.steps.Places.{ArePlaceRows, departs_in_place, first_trip, passing_of}
-use Rattle.gtfs_runs.proofs.EntryFacts.{asked_within}
+use Rattle.gtfs_runs.proofs.AtStopFacts.{asked_within}
 use Rattle.gtfs_runs.proofs.PlaceRows.{first_lowest, in_place_of, place_within}
 use Rattle.gtfs_runs.proofs.Tallies.{no_trips}
 use Rattle.gtfs_runs.proofs.TripFinds.{listed_found, periods_found}

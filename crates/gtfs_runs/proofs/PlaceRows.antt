@@ -46,13 +46,13 @@ use Rattle.gtfs_runs.specs.StopIndex.{AreDepartureRows, departs_at, departure_ro
 use Rattle.gtfs_runs.specs.declared.stop_index.DepartureRow.{DepartureRow}
 use Rattle.gtfs_runs.specs.declared.stop_index.children.Child.{Child}
 use Rattle.gtfs_runs.specs.steps.Children.{is_child}
-use Rattle.gtfs_runs.specs.steps.Entries.{departs_of, leaves_stop}
+use Rattle.gtfs_runs.specs.steps.AtStops.{departs_of, leaves_stop}
 use Rattle.gtfs_runs.specs.steps.Passings.{leaves}
 use Rattle.gtfs_runs.specs.steps.Places.{ArePlaceRows, departs_in_place, first_trip}
 use Rattle.gtfs_runs.proofs.ChildFacts.{child_of}
 use Rattle.gtfs_runs.proofs.ContentEvents.{past_trips, row_at}
 use Rattle.gtfs_runs.proofs.ContentRows.{flag_at}
-use Rattle.gtfs_runs.proofs.EntryFacts.{own_rows, trip_within}
+use Rattle.gtfs_runs.proofs.AtStopFacts.{own_rows, rows_total, trip_within}
 use Rattle.gtfs_runs.proofs.IndexFacts.{any_kept}
 use Rattle.gtfs_runs.proofs.LaneTallies.{tally-nothing}
 use Rattle.gtfs_runs.proofs.NumberParts.{first_run}
@@ -87,9 +87,6 @@ place_within p s t r holds = elim (cases_Bool (nat_lt t (length p.trips))) [
 ]
 
 -- ---- the order of departure rows
-
-pub rows_total : IsTotalOrder departure_row_cmp
-rows_total = search (comparing, rules) depth 20
 
 row_itself : (x : DepartureRow) → is_row x.trip x.row x ≡ true
 row_itself x = both_true (itself x.trip) (itself x.row)

@@ -6,6 +6,6 @@ pub mod Lists
 pub mod Apart
 pub mod Whole
 pub mod Numbers
-pub mod Entries
+pub mod AtStops
 pub mod Children
 pub mod Places

@@ -4,15 +4,15 @@ ghost use Rattle.gtfs_runs.specs.StopIndex.{AreDepartureRows};
 ghost use Rattle.gtfs_runs.specs.steps.Children.{is_child};
 ghost use Rattle.gtfs_runs.specs.steps.Groups.{AreIndexedTrips};
 
+mod at_stops;
 mod children;
-mod entries;
 mod indexed_trips;
 mod place_rows;
+mod rooms;
 mod rows_by_stop;
-mod starts;
 
+pub(crate) use crate::stop_index::at_stops::small_number;
 use crate::stop_index::children::{Child, Children};
-pub(crate) use crate::stop_index::entries::small_number;
 use crate::stop_index::indexed_trips::indexed_trips;
 pub(crate) use crate::stop_index::indexed_trips::{IndexedTrip, trip_at};
 pub(crate) use crate::stop_index::place_rows::place_rows;
@@ -56,8 +56,8 @@ impl DepartureRow {
 
 /// The departure rows of a feed by stop, of which the lanes of any stop can be made without a look at the other trips.
 ///
-/// It keeps eight bytes for each departure row, eight for each stop, eight for each stop or platform with a parent, and eight
-/// for each trip.
+/// It keeps a vector for each stop, eight bytes for each stop time, eight for each stop or platform
+/// with a parent, and eight for each trip.
 #[derive(Drop)]
 pub struct StopIndex<'a> {
     feed: &'a Feed,
@@ -82,8 +82,9 @@ impl<'a> StopIndex<'a> {
     /// The index of a feed under a choice of times. Under [`Times::Interpolated`] stop times whose times are filled are
     /// departure rows too.
     ///
-    /// It looks at each stop and each stop time of the feed once, and sorts the departure rows, and the trips by service and
-    /// stops. A trip with times to fill is copied for as long as it is looked at.
+    /// It looks at each stop time of the feed to see how much room each stop needs, and then at each
+    /// for the departure rows, which it does not sort. It sorts the trips by service and stops. A
+    /// trip with times to fill is copied for as long as its departure rows are looked for.
     ///
     /// GTFS Schedule Reference, `stop_times.txt`, and `parent_station` of `stops.txt`.
     ///

@@ -8,7 +8,7 @@ ghost use Rattle.gtfs_runs.specs.steps.Groups.{AreIndexedTrips, AreOfTrips, AreS
 
 use crate::departure_row::trip_start;
 use crate::grouped_trip::{GroupedTrip, by_group, group_order};
-use crate::stop_index::entries::small_number;
+use crate::stop_index::at_stops::small_number;
 use gtfs_feed::Feed;
 use gtfs_field::OutOfMemory;
 use gtfs_rows::TripNo;

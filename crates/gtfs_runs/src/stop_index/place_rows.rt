@@ -1,7 +1,7 @@
 ghost use Rattle.std.specs.Prelude.{◌≡◌, ◌<◌, ◌+◌, ℕ, All, IfOk, OnOk, length};
 ghost use Rattle.gtfs_runs.specs.Counts.{tally};
 ghost use Rattle.gtfs_runs.specs.StopIndex.{is_row};
-ghost use Rattle.gtfs_runs.specs.steps.Entries.{departs_of};
+ghost use Rattle.gtfs_runs.specs.steps.AtStops.{departs_of};
 ghost use Rattle.gtfs_runs.specs.steps.Places.{ArePlaceRows};
 ghost use Rattle.gtfs_times.specs.TimedRows.{timed_parts};
 

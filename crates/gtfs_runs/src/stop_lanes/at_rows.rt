@@ -13,7 +13,8 @@ use gtfs_rows::{StopRow, TripNo};
 use gtfs_times::{Times, filled, is_to_fill};
 use std::alloc::Global;
 
-// Puts the passings of a trip, which starts at a second, at these of its stop times in place of others.
+// Puts the passings of a trip, which starts at a second, at these of its stop times in place of
+// others.
 pub(crate) fn put_passings_at(
     alloc: Global,
     feed: &Feed,

@@ -97,8 +97,8 @@ fn add_rows(
     Ok(())
 }
 
-// Adds what leaves the place of the trip of the first of these rows. Answers how many of them are that trip's.
-// The passings are only room for its own.
+// Adds what leaves the place of the trip of the first of these rows. Answers how many of them are
+// that trip's. The passings are only room for its own.
 fn add_trip(
     alloc: Global,
     feed: &Feed,

@@ -5,7 +5,7 @@ use Rattle.gtfs_times.specs.TimedRows.{timed_parts}
 use Rattle.gtfs_runs.specs.Counts.{tally}
 use Rattle.gtfs_runs.specs.StopIndex.{is_row}
 use Rattle.gtfs_runs.specs.declared.stop_index.children.Child.{Child}
-use Rattle.gtfs_runs.specs.steps.Entries.{departs_of}
+use Rattle.gtfs_runs.specs.steps.AtStops.{departs_of}
 use Rattle.gtfs_runs.proofs.LaneTallies.{plus-zero}
 use Rattle.gtfs_runs.proofs.PlaceRows.{children_more, told_at}
 use Rattle.gtfs_runs.proofs.stop_index.place_rows.add_rows.Goals as goal

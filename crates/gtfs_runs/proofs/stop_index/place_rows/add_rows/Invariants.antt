@@ -2,7 +2,7 @@ use Rattle.std.proofs.Common.{◌≡◌, ◌+◌, ℕ, take}
 use Rattle.gtfs_times.specs.TimedRows.{timed_parts}
 use Rattle.gtfs_runs.specs.Counts.{tally}
 use Rattle.gtfs_runs.specs.StopIndex.{is_row}
-use Rattle.gtfs_runs.specs.steps.Entries.{departs_of}
+use Rattle.gtfs_runs.specs.steps.AtStops.{departs_of}
 use Rattle.gtfs_runs.proofs.stop_index.place_rows.add_rows.Given as goal
 
 -- those of the children so far

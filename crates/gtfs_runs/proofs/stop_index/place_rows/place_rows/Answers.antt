@@ -7,7 +7,7 @@ use Rattle.gtfs_times.specs.TimedRows.{timed_parts}
 use Rattle.gtfs_runs.specs.Counts.{tally}
 use Rattle.gtfs_runs.specs.StopIndex.{departure_row_cmp, is_row}
 use Rattle.gtfs_runs.specs.declared.stop_index.children.Child.{Child}
-use Rattle.gtfs_runs.specs.steps.Entries.{departs_of}
+use Rattle.gtfs_runs.specs.steps.AtStops.{departs_of}
 use Rattle.gtfs_runs.specs.steps.Places.{ArePlaceRows}
 use Rattle.gtfs_runs.proofs.ChildFacts.{children_within}
 use Rattle.gtfs_runs.proofs.LaneTallies.{plus-zero}

@@ -1,0 +1,136 @@
+ghost use Rattle.std.specs.Prelude.{◌≡◌, ◌<◌, ◌+◌, ◌&&◌, ◌==◌, ℕ, All, AllPairs, IfOk, List, OnOk, cond, length, map, slice_get};
+ghost use Rattle.gtfs_columns.specs.Values.{if_there};
+ghost use Rattle.gtfs_rows.specs.Order.{Ascends};
+ghost use Rattle.gtfs_rows.specs.declared.frequency.Frequency.{Frequency};
+ghost use Rattle.gtfs_rows.specs.declared.parts.Parts.{Parts};
+ghost use Rattle.gtfs_rows.specs.declared.trip.Trip.{Trip};
+ghost use Rattle.gtfs_runs.specs.Counts.{tally};
+ghost use Rattle.gtfs_runs.specs.StopIndex.{departure_row_cmp, is_row};
+ghost use Rattle.gtfs_runs.specs.steps.AtStops.{StandBefore, at_stop, departs_of, leaves_stop};
+ghost use Rattle.gtfs_times.specs.TimedRows.{timed_parts};
+
+use crate::departure_row::is_departure_row;
+use crate::stop_index::DepartureRow;
+use crate::stop_index::rooms::rooms;
+use gtfs_feed::Feed;
+use gtfs_field::OutOfMemory;
+use gtfs_rows::{StopRow, TripNo};
+use gtfs_times::{Times, filled, is_to_fill};
+use std::alloc::Global;
+
+// The departure rows at each stop of a feed, by trip and position.
+pub(crate) fn at_stops(
+    alloc: Global,
+    feed: &Feed,
+    times: Times,
+) -> Result<Vec<Vec<DepartureRow>>, OutOfMemory>
+    ensures length { IfOk result (λ found. length found.items ≡ length feed.now.stops) }
+    ensures told { IfOk result (λ found. (s t r : ℕ)
+        → tally (is_row t r) (at_stop (map (λ x. x.items) found.items) s)
+        ≡ cond (departs_of (timed_parts times feed.now) s t r) 1 0) }
+    ensures order { IfOk result (λ found.
+        All (Ascends departure_row_cmp) (map (λ x. x.items) found.items)) }
+{
+    feed.soundness();
+    let mut found = rooms(alloc, feed)?;
+    for number in 0..feed.trip_count() {
+        add_trip(alloc, feed, TripNo(number), times, &mut found)?;
+    }
+    Ok(found)
+}
+
+// Adds the departure rows of a trip.
+fn add_trip(
+    alloc: Global,
+    feed: &Feed,
+    trip: TripNo,
+    times: Times,
+    found: &mut Vec<Vec<DepartureRow>>,
+) -> Result<(), OutOfMemory>
+    requires trip { trip.0 < length feed.now.trips }
+    requires stops { length found.now.items ≡ length feed.now.stops }
+    ensures length { OnOk result (length found.new.items ≡ length found.old.items) }
+    ensures told { OnOk result ((s t r : ℕ)
+        → tally (is_row t r) (at_stop (map (λ x. x.items) found.new.items) s)
+        ≡ tally (is_row t r) (at_stop (map (λ x. x.items) found.old.items) s)
+        + cond ((t == trip.0) && departs_of (timed_parts times feed.now) s t r) 1 0) }
+    ensures order { OnOk result (All (StandBefore trip.0 0) (map (λ x. x.items) found.old.items)
+        → All (StandBefore (trip.0 + 1) 0) (map (λ x. x.items) found.new.items)) }
+{
+    feed.soundness();
+    let rows = feed.trip_rows(trip);
+    if is_to_fill(rows, times) {
+        return add_rows(trip, &filled(alloc, rows)?, found);
+    }
+    add_rows(trip, rows, found)
+}
+
+// Adds the departure rows among these stop times, which are the trip's or these with their times
+// filled.
+fn add_rows(
+    trip: TripNo,
+    rows: &[StopRow],
+    found: &mut Vec<Vec<DepartureRow>>,
+) -> Result<(), OutOfMemory>
+    requires ascend { AllPairs (λ r s. r.stop_sequence < s.stop_sequence) rows.now }
+    requires stops { All (λ r. r.stop_id.0 < length found.now.items) rows.now }
+    ensures length { OnOk result (length found.new.items ≡ length found.old.items) }
+    ensures told { OnOk result ((s t r : ℕ) (p : Parts) (u : Trip) (fs : List Frequency)
+        → tally (is_row t r) (at_stop (map (λ x. x.items) found.new.items) s)
+        ≡ tally (is_row t r) (at_stop (map (λ x. x.items) found.old.items) s)
+        + cond ((t == trip.0)
+        && if_there (slice_get rows.now r) (leaves_stop p u rows.now fs s)) 1 0) }
+    ensures order { OnOk result (All (StandBefore trip.0 0) (map (λ x. x.items) found.old.items)
+        → All (StandBefore trip.0 (length rows.now)) (map (λ x. x.items) found.new.items)) }
+{
+    for position in 0..rows.len() {
+        add_row(trip, rows, position, found)?;
+    }
+    Ok(())
+}
+
+// Adds the stop time of this position, if it is a departure row.
+fn add_row(
+    trip: TripNo,
+    rows: &[StopRow],
+    position: usize,
+    found: &mut Vec<Vec<DepartureRow>>,
+) -> Result<(), OutOfMemory>
+    requires ascend { AllPairs (λ r s. r.stop_sequence < s.stop_sequence) rows.now }
+    requires stops { All (λ r. r.stop_id.0 < length found.now.items) rows.now }
+    requires within { position < length rows.now }
+    ensures length { OnOk result (length found.new.items ≡ length found.old.items) }
+    ensures told { OnOk result ((s t r : ℕ) (p : Parts) (u : Trip) (fs : List Frequency)
+        → tally (is_row t r) (at_stop (map (λ x. x.items) found.new.items) s)
+        ≡ tally (is_row t r) (at_stop (map (λ x. x.items) found.old.items) s)
+        + cond ((t == trip.0) && (r == position)
+        && if_there (slice_get rows.now r) (leaves_stop p u rows.now fs s)) 1 0) }
+    ensures order { OnOk result (
+        All (StandBefore trip.0 position) (map (λ x. x.items) found.old.items)
+        → All (StandBefore trip.0 (position + 1)) (map (λ x. x.items) found.new.items)) }
+{
+    if !is_departure_row(rows, position) {
+        return Ok(());
+    }
+    let row = row_at(trip, position)?;
+    let stop = rows[position].stop_id;
+    found[stop.0].push(row)?;
+    Ok(())
+}
+
+// The stop time of a trip at a position.
+fn row_at(trip: TripNo, position: usize) -> Result<DepartureRow, OutOfMemory>
+    ensures { IfOk result (λ row. row ≡ record { trip = trip.0; row = position }) }
+{
+    Ok(DepartureRow::new(small_number(trip.0)?, small_number(position)?))
+}
+
+// A number as the index keeps it. No number is left for more than 4,294,967,296 stops, trips or stop times of a trip.
+pub(crate) fn small_number(number: usize) -> Result<u32, OutOfMemory>
+    ensures { IfOk result (λ small. small ≡ number) }
+{
+    match u32::try_from(number) {
+        Ok(small) => Ok(small),
+        Err(_) => Err(OutOfMemory),
+    }
+}
