@@ -1,11 +1,10 @@
 -- The departure rows at the place of a stop: of its stops put together, and cut by trip.
-use Rattle.std.proofs.Common.{◌≡◌, ◌≤◌, ◌<◌, ◌+◌, ◌++◌, ◌∙◌, ◌&&◌, ◌||◌, ◌==◌, ℕ, zero, suc, Bool, true, false, not, cond, List, [], ◌∷◌, length, filter, take, drop, add-one, get_or, Option, Some, None, nat_lt, nat_le, refl, sym, ap, subst, arith, rules, inl, inr}
+use Rattle.std.proofs.Common.{◌≡◌, ◌≤◌, ◌<◌, ◌+◌, ◌++◌, ◌∙◌, ◌&&◌, ◌||◌, ◌==◌, ℕ, zero, suc, Bool, true, false, not, cond, List, [], ◌∷◌, length, filter, take, drop, add-one, get_or, Option, Some, None, nat_lt, nat_le, refl, sym, ap, subst, arith, inl, inr}
 use Rattle.std.specs.Prelude.{option_map}
 use Rattle.std.specs.List.{All, list_any, slice_get}
 use Rattle.std.specs.List.Sorted.{IsPartitionedBy, IsPermutation, IsSorted}
-use Rattle.std.specs.Cmp.{IsTotalOrder, ranked, tied_itself}
+use Rattle.std.specs.Cmp.{ranked, tied_itself}
 use Rattle.std.specs.Cmp.Derive.{both_true}
-use Rattle.std.specs.Cmp.Rules.{comparing}
 use Rattle.std.specs.declared.cmp.Ordering.{Ordering}
 use Rattle.std.specs.declared.cmp.Ordering.TheVariants.{Less, Equal, Greater}
 use Rattle.std.specs.Ordering.{is_lt, nat_cmp, ordering_reverse, ordering_then}

@@ -1,4 +1,4 @@
-use Rattle.std.proofs.Common.{◌≡◌, ◌<◌, ◌++◌, ◌∙◌, length, map, set, get_or, refl, sym, ap, subst}
+use Rattle.std.proofs.Common.{◌<◌, ◌∙◌, get_or, refl, sym, subst}
 use Rattle.std.proofs.lemmas.List.{length-map, length-set}
 use Rattle.gtfs_field.proofs.ListFacts.{some_of}
 use Rattle.gtfs_rows.specs.declared.stop_row.StopRow.{StopRow}

@@ -1,7 +1,6 @@
 use Rattle.std.proofs.Common.{◌∙◌, length, refl, sym}
 use Rattle.std.proofs.lemmas.Result.{on_ok_weaker}
 use Rattle.gtfs_runs.proofs.AtStopFacts.{trip_added, trip_later}
-use Rattle.gtfs_runs.proofs.Pushes.{none-done}
 use Rattle.gtfs_runs.proofs.TimedTrips.{filled_under, times_of}
 use Rattle.gtfs_runs.proofs.stop_index.at_stops.add_trip.Goals as goal
 

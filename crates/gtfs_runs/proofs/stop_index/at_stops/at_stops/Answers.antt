@@ -1,4 +1,4 @@
-use Rattle.std.proofs.Common.{◌≤◌, ◌<◌, ◌∙◌, [], length, map, cond, sym, ap, subst, arith}
+use Rattle.std.proofs.Common.{◌≤◌, ◌<◌, ◌∙◌, [], length, cond, sym, ap, subst, arith}
 use Rattle.std.specs.List.{All}
 use Rattle.std.proofs.lemmas.List.{length-map}
 use Rattle.gtfs_times.specs.TimedRows.{timed_parts}
