@@ -314,7 +314,7 @@ impl<'a> Board<'a> {
     }
 
     // The zone of the lines.
-    pub(crate) fn zone(&self) -> &Zone
+    pub(crate) fn zone(&self) -> &'a Zone
         ensures { result.now ≡ self.now.zone }
     {
         self.zone

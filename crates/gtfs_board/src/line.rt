@@ -10,7 +10,7 @@ mod clock;
 use crate::departure::Departure;
 use crate::key::{KEY_ROOM, write_key};
 use crate::line::clock::push_clock;
-use gtfs_days::{Civil, Zone};
+use gtfs_days::{Civil, Zone, ZoneClock};
 use gtfs_field::OutOfMemory;
 use std::alloc::Global;
 
@@ -41,6 +41,37 @@ pub fn push_line(
 {
     // A zone's clock shows something at each of these instants.
     let civil = zone.civil(alloc, departure.key.instant).unwrap();
+    push_shown(text, civil, departure)
+}
+
+// The same by a clock that tells several lines.
+pub(crate) fn push_line_by(
+    alloc: Global,
+    text: &mut String,
+    clock: &mut ZoneClock<'_>,
+    departure: &Departure<'_>,
+) -> Result<(), OutOfMemory>
+    requires { IsInstant departure.now.key.instant }
+    ensures appended { OnOk result
+        (AppendsLine clock.old (listed departure.now)
+        (string_bytes text.old) (string_bytes text.new)) }
+    ensures unchanged { OnErr result (string_bytes text.new ≡ string_bytes text.old) }
+    ensures zone { clock.new ≡ clock.old }
+{
+    let civil = clock.civil(alloc, departure.key.instant).unwrap();
+    push_shown(text, civil, departure)
+}
+
+// Appends the line of a departure, at whose instant the clock shows this.
+fn push_shown(
+    text: &mut String,
+    civil: Civil,
+    departure: &Departure<'_>,
+) -> Result<(), OutOfMemory>
+    ensures appended { OnOk result (string_bytes text.new
+        ≡ string_bytes text.old ++ line_text civil (listed departure.now)) }
+    ensures unchanged { OnErr result (string_bytes text.new ≡ string_bytes text.old) }
+{
     text.reserve(room_for(departure))?;
     write_line(text, civil, departure);
     Ok(())

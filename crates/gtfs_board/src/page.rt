@@ -7,7 +7,8 @@ ghost use Rattle.gtfs_board.specs.Page.{IsPage};
 mod listing;
 
 use crate::board::Board;
-use crate::line::push_line;
+use crate::line::push_line_by;
+use gtfs_days::ZoneClock;
 use gtfs_table::{Out, write_text};
 use listing::Listing;
 use std::alloc::Global;
@@ -81,10 +82,11 @@ pub(crate) fn write_lines<'a, B: Listing<'a>, O: Out>(
     ensures fault_steps { IfErr result (AreFaultSteps (B.rest board.old) (B.rest board.new)
         (B.steps board.old) (B.steps board.new)) }
 {
+    let mut clock = ZoneClock::new(board.zone());
     let mut line = String::new(alloc);
     let mut lines = 0;
     while lines < limit {
-        if !write_next(alloc, board, &mut line, lines, out)? {
+        if !write_next(alloc, board, &mut clock, &mut line, lines, out)? {
             return Ok(lines);
         }
         lines += 1;
@@ -92,14 +94,17 @@ pub(crate) fn write_lines<'a, B: Listing<'a>, O: Out>(
     Ok(lines)
 }
 
-// Writes the line of the next departure, in a text that was used before, after so many lines. Answers whether there was one.
+// Writes the line of the next departure, by the clock of the board's zone, in a text that was used before, after so many
+// lines. Answers whether there was one.
 fn write_next<'a, B: Listing<'a>, O: Out>(
     alloc: Global,
     board: &mut B,
+    clock: &mut ZoneClock<'_>,
     line: &mut String,
     lines: u64,
     out: &mut O,
 ) -> Result<bool, PageFault>
+    requires { clock.old ≡ B.clocks board.old }
     ensures sent { IfOk result (IsLineSent (B.clocks board.old) (B.rest board.old)
         (B.rest board.new)
         (O.told out.old) (O.told out.new)) }
@@ -110,6 +115,7 @@ fn write_next<'a, B: Listing<'a>, O: Out>(
     ensures grows { O.failure_count out.old ≤ O.failure_count out.new }
     ensures no_failure { OnOk result (O.failure_count out.new ≡ O.failure_count out.old) }
     ensures zone { B.clocks board.new ≡ B.clocks board.old }
+    ensures clock { clock.new ≡ clock.old }
     ensures keeps { (start : B) → B.Keeps start board.old → B.Keeps start board.new }
     ensures steps { IfOk result (λ more.
         AreStepsWithin (cond more 1 0) (B.steps board.old) (B.steps board.new)) }
@@ -122,7 +128,7 @@ fn write_next<'a, B: Listing<'a>, O: Out>(
         Err(_) => return Err(PageFault::OutOfMemory(lines)),
     };
     line.clear();
-    if push_line(alloc, line, board.zone(), &departure).is_err() {
+    if push_line_by(alloc, line, clock, &departure).is_err() {
         return Err(PageFault::OutOfMemory(lines));
     }
     match write_text(out, line.as_bytes()) {

@@ -1,6 +1,8 @@
 pub mod Exceptions
 pub mod Footers
 pub mod Clocks
+pub mod KnownClocks
+pub mod Offsets
 pub mod ActiveDays
 pub mod Weekdays
 pub mod SameZones

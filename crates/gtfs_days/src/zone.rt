@@ -1,5 +1,7 @@
-ghost use Rattle.std.specs.Prelude.{◌≡◌, ◌↔◌, true, pos, ◌*ℤ◌, ◌-ℤ◌, IfOk, IfErr, IsOk, IsErr, IsErrOf};
+ghost use Rattle.std.specs.Prelude.{◌≡◌, ◌↔◌, true, ℤ, pos, ◌*ℤ◌, ◌-ℤ◌, ◌<ℤ◌, ◌≤ℤ◌, IfOk, IfErr, IsOk, IsErr, IsErrOf};
 ghost use Rattle.jiff_core.specs.Calendar.{IsBetween, IsWithin};
+ghost use Rattle.jiff_core.specs.Timestamp.{nanos_of_seconds};
+ghost use Rattle.jiff_tz.specs.Tzif as Table;
 ghost use Rattle.jiff.specs.Words.{compatible_offset};
 ghost use Rattle.jiff.specs.ZoneView.{plain_offsets};
 ghost use Rattle.gtfs_field.specs.Calendar.{date_of_day};
@@ -17,6 +19,12 @@ use thiserror::Error;
 
 // The greatest zone file that is read, in bytes.
 const LIMIT: usize = 1_048_576;
+
+// The seconds of a day.
+pub(crate) const SECONDS_PER_DAY: i64 = 86_400;
+
+// The second after the last instant of `jiff`.
+const AFTER_LAST_INSTANT: i64 = 253_402_207_201;
 
 /// A time zone, as its file states it.
 #[derive(Debug, Drop)]
@@ -37,7 +45,7 @@ pub enum ZoneFault {
 }
 
 impl Zone {
-    ghost use Rattle.gtfs_days.specs.Zone.{zone_origin, noon_offset, IsTooLong, HasFault, IsUnreadable, IsZoneOf, IsInstant, IsCivil};
+    ghost use Rattle.gtfs_days.specs.Zone.{table_of, zone_origin, noon_offset, IsTooLong, HasFault, IsUnreadable, IsZoneOf, IsInstant, IsCivil};
 
     /// Reads a zone file, which is TZif data (RFC 9636).
     ///
@@ -78,7 +86,7 @@ impl Zone {
     {
         let number = day.number();
         let ahead = self.noon_offset(date_of(number)).seconds();
-        Ok(i64::from(number) * 86_400 - i64::from(ahead))
+        Ok(i64::from(number) * SECONDS_PER_DAY - i64::from(ahead))
     }
 
     // The offset by which the zone reads noon of a date.
@@ -106,6 +114,26 @@ impl Zone {
         };
         let offset = TimeZone::tzif(&self.table).to_offset(timestamp);
         Ok(shown(offset.to_datetime(timestamp).to_plain(), offset))
+    }
+
+    // The end of a stretch of instants from this one on at which the zone has one offset: the next change, and at the
+    // latest the end of the day by UTC.
+    pub(crate) fn offset_end(&self, instant: i64) -> i64
+        requires { IsInstant instant }
+        ensures keeps { (x : ℤ) → instant ≤ℤ x → x <ℤ result
+            → Table.offset_at (table_of self.now) (nanos_of_seconds x)
+            ≡ Table.offset_at (table_of self.now) (nanos_of_seconds instant) }
+        ensures bound { result ≤ℤ pos 253_402_207_201 }
+    {
+        let Ok(timestamp) = Timestamp::from_second(instant) else {
+            return instant;
+        };
+        let day_end = (instant.div_euclid(SECONDS_PER_DAY) + 1) * SECONDS_PER_DAY;
+        let end = day_end.min(AFTER_LAST_INSTANT);
+        match self.table.next_transition(timestamp.to_plain()) {
+            Some(change) => change.timestamp.floor_second().min(end),
+            None => end,
+        }
     }
 }
 

@@ -2,7 +2,7 @@
 ghost use Rattle.std.specs.Prelude.{◌≤◌, length};
 
 use crate::assertions::{assert_is, assert_is_at};
-use gtfs_days::{Civil, CivilFault, Zone, ZoneFault};
+use gtfs_days::{Civil, CivilFault, Zone, ZoneClock, ZoneFault};
 use gtfs_field::Day;
 use std::alloc::{AllocError, Global};
 use std::process::Abort;
@@ -270,6 +270,36 @@ const CLOCKS: &[(ZoneFile, Clocks)] = &[
 fn clocks_show_local_time(rt: HostRuntime) -> Result<(), Fail> {
     for (file, clocks) in CLOCKS {
         assert_clocks(&rt, rt.alloc(), &file.zone(rt.alloc())?, clocks);
+    }
+    Ok(())
+}
+
+// A zone, an instant, the seconds of a step, and how many steps are made from the instant on.
+const WALKS: &[(ZoneFile, i64, i64, i64)] = &[
+    (UTC, 1_711_958_400, 1_801, 200),
+    (CENTRAL_EUROPE, 1_704_067_200, 7_207, 5_000),
+    (CENTRAL_EUROPE, 1_740_000_000, -7_207, 5_000),
+    (CENTRAL_EUROPE, 1_711_846_795, 1, 10),
+    (CENTRAL_EUROPE, 1_729_990_795, 1, 10),
+    (CENTRAL_EUROPE, 1_729_990_800, 0, 3),
+    (SKIPS_A_DAY, 1_325_100_000, 601, 500),
+    (GOES_BACK, 1_325_200_000, 601, 500),
+    (UTC, 253_402_207_195, 1, 10),
+    (CENTRAL_EUROPE, 253_402_120_000, 7_207, 20),
+    (CENTRAL_EUROPE, -377_705_023_205, 1, 10),
+];
+
+// A clock that is looked at step after step, also in the moment of a change and the other way, shows what the zone does.
+#[test]
+fn a_clock_shows_what_its_zone_does(rt: HostRuntime) -> Result<(), Fail> {
+    for (file, from, step, steps) in WALKS {
+        let zone = file.zone(rt.alloc())?;
+        let mut clock = ZoneClock::new(&zone);
+        for number in 0..*steps {
+            let instant = from.saturating_add(step.saturating_mul(number));
+            let shown = clock.civil(rt.alloc(), instant);
+            assert_is_at(&rt, shown, zone.civil(rt.alloc(), instant), "clock at", instant);
+        }
     }
     Ok(())
 }

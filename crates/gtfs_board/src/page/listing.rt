@@ -38,7 +38,7 @@ pub trait Listing<'a> {
         ensures keeps { (start : Self) → Keeps start self.old → Keeps start self.new };
 
     // The zone of the lines.
-    fn zone(&self) -> &Zone
+    fn zone(&self) -> &'a Zone
         ensures { result.now ≡ clocks self.now };
 }
 
@@ -55,7 +55,7 @@ impl<'a> Listing<'a> for Board<'a> {
         Board::next(self)
     }
 
-    fn zone(&self) -> &Zone {
+    fn zone(&self) -> &'a Zone {
         Board::zone(self)
     }
 }

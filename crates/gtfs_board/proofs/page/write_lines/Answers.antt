@@ -1,4 +1,4 @@
-use Rattle.std.proofs.Common.{◌∙◌, refl, arith}
+use Rattle.std.proofs.Common.{◌∙◌, refl, sym, arith}
 use Rattle.std.proofs.Math.Nat.{le_refl}
 use Rattle.gtfs_runs.proofs.Pushes.{none-done, none-made}
 use Rattle.gtfs_board.proofs.Pages.{all-left, counted-faults, faults-steps, page-ends, page-faults, page-full, rises-since, steps-done, steps-more, written-more}
@@ -9,6 +9,7 @@ loop-lines-init g c = record {
   written = all-left _ _ _;
   within = omega arith;
   zone = refl;
+  clock = c.new.ensures ∙ c.zone.ensures;
   keeps = λ start kept. kept;
   steps = omega arith;
   no_failure = refl;
@@ -23,10 +24,14 @@ loop-lines-preserved g c =
       written = written-more _ _ _ _ _ _ _ _ _ h.written sent.written;
       within = omega arith;
       zone = c.write_next.ensures.zone ∙ h.zone;
+      clock = c.write_next.ensures.clock ∙ h.clock;
       keeps = λ start kept. c.write_next.ensures.keeps start (h.keeps start kept);
       steps = steps-more _ _ _ _ _ h.steps steps;
       no_failure = c.in_ok-write_next.ensures.no_failure ∙ h.no_failure;
     }
+
+pub write_next-requires : goal.write_next-requires
+write_next-requires g c = c.loop-lines.invariant.clock ∙ sym c.loop-lines.invariant.zone
 
 pub returns-in_err-write_next : goal.returns-in_err-write_next
 returns-in_err-write_next g c =
