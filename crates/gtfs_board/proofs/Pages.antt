@@ -3,9 +3,11 @@ use Rattle.std.proofs.Common.{◌≡◌, ◌∙◌, ap, sym, subst, refl, inl, i
 use Rattle.std.specs.Result.{OnOk, IfErr, IsErrAnd, is_err}
 use Rattle.std.specs.Io.KnownBytes.{Appends}
 use Rattle.std.proofs.KnownBytes.{Appends-nil, Appends-trans}
+use Rattle.gtfs_days.specs.Zone.{IsCivil}
+use Rattle.gtfs_days.specs.declared.civil.Civil.{Civil}
 use Rattle.gtfs_days.specs.declared.zone.Zone.{Zone}
 use Rattle.gtfs_board.specs.Board.{AreStepsWithin, StepCount}
-use Rattle.gtfs_board.specs.Lines.{AppendsLine, IsLine, Listed}
+use Rattle.gtfs_board.specs.Lines.{AppendsLine, IsLine, Listed, line_text}
 use Rattle.gtfs_board.specs.Page.{AreLines, AreWritten, IsCutShort, IsPage, IsStopped}
 use Rattle.gtfs_board.specs.PageFaults.{AreFaultSteps, AreLineFaultSteps, EndsLine, EndsPage, IsCounted}
 use Rattle.gtfs_board.specs.declared.page.PageFault.{PageFault}
@@ -155,6 +157,11 @@ refused-steps rest left s t same = λ gone.
 pub on-ok : {A E : Type 0} (r : Result A E) (P : Type 0) → false ≡ is_err r → OnOk r P → P
 on-ok (Ok x) P fine h = h
 on-ok (Err e) P fine h = cc fine
+
+-- a line with what the zone's clock shows is the departure's
+pub line-appended : {A E : Type 0} (r : Result A E) (z : Zone) (d : Listed) (c : Civil) (old new : List ℕ) → IsCivil z d.key.instant c → OnOk r (new ≡ old ++ line_text c d) → OnOk r (AppendsLine z d old new)
+line-appended (Ok x) z d c old new shown is = (line_text c d, (c, shown, refl), is)
+line-appended (Err e) z d c old new shown is = tt
 
 pub line-none : (z : Zone) (rest left : List Listed) (a : Option (List ℕ)) → rest ≡ [] → left ≡ [] → IsPage z 1 rest left a a 0
 line-none z rest left a none end = record { written = none-written z rest left a (none ∙ sym end); within = omega arith; ends = λ less. end }

@@ -9,7 +9,7 @@ loop-lines-init g c = record {
   written = all-left _ _ _;
   within = omega arith;
   zone = refl;
-  clock = c.new.ensures ∙ c.zone.ensures;
+  clock = c.new-clock.ensures ∙ c.zone.ensures;
   keeps = λ start kept. kept;
   steps = omega arith;
   no_failure = refl;
@@ -31,7 +31,7 @@ loop-lines-preserved g c =
     }
 
 pub write_next-requires : goal.write_next-requires
-write_next-requires g c = c.loop-lines.invariant.clock ∙ sym c.loop-lines.invariant.zone
+write_next-requires g c = λ k. ((refl, tt), c.loop-lines.invariant.clock ∙ sym c.loop-lines.invariant.zone)
 
 pub returns-in_err-write_next : goal.returns-in_err-write_next
 returns-in_err-write_next g c =

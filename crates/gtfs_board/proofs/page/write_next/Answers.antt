@@ -44,7 +44,7 @@ returns-then-is_err g c =
       grows = le_refl _;
       no_failure = tt;
       zone = c.next.ensures.zone;
-      clock = refl;
+      clock = c.push_line_by.ensures.zone;
       keeps = c.next.ensures.keeps;
       steps = tt;
       fault_steps = λ gone. next.steps;
@@ -53,15 +53,15 @@ returns-then-is_err g c =
 pub returns-in-Ok : goal.returns-in-Ok
 returns-in-Ok g c =
     let next = rw c.in-Ok-Some.field-0-is at c.in-Ok-Some.ensures in
-    let line = on-ok c.push_line.result _ c.if-is_err.ensures.value c.push_line.ensures.appended in
+    let line = on-ok c.push_line_by.result _ c.if-is_err.ensures.value c.push_line_by.ensures.appended in
     record {
-      sent = line-sent _ _ _ _ _ _ _ _ _ _ next.first (c.zone.ensures ∙ c.next.ensures.zone) c.clear.ensures.bytes line c.as_bytes.ensures.value c.in-Ok.ensures.whole;
+      sent = line-sent _ _ _ _ _ _ _ _ _ _ next.first c.requires c.clear.ensures.bytes line c.as_bytes.ensures.value c.in-Ok.ensures.whole;
       fault = tt;
       counted = tt;
       grows = c.write_text.ensures.grows;
       no_failure = c.in-Ok.ensures.no_failure;
       zone = c.next.ensures.zone;
-      clock = refl;
+      clock = c.push_line_by.ensures.zone;
       keeps = c.next.ensures.keeps;
       steps = next.steps;
       fault_steps = tt;
@@ -70,16 +70,16 @@ returns-in-Ok g c =
 pub returns-in-Err-write_text : goal.returns-in-Err-write_text
 returns-in-Err-write_text g c =
     let next = rw c.in-Ok-Some.field-0-is at c.in-Ok-Some.ensures in
-    let line = on-ok c.push_line.result _ c.if-is_err.ensures.value c.push_line.ensures.appended in
+    let line = on-ok c.push_line_by.result _ c.if-is_err.ensures.value c.push_line_by.ensures.appended in
     let cut = c.in-Err-write_text.ensures in
     record {
       sent = tt;
-      fault = (refl, line-cut _ _ _ _ _ _ _ _ _ _ _ next.first (c.zone.ensures ∙ c.next.ensures.zone) c.clear.ensures.bytes line c.as_bytes.ensures.value cut.prefix cut.within);
+      fault = (refl, line-cut _ _ _ _ _ _ _ _ _ _ _ next.first c.requires c.clear.ensures.bytes line c.as_bytes.ensures.value cut.prefix cut.within);
       counted = cut.counted;
       grows = c.write_text.ensures.grows;
       no_failure = tt;
       zone = c.next.ensures.zone;
-      clock = refl;
+      clock = c.push_line_by.ensures.zone;
       keeps = c.next.ensures.keeps;
       steps = tt;
       fault_steps = next.steps;
