@@ -28,7 +28,7 @@ const LINE_ROOM: usize = KEY_ROOM + 37;
 /// # Errors
 /// `OutOfMemory` where the text cannot grow; it is then as it was.
 pub fn push_line(
-    alloc: Global,
+    _alloc: Global,
     text: &mut String,
     zone: &Zone,
     departure: &Departure<'_>,
@@ -39,14 +39,11 @@ pub fn push_line(
         (string_bytes text.old) (string_bytes text.new)) }
     ensures unchanged { OnErr result (string_bytes text.new ≡ string_bytes text.old) }
 {
-    // A zone's clock shows something at each of these instants.
-    let civil = zone.civil(alloc, departure.key.instant).unwrap();
-    push_shown(text, civil, departure)
+    push_shown(text, zone.clock(departure.key.instant), departure)
 }
 
 // The same by a clock that tells several lines.
 pub(crate) fn push_line_by(
-    alloc: Global,
     text: &mut String,
     clock: &mut ZoneClock<'_>,
     departure: &Departure<'_>,
@@ -58,8 +55,7 @@ pub(crate) fn push_line_by(
     ensures unchanged { OnErr result (string_bytes text.new ≡ string_bytes text.old) }
     ensures zone { clock.new ≡ clock.old }
 {
-    let civil = clock.civil(alloc, departure.key.instant).unwrap();
-    push_shown(text, civil, departure)
+    push_shown(text, clock.at(departure.key.instant), departure)
 }
 
 // Appends the line of a departure, at whose instant the clock shows this.

@@ -86,7 +86,7 @@ pub(crate) fn write_lines<'a, B: Listing<'a>, O: Out>(
     let mut line = String::new(alloc);
     let mut lines = 0;
     while lines < limit {
-        if !write_next(alloc, board, &mut clock, &mut line, lines, out)? {
+        if !write_next(board, &mut clock, &mut line, lines, out)? {
             return Ok(lines);
         }
         lines += 1;
@@ -97,7 +97,6 @@ pub(crate) fn write_lines<'a, B: Listing<'a>, O: Out>(
 // Writes the line of the next departure, by the clock of the board's zone, in a text that was used before, after so many
 // lines. Answers whether there was one.
 fn write_next<'a, B: Listing<'a>, O: Out>(
-    alloc: Global,
     board: &mut B,
     clock: &mut ZoneClock<'_>,
     line: &mut String,
@@ -128,7 +127,7 @@ fn write_next<'a, B: Listing<'a>, O: Out>(
         Err(_) => return Err(PageFault::OutOfMemory(lines)),
     };
     line.clear();
-    if push_line_by(alloc, line, clock, &departure).is_err() {
+    if push_line_by(line, clock, &departure).is_err() {
         return Err(PageFault::OutOfMemory(lines));
     }
     match write_text(out, line.as_bytes()) {

@@ -175,11 +175,11 @@ same_year m n e is up before =
     let same : int_div_euclid (nanos_of_seconds n) (pos 86_400_000_000_000) ≡ int_div_euclid (nanos_of_seconds m) (pos 86_400_000_000_000) = omega (arith, signed_arith, day, low, high, is, up, before) in
     rw same refl
 
--- an offset holds until the next change, the end of the day by UTC or that of all instants
-pub seconds_hold : (z : Tzif) (m n e : ℤ) → IsTimestampNanos (nanos_of_seconds m) → e ≡ (int_div_euclid m (pos 86_400) +ℤ pos 1) *ℤ pos 86_400 → m ≤ℤ n → n <ℤ e → n <ℤ pos 253_402_207_201
+-- an offset holds until the next change, or the end of the day by UTC
+pub seconds_hold : (z : Tzif) (m n e : ℤ) → IsTimestampNanos (nanos_of_seconds m) → IsTimestampNanos (nanos_of_seconds n) → e ≡ (int_div_euclid m (pos 86_400) +ℤ pos 1) *ℤ pos 86_400 → m ≤ℤ n → n <ℤ e
     → IsBefore (nanos_of_seconds n) (Table.next_at z (nanos_of_seconds m)) → Table.offset_at z (nanos_of_seconds n) ≡ Table.offset_at z (nanos_of_seconds m)
-seconds_hold z m n e instant is up before within next =
-    table_holds z (nanos_of_seconds m) (nanos_of_seconds n) (omega (arith, signed_arith, up)) instant.0 (omega (arith, signed_arith, within))
+seconds_hold z m n e instant later is up before next =
+    table_holds z (nanos_of_seconds m) (nanos_of_seconds n) (omega (arith, signed_arith, up)) instant.0 later.1
     (same_year m n e is up before) next
 
 -- a second before that of a change lies before the change

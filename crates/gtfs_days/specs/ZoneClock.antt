@@ -26,5 +26,4 @@ pub record IsKnown (z : Zone) (k : Known) : Type 0 where
   pub midnight : days_from_civil k.shown.year k.shown.month k.shown.day *ℤ pos 86_400 ≡ k.midnight +ℤ k.shown.offset
   pub low : k.midnight ≤ℤ k.from
   pub high : k.until ≤ℤ (k.midnight +ℤ pos 86_400)
-  pub instants : (x : ℤ) → k.from ≤ℤ x → x <ℤ k.until → IsInstant x
-  pub offset : (x : ℤ) → k.from ≤ℤ x → x <ℤ k.until → k.shown.offset ≡ (Table.offset_at (table_of z) (nanos_of_seconds x)).seconds
+  pub offset : (x : ℤ) → IsInstant x → k.from ≤ℤ x → x <ℤ k.until → k.shown.offset ≡ (Table.offset_at (table_of z) (nanos_of_seconds x)).seconds

@@ -23,9 +23,6 @@ const LIMIT: usize = 1_048_576;
 // The seconds of a day.
 pub(crate) const SECONDS_PER_DAY: i64 = 86_400;
 
-// The second after the last instant of `jiff`.
-const AFTER_LAST_INSTANT: i64 = 253_402_207_201;
-
 /// A time zone, as its file states it.
 #[derive(Debug, Drop)]
 pub struct Zone {
@@ -112,27 +109,39 @@ impl Zone {
         let Ok(timestamp) = Timestamp::from_second(instant) else {
             return Err(CivilFault::OutOfRange);
         };
+        Ok(self.civil_at(timestamp))
+    }
+
+    /// The same of a number that is an instant of `jiff`, so that it cannot fail.
+    pub fn clock(&self, instant: i64) -> Civil
+        requires { IsInstant instant }
+        ensures { IsCivil self.now instant result }
+    {
+        let timestamp = Timestamp::from_second(instant).unwrap();
+        self.civil_at(timestamp)
+    }
+
+    // What the zone's clock shows at a timestamp.
+    fn civil_at(&self, timestamp: Timestamp) -> Civil
+        ensures { (x : ℤ) → timestamp.nanosecond ≡ nanos_of_seconds x → IsCivil self.now x result }
+    {
         let offset = TimeZone::tzif(&self.table).to_offset(timestamp);
-        Ok(shown(offset.to_datetime(timestamp).to_plain(), offset))
+        shown(offset.to_datetime(timestamp).to_plain(), offset)
     }
 
     // The end of a stretch of instants from this one on at which the zone has one offset: the next change, and at the
     // latest the end of the day by UTC.
     pub(crate) fn offset_end(&self, instant: i64) -> i64
         requires { IsInstant instant }
-        ensures keeps { (x : ℤ) → instant ≤ℤ x → x <ℤ result
+        ensures { (x : ℤ) → IsInstant x → instant ≤ℤ x → x <ℤ result
             → Table.offset_at (table_of self.now) (nanos_of_seconds x)
             ≡ Table.offset_at (table_of self.now) (nanos_of_seconds instant) }
-        ensures bound { result ≤ℤ pos 253_402_207_201 }
     {
-        let Ok(timestamp) = Timestamp::from_second(instant) else {
-            return instant;
-        };
+        let timestamp = Timestamp::from_second(instant).unwrap();
         let day_end = (instant.div_euclid(SECONDS_PER_DAY) + 1) * SECONDS_PER_DAY;
-        let end = day_end.min(AFTER_LAST_INSTANT);
         match self.table.next_transition(timestamp.to_plain()) {
-            Some(change) => change.timestamp.floor_second().min(end),
-            None => end,
+            Some(change) => change.timestamp.floor_second().min(day_end),
+            None => day_end,
         }
     }
 }

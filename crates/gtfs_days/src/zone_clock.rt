@@ -1,10 +1,9 @@
-ghost use Rattle.std.specs.Prelude.{◌≡◌, ◌↔◌, ◌<ℤ◌, ◌≤ℤ◌, ◌-ℤ◌, ◌+◌, ◌*◌, ◌<◌, pos, unsigned_abs, IfErr, IfOk, IsOk, IsTrue};
+ghost use Rattle.std.specs.Prelude.{◌≡◌, ◌<ℤ◌, ◌≤ℤ◌, ◌-ℤ◌, ◌+◌, ◌*◌, ◌<◌, pos, unsigned_abs, IsTrue};
 ghost use Rattle.gtfs_days.specs.Zone.{IsCivil, IsInstant};
 ghost use Rattle.gtfs_days.specs.ZoneClock.{after_midnight, IsKnown};
 
-use crate::civil::{Civil, CivilFault};
+use crate::civil::Civil;
 use crate::zone::{SECONDS_PER_DAY, Zone};
-use std::alloc::Global;
 use std::marker::Model;
 
 /// The clock of a zone, for one that looks at it often: a look tells what the clock shows until the day ends or the
@@ -36,35 +35,31 @@ impl<'a> ZoneClock<'a> {
         ZoneClock { zone, known: None }
     }
 
-    /// What the clock shows at an instant, as [`Zone::civil`] says. Instants may come in any order; it is fast where
-    /// most come shortly after the one before.
-    ///
-    /// # Errors
-    /// Those of [`Zone::civil`].
-    pub fn civil(&mut self, alloc: Global, instant: i64) -> Result<Civil, CivilFault>
-        ensures succeeds { IsOk result ↔ IsInstant instant }
-        ensures value { IfOk result (IsCivil self.old instant) }
-        ensures out_of_range { IfErr result (λ e. e ≡ CivilFault.OutOfRange) }
+    /// What the clock shows at an instant, in seconds since 1970-01-01T00:00:00Z, which is one of `jiff`, from
+    /// -377,705,023,201 to 253,402,207,200. Instants may come in any order; it is fast where most come shortly after the
+    /// one before.
+    pub fn at(&mut self, instant: i64) -> Civil
+        requires { IsInstant instant }
+        ensures value { IsCivil self.old instant result }
         ensures zone { self.new ≡ self.old }
     {
         if let Some(known) = self.known {
             if known.tells(instant) {
-                return Ok(known.shown(instant));
+                return known.shown(instant);
             }
         }
-        self.look(alloc, instant)
+        self.look(instant)
     }
 
     // The same by a look at the zone, of which it keeps what it tells.
-    fn look(&mut self, alloc: Global, instant: i64) -> Result<Civil, CivilFault>
-        ensures succeeds { IsOk result ↔ IsInstant instant }
-        ensures value { IfOk result (IsCivil self.old instant) }
-        ensures out_of_range { IfErr result (λ e. e ≡ CivilFault.OutOfRange) }
+    fn look(&mut self, instant: i64) -> Civil
+        requires { IsInstant instant }
+        ensures value { IsCivil self.old instant result }
         ensures zone { self.new ≡ self.old }
     {
-        let shown = self.zone.civil(alloc, instant)?;
+        let shown = self.zone.clock(instant);
         self.known = Some(Known::from_look(self.zone, instant, shown));
-        Ok(shown)
+        shown
     }
 }
 

@@ -297,8 +297,10 @@ fn a_clock_shows_what_its_zone_does(rt: HostRuntime) -> Result<(), Fail> {
         let mut clock = ZoneClock::new(&zone);
         for number in 0..*steps {
             let instant = from.saturating_add(step.saturating_mul(number));
-            let shown = clock.civil(rt.alloc(), instant);
-            assert_is_at(&rt, shown, zone.civil(rt.alloc(), instant), "clock at", instant);
+            let shown = zone.civil(rt.alloc(), instant);
+            if shown.is_ok() {
+                assert_is_at(&rt, Ok(clock.at(instant)), shown, "clock at", instant);
+            }
         }
     }
     Ok(())

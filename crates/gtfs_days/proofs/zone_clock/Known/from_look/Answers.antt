@@ -8,4 +8,4 @@ returns c = look_tells c.args.zone.now _ c.args.instant c.offset_end.result (to_
     (omega (arith, ints, c.min.ensures.self_bound))
     (omega (arith, ints, c.min.ensures.other_bound))
     (omega (arith, ints, c.second_of_day.ensures))
-    c.requires.instant c.requires.shown c.offset_end.ensures.bound (rw (to_z-of_z c.ranges.instant) at c.offset_end.ensures.keeps)
+    c.requires.instant c.requires.shown (rw (to_z-of_z c.ranges.instant) at c.offset_end.ensures)
