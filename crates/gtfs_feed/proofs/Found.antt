@@ -1,6 +1,6 @@
 -- Among rows that ascend by their ids, a search ends at the number of an id.
-use Rattle.std.proofs.Common.{◌≡◌, ◌∙◌, ◌+◌, ◌<◌, ℕ, List, [], ◌∷◌, Bool, true, false, None, Ok, Err, Result, Some, bytes_eq, length, map, get_or, refl, sym, ap, arith, inl, inr}
-use Rattle.std.specs.Prelude.{nat_lt, position}
+use Rattle.std.proofs.Common.{◌≡◌, ◌∙◌, ◌+◌, ◌<◌, ℕ, List, [], ◌∷◌, Bool, false, None, Ok, Err, Result, Some, bytes_eq, length, map, get_or, refl, sym, ap, arith, inl, inr}
+use Rattle.std.specs.Prelude.{position}
 use Rattle.std.specs.Cmp.{alike_right}
 use Rattle.std.specs.Cmp.Lexicographic.{nat_list_cmp_total}
 use Rattle.std.specs.List.{HoldsAt, list_any, position_or_len}
