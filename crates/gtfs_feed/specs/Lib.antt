@@ -1,3 +1,1 @@
 pub mod Content
-pub mod Numbering
-pub mod RowIds

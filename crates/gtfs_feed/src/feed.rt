@@ -2,7 +2,7 @@ ghost use Rattle.std.specs.Prelude.{◌≡◌, ◌<◌, [], IfOk, Some, length, 
 ghost use Rattle.gtfs_rows.specs.Views.{IsSoundParts, agency_ids, stop_ids, route_ids, service_ids, trip_ids};
 ghost use Rattle.gtfs_rows.specs.Trips.{stop_rows_by_trip, frequencies_by_trip};
 
-use crate::row_ids::RowIds;
+use crate::named::number_of;
 use gtfs_days::Service;
 use gtfs_field::OutOfMemory;
 use gtfs_rows::{
@@ -17,40 +17,38 @@ use std::marker::Model;
 /// every reference names a row, and no rule of the validator is broken.
 pub struct Feed {
     parts: Parts,
-    ids: RowIds,
 }
 
 impl Model for Feed {
     ghost use Rattle.gtfs_rows.specs.declared.parts.Parts.{Parts as PartsValue};
-    ghost use Rattle.gtfs_feed.specs.RowIds.{IsNumbered};
+    ghost use Rattle.gtfs_rows.specs.Views.{IsSoundParts};
 
     ghost Value = { PartsValue };
 
     ghost view = { λ f. f.parts };
 
-    ghost invariant = { λ f. IsNumbered f.parts f.ids };
+    ghost invariant = { λ f. IsSoundParts f.parts };
 }
 
 // Written out, so that a function that lets a feed go has one call to prove.
 impl Drop for Feed {
     fn drop(self) {
-        let Feed { parts: _, ids: _ } = self;
+        let Feed { parts: _ } = self;
     }
 }
 
 impl Feed {
-    /// The feed of these rows: ids get their numbers in the order of their bytes.
+    /// The feed of these rows: ids have their numbers in the order of their bytes.
     ///
-    /// The ids are hashed by the random state, on which no answer of the feed depends.
+    /// Ids are found in the rows themselves, so this takes no memory, and the random state is not needed.
     ///
     /// # Errors
-    /// `OutOfMemory` where memory is refused. Then the parts are let go.
-    pub fn assemble(alloc: Global, random: RandomState, parts: Parts) -> Result<Feed, OutOfMemory>
+    /// None: `OutOfMemory` never comes.
+    pub fn assemble(_alloc: Global, _random: RandomState, parts: Parts) -> Result<Feed, OutOfMemory>
         requires { IsSoundParts parts }
         ensures { IfOk result (λ feed. feed ≡ parts) }
     {
-        let ids = RowIds::of_parts(alloc, random, &parts)?;
-        Ok(Feed { parts, ids })
+        Ok(Feed { parts })
     }
 
     /// All rows, as [`Feed::assemble`] took them.
@@ -65,10 +63,8 @@ impl Feed {
     pub fn agency(&self, id: &str) -> Option<AgencyNo>
         ensures { option_map (λ n. n.0) result ≡ position (bytes_eq id.now) (agency_ids self.now) }
     {
-        match self.ids.agencies.number(id) {
-            Some(number) => Some(AgencyNo(number)),
-            None => None,
-        }
+        let number = number_of(self.parts.agencies.as_slice(), id)?;
+        Some(AgencyNo(number))
     }
 
     /// How many agencies the feed has.
@@ -82,10 +78,8 @@ impl Feed {
     pub fn stop(&self, id: &str) -> Option<StopNo>
         ensures { option_map (λ n. n.0) result ≡ position (bytes_eq id.now) (stop_ids self.now) }
     {
-        match self.ids.stops.number(id) {
-            Some(number) => Some(StopNo(number)),
-            None => None,
-        }
+        let number = number_of(self.parts.stops.as_slice(), id)?;
+        Some(StopNo(number))
     }
 
     /// How many stops the feed has.
@@ -99,10 +93,8 @@ impl Feed {
     pub fn route(&self, id: &str) -> Option<RouteNo>
         ensures { option_map (λ n. n.0) result ≡ position (bytes_eq id.now) (route_ids self.now) }
     {
-        match self.ids.routes.number(id) {
-            Some(number) => Some(RouteNo(number)),
-            None => None,
-        }
+        let number = number_of(self.parts.routes.as_slice(), id)?;
+        Some(RouteNo(number))
     }
 
     /// How many routes the feed has.
@@ -116,10 +108,8 @@ impl Feed {
     pub fn service(&self, id: &str) -> Option<ServiceNo>
         ensures { option_map (λ n. n.0) result ≡ position (bytes_eq id.now) (service_ids self.now) }
     {
-        match self.ids.services.number(id) {
-            Some(number) => Some(ServiceNo(number)),
-            None => None,
-        }
+        let number = number_of(self.parts.services.as_slice(), id)?;
+        Some(ServiceNo(number))
     }
 
     /// How many services the feed has.
@@ -133,10 +123,8 @@ impl Feed {
     pub fn trip(&self, id: &str) -> Option<TripNo>
         ensures { option_map (λ n. n.0) result ≡ position (bytes_eq id.now) (trip_ids self.now) }
     {
-        match self.ids.trips.number(id) {
-            Some(number) => Some(TripNo(number)),
-            None => None,
-        }
+        let number = number_of(self.parts.trips.as_slice(), id)?;
+        Some(TripNo(number))
     }
 
     /// How many trips the feed has.

@@ -9,10 +9,8 @@
 
 mod copied;
 mod feed;
-mod ids;
 mod named;
 mod reading;
-mod row_ids;
 mod trimmed;
 mod written;
 

@@ -1,4 +1,7 @@
-ghost use Rattle.std.specs.Prelude.{◌≡◌, ℕ, List};
+ghost use Rattle.std.specs.Prelude.{◌≡◌, ℕ, List, bytes_eq, map, position};
+ghost use Rattle.std.specs.Ordering.{on};
+ghost use Rattle.gtfs_field.specs.TextOrder.{text_cmp};
+ghost use Rattle.gtfs_rows.specs.Order.{Ascends};
 
 use gtfs_rows::{Agency, Route, ServiceRow, Stop, Trip};
 
@@ -48,4 +51,12 @@ impl Named for Trip {
     fn id(&self) -> &str {
         self.trip_id.as_str()
     }
+}
+
+// The number of the row with this id, among rows that ascend by their ids.
+pub(crate) fn number_of<R: Named>(rows: &[R], id: &str) -> Option<usize>
+    requires { Ascends (on R.name text_cmp) rows.now }
+    ensures { result ≡ position (bytes_eq id.now) (map R.name rows.now) }
+{
+    rows.binary_search_by(|row| row.id().cmp(id)).ok()
 }

@@ -22,8 +22,8 @@ impl Feed {
     ///
     /// Headsigns of stop times have their numbers in the order in which the stop times first name them, trip after trip and
     /// in each trip by sequence. Stop times were read when the dataset was checked, and are not read again. The dataset is
-    /// lent and not changed, and the feed lends nothing of it. Ids and headsigns are hashed by the random state, on which no
-    /// answer of the feed depends.
+    /// lent and not changed, and the feed lends nothing of it. Headsigns are hashed by the random state, on which no answer of
+    /// the feed depends.
     ///
     /// # Errors
     /// `OutOfMemory` where memory is refused, and where stop times have more than 4,294,967,295 different headsigns.

@@ -17,8 +17,8 @@ impl Feed {
     /// and all other rows stay, also those of trips that then never run (GTFS Schedule Reference, `calendar.txt` and
     /// `calendar_dates.txt`). The day itself belongs to the later side.
     ///
-    /// This feed is not changed, and the new one lends nothing of it. Rows and headsigns keep their numbers. No answer of the
-    /// new feed depends on the random state, by which its ids are hashed.
+    /// This feed is not changed, and the new one lends nothing of it. Rows and headsigns keep their numbers. The random
+    /// state is not needed.
     ///
     /// # Errors
     /// `OutOfMemory` where memory is refused.

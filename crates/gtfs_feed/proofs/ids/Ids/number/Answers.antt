@@ -1,6 +1,0 @@
-use Rattle.std.proofs.Common.{◌∙◌, sym, bytes_eq, string_bytes}
-use Rattle.gtfs_field.proofs.ListFacts.{position-map}
-use Rattle.gtfs_feed.proofs.ids.Ids.number.Goals as goal
-
-pub returns : goal.returns
-returns c = rw (← c.self.view_is) (c.get_index_of.ensures.index ∙ sym (position-map (bytes_eq c.args.id.now) string_bytes c.self.inside.ids.keys))
