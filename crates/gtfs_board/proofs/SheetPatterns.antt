@@ -27,7 +27,7 @@ use Rattle.gtfs_rows.specs.Choices.{direction_code}
 use Rattle.gtfs_rows.specs.Order.{Ascends}
 use Rattle.gtfs_rows.specs.Rows.{Trip}
 use Rattle.gtfs_rows.specs.Views.{IsSoundParts, content_of_parts, stop_ids, stop_row_of, text_of_number}
-use Rattle.gtfs_rows.specs.declared.numbers.StopNo.{StopNo}
+use Rattle.gtfs_stop_times.specs.declared.numbers.StopNo.{StopNo}
 use Rattle.gtfs_rows.specs.declared.numbers.TripNo.{TripNo}
 use Rattle.gtfs_rows.specs.declared.parts.Parts.{Parts}
 use Rattle.gtfs_rows.proofs.SoundOrder.{in_order}

@@ -15,7 +15,7 @@ use Rattle.gtfs_rows.specs.Rows.{Trip}
 use Rattle.gtfs_rows.specs.Views.{IsSoundParts, stop_row_of, trip_of}
 use Rattle.gtfs_rows.specs.declared.frequency.Frequency.{Frequency}
 use Rattle.gtfs_rows.specs.declared.parts.Parts.{Parts}
-use Rattle.gtfs_rows.specs.declared.stop_row.StopRow.{StopRow}
+use Rattle.gtfs_stop_times.specs.declared.stop_row.StopRow.{StopRow}
 use Rattle.gtfs_rows.specs.declared.trip.Trip.{Trip as TripRow}
 use Rattle.gtfs_rows.specs.Trips.{ArePeriods, frequencies_by_trip, left_at, stop_rows_by_trip}
 use Rattle.gtfs_runs.specs.Counts.{tally}

@@ -13,7 +13,7 @@ use Rattle.gtfs_rows.specs.Views.{IsSoundParts, content_of_parts, frequency_of, 
 use Rattle.gtfs_rows.specs.declared.frequency.Frequency.{Frequency as PeriodRow}
 use Rattle.gtfs_rows.specs.declared.parts.Parts.{Parts}
 use Rattle.gtfs_rows.specs.declared.route.Route.{Route as RouteRow}
-use Rattle.gtfs_rows.specs.declared.stop_row.StopRow.{StopRow as StopTime}
+use Rattle.gtfs_stop_times.specs.declared.stop_row.StopRow.{StopRow as StopTime}
 use Rattle.gtfs_rows.specs.declared.trip.Trip.{Trip as TripRow}
 use Rattle.gtfs_runs.proofs.Bounds.{periods_within}
 use Rattle.gtfs_rows.specs.Runs.{starts_run}

@@ -8,7 +8,7 @@ use Rattle.gtfs_rows.specs.Content.{Content}
 use Rattle.gtfs_rows.specs.Trips.{stop_rows_by_trip}
 use Rattle.gtfs_rows.specs.Views.{IsSoundParts}
 use Rattle.gtfs_rows.specs.declared.parts.Parts.{Parts}
-use Rattle.gtfs_rows.specs.declared.stop_row.StopRow.{StopRow}
+use Rattle.gtfs_stop_times.specs.declared.stop_row.StopRow.{StopRow}
 use Rattle.gtfs_runs.specs.Patterns.{rows_of}
 use Rattle.gtfs_runs.proofs.RowEvents.{leaves_later}
 use Rattle.gtfs_times.specs.Filling.{timed}

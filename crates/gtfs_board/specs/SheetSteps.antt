@@ -10,7 +10,7 @@ use Rattle.gtfs_rows.specs.Trips.{left_at}
 use Rattle.gtfs_rows.specs.Views.{content_of_parts, stop_ids, text_of_number, trip_ids}
 use Rattle.gtfs_rows.specs.declared.numbers.TripNo.{TripNo}
 use Rattle.gtfs_rows.specs.declared.parts.Parts.{Parts}
-use Rattle.gtfs_rows.specs.declared.stop_row.StopRow.{StopRow as StopTime}
+use Rattle.gtfs_stop_times.specs.declared.stop_row.StopRow.{StopRow as StopTime}
 use Rattle.gtfs_runs.specs.Counts.{tally}
 use Rattle.gtfs_runs.specs.Patterns.{rows_of}
 use Rattle.gtfs_rows.specs.Runs.{is_run}

@@ -4,15 +4,14 @@ ghost use Rattle.gtfs_rows.specs.Reading.{content_of as content_of_dataset};
 ghost use Rattle.gtfs_rows.specs.Views.{content_of_parts, stop_row_of};
 ghost use Rattle.gtfs_table.specs.Parts.{parts};
 ghost use Rattle.gtfs_table.specs.Tables.{Dataset};
-ghost use Rattle.gtfs_stop_times.specs.FirstNamed.{headsigns_in};
+ghost use Rattle.gtfs_parts.specs.FirstNamed.{headsigns_in};
 ghost use Rattle.gtfs_feed.specs.Content.{content_of};
 
 use crate::feed::Feed;
 use gtfs_field::OutOfMemory;
-use gtfs_parts::FeedRows;
+use gtfs_parts::{FeedRows, StopTimes};
 use gtfs_rows::Parts;
 use gtfs_rules::Passed;
-use gtfs_stop_times::StopTimes;
 use std::alloc::Global;
 use std::hash::RandomState;
 

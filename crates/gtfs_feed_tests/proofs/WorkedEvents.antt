@@ -4,20 +4,20 @@ use Rattle.std.specs.List.{list_any}
 use Rattle.std.specs.declared.cmp.Ordering.TheVariants.{Less}
 use Rattle.gtfs_table.specs.Parts as table
 use Rattle.gtfs_rows.specs.declared.choices.BikesAllowed.TheVariants as bikes
-use Rattle.gtfs_rows.specs.declared.choices.DropOffType.TheVariants as drop_off
+use Rattle.gtfs_stop_times.specs.declared.choices.DropOffType.TheVariants as drop_off
 use Rattle.gtfs_rows.specs.declared.choices.ExactTimes.TheVariants as exact
 use Rattle.gtfs_rows.specs.declared.choices.LocationType.{LocationType}
 use Rattle.gtfs_rows.specs.declared.choices.LocationType.TheVariants as location
-use Rattle.gtfs_rows.specs.declared.choices.PickupType.{PickupType}
-use Rattle.gtfs_rows.specs.declared.choices.PickupType.TheVariants as pickup
+use Rattle.gtfs_stop_times.specs.declared.choices.PickupType.{PickupType}
+use Rattle.gtfs_stop_times.specs.declared.choices.PickupType.TheVariants as pickup
 use Rattle.gtfs_rows.specs.declared.choices.WheelchairAccessible.TheVariants as wheelchair
 use Rattle.gtfs_rows.specs.declared.choices.WheelchairBoarding.TheVariants as boarding
 use Rattle.gtfs_rows.specs.declared.frequency.Frequency.{Frequency}
-use Rattle.gtfs_rows.specs.declared.numbers.StopNo.{StopNo}
+use Rattle.gtfs_stop_times.specs.declared.numbers.StopNo.{StopNo}
 use Rattle.gtfs_rows.specs.declared.parts.Parts.{Parts}
 use Rattle.gtfs_rows.specs.declared.service.ServiceRow.{ServiceRow}
 use Rattle.gtfs_rows.specs.declared.stop.Stop.{Stop}
-use Rattle.gtfs_rows.specs.declared.stop_row.StopRow.{StopRow}
+use Rattle.gtfs_stop_times.specs.declared.stop_row.StopRow.{StopRow}
 use Rattle.gtfs_rows.specs.declared.trip.Trip.{Trip}
 use Rattle.gtfs_runs.specs.FlatEvents.{Served, is_event_under, is_served, served_cmp}
 use Rattle.gtfs_runs.specs.declared.event.Event.{Event}

@@ -6,10 +6,10 @@ use Rattle.gtfs_rows.specs.declared.choices.Direction.TheVariants as direction
 use Rattle.gtfs_rows.specs.declared.choices.Direction.{Direction}
 use Rattle.gtfs_rows.specs.declared.choices.WheelchairAccessible.TheVariants as wheelchair
 use Rattle.gtfs_rows.specs.declared.choices.BikesAllowed.TheVariants as bikes
-use Rattle.gtfs_rows.specs.declared.choices.PickupType.TheVariants as pickup
-use Rattle.gtfs_rows.specs.declared.choices.DropOffType.TheVariants as drop_off
+use Rattle.gtfs_stop_times.specs.declared.choices.PickupType.TheVariants as pickup
+use Rattle.gtfs_stop_times.specs.declared.choices.DropOffType.TheVariants as drop_off
 use Rattle.gtfs_rows.specs.declared.parts.Parts.{Parts}
-use Rattle.gtfs_rows.specs.declared.stop_row.StopRow.{StopRow}
+use Rattle.gtfs_stop_times.specs.declared.stop_row.StopRow.{StopRow}
 use Rattle.gtfs_rows.specs.declared.trip.Trip.{Trip}
 use Rattle.gtfs_runs.specs.Patterns.{Entry, Heading, are_apart, entries_of, entry_cmp}
 

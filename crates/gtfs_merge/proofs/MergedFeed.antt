@@ -13,7 +13,7 @@ use Rattle.gtfs_rows.specs.Sound.{IsSound}
 use Rattle.gtfs_rows.specs.Views.{IsCut, IsSoundParts, agency_ids, agency_of, content_of_parts, frequency_of, is_within, route_ids, service_ids, service_of, stop_ids, stop_row_of, trip_ids, trip_of, trips_of}
 use Rattle.gtfs_rows.specs.declared.frequency.Frequency.{Frequency as FrequencyRow}
 use Rattle.gtfs_rows.specs.declared.parts.Parts.{Parts}
-use Rattle.gtfs_rows.specs.declared.stop_row.StopRow.{StopRow as StopTime}
+use Rattle.gtfs_stop_times.specs.declared.stop_row.StopRow.{StopRow as StopTime}
 use Rattle.gtfs_rows.specs.declared.transfer.Transfer.{Transfer as TransferRow}
 use Rattle.gtfs_rows.specs.declared.trip.Trip.{Trip as TripRow}
 use Rattle.gtfs_rows.proofs.SameElements.{pairs-map}

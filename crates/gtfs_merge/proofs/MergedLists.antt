@@ -17,12 +17,12 @@ use Rattle.gtfs_rows.specs.declared.frequency.Frequency.{Frequency}
 use Rattle.gtfs_rows.specs.declared.numbers.AgencyNo.{AgencyNo}
 use Rattle.gtfs_rows.specs.declared.numbers.RouteNo.{RouteNo}
 use Rattle.gtfs_rows.specs.declared.numbers.ServiceNo.{ServiceNo}
-use Rattle.gtfs_rows.specs.declared.numbers.StopNo.{StopNo}
+use Rattle.gtfs_stop_times.specs.declared.numbers.StopNo.{StopNo}
 use Rattle.gtfs_rows.specs.declared.parts.Parts.{Parts}
 use Rattle.gtfs_rows.specs.declared.route.Route.{Route}
 use Rattle.gtfs_rows.specs.declared.service.ServiceRow.{ServiceRow}
 use Rattle.gtfs_rows.specs.declared.stop.Stop.{Stop}
-use Rattle.gtfs_rows.specs.declared.stop_row.StopRow.{StopRow}
+use Rattle.gtfs_stop_times.specs.declared.stop_row.StopRow.{StopRow}
 use Rattle.gtfs_rows.specs.declared.trip.Trip.{Trip}
 use Rattle.gtfs_table.specs.Parts.{parts}
 use Rattle.gtfs_table.proofs.PartFacts.{length-parts}

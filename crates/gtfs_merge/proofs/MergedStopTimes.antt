@@ -13,7 +13,7 @@ use Rattle.gtfs_rows.proofs.TripsAt.{content_trip}
 use Rattle.gtfs_rows.specs.Rows.{StopRow, Trip}
 use Rattle.gtfs_rows.specs.Views.{IsSoundParts, content_of_parts, frequency_of, is_within, stop_ids, stop_row_of, trip_of}
 use Rattle.gtfs_rows.specs.declared.parts.Parts.{Parts}
-use Rattle.gtfs_rows.specs.declared.stop_row.StopRow.{StopRow as RowByNumber}
+use Rattle.gtfs_stop_times.specs.declared.stop_row.StopRow.{StopRow as RowByNumber}
 use Rattle.gtfs_rows.specs.declared.trip.Trip.{Trip as TripByNumber}
 use Rattle.gtfs_rows.specs.NamedRows.{has_numbers_below, stop_row_named}
 use Rattle.gtfs_table.proofs.PartFacts.{length-parts}

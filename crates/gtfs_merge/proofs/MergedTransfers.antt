@@ -9,7 +9,7 @@ use Rattle.gtfs_rows.specs.Order.{Ascends, transfer_key, transfer_key_cmp}
 use Rattle.gtfs_rows.specs.Rows.{Transfer}
 use Rattle.gtfs_rows.specs.Views.{IsSoundParts, is_within, names_route, names_stop, names_trip, route_ids, stop_ids, transfer_names_rows, transfer_of, trip_ids}
 use Rattle.gtfs_rows.specs.declared.numbers.RouteNo.{RouteNo}
-use Rattle.gtfs_rows.specs.declared.numbers.StopNo.{StopNo}
+use Rattle.gtfs_stop_times.specs.declared.numbers.StopNo.{StopNo}
 use Rattle.gtfs_rows.specs.declared.numbers.TripNo.{TripNo}
 use Rattle.gtfs_rows.specs.declared.parts.Parts.{Parts}
 use Rattle.gtfs_rows.specs.declared.transfer.Transfer.{Transfer as ByNumber}

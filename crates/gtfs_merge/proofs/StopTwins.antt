@@ -6,7 +6,7 @@ use Rattle.std.proofs.Math.Seq.{take-suc}
 use Rattle.std.proofs.lemmas.List.{length-map, map-append}
 use Rattle.gtfs_rows.specs.Content.{Content}
 use Rattle.gtfs_rows.specs.Views.{IsSoundParts, content_of_parts, stop_ids, text_of_number}
-use Rattle.gtfs_rows.specs.declared.numbers.StopNo.{StopNo}
+use Rattle.gtfs_stop_times.specs.declared.numbers.StopNo.{StopNo}
 use Rattle.gtfs_rows.specs.declared.stop.Stop.{Stop as StopByNumber}
 use Rattle.gtfs_rows.proofs.NumberFacts.{stop_parent}
 use Rattle.gtfs_merge.specs.Joined.{number_if}

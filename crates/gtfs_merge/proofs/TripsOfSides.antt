@@ -8,7 +8,7 @@ use Rattle.gtfs_rows.specs.Trips.{frequencies_by_trip, stop_rows_by_trip}
 use Rattle.gtfs_rows.proofs.TripFacts.{stop_times}
 use Rattle.gtfs_rows.specs.Views.{IsSoundParts}
 use Rattle.gtfs_rows.specs.declared.parts.Parts.{Parts}
-use Rattle.gtfs_rows.specs.declared.stop_row.StopRow.{StopRow}
+use Rattle.gtfs_stop_times.specs.declared.stop_row.StopRow.{StopRow}
 use Rattle.gtfs_rows.proofs.Members.{In}
 use Rattle.gtfs_merge.specs.Headsigns.{AreHeadsigns, HeadsignTable, numbers_on}
 use Rattle.gtfs_merge.specs.KindRows.{AllEntries, AreMergedKinds}

@@ -1,7 +1,7 @@
 ghost use Rattle.std.specs.Prelude.{◌≡◌, ◌&&◌, List};
 ghost use Rattle.gtfs_rows.specs.Views.{agency_of, frequency_of};
 ghost use Rattle.gtfs_rows.specs.declared.frequency.Frequency.{Frequency as FrequencyOf};
-ghost use Rattle.gtfs_rows.specs.declared.stop_row.StopRow.{StopRow as StopRowOf};
+ghost use Rattle.gtfs_stop_times.specs.declared.stop_row.StopRow.{StopRow as StopRowOf};
 ghost use Rattle.gtfs_rows.specs.declared.parts.Parts.{Parts};
 ghost use Rattle.gtfs_merge.specs.Numbered.{same_agency_in, same_headsign_in, same_parent_in, same_route_in, same_stop_id_in, same_frequencies_in, same_route_id_in, same_service_id_in, same_stop_in, same_stop_row_in, same_stop_rows_in, same_trip_in};
 ghost use Rattle.gtfs_merge.specs.Renaming.{Renaming};

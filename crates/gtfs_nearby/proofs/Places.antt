@@ -15,7 +15,7 @@ use Rattle.gtfs_field.proofs.OrderingFacts.{tied_first, tied_second}
 use Rattle.gtfs_field.proofs.TextOrderFacts.{texts_exact, texts_total}
 use Rattle.gtfs_field.specs.TextOrder.{text_cmp}
 use Rattle.gtfs_rows.specs.Choices.{location_code}
-use Rattle.gtfs_rows.specs.declared.numbers.StopNo.{StopNo}
+use Rattle.gtfs_stop_times.specs.declared.numbers.StopNo.{StopNo}
 use Rattle.gtfs_rows.specs.declared.stop.Stop.{Stop}
 use Rattle.gtfs_nearby.specs.Areas.{area_around, has}
 use Rattle.gtfs_nearby.specs.Near.{are_close, is_near_row, is_same_parent, same_given_name}

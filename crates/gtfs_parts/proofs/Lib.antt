@@ -1,13 +1,23 @@
+mod Blank
 mod ByIds
 mod CalendarFacts
+mod ContentIds
+mod EachOnce
 mod Fields
 pub mod Filled
 mod FrequencyFacts
+mod Gathers
 mod IdTexts
+mod Keyed
+pub mod OfParts
 mod ReferenceFacts
 mod RowKeys
+mod RowSays
 mod RowsAlike
 mod ServiceFacts
 mod SortedKeys
+mod Starts
 mod StopTimesAdded
+mod TimeBound
 mod TransferFacts
+mod TripRows

@@ -5,12 +5,17 @@ pub mod CalendarRows
 pub mod Cuts
 pub mod DateColumns
 pub mod FeedRows
+pub mod FirstNamed
 pub mod FrequencyColumns
+pub mod Gathering
+pub mod HeadsignIndex
 pub mod Lists
 pub mod Named
 pub mod Numbers
 pub mod RouteColumns
 pub mod ServiceIds
 pub mod StopColumns
+pub mod StopRows
+pub mod StopTimeLists
 pub mod TransferColumns
 pub mod TripColumns

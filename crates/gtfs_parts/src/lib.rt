@@ -1,11 +1,13 @@
-//! Reads the typed rows of a feed out of tables that passed the validator.
+//! The typed rows of a feed, of tables that passed the validator.
 //!
-//! [`FeedRows::new`] reads all rows but the stop times of a [`Passed`](gtfs_rules::Passed), and
-//! [`FeedRows::with_stop_times`] makes [`Parts`](gtfs_rows::Parts) of them and the stop times.
+//! [`FeedRows::new`] reads all rows but the stop times of a [`Passed`](gtfs_rules::Passed). [`StopTimes::new`] makes the
+//! lists of stop times of it, whose fields were read when the tables were checked, but for headsigns.
+//! [`FeedRows::with_stop_times`] makes [`Parts`](gtfs_rows::Parts) of both.
 //!
 //! ```text
 //! let rows = FeedRows::new(alloc, passed)?;
-//! rows.with_stop_times(stop_rows, stop_row_starts, headsigns)
+//! let stop_times = StopTimes::new(alloc, random, passed, rows.trips.as_slice().len())?;
+//! rows.with_stop_times(stop_times.stop_rows, stop_times.stop_row_starts, stop_times.headsigns)
 //! ```
 //!
 //! Each list stands in the order of its keys: ids by their bytes, transfers by the six parts of their keys, frequencies
@@ -15,10 +17,12 @@
 //! Each file has a module, with its columns found once: `agencies`, `stops`, `routes`, `trips`, `transfers`,
 //! `frequencies`, and `calendar` and `dates`, of which `services` are made. The ids of files are
 //! [`NetworkIds`](gtfs_columns::NetworkIds), and `service_ids` has those of services, which come of two files. `texts`,
-//! `numbers`, `choices` and `references` read a field.
+//! `numbers`, `choices` and `references` read a field. `gathered` has the lists of stop times while they are made, and
+//! `headsigns` the headsigns by number.
 //!
 //! What the rows are is said in `gtfs_rows`: `specs/Reading.antt` there has the content of a dataset. `specs/FeedRows.antt`
-//! here says that the lists are that content, and `specs/Named.antt` what a row with numbers stands for.
+//! here says that the lists are that content, `specs/Named.antt` what a row with numbers stands for, and
+//! `specs/StopTimeLists.antt` what the lists of stop times are.
 #![tactic(auto)]
 
 mod agencies;
@@ -27,14 +31,20 @@ mod choices;
 mod dates;
 mod feed_rows;
 mod frequencies;
+mod gathered;
+mod headsigns;
 mod numbers;
+mod plain;
 mod references;
 mod routes;
 mod service_ids;
 mod services;
+mod stop_row;
+mod stop_times;
 mod stops;
 mod texts;
 mod transfers;
 mod trips;
 
 pub use feed_rows::FeedRows;
+pub use stop_times::StopTimes;

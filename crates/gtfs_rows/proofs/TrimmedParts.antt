@@ -14,7 +14,7 @@ use Rattle.gtfs_rows.specs.Views.{IsSoundParts, content_of_parts, service_of, se
 use Rattle.gtfs_rows.specs.declared.frequency.Frequency.{Frequency}
 use Rattle.gtfs_rows.specs.declared.parts.Parts.{Parts}
 use Rattle.gtfs_rows.specs.declared.service.ServiceRow.{ServiceRow}
-use Rattle.gtfs_rows.specs.declared.stop_row.StopRow.{StopRow}
+use Rattle.gtfs_stop_times.specs.declared.stop_row.StopRow.{StopRow}
 use Rattle.gtfs_rows.specs.declared.trip.Trip.{Trip}
 use Rattle.gtfs_rows.proofs.TrimmedSound.{trimmed-sound}
 

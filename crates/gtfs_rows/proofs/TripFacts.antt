@@ -14,7 +14,7 @@ use Rattle.gtfs_columns.specs.Values.{if_both}
 use Rattle.gtfs_table.proofs.PartFacts.{all_in_part, length-parts}
 use Rattle.gtfs_rows.specs.declared.frequency.Frequency.{Frequency}
 use Rattle.gtfs_rows.specs.declared.parts.Parts.{Parts}
-use Rattle.gtfs_rows.specs.declared.stop_row.StopRow.{StopRow}
+use Rattle.gtfs_stop_times.specs.declared.stop_row.StopRow.{StopRow}
 use Rattle.gtfs_rows.specs.declared.trip.Trip.{Trip}
 use Rattle.gtfs_rows.specs.Order.{Ascends}
 use Rattle.gtfs_rows.specs.Sound.{comes, leaves, keeps_time, is_end, is_sound_in, is_sound_stop_row, is_sound_period, is_sound_trip, is_stop_of, are_apart, has_id}

@@ -1,5 +1,5 @@
--- The numbers of the choices.
--- GTFS Schedule Reference, the fields of type "Enum" of stops.txt, trips.txt, stop_times.txt, frequencies.txt and transfers.txt.
+-- The numbers of the choices; those of stop times are handed on.
+-- GTFS Schedule Reference, the fields of type "Enum" of stops.txt, trips.txt, frequencies.txt and transfers.txt.
 use Rattle.std.specs.Prelude.{ℕ}
 use Rattle.gtfs_rows.specs.declared.choices.LocationType.{LocationType}
 use Rattle.gtfs_rows.specs.declared.choices.LocationType.TheVariants as location
@@ -11,16 +11,11 @@ use Rattle.gtfs_rows.specs.declared.choices.WheelchairAccessible.{WheelchairAcce
 use Rattle.gtfs_rows.specs.declared.choices.WheelchairAccessible.TheVariants as wheelchair
 use Rattle.gtfs_rows.specs.declared.choices.BikesAllowed.{BikesAllowed}
 use Rattle.gtfs_rows.specs.declared.choices.BikesAllowed.TheVariants as bikes
-use Rattle.gtfs_rows.specs.declared.choices.PickupType.{PickupType}
-use Rattle.gtfs_rows.specs.declared.choices.PickupType.TheVariants as pickup
-use Rattle.gtfs_rows.specs.declared.choices.DropOffType.{DropOffType}
-use Rattle.gtfs_rows.specs.declared.choices.DropOffType.TheVariants as drop_off
-use Rattle.gtfs_rows.specs.declared.choices.Timepoint.{Timepoint}
-use Rattle.gtfs_rows.specs.declared.choices.Timepoint.TheVariants as timepoint
 use Rattle.gtfs_rows.specs.declared.choices.ExactTimes.{ExactTimes}
 use Rattle.gtfs_rows.specs.declared.choices.ExactTimes.TheVariants as exact
 use Rattle.gtfs_rows.specs.declared.choices.TransferType.{TransferType}
 use Rattle.gtfs_rows.specs.declared.choices.TransferType.TheVariants as transfer
+pub use Rattle.gtfs_stop_times.specs.Choices.{drop_off_code, pickup_code, timepoint_code}
 
 abbrev pub location_code : LocationType → ℕ
 location_code location.Stop = 0
@@ -47,22 +42,6 @@ abbrev pub bikes_code : BikesAllowed → ℕ
 bikes_code bikes.Unknown = 0
 bikes_code bikes.Allowed = 1
 bikes_code bikes.NotAllowed = 2
-
-abbrev pub pickup_code : PickupType → ℕ
-pickup_code pickup.Regular = 0
-pickup_code pickup.None = 1
-pickup_code pickup.Phone = 2
-pickup_code pickup.Driver = 3
-
-abbrev pub drop_off_code : DropOffType → ℕ
-drop_off_code drop_off.Regular = 0
-drop_off_code drop_off.None = 1
-drop_off_code drop_off.Phone = 2
-drop_off_code drop_off.Driver = 3
-
-abbrev pub timepoint_code : Timepoint → ℕ
-timepoint_code timepoint.Approximate = 0
-timepoint_code timepoint.Exact = 1
 
 abbrev pub exact_code : ExactTimes → ℕ
 exact_code exact.Frequency = 0

@@ -7,7 +7,6 @@ pub mod Headsigns
 pub mod Key
 pub mod Named
 pub mod NamedRows
-pub mod Optional
 pub mod Order
 pub mod Places
 pub mod Reading

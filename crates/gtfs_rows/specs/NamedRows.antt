@@ -2,7 +2,7 @@
 use Rattle.std.specs.Prelude.{ℕ, ◌&&◌, [], true, Bool, List, length, nat_lt, slice_index_or, Option, Some, None, option_map}
 use Rattle.gtfs_rows.specs.declared.route.Route.{Route as RouteRow}
 use Rattle.gtfs_rows.specs.declared.stop.Stop.{Stop as StopRowOf}
-use Rattle.gtfs_rows.specs.declared.stop_row.StopRow.{StopRow as RowByNumber}
+use Rattle.gtfs_stop_times.specs.declared.stop_row.StopRow.{StopRow as RowByNumber}
 use Rattle.gtfs_rows.specs.declared.trip.Trip.{Trip as TripRow}
 use Rattle.gtfs_rows.specs.Choices.{bikes_code, boarding_code, direction_code, drop_off_code, location_code, pickup_code, timepoint_code, wheelchair_code}
 use Rattle.gtfs_rows.specs.Rows.{Route, Stop, StopRow, Trip}

@@ -4,8 +4,9 @@
 //!   the nine files. Fields have the names of the columns; each choice is an enum with the numbers of the standard.
 //! - A row names other rows by their numbers: an [`AgencyNo`], [`StopNo`], [`RouteNo`], [`ServiceNo`] or [`TripNo`] is the
 //!   rank of an id among all ids of its kind, by bytes, from 0. A row's own id is a text in the row.
-//! - [`StopRow`] and [`Frequency`] are small and `Copy`. A time that may be missing is an [`OptionalClock`] of four bytes,
-//!   and a headsign an [`OptionalHeadsign`], a number in the feed's list of headsigns.
+//! - [`StopRow`], which is of [`gtfs_stop_times`] with its choices and numbers, and [`Frequency`] are small and `Copy`. A
+//!   time that may be missing is an [`OptionalClock`] of four bytes, and a headsign an [`OptionalHeadsign`], a number in the
+//!   feed's list of headsigns.
 //! - [`Agency::under`], [`Stop::under`], [`Route::under`] and [`Trip::under`] copy a row under another id, with the rows
 //!   that it names there. [`ServiceRow::trim`] copies what stays of a service on one side of a service day.
 //! - [`Parts`] are all rows of a feed, each list in the order of its keys; [`stretch`] finds the rows of one trip.
@@ -20,29 +21,29 @@ mod choices;
 mod copies;
 mod frequency;
 mod numbers;
-mod optional;
 mod parts;
 mod route;
 mod service;
 mod stop;
-mod stop_row;
 mod stretches;
 mod transfer;
 mod trip;
 
 pub use agency::Agency;
 pub use choices::{
-    BikesAllowed, Direction, DropOffType, ExactTimes, LocationType, PickupType, Timepoint,
-    TransferType, WheelchairAccessible, WheelchairBoarding,
+    BikesAllowed, Direction, ExactTimes, LocationType, TransferType, WheelchairAccessible,
+    WheelchairBoarding,
 };
 pub use frequency::Frequency;
-pub use numbers::{AgencyNo, HeadsignNo, RouteNo, ServiceNo, StopNo, TripNo};
-pub use optional::{OptionalClock, OptionalHeadsign};
+pub use gtfs_stop_times::{
+    DropOffType, HeadsignNo, OptionalClock, OptionalHeadsign, PickupType, StopNo, StopRow,
+    Timepoint,
+};
+pub use numbers::{AgencyNo, RouteNo, ServiceNo, TripNo};
 pub use parts::Parts;
 pub use route::{Route, RouteType};
 pub use service::ServiceRow;
 pub use stop::Stop;
-pub use stop_row::StopRow;
 pub use stretches::stretch;
 pub use transfer::Transfer;
 pub use trip::Trip;

@@ -2,10 +2,6 @@
 #[derive(Clone, Copy, Debug, PartialEq, Eq, PartialOrd, Ord)]
 pub struct AgencyNo(pub usize);
 
-/// The number of a stop: the rank of its id among the ids of all stops of the feed, by bytes, from 0.
-#[derive(Clone, Copy, Debug, PartialEq, Eq, PartialOrd, Ord)]
-pub struct StopNo(pub usize);
-
 /// The number of a route: the rank of its id among the ids of all routes of the feed, by bytes, from 0.
 #[derive(Clone, Copy, Debug, PartialEq, Eq, PartialOrd, Ord)]
 pub struct RouteNo(pub usize);
@@ -17,7 +13,3 @@ pub struct ServiceNo(pub usize);
 /// The number of a trip: the rank of its id among the ids of all trips of the feed, by bytes, from 0.
 #[derive(Clone, Copy, Debug, PartialEq, Eq, PartialOrd, Ord)]
 pub struct TripNo(pub usize);
-
-/// The number of a headsign of a stop time: its index in the feed's list of headsigns, from 0.
-#[derive(Clone, Copy, Debug, PartialEq, Eq, PartialOrd, Ord)]
-pub struct HeadsignNo(pub u32);

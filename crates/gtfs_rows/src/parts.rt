@@ -3,10 +3,10 @@ use crate::frequency::Frequency;
 use crate::route::Route;
 use crate::service::ServiceRow;
 use crate::stop::Stop;
-use crate::stop_row::StopRow;
 use crate::transfer::Transfer;
 use crate::trip::Trip;
 use gtfs_field::{List, Text};
+use gtfs_stop_times::StopRow;
 
 /// All rows of a feed, each list in the order of its keys: ids by their bytes, transfers by the six parts of their key.
 ///

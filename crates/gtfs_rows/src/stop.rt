@@ -2,8 +2,8 @@ ghost use Rattle.std.specs.Prelude.{◌≡◌, IfOk, OnOk};
 
 use crate::choices::{LocationType, WheelchairBoarding};
 use crate::copies::{copy_if_any, own};
-use crate::numbers::StopNo;
 use gtfs_field::{Coord, OutOfMemory, Text};
+use gtfs_stop_times::StopNo;
 use std::alloc::Global;
 
 /// A row of `stops.txt` (GTFS Schedule Reference, `stops.txt`).

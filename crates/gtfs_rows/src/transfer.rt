@@ -1,5 +1,6 @@
 use crate::choices::TransferType;
-use crate::numbers::{RouteNo, StopNo, TripNo};
+use crate::numbers::{RouteNo, TripNo};
+use gtfs_stop_times::StopNo;
 
 /// A row of `transfers.txt` (GTFS Schedule Reference, `transfers.txt`).
 #[derive(Clone, Copy, Debug, PartialEq, Eq)]

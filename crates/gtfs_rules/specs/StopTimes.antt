@@ -8,10 +8,10 @@ use Rattle.std.specs.declared.cmp.Ordering.{Ordering}
 use Rattle.gtfs_table.specs.Tables.{Dataset}
 use Rattle.gtfs_table.specs.Rows.{is_row, records_in, rows}
 use Rattle.gtfs_table.specs.declared.file.File.TheVariants as file
+use Rattle.gtfs_stop_times.specs.Choices.{drop_off_code, pickup_code, timepoint_code}
 use Rattle.gtfs_columns.specs.IdNumbers.{id_numbered}
 use Rattle.gtfs_columns.specs.Rows.{amount_in, choice_in, is_empty_in, word_in}
 use Rattle.gtfs_trip_rules.specs.declared.trips.row.StopTime.{StopTime}
-use Rattle.gtfs_trip_rules.specs.KeptChoices.{boarding_number, timepoint_number}
 use Rattle.gtfs_trip_rules.specs.KeptTimes.{arrival_time, departure_time}
 
 -- a stop time says what its row says; the row's texts are read by its number
@@ -22,9 +22,9 @@ pub record SaysStopTime (d : Dataset) (s : StopTime) : Type 0 where
   pub arrival_time : option_map pos (arrival_time s) ≡ amount_in d file.StopTimes s.row "arrival_time"
   pub departure_time : option_map pos (departure_time s) ≡ amount_in d file.StopTimes s.row "departure_time"
   pub stop_sequence : Some (pos s.stop_sequence) ≡ amount_in d file.StopTimes s.row "stop_sequence"
-  pub pickup_type : Some (pos (boarding_number s.pickup_type)) ≡ choice_in d file.StopTimes s.row "pickup_type"
-  pub drop_off_type : Some (pos (boarding_number s.drop_off_type)) ≡ choice_in d file.StopTimes s.row "drop_off_type"
-  pub timepoint : option_map pos (timepoint_number s.timepoint) ≡ amount_in d file.StopTimes s.row "timepoint"
+  pub pickup_type : Some (pos (pickup_code s.pickup_type)) ≡ choice_in d file.StopTimes s.row "pickup_type"
+  pub drop_off_type : Some (pos (drop_off_code s.drop_off_type)) ≡ choice_in d file.StopTimes s.row "drop_off_type"
+  pub timepoint : option_map pos (option_map timepoint_code s.timepoint) ≡ amount_in d file.StopTimes s.row "timepoint"
   pub has_headsign : s.has_headsign ≡ not (is_empty_in d file.StopTimes s.row "stop_headsign")
 
 -- by trip, and in a trip by sequence

@@ -28,11 +28,11 @@ const FILES: [FileLines; 3] = [
 
 // The trip, the stop, the row, the times, the sequence and the choices of each, and whether it has a headsign.
 const WANTED: &str = "\
-0 1 5 Some(28800) Some(28800) 2 Unavailable Regular Exact false
-0 2 3 Some(90600) Some(90690) 7 Phone Driver Approximate true
-1 0 2 Some(28800) Some(28800) 1 Regular Regular Unsaid false
-1 1 6 None None 2 Regular Regular Unsaid false
-1 2 7 Some(30000) Some(30000) 3 Regular Regular Unsaid true
+0 1 5 Some(28800) Some(28800) 2 None Regular Some(Exact) false
+0 2 3 Some(90600) Some(90690) 7 Phone Driver Some(Approximate) true
+1 0 2 Some(28800) Some(28800) 1 Regular Regular None false
+1 1 6 None None 2 Regular Regular None false
+1 2 7 Some(30000) Some(30000) 3 Regular Regular None true
 ";
 
 fn lines_of(alloc: Global, stop_times: &[StopTime]) -> Result<String, Fail> {

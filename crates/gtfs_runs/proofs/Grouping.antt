@@ -10,7 +10,7 @@ use Rattle.std.proofs.lemmas.List.{map-append, get_or-map, length-map, append_as
 use Rattle.std.proofs.lemmas.List.Elements.{filter-append}
 use Rattle.std.proofs.lemmas.List.Folds.{list_all-append}
 use Rattle.gtfs_field.proofs.ListFacts.{range-push as range-more}
-use Rattle.gtfs_rows.specs.declared.numbers.StopNo.{StopNo}
+use Rattle.gtfs_stop_times.specs.declared.numbers.StopNo.{StopNo}
 use Rattle.gtfs_rows.specs.declared.numbers.TripNo.{TripNo}
 use Rattle.gtfs_rows.specs.declared.parts.Parts.{Parts}
 use Rattle.gtfs_runs.specs.declared.pattern.Headed.{Headed}

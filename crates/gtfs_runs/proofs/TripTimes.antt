@@ -10,7 +10,7 @@ use Rattle.gtfs_field.proofs.ListFacts.{some_of}
 use Rattle.gtfs_table.proofs.PartFacts.{length-parts}
 use Rattle.gtfs_rows.specs.declared.frequency.Frequency.{Frequency}
 use Rattle.gtfs_rows.specs.declared.parts.Parts.{Parts}
-use Rattle.gtfs_rows.specs.declared.stop_row.StopRow.{StopRow}
+use Rattle.gtfs_stop_times.specs.declared.stop_row.StopRow.{StopRow}
 use Rattle.gtfs_rows.specs.Views.{IsSoundParts}
 use Rattle.gtfs_rows.specs.Trips.{AreStopTimes, frequencies_by_trip, left_at, stop_rows_by_trip}
 use Rattle.gtfs_rows.proofs.TripFacts.{periods}

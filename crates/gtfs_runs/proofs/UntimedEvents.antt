@@ -16,7 +16,7 @@ use Rattle.gtfs_rows.specs.Runs.{allows_boarding, is_departure_row, is_not_last,
 use Rattle.gtfs_rows.specs.Trips.{frequencies_by_trip, left_at, stop_rows_by_trip}
 use Rattle.gtfs_rows.specs.Views.{IsSoundParts, content_of_parts, stop_row_of, text_of_number}
 use Rattle.gtfs_rows.specs.declared.parts.Parts.{Parts}
-use Rattle.gtfs_rows.specs.declared.stop_row.StopRow.{StopRow as StopTime}
+use Rattle.gtfs_stop_times.specs.declared.stop_row.StopRow.{StopRow as StopTime}
 use Rattle.gtfs_rows.proofs.TripsAt.{content_trip}
 use Rattle.gtfs_times.specs.Filling.{timed, timed_trip}
 use Rattle.gtfs_times.specs.TimedRows.{is_interpolated}

@@ -8,7 +8,7 @@ use Rattle.gtfs_rows.specs.Views.{content_of_parts, service_ids, stop_ids, stop_
 use Rattle.gtfs_rows.specs.declared.numbers.ServiceNo.{ServiceNo}
 use Rattle.gtfs_rows.specs.declared.frequency.Frequency.{Frequency}
 use Rattle.gtfs_rows.specs.declared.parts.Parts.{Parts}
-use Rattle.gtfs_rows.specs.declared.stop_row.StopRow.{StopRow}
+use Rattle.gtfs_stop_times.specs.declared.stop_row.StopRow.{StopRow}
 use Rattle.gtfs_rows.specs.declared.trip.Trip.{Trip}
 use Rattle.gtfs_runs.specs.Counts.{is_same}
 use Rattle.gtfs_runs.specs.Events.{is_event}

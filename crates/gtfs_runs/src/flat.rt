@@ -4,7 +4,7 @@ ghost use Rattle.gtfs_rows.specs.Trips.{ArePeriods, left_at, stop_rows_by_trip};
 ghost use Rattle.gtfs_rows.specs.Views.{frequency_of, stop_ids, stop_row_of, text_of_number, trip_of};
 ghost use Rattle.gtfs_rows.specs.declared.frequency.Frequency.{Frequency as FrequencyRow};
 ghost use Rattle.gtfs_rows.specs.declared.parts.Parts.{Parts};
-ghost use Rattle.gtfs_rows.specs.declared.stop_row.StopRow.{StopRow as StopTime};
+ghost use Rattle.gtfs_stop_times.specs.declared.stop_row.StopRow.{StopRow as StopTime};
 ghost use Rattle.gtfs_rows.specs.declared.trip.Trip.{Trip};
 ghost use Rattle.gtfs_runs.specs.Counts.{tally};
 ghost use Rattle.gtfs_runs.specs.FlatEvents.{AreEvents, is_event_of, is_served, served_at};

@@ -1,5 +1,2 @@
-pub mod FirstNamed
-pub mod Gathering
-pub mod HeadsignIndex
-pub mod Lists
-pub mod Rows
+pub mod Choices
+pub mod Optional

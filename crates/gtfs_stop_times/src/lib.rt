@@ -1,17 +1,21 @@
-//! The stop times of a GTFS Schedule dataset that passed the validator, as the lists of a feed.
+//! The stop times of a GTFS Schedule feed as typed values: the rows of `stop_times.txt`, with numbers in place of ids.
 //!
-//! [`StopTimes::new`] makes three of the lists of [`gtfs_rows::Parts`]: the rows of all trips, where those of each trip
-//! begin, and the headsigns that rows name by their indices. What a row says was read when its dataset was checked, and is
-//! not read again, but for the headsign.
+//! - A [`StopRow`] is a stop time without its trip. It is small and `Copy`: a time that may be missing is an
+//!   [`OptionalClock`] of four bytes, and a headsign an [`OptionalHeadsign`], a number in a list of headsigns.
+//! - [`PickupType`], [`DropOffType`] and [`Timepoint`] are its choices, with the numbers of the standard.
+//! - A [`StopNo`] is the rank of an id among the ids of all stops, by bytes, from 0; a [`HeadsignNo`] is the index of a
+//!   headsign.
 //!
-//! What the lists stand for is said in `specs/Lists.antt`.
+//! The numbers of choices are in `specs/Choices.antt`; a value that may be missing, and its four bytes, in
+//! `specs/Optional.antt`.
 #![tactic(auto)]
 
 mod choices;
-mod gathered;
-mod headsigns;
-mod plain;
+mod numbers;
+mod optional;
 mod stop_row;
-mod stop_times;
 
-pub use stop_times::StopTimes;
+pub use choices::{DropOffType, PickupType, Timepoint};
+pub use numbers::{HeadsignNo, StopNo};
+pub use optional::{OptionalClock, OptionalHeadsign};
+pub use stop_row::StopRow;

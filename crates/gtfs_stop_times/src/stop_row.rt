@@ -1,37 +1,20 @@
-//! The row of a feed that a stop time becomes.
+use crate::choices::{DropOffType, PickupType, Timepoint};
+use crate::numbers::StopNo;
+use crate::optional::{OptionalClock, OptionalHeadsign};
 
-ghost use Rattle.std.specs.Prelude.{◌≡◌, ◌≤◌, IfSome};
-ghost use Rattle.gtfs_stop_times.specs.Rows.{IsTimely, SaysRow};
-
-use crate::choices::{drop_off_type, pickup_type, timepoint};
-use gtfs_field::Clock;
-use gtfs_rows::{OptionalClock, OptionalHeadsign, StopNo, StopRow};
-use gtfs_rules::StopTime;
-
-// The row of a stop time with this headsign.
-pub(crate) fn stop_row(stop_time: &StopTime, stop_headsign: OptionalHeadsign) -> StopRow
-    requires { IsTimely stop_time.now }
-    ensures { SaysRow stop_time.now stop_headsign result }
-{
-    StopRow {
-        stop_id: StopNo(stop_time.stop as usize),
-        arrival_time: clock(stop_time.arrival_time()),
-        departure_time: clock(stop_time.departure_time()),
-        stop_sequence: stop_time.stop_sequence,
-        stop_headsign,
-        pickup_type: pickup_type(stop_time.pickup_type),
-        drop_off_type: drop_off_type(stop_time.drop_off_type),
-        timepoint: timepoint(stop_time.timepoint),
-    }
-}
-
-// The time of this many seconds from the origin of the service day, if any.
-fn clock(seconds: Option<u32>) -> OptionalClock
-    requires { IfSome seconds (λ n. n ≤ 7_199_999) }
-    ensures { result ≡ seconds }
-{
-    match seconds {
-        Some(seconds) => OptionalClock::new(Some(Clock::from_seconds(seconds))),
-        None => OptionalClock::new(None),
-    }
+/// A row of `stop_times.txt`, without its trip (GTFS Schedule Reference, `stop_times.txt`).
+///
+/// Feeds have millions of these, so it has 32 bytes: a missing time and a missing headsign take no more room than
+/// one that is there.
+#[derive(Clone, Copy, Debug, PartialEq, Eq)]
+pub struct StopRow {
+    pub stop_id: StopNo,
+    pub arrival_time: OptionalClock,
+    pub departure_time: OptionalClock,
+    /// 0 to 2,147,483,647, rising along the trip.
+    pub stop_sequence: u32,
+    pub stop_headsign: OptionalHeadsign,
+    pub pickup_type: PickupType,
+    pub drop_off_type: DropOffType,
+    pub timepoint: Option<Timepoint>,
 }

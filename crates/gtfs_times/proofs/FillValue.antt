@@ -10,7 +10,7 @@ use Rattle.gtfs_rows.specs.NamedRows.{stop_row_named}
 use Rattle.gtfs_rows.specs.Rows as content
 use Rattle.gtfs_rows.specs.Runs.{is_timed}
 use Rattle.gtfs_rows.specs.Trips.{left_at, reached_at}
-use Rattle.gtfs_rows.specs.declared.stop_row.StopRow.{StopRow}
+use Rattle.gtfs_stop_times.specs.declared.stop_row.StopRow.{StopRow}
 use Rattle.gtfs_times.specs.Filling.{Placed, passed_between, time_between, timed_after, timed_before}
 use Rattle.gtfs_times.specs.Spans.{AreNeighbours, HaveNone, IsSpanAt}
 use Rattle.gtfs_times.specs.TimedRows.{filled_stop_time, filled_stop_times, is_interpolated, lacks_time, position_time, timed_stop_times}

@@ -24,7 +24,7 @@ use Rattle.gtfs_rows.specs.Sound.{IsSound, has_ends, has_id, if_given, is_sound_
 use Rattle.gtfs_rows.specs.Trips.{left_at, stop_rows_by_trip}
 use Rattle.gtfs_rows.specs.Views.{IsSoundParts, content_of_parts, stop_time_names_rows}
 use Rattle.gtfs_rows.specs.declared.parts.Parts.{Parts}
-use Rattle.gtfs_rows.specs.declared.stop_row.StopRow.{StopRow as StopTime}
+use Rattle.gtfs_stop_times.specs.declared.stop_row.StopRow.{StopRow as StopTime}
 use Rattle.gtfs_times.specs.Filling.{filled_rows, reached, time_at, timed, timed_trip}
 use Rattle.gtfs_times.specs.TimedRows.{filled_stop_time, filled_stop_times, timed_parts, timed_stop_times}
 use Rattle.gtfs_times.specs.declared.times.Times.{Times}

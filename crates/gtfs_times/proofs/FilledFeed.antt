@@ -23,7 +23,7 @@ use Rattle.gtfs_rows.specs.Trips.{AreStopTimes, frequencies_by_trip, left_at, st
 use Rattle.gtfs_rows.specs.Views.{IsSoundParts, content_of_parts, stop_row_of, trip_of, trips_of}
 use Rattle.gtfs_rows.specs.declared.frequency.Frequency.{Frequency as PeriodRow}
 use Rattle.gtfs_rows.specs.declared.parts.Parts.{Parts}
-use Rattle.gtfs_rows.specs.declared.stop_row.StopRow.{StopRow as StopTime}
+use Rattle.gtfs_stop_times.specs.declared.stop_row.StopRow.{StopRow as StopTime}
 use Rattle.gtfs_rows.specs.declared.trip.Trip.{Trip as TripRow}
 use Rattle.gtfs_times.specs.Filling.{left, reached, timed, timed_trip}
 use Rattle.gtfs_times.specs.declared.times.Times.TheVariants as times

@@ -5,7 +5,7 @@ use Rattle.std.specs.List.{enumerate_from, flat_map}
 use Rattle.gtfs_rows.specs.NamedRows.{stop_row_named}
 use Rattle.gtfs_rows.specs.Trips.{left_at, stop_rows_by_trip}
 use Rattle.gtfs_rows.specs.declared.parts.Parts.{Parts}
-use Rattle.gtfs_rows.specs.declared.stop_row.StopRow.{StopRow}
+use Rattle.gtfs_stop_times.specs.declared.stop_row.StopRow.{StopRow}
 use Rattle.gtfs_times.specs.Filling.{time_at}
 use Rattle.gtfs_times.specs.declared.times.Times.{Times}
 use Rattle.gtfs_times.specs.declared.times.Times.TheVariants as times

@@ -3,7 +3,7 @@
 ghost use Rattle.std.specs.Prelude.{◌≡◌, ◌≤◌, ◌<◌, ◌+◌, ◌-◌, ◌*◌, ◌/◌, ◌&&◌, IfOk, false, length, slice_index_or, unwrap_or};
 ghost use Rattle.std.specs.List.{list_any};
 ghost use Rattle.gtfs_rows.specs.Trips.{left_at, reached_at};
-ghost use Rattle.gtfs_rows.specs.declared.stop_row.StopRow.{StopRow as StopTime};
+ghost use Rattle.gtfs_stop_times.specs.declared.stop_row.StopRow.{StopRow as StopTime};
 ghost use Rattle.gtfs_times.specs.Spans.{AreNeighbours, IsSpanAt};
 ghost use Rattle.gtfs_times.specs.TimedRows.{filled_stop_time, filled_stop_times, is_interpolated, lacks_time, timed_stop_times};
 

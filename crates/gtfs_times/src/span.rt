@@ -2,7 +2,7 @@
 
 ghost use Rattle.std.specs.Prelude.{◌≡◌, ◌≤◌, ◌<◌, ◌+◌, true, is_some, length, slice_index_or};
 ghost use Rattle.gtfs_rows.specs.Trips.{left_at};
-ghost use Rattle.gtfs_rows.specs.declared.stop_row.StopRow.{StopRow as StopTime};
+ghost use Rattle.gtfs_stop_times.specs.declared.stop_row.StopRow.{StopRow as StopTime};
 ghost use Rattle.gtfs_times.specs.Spans.{HaveNone, IsSpanAt};
 
 use gtfs_rows::StopRow;

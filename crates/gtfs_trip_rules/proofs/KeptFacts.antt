@@ -18,11 +18,13 @@ use Rattle.gtfs_trip_rules.specs.declared.stop_times.named.NamedIds.{NamedIds}
 use Rattle.gtfs_trip_rules.specs.declared.stop_times.reading.Reading.{Reading}
 use Rattle.gtfs_trip_rules.specs.declared.stop_times.reading.Reading.TheVariants as reading
 use Rattle.gtfs_trip_rules.specs.declared.trips.notes.TripNote.{TripNote}
-use Rattle.gtfs_trip_rules.specs.declared.trips.row.Boarding.{Boarding}
+use Rattle.gtfs_stop_times.specs.declared.choices.Timepoint.{Timepoint}
+use Rattle.gtfs_stop_times.specs.declared.choices.DropOffType.TheVariants as drop_off
+use Rattle.gtfs_stop_times.specs.declared.choices.PickupType.TheVariants as pickup
 use Rattle.gtfs_trip_rules.specs.declared.trips.row.StopTime.{StopTime}
 use Rattle.gtfs_trip_rules.specs.declared.trips.row.Times.TheVariants as times
 use Rattle.gtfs_trip_rules.specs.Kept.{AreTimesRead, Keeps, KeepsRow, named_stop_number}
-use Rattle.gtfs_trip_rules.specs.KeptChoices.{boarding_in, boarding_number, exact_number, timepoint_in, timepoint_number}
+use Rattle.gtfs_stop_times.specs.Choices.{drop_off_code, pickup_code, timepoint_code}
 use Rattle.gtfs_trip_rules.specs.KeptRow.{kept_row, note_of_trip, times_in, with_trip}
 use Rattle.gtfs_trip_rules.specs.KeptTimes.{given, has_arrival, has_departure, is_placed, is_timed, is_untimed}
 use Rattle.gtfs_trip_rules.specs.Readings.{is_blank, text_of, value_in}
@@ -112,26 +114,25 @@ departs_then (reading.Fault c) r e f = cc e
 
 -- ---- choices
 
-chosen : (t : List ℕ) (r : Reading Boarding) → IsReading (up_to 3) (λ b. amount (pos (boarding_number b))) t r
-    → (x : ℤ) → choice_of ((0, 3) ∷ []) (codes "0") t ≡ Some x → pos (boarding_number (boarding_in r)) ≡ x
-chosen t reading.Empty read x e =
+chosen : {V : Type 0} (code : V → ℕ) (regular : V) → code regular ≡ 0 → (t : List ℕ) (r : Reading V) → IsReading (up_to 3) (λ b. amount (pos (code b))) t r
+    → (x : ℤ) → choice_of ((0, 3) ∷ []) (codes "0") t ≡ Some x → pos (code (unwrap_or (value_in r) regular)) ≡ x
+chosen code regular is t reading.Empty read x e =
     let zero : choice_of ((0, 3) ∷ []) (codes "0") t ≡ Some (pos 0) = ap (λ b. amount_of (up_to 3) (if b then codes "0" else t)) (sym read.empty) in
-    ap (λ o. unwrap_or o x) (sym zero ∙ e)
-chosen t (reading.Fault c) read x e =
+    ap pos is ∙ ap (λ o. unwrap_or o x) (sym zero ∙ e)
+chosen code regular is t (reading.Fault c) read x e =
     let none : choice_of ((0, 3) ∷ []) (codes "0") t ≡ None = ap (λ b. amount_of (up_to 3) (if b then codes "0" else t)) (sym read.empty) ∙ ap (option_and_then as_amount) (sym read.value) in
     cc (sym none ∙ e)
-chosen t (reading.Value b) read x e =
-    let some : choice_of ((0, 3) ∷ []) (codes "0") t ≡ Some (pos (boarding_number b)) =
+chosen code regular is t (reading.Value b) read x e =
+    let some : choice_of ((0, 3) ∷ []) (codes "0") t ≡ Some (pos (code b)) =
     ap (λ b. amount_of (up_to 3) (if b then codes "0" else t)) (sym read.empty) ∙ ap (option_and_then as_amount) (sym read.value) in
     ap (λ o. unwrap_or o x) (sym some ∙ e)
 
-exactness : (t : List ℕ) (r : Reading Bool) → IsReading (up_to 1) (λ e. amount (pos (exact_number e))) t r → IsReadAs (up_to 1) t
-    → option_map pos (timepoint_number (timepoint_in r)) ≡ amount_of (up_to 1) t
+exactness : (t : List ℕ) (r : Reading Timepoint) → IsReading (up_to 1) (λ e. amount (pos (timepoint_code e))) t r → IsReadAs (up_to 1) t
+    → option_map pos (option_map timepoint_code (value_in r)) ≡ amount_of (up_to 1) t
 exactness t reading.Empty read whole = ap (option_and_then as_amount) read.value
 exactness t (reading.Fault c) read whole =
     let clash : false ≡ true = ap is_some read.value ∙ whole ∙ ap not (sym read.empty) in cc clash
-exactness t (reading.Value true) read whole = ap (option_and_then as_amount) read.value
-exactness t (reading.Value false) read whole = ap (option_and_then as_amount) read.value
+exactness t (reading.Value e) read whole = ap (option_and_then as_amount) read.value
 
 -- ---- a row
 
@@ -248,10 +249,10 @@ module _ (d : Dataset) (n : ℕ) (s : ReadStopTime) (is : IsStopTime d n s) wher
             ap (λ w. option_map pos (given (has_departure w) (times_in s.arrival_time s.departure_time).departure)) (times_are placed)
             ∙ ap (option_map pos) (departs_then s.arrival_time s.departure_time (arrival_fine read) (departure_fine read))
             ∙ sym (counted_text (value_in s.departure_time)) ∙ ap (option_and_then as_amount) is.departure_time.value;
-        pickup_type = chosen (stop_time_text d n "pickup_type") s.pickup_type is.pickup_type;
-        drop_off_type = chosen (stop_time_text d n "drop_off_type") s.drop_off_type is.drop_off_type;
+        pickup_type = chosen pickup_code pickup.Regular refl (stop_time_text d n "pickup_type") s.pickup_type is.pickup_type;
+        drop_off_type = chosen drop_off_code drop_off.Regular refl (stop_time_text d n "drop_off_type") s.drop_off_type is.drop_off_type;
         headsign = is.has_headsign;
-        timepoint = exactness (stop_time_text d n "timepoint") s.is_exact is.is_exact;
+        timepoint = exactness (stop_time_text d n "timepoint") s.timepoint is.timepoint;
       }
 
       -- .. with the number of its trip

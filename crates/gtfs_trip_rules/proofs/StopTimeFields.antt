@@ -111,7 +111,7 @@ module _ (d : Dataset) (c : StopTimeColumns) (columns : AreStopTimeColumns d c) 
       ∷ (codes "stop_headsign", (is.says.stop_headsign ∙ unfilled_code (is_empty (stop_time_text d s.row "stop_headsign")) (is_named d file.StopTimes (codes "stop_headsign")) _) i)
       ∷ (codes "pickup_type", read_code (up_to 3) _ _ _ is.says.pickup_type _ _ (and_false (is_named d file.StopTimes (codes "pickup_type"))) i)
       ∷ (codes "drop_off_type", read_code (up_to 3) _ _ _ is.says.drop_off_type _ _ (and_false (is_named d file.StopTimes (codes "drop_off_type"))) i)
-      ∷ (codes "timepoint", read_code (up_to 1) _ _ _ is.says.is_exact _ _ (and_false (is_named d file.StopTimes (codes "timepoint"))) i)
+      ∷ (codes "timepoint", read_code (up_to 1) _ _ _ is.says.timepoint _ _ (and_false (is_named d file.StopTimes (codes "timepoint"))) i)
       ∷ []
 
   same_there : (o : Option Column) (f g : Column → Bool) → ((k : Column) → o ≡ Some k → f k ≡ g k) → if_there o f ≡ if_there o g

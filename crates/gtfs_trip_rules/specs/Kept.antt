@@ -8,8 +8,8 @@ use Rattle.gtfs_columns.specs.Columns.{count, id, time, up_to}
 use Rattle.gtfs_columns.specs.IdNumbers.{number_of_id}
 use Rattle.gtfs_columns.specs.ReadRules.{IsReadAs}
 use Rattle.gtfs_columns.specs.Reads.{amount_of, choice_of, word_of}
+use Rattle.gtfs_stop_times.specs.Choices.{drop_off_code, pickup_code, timepoint_code}
 use Rattle.gtfs_trip_rules.specs.declared.trips.row.StopTime.{StopTime}
-use Rattle.gtfs_trip_rules.specs.KeptChoices.{boarding_number, timepoint_number}
 use Rattle.gtfs_trip_rules.specs.KeptTimes.{arrival_time, departure_time, is_placed}
 use Rattle.gtfs_trip_rules.specs.StopTimes.{stop_time_text}
 
@@ -34,10 +34,10 @@ pub record KeepsRow (d : Dataset) (n : ℕ) (r : StopTime) : Type 0 where
   pub sequence : (x : ℤ) → amount_of count (stop_time_text d n "stop_sequence") ≡ Some x → pos r.stop_sequence ≡ x
   pub arrival : is_placed r.times ≡ true → AreTimesRead d n → option_map pos (arrival_time r) ≡ amount_of time (stop_time_text d n "arrival_time")
   pub departure : is_placed r.times ≡ true → AreTimesRead d n → option_map pos (departure_time r) ≡ amount_of time (stop_time_text d n "departure_time")
-  pub pickup_type : (x : ℤ) → choice_of ((0, 3) ∷ []) (codes "0") (stop_time_text d n "pickup_type") ≡ Some x → pos (boarding_number r.pickup_type) ≡ x
-  pub drop_off_type : (x : ℤ) → choice_of ((0, 3) ∷ []) (codes "0") (stop_time_text d n "drop_off_type") ≡ Some x → pos (boarding_number r.drop_off_type) ≡ x
+  pub pickup_type : (x : ℤ) → choice_of ((0, 3) ∷ []) (codes "0") (stop_time_text d n "pickup_type") ≡ Some x → pos (pickup_code r.pickup_type) ≡ x
+  pub drop_off_type : (x : ℤ) → choice_of ((0, 3) ∷ []) (codes "0") (stop_time_text d n "drop_off_type") ≡ Some x → pos (drop_off_code r.drop_off_type) ≡ x
   pub headsign : r.has_headsign ≡ not (is_empty (stop_time_text d n "stop_headsign"))
-  pub timepoint : IsReadAs (up_to 1) (stop_time_text d n "timepoint") → option_map pos (timepoint_number r.timepoint) ≡ amount_of (up_to 1) (stop_time_text d n "timepoint")
+  pub timepoint : IsReadAs (up_to 1) (stop_time_text d n "timepoint") → option_map pos (option_map timepoint_code r.timepoint) ≡ amount_of (up_to 1) (stop_time_text d n "timepoint")
 
 -- and with its trip
 pub record Keeps (d : Dataset) (r : StopTime) : Type 0 where

@@ -2,6 +2,8 @@
 use Rattle.std.specs.Prelude.{ℕ, List, if◌then◌else◌, Option, is_some}
 use Rattle.std.specs.Borrow.{Bor}
 use Rattle.std.specs.Option.{unwrap_or}
+use Rattle.gtfs_stop_times.specs.declared.choices.DropOffType.TheVariants as drop_off
+use Rattle.gtfs_stop_times.specs.declared.choices.PickupType.TheVariants as pickup
 use Rattle.gtfs_trip_rules.specs.declared.stop_times.columns.ReadStopTime.{ReadStopTime}
 use Rattle.gtfs_trip_rules.specs.declared.stop_times.kept.KeptTimes.{KeptTimes}
 use Rattle.gtfs_trip_rules.specs.declared.stop_times.reading.Reading.{Reading}
@@ -10,7 +12,6 @@ use Rattle.gtfs_trip_rules.specs.declared.trips.notes.TripNote.{TripNote}
 use Rattle.gtfs_trip_rules.specs.declared.trips.row.StopTime.{StopTime}
 use Rattle.gtfs_trip_rules.specs.declared.trips.row.Times.{Times}
 use Rattle.gtfs_trip_rules.specs.declared.trips.row.Times.TheVariants as times
-use Rattle.gtfs_trip_rules.specs.KeptChoices.{boarding_in, timepoint_in}
 use Rattle.gtfs_trip_rules.specs.Readings.{value_in}
 
 abbrev pub one_time : Times → ℕ → KeptTimes
@@ -36,9 +37,10 @@ kept_row s stop = record {
   departure = (times_in s.arrival_time s.departure_time).departure;
   stop_sequence = unwrap_or (value_in s.stop_sequence) 0;
   times = if is_some (value_in s.stop_sequence) then (times_in s.arrival_time s.departure_time).times else times.Unplaced;
-  pickup_type = boarding_in s.pickup_type;
-  drop_off_type = boarding_in s.drop_off_type;
-  timepoint = timepoint_in s.is_exact;
+  -- empty: as scheduled
+  pickup_type = unwrap_or (value_in s.pickup_type) pickup.Regular;
+  drop_off_type = unwrap_or (value_in s.drop_off_type) drop_off.Regular;
+  timepoint = value_in s.timepoint;
   has_headsign = s.has_headsign;
 }
 

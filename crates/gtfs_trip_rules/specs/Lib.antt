@@ -1,6 +1,5 @@
 pub mod CoveredTrips
 pub mod Kept
-pub mod KeptChoices
 pub mod KeptOrder
 pub mod KeptRow
 pub mod KeptTimes

@@ -11,13 +11,13 @@ use Rattle.gtfs_trip_rules.specs.declared.stop_times.named.NamedId.{NamedId}
 use Rattle.gtfs_trip_rules.specs.declared.stop_times.named.NamedIds.{NamedIds}
 use Rattle.gtfs_trip_rules.specs.declared.stop_times.named.NamedRows.{NamedRows}
 use Rattle.gtfs_trip_rules.specs.declared.stop_times.reading.Reading.{Reading}
+use Rattle.gtfs_stop_times.specs.Choices.{drop_off_code, pickup_code, timepoint_code}
 use Rattle.gtfs_columns.specs.Columns.{Kind, id, text, count, time, up_to}
 use Rattle.gtfs_columns.specs.steps.FieldCodes.{is_found_at, length_code}
 use Rattle.gtfs_columns.specs.FieldRules.{field_count}
 use Rattle.gtfs_columns.specs.steps.Found.{Reports}
 use Rattle.gtfs_columns.specs.steps.Ids.{FirstRows, first_row_with, first_rows, number_with}
 use Rattle.gtfs_columns.specs.Problems.{Problem}
-use Rattle.gtfs_trip_rules.specs.KeptChoices.{boarding_number, exact_number}
 use Rattle.gtfs_trip_rules.specs.Readings.{code_in, fault_in, fault_of, is_blank, text_of, value_in}
 use Rattle.gtfs_table.specs.Rows.{is_row, records_in, is_empty}
 use Rattle.gtfs_columns.specs.Rows.{text_in}
@@ -62,9 +62,9 @@ pub record IsStopTime (d : Dataset) (n : ℕ) (s : ReadStopTime) : Type 0 where
   pub stop_sequence : IsReading count (λ x. amount (pos x)) (stop_time_text d n "stop_sequence") s.stop_sequence
   pub stop_headsign : s.stop_headsign ≡ fault_of text (stop_time_text d n "stop_headsign")
   pub has_headsign : s.has_headsign ≡ not (is_empty (stop_time_text d n "stop_headsign"))
-  pub pickup_type : IsReading (up_to 3) (λ b. amount (pos (boarding_number b))) (stop_time_text d n "pickup_type") s.pickup_type
-  pub drop_off_type : IsReading (up_to 3) (λ b. amount (pos (boarding_number b))) (stop_time_text d n "drop_off_type") s.drop_off_type
-  pub is_exact : IsReading (up_to 1) (λ e. amount (pos (exact_number e))) (stop_time_text d n "timepoint") s.is_exact
+  pub pickup_type : IsReading (up_to 3) (λ b. amount (pos (pickup_code b))) (stop_time_text d n "pickup_type") s.pickup_type
+  pub drop_off_type : IsReading (up_to 3) (λ b. amount (pos (drop_off_code b))) (stop_time_text d n "drop_off_type") s.drop_off_type
+  pub timepoint : IsReading (up_to 1) (λ e. amount (pos (timepoint_code e))) (stop_time_text d n "timepoint") s.timepoint
 
 -- ---- what is reported of a row
 
@@ -79,7 +79,7 @@ cells_of c s =
     ∷ (codes "stop_headsign", s.stop_headsign)
     ∷ (codes "pickup_type", code_in false s.pickup_type)
     ∷ (codes "drop_off_type", code_in false s.drop_off_type)
-    ∷ (codes "timepoint", code_in false s.is_exact)
+    ∷ (codes "timepoint", code_in false s.timepoint)
     ∷ []
 
 -- the length of the row and its fields

@@ -23,4 +23,4 @@ pub use stop_times::report_stop_times;
 pub use trips::counts::report_counts;
 pub use trips::notes::TripNotes;
 pub use trips::order::report_order;
-pub use trips::row::{Boarding, StopTime, Timepoint};
+pub use trips::row::StopTime;

@@ -16,7 +16,7 @@ use Rattle.gtfs_columns.specs.Columns.{columns_of, text, time, up_to}
 use Rattle.gtfs_columns.specs.Values.{word}
 use Rattle.gtfs_rows.specs.declared.frequency.Frequency.{Frequency}
 use Rattle.gtfs_rows.specs.declared.parts.Parts.{Parts}
-use Rattle.gtfs_rows.specs.declared.stop_row.StopRow.{StopRow as StopTime}
+use Rattle.gtfs_stop_times.specs.declared.stop_row.StopRow.{StopRow as StopTime}
 use Rattle.gtfs_rows.specs.declared.trip.Trip.{Trip}
 use Rattle.gtfs_rows.specs.Cells.{are_cells, record_text}
 use Rattle.gtfs_rows.specs.RowCells.{held_by, number, stop_time_cells, stop_times_of}

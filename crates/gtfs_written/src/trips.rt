@@ -6,7 +6,7 @@ ghost use Rattle.gtfs_rows.specs.Views.{IsSoundParts, content_of_parts, trip_nam
 ghost use Rattle.gtfs_table.specs.declared.file.File.TheVariants as file;
 ghost use Rattle.gtfs_written.specs.Taking.{rows_in, with_row, with_rows};
 ghost use Rattle.gtfs_rows.specs.declared.frequency.Frequency.{Frequency};
-ghost use Rattle.gtfs_rows.specs.declared.stop_row.StopRow.{StopRow};
+ghost use Rattle.gtfs_stop_times.specs.declared.stop_row.StopRow.{StopRow};
 
 use crate::fields::Fields;
 use crate::names::{route_id, service_id};

@@ -6,7 +6,7 @@ use Rattle.gtfs_rows.specs.Runs.{is_departure_row}
 use Rattle.gtfs_rows.specs.Views.{content_of_parts, stop_ids, stop_row_of, text_of_number, trip_of}
 use Rattle.gtfs_rows.specs.declared.frequency.Frequency.{Frequency}
 use Rattle.gtfs_rows.specs.declared.parts.Parts.{Parts}
-use Rattle.gtfs_rows.specs.declared.stop_row.StopRow.{StopRow}
+use Rattle.gtfs_stop_times.specs.declared.stop_row.StopRow.{StopRow}
 use Rattle.gtfs_rows.specs.declared.trip.Trip.{Trip}
 use Rattle.gtfs_runs.specs.StopIndex.{departs_at, departure_row_cmp}
 use Rattle.gtfs_runs.specs.declared.stop_index.DepartureRow.{DepartureRow}

@@ -1,6 +1,6 @@
 ghost use Rattle.std.specs.Prelude.{◌≡◌, ◌≤◌, ◌<◌, All, List, OnOk, [], Some, length, map, slice_get, slice_index_or, unwrap_or};
 ghost use Rattle.gtfs_rows.specs.Trips.{left_at, stop_rows_by_trip};
-ghost use Rattle.gtfs_rows.specs.declared.stop_row.StopRow.{StopRow as StopTime};
+ghost use Rattle.gtfs_stop_times.specs.declared.stop_row.StopRow.{StopRow as StopTime};
 ghost use Rattle.gtfs_runs.specs.steps.Passings.{first_left};
 ghost use Rattle.gtfs_runs.specs.steps.Places.{passing_of};
 ghost use Rattle.gtfs_times.specs.TimedRows.{timed_parts};

@@ -4,7 +4,7 @@ ghost use Rattle.gtfs_rows.specs.Trips.{left_at, stop_rows_by_trip};
 ghost use Rattle.gtfs_rows.specs.Views.{content_of_parts, stop_ids, text_of_number};
 ghost use Rattle.gtfs_rows.specs.declared.frequency.Frequency.{Frequency};
 ghost use Rattle.gtfs_rows.specs.declared.parts.Parts.{Parts};
-ghost use Rattle.gtfs_rows.specs.declared.stop_row.StopRow.{StopRow as StopTime};
+ghost use Rattle.gtfs_stop_times.specs.declared.stop_row.StopRow.{StopRow as StopTime};
 ghost use Rattle.gtfs_rows.specs.declared.trip.Trip.{Trip};
 ghost use Rattle.gtfs_rows.specs.Places.{members};
 ghost use Rattle.gtfs_runs.specs.steps.Passings.{AreTripTimes, first_left, passing_at, passing_event, passings_of};

@@ -9,14 +9,16 @@ ghost use Rattle.gtfs_trip_rules.specs.StopTimes.{stop_time_text, AreStopTimeCol
 ghost use Rattle.gtfs_columns.specs.Columns.{id};
 ghost use Rattle.gtfs_columns.specs.Values.{word};
 
-use crate::stop_times::kept::{boarding_in, kept_times, placed, timepoint_in};
+use crate::stop_times::kept::{kept_times, placed};
 use crate::stop_times::reading::{
-    Reading, read_beside, read_boarding, read_is_exact, read_number, read_seconds,
+    Reading, read_beside, read_drop_off_type, read_number, read_pickup_type, read_seconds,
+    read_timepoint,
 };
 use crate::trips::notes::TripNote;
-use crate::trips::row::{Boarding, StopTime, small_number};
+use crate::trips::row::{StopTime, small_number};
 use gtfs_columns::{Code, Kind, fault_code};
 use gtfs_field::OutOfMemory;
+use gtfs_stop_times::{DropOffType, PickupType, Timepoint};
 use gtfs_table::{File, Record, Tables};
 
 // The indices of the kept columns of stop_times.txt, and how many fields its header has.
@@ -49,10 +51,9 @@ pub(crate) struct ReadStopTime<'a> {
     // What is wrong with this field.
     pub(crate) stop_headsign: Option<Code>,
     pub(crate) has_headsign: bool,
-    pub(crate) pickup_type: Reading<Boarding>,
-    pub(crate) drop_off_type: Reading<Boarding>,
-    // Whether its times are exact.
-    pub(crate) is_exact: Reading<bool>,
+    pub(crate) pickup_type: Reading<PickupType>,
+    pub(crate) drop_off_type: Reading<DropOffType>,
+    pub(crate) timepoint: Reading<Timepoint>,
 }
 
 impl<'a> ReadStopTime<'a> {
@@ -90,9 +91,9 @@ impl<'a> ReadStopTime<'a> {
             departure: times.departure,
             stop_sequence: sequence.unwrap_or(0),
             times: placed(times.times, sequence.is_some()),
-            pickup_type: boarding_in(self.pickup_type),
-            drop_off_type: boarding_in(self.drop_off_type),
-            timepoint: timepoint_in(self.is_exact),
+            pickup_type: self.pickup_type.value().unwrap_or(PickupType::Regular),
+            drop_off_type: self.drop_off_type.value().unwrap_or(DropOffType::Regular),
+            timepoint: self.timepoint.value(),
             has_headsign: self.has_headsign,
         })
     }
@@ -151,9 +152,9 @@ impl<'a> StopTimeColumns<'a> {
             stop_sequence: read_number(record.value(self.stop_sequence)),
             stop_headsign: fault_in_text(Kind::Text, headsign),
             has_headsign: !headsign.is_empty(),
-            pickup_type: read_boarding(record.value(self.pickup_type)),
-            drop_off_type: read_boarding(record.value(self.drop_off_type)),
-            is_exact: read_is_exact(record.value(self.timepoint)),
+            pickup_type: read_pickup_type(record.value(self.pickup_type)),
+            drop_off_type: read_drop_off_type(record.value(self.drop_off_type)),
+            timepoint: read_timepoint(record.value(self.timepoint)),
         }
     }
 }

@@ -50,7 +50,7 @@ pub(crate) fn report_fields<'a>(
         stop_time.drop_off_type.code(false),
         found,
     )?;
-    report(row, "timepoint", stop_time.is_exact.code(false), found)
+    report(row, "timepoint", stop_time.timepoint.code(false), found)
 }
 
 // Reports what was found at a column of a row, if anything.

@@ -1,10 +1,9 @@
 ghost use Rattle.std.specs.Prelude.{◌≡◌, if◌then◌else◌};
-ghost use Rattle.gtfs_trip_rules.specs.KeptChoices.{boarding_in, timepoint_in};
 ghost use Rattle.gtfs_trip_rules.specs.KeptRow.{times_in};
 ghost use Rattle.gtfs_trip_rules.specs.declared.trips.row.Times.TheVariants as times;
 
 use crate::stop_times::reading::Reading;
-use crate::trips::row::{Boarding, Timepoint, Times};
+use crate::trips::row::Times;
 
 // The times of a row as they are kept.
 #[derive(Clone, Copy)]
@@ -51,29 +50,4 @@ pub(crate) fn placed(kept: Times, has_position: bool) -> Times
     ensures { result ≡ (if has_position then kept else times.Unplaced) }
 {
     if has_position { kept } else { Times::Unplaced }
-}
-
-// How passengers board or get off: as scheduled where nothing is said.
-#[inline(always)]
-pub(crate) fn boarding_in(boarding: Reading<Boarding>) -> Boarding
-    ensures { result ≡ boarding_in boarding }
-{
-    match boarding {
-        Reading::Empty => Boarding::Regular,
-        Reading::Fault(_) => Boarding::Regular,
-        Reading::Value(boarding) => boarding,
-    }
-}
-
-// What is said of the exactness of times.
-#[inline(always)]
-pub(crate) fn timepoint_in(is_exact: Reading<bool>) -> Timepoint
-    ensures { result ≡ timepoint_in is_exact }
-{
-    match is_exact {
-        Reading::Empty => Timepoint::Unsaid,
-        Reading::Fault(_) => Timepoint::Unsaid,
-        Reading::Value(false) => Timepoint::Approximate,
-        Reading::Value(true) => Timepoint::Exact,
-    }
 }

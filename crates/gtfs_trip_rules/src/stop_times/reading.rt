@@ -1,15 +1,15 @@
 ghost use Rattle.std.specs.Prelude.{◌≡◌, option_map, pos};
 ghost use Rattle.gtfs_columns.specs.Columns.{count, time, up_to};
-ghost use Rattle.gtfs_trip_rules.specs.KeptChoices.{boarding_number, exact_number};
 ghost use Rattle.gtfs_trip_rules.specs.Readings.{code_in, fault_in, fault_of, is_blank, value_in, value_or};
 ghost use Rattle.gtfs_trip_rules.specs.StopTimes.{IsReading};
 ghost use Rattle.gtfs_columns.specs.Values.{amount, readable};
 ghost use Rattle.gtfs_table.specs.Rows.{is_empty};
 ghost use Rattle.gtfs_field.specs.Kinds.{count_of};
+ghost use Rattle.gtfs_stop_times.specs.Choices.{drop_off_code, pickup_code, timepoint_code};
 
-use crate::trips::row::Boarding;
 use gtfs_columns::{Code, are_equal};
 use gtfs_field::{FieldFault, read_count, read_time};
+use gtfs_stop_times::{DropOffType, PickupType, Timepoint};
 
 // What reading a field found.
 #[derive(Clone, Copy)]
@@ -121,42 +121,64 @@ pub(crate) fn read_number(text: &str) -> Reading<u32>
     }
 }
 
-// How passengers board or get off.
+// How riders board.
 #[inline(always)]
-pub(crate) fn read_boarding(text: &str) -> Reading<Boarding>
+pub(crate) fn read_pickup_type(text: &str) -> Reading<PickupType>
     ensures empty { is_blank result ≡ is_empty text.now }
     ensures fault { fault_in result ≡ fault_of (up_to 3) text.now }
-    ensures value { option_map (λ b. amount (pos (boarding_number b))) (value_in result)
+    ensures value { option_map (λ b. amount (pos (pickup_code b))) (value_in result)
         ≡ readable (up_to 3) text.now }
 {
     if text.is_empty() {
         return Reading::Empty;
     }
     match read_short_count(text) {
-        Ok(0) => Reading::Value(Boarding::Regular),
-        Ok(1) => Reading::Value(Boarding::Unavailable),
-        Ok(2) => Reading::Value(Boarding::Phone),
-        Ok(3) => Reading::Value(Boarding::Driver),
+        Ok(0) => Reading::Value(PickupType::Regular),
+        Ok(1) => Reading::Value(PickupType::None),
+        Ok(2) => Reading::Value(PickupType::Phone),
+        Ok(3) => Reading::Value(PickupType::Driver),
         Ok(4..) => Reading::Fault(Code::E08),
         Err(FieldFault::Form) => Reading::Fault(Code::E07),
         Err(FieldFault::Range) => Reading::Fault(Code::E08),
     }
 }
 
-// Whether the times of a row are exact.
+// How riders alight.
 #[inline(always)]
-pub(crate) fn read_is_exact(text: &str) -> Reading<bool>
+pub(crate) fn read_drop_off_type(text: &str) -> Reading<DropOffType>
+    ensures empty { is_blank result ≡ is_empty text.now }
+    ensures fault { fault_in result ≡ fault_of (up_to 3) text.now }
+    ensures value { option_map (λ b. amount (pos (drop_off_code b))) (value_in result)
+        ≡ readable (up_to 3) text.now }
+{
+    if text.is_empty() {
+        return Reading::Empty;
+    }
+    match read_short_count(text) {
+        Ok(0) => Reading::Value(DropOffType::Regular),
+        Ok(1) => Reading::Value(DropOffType::None),
+        Ok(2) => Reading::Value(DropOffType::Phone),
+        Ok(3) => Reading::Value(DropOffType::Driver),
+        Ok(4..) => Reading::Fault(Code::E08),
+        Err(FieldFault::Form) => Reading::Fault(Code::E07),
+        Err(FieldFault::Range) => Reading::Fault(Code::E08),
+    }
+}
+
+// How exact the times of a row are.
+#[inline(always)]
+pub(crate) fn read_timepoint(text: &str) -> Reading<Timepoint>
     ensures empty { is_blank result ≡ is_empty text.now }
     ensures fault { fault_in result ≡ fault_of (up_to 1) text.now }
-    ensures value { option_map (λ e. amount (pos (exact_number e))) (value_in result)
+    ensures value { option_map (λ e. amount (pos (timepoint_code e))) (value_in result)
         ≡ readable (up_to 1) text.now }
 {
     if text.is_empty() {
         return Reading::Empty;
     }
     match read_short_count(text) {
-        Ok(0) => Reading::Value(false),
-        Ok(1) => Reading::Value(true),
+        Ok(0) => Reading::Value(Timepoint::Approximate),
+        Ok(1) => Reading::Value(Timepoint::Exact),
         Ok(2..) => Reading::Fault(Code::E08),
         Err(FieldFault::Form) => Reading::Fault(Code::E07),
         Err(FieldFault::Range) => Reading::Fault(Code::E08),

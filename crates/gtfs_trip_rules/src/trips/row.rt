@@ -3,32 +3,7 @@ ghost use Rattle.gtfs_trip_rules.specs.KeptRow.{with_trip};
 ghost use Rattle.gtfs_trip_rules.specs.KeptTimes.{arrival_time, arrives, departs, departure_time, is_placed, is_timed, is_untimed};
 
 use gtfs_field::OutOfMemory;
-
-/// How passengers board at a stop or get off (GTFS Schedule Reference, `pickup_type` and
-/// `drop_off_type` of stop_times.txt).
-#[derive(Clone, Copy, Debug, PartialEq, Eq)]
-pub enum Boarding {
-    /// 0, or empty: as scheduled.
-    Regular,
-    /// 1: not at all.
-    Unavailable,
-    /// 2: after a call to the agency.
-    Phone,
-    /// 3: as agreed with the driver.
-    Driver,
-}
-
-/// Whether the times of a stop time are exact (GTFS Schedule Reference, `timepoint` of
-/// stop_times.txt).
-#[derive(Clone, Copy, Debug, PartialEq, Eq)]
-pub enum Timepoint {
-    /// Empty: nothing is said.
-    Unsaid,
-    /// 0: they are approximate.
-    Approximate,
-    /// 1: they are exact.
-    Exact,
-}
+use gtfs_stop_times::{DropOffType, PickupType, Timepoint};
 
 // Which of its two times a stop time has.
 #[derive(Clone, Copy)]
@@ -61,12 +36,9 @@ pub struct StopTime {
     /// Where it stands in its trip: a number from 0 to 2,147,483,647.
     pub stop_sequence: u32,
     pub(crate) times: Times,
-    /// How passengers board.
-    pub pickup_type: Boarding,
-    /// How passengers get off.
-    pub drop_off_type: Boarding,
-    /// Whether its times are exact.
-    pub timepoint: Timepoint,
+    pub pickup_type: PickupType,
+    pub drop_off_type: DropOffType,
+    pub timepoint: Option<Timepoint>,
     /// Whether its row has a headsign, a field that is not blank.
     pub has_headsign: bool,
 }

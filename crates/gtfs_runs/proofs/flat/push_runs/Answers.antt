@@ -1,6 +1,6 @@
 use Rattle.std.proofs.Common.{◌++◌, ◌∙◌, map, get_or, sym, ap}
 use Rattle.std.proofs.lemmas.List.{take_all}
-use Rattle.gtfs_rows.specs.declared.stop_row.StopRow.{StopRow}
+use Rattle.gtfs_stop_times.specs.declared.stop_row.StopRow.{StopRow}
 use Rattle.gtfs_runs.specs.FlatEvents.{served_at}
 use Rattle.gtfs_runs.proofs.Tallies.{nothing_yet, run_more}
 use Rattle.gtfs_runs.proofs.flat.push_runs.Goals as goal

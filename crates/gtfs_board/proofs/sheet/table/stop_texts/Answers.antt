@@ -1,6 +1,6 @@
 use Rattle.std.proofs.Common.{get_or}
 use Rattle.gtfs_rows.specs.Views.{stop_ids, text_of_number}
-use Rattle.gtfs_rows.specs.declared.numbers.StopNo.{StopNo}
+use Rattle.gtfs_stop_times.specs.declared.numbers.StopNo.{StopNo}
 use Rattle.gtfs_runs.proofs.Pushes.{mapped-all}
 use Rattle.gtfs_board.proofs.SheetLists.{item-at, mapped-more}
 use Rattle.gtfs_board.proofs.sheet.table.stop_texts.Goals as goal

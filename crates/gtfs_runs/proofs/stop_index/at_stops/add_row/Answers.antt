@@ -1,7 +1,7 @@
 use Rattle.std.proofs.Common.{◌<◌, ◌∙◌, get_or, refl, sym, subst}
 use Rattle.std.proofs.lemmas.List.{length-map, length-set}
 use Rattle.gtfs_field.proofs.ListFacts.{some_of}
-use Rattle.gtfs_rows.specs.declared.stop_row.StopRow.{StopRow}
+use Rattle.gtfs_stop_times.specs.declared.stop_row.StopRow.{StopRow}
 use Rattle.gtfs_runs.proofs.AtStopFacts.{pushed_at, row_added, row_last, row_later, row_passed}
 use Rattle.gtfs_runs.proofs.stop_index.at_stops.add_row.Goals as goal
 

@@ -4,7 +4,7 @@ use Rattle.std.specs.List.{All}
 use Rattle.std.proofs.lemmas.List.{get_or_default}
 use Rattle.std.proofs.lemmas.List.Elements.{All-push}
 use Rattle.gtfs_rows.specs.Trips.{left_at}
-use Rattle.gtfs_rows.specs.declared.stop_row.StopRow.{StopRow}
+use Rattle.gtfs_stop_times.specs.declared.stop_row.StopRow.{StopRow}
 use Rattle.gtfs_runs.specs.declared.stop_index.DepartureRow.{DepartureRow}
 use Rattle.gtfs_runs.specs.steps.Passings.{passing_at}
 use Rattle.gtfs_runs.specs.steps.Places.{passing_of}
