@@ -1,3 +1,3 @@
-pub mod Content
 pub mod Numbering
 pub mod RowIds
+pub mod Words
