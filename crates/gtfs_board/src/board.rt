@@ -113,7 +113,8 @@ impl<'a> Board<'a> {
             span.from span.until (option_map (λ k. plain_key k.now) after.entry) (keys_of b.rest)) }
         ensures shown { IfOk result (λ b. All (IsShown (content_of_parts feed.now)) b.rest) }
         ensures queued { IfOk result IsQueued }
-        ensures settings { IfOk result (HasSettings (timed times (content_of_parts feed.now)) zone.now
+        ensures settings { IfOk result (HasSettings
+            (timed times (content_of_parts feed.now)) zone.now
             stop.now span (option_map (λ k. plain_key k.now) after.entry)) }
         ensures steps { IfOk result (λ b. b.steps ≤ steps_for_days b) }
     {
@@ -139,9 +140,11 @@ impl<'a> Board<'a> {
         ensures unknown { IsErrOf result BoardFault.UnknownStop
             ↔ (is_stop (content_of_parts index.now.feed) stop.now ≡ false) }
         ensures bad { IsErrOf result BoardFault.BadSpan
-            ↔ ((is_stop (content_of_parts index.now.feed) stop.now ≡ true) × (is_span span ≡ false)) }
+            ↔ ((is_stop (content_of_parts index.now.feed) stop.now ≡ true)
+            × (is_span span ≡ false)) }
         ensures board { IfOk result (λ b. IsBoard
-            (timed index.now.times (content_of_parts index.now.feed)) (zone_origin zone.now) stop.now
+            (timed index.now.times (content_of_parts index.now.feed))
+            (zone_origin zone.now) stop.now
             span.from span.until (option_map (λ k. plain_key k.now) after.entry) (keys_of b.rest)) }
         ensures shown { IfOk result (λ b. All (IsShown (content_of_parts index.now.feed)) b.rest) }
         ensures queued { IfOk result IsQueued }
@@ -211,7 +214,8 @@ impl<'a> Board<'a> {
         requires { stop.0 < length index.now.feed.stops }
         ensures known { IfErr result (λ e. e ≢ BoardFault.UnknownStop) }
         ensures bad { IsErrOf result BoardFault.BadSpan ↔ (is_span span ≡ false) }
-        ensures opened { IfOk result (IsOpened index.now.times (content_of_parts index.now.feed) zone.now
+        ensures opened { IfOk result (IsOpened
+            index.now.times (content_of_parts index.now.feed) zone.now
             (text_of_number (stop_ids index.now.feed) stop.0) span
             (option_map (λ k. plain_key k.now) after.entry)) }
     {

@@ -99,7 +99,8 @@ impl<'a> Days<'a> {
     // The first event of a lane above a position.
     fn first_above(&self, lane: usize, moment: &Moment, steps: &mut Steps) -> Option<Event>
         requires { lane < length (lanes_of self.now.lanes) }
-        ensures first { result ≡ find (is_above_moment moment.now) (lane_at self.now.lanes lane).events }
+        ensures first { result
+            ≡ find (is_above_moment moment.now) (lane_at self.now.lanes lane).events }
         ensures steps { steps.new ≤ steps.old + 1 }
     {
         self.lane(lane).first_above(self.feed, moment, steps)

@@ -174,9 +174,11 @@ fn judged(
 ) -> Result<Merged, MergeFault>
     requires { IfSome options.now.cutoff (λ d. is_service_day d ≡ true) }
     ensures merged { IfOk result (IsMergeOf options.now.near options.now.cutoff
-        (content_of_parts (cow_value a.entry)) (content_of_parts (cow_value b.entry)) options.now.file_limit) }
+        (content_of_parts (cow_value a.entry)) (content_of_parts (cow_value b.entry))
+        options.now.file_limit) }
     ensures refused { IfErr result (IsRefusal options.now.near options.now.cutoff
-        (content_of_parts (cow_value a.entry)) (content_of_parts (cow_value b.entry)) options.now.file_limit) }
+        (content_of_parts (cow_value a.entry)) (content_of_parts (cow_value b.entry))
+        options.now.file_limit) }
     ensures hashed { IfOk result (λ merged. AreHashedBy random merged.names) }
 {
     if zones_differ(a.as_ref(), b.as_ref()) {
@@ -194,7 +196,8 @@ fn rows_of(
     b: Cow<'_, Feed>,
     options: &Options,
 ) -> Result<(Parts, Names), OutOfMemory>
-    requires zone { zone_texts_differ (content_of_parts (cow_value a)) (content_of_parts (cow_value b)) ≡ false }
+    requires zone { zone_texts_differ (content_of_parts (cow_value a))
+        (content_of_parts (cow_value b)) ≡ false }
     requires cutoff { IfSome options.now.cutoff (λ d. is_service_day d ≡ true) }
     ensures { IfOk result (AreRowsOfMerge random options.now.near options.now.cutoff
         (content_of_parts (cow_value a.entry)) (content_of_parts (cow_value b.entry))) }
@@ -215,7 +218,8 @@ fn rows_cut_at(
     day: Day,
     near: Option<u32>,
 ) -> Result<(Parts, Names), OutOfMemory>
-    requires zone { zone_texts_differ (content_of_parts (cow_value a)) (content_of_parts (cow_value b)) ≡ false }
+    requires zone { zone_texts_differ (content_of_parts (cow_value a))
+        (content_of_parts (cow_value b)) ≡ false }
     requires day { is_service_day day ≡ true }
     ensures { IfOk result (AreRowsOfMerge random near (Some day)
         (content_of_parts (cow_value a.entry)) (content_of_parts (cow_value b.entry))) }
@@ -242,7 +246,8 @@ fn trimmed(
 // What is left of a feed that is lent.
 fn left_of(alloc: Global, random: RandomState, feed: &Feed, cut: Cut) -> Result<Feed, OutOfMemory>
     requires { is_service_day (cut_day cut) ≡ true }
-    ensures { IfOk result (λ left. content_of_parts left ≡ trimmed cut (content_of_parts feed.now)) }
+    ensures { IfOk result
+        (λ left. content_of_parts left ≡ trimmed cut (content_of_parts feed.now)) }
 {
     feed.trimmed(alloc, random, cut)
 }
@@ -255,7 +260,8 @@ fn rows_of_pair(
     b: Cow<'_, Feed>,
     near: Option<u32>,
 ) -> Result<(Parts, Names), OutOfMemory>
-    requires { zone_texts_differ (content_of_parts (cow_value a)) (content_of_parts (cow_value b)) ≡ false }
+    requires { zone_texts_differ (content_of_parts (cow_value a))
+        (content_of_parts (cow_value b)) ≡ false }
     ensures { IfOk result (AreRowsOfMerge random near None
         (content_of_parts (cow_value a.entry)) (content_of_parts (cow_value b.entry))) }
 {

@@ -29,7 +29,8 @@ pub(super) fn filled_times(
 ) -> Result<Vec<List<Option<Clock>>>, OutOfMemory>
     requires { All (IsShownAlong feed.now stop_count) columns.now }
     ensures { IfOk result (λ lines. lines.items
-        ≡ column_times (content_of_parts (timed_parts Interpolated feed.now)) stop_count columns.now) }
+        ≡ column_times (content_of_parts (timed_parts Interpolated feed.now))
+        stop_count columns.now) }
 {
     let runs = times_by_run(alloc, feed, stop_count, columns)?;
     turned(alloc, runs.as_slice(), stop_count)
@@ -63,7 +64,8 @@ fn times_of_run(
 ) -> Result<Vec<Option<Clock>>, OutOfMemory>
     requires { IsShownAlong feed.now stop_count column }
     ensures { IfOk result (λ times. times.items
-        ≡ times_of_column (content_of_parts (timed_parts Interpolated feed.now)) stop_count column) }
+        ≡ times_of_column (content_of_parts (timed_parts Interpolated feed.now))
+        stop_count column) }
 {
     feed.soundness();
     let rows = feed.trip_rows(column.trip);

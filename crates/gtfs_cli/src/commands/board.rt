@@ -69,11 +69,14 @@ fn print_lines<'w, O: Out>(
     out: &mut O,
 ) -> Result<(), Refusal<'w>>
     requires { AreValues (texts_of words.now) values.now }
-    ensures printed { OnOk result (OfBoard IsPage (content_of_parts feed.now) zone.now words.now.stop.now
+    ensures printed { OnOk result (OfBoard IsPage
+        (content_of_parts feed.now) zone.now words.now.stop.now
         (request_of values.now) (O.told out.old) (O.told out.new)) }
-    ensures cut_short { IfErr result (EndsLines (content_of_parts feed.now) zone.now words.now.stop.now
+    ensures cut_short { IfErr result (EndsLines
+        (content_of_parts feed.now) zone.now words.now.stop.now
         (request_of values.now) (O.told out.old) (O.told out.new)) }
-    ensures refused { IfErr result (IsLinesCause (content_of_parts feed.now) zone.now words.now.stop.now
+    ensures refused { IfErr result (IsLinesCause
+        (content_of_parts feed.now) zone.now words.now.stop.now
         (request_of values.now) (O.failure_count out.old) (O.failure_count out.new)) }
     ensures grows { O.failure_count out.old ≤ O.failure_count out.new }
     ensures no_failure { OnOk result (O.failure_count out.new ≡ O.failure_count out.old) }
@@ -99,7 +102,8 @@ fn open<'a, 'w>(
     ensures board { IfOk result (λ board. ListsBoard (content_of_parts feed.now) zone.now
         words.now.stop.now (request_of values.now) board.rest) }
     ensures zone { IfOk result (λ board. board.zone ≡ zone.now) }
-    ensures refused { IfErr result (IsOpeningCause (content_of_parts feed.now) zone.now words.now.stop.now
+    ensures refused { IfErr result (IsOpeningCause
+        (content_of_parts feed.now) zone.now words.now.stop.now
         (request_of values.now)) }
 {
     let span = Span {

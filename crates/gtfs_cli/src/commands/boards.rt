@@ -151,7 +151,8 @@ fn print_requests<'w, O: Out>(
     out: &mut O,
 ) -> Result<(), Refusal<'w>>
     requires indexed { times ≡ index.now.times }
-    requires known { fault_in (requests_in (content_of_parts index.now.feed) (zone_origin zone.now) times
+    requires known { fault_in (requests_in
+        (content_of_parts index.now.feed) (zone_origin zone.now) times
         (numbered_from 1 (map (λ l. l.now) lines.now))) ≡ None }
     ensures printed { OnOk result (PrintsRequests (content_of_parts index.now.feed) zone.now
         (requests_in (content_of_parts index.now.feed) (zone_origin zone.now) times
@@ -262,7 +263,8 @@ fn print_opened<'w, O: Out>(
 
 // The line above a board.
 fn heading(alloc: Global, texts: &RequestTexts<'_>) -> Result<String, OutOfMemory>
-    ensures { IfOk result (λ text. string_bytes text ≡ request_heading (request_texts_of texts.now)) }
+    ensures { IfOk result
+        (λ text. string_bytes text ≡ request_heading (request_texts_of texts.now)) }
 {
     let mut text = String::new(alloc);
     text.push_str("== ")?;

@@ -140,7 +140,8 @@ fn write_feed<'w, F: Folders>(
     ensures named { OnOk result (0 < length dir.now) }
     ensures read { OnOk result (AllReadAs (content_of_parts feed.now)) }
     ensures refused { IfErr result (IsWritingEnd (F.held folders.old) (F.held folders.new)
-        (F.failure_count folders.old) (F.failure_count folders.new) dir.now (content_of_parts feed.now)) }
+        (F.failure_count folders.old) (F.failure_count folders.new)
+        dir.now (content_of_parts feed.now)) }
     ensures grows { F.failure_count folders.old ≤ F.failure_count folders.new }
     ensures no_failure { OnOk result
         (F.failure_count folders.new ≡ F.failure_count folders.old) }

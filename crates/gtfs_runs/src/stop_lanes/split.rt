@@ -24,7 +24,8 @@ pub(crate) fn split(
     times: Times,
 ) -> Result<(Vec<ListLane>, Vec<FilledLane>), OutOfMemory>
     requires { is_interpolated times ≡ false
-        → All (λ lane. has_untimed (content_of_parts feed.now) lane ≡ false) (map list_value lists.items) }
+        → All (λ lane. has_untimed (content_of_parts feed.now) lane ≡ false)
+        (map list_value lists.items) }
     ensures { IfOk result (λ apart. AreApart (content_of_parts feed.now)
         (map list_value lists.items) (map list_value apart.0.items)
         (map filled_value apart.1.items)) }

@@ -48,7 +48,8 @@ pub(crate) fn whole_in_index(
     stop: StopNo,
 ) -> Result<(Vec<ListLane>, Vec<StepLane>), OutOfMemory>
     requires { stop.0 < length index.now.feed.stops }
-    ensures { IfOk result (λ lanes. AreWhole (timed index.now.times (content_of_parts index.now.feed))
+    ensures { IfOk result (λ lanes. AreWhole
+        (timed index.now.times (content_of_parts index.now.feed))
         (text_of_number (stop_ids index.now.feed) stop.0) (service_ids index.now.feed)
         (map list_value lanes.0.items) (map period_value lanes.1.items)) }
 {
