@@ -121,11 +121,11 @@ pub use Rattle.gtfs_columns.specs.FileRules.{not_utf8}
 pub use Rattle.gtfs_columns.specs.ColumnRules.{column_missing}
 -- E04: the header names a kept column more than once
 pub use Rattle.gtfs_columns.specs.ColumnRules.{column_twice}
--- E05: a file that the folder has to have holds nothing
+-- E05: a file that the folder has to have holds no record, or agency.txt no row
 pub use Rattle.gtfs_columns.specs.FileRules.{file_empty}
 -- E06: a required value is empty
 pub use Rattle.gtfs_columns.specs.FieldRules.{value_empty}
--- E07: a value has not the shape of its kind
+-- E07: a value does not have the shape of its kind
 pub use Rattle.gtfs_columns.specs.FieldRules.{value_unreadable}
 -- E08: a value lies outside of the limits of its kind
 pub use Rattle.gtfs_columns.specs.FieldRules.{value_out_of_range}
