@@ -33,8 +33,8 @@ fn main(rt: HostRuntime) -> ExitCode {
     ExitCode::from(status)
 }
 
-/// Answers the words of the command line, and gives the status. The error output is told nothing but by the library that
-/// answers them.
+// Answers the words of the command line, and gives the status. The error output is told nothing but by the library that
+// answers them.
 fn answer<R: Runtime + RandomSource + AllocGlobal, E: Out>(rt: &R, err: &mut E) -> Result<u8, Fault>
     ensures statuses { IfOk result (λ status. status ≤ 4) }
     ensures untold { IfErr result (λ fault. fault ≢ OutputFailed
@@ -45,7 +45,7 @@ fn answer<R: Runtime + RandomSource + AllocGlobal, E: Out>(rt: &R, err: &mut E) 
     answer_words(rt, random, words.as_slice(), err)
 }
 
-/// Answers these words.
+// Answers these words.
 fn answer_words<R: Runtime + AllocGlobal, E: Out>(
     rt: &R,
     random: RandomState,

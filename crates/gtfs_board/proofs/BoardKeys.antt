@@ -19,7 +19,7 @@ use Rattle.gtfs_rows.specs.Key.{Key, key_cmp}
 use Rattle.gtfs_board.specs.declared.merge.candidate.Candidate.{Candidate}
 use Rattle.gtfs_board.specs.merge.Candidates.{candidate_lt}
 use Rattle.gtfs_board.specs.merge.Lanes.{rest_of}
-use Rattle.gtfs_board.specs.merge.Order.{Each, In, IsAscending}
+use Rattle.gtfs_board.specs.merge.Order.{Each, In, AscendsBy}
 use Rattle.gtfs_board.proofs.CandidateKeys.{key_rises}
 use Rattle.gtfs_board.proofs.Candidates.{candidates_strict}
 use Rattle.gtfs_board.proofs.KeyOrder.{key_cmp_total, key_cmp-IsAntisymmetric}
@@ -43,7 +43,7 @@ recursion-from_each P (x ∷ xs) h = (h.0, recursion-from_each P xs h.1)
 abbrev RisesAmong : List (List ℕ) → Candidate → Candidate → Type 0
 RisesAmong ids c d = key_cmp (key_among ids c) (key_among ids d) ≡ Less
 
-rising : (ids : List (List ℕ)) (xs : List Candidate) → IsAscending candidate_lt xs
+rising : (ids : List (List ℕ)) (xs : List Candidate) → AscendsBy candidate_lt xs
     → ((c d : Candidate) → In c xs → In d xs → candidate_lt c d ≡ true → RisesAmong ids c d) → AllPairs (RisesAmong ids) xs
 rising ids [] a up = λ i j d less inside. absurd (omega arith)
 rising ids (x ∷ xs) a up =

@@ -24,7 +24,7 @@ use Rattle.std.proofs.lemmas.Bool.{cases_order}
 use Rattle.std.proofs.lemmas.Cmp.{int_cmp_total, nat_cmp_total}
 use Rattle.gtfs_field.proofs.NumberFacts.{cases_int, int_le-true, le-int_le}
 use Rattle.gtfs_days.proofs.ActiveDays.{before_service as day_too_early}
-use Rattle.gtfs_runs.specs.Order.{event_cmp, is_above, is_later}
+use Rattle.gtfs_runs.specs.Order.{event_cmp, is_above_moment, is_later}
 use Rattle.gtfs_runs.specs.declared.moment.Moment.{Moment}
 use Rattle.gtfs_runs.specs.StopLanes.{StopLanesValue, lanes_of}
 use Rattle.gtfs_runs.specs.declared.event.Event.{Event}
@@ -33,7 +33,7 @@ use Rattle.gtfs_board.specs.LaneDays.{departing, event_of, serves_on, no_lane, l
 use Rattle.gtfs_board.specs.declared.merge.candidate.Candidate.{Candidate}
 use Rattle.gtfs_board.specs.merge.Candidates.{candidate_lt, IsAside, AreCandidateLanes, EndsBy, day_of, lane_of, first_above}
 use Rattle.gtfs_board.specs.merge.Lanes.{AreAll}
-use Rattle.gtfs_board.specs.merge.Order.{In, Each, IsAscending}
+use Rattle.gtfs_board.specs.merge.Order.{In, Each, AscendsBy}
 use Rattle.gtfs_board.proofs.Candidates.{candidates_strict, not_lt-instant}
 use Rattle.gtfs_board.proofs.Orders.{Each-in, each-all, find-agree, in-left, in-right, in-either}
 use Rattle.gtfs_board.proofs.Rests.{in-filter, filter-in}
@@ -83,7 +83,7 @@ range-in a (suc n) i here = elim here [
 
 -- ---- ascending lists
 
-pub ascending-filter : {C : Type 0} (lt : C → C → Bool) (p : C → Bool) (xs : List C) → IsAscending lt xs → IsAscending lt (filter p xs)
+pub ascending-filter : {C : Type 0} (lt : C → C → Bool) (p : C → Bool) (xs : List C) → AscendsBy lt xs → AscendsBy lt (filter p xs)
 ascending-filter lt p [] a = tt
 ascending-filter lt p (x ∷ xs) a = elim (cases_Bool (p x)) [
   | inl is ↦ rw is (each_in (λ y. lt x y ≡ true) (filter p xs) (λ y there. Each-in (λ z. lt x z ≡ true) xs y a.0 (filter-in p xs y there).0), ascending-filter lt p xs a.1)
@@ -100,7 +100,7 @@ keep p (Some x) = cond (p x) (Some x) None
 
 -- in a list that ascends and is cut at an end, the first that passes
 pub find-cut : {C : Type 0} (lt : C → C → Bool) (p cut : C → Bool) → ((x y : C) → lt x y ≡ true → cut x ≡ false → cut y ≡ false)
-    → (xs : List C) → IsAscending lt xs → find p (filter cut xs) ≡ keep cut (find p xs)
+    → (xs : List C) → AscendsBy lt xs → find p (filter cut xs) ≡ keep cut (find p xs)
 find-cut lt p cut down [] a = refl
 find-cut lt p cut down (x ∷ xs) a = elim (cases_Bool (p x)) [
   | inl passes ↦ elim (cases_Bool (cut x)) [
@@ -168,7 +168,7 @@ below_all o d i e (x ∷ xs) below = (
   below_all o d i e xs (λ k y inside. below (suc k) y (omega arith)),
 )
 
-pub departing_ascend : (o d : ℤ) (i : ℕ) (xs : List Event) → Ascends event_cmp xs → IsAscending candidate_lt (map (departing o d i) xs)
+pub departing_ascend : (o d : ℤ) (i : ℕ) (xs : List Event) → Ascends event_cmp xs → AscendsBy candidate_lt (map (departing o d i) xs)
 departing_ascend o d i [] up = tt
 departing_ascend o d i (x ∷ xs) up = (
   below_all o d i x xs (λ k y inside. pairs-head (λ a b. event_cmp a b ≡ Less) x xs up k y inside),
@@ -253,11 +253,11 @@ module _ (p : Parts) (origin : Origins) (lanes : StopLanesValue) (end : ℤ) whe
     | inr past ↦ absurd (subst (In e) (lane_past i past) there)
   ]
 
-  pub on-ascend : AreAscending lanes → (i : ℕ) (d : ℤ) → IsAscending candidate_lt (departures_on p origin lanes end i d)
+  pub on-ascend : AreAscending lanes → (i : ℕ) (d : ℤ) → AscendsBy candidate_lt (departures_on p origin lanes end i d)
   on-ascend up i d = elim (cases_Bool (serves_on p (lane_at lanes i).service d)) [
-    | inl busy ↦ subst (IsAscending candidate_lt) (sym (on-busy i d busy))
+    | inl busy ↦ subst (AscendsBy candidate_lt) (sym (on-busy i d busy))
         (ascending-filter candidate_lt (ends_by end) (map (departing (origin d) d i) (lane_at lanes i).events) (departing_ascend (origin d) d i (lane_at lanes i).events (lane_ascends up i)))
-    | inr idle ↦ subst (IsAscending candidate_lt) (sym (on-idle i d idle)) tt
+    | inr idle ↦ subst (AscendsBy candidate_lt) (sym (on-idle i d idle)) tt
   ]
 
   pub of_lane : (i : ℕ) (d : ℤ) (c : Candidate) → In c (departures_on p origin lanes end i d) → c.lane ≡ i
@@ -391,11 +391,11 @@ module _ (p : Parts) (z : Zone) (lanes : StopLanesValue) (end : ℤ) where
   -- a lane is asked for what lies above a floor
   pub head_found : AreAscending lanes → AreTimely lanes → (i : ℕ) (d o : ℤ) (floor : Candidate) (moment : Moment) (found : Option Event) → i < length (lanes_of lanes)
       → serves_on p (lane_at lanes i).service d ≡ true → o ≡ zone_origin z d → IsAside floor d (length (lanes_of lanes))
-      → ((lane : ℕ) (e : Event) → e.at < 2 ^ 32 → (floor.day <ℤ d) ⊎ (lane < floor.lane) → is_above moment e ≡ candidate_lt floor (departing o d lane e))
-      → found ≡ find (is_above moment) (lane_at lanes i).events
+      → ((lane : ℕ) (e : Event) → e.at < 2 ^ 32 → (floor.day <ℤ d) ⊎ (lane < floor.lane) → is_above_moment moment e ≡ candidate_lt floor (departing o d lane e))
+      → found ≡ find (is_above_moment moment) (lane_at lanes i).events
       → first_above floor (departures_on p (zone_origin z) lanes end i d) ≡ keep (ends_by end) (map_option (departing o d i) found)
   head_found up timely i d o floor moment found inside busy origin aside stands is =
-      first_found p (zone_origin z) lanes end up i d floor (is_above moment)
+      first_found p (zone_origin z) lanes end up i d floor (is_above_moment moment)
       (λ e there. stands i e (small e.at (lane_timely p (zone_origin z) lanes end timely i e there).1) (elim aside [ inl earlier ↦ inl earlier | inr past ↦ inr (omega (arith, inside, past)) ])
       ∙ ap (λ x. candidate_lt floor (departing x d i e)) origin) busy
       ∙ (let o_is = sym origin in let found_is = sym is in λ k. keep (ends_by end) (map_option (departing (o_is k) d i) (found_is k)))

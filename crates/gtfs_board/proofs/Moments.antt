@@ -9,7 +9,7 @@ use Rattle.std.specs.Ordering.{nat_cmp, int_cmp, is_lt, ordering_then}
 use Rattle.std.specs.declared.cmp.Ordering.{Ordering}
 use Rattle.std.specs.declared.cmp.Ordering.TheVariants.{Less, Equal, Greater}
 use Rattle.gtfs_field.proofs.NumberFacts.{cases_int}
-use Rattle.gtfs_runs.specs.Order.{is_above}
+use Rattle.gtfs_runs.specs.Order.{is_above_moment}
 use Rattle.gtfs_runs.specs.declared.event.Event.{Event}
 use Rattle.gtfs_runs.specs.declared.moment.Moment.{Moment}
 use Rattle.gtfs_board.specs.LaneDays.{departing}
@@ -91,7 +91,7 @@ cut_alike x o at n is small = cut_same (x -ℤ o) at n is small ∙ moved x o n
 pub stands_for : (floor : Candidate) (moment : Moment) (origin day : ℤ) (lane : ℕ) (e : Event) → e.at < 2 ^ 32
     → moment.at ≡ saturate_signed w64 (floor.instant -ℤ origin) → moment.trip.0 ≡ floor.trip → moment.run ≡ floor.run
     → is_lt (int_cmp moment.seq (pos e.seq)) ≡ is_lt (ordering_then (ordering_then (nat_cmp floor.sequence e.seq) (int_cmp floor.day day)) (lane_cmp floor (departing origin day lane e)))
-    → is_above moment e ≡ candidate_lt floor (departing origin day lane e)
+    → is_above_moment moment e ≡ candidate_lt floor (departing origin day lane e)
 stands_for floor moment origin day lane e small at trip run seq =
     let times = cut_alike floor.instant origin moment.at e.at at small in
     (λ i. is_lt (ordering_then (times i) (ordering_then (nat_cmp (trip i) e.trip.0) (ordering_then (nat_cmp (run i) e.run) (int_cmp moment.seq (pos e.seq))))))

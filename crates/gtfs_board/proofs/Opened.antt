@@ -40,13 +40,13 @@ use Rattle.gtfs_board.specs.LaneDays.{all_departures, lane_at}
 use Rattle.gtfs_board.specs.Opening.{IsOpen, board_value}
 use Rattle.gtfs_board.specs.Span.{is_span, is_writable}
 use Rattle.gtfs_board.specs.declared.span.Span.{Span}
-use Rattle.gtfs_board.specs.Showing.{IsOfFeed, key_in, listed_in, times_of, trip_in}
-use Rattle.gtfs_board.specs.Shown.{IsShown, row_numbered, shown, shown_at, trip_named}
+use Rattle.gtfs_board.specs.Showing.{IsOfFeed, candidate_key, listed_in, candidate_times, candidate_trip}
+use Rattle.gtfs_board.specs.Shown.{IsShown, row_numbered, shown, shown_at, trip_with_id}
 use Rattle.gtfs_board.specs.declared.merge.candidate.Candidate.{Candidate}
 use Rattle.gtfs_board.specs.merge.Candidates as merge
 use Rattle.gtfs_board.specs.merge.Candidates.{MergeValue, candidate_lt, departure_cmp, head_of, lane_cmp, rest_above}
 use Rattle.gtfs_board.specs.merge.Lanes.{is_reached}
-use Rattle.gtfs_board.specs.merge.Order.{Each, In, IsAscending, tally}
+use Rattle.gtfs_board.specs.merge.Order.{Each, In, AscendsBy, tally}
 use Rattle.gtfs_board.proofs.BoardKeys.{board-of, in-member}
 use Rattle.gtfs_board.proofs.CandidateKeys.{compares}
 use Rattle.gtfs_board.proofs.EventFacts.{any_at, lane_there, map_at, trip_back}
@@ -85,25 +85,25 @@ found_row (u ∷ rs) (suc n) r up at =
     rw (unequal u.stop_sequence r.stop_sequence later) (found_row rs n r (pairs-tail (λ a b. nat_cmp a.stop_sequence b.stop_sequence ≡ Less) u rs up) at)
 
 -- what is shown of a trip and a row that are there
-shown_of : (f : Content) (k : Key) (t : Trip) (r : StopRow) → trip_named f k.trip ≡ Some t → row_numbered t k.sequence ≡ Some r → shown f k ≡ Some (shown_at f k t r)
+shown_of : (f : Content) (k : Key) (t : Trip) (r : StopRow) → trip_with_id f k.trip ≡ Some t → row_numbered t k.sequence ≡ Some r → shown f k ≡ Some (shown_at f k t r)
 shown_of f k t r trip row = rw (trip, row) refl
 
-pub listed_at : (p : Parts) (c : Candidate) (t : Trip) (r : StopRow) → trip_in p c ≡ Some t → slice_get t.stop_rows c.row ≡ Some r → listed_in p c ≡ shown_at (content_of_parts p) (key_in p c) t r
+pub listed_at : (p : Parts) (c : Candidate) (t : Trip) (r : StopRow) → candidate_trip p c ≡ Some t → slice_get t.stop_rows c.row ≡ Some r → listed_in p c ≡ shown_at (content_of_parts p) (candidate_key p c) t r
 listed_at p c t r trip row = rw (trip, row) refl
 
 -- what is shown of a candidate whose numbers name a trip and a row of it
-pub shown-at : (p : Parts) → IsSoundParts p → (c : Candidate) (t : Trip) (r : StopRow) → trip_in p c ≡ Some t → slice_get t.stop_rows c.row ≡ Some r → c.sequence ≡ r.stop_sequence
+pub shown-at : (p : Parts) → IsSoundParts p → (c : Candidate) (t : Trip) (r : StopRow) → candidate_trip p c ≡ Some t → slice_get t.stop_rows c.row ≡ Some r → c.sequence ≡ r.stop_sequence
     → IsShown (content_of_parts p) (listed_in p c)
 shown-at p sound c t r trip row sequence =
     let f = content_of_parts p in
     let b = trip_back p p.trips (stop_rows_by_trip p) (frequencies_by_trip p) c.trip t trip in
-    let id : (key_in p c).trip ≡ t.trip_id = text_at (λ x. x.trip_id) p.trips c.trip b.0 b.3.0 ∙ ap (λ (x : Trip). x.trip_id) b.3.1.1.1 in
-    let named : trip_named f (key_in p c).trip ≡ Some t = ap (trip_named f) id ∙ found_id (λ x. x.trip_id) f.trips c.trip t sound.content.in_order.trips trip in
+    let id : (candidate_key p c).trip ≡ t.trip_id = text_at (λ x. x.trip_id) p.trips c.trip b.0 b.3.0 ∙ ap (λ (x : Trip). x.trip_id) b.3.1.1.1 in
+    let named : trip_with_id f (candidate_key p c).trip ≡ Some t = ap (trip_with_id f) id ∙ found_id (λ x. x.trip_id) f.trips c.trip t sound.content.in_order.trips trip in
     let up : Ascends (on (λ x. x.stop_sequence) nat_cmp) t.stop_rows =
     subst (λ (x : Trip). Ascends (on (λ y. y.stop_sequence) nat_cmp) x.stop_rows) (get_or_from_slice_get f.trips c.trip t t trip)
     (sound.content.in_order.stop_rows c.trip t (slice_get_within f.trips c.trip t trip)) in
-    let found : row_numbered t (key_in p c).sequence ≡ Some r = ap (row_numbered t) sequence ∙ found_row t.stop_rows c.row r up row in
-    shown_of f (key_in p c) t r named found ∙ ap Some (sym (listed_at p c t r trip row))
+    let found : row_numbered t (candidate_key p c).sequence ≡ Some r = ap (row_numbered t) sequence ∙ found_row t.stop_rows c.row r up row in
+    shown_of f (candidate_key p c) t r named found ∙ ap Some (sym (listed_at p c t r trip row))
 
 module _ (p : Parts) (sound : IsSoundParts p) (s : List ℕ) (lanes : StopLanesValue) (are : AreLanesOf (content_of_parts p) s (service_ids p) (lanes_of lanes)) (zone : Zone) (end : ℤ) where
   pub of_feed : (c : Candidate) → In c (all_departures p (zone_origin zone) lanes end) → IsOfFeed p c
@@ -113,14 +113,14 @@ module _ (p : Parts) (sound : IsSoundParts p) (s : List ℕ) (lanes : StopLanesV
       let number : c.trip ≡ e.trip.0 = ap (λ (x : Candidate). x.trip) t.is in
       let row_is : c.row ≡ e.row = ap (λ (x : Candidate). x.row) t.is in
       let r = trip_back p p.trips (stop_rows_by_trip p) (frequencies_by_trip p) e.trip.0 t.passes.trip t.passes.trip_at in
-      let rows : times_of p c.trip ≡ r.1 = ap (times_of p) number ∙ ap (λ o. unwrap_or o []) r.3.1.0 in
+      let rows : candidate_times p c.trip ≡ r.1 = ap (candidate_times p) number ∙ ap (λ o. unwrap_or o []) r.3.1.0 in
       let at : slice_get (map (stop_row_of p) r.1) e.row ≡ Some t.passes.row = subst (λ (x : Trip). slice_get x.stop_rows e.row ≡ Some t.passes.row) (sym r.3.1.1.1) t.passes.row_at in
       let m = map_at (stop_row_of p) r.1 e.row t.passes.row at in
       let service : is_service_day c.day ≡ true = serving (lane_at lanes c.lane).service c.day t.busy in
       let days = day_there c.day service in
       record {
         trip = omega (arith, numbered p sound s lanes are (zone_origin zone) end c there, length-map p.trips (λ x. x.trip_id));
-        row = subst (λ n. n < length (times_of p c.trip)) (sym row_is) (subst (λ xs. e.row < length xs) (sym rows) (slice_get_within r.1 e.row m.0 m.1.0));
+        row = subst (λ n. n < length (candidate_times p c.trip)) (sym row_is) (subst (λ xs. e.row < length xs) (sym rows) (slice_get_within r.1 e.row m.0 m.1.0));
         day_from = days.0;
         day_to = days.1;
         instant = instant_there zone c.day e.at c.instant service (event_small p sound s _ e t.passes) (ap (λ (x : Candidate). x.instant) t.is);
@@ -167,9 +167,9 @@ module _ (p : Parts) (sound : IsSoundParts p) (s : List ℕ) (lanes : StopLanesV
       (ids_ascend p sound s lanes are (zone_origin zone) end) (stand_for p sound s lanes are (zone_origin zone) end)
       (λ c there. above c (numbered_in c there))
 
-pub keys_listed : (p : Parts) (cs : List Candidate) → keys_of (map (listed_in p) cs) ≡ map (key_in p) cs
+pub keys_listed : (p : Parts) (cs : List Candidate) → keys_of (map (listed_in p) cs) ≡ map (candidate_key p) cs
 keys_listed p [] = refl
-keys_listed p (c ∷ cs) = ap (λ ks. key_in p c ∷ ks) (keys_listed p cs)
+keys_listed p (c ∷ cs) = ap (λ ks. candidate_key p c ∷ ks) (keys_listed p cs)
 
 -- ---- the bounds
 
@@ -190,22 +190,22 @@ reach_is p z v days =
 not_less : (r l : Ordering) → is_lt (ordering_then r l) ≡ true → r ≡ Greater → ⊥
 not_less r l less greater = cc
 
-key_follows : (p : Parts) → Ascends text_cmp (trip_ids p) → (a b : Candidate) → IsOfFeed p a → IsOfFeed p b → candidate_lt a b ≡ true → is_lt (key_cmp (key_in p b) (key_in p a)) ≡ false
+key_follows : (p : Parts) → Ascends text_cmp (trip_ids p) → (a b : Candidate) → IsOfFeed p a → IsOfFeed p b → candidate_lt a b ≡ true → is_lt (key_cmp (candidate_key p b) (candidate_key p a)) ≡ false
 key_follows p up a b in_a in_b less =
     let in_ids : (n : ℕ) → n < length p.trips → n < length (trip_ids p) = λ n h. omega (arith, h, length-map p.trips (λ x. x.trip_id)) in
     let same = compares (trip_ids p) a b up (in_ids a.trip in_a.trip) (in_ids b.trip in_b.trip) in
-    elim (cases_Bool (is_lt (key_cmp (key_in p b) (key_in p a)))) [
-      | inl back ↦ absurd (not_less (departure_cmp a b) (lane_cmp a b) less (same ∙ turned (key_cmp (key_in p a) (key_in p b)) (key_cmp (key_in p b) (key_in p a)) (key_cmp_total.antisymm (key_in p a) (key_in p b)) back))
+    elim (cases_Bool (is_lt (key_cmp (candidate_key p b) (candidate_key p a)))) [
+      | inl back ↦ absurd (not_less (departure_cmp a b) (lane_cmp a b) less (same ∙ turned (key_cmp (candidate_key p a) (candidate_key p b)) (key_cmp (candidate_key p b) (candidate_key p a)) (key_cmp_total.antisymm (candidate_key p a) (candidate_key p b)) back))
       | inr is ↦ is
     ]
 
 itself_not : (k : Key) → is_lt (key_cmp k k) ≡ false
 itself_not k = ap is_lt (tied_itself key_cmp_total k)
 
-each_member : (p : Parts) (rest queue : List Candidate) → Each (λ c. In c rest) queue → AllByRecursion (λ k. is_member k (keys_of (map (listed_in p) rest)) ≡ true) (map (key_in p) queue)
+each_member : (p : Parts) (rest queue : List Candidate) → Each (λ c. In c rest) queue → AllByRecursion (λ k. is_member k (keys_of (map (listed_in p) rest)) ≡ true) (map (candidate_key p) queue)
 each_member p rest [] within = tt
 each_member p rest (c ∷ queue) within = (
-  ap (is_member (key_in p c)) (keys_listed p rest) ∙ in-member (trip_ids p) (key_in p c) rest c within.0 refl,
+  ap (is_member (candidate_key p c)) (keys_listed p rest) ∙ in-member (trip_ids p) (candidate_key p c) rest c within.0 refl,
   each_member p rest queue within.1,
 )
 
@@ -213,34 +213,34 @@ head_in : (c : Candidate) (queue : List Candidate) → head_of queue ≡ Some c 
 head_in c [] h = cc
 head_in c (x ∷ queue) h = inl (sym (some_is x c h))
 
-none_waits : (p : Parts) (queue : List Candidate) → head_of queue ≡ None → map (key_in p) queue ≡ []
+none_waits : (p : Parts) (queue : List Candidate) → head_of queue ≡ None → map (candidate_key p) queue ≡ []
 none_waits p [] h = refl
 none_waits p (x ∷ queue) h = cc
 
-each_from : (p : Parts) → Ascends text_cmp (trip_ids p) → (c : Candidate) (cs queue : List Candidate) → Each (IsOfFeed p) (c ∷ cs) → IsAscending candidate_lt (c ∷ cs) → Each (λ x. In x (c ∷ cs)) queue
-    → AllByRecursion (λ k. is_lt (key_cmp k (key_in p c)) ≡ false) (map (key_in p) queue)
+each_from : (p : Parts) → Ascends text_cmp (trip_ids p) → (c : Candidate) (cs queue : List Candidate) → Each (IsOfFeed p) (c ∷ cs) → AscendsBy candidate_lt (c ∷ cs) → Each (λ x. In x (c ∷ cs)) queue
+    → AllByRecursion (λ k. is_lt (key_cmp k (candidate_key p c)) ≡ false) (map (candidate_key p) queue)
 each_from p up c cs [] known a within = tt
 each_from p up c cs (x ∷ queue) known a within = (
   elim within.0 [
-    | inl e ↦ ap (λ (y : Candidate). is_lt (key_cmp (key_in p y) (key_in p c))) e ∙ itself_not (key_in p c)
+    | inl e ↦ ap (λ (y : Candidate). is_lt (key_cmp (candidate_key p y) (candidate_key p c))) e ∙ itself_not (candidate_key p c)
     | inr later ↦ key_follows p up c x known.0 (Each-in (IsOfFeed p) cs x known.1 later) (Each-in (λ y. candidate_lt c y ≡ true) cs x a.0 later)
   ],
   each_from p up c cs queue known a within.1,
 )
 
-least_first : (p : Parts) → Ascends text_cmp (trip_ids p) → (rest queue : List Candidate) → Each (IsOfFeed p) rest → IsAscending candidate_lt rest → Each (λ x. In x rest) queue → head_of queue ≡ head_of rest
-    → FirstIsLeast (map (listed_in p) rest) (map (key_in p) queue)
+least_first : (p : Parts) → Ascends text_cmp (trip_ids p) → (rest queue : List Candidate) → Each (IsOfFeed p) rest → AscendsBy candidate_lt rest → Each (λ x. In x rest) queue → head_of queue ≡ head_of rest
+    → FirstIsLeast (map (listed_in p) rest) (map (candidate_key p) queue)
 least_first p up [] queue known a within same = none_waits p queue same
 least_first p up (c ∷ cs) queue known a within same = (
-  in-member (trip_ids p) (key_in p c) queue c (head_in c queue same) refl,
-  All-from_recursion (λ k. is_lt (key_cmp k (key_in p c)) ≡ false) (map (key_in p) queue) (each_from p up c cs queue known a within),
+  in-member (trip_ids p) (candidate_key p c) queue c (head_in c queue same) refl,
+  All-from_recursion (λ k. is_lt (key_cmp k (candidate_key p c)) ≡ false) (map (candidate_key p) queue) (each_from p up c cs queue known a within),
 )
 
 pub queued_is : (p : Parts) (z : Zone) (v : MergeValue) → Ascends text_cmp (trip_ids p) → IsOpen p v → merge.IsQueued v → board.IsQueued (board_value p z v)
 queued_is p z v up opened q = record {
-  within = All-from_recursion (λ k. is_member k (keys_of (map (listed_in p) v.rest)) ≡ true) (map (key_in p) v.queue) (each_member p v.rest v.queue q.within);
+  within = All-from_recursion (λ k. is_member k (keys_of (map (listed_in p) v.rest)) ≡ true) (map (candidate_key p) v.queue) (each_member p v.rest v.queue q.within);
   first = least_first p up v.rest v.queue opened.of_feed opened.ascending q.within q.same_first;
-  bounded = omega (arith, q.bounded, length-map v.queue (key_in p));
+  bounded = omega (arith, q.bounded, length-map v.queue (candidate_key p));
 }
 
 -- ---- what is kept
@@ -248,7 +248,7 @@ queued_is p z v up opened q = record {
 pub open_kept : (p : Parts) (v w : MergeValue) → IsOpen p v → w.rest ≡ v.rest → w.days ≡ v.days → IsOpen p w
 open_kept p v w opened rest days = record {
   of_feed = subst (Each (IsOfFeed p)) (sym rest) opened.of_feed;
-  ascending = subst (IsAscending candidate_lt) (sym rest) opened.ascending;
+  ascending = subst (AscendsBy candidate_lt) (sym rest) opened.ascending;
   days = days ∙ opened.days;
 }
 
@@ -256,7 +256,7 @@ pub open_taken : (p : Parts) (v w : MergeValue) (o : Option Candidate) → IsOpe
 open_taken p v w None opened taken days = open_kept p v w opened (taken.1 ∙ sym taken.0) days
 open_taken p v w (Some c) opened taken days = record {
   of_feed = (subst (Each (IsOfFeed p)) taken opened.of_feed).1;
-  ascending = (subst (IsAscending candidate_lt) taken opened.ascending).1;
+  ascending = (subst (AscendsBy candidate_lt) taken opened.ascending).1;
   days = days ∙ opened.days;
 }
 

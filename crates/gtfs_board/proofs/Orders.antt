@@ -2,7 +2,7 @@ use Rattle.std.specs.List.{All, AllByRecursion}
 use Rattle.std.proofs.Common.{◌≡◌, ◌<◌, length, get_or, Bool, true, List, [], ◌∷◌, ◌++◌, ◌⊎◌, inl, inr, Some, refl, sym, ◌∙◌, ap, subst, arith, find}
 use Rattle.std.proofs.lemmas.List.Elements.{All-tail}
 use Rattle.std.proofs.lemmas.Bool.{true≢false, false≢true, cases_Bool}
-use Rattle.gtfs_board.specs.merge.Order.{IsStrict, In, Each, IsAscending, same, IsUpward}
+use Rattle.gtfs_board.specs.merge.Order.{IsStrict, In, Each, AscendsBy, same, IsUpward}
 
 module _ {C : Type 0} (P : C → Type 0) where
   pub Each-in : (xs : List C) (x : C) → Each P xs → In x xs → P x
@@ -36,7 +36,7 @@ module _ {C : Type 0} {lt : C → C → Bool} (o : IsStrict lt) where
   ]
 
   -- in an ascending list the first that passes lies at or below each that passes
-  pub find-least : (p : C → Bool) → IsUpward lt p → (xs : List C) → IsAscending lt xs → (x : C) → In x xs → p x ≡ true
+  pub find-least : (p : C → Bool) → IsUpward lt p → (xs : List C) → AscendsBy lt xs → (x : C) → In x xs → p x ≡ true
       → (h : C) × (find p xs ≡ Some h) × ((x ≡ h) ⊎ (lt h x ≡ true))
   find-least p up [] a x here is = absurd here
   find-least p up (y ∷ ys) a x here is = elim (cases_Bool (p y)) [

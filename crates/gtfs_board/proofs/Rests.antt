@@ -1,7 +1,7 @@
 use Rattle.std.proofs.Common.{◌≡◌, Bool, true, List, [], ◌∷◌, ◌⊎◌, inl, inr, refl, sym, ◌∙◌, ap, subst}
 use Rattle.std.specs.List.{filter}
 use Rattle.std.proofs.lemmas.Bool.{false≢true, cases_Bool}
-use Rattle.gtfs_board.specs.merge.Order.{IsStrict, In, IsAscending, IsUpward, put_in, in_order}
+use Rattle.gtfs_board.specs.merge.Order.{IsStrict, In, AscendsBy, IsUpward, put_in, ascending_by}
 use Rattle.gtfs_board.specs.merge.Lanes.{rest_of}
 use Rattle.gtfs_board.proofs.Orders.{Each-in}
 use Rattle.gtfs_board.proofs.Window.{each_in, each_weaker}
@@ -56,7 +56,7 @@ module _ {C : Type 0} {lt : C → C → Bool} (o : IsStrict lt) where
     ]
   ]
 
-  ascending-put : (x : C) (ys : List C) → IsAscending lt ys → IsAscending lt (put_in lt x ys)
+  ascending-put : (x : C) (ys : List C) → AscendsBy lt ys → AscendsBy lt (put_in lt x ys)
   ascending-put x [] a = (tt, tt)
   ascending-put x (z ∷ zs) a = elim (cases_Bool (lt x z)) [
     | inl is ↦ rw is ((is, each_weaker (λ y. lt z y ≡ true) (λ y. lt x y ≡ true) (λ y h. o.trans x z y is h) zs a.0), a)
@@ -72,23 +72,23 @@ module _ {C : Type 0} {lt : C → C → Bool} (o : IsStrict lt) where
     ]
   ]
 
-  pub ascending-in_order : (xs : List C) → IsAscending lt (in_order lt xs)
+  pub ascending-in_order : (xs : List C) → AscendsBy lt (ascending_by lt xs)
   ascending-in_order [] = tt
-  ascending-in_order (x ∷ xs) = ascending-put x (in_order lt xs) (ascending-in_order xs)
+  ascending-in_order (x ∷ xs) = ascending-put x (ascending_by lt xs) (ascending-in_order xs)
 
-  pub in-in_order : (xs : List C) (y : C) → In y xs → In y (in_order lt xs)
+  pub in-in_order : (xs : List C) (y : C) → In y xs → In y (ascending_by lt xs)
   in-in_order [] y here = here
-  in-in_order (x ∷ xs) y here = in-put x y (in_order lt xs) (elim here [ inl e ↦ inl e | inr later ↦ inr (in-in_order xs y later) ])
+  in-in_order (x ∷ xs) y here = in-put x y (ascending_by lt xs) (elim here [ inl e ↦ inl e | inr later ↦ inr (in-in_order xs y later) ])
 
-  pub in_order-in : (xs : List C) (y : C) → In y (in_order lt xs) → In y xs
+  pub in_order-in : (xs : List C) (y : C) → In y (ascending_by lt xs) → In y xs
   in_order-in [] y here = here
-  in_order-in (x ∷ xs) y here = elim (put-in x y (in_order lt xs) here) [ inl e ↦ inl e | inr later ↦ inr (in_order-in xs y later) ]
+  in_order-in (x ∷ xs) y here = elim (put-in x y (ascending_by lt xs) here) [ inl e ↦ inl e | inr later ↦ inr (in_order-in xs y later) ]
 
   not_self : (x y : C) → lt x y ≡ true → x ≡ y → ⊥
   not_self x y h e = false≢true (sym (o.irrefl x) ∙ ap (lt x) e ∙ h)
 
   -- ascending lists of the same members are one
-  pub ascending-unique : (xs ys : List C) → IsAscending lt xs → IsAscending lt ys → ((x : C) → In x xs → In x ys) → ((x : C) → In x ys → In x xs) → xs ≡ ys
+  pub ascending-unique : (xs ys : List C) → AscendsBy lt xs → AscendsBy lt ys → ((x : C) → In x xs → In x ys) → ((x : C) → In x ys → In x xs) → xs ≡ ys
   ascending-unique [] [] a b to from = refl
   ascending-unique [] (y ∷ ys) a b to from = absurd (from y (inl refl))
   ascending-unique (x ∷ xs) [] a b to from = absurd (to x (inl refl))

@@ -37,15 +37,15 @@ use Rattle.gtfs_rows.proofs.SoundOrder.{in_order}
 use Rattle.gtfs_rows.proofs.TripsAt.{content_trip}
 use Rattle.gtfs_rows.specs.Trips.{frequencies_by_trip, left_at, stop_rows_by_trip}
 use Rattle.gtfs_runs.specs.Counts.{tally}
-use Rattle.gtfs_runs.specs.Patterns.{rows_of}
+use Rattle.gtfs_runs.specs.Patterns.{rows_of_number}
 use Rattle.gtfs_rows.specs.Runs.{is_run, runs}
 use Rattle.gtfs_runs.specs.declared.pattern.Pattern.{Pattern}
 use Rattle.gtfs_rows.specs.Departures.{runs_on}
 use Rattle.gtfs_board.specs.LaneDays.{serves_on}
 use Rattle.gtfs_board.specs.SheetSteps.{IsPattern, IsShownAlong, column_cmp, column_times, is_column_before, is_column_of, is_run_on, is_same_column, named_column, running_at, sheet_along, sheet_of_columns, sheet_with, sheets_along, time_of_column}
-use Rattle.gtfs_board.specs.Timetable.{Run, Sheet, has_run_on, is_run_before, named_runs, row_at, run_cmp, runs_of, time_at, time_of_run}
+use Rattle.gtfs_board.specs.Timetable.{Run, Sheet, has_run_on, is_run_before, named_runs, row_at, run_cmp, runs_of, time_passed, time_of_run}
 use Rattle.gtfs_board.specs.declared.sheet.columns.Column.{Column}
-use Rattle.gtfs_board.specs.merge.Order.{In, IsAscending, IsStrict}
+use Rattle.gtfs_board.specs.merge.Order.{In, AscendsBy, IsStrict}
 use Rattle.gtfs_board.proofs.Candidates.{strict_from_total}
 use Rattle.gtfs_runs.proofs.TripIds.{numbers, text_at}
 use Rattle.gtfs_board.proofs.EventFacts.{same_number, there_some, trip_back}
@@ -235,7 +235,7 @@ module _ (p : Parts) (sound : IsSoundParts p) where
 
   -- what the stop times of a trip say is what the content says
   pub column-time : (c : Column) (position : ℕ) (rs : List StopRow) (o : Option ℕ) → slice_get (stop_rows_by_trip p) c.trip.0 ≡ Some rs
-      → ((row : TripRow) (fs : List Frequency) → o ≡ option_and_then (time_at (trip_of p row rs fs) c.start) (row_at (trip_of p row rs fs) position)) → o ≡ time_of_column (content_of_parts p) position c
+      → ((row : TripRow) (fs : List Frequency) → o ≡ option_and_then (time_passed (trip_of p row rs fs) c.start) (row_at (trip_of p row rs fs) position)) → o ≡ time_of_column (content_of_parts p) position c
   column-time c position rs o at_rows is =
       let n = c.trip.0 in
       let within : n < length p.trips = omega (arith, slice_get_within (stop_rows_by_trip p) n rs at_rows, length-parts p.stop_row_starts p.stop_rows, sound.stop_rows.0) in
@@ -246,7 +246,7 @@ module _ (p : Parts) (sound : IsSoundParts p) where
       time-in-content (content_of_parts p).trips n c.start position (trip_of p row rs fs) o
       (content_trip p n row rs fs (slice_get-get_or p.trips n e within) at_rows (slice_get-get_or (frequencies_by_trip p) n [] periods)) (is row fs)
 
-pub rows-are : (p : Parts) (n : ℕ) (rs : List StopRow) → slice_get (stop_rows_by_trip p) n ≡ Some rs → rows_of p n ≡ rs
+pub rows-are : (p : Parts) (n : ℕ) (rs : List StopRow) → slice_get (stop_rows_by_trip p) n ≡ Some rs → rows_of_number p n ≡ rs
 rows-are p n rs at = ap (λ o. unwrap_or o []) at
 
 -- ---- the columns of a pattern
@@ -307,7 +307,7 @@ module _ (p : Parts) (sound : IsSoundParts p) (d : ℤ) (x : Pattern) (pattern :
   once : (c : Column) → tally (is_same_column c) cs ≤ 1
   once c = omega (arith, told c, tally-less (λ (n : TripNo). c.trip.0 == n.0) (is_run_on p d c) x.trips, pattern.once c.trip.0)
 
-  ascends : IsAscending is_column_before cs
+  ascends : AscendsBy is_column_before cs
   ascends = sorted-ascends columns_total is_same_column column_ties cs sorted once
 
   column-is : (c : Column) → In c cs → IsColumn p d x.trips c
@@ -384,7 +384,7 @@ module _ (p : Parts) (sound : IsSoundParts p) (d : ℤ) (x : Pattern) (pattern :
   time-is : (i : ℕ) (c : Column) → In c cs → time_of_column (content_of_parts p) i c ≡ time_of_run ts i (named_column p c)
   time-is i c there =
       let k = column-is c there in
-      let at_time = λ (t : Trip). option_and_then (time_at t c.start) (row_at t i) in
+      let at_time = λ (t : Trip). option_and_then (time_passed t c.start) (row_at t i) in
       let found : find (λ u. bytes_eq u.trip_id (text_of_number (trip_ids p) c.trip.0)) ts ≡ Some k.trip =
       ap (λ id. find (λ u. bytes_eq u.trip_id id) ts) (trip-id p sound c.trip.0 k.trip k.at) ∙ found-trip p sound d x.trips ts c.trip.0 k.trip known k.at (column-trip c k) in
       ap (option_and_then at_time) k.at ∙ sym (ap (option_and_then at_time) found)
@@ -437,11 +437,11 @@ module _ (p : Parts) (sound : IsSoundParts p) (d : ℤ) (x : Pattern) (pattern :
       fits : (c : Column) → In c cs → IsShownAlong p (length x.stops) c
       fits c there =
           let k = column-is c there in
-          let rows = all-in (λ n. map (λ row. row.stop_id) (rows_of p n.0) ≡ x.stops) x.trips pattern.along k.number k.member in
-          let long : length (rows_of p k.number.0) ≡ length x.stops = sym (length-map (rows_of p k.number.0) (λ row. row.stop_id)) ∙ ap length rows in
+          let rows = all-in (λ n. map (λ row. row.stop_id) (rows_of_number p n.0) ≡ x.stops) x.trips pattern.along k.number k.member in
+          let long : length (rows_of_number p k.number.0) ≡ length x.stops = sym (length-map (rows_of_number p k.number.0) (λ row. row.stop_id)) ∙ ap length rows in
           record {
             trip = trip-within p sound c.trip.0 k.trip k.at;
-            reaches = subst (λ m. length x.stops ≤ length (rows_of p m)) (sym k.same) (omega (arith, long));
+            reaches = subst (λ m. length x.stops ≤ length (rows_of_number p m)) (sym k.same) (omega (arith, long));
             early = early-run p sound c.trip.0 k.trip c.start k.at k.run;
           }
 

@@ -16,7 +16,7 @@ use Rattle.std.proofs.lemmas.Bool.{cases_Bool, true≢false}
 use Rattle.std.proofs.lemmas.List.Sorted.{ranks_by, sorted_far}
 use Rattle.gtfs_runs.specs.Counts.{tally}
 use Rattle.gtfs_runs.proofs.Tallies.{counted}
-use Rattle.gtfs_board.specs.merge.Order.{In, Each, IsAscending}
+use Rattle.gtfs_board.specs.merge.Order.{In, Each, AscendsBy}
 
 -- ---- members
 
@@ -97,7 +97,7 @@ module _ {X : Type 0} {R : X → X → Ordering} (o : IsTotalOrder R) (same : X 
     each-below x ys (λ k d h. far (suc k) d (omega arith)) (λ z there. apart z (inr there)),
   )
 
-  from-far : (xs : List X) → AllPairs (λ x y. is_lt (R y x) ≡ false) xs → ((x : X) → tally (same x) xs ≤ 1) → IsAscending lt xs
+  from-far : (xs : List X) → AllPairs (λ x y. is_lt (R y x) ≡ false) xs → ((x : X) → tally (same x) xs ≤ 1) → AscendsBy lt xs
   from-far [] far once = tt
   from-far (x ∷ xs) far once = (
     each-below x xs (λ k d h. far 0 (suc k) d (omega arith) (omega arith))
@@ -106,13 +106,13 @@ module _ {X : Type 0} {R : X → X → Ordering} (o : IsTotalOrder R) (same : X 
   )
 
   -- a sorted list in which nothing stands twice ascends
-  pub sorted-ascends : (xs : List X) → IsSorted R xs → ((x : X) → tally (same x) xs ≤ 1) → IsAscending lt xs
+  pub sorted-ascends : (xs : List X) → IsSorted R xs → ((x : X) → tally (same x) xs ≤ 1) → AscendsBy lt xs
   sorted-ascends xs up once =
       from-far xs (λ i j d before within. sorted_far (λ x y. is_lt (R x y)) (ranks_by o (λ x. x)) xs up i j d (omega arith) within) once
 
 module _ {X : Type 0} (lt : X → X → Bool) where
   pub ascending-mapped : {Y : Type 0} (below : Y → Y → Bool) (f : X → Y) (xs : List X) → ((x y : X) → In x xs → In y xs → lt x y ≡ true → below (f x) (f y) ≡ true)
-      → IsAscending lt xs → IsAscending below (map f xs)
+      → AscendsBy lt xs → AscendsBy below (map f xs)
   ascending-mapped below f [] rises up = tt
   ascending-mapped below f (x ∷ xs) rises up = (
     each xs (λ y there. rises x y (inl refl) (inr there)) up.0,
@@ -123,7 +123,7 @@ module _ {X : Type 0} (lt : X → X → Bool) where
       each [] h all = tt
       each (y ∷ ys) h all = (h y (inl refl) all.0, each ys (λ z there. h z (inr there)) all.1)
 
-  pub ascending-kept : (q : X → Bool) (xs : List X) → IsAscending lt xs → IsAscending lt (filter q xs)
+  pub ascending-kept : (q : X → Bool) (xs : List X) → AscendsBy lt xs → AscendsBy lt (filter q xs)
   ascending-kept q [] up = tt
   ascending-kept q (x ∷ xs) up = elim (cases_Bool (q x)) [
     | inl is ↦ rw is (kept xs up.0, ascending-kept q xs up.1)
@@ -142,7 +142,7 @@ module _ {X : Type 0} (lt : X → X → Bool) where
   each-is P (y ∷ ys) x all here = elim here [ inl e ↦ subst P (sym e) all.0 | inr later ↦ each-is P ys x all.1 later ]
 
   -- two members of an ascending list neither of which lies below the other
-  pub ascending-one : (xs : List X) (x y : X) → IsAscending lt xs → In x xs → In y xs → (lt x y ≡ true → ⊥) → (lt y x ≡ true → ⊥) → x ≡ y
+  pub ascending-one : (xs : List X) (x y : X) → AscendsBy lt xs → In x xs → In y xs → (lt x y ≡ true → ⊥) → (lt y x ≡ true → ⊥) → x ≡ y
   ascending-one [] x y up in_x in_y not_below not_above = absurd in_x
   ascending-one (z ∷ zs) x y up in_x in_y not_below not_above = elim in_x [
     | inl first ↦ elim in_y [

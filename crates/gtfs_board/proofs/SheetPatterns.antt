@@ -35,7 +35,7 @@ use Rattle.gtfs_rows.proofs.TripFacts.{stop_times}
 use Rattle.gtfs_rows.specs.Trips.{stop_rows_by_trip}
 use Rattle.gtfs_runs.specs.Counts.{tally}
 use Rattle.gtfs_runs.specs.Lanes.{stops_of}
-use Rattle.gtfs_runs.specs.Patterns.{ArePatterns, Entry, Heading, are_apart, entries_of, entries_under, entry_cmp, entry_of, heading_of, is_filled, is_of_route, is_same_heading, rows_of, stops_cmp}
+use Rattle.gtfs_runs.specs.Patterns.{ArePatterns, Entry, Heading, headings_change, entries_of, entries_under, entry_cmp, entry_of, heading_of, has_a_trip, is_of_route, is_same_heading, rows_of_number, stops_cmp}
 use Rattle.gtfs_runs.specs.declared.pattern.Pattern.{Pattern}
 use Rattle.gtfs_runs.proofs.Counting.{tally-map as tally-mapped}
 use Rattle.gtfs_runs.proofs.Tallies.{tally-append as tally-joined, tally-permutation as tally-permuted}
@@ -43,7 +43,7 @@ use Rattle.gtfs_runs.proofs.CourseOrder.{pairs-right}
 use Rattle.gtfs_board.specs.SheetSteps.{HasRow, IsPattern, stops_along}
 use Rattle.gtfs_board.specs.Timetable.{direction_rank, heading_cmp, is_heading_before}
 use Rattle.gtfs_board.specs.Timetable as timetable
-use Rattle.gtfs_board.specs.merge.Order.{In, IsAscending, IsStrict}
+use Rattle.gtfs_board.specs.merge.Order.{In, AscendsBy, IsStrict}
 use Rattle.gtfs_runs.proofs.TripIds.{numbers}
 use Rattle.gtfs_board.proofs.Candidates.{strict_from_total}
 use Rattle.gtfs_board.proofs.EventFacts.{at_in, in_at}
@@ -129,7 +129,7 @@ pairs-cross R (z ∷ xs) ys up x y in_x in_y = elim in_x [
   | inr later ↦ pairs-cross R xs ys (pairs-tail R z (xs ++ ys) up) x y later in_y
 ]
 
-some-trip : (x : Pattern) → is_filled x ≡ true → (k : TripNo) × In k x.trips
+some-trip : (x : Pattern) → has_a_trip x ≡ true → (k : TripNo) × In k x.trips
 some-trip x filled = some x.trips (not-true (length x.trips == 0) filled)
   where
     some : (xs : List TripNo) → (length xs == 0) ≡ false → (k : TripNo) × In k xs
@@ -139,13 +139,13 @@ some-trip x filled = some x.trips (not-true (length x.trips == 0) filled)
 entry-under : (x : Pattern) (k : TripNo) → In k x.trips → In (record { heading = heading_of x; trip = k }) (entries_under x)
 entry-under x k there = in-map (λ t. record { heading = heading_of x; trip = t }) x.trips k there
 
-rise : (xs : List Pattern) → AllPairs NotBelow (flat_map entries_under xs) → list_all is_filled xs ≡ true → are_apart (map heading_of xs) ≡ true → IsAscending is_pattern_before xs
+rise : (xs : List Pattern) → AllPairs NotBelow (flat_map entries_under xs) → list_all has_a_trip xs ≡ true → headings_change (map heading_of xs) ≡ true → AscendsBy is_pattern_before xs
 rise [] far filled apart = tt
 rise (x ∷ []) far filled apart = (tt, tt)
 rise (x ∷ y ∷ xs) far filled apart =
-    let full = and_parts (is_filled x) (list_all is_filled (y ∷ xs)) filled in
-    let next = and_parts (is_filled y) (list_all is_filled xs) full.1 in
-    let differ = and_parts (not (is_same_heading (heading_of x) (heading_of y))) (are_apart (map heading_of (y ∷ xs))) apart in
+    let full = and_parts (has_a_trip x) (list_all has_a_trip (y ∷ xs)) filled in
+    let next = and_parts (has_a_trip y) (list_all has_a_trip xs) full.1 in
+    let differ = and_parts (not (is_same_heading (heading_of x) (heading_of y))) (headings_change (map heading_of (y ∷ xs))) apart in
     let rest = rise (y ∷ xs) (pairs-right NotBelow (entries_under x) (flat_map entries_under (y ∷ xs)) far) full.1 differ.1 in
     let a = some-trip x full.0 in
     let b = some-trip y next.0 in
@@ -238,7 +238,7 @@ range-once m a (suc n) = elim (cases_Bool (m == a)) [
 ]
 
 module _ (p : Parts) (sound : IsSoundParts p) (route : ℕ) (xs : List Pattern) (are : ArePatterns p route xs) where
-  pub patterns-ascend : IsAscending is_pattern_before xs
+  pub patterns-ascend : AscendsBy is_pattern_before xs
   patterns-ascend =
       rise xs (λ i j d before within. sorted_far (λ a b. is_lt (entry_cmp a b)) (ranks_by entries_total (λ e. e)) (flat_map entries_under xs) are.in_order i j d (omega arith) within)
       are.groups.filled are.groups.apart
@@ -287,38 +287,38 @@ module _ (p : Parts) (sound : IsSoundParts p) (route : ℕ) (xs : List Pattern) 
       let filled = all-filled xs are.groups.filled x there in
       let k = some-trip x filled in
       let t = trip-of-pattern x k.0 there k.1 in
-      let rows : slice_get (stop_rows_by_trip p) k.0.0 ≡ Some (rows_of p k.0.0) = rows-there k.0.0 t.0 in
+      let rows : slice_get (stop_rows_by_trip p) k.0.0 ≡ Some (rows_of_number p k.0.0) = rows-there k.0.0 t.0 in
       record {
         stops = subst (All (λ s. s.0 < length p.stops)) (sym (ap (λ (h : Heading). h.stops) t.1.1))
-            (All-map (λ s. s.0 < length p.stops) (λ row. row.stop_id) (rows_of p k.0.0) (stop_times p sound k.0.0 (rows_of p k.0.0) rows).stops);
+            (All-map (λ s. s.0 < length p.stops) (λ row. row.stop_id) (rows_of_number p k.0.0) (stop_times p sound k.0.0 (rows_of_number p k.0.0) rows).stops);
         trips = all-from (HasRow p) x.trips (λ n member. let u = trip-of-pattern x n there member in (u.0, some-rows n.0 u.1.0));
-        along = all-from (λ n. map (λ row. row.stop_id) (rows_of p n.0) ≡ x.stops) x.trips
+        along = all-from (λ n. map (λ row. row.stop_id) (rows_of_number p n.0) ≡ x.stops) x.trips
             (λ n member. let u = trip-of-pattern x n there member in sym (ap (λ (h : Heading). h.stops) u.1.1));
         once = once x there;
       }
     where
-      all-filled : (ys : List Pattern) → list_all is_filled ys ≡ true → (y : Pattern) → In y ys → is_filled y ≡ true
+      all-filled : (ys : List Pattern) → list_all has_a_trip ys ≡ true → (y : Pattern) → In y ys → has_a_trip y ≡ true
       all-filled [] all y there = absurd there
       all-filled (z ∷ zs) all y there =
-          let both = and_parts (is_filled z) (list_all is_filled zs) all in
-          elim there [ inl e ↦ ap is_filled e ∙ both.0 | inr later ↦ all-filled zs both.1 y later ]
+          let both = and_parts (has_a_trip z) (list_all has_a_trip zs) all in
+          elim there [ inl e ↦ ap has_a_trip e ∙ both.0 | inr later ↦ all-filled zs both.1 y later ]
 
-      rows-there : (n : ℕ) → n < length p.trips → slice_get (stop_rows_by_trip p) n ≡ Some (rows_of p n)
+      rows-there : (n : ℕ) → n < length p.trips → slice_get (stop_rows_by_trip p) n ≡ Some (rows_of_number p n)
       rows-there n within =
           let inside : n < length (stop_rows_by_trip p) = omega (arith, within, length-parts p.stop_row_starts p.stop_rows, sound.stop_rows.0) in
           let at = slice_get-get_or (stop_rows_by_trip p) n [] inside in
           at ∙ ap Some (sym (ap (λ o. unwrap_or o []) at))
 
-      some-rows : (n : ℕ) → is_of_route p route n ≡ true → 0 < length (rows_of p n)
+      some-rows : (n : ℕ) → is_of_route p route n ≡ true → 0 < length (rows_of_number p n)
       some-rows n is =
-          let both = and_parts (if_there (slice_get p.trips n) (λ t. t.route_id.0 == route)) (not (length (rows_of p n) == 0)) is in
-          omega (arith, eqb-false (length (rows_of p n)) 0 (not-true (length (rows_of p n) == 0) both.1))
+          let both = and_parts (if_there (slice_get p.trips n) (λ t. t.route_id.0 == route)) (not (length (rows_of_number p n) == 0)) is in
+          omega (arith, eqb-false (length (rows_of_number p n)) 0 (not-true (length (rows_of_number p n) == 0) both.1))
 
   pub patterns-are : All (IsPattern p) xs
   patterns-are = all-from (IsPattern p) xs pattern-is
 
   -- headings by their texts ascend too
-  pub headings-ascend : (ys : List Pattern) → ((y : Pattern) → In y ys → In y xs) → IsAscending is_pattern_before ys → IsAscending is_heading_before (map (heading_along p) ys)
+  pub headings-ascend : (ys : List Pattern) → ((y : Pattern) → In y ys → In y xs) → AscendsBy is_pattern_before ys → AscendsBy is_heading_before (map (heading_along p) ys)
   headings-ascend ys inside up =
       ascending-mapped is_pattern_before is_heading_before (heading_along p) ys
       (λ x y a b before. ap is_lt (headings-compare p sound x y (pattern-is x (inside x a)) (pattern-is y (inside y b))) ∙ before) up

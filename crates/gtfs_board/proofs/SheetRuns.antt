@@ -26,7 +26,7 @@ use Rattle.gtfs_runs.proofs.RunStarts.{one_period, starts, within}
 use Rattle.gtfs_runs.proofs.Tallies.{tally-permutation as tally-permuted, tally-push}
 use Rattle.gtfs_runs.proofs.TripTimes.{at_most}
 use Rattle.gtfs_board.specs.SheetSteps.{is_same_column}
-use Rattle.gtfs_board.specs.Timetable.{row_at, time_at}
+use Rattle.gtfs_board.specs.Timetable.{row_at, time_passed}
 use Rattle.gtfs_board.specs.declared.sheet.columns.Column.{Column}
 use Rattle.gtfs_board.specs.merge.Order.{In}
 use Rattle.gtfs_board.proofs.LaneDays.{in-range}
@@ -160,21 +160,21 @@ module _ (p : Parts) (t : TripRow) (rs : List StopRow) (fs : List Frequency) whe
 
   -- the time there, where the row is timed by the option
   shown : (start position : ℕ) (d : StopRow) (o : Option ℕ) → position < length rs → left_at (get_or rs position d) ≡ o
-      → option_and_then (time_at (trip_of p t rs fs) start) (row_at (trip_of p t rs fs) position) ≡ cond (is_some o) (Some (passes_at (trip_of p t rs fs) start (stop_row_of p (get_or rs position d)))) None
+      → option_and_then (time_passed (trip_of p t rs fs) start) (row_at (trip_of p t rs fs) position) ≡ cond (is_some o) (Some (passes_at (trip_of p t rs fs) start (stop_row_of p (get_or rs position d)))) None
   shown start position d o within is =
-      ap (option_and_then (time_at (trip_of p t rs fs) start)) (row-is position d within)
+      ap (option_and_then (time_passed (trip_of p t rs fs) start)) (row-is position d within)
       ∙ ap (λ x. cond (is_some x) (Some (passes_at (trip_of p t rs fs) start (stop_row_of p (get_or rs position d)))) None) is
 
   pub untimed-is : (start position : ℕ) (d : StopRow) → position < length rs → d ≡ get_or rs position d → left_at d ≡ None
-      → None ≡ option_and_then (time_at (trip_of p t rs fs) start) (row_at (trip_of p t rs fs) position)
+      → None ≡ option_and_then (time_passed (trip_of p t rs fs) start) (row_at (trip_of p t rs fs) position)
   untimed-is start position d within item none = sym (shown start position d None within (ap left_at (sym item) ∙ none))
 
   pub timed-is : (start position clock time : ℕ) (d : StopRow) → position < length rs → d ≡ get_or rs position d → left_at d ≡ Some time
       → clock ≡ passes_at (trip_of p t rs fs) start (stop_row_of p (get_or rs position d))
-      → Some clock ≡ option_and_then (time_at (trip_of p t rs fs) start) (row_at (trip_of p t rs fs) position)
+      → Some clock ≡ option_and_then (time_passed (trip_of p t rs fs) start) (row_at (trip_of p t rs fs) position)
   timed-is start position clock time d within item timed is = ap Some is ∙ sym (shown start position d (Some time) within (ap left_at (sym item) ∙ timed))
 
 -- the same of a trip of the feed
-pub time-in-content : (f : List Trip) (n start position : ℕ) (t : Trip) (o : Option ℕ) → slice_get f n ≡ Some t → o ≡ option_and_then (time_at t start) (row_at t position)
-    → o ≡ option_and_then (λ u. option_and_then (time_at u start) (row_at u position)) (slice_get f n)
-time-in-content f n start position t o at is = is ∙ sym (ap (option_and_then (λ u. option_and_then (time_at u start) (row_at u position))) at)
+pub time-in-content : (f : List Trip) (n start position : ℕ) (t : Trip) (o : Option ℕ) → slice_get f n ≡ Some t → o ≡ option_and_then (time_passed t start) (row_at t position)
+    → o ≡ option_and_then (λ u. option_and_then (time_passed u start) (row_at u position)) (slice_get f n)
+time-in-content f n start position t o at is = is ∙ sym (ap (option_and_then (λ u. option_and_then (time_passed u start) (row_at u position))) at)

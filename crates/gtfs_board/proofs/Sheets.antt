@@ -25,13 +25,13 @@ use Rattle.gtfs_rows.specs.Rows.{Route, Trip}
 use Rattle.gtfs_rows.specs.Views.{IsSoundParts, content_of_parts, route_ids, route_of, stop_ids, text_of_number}
 use Rattle.gtfs_rows.specs.declared.parts.Parts.{Parts}
 use Rattle.gtfs_rows.specs.declared.route.Route.{Route as RouteRow}
-use Rattle.gtfs_runs.specs.Patterns.{ArePatterns, is_of_route, rows_of}
+use Rattle.gtfs_runs.specs.Patterns.{ArePatterns, is_of_route, rows_of_number}
 use Rattle.gtfs_rows.specs.Runs.{is_run, runs}
 use Rattle.gtfs_runs.specs.declared.pattern.Pattern.{Pattern}
 use Rattle.gtfs_field.specs.TextOrder.{text_cmp}
 use Rattle.gtfs_rows.specs.Departures.{runs_on}
 use Rattle.gtfs_board.specs.SheetSteps.{goes, is_idle, running_at, sheet_along, sheets_along}
-use Rattle.gtfs_board.specs.Timetable.{Heading, Run, Sheet, direction_at, direction_rank, has_heading, has_run_on, heading_cmp, heading_of, headings, is_heading_before, is_route, named_runs, row_at, running, runs_of, runs_under, sheet_under, sheets, time_at, time_of_run, wants}
+use Rattle.gtfs_board.specs.Timetable.{SheetHeading, Run, Sheet, direction_at, direction_rank, has_heading, has_run_on, heading_cmp, sheet_heading, headings, is_heading_before, is_route, named_runs, row_at, running, runs_of, runs_under, sheet_under, sheets, time_passed, time_of_run, wants}
 use Rattle.gtfs_board.specs.declared.sheet.TableFault.{TableFault}
 use Rattle.gtfs_board.specs.declared.sheet.TableFault.TheVariants.{UnknownRoute}
 use Rattle.gtfs_board.specs.merge.Order.{In, IsStrict}
@@ -50,7 +50,7 @@ use Rattle.gtfs_board.proofs.SheetRuns.{in-some, run-rows, runs-in, some-in}
 headings_total : IsTotalOrder heading_cmp
 headings_total = search (comparing, rules, nat_list_cmp_total) depth 20
 
-heading_exact : (g h : Heading) → heading_cmp g h ≡ Equal → g ≡ h
+heading_exact : (g h : SheetHeading) → heading_cmp g h ≡ Equal → g ≡ h
 heading_exact g h e =
     let both = tied _ _ e in
     let directions = nat_cmp-IsAntisymmetric g.0 h.0 both.0 in
@@ -60,8 +60,8 @@ heading_exact g h e =
 headings_strict : IsStrict is_heading_before
 headings_strict = strict_from_total heading_cmp headings_total heading_exact
 
-has_own : (h : Heading) (t : Trip) → h ≡ heading_of t → has_heading h t ≡ true
-has_own h t is = ap (λ g. is_eq (heading_cmp g (heading_of t))) is ∙ ap is_eq (tied_itself headings_total (heading_of t))
+has_own : (h : SheetHeading) (t : Trip) → h ≡ sheet_heading t → has_heading h t ≡ true
+has_own h t is = ap (λ g. is_eq (heading_cmp g (sheet_heading t))) is ∙ ap is_eq (tied_itself headings_total (sheet_heading t))
 
 goes-wants : (o : Option ℕ) (x : Pattern) (t : Trip) → direction_rank x.direction ≡ direction_rank t.direction_id → goes o x ≡ wants o t
 goes-wants None x t same = refl
@@ -130,8 +130,8 @@ module _ (p : Parts) (sound : IsSoundParts p) (n : ℕ) (within : n < length p.r
       let both = and_parts (runs_on (content_of_parts p) t d) (not (length (runs t) == 0)) is.runs in
       let start = some-in (runs t) (not-true (length (runs t) == 0) both.1) in
       let some : 0 < length r.rows = run-rows p r.row r.rows r.periods start.0 (ap (λ u. is_run u start.0) r.is ∙ runs-in t start.0 start.1) in
-      let rows : not (length (rows_of p is.number) == 0) ≡ true = ap (λ o. not (length (unwrap_or o []) == 0)) r.at_rows ∙ ap not (filled (length r.rows) some) in
-      and_from (if_there (slice_get p.trips is.number) (λ u. u.route_id.0 == n)) (not (length (rows_of p is.number) == 0))
+      let rows : not (length (rows_of_number p is.number) == 0) ≡ true = ap (λ o. not (length (unwrap_or o []) == 0)) r.at_rows ∙ ap not (filled (length r.rows) some) in
+      and_from (if_there (slice_get p.trips is.number) (λ u. u.route_id.0 == n)) (not (length (rows_of_number p is.number) == 0))
       (ap (λ o. if_there o (λ u. u.route_id.0 == n)) r.at_trip ∙ eq-eqb r.row.route_id.0 n same) rows
     where
       filled : (m : ℕ) → 0 < m → (m == 0) ≡ false
@@ -142,7 +142,7 @@ module _ (p : Parts) (sound : IsSoundParts p) (n : ℕ) (within : n < length p.r
     pub pattern : Pattern
     pub there : In pattern xs
     pub member : In t (trips_along pattern)
-    pub heading : heading_along p pattern ≡ heading_of t
+    pub heading : heading_along p pattern ≡ sheet_heading t
     pub goes_so : goes direction pattern ≡ true
 
   along : (t : Trip) → In t trips → IsAlong t
@@ -160,7 +160,7 @@ module _ (p : Parts) (sound : IsSoundParts p) (n : ℕ) (within : n < length p.r
 
   -- a trip of a pattern that goes in the direction, if it runs on the day
   record IsRunning (x : Pattern) (t : Trip) : Type 0 where
-    pub heading : heading_along p x ≡ heading_of t
+    pub heading : heading_along p x ≡ sheet_heading t
     pub timed : (goes direction x ≡ true) → In t trips
 
   running-along : (x : Pattern) → In x xs → (t : Trip) → In t (trips_along x) → IsRunning x t
@@ -169,7 +169,7 @@ module _ (p : Parts) (sound : IsSoundParts p) (n : ℕ) (within : n < length p.r
       let of = trip-of-pattern p sound n xs are x k.0 in_x k.1.0 in
       let heading = heading-is p sound x k.0.0 t k.1.1.0 of.1.1 in
       let r = trip-of p k.0.0 t k.1.1.0 in
-      let both = and_parts (if_there (slice_get p.trips k.0.0) (λ u. u.route_id.0 == n)) (not (length (rows_of p k.0.0) == 0)) of.1.0 in
+      let both = and_parts (if_there (slice_get p.trips k.0.0) (λ u. u.route_id.0 == n)) (not (length (rows_of_number p k.0.0) == 0)) of.1.0 in
       let number : r.row.route_id.0 ≡ n = eqb-true r.row.route_id.0 n (sym (ap (λ o. if_there o (λ u. u.route_id.0 == n)) r.at_trip) ∙ both.0) in
       let route : t.route_id ≡ id = sym (ap (λ (u : Trip). u.route_id) r.is) ∙ ap (text_of_number (route_ids p)) number in
       record {
@@ -196,16 +196,16 @@ module _ (p : Parts) (sound : IsSoundParts p) (n : ℕ) (within : n < length p.r
   headings-are =
       sym (ascending-unique headings_strict (map (heading_along p) kept) (headings trips)
       (headings-ascend p sound n xs are kept (λ y there. (kept-in y there).0) (ascending-kept is_pattern_before is_kept xs (patterns-ascend p sound n xs are)))
-      (ascending-in_order headings_strict (map heading_of trips))
+      (ascending-in_order headings_strict (map sheet_heading trips))
       (λ h there.
       let m = map-in (heading_along p) kept h there in
       let k = kept-in m.0 m.1.0 in
       let t = some-in (trips_along m.0) k.1.1 in
       let r = running-along m.0 k.0 t.0 t.1 in
-      in-in_order headings_strict (map heading_of trips) h
-      (subst (λ g. In g (map heading_of trips)) (sym r.heading ∙ sym m.1.1) (in-map heading_of trips t.0 (r.timed k.1.0))))
+      in-in_order headings_strict (map sheet_heading trips) h
+      (subst (λ g. In g (map sheet_heading trips)) (sym r.heading ∙ sym m.1.1) (in-map sheet_heading trips t.0 (r.timed k.1.0))))
       (λ h there.
-      let m = map-in heading_of trips h (in_order-in headings_strict (map heading_of trips) h there) in
+      let m = map-in sheet_heading trips h (in_order-in headings_strict (map sheet_heading trips) h there) in
       let a = along m.0 m.1.0 in
       let busy : not (is_idle p d a.pattern) ≡ true = ap not (in-some (trips_along a.pattern) m.0 a.member) in
       subst (λ g. In g (map (heading_along p) kept)) (a.heading ∙ sym m.1.1)
@@ -220,14 +220,14 @@ module _ (p : Parts) (sound : IsSoundParts p) (n : ℕ) (within : n < length p.r
       (λ before. never (heading_along p x) (heading_along p y) same (ap is_lt (headings-compare p sound x y (pattern-is p sound n xs are x in_x) (pattern-is p sound n xs are y in_y)) ∙ before))
       (λ before. never (heading_along p y) (heading_along p x) (sym same) (ap is_lt (headings-compare p sound y x (pattern-is p sound n xs are y in_y) (pattern-is p sound n xs are x in_x)) ∙ before))
     where
-      never : (g h : Heading) → g ≡ h → is_heading_before g h ≡ true → ⊥
+      never : (g h : SheetHeading) → g ≡ h → is_heading_before g h ≡ true → ⊥
       never g h e before = not_both (is_heading_before g h) before (ap (λ k. is_heading_before k h) e ∙ ap is_lt (tied_itself headings_total h))
 
   to-along : (x : Pattern) → In x xs → (t : Trip) → In t (filter (has_heading (heading_along p x)) trips) → In t (trips_along x)
   to-along x in_x t there =
       let k = filter-in (has_heading (heading_along p x)) trips t there in
       let a = along t k.0 in
-      let same : a.pattern ≡ x = one-pattern a.pattern x a.there in_x (a.heading ∙ sym (heading_exact (heading_along p x) (heading_of t) (equal _ k.1))) in
+      let same : a.pattern ≡ x = one-pattern a.pattern x a.there in_x (a.heading ∙ sym (heading_exact (heading_along p x) (sheet_heading t) (equal _ k.1))) in
       subst (λ y. In t (trips_along y)) same a.member
 
   from-along : (x : Pattern) → In x xs → goes direction x ≡ true → (t : Trip) → In t (trips_along x) → In t (filter (has_heading (heading_along p x)) trips)
@@ -261,7 +261,7 @@ module _ (p : Parts) (sound : IsSoundParts p) (n : ℕ) (within : n < length p.r
       let k = along-known x t r.1.0 in
       let all = found-trip p sound d x.trips trips k.0 t timed-known k.1 ((running-along x in_x t r.1.0).timed way) in
       let own = found-trip p sound d x.trips (trips_along x) k.0 t (along-known x) k.1 r.1.0 in
-      let time = λ (u : Trip). option_and_then (time_at u q.0) (row_at u i) in
+      let time = λ (u : Trip). option_and_then (time_passed u q.0) (row_at u i) in
       let by_id = λ (ts : List Trip). ap (λ name. option_and_then time (find (λ u. bytes_eq u.trip_id name) ts)) (ap (λ z. z.1) named.1.1) in
       by_id trips ∙ ap (option_and_then time) (all ∙ sym own) ∙ sym (by_id (trips_along x))
 

@@ -17,7 +17,7 @@ use Rattle.gtfs_rows.specs.Views.{IsSoundParts, content_of_parts, service_ids, t
 use Rattle.gtfs_rows.specs.declared.parts.Parts.{Parts}
 use Rattle.gtfs_runs.specs.Lanes.{latest}
 use Rattle.gtfs_runs.specs.StopLanes.{AreLanesOf, StopLanesValue, lanes_of}
-use Rattle.gtfs_times.specs.Filling.{filled_row, time_at, timed, timed_rows, timed_trip}
+use Rattle.gtfs_times.specs.Filling.{filled_row, time_at, timed, timed_stop_rows, timed_trip}
 use Rattle.gtfs_times.specs.TimedRows.{timed_parts}
 use Rattle.gtfs_times.specs.declared.times.Times.{Times}
 use Rattle.gtfs_times.specs.declared.times.Times.TheVariants as times
@@ -28,13 +28,13 @@ use Rattle.gtfs_board.specs.CandidateKeys.{key_among}
 use Rattle.gtfs_board.specs.Floors.{IsNumbered, is_from}
 use Rattle.gtfs_board.specs.LaneDays.{AreTimely, all_departures, departures_on}
 use Rattle.gtfs_board.specs.Opening.{IsOpen, IsOpened, board_value}
-use Rattle.gtfs_board.specs.Showing.{IsOfFeed, key_in, listed_in, times_of}
+use Rattle.gtfs_board.specs.Showing.{IsOfFeed, candidate_key, listed_in, candidate_times}
 use Rattle.gtfs_board.specs.Shown.{IsShown}
 use Rattle.gtfs_board.specs.declared.merge.candidate.Candidate.{Candidate}
 use Rattle.gtfs_board.specs.declared.span.Span.{Span}
 use Rattle.gtfs_board.specs.merge.Candidates as merge
 use Rattle.gtfs_board.specs.merge.Candidates.{MergeValue, candidate_lt, rest_above}
-use Rattle.gtfs_board.specs.merge.Order.{Each, In, IsAscending}
+use Rattle.gtfs_board.specs.merge.Order.{Each, In, AscendsBy}
 use Rattle.gtfs_board.proofs.Candidates.{candidates_strict}
 use Rattle.gtfs_board.proofs.EventFacts.{map_at}
 use Rattle.gtfs_board.proofs.Opened.{board_left, keys_listed, of_feed, queued_is, reach_is, shown-at}
@@ -55,7 +55,7 @@ placed-back a [] k x at = cc
 placed-back a (r ∷ rs) zero x at = ap (λ (y : ℕ × StopRow). Some y.1) (some_is (a, r) x at)
 placed-back a (r ∷ rs) (suc k) x at = placed-back (a + 1) rs k x at
 
-row-back : (choice : Times) (rows : List StopRow) (k : ℕ) (y : StopRow) → slice_get (timed_rows choice rows) k ≡ Some y → (r : StopRow) × ((slice_get rows k ≡ Some r) × (r.stop_sequence ≡ y.stop_sequence))
+row-back : (choice : Times) (rows : List StopRow) (k : ℕ) (y : StopRow) → slice_get (timed_stop_rows choice rows) k ≡ Some y → (r : StopRow) × ((slice_get rows k ≡ Some r) × (r.stop_sequence ≡ y.stop_sequence))
 row-back times.Given rows k y at = (y, (at, refl))
 row-back times.Interpolated rows k y at =
     let m = map_at (filled_row rows) (enumerate_from 0 rows) k y at in
@@ -105,7 +105,7 @@ module _ (choice : Times) (p : Parts) (sound : IsSoundParts p) (s : List ℕ) (l
     of-feed : (c : Candidate) → In c all → IsOfFeed p c
     of-feed c there =
         let known = of_feed q sound-q s lanes are-q zone end c (there-q c there) in
-        let many : length (times_of q c.trip) ≡ length (times_of p c.trip) = as-many choice p sound c.trip in
+        let many : length (candidate_times q c.trip) ≡ length (candidate_times p c.trip) = as-many choice p sound c.trip in
         record { trip = known.trip; row = subst (λ n. c.row < n) many known.row; day_from = known.day_from; day_to = known.day_to; instant = known.instant }
 
     shown : (c : Candidate) → In c all → IsShown (content_of_parts p) (listed_in p c)
@@ -131,13 +131,13 @@ module _ (choice : Times) (p : Parts) (sound : IsSoundParts p) (s : List ℕ) (l
     opened_board span after floor v ends rest above greatest start settings queued steps =
         let kept : IsOpen p v = record {
           of_feed = subst (Each (IsOfFeed p)) (sym rest) (each_in (IsOfFeed p) (rest_above all floor) (λ c there. of-feed c (in-rest all floor c there)));
-          ascending = subst (IsAscending candidate_lt) (sym rest) (ascending-in_order candidates_strict (filter (candidate_lt floor) all));
+          ascending = subst (AscendsBy candidate_lt) (sym rest) (ascending-in_order candidates_strict (filter (candidate_lt floor) all));
           days = settings.4;
         } in
         let left = board_left q sound-q s lanes are-q zone end span.from span.until after floor ends
         (λ c known. above c (record { trip = known.trip; lane = known.lane; day = known.day })) in
         let rest-q : map (key_among (trip_ids p)) (rest_above (all_departures q (zone_origin zone) lanes end) floor) ≡ keys_of (map (listed_in p) v.rest) =
-        ap (λ cs. map (key_among (trip_ids p)) (rest_above cs floor)) same-departures ∙ sym (ap (map (key_in p)) rest) ∙ sym (keys_listed p v.rest) in (
+        ap (λ cs. map (key_among (trip_ids p)) (rest_above cs floor)) same-departures ∙ sym (ap (map (candidate_key p)) rest) ∙ sym (keys_listed p v.rest) in (
           kept,
           record {
             board = subst (λ ks. IsBoard f (zone_origin zone) s span.from span.until after ks) rest-q

@@ -9,7 +9,7 @@ use Rattle.gtfs_rows.specs.Trips.{stop_rows_by_trip}
 use Rattle.gtfs_rows.specs.Views.{IsSoundParts}
 use Rattle.gtfs_rows.specs.declared.parts.Parts.{Parts}
 use Rattle.gtfs_stop_times.specs.declared.stop_row.StopRow.{StopRow}
-use Rattle.gtfs_runs.specs.Patterns.{rows_of}
+use Rattle.gtfs_runs.specs.Patterns.{rows_of_number}
 use Rattle.gtfs_runs.proofs.RowEvents.{leaves_later}
 use Rattle.gtfs_times.specs.Filling.{timed}
 use Rattle.gtfs_times.specs.TimedRows.{timed_parts, timed_stop_times}
@@ -34,11 +34,11 @@ none-timed times.Given = refl
 none-timed times.Interpolated = refl
 
 module _ (choice : Times) (p : Parts) (sound : IsSoundParts p) where
-  pub rows-timed : (n : ℕ) → rows_of (timed_parts choice p) n ≡ timed_stop_times choice (rows_of p n)
+  pub rows-timed : (n : ℕ) → rows_of_number (timed_parts choice p) n ≡ timed_stop_times choice (rows_of_number p n)
   rows-timed n = ap (λ ps. unwrap_or (slice_get ps n) []) (by_trip choice p sound) ∙ at-map (timed_stop_times choice) (none-timed choice) (stop_rows_by_trip p) n
 
-  pub as-many : (n : ℕ) → length (rows_of (timed_parts choice p) n) ≡ length (rows_of p n)
-  as-many n = ap length (rows-timed n) ∙ timed-length choice (rows_of p n)
+  pub as-many : (n : ℕ) → length (rows_of_number (timed_parts choice p) n) ≡ length (rows_of_number p n)
+  as-many n = ap length (rows-timed n) ∙ timed-length choice (rows_of_number p n)
 
   pub rows-there : (n : ℕ) (rs : List StopRow) → slice_get (stop_rows_by_trip p) n ≡ Some rs → slice_get (stop_rows_by_trip (timed_parts choice p)) n ≡ Some (timed_stop_times choice rs)
   rows-there n rs at = ap (λ ps. slice_get ps n) (by_trip choice p sound) ∙ mapped_at (timed_stop_times choice) (stop_rows_by_trip p) n rs at

@@ -24,9 +24,9 @@ use Rattle.gtfs_rows.specs.declared.parts.Parts.{Parts}
 use Rattle.gtfs_stop_times.specs.declared.stop_row.StopRow.{StopRow as StopTime}
 use Rattle.gtfs_rows.specs.declared.trip.Trip.{Trip as TripRow}
 use Rattle.gtfs_runs.specs.Counts.{tally}
-use Rattle.gtfs_runs.specs.Patterns.{ArePatterns, direction_of, entries_of, entries_under, entry_of, is_of_route, rows_of}
+use Rattle.gtfs_runs.specs.Patterns.{ArePatterns, direction_of_trip, entries_of, entries_under, entry_of, is_of_route, rows_of_number}
 use Rattle.gtfs_runs.specs.declared.pattern.Pattern.{Pattern}
-use Rattle.gtfs_times.specs.Filling.{filled_rows, time_at, timed, timed_rows, timed_trip}
+use Rattle.gtfs_times.specs.Filling.{filled_rows, time_at, timed, timed_stop_rows, timed_trip}
 use Rattle.gtfs_times.specs.TimedRows.{filled_stop_time, timed_parts, timed_stop_times}
 use Rattle.gtfs_times.specs.declared.times.Times.{Times}
 use Rattle.gtfs_times.specs.declared.times.Times.TheVariants as times
@@ -62,7 +62,7 @@ start-same : (choice : Times) (t : Trip) → trip_start (timed_trip choice t) �
 start-same times.Given t = refl
 start-same times.Interpolated t = ap (λ o. unwrap_or o 0) (first-filled t.stop_rows)
 
-long-same : (choice : Times) (rows : List StopRow) → length (timed_rows choice rows) ≡ length rows
+long-same : (choice : Times) (rows : List StopRow) → length (timed_stop_rows choice rows) ≡ length rows
 long-same times.Given rows = refl
 long-same times.Interpolated rows = filled-length rows
 
@@ -165,13 +165,13 @@ module _ (choice : Times) (p : Parts) (sound : IsSoundParts p) where
     trips = λ k d within. let known = is.trips k d within in (known.0, omega (arith, known.1, as-many choice p sound (get_or x.trips k d).0));
     along = λ k d within.
         let n = (get_or x.trips k d).0 in
-        ap (map (λ row. row.stop_id)) (rows-timed choice p sound n) ∙ stops-same choice (rows_of p n) ∙ is.along k d within;
+        ap (map (λ row. row.stop_id)) (rows-timed choice p sound n) ∙ stops-same choice (rows_of_number p n) ∙ is.along k d within;
     once = is.once;
   }
 
   entry-same : (n : ℕ) → entry_of q n ≡ entry_of p n
   entry-same n = λ i. record {
-    heading = record { direction = direction_of p n; stops = (ap (map (λ r. r.stop_id)) (rows-timed choice p sound n) ∙ stops-same choice (rows_of p n)) i };
+    heading = record { direction = direction_of_trip p n; stops = (ap (map (λ r. r.stop_id)) (rows-timed choice p sound n) ∙ stops-same choice (rows_of_number p n)) i };
     trip = record { 0 = n };
   }
 

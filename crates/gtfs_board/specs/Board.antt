@@ -94,6 +94,6 @@ pub record SameSettings (b c : BoardValue) : Type 0 where
   pub zone : c.zone ≡ b.zone
 
 -- what stays of a board while departures are taken from it
-pub record Keeps (b c : BoardValue) : Type 0 where
+pub record KeepsBoard (b c : BoardValue) : Type 0 where
   pub settings : SameSettings b c
   pub queued : IsQueued b → IsQueued c

@@ -15,4 +15,5 @@ pub mod SheetSteps
 pub mod Shown
 pub mod Span
 pub mod Timetable
+pub mod Words
 pub mod merge

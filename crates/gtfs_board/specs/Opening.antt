@@ -9,11 +9,11 @@ use Rattle.gtfs_runs.specs.Lanes.{lane_count, latest}
 use Rattle.gtfs_board.specs.Board.{BoardValue, IsQueued, keys_of, start_of, steps_for_days}
 use Rattle.gtfs_rows.specs.Departures.{IsBoard}
 use Rattle.gtfs_rows.specs.Key.{Key}
-use Rattle.gtfs_board.specs.Showing.{IsOfFeed, key_in, listed_in}
+use Rattle.gtfs_board.specs.Showing.{IsOfFeed, candidate_key, listed_in}
 use Rattle.gtfs_board.specs.Shown.{IsShown}
 use Rattle.gtfs_board.specs.declared.span.Span.{Span}
 use Rattle.gtfs_board.specs.merge.Candidates.{MergeValue, candidate_lt}
-use Rattle.gtfs_board.specs.merge.Order.{Each, IsAscending}
+use Rattle.gtfs_board.specs.merge.Order.{Each, AscendsBy}
 use Rattle.gtfs_times.specs.Filling.{timed}
 use Rattle.gtfs_times.specs.declared.times.Times.{Times}
 
@@ -21,7 +21,7 @@ use Rattle.gtfs_times.specs.declared.times.Times.{Times}
 abbrev pub board_value : Parts → Zone → MergeValue → BoardValue
 board_value p z v = record {
   rest = map (listed_in p) v.rest;
-  queue = map (key_in p) v.queue;
+  queue = map (candidate_key p) v.queue;
   lanes = v.lanes;
   latest = v.latest;
   start = v.start;
@@ -33,7 +33,7 @@ board_value p z v = record {
 -- what a board keeps: its candidates are departures of the feed, in order
 pub record IsOpen (p : Parts) (v : MergeValue) : Type 0 where
   pub of_feed : Each (IsOfFeed p) v.rest
-  pub ascending : IsAscending candidate_lt v.rest
+  pub ascending : AscendsBy candidate_lt v.rest
   pub days : v.days ≡ service_days
 
 -- with what a board was opened, for a stop of a feed in a zone

@@ -12,11 +12,11 @@ use Rattle.gtfs_rows.specs.declared.numbers.TripNo.{TripNo}
 use Rattle.gtfs_rows.specs.declared.parts.Parts.{Parts}
 use Rattle.gtfs_stop_times.specs.declared.stop_row.StopRow.{StopRow as StopTime}
 use Rattle.gtfs_runs.specs.Counts.{tally}
-use Rattle.gtfs_runs.specs.Patterns.{rows_of}
+use Rattle.gtfs_runs.specs.Patterns.{rows_of_number}
 use Rattle.gtfs_rows.specs.Runs.{is_run}
 use Rattle.gtfs_runs.specs.declared.pattern.Pattern.{Pattern}
 use Rattle.gtfs_rows.specs.Departures.{runs_on}
-use Rattle.gtfs_board.specs.Timetable.{Run, Sheet, direction_rank, has_run_on, row_at, runs_of, time_at, time_of_run}
+use Rattle.gtfs_board.specs.Timetable.{Run, Sheet, direction_rank, has_run_on, row_at, runs_of, time_passed, time_of_run}
 use Rattle.gtfs_board.specs.declared.sheet.columns.Column.{Column}
 
 -- ---- columns
@@ -41,17 +41,17 @@ is_column_of p d c n = (c.trip.0 == n.0) && is_run_on p d c
 
 -- a number is that of a trip that has a stop row
 abbrev pub HasRow : Parts → TripNo → Type 0
-HasRow p n = (n.0 < length p.trips) × (0 < length (rows_of p n.0))
+HasRow p n = (n.0 < length p.trips) × (0 < length (rows_of_number p n.0))
 
 -- the times of a column can be shown at this many stop rows of its trip
 pub record IsShownAlong (p : Parts) (stop_count : ℕ) (c : Column) : Type 0 where
   pub trip : c.trip.0 < length p.trips
-  pub reaches : stop_count ≤ length (rows_of p c.trip.0)
+  pub reaches : stop_count ≤ length (rows_of_number p c.trip.0)
   pub early : c.start < 3_600_000
 
 -- when the run passes the row at a position, none where the row is untimed
 abbrev pub time_of_column : Content → ℕ → Column → Option ℕ
-time_of_column f i c = option_and_then (λ t. option_and_then (time_at t c.start) (row_at t i)) (slice_get f.trips c.trip.0)
+time_of_column f i c = option_and_then (λ t. option_and_then (time_passed t c.start) (row_at t i)) (slice_get f.trips c.trip.0)
 
 -- when it passes each of this many rows
 abbrev pub times_of_column : Content → ℕ → Column → List (Option ℕ)
@@ -80,7 +80,7 @@ goes (Some d) x = direction_rank x.direction == d + 1
 pub record IsPattern (p : Parts) (x : Pattern) : Type 0 where
   pub stops : All (λ s. s.0 < length p.stops) x.stops
   pub trips : All (HasRow p) x.trips
-  pub along : All (λ n. map (λ row. row.stop_id) (rows_of p n.0) ≡ x.stops) x.trips
+  pub along : All (λ n. map (λ row. row.stop_id) (rows_of_number p n.0) ≡ x.stops) x.trips
   pub once : (m : ℕ) → tally (λ n. m == n.0) x.trips ≤ 1
 
 -- the trips of these numbers that have a run on the day

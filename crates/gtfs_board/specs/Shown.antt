@@ -12,12 +12,12 @@ use Rattle.gtfs_rows.specs.Key.{Key}
 use Rattle.gtfs_board.specs.Lines.{Listed}
 
 -- the short name of a route, or where it has none the long one
-abbrev pub name_of : Route → Option (List ℕ)
-name_of r = option_or r.route_short_name r.route_long_name
+abbrev pub name_of_route : Route → Option (List ℕ)
+name_of_route r = option_or r.route_short_name r.route_long_name
 
 -- the name of the route with this id; nothing where it has none
 abbrev pub route_name : Content → List ℕ → List ℕ
-route_name f id = unwrap_or (option_and_then name_of (find (λ r. bytes_eq r.route_id id) f.routes)) []
+route_name f id = unwrap_or (option_and_then name_of_route (find (λ r. bytes_eq r.route_id id) f.routes)) []
 
 -- the headsign of the stop row, or where it has none that of the trip; nothing where neither has one
 abbrev pub headsign : Trip → StopRow → List ℕ
@@ -35,8 +35,8 @@ abbrev pub mark_of : Trip → ℕ → StopRow → Mark
 mark_of t run row = mark_if (list_any (λ p. starts_run p run && (p.exact_times == 0)) t.frequencies) (not (is_timed row))
 
 -- the trip of an id, and its row of a sequence
-abbrev pub trip_named : Content → List ℕ → Option Trip
-trip_named f id = find (λ t. bytes_eq t.trip_id id) f.trips
+abbrev pub trip_with_id : Content → List ℕ → Option Trip
+trip_with_id f id = find (λ t. bytes_eq t.trip_id id) f.trips
 
 abbrev pub row_numbered : Trip → ℕ → Option StopRow
 row_numbered t sequence = find (λ row. row.stop_sequence == sequence) t.stop_rows
@@ -47,7 +47,7 @@ shown_at f k t row = record { key = k; stop = row.stop_id; route = route_name f 
 
 -- what is shown of the departure with this key
 abbrev pub shown : Content → Key → Option Listed
-shown f k = option_and_then (λ t. option_map (shown_at f k t) (row_numbered t k.sequence)) (trip_named f k.trip)
+shown f k = option_and_then (λ t. option_map (shown_at f k t) (row_numbered t k.sequence)) (trip_with_id f k.trip)
 
 abbrev pub IsShown : Content → Listed → Type 0
 IsShown f d = shown f d.key ≡ Some d

@@ -12,7 +12,7 @@ use Rattle.gtfs_rows.specs.Rows.{StopRow, Trip}
 use Rattle.gtfs_runs.specs.Lanes.{stops_of}
 use Rattle.gtfs_rows.specs.Runs.{is_timed, passes_at, runs}
 use Rattle.gtfs_rows.specs.Departures.{runs_on}
-use Rattle.gtfs_board.specs.merge.Order.{in_order}
+use Rattle.gtfs_board.specs.merge.Order.{ascending_by}
 
 -- a run of a sheet: the second at which it starts, and its trip
 abbrev pub Run : Type 0
@@ -26,8 +26,8 @@ is_run_before x y = is_lt (run_cmp x y)
 
 -- ---- what the trips of a sheet share: a direction and the stops of their rows
 
-abbrev pub Heading : Type 0
-Heading = ℕ × List (List ℕ)
+abbrev pub SheetHeading : Type 0
+SheetHeading = ℕ × List (List ℕ)
 
 -- no direction comes before 0, and 0 before 1
 abbrev pub direction_rank : Option ℕ → ℕ
@@ -37,17 +37,17 @@ direction_rank (Some d) = d + 1
 abbrev pub direction_at : ℕ → Option ℕ
 direction_at n = if n == 0 then None else Some (n - 1)
 
-abbrev pub heading_cmp : Heading → Heading → Ordering
+abbrev pub heading_cmp : SheetHeading → SheetHeading → Ordering
 heading_cmp = then_cmp (on (λ h. h.0) nat_cmp) (on (λ h. h.1) (slice_cmp text_cmp))
 
-abbrev pub is_heading_before : Heading → Heading → Bool
+abbrev pub is_heading_before : SheetHeading → SheetHeading → Bool
 is_heading_before x y = is_lt (heading_cmp x y)
 
-abbrev pub heading_of : Trip → Heading
-heading_of t = (direction_rank t.direction_id, stops_of t)
+abbrev pub sheet_heading : Trip → SheetHeading
+sheet_heading t = (direction_rank t.direction_id, stops_of t)
 
-abbrev pub has_heading : Heading → Trip → Bool
-has_heading h t = is_eq (heading_cmp h (heading_of t))
+abbrev pub has_heading : SheetHeading → Trip → Bool
+has_heading h t = is_eq (heading_cmp h (sheet_heading t))
 
 -- ---- the trips of a timetable
 
@@ -69,8 +69,8 @@ abbrev pub running : Content → List ℕ → Option ℕ → ℤ → List Trip
 running f route direction d = filter (λ t. bytes_eq t.route_id route && wants direction t && has_run_on f d t) f.trips
 
 -- the headings of these trips, each once, by direction, then by their stops
-abbrev pub headings : List Trip → List Heading
-headings trips = in_order is_heading_before (map heading_of trips)
+abbrev pub headings : List Trip → List SheetHeading
+headings trips = ascending_by is_heading_before (map sheet_heading trips)
 
 -- ---- a sheet
 
@@ -80,9 +80,9 @@ named_runs t = map (λ r. (r, t.trip_id)) (runs t)
 
 -- the runs of trips, each once, by their start, then by the trip's id
 abbrev pub runs_of : List Trip → List Run
-runs_of trips = in_order is_run_before (flat_map named_runs trips)
+runs_of trips = ascending_by is_run_before (flat_map named_runs trips)
 
-abbrev pub runs_under : Heading → List Trip → List Run
+abbrev pub runs_under : SheetHeading → List Trip → List Run
 runs_under h trips = runs_of (filter (has_heading h) trips)
 
 -- the row of a trip at a position; the trips of a sheet have as many
@@ -90,11 +90,11 @@ abbrev pub row_at : Trip → ℕ → Option StopRow
 row_at t i = slice_get t.stop_rows i
 
 -- when a run passes a row of its trip, none where the row is untimed
-abbrev pub time_at : Trip → ℕ → StopRow → Option ℕ
-time_at t r row = if is_timed row then Some (passes_at t r row) else None
+abbrev pub time_passed : Trip → ℕ → StopRow → Option ℕ
+time_passed t r row = if is_timed row then Some (passes_at t r row) else None
 
 abbrev pub time_of_run : List Trip → ℕ → Run → Option ℕ
-time_of_run trips i run = option_and_then (λ t. option_and_then (time_at t run.0) (row_at t i)) (find (λ t. bytes_eq t.trip_id run.1) trips)
+time_of_run trips i run = option_and_then (λ t. option_and_then (time_passed t run.0) (row_at t i)) (find (λ t. bytes_eq t.trip_id run.1) trips)
 
 -- the runs that pass one list of stops in one direction
 pub record Sheet : Type 0 where
@@ -106,7 +106,7 @@ pub record Sheet : Type 0 where
   -- for each stop the time of each run, none where the row is untimed
   pub times : List (List (Option ℕ))
 
-abbrev pub sheet_under : List ℕ → ℤ → List Trip → Heading → Sheet
+abbrev pub sheet_under : List ℕ → ℤ → List Trip → SheetHeading → Sheet
 sheet_under route day trips h = record {
   route = route;
   direction = direction_at h.0;

@@ -1,7 +1,7 @@
 //! Boards of stops.
 ghost use Rattle.std.specs.Prelude.{◌≡◌, ◌≢◌, ◌<◌, ◌≤◌, ◌∷◌, ◌↔◌, [], IfErr, All, true, false, length, IfOk, IfSome, IsErrOf, OnErr, MatchOption, option_map};
 ghost use Rattle.gtfs_days.specs.Zone.{IsInstant, zone_origin};
-ghost use Rattle.gtfs_rows.specs.Views.{content_of_parts as content_of};
+ghost use Rattle.gtfs_rows.specs.Views.{content_of_parts};
 ghost use Rattle.gtfs_rows.specs.Views.{service_ids, stop_ids, text_of_number};
 ghost use Rattle.gtfs_runs.specs.Lanes.{latest};
 ghost use Rattle.gtfs_runs.specs.StopLanes.{AreLanesOf, lanes_of};
@@ -105,15 +105,16 @@ impl<'a> Board<'a> {
         times: Times,
     ) -> Result<Board<'a>, BoardFault>
         ensures unknown { IsErrOf result BoardFault.UnknownStop
-            ↔ (is_stop (content_of feed.now) stop.now ≡ false) }
+            ↔ (is_stop (content_of_parts feed.now) stop.now ≡ false) }
         ensures bad { IsErrOf result BoardFault.BadSpan
-            ↔ ((is_stop (content_of feed.now) stop.now ≡ true) × (is_span span ≡ false)) }
-        ensures board { IfOk result (λ b. IsBoard (timed times (content_of feed.now))
+            ↔ ((is_stop (content_of_parts feed.now) stop.now ≡ true) × (is_span span ≡ false)) }
+        ensures board { IfOk result (λ b. IsBoard (timed times (content_of_parts feed.now))
             (zone_origin zone.now) stop.now
             span.from span.until (option_map (λ k. plain_key k.now) after.entry) (keys_of b.rest)) }
-        ensures shown { IfOk result (λ b. All (IsShown (content_of feed.now)) b.rest) }
+        ensures shown { IfOk result (λ b. All (IsShown (content_of_parts feed.now)) b.rest) }
         ensures queued { IfOk result IsQueued }
-        ensures settings { IfOk result (HasSettings (timed times (content_of feed.now)) zone.now
+        ensures settings { IfOk result (HasSettings
+            (timed times (content_of_parts feed.now)) zone.now
             stop.now span (option_map (λ k. plain_key k.now) after.entry)) }
         ensures steps { IfOk result (λ b. b.steps ≤ steps_for_days b) }
     {
@@ -137,16 +138,18 @@ impl<'a> Board<'a> {
         after: Option<&Key<'_>>,
     ) -> Result<Board<'a>, BoardFault>
         ensures unknown { IsErrOf result BoardFault.UnknownStop
-            ↔ (is_stop (content_of index.now.feed) stop.now ≡ false) }
+            ↔ (is_stop (content_of_parts index.now.feed) stop.now ≡ false) }
         ensures bad { IsErrOf result BoardFault.BadSpan
-            ↔ ((is_stop (content_of index.now.feed) stop.now ≡ true) × (is_span span ≡ false)) }
+            ↔ ((is_stop (content_of_parts index.now.feed) stop.now ≡ true)
+            × (is_span span ≡ false)) }
         ensures board { IfOk result (λ b. IsBoard
-            (timed index.now.times (content_of index.now.feed)) (zone_origin zone.now) stop.now
+            (timed index.now.times (content_of_parts index.now.feed))
+            (zone_origin zone.now) stop.now
             span.from span.until (option_map (λ k. plain_key k.now) after.entry) (keys_of b.rest)) }
-        ensures shown { IfOk result (λ b. All (IsShown (content_of index.now.feed)) b.rest) }
+        ensures shown { IfOk result (λ b. All (IsShown (content_of_parts index.now.feed)) b.rest) }
         ensures queued { IfOk result IsQueued }
         ensures settings { IfOk result (HasSettings
-            (timed index.now.times (content_of index.now.feed)) zone.now
+            (timed index.now.times (content_of_parts index.now.feed)) zone.now
             stop.now span (option_map (λ k. plain_key k.now) after.entry)) }
         ensures steps { IfOk result (λ b. b.steps ≤ steps_for_days b) }
     {
@@ -169,7 +172,7 @@ impl<'a> Board<'a> {
         requires { stop.0 < length feed.now.stops }
         ensures known { IfErr result (λ e. e ≢ BoardFault.UnknownStop) }
         ensures bad { IsErrOf result BoardFault.BadSpan ↔ (is_span span ≡ false) }
-        ensures opened { IfOk result (IsOpened times (content_of feed.now) zone.now
+        ensures opened { IfOk result (IsOpened times (content_of_parts feed.now) zone.now
             (text_of_number (stop_ids feed.now) stop.0) span
             (option_map (λ k. plain_key k.now) after.entry)) }
     {
@@ -191,7 +194,7 @@ impl<'a> Board<'a> {
     ) -> Result<Board<'a>, OutOfMemory>
         requires stop { stop.0 < length feed.now.stops }
         requires span { is_span span ≡ true }
-        ensures { IfOk result (IsOpened times (content_of feed.now) zone.now
+        ensures { IfOk result (IsOpened times (content_of_parts feed.now) zone.now
             (text_of_number (stop_ids feed.now) stop.0) span
             (option_map (λ k. plain_key k.now) after.entry)) }
     {
@@ -211,7 +214,8 @@ impl<'a> Board<'a> {
         requires { stop.0 < length index.now.feed.stops }
         ensures known { IfErr result (λ e. e ≢ BoardFault.UnknownStop) }
         ensures bad { IsErrOf result BoardFault.BadSpan ↔ (is_span span ≡ false) }
-        ensures opened { IfOk result (IsOpened index.now.times (content_of index.now.feed) zone.now
+        ensures opened { IfOk result (IsOpened
+            index.now.times (content_of_parts index.now.feed) zone.now
             (text_of_number (stop_ids index.now.feed) stop.0) span
             (option_map (λ k. plain_key k.now) after.entry)) }
     {
@@ -232,7 +236,7 @@ impl<'a> Board<'a> {
     ) -> Result<Board<'a>, OutOfMemory>
         requires stop { stop.0 < length index.now.feed.stops }
         requires span { is_span span ≡ true }
-        ensures { IfOk result (IsOpened index.now.times (content_of index.now.feed) zone.now
+        ensures { IfOk result (IsOpened index.now.times (content_of_parts index.now.feed) zone.now
             (text_of_number (stop_ids index.now.feed) stop.0) span
             (option_map (λ k. plain_key k.now) after.entry)) }
     {
@@ -255,12 +259,12 @@ impl<'a> Board<'a> {
         steps: Steps,
     ) -> Result<Board<'a>, OutOfMemory>
         requires span { is_span span ≡ true }
-        requires lanes { AreLanesOf (timed times (content_of feed.now))
+        requires lanes { AreLanesOf (timed times (content_of_parts feed.now))
             (text_of_number (stop_ids feed.now) stop.0) (service_ids feed.now) (lanes_of lanes) }
-        requires greatest { lanes.greatest ≡ latest (timed times (content_of feed.now))
+        requires greatest { lanes.greatest ≡ latest (timed times (content_of_parts feed.now))
             (text_of_number (stop_ids feed.now) stop.0) }
         requires steps { steps ≡ 0 }
-        ensures { IfOk result (IsOpened times (content_of feed.now) zone.now
+        ensures { IfOk result (IsOpened times (content_of_parts feed.now) zone.now
             (text_of_number (stop_ids feed.now) stop.0) span
             (option_map (λ k. plain_key k.now) after.entry)) }
     {

@@ -8,7 +8,7 @@ ghost use Rattle.gtfs_board.specs.Board.{start_of};
 ghost use Rattle.gtfs_board.specs.Floors.{IsNumbered, is_from};
 ghost use Rattle.gtfs_rows.specs.Key.{key_cmp};
 ghost use Rattle.gtfs_board.specs.Lent.{plain_key};
-ghost use Rattle.gtfs_board.specs.Showing.{key_in};
+ghost use Rattle.gtfs_board.specs.Showing.{candidate_key};
 ghost use Rattle.gtfs_board.specs.declared.merge.candidate.Candidate.{Candidate as CandidateValue};
 ghost use Rattle.gtfs_board.specs.merge.Candidates.{candidate_lt};
 
@@ -47,7 +47,7 @@ fn floor_from(feed: &Feed, lanes: usize, from: i64, key: &Key<'_>) -> Candidate
 // The floor above which the departures are that have a greater key.
 fn floor_after(feed: &Feed, lanes: usize, key: &Key<'_>) -> Candidate
     ensures value { (c : CandidateValue) → IsNumbered feed.now lanes c → candidate_lt result c
-        ≡ is_lt (key_cmp (plain_key key.now) (key_in feed.now c)) }
+        ≡ is_lt (key_cmp (plain_key key.now) (candidate_key feed.now c)) }
     ensures instant { result.instant ≡ key.now.instant }
     ensures aside { (result.day <ℤ first_service_day) ⊎ (lanes ≤ result.lane) }
 {

@@ -2,7 +2,7 @@
 ghost use Rattle.std.specs.Prelude.{◌≡◌, ◌<◌, ◌≤◌, ◌+◌, ◌-◌, ℤ, false, length, pos, negsuc, ◌+ℤ◌, ◌≤ℤ◌, ◌<ℤ◌, find, true, IsTrue, None, Some, option_map, slice_get, if◌then◌else◌};
 ghost use Rattle.gtfs_days.specs.Service.{first_service_day, last_service_day, service_days};
 ghost use Rattle.gtfs_days.specs.Zone.{zone_origin};
-ghost use Rattle.gtfs_runs.specs.Order.{is_above, is_later};
+ghost use Rattle.gtfs_runs.specs.Order.{is_above_moment, is_later};
 ghost use Rattle.gtfs_runs.specs.StopLanes.{lanes_of};
 ghost use Rattle.gtfs_board.specs.LaneDays.{AreAscending, AreTimely, HaveServices, any_value, departing, departures_on, all_departures, ends_by, event_of, lane_at, serves_on};
 ghost use Rattle.gtfs_board.specs.merge.Candidates.{IsAside, first_above};
@@ -99,7 +99,8 @@ impl<'a> Days<'a> {
     // The first event of a lane above a position.
     fn first_above(&self, lane: usize, moment: &Moment, steps: &mut Steps) -> Option<Event>
         requires { lane < length (lanes_of self.now.lanes) }
-        ensures first { result ≡ find (is_above moment.now) (lane_at self.now.lanes lane).events }
+        ensures first { result
+            ≡ find (is_above_moment moment.now) (lane_at self.now.lanes lane).events }
         ensures steps { steps.new ≤ steps.old + 1 }
     {
         self.lane(lane).first_above(self.feed, moment, steps)

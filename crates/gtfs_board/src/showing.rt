@@ -6,7 +6,7 @@ ghost use Rattle.gtfs_rows.specs.Trips.{ArePeriods, left_at};
 ghost use Rattle.gtfs_rows.specs.Views.{frequency_of, stop_ids, text_of_number, trip_ids};
 ghost use Rattle.gtfs_rows.specs.Runs.{starts_run};
 ghost use Rattle.gtfs_board.specs.Lent.{listed, plain_key};
-ghost use Rattle.gtfs_board.specs.Showing.{IsOfFeed, key_in, listed_in};
+ghost use Rattle.gtfs_board.specs.Showing.{IsOfFeed, candidate_key, listed_in};
 
 use crate::departure::{Departure, Mark};
 use crate::key::Key;
@@ -40,7 +40,7 @@ pub(crate) fn departure_of<'a>(feed: &'a Feed, candidate: &Candidate) -> Departu
 // The key of a candidate.
 fn key_of<'a>(feed: &'a Feed, candidate: &Candidate) -> Key<'a>
     requires { IsOfFeed feed.now candidate.now }
-    ensures key { plain_key result ≡ key_in feed.now candidate.now }
+    ensures key { plain_key result ≡ candidate_key feed.now candidate.now }
     ensures instant { result.instant ≡ candidate.now.instant }
 {
     Key {

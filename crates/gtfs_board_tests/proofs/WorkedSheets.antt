@@ -3,7 +3,7 @@ use Rattle.std.proofs.Common.{◌≡◌, [], ◌∷◌, codes, refl, ap, ℕ, Li
 use Rattle.std.specs.Prelude.{◌++◌, pos}
 use Rattle.std.specs.Fmt.{digits}
 use Rattle.gtfs_rows.specs.Rows.{StopRow, Trip}
-use Rattle.gtfs_board.specs.Timetable.{has_heading, heading_of, sheet_text, time_of_run, time_shown, wants}
+use Rattle.gtfs_board.specs.Timetable.{has_heading, sheet_heading, sheet_text, time_of_run, time_shown, wants}
 use Rattle.gtfs_board.proofs.TextVectors.{date}
 
 abbrev row : List ℕ → Option ℕ → ℕ → StopRow
@@ -50,10 +50,10 @@ zero-zero = refl
 zero-one : wants (Some 0) (trip (Some 1)) ≡ false
 zero-one = refl
 
-none-apart : has_heading (heading_of (trip None)) (trip (Some 0)) ≡ false
+none-apart : has_heading (sheet_heading (trip None)) (trip (Some 0)) ≡ false
 none-apart = refl
 
-none-own : has_heading (heading_of (trip None)) (trip None) ≡ true
+none-own : has_heading (sheet_heading (trip None)) (trip None) ≡ true
 none-own = refl
 
 -- ---- times: those of a run that starts at six

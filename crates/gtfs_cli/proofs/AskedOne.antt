@@ -2,7 +2,7 @@
 use Rattle.std.proofs.Common.{◌≡◌, ◌⊎◌, inl, inr, refl, true, List, Option, Some, None}
 use Rattle.std.specs.Prelude.{codes, IsSome}
 use Rattle.clap.specs.Words.{Row, Text, first_of, subcommand_of, takes}
-use Rattle.gtfs_words.specs.Asked.{is_flagged, ForBoard, ForBoards, ForCheck, ForMerge, ForTimetable, HasBoard, HasBoards, HasMerge, HasTimetable, IsBoardOf, IsBoardsOf, IsMergeOf, IsTimetableOf, IsWhole}
+use Rattle.gtfs_words.specs.Asked.{is_flagged, ForBoard, ForBoards, ForCheck, ForMerge, ForTimetable, HasBoard, HasBoards, HasMerge, HasTimetable, GivesBoard, GivesBoards, GivesMerge, GivesTimetable, IsWhole}
 use Rattle.gtfs_words.specs.Words.{gtfs_app, BoardTexts, BoardsTexts, MergeTexts, TimetableTexts}
 use Rattle.gtfs_words.proofs.GtfsWords.{whole}
 use Rattle.gtfs_cli.specs.WordsRun.{AsksOne}
@@ -11,7 +11,7 @@ value_of : {A : Type 0} (o : Option A) → IsSome o → (x : A) × (o ≡ Some x
 value_of None some = cc some
 value_of (Some x) some = (x, refl)
 
-board_of : (given : List Row) → HasBoard given → (asked : BoardTexts) × IsBoardOf given asked
+board_of : (given : List Row) → HasBoard given → (asked : BoardTexts) × GivesBoard given asked
 board_of given has =
     let dir = value_of (first_of (codes "DIR") given) has.dir in
     let zone = value_of (first_of (codes "zone") given) has.zone in
@@ -31,7 +31,7 @@ board_of given has =
       record { dir = dir.1; zone = zone.1; stop = stop.1; from = from.1; until = until.1; limit = refl; after = refl; interpolate = refl },
     )
 
-boards_of : (given : List Row) → HasBoards given → (asked : BoardsTexts) × IsBoardsOf given asked
+boards_of : (given : List Row) → HasBoards given → (asked : BoardsTexts) × GivesBoards given asked
 boards_of given has =
     let dir = value_of (first_of (codes "DIR") given) has.dir in
     let zone = value_of (first_of (codes "zone") given) has.zone in
@@ -40,7 +40,7 @@ boards_of given has =
       record { dir = dir.1; zone = zone.1; requests = requests.1; interpolate = refl },
     )
 
-timetable_of : (given : List Row) → HasTimetable given → (asked : TimetableTexts) × IsTimetableOf given asked
+timetable_of : (given : List Row) → HasTimetable given → (asked : TimetableTexts) × GivesTimetable given asked
 timetable_of given has =
     let dir = value_of (first_of (codes "DIR") given) has.dir in
     let route = value_of (first_of (codes "route") given) has.route in
@@ -55,7 +55,7 @@ timetable_of given has =
       record { dir = dir.1; route = route.1; date = date.1; direction = refl; interpolate = refl },
     )
 
-merge_of : (given : List Row) → HasMerge given → (asked : MergeTexts) × IsMergeOf given asked
+merge_of : (given : List Row) → HasMerge given → (asked : MergeTexts) × GivesMerge given asked
 merge_of given has =
     let a = value_of (first_of (codes "A") given) has.a in
     let b = value_of (first_of (codes "B") given) has.b in

@@ -7,7 +7,7 @@ use Rattle.gtfs_days.specs.declared.zone.Zone.{Zone}
 use Rattle.gtfs_devices.specs.Folder.{Store}
 use Rattle.gtfs_table.specs.Tables.{without_marks}
 use Rattle.gtfs_rows.specs.Content.{Content}
-use Rattle.gtfs_rows.specs.Views.{content_of_parts as content_of_feed}
+use Rattle.gtfs_rows.specs.Views.{content_of_parts}
 use Rattle.gtfs_rows.specs.declared.parts.Parts.{Parts as Feed}
 use Rattle.gtfs_words.specs.Words.{BoardsTexts}
 use Rattle.gtfs_cli.specs.Boards.{HoldsFeed}
@@ -79,23 +79,23 @@ module _ (limit : ℕ) (held : Option Store) (asked : BoardsTexts) (feed : Feed)
     holds_requests = (hb, utf8);
   }
 
-  pub boards-of : (old new : Option (List ℕ)) → IsUtf8 (without_marks bytes) → PrintsRequests (content_of_feed feed) z (requests_by (content_of_feed feed)) old new
+  pub boards-of : (old new : Option (List ℕ)) → IsUtf8 (without_marks bytes) → PrintsRequests (content_of_parts feed) z (requests_by (content_of_parts feed)) old new
       → PrintsBoards limit held asked old new
   boards-of old new utf8 (text, are, out) =
       (text, (setting utf8, subst (λ (f : Content). AreAllBoards f z (requests_by f) text) h.is_feed.1 are), out)
 
   stops_in : (Part : Content → Zone → StopRequest → List ℕ → Type 0) (old new : Option (List ℕ)) → IsUtf8 (without_marks bytes)
-      → IsOkAnd (requests_by (content_of_feed feed)) (λ qs. StopsIn Part (content_of_feed feed) z qs old new) → StopsInBoards Part limit held asked old new
+      → IsOkAnd (requests_by (content_of_parts feed)) (λ qs. StopsIn Part (content_of_parts feed) z qs old new) → StopsInBoards Part limit held asked old new
   stops_in Part old new utf8 e = (setting utf8, subst (λ (f : Content). IsOkAnd (requests_by f) (λ qs. StopsIn Part f z qs old new)) h.is_feed.1 e)
 
-  pub ends-by : (old new : Option (List ℕ)) (before after : ℕ) (r : Refusal) → IsFileFault asked.requests bytes (requests_by (content_of_feed feed)) before after r
-      → EndsRequests (content_of_feed feed) z (requests_by (content_of_feed feed)) old new r → EndsBoards limit held asked old new r
+  pub ends-by : (old new : Option (List ℕ)) (before after : ℕ) (r : Refusal) → IsFileFault asked.requests bytes (requests_by (content_of_parts feed)) before after r
+      → EndsRequests (content_of_parts feed) z (requests_by (content_of_parts feed)) old new r → EndsBoards limit held asked old new r
   ends-by old new before after OutputFailed fault e = stops_in BeginsBoard old new fault.0 e
   ends-by old new before after OutOfMemory fault (inl keeps) = inl keeps
   ends-by old new before after OutOfMemory fault (inr e) = inr (stops_in BeginsWhole old new fault.0 e)
   ends-by old new before after _ fault e = e
 
-  pub fault-by : (before after : Failures) (r : Refusal) → IsFileFault asked.requests bytes (requests_by (content_of_feed feed)) before.output after.output r
+  pub fault-by : (before after : Failures) (r : Refusal) → IsFileFault asked.requests bytes (requests_by (content_of_parts feed)) before.output after.output r
       → IsBoardsCause limit held asked before after r
   fault-by before after (Unreadable named) fault =
       inr (inr (inl (has-passing limit held asked.dir feed h, (z, hz), inr (fault.0, (bytes, hb, fault.1)))))

@@ -16,7 +16,7 @@ use Rattle.gtfs_cli.specs.Messages.{line_of, message, request_line, request_text
 use Rattle.gtfs_cli.specs.Options.{times_of}
 use Rattle.gtfs_cli.specs.Outcomes.{none_failed, AreMade, IsBoardsOutcome, Outcome}
 use Rattle.gtfs_cli.specs.Refusals.{request_status, status_of, IsReadingCause}
-use Rattle.gtfs_cli.specs.Requests.{heading_of, requests_of, StopRequest}
+use Rattle.gtfs_cli.specs.Requests.{request_heading, requests_of, StopRequest}
 use Rattle.gtfs_cli.specs.HeldFiles.{HoldsPassing}
 use Rattle.gtfs_cli.specs.declared.commands.refusal.Refusal.{Refusal}
 use Rattle.gtfs_cli.specs.declared.commands.refusal.Refusal.TheVariants.{NotThere, Unreadable, OverLimit, HasErrors, NoZone, Line, OutputFailed, OutOfMemory}
@@ -35,7 +35,7 @@ one_boards_text y z same f [] t u a b = a ∙ sym b
 one_boards_text y z same f (q ∷ qs) t u a b =
     let page = one_text y z same f q.texts.stop q.request a.0 b.0 a.2 b.2 in
     let more = one_boards_text y z same f qs a.1 b.1 a.3 b.3 in
-    a.4 ∙ ap₂ (λ (x w : List ℕ). heading_of q.texts ++ x ++ w) page more ∙ sym b.4
+    a.4 ∙ ap₂ (λ (x w : List ℕ). request_heading q.texts ++ x ++ w) page more ∙ sym b.4
 
 -- what is there
 there : {A E : Type 0} (r : Result A E) (P : A → Type 0) → IsOkAnd r P → (x : A) × (r ≡ Ok x) × P x

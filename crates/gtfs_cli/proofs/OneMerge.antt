@@ -6,7 +6,7 @@ use Rattle.gtfs_devices.specs.Folder.{Store}
 use Rattle.gtfs_table.specs.Reading.{kept_files}
 use Rattle.gtfs_rows.specs.Content.{Content}
 use Rattle.gtfs_rows.specs.Reading.{content_of}
-use Rattle.gtfs_merge.specs.Merged.{is_too_large, zones_differ}
+use Rattle.gtfs_merge.specs.Merged.{is_too_large, zone_texts_differ}
 use Rattle.clap.specs.Words.{Text}
 use Rattle.gtfs_words.specs.Words.{MergeTexts}
 use Rattle.gtfs_cli.specs.MergeOptions.{first_bad_merge, HasMergeValues, IsMergeRequest, MergeRequest}
@@ -168,9 +168,9 @@ module _ (limit : ℕ) (store : Store) (asked : MergeTexts) where
         → P t.request (content_of t.first) (content_of t.second)
     of_merge P is = subst (λ (q : MergeRequest). P q (content_of t.first) (content_of t.second)) same_request (of_feeds (P s.request) is)
 
-    not_differing : zones_differ (content_of s.first) (content_of s.second) ≡ true → zones_differ (content_of t.first) (content_of t.second) ≡ false → ⊥
+    not_differing : zone_texts_differ (content_of s.first) (content_of s.second) ≡ true → zone_texts_differ (content_of t.first) (content_of t.second) ≡ false → ⊥
     not_differing differ one =
-        let both = of_feeds (λ f g. zones_differ f g ≡ true) differ in
+        let both = of_feeds (λ f g. zone_texts_differ f g ≡ true) differ in
         cc (sym both ∙ one)
 
   module _ (c d : Content) (told report : List ℕ) (a : IsFolderMerge limit (Some store) asked c told) (b : IsFolderMerge limit (Some store) asked d report) where

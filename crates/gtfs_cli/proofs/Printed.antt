@@ -5,7 +5,7 @@ use Rattle.gtfs_days.specs.declared.zone.Zone.{Zone}
 use Rattle.gtfs_devices.specs.Folder.{Store}
 use Rattle.gtfs_table.specs.Tables.{Dataset}
 use Rattle.gtfs_rows.specs.Content.{Content}
-use Rattle.gtfs_rows.specs.Views.{content_of_parts as content_of_feed}
+use Rattle.gtfs_rows.specs.Views.{content_of_parts}
 use Rattle.gtfs_rows.specs.declared.parts.Parts.{Parts as Feed}
 use Rattle.gtfs_board.specs.Board.{is_stop}
 use Rattle.gtfs_board.specs.Page.{IsCutShort, IsStopped}
@@ -73,17 +73,17 @@ module _ (limit : ℕ) (held : Option Store) (asked : BoardTexts) (feed : Feed) 
     is_request = are.request;
   }
 
-  pub lists-of : (Out : GoesOut) (old new : Option (List ℕ)) → OfBoard Out (content_of_feed feed) z asked.stop (request_of v) old new → Lists Out limit held asked old new
+  pub lists-of : (Out : GoesOut) (old new : Option (List ℕ)) → OfBoard Out (content_of_parts feed) z asked.stop (request_of v) old new → Lists Out limit held asked old new
   lists-of Out old new out = (setting, subst (λ (f : Content). OfBoard Out f z asked.stop (request_of v) old new) h.is_feed.1 out)
 
-  pub ends-of : (old new : Option (List ℕ)) (r : Refusal) → EndsLines (content_of_feed feed) z asked.stop (request_of v) old new r → EndsBoard limit held asked old new r
+  pub ends-of : (old new : Option (List ℕ)) (r : Refusal) → EndsLines (content_of_parts feed) z asked.stop (request_of v) old new r → EndsBoard limit held asked old new r
   ends-of old new OutputFailed e = lists-of IsCutShort old new e
   ends-of old new OutOfMemory (inl e) = inl e
   ends-of old new OutOfMemory (inr e) = inr (lists-of IsStopped old new e)
   ends-of old new _ e = e
 
   pub cause-of : (before after : Failures) → after.folders ≡ before.folders → (r : Refusal)
-      → IsLinesCause (content_of_feed feed) z asked.stop (request_of v) before.output after.output r → IsCause limit held asked before after r
+      → IsLinesCause (content_of_parts feed) z asked.stop (request_of v) before.output after.output r → IsCause limit held asked before after r
   cause-of before after same UnknownStop e = (setting, subst (λ (f : Content). is_stop f asked.stop ≡ false) h.is_feed.1 e)
   cause-of before after same UntilBeforeFrom e = (setting, subst (λ (f : Content). is_stop f asked.stop ≡ true) h.is_feed.1 e.0, e.1)
   cause-of before after same OutputFailed e = e

@@ -13,7 +13,7 @@ use Rattle.gtfs_board.specs.Page.{AreWritten, IsCutShort, IsPage, IsStopped}
 use Rattle.gtfs_times.specs.declared.times.Times.{Times}
 use Rattle.gtfs_cli.specs.Boards.{ListsBoard}
 use Rattle.gtfs_cli.specs.ManyBoards.{AreAllBoards, AreBoards, BeginsBoard, BeginsWhole, EndsOne, EndsRequests, IsTextOf, PrintsOne, PrintsRequests, StopsIn}
-use Rattle.gtfs_cli.specs.Requests.{fault_in, heading_of, stop_request, StopRequest}
+use Rattle.gtfs_cli.specs.Requests.{fault_in, request_heading, stop_request, StopRequest}
 use Rattle.gtfs_cli.specs.Sending.{SendsBeginning}
 use Rattle.gtfs_cli.specs.declared.commands.refusal.Refusal.{Refusal}
 use Rattle.gtfs_cli.specs.declared.commands.refusal.Refusal.TheVariants.{OutputFailed, OutOfMemory}
@@ -23,7 +23,7 @@ use Rattle.gtfs_cli.proofs.RequestLines.{accepted, asked_from, judged_none, judg
 
 module _ (f : Content) (z : Zone) (q : StopRequest) where
   abbrev heading : List ℕ
-  heading = heading_of q.texts
+  heading = request_heading q.texts
 
   -- of the heading a beginning went out
   pub heading_cut : (a b : Option (List ℕ)) → SendsBeginning a b heading → EndsOne f z q a b OutputFailed
@@ -102,13 +102,13 @@ module _ (f : Content) (z : Zone) (q : StopRequest) where
 module _ (f : Content) (z : Zone) where
   -- one more
   one_more : (qs : List StopRequest) (q : StopRequest) (text page : List ℕ) → AreBoards f z qs text → IsTextOf IsPage f z q page
-      → AreBoards f z (qs ++ q ∷ []) (text ++ (heading_of q.texts ++ page))
+      → AreBoards f z (qs ++ q ∷ []) (text ++ (request_heading q.texts ++ page))
   one_more [] q text page are is =
-      let past = heading_of q.texts ++ page in
+      let past = request_heading q.texts ++ page in
       (page, [], is, refl, ap (λ (t : List ℕ). t ++ past) are ∙ sym (append-nil past))
   one_more (p ∷ qs) q text page (first, more, is_first, are_more, whole) is =
-      let past = heading_of q.texts ++ page in
-      (first, more ++ past, is_first, one_more qs q more page are_more is, ap (λ (t : List ℕ). t ++ past) whole ∙ append_assoc (heading_of p.texts ++ first) more past)
+      let past = request_heading q.texts ++ page in
+      (first, more ++ past, is_first, one_more qs q more page are_more is, ap (λ (t : List ℕ). t ++ past) whole ∙ append_assoc (request_heading p.texts ++ first) more past)
 
   module _ (times : Times) (texts : List (List ℕ)) (old : Option (List ℕ)) where
     -- the boards of the lines before some went out, and what these ask for is left
@@ -144,11 +144,11 @@ module _ (f : Content) (z : Zone) where
         record {
           done = p.done ++ q ∷ [];
           others = j.others;
-          text = p.text ++ (heading_of q.texts ++ printed.0);
+          text = p.text ++ (request_heading q.texts ++ printed.0);
           whole = p.whole ∙ ap (λ (qs : List StopRequest). Ok (p.done ++ qs)) j.are ∙ ap (λ (qs : List StopRequest). Ok qs) (sym (append_assoc p.done (q ∷ []) j.others));
           rest = j.are_others;
           are_boards = one_more p.done q p.text printed.0 p.are_boards printed.1;
-          out = Appends-trans old mid now p.text (heading_of q.texts ++ printed.0) p.out printed.2;
+          out = Appends-trans old mid now p.text (request_heading q.texts ++ printed.0) p.out printed.2;
         }
 
     pub all_printed : (n : ℕ) (now : Option (List ℕ)) → Printed n [] now → PrintsRequests f z (asked_from f (zone_origin z) times 1 texts) old now

@@ -8,7 +8,7 @@ use Rattle.std.proofs.KnownBytes.{Appends-trans}
 use Rattle.std.proofs.lemmas.Bool.{true_from_ne_false}
 use Rattle.gtfs_devices.specs.Folder.{Store}
 use Rattle.gtfs_rows.specs.Content.{Content}
-use Rattle.gtfs_rows.specs.Views.{content_of_parts as content_of_feed}
+use Rattle.gtfs_rows.specs.Views.{content_of_parts}
 use Rattle.gtfs_rows.specs.declared.parts.Parts.{Parts as Feed}
 use Rattle.gtfs_board.specs.LentSheets.{plain_sheet}
 use Rattle.gtfs_board.specs.Timetable.{is_route, sheet_text}
@@ -129,28 +129,28 @@ module _ (limit : ℕ) (held : Option Store) (asked : TimetableTexts) (feed : Fe
   abbrev tabled_setting : TimetableSetting limit held asked
   tabled_setting = record { dataset = h.dataset; request = q; holds = h.holds; passes = h.is_feed.0; is_request = is }
 
-  timetable_is : is_route (content_of_feed feed) asked.route ≡ true → IsTimetableText limit held asked (timetable_text (content_of_feed feed) asked.route q)
+  timetable_is : is_route (content_of_parts feed) asked.route ≡ true → IsTimetableText limit held asked (timetable_text (content_of_parts feed) asked.route q)
   timetable_is known = record {
     setting = tabled_setting;
     known = subst (λ (f : Content). is_route f asked.route ≡ true) h.is_feed.1 known;
     is_text = ap (λ (f : Content). timetable_text f asked.route q) h.is_feed.1;
   }
 
-  pub tabled-of : (old new : Option (List ℕ)) → is_route (content_of_feed feed) asked.route ≡ true
-      → Appends old new (timetable_text (content_of_feed feed) asked.route q) → PrintsTimetable limit held asked old new
-  tabled-of old new known out = (timetable_text (content_of_feed feed) asked.route q, timetable_is known, out)
+  pub tabled-of : (old new : Option (List ℕ)) → is_route (content_of_parts feed) asked.route ≡ true
+      → Appends old new (timetable_text (content_of_parts feed) asked.route q) → PrintsTimetable limit held asked old new
+  tabled-of old new known out = (timetable_text (content_of_parts feed) asked.route q, timetable_is known, out)
 
-  begun-of : (old new : Option (List ℕ)) → BeginsSheets (content_of_feed feed) asked.route q old new → BeginsTimetable limit held asked old new
-  begun-of old new begun = (timetable_text (content_of_feed feed) asked.route q, timetable_is begun.0, begun.1)
+  begun-of : (old new : Option (List ℕ)) → BeginsSheets (content_of_parts feed) asked.route q old new → BeginsTimetable limit held asked old new
+  begun-of old new begun = (timetable_text (content_of_parts feed) asked.route q, timetable_is begun.0, begun.1)
 
-  pub tabled-ends : (old new : Option (List ℕ)) (r : Refusal) → EndsSheets (content_of_feed feed) asked.route q old new r → EndsTimetable limit held asked old new r
+  pub tabled-ends : (old new : Option (List ℕ)) (r : Refusal) → EndsSheets (content_of_parts feed) asked.route q old new r → EndsTimetable limit held asked old new r
   tabled-ends old new OutputFailed e = begun-of old new e
   tabled-ends old new OutOfMemory (inl e) = inl e
   tabled-ends old new OutOfMemory (inr e) = inr (begun-of old new e)
   tabled-ends old new _ e = e
 
   pub tabled-cause : (before after : Failures) → after.folders ≡ before.folders → (r : Refusal)
-      → IsSheetsCause (content_of_feed feed) asked.route before.output after.output r → IsTimetableCause limit held asked before after r
+      → IsSheetsCause (content_of_parts feed) asked.route before.output after.output r → IsTimetableCause limit held asked before after r
   tabled-cause before after same UnknownRoute e = (tabled_setting, subst (λ (f : Content). is_route f asked.route ≡ false) h.is_feed.1 e)
   tabled-cause before after same OutputFailed e = e
   tabled-cause before after same OutOfMemory e = (same, e)

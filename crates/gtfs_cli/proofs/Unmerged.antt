@@ -7,10 +7,10 @@ use Rattle.gtfs_devices.specs.Folder.{Store}
 use Rattle.gtfs_table.specs.Reading.{kept_files}
 use Rattle.gtfs_rows.specs.Content.{Content}
 use Rattle.gtfs_rows.specs.Reading.{content_of}
-use Rattle.gtfs_rows.specs.Views.{content_of_parts as content_of_feed}
+use Rattle.gtfs_rows.specs.Views.{content_of_parts}
 use Rattle.gtfs_rows.specs.declared.parts.Parts.{Parts as Feed}
 use Rattle.gtfs_rows.specs.Trimmed.{first_part, second_part}
-use Rattle.gtfs_merge.specs.Merged.{is_too_large, zones_differ}
+use Rattle.gtfs_merge.specs.Merged.{is_too_large, zone_texts_differ}
 use Rattle.gtfs_merge.specs.Merging.{IsMergeOf, KeepsDepartures}
 use Rattle.gtfs_merge.specs.declared.merging.Merged.{Merged}
 use Rattle.gtfs_words.specs.Words.{MergeTexts}
@@ -84,29 +84,29 @@ module _ (limit : ℕ) (held : Option Store) (asked : MergeTexts) where
     }
 
     -- what is so of the feeds is so of the datasets
-    of_datasets : (P : Content → Content → Type 0) → P (content_of_feed a) (content_of_feed b) → P (content_of first.dataset) (content_of second.dataset)
-    of_datasets P h = subst (λ (f : Content). P f (content_of second.dataset)) first.is_feed.1 (subst (λ (f : Content). P (content_of_feed a) f) second.is_feed.1 h)
+    of_datasets : (P : Content → Content → Type 0) → P (content_of_parts a) (content_of_parts b) → P (content_of first.dataset) (content_of second.dataset)
+    of_datasets P h = subst (λ (f : Content). P f (content_of second.dataset)) first.is_feed.1 (subst (λ (f : Content). P (content_of_parts a) f) second.is_feed.1 h)
 
-    pub unmerged : (before after : Failures) → FailedNowhere before after → (r : Refusal) → IsMergeFault q (content_of_feed a) (content_of_feed b) r → IsMergingCause limit held asked before after r
-    unmerged before after nowhere ZonesDiffer h = (setting, of_datasets (λ f g. zones_differ f g ≡ true) h)
+    pub unmerged : (before after : Failures) → FailedNowhere before after → (r : Refusal) → IsMergeFault q (content_of_parts a) (content_of_parts b) r → IsMergingCause limit held asked before after r
+    unmerged before after nowhere ZonesDiffer h = (setting, of_datasets (λ f g. zone_texts_differ f g ≡ true) h)
     unmerged before after nowhere MergeTooLarge h = (
       setting,
-      of_datasets (λ f g. zones_differ f g ≡ false) h.0,
+      of_datasets (λ f g. zone_texts_differ f g ≡ false) h.0,
       of_datasets (λ f g. is_too_large file_limit (merge_of q f g) ≡ true) h.1,
     )
     unmerged before after nowhere OutOfMemory h = nowhere
     unmerged before after nowhere _ h = absurd h
 
-    pub is-merged : (m : Merged) → IsMergeOf q.near q.cutoff (content_of_feed a) (content_of_feed b) file_limit m
-        → KeepsDepartures q.near q.cutoff (content_of_feed a) (content_of_feed b) → HoldsMerge limit held asked q.near m
+    pub is-merged : (m : Merged) → IsMergeOf q.near q.cutoff (content_of_parts a) (content_of_parts b) file_limit m
+        → KeepsDepartures q.near q.cutoff (content_of_parts a) (content_of_parts b) → HoldsMerge limit held asked q.near m
     is-merged m is keeps = record {
       setting = setting;
-      zone = of_datasets (λ f g. zones_differ f g ≡ false) is.zone;
-      content = of_datasets (λ f g. content_of_feed m.feed ≡ merge_of q f g) is.content;
+      zone = of_datasets (λ f g. zone_texts_differ f g ≡ false) is.zone;
+      content = of_datasets (λ f g. content_of_parts m.feed ≡ merge_of q f g) is.content;
       small = ap (is_too_large file_limit) is.content ∙ is.small;
       keeps = of_datasets (λ f g. KeepsDepartures q.near q.cutoff f g) keeps;
       is_report = of_datasets (λ f g. names_report q.near m.names ≡ report_for q f g)
-          (report-told q.near (first_part q.cutoff (content_of_feed a)) (second_part q.cutoff (content_of_feed b)) m.names is.names);
+          (report-told q.near (first_part q.cutoff (content_of_parts a)) (second_part q.cutoff (content_of_parts b)) m.names is.names);
     }
 
   -- ---- why there is no merge

@@ -9,7 +9,7 @@ use Rattle.gtfs_table.specs.Tables.{Dataset}
 use Rattle.gtfs_columns.specs.Problems.{Passes}
 use Rattle.gtfs_rows.specs.Content.{Content}
 use Rattle.gtfs_rows.specs.Reading.{content_of}
-use Rattle.gtfs_rows.specs.Views.{content_of_parts as content_of_feed}
+use Rattle.gtfs_rows.specs.Views.{content_of_parts}
 use Rattle.gtfs_rows.specs.declared.parts.Parts.{Parts as Feed}
 use Rattle.gtfs_times.specs.Filling.{timed}
 use Rattle.gtfs_board.specs.Board.{is_stop, keys_of}
@@ -92,7 +92,7 @@ EndsBoard limit held asked before after _ = Keeps before after
 
 -- the dataset passes, and the feed is its content
 abbrev pub IsFeedOf : Dataset → Feed → Type 0
-IsFeedOf d feed = Passes d × (content_of_feed feed ≡ content_of d)
+IsFeedOf d feed = Passes d × (content_of_parts feed ≡ content_of d)
 
 -- it is the feed of the dataset that the folder holds
 pub record HoldsFeed (limit : ℕ) (held : Option Store) (dir : List ℕ) (feed : Feed) : Type 0 where

@@ -15,7 +15,7 @@ use Rattle.gtfs_cli.specs.Checking.{IsSendingCause}
 use Rattle.gtfs_cli.specs.FileRead.{HoldsNoUtf8, HoldsSomeZone, HoldsUtf8, IsPathCause, IsZoneCause}
 use Rattle.gtfs_cli.specs.Options.{times_of}
 use Rattle.gtfs_cli.specs.Refusals.{IsReadingCause}
-use Rattle.gtfs_cli.specs.Requests.{heading_of, requests_of, StopRequest}
+use Rattle.gtfs_cli.specs.Requests.{request_heading, requests_of, StopRequest}
 use Rattle.gtfs_cli.specs.HeldFiles.{HoldsPassing, HoldsTables, HoldsZone}
 use Rattle.gtfs_cli.specs.Failures.{Failures}
 use Rattle.gtfs_cli.specs.declared.commands.refusal.Refusal.{Refusal}
@@ -32,18 +32,18 @@ IsTextOf Out f z q text = OfBoard Out f z q.texts.stop q.request (Some []) (Some
 abbrev pub AreBoards : Content → Zone → List StopRequest → List ℕ → Type 0
 AreBoards f z [] text = text ≡ []
 AreBoards f z (q ∷ qs) text =
-    (page : List ℕ) × (more : List ℕ) × IsTextOf IsPage f z q page × AreBoards f z qs more × (text ≡ heading_of q.texts ++ page ++ more)
+    (page : List ℕ) × (more : List ℕ) × IsTextOf IsPage f z q page × AreBoards f z qs more × (text ≡ request_heading q.texts ++ page ++ more)
 
 -- ---- what of it went out
 
 -- a beginning of the heading of a request, or the heading and then lines of its board and a beginning of the next
 abbrev pub BeginsBoard : Content → Zone → StopRequest → List ℕ → Type 0
-BeginsBoard f z q part = ((left : List ℕ) × (heading_of q.texts ≡ part ++ left))
-    ⊎ ((lines : List ℕ) × (part ≡ heading_of q.texts ++ lines) × IsTextOf IsCutShort f z q lines)
+BeginsBoard f z q part = ((left : List ℕ) × (request_heading q.texts ≡ part ++ left))
+    ⊎ ((lines : List ℕ) × (part ≡ request_heading q.texts ++ lines) × IsTextOf IsCutShort f z q lines)
 
 -- nothing, or the heading and then whole lines
 abbrev pub BeginsWhole : Content → Zone → StopRequest → List ℕ → Type 0
-BeginsWhole f z q part = (part ≡ []) ⊎ ((lines : List ℕ) × (part ≡ heading_of q.texts ++ lines) × IsTextOf IsStopped f z q lines)
+BeginsWhole f z q part = (part ≡ []) ⊎ ((lines : List ℕ) × (part ≡ request_heading q.texts ++ lines) × IsTextOf IsStopped f z q lines)
 
 -- the boards of some first requests went out whole, and of the next one this much
 pub record StopsIn (Part : Content → Zone → StopRequest → List ℕ → Type 0) (f : Content) (z : Zone) (qs : List StopRequest) (before after : Option (List ℕ)) : Type 0 where
@@ -137,7 +137,7 @@ IsBoardsCause limit held asked before after refusal =
 
 -- the heading and the page of one request went out
 abbrev pub PrintsOne : Content → Zone → StopRequest → Option (List ℕ) → Option (List ℕ) → Type 0
-PrintsOne f z q before after = (page : List ℕ) × IsTextOf IsPage f z q page × Appends before after (heading_of q.texts ++ page)
+PrintsOne f z q before after = (page : List ℕ) × IsTextOf IsPage f z q page × Appends before after (request_heading q.texts ++ page)
 
 -- what of it went out where a refusal came
 abbrev pub EndsOne : Content → Zone → StopRequest → Option (List ℕ) → Option (List ℕ) → Refusal → Type 0

@@ -6,7 +6,7 @@ use Rattle.gtfs_table.specs.Tables.{table_of, table_of_bytes}
 use Rattle.gtfs_table.specs.declared.file.File.{File}
 use Rattle.gtfs_rows.specs.Content.{Content}
 use Rattle.gtfs_rows.specs.Written.{written}
-use Rattle.gtfs_rows.specs.Views.{content_of_parts as content_of}
+use Rattle.gtfs_rows.specs.Views.{content_of_parts}
 use Rattle.gtfs_merge.specs.declared.merging.Merged.{Merged}
 use Rattle.gtfs_words.specs.Words.{MergeTexts}
 use Rattle.gtfs_cli.specs.MergeOptions.{first_bad_merge, MergeRequest}
@@ -27,7 +27,7 @@ IsFirstBadMerge asked _ = ⊥
 
 -- the feed is the merge of both folders, and the names tell its report
 abbrev pub HoldsMerge : ℕ → Option Store → MergeTexts → Option ℕ → Merged → Type 0
-HoldsMerge limit held asked near m = IsFolderMerge limit held asked (content_of m.feed) (names_report near m.names)
+HoldsMerge limit held asked near m = IsFolderMerge limit held asked (content_of_parts m.feed) (names_report near m.names)
 
 -- the text of a file of the written form is read as its table
 abbrev pub ReadsAs : Content → File → Type 0

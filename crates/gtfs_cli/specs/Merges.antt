@@ -14,7 +14,7 @@ use Rattle.gtfs_rows.specs.Reading.{content_of}
 use Rattle.gtfs_rows.specs.Written.{written}
 use Rattle.gtfs_rows.specs.Trimmed.{first_part, second_part}
 use Rattle.gtfs_merge.specs.Cutoff.{merged_as}
-use Rattle.gtfs_merge.specs.Merged.{is_too_large, zones_differ}
+use Rattle.gtfs_merge.specs.Merged.{is_too_large, zone_texts_differ}
 use Rattle.gtfs_merge.specs.Merging.{KeepsDepartures}
 use Rattle.gtfs_merge.specs.Near.{report as report_of}
 use Rattle.gtfs_words.specs.Words.{MergeTexts}
@@ -54,7 +54,7 @@ report_for r a b = report_of r.near (first_part r.cutoff a) (second_part r.cutof
 -- each and every board; no file of its written form is over the limit, and the text is the report of the merge
 pub record IsFolderMerge (limit : ℕ) (held : Option Store) (asked : MergeTexts) (c : Content) (report : List ℕ) : Type 0 where
   pub setting : MergeSetting limit held asked
-  pub zone : zones_differ (content_of setting.first) (content_of setting.second) ≡ false
+  pub zone : zone_texts_differ (content_of setting.first) (content_of setting.second) ≡ false
   pub content : c ≡ merge_of setting.request (content_of setting.first) (content_of setting.second)
   pub small : is_too_large file_limit c ≡ false
   pub keeps : KeepsDepartures setting.request.near setting.request.cutoff (content_of setting.first) (content_of setting.second)
@@ -66,11 +66,11 @@ CanMerge limit held asked = (c : Content) × (report : List ℕ) × IsFolderMerg
 
 -- both feeds have zones of different names
 abbrev pub HasTwoZones : ℕ → Option Store → MergeTexts → Type 0
-HasTwoZones limit held asked = (s : MergeSetting limit held asked) × (zones_differ (content_of s.first) (content_of s.second) ≡ true)
+HasTwoZones limit held asked = (s : MergeSetting limit held asked) × (zone_texts_differ (content_of s.first) (content_of s.second) ≡ true)
 
 -- they have one zone, and some file of their merge is over the limit
 abbrev pub HasLargeMerge : ℕ → Option Store → MergeTexts → Type 0
-HasLargeMerge limit held asked = (s : MergeSetting limit held asked) × (zones_differ (content_of s.first) (content_of s.second) ≡ false)
+HasLargeMerge limit held asked = (s : MergeSetting limit held asked) × (zone_texts_differ (content_of s.first) (content_of s.second) ≡ false)
     × (is_too_large file_limit (merge_of s.request (content_of s.first) (content_of s.second)) ≡ true)
 
 -- ---- the files of the written form, in order
@@ -183,8 +183,8 @@ EndsMerge limit held asked now old new _ = IsUntouched held now old new
 
 -- why two feeds are not merged
 abbrev pub IsMergeFault : MergeRequest → Content → Content → Refusal → Type 0
-IsMergeFault r a b ZonesDiffer = zones_differ a b ≡ true
-IsMergeFault r a b MergeTooLarge = (zones_differ a b ≡ false) × (is_too_large file_limit (merge_of r a b) ≡ true)
+IsMergeFault r a b ZonesDiffer = zone_texts_differ a b ≡ true
+IsMergeFault r a b MergeTooLarge = (zone_texts_differ a b ≡ false) × (is_too_large file_limit (merge_of r a b) ≡ true)
 IsMergeFault r a b OutOfMemory = ⊤
 IsMergeFault r a b _ = ⊥
 

@@ -46,14 +46,14 @@ after_of (Some text) = option_map Some (result_ok (key_of text))
 
 -- ---- the values of all options
 
--- the options whose texts are judged, in the order of the usage, and whether each has a value
-abbrev pub judged : BoardTexts → List (Text × Bool)
-judged asked = (codes "--from", is_some (moment_of asked.from)) ∷ (codes "--until", is_some (moment_of asked.until))
+-- the options whose texts are judged_board, in the order of the usage, and whether each has a value
+abbrev pub judged_board : BoardTexts → List (Text × Bool)
+judged_board asked = (codes "--from", is_some (moment_of asked.from)) ∷ (codes "--until", is_some (moment_of asked.until))
     ∷ (codes "--limit", is_some (limit_of asked.limit)) ∷ (codes "--after", is_some (after_of asked.after)) ∷ []
 
 -- the first of them that has none
 abbrev pub first_bad : BoardTexts → Option Text
-first_bad asked = first_of_bad (judged asked)
+first_bad asked = first_of_bad (judged_board asked)
 
 -- one of them has none
 abbrev pub HasBadValue : BoardTexts → Type 0

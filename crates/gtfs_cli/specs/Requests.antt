@@ -103,5 +103,5 @@ fault_in (Err fault) = Some fault
 
 -- ---- what goes out before a board
 
-abbrev pub heading_of : RequestTexts → List ℕ
-heading_of t = codes "== " ++ t.stop ++ codes " " ++ t.from ++ codes " " ++ t.until ++ codes "\n"
+abbrev pub request_heading : RequestTexts → List ℕ
+request_heading t = codes "== " ++ t.stop ++ codes " " ++ t.from ++ codes " " ++ t.until ++ codes "\n"

@@ -2,7 +2,7 @@
 use Rattle.std.proofs.Common.{◌≡◌, ◌++◌, ℕ, pos, [], ◌∷◌, codes, refl, true, false, Some, None, Ok, Err}
 use Rattle.std.specs.Prelude.{List, Option}
 use Rattle.gtfs_table.specs.Tables as tables
-use Rattle.gtfs_cli.specs.Requests.{heading_of, numbered_lines, request_texts, RequestTexts}
+use Rattle.gtfs_cli.specs.Requests.{request_heading, numbered_lines, request_texts, RequestTexts}
 
 -- LF and CRLF end lines, the last line has neither; the second line is empty and is counted
 three_lines : numbered_lines (codes "a" ++ 10 ∷ 13 ∷ 10 ∷ codes "b" ++ 13 ∷ 10 ∷ codes "c") ≡ (1, codes "a") ∷ (3, codes "b") ∷ (4, codes "c") ∷ []
@@ -38,5 +38,5 @@ two = refl
 six : request_texts (codes "S1" ++ 9 ∷ codes "@0" ++ 9 ∷ codes "@1" ++ 9 ∷ 9 ∷ 9 ∷ []) ≡ None
 six = refl
 
-heading : heading_of (record { stop = codes "S 1"; from = codes "20240401"; until = codes "@1"; limit = None; after = None }) ≡ codes "== S 1 20240401 @1" ++ 10 ∷ []
+heading : request_heading (record { stop = codes "S 1"; from = codes "20240401"; until = codes "@1"; limit = None; after = None }) ≡ codes "== S 1 20240401 @1" ++ 10 ∷ []
 heading = refl

@@ -68,7 +68,7 @@ impl<'a, R: Files + Alloc + Clone + Drop> DiskFolders<'a, R> {
         }
     }
 
-    /// Passes a fault on, and counts it where the device failed.
+    // Passes a fault on, and counts it where the device failed.
     fn count(&mut self, fault: FolderFault) -> FolderFault
         ensures same { result ≡ fault }
         ensures counts { self.new ≡ after_fault fault self.old }

@@ -86,7 +86,7 @@ impl MemoryFolders {
         self.store.put(self.alloc, dir, name, bytes)
     }
 
-    /// Counts a call, and says whether it is the one that fails.
+    // Counts a call, and says whether it is the one that fails.
     fn fails(&mut self) -> bool
         ensures which { result ≡ is_failing self.old }
         ensures after { self.new ≡ after_call self.old }

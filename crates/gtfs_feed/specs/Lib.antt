@@ -1,1 +1,1 @@
-pub mod Content
+pub mod Words

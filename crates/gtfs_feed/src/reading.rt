@@ -5,7 +5,6 @@ ghost use Rattle.gtfs_rows.specs.Views.{content_of_parts, stop_row_of};
 ghost use Rattle.gtfs_table.specs.Parts.{parts};
 ghost use Rattle.gtfs_table.specs.Tables.{Dataset};
 ghost use Rattle.gtfs_parts.specs.FirstNamed.{headsigns_in};
-ghost use Rattle.gtfs_feed.specs.Content.{content_of};
 
 use crate::feed::Feed;
 use gtfs_field::OutOfMemory;
@@ -28,7 +27,7 @@ impl Feed {
     /// `OutOfMemory` where memory is refused, and where stop times have more than 4,294,967,295 different headsigns.
     pub fn new(alloc: Global, random: RandomState, passed: &Passed<'_>) -> Result<Feed, OutOfMemory>
         ensures content { IfOk result
-            (λ feed. content_of feed ≡ content_of_dataset passed.now) }
+            (λ feed. content_of_parts feed ≡ content_of_dataset passed.now) }
         ensures headsigns { IfOk result
             (λ feed. feed.headsigns ≡ headsigns_in (content_of_dataset passed.now)) }
     {

@@ -1,7 +1,7 @@
 ghost use Rattle.std.specs.Prelude.{◌≡◌, IfOk, OnOk, map, true};
 ghost use Rattle.gtfs_days.specs.Cut.{cut_day};
 ghost use Rattle.gtfs_days.specs.Service.{is_service_day};
-ghost use Rattle.gtfs_feed.specs.Content.{content_of};
+ghost use Rattle.gtfs_rows.specs.Views.{content_of_parts};
 ghost use Rattle.gtfs_rows.specs.Trimmed.{trimmed, trimmed_by_number, trimmed_parts};
 
 use crate::copied::copied_rows;
@@ -25,7 +25,7 @@ impl Feed {
     pub fn trimmed(&self, alloc: Global, random: RandomState, cut: Cut) -> Result<Feed, OutOfMemory>
         requires { is_service_day (cut_day cut) ≡ true }
         ensures content { IfOk result
-            (λ feed. content_of feed ≡ trimmed cut (content_of self.now)) }
+            (λ feed. content_of_parts feed ≡ trimmed cut (content_of_parts self.now)) }
         ensures parts { IfOk result (λ feed. feed ≡ trimmed_parts cut self.now) }
     {
         let parts = trimmed_parts(alloc, self.parts(), &cut)?;

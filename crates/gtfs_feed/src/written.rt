@@ -6,7 +6,7 @@ ghost use Rattle.gtfs_table.specs.Reading.{kept_files};
 ghost use Rattle.gtfs_table.specs.Tables.{table_of, table_of_bytes};
 ghost use Rattle.gtfs_table.specs.Written.{text_of_table};
 ghost use Rattle.gtfs_rows.specs.FileTexts.{is_longer};
-ghost use Rattle.gtfs_feed.specs.Content.{content_of};
+ghost use Rattle.gtfs_rows.specs.Views.{content_of_parts};
 
 use crate::feed::Feed;
 use gtfs_field::OutOfMemory;
@@ -23,8 +23,8 @@ impl Feed {
     /// # Errors
     /// `OutOfMemory` where memory is refused. Then nothing of the tables is left.
     pub fn to_tables(&self, alloc: Global) -> Result<Tables, OutOfMemory>
-        ensures tables { IfOk result (λ tables. tables ≡ written (content_of self.now)) }
-        ensures form { IsWrittenForm (content_of self.now) }
+        ensures tables { IfOk result (λ tables. tables ≡ written (content_of_parts self.now)) }
+        ensures form { IsWrittenForm (content_of_parts self.now) }
     {
         gtfs_written::tables(alloc, self.parts())
     }
@@ -37,10 +37,10 @@ impl Feed {
     /// `OutOfMemory` where memory is refused. Then nothing of the text is left.
     pub fn file_text(&self, alloc: Global, file: File) -> Result<String, OutOfMemory>
         ensures text { IfOk result (λ text. text_of_table
-            (table_of (written (content_of self.now)) file) ≡ Some (string_bytes text)) }
+            (table_of (written (content_of_parts self.now)) file) ≡ Some (string_bytes text)) }
         ensures reads_back { IfOk result (λ text. table_of_bytes (Some (string_bytes text))
-            ≡ table_of (written (content_of self.now)) file) }
-        ensures form { IsWrittenForm (content_of self.now) }
+            ≡ table_of (written (content_of_parts self.now)) file) }
+        ensures form { IsWrittenForm (content_of_parts self.now) }
     {
         gtfs_written::file_text(alloc, self.parts(), file)
     }
@@ -52,7 +52,7 @@ impl Feed {
     /// `OutOfMemory` where memory is refused.
     pub fn has_longer_file(&self, alloc: Global, limit: u64) -> Result<bool, OutOfMemory>
         ensures { IfOk result (λ any. any ≡ list_any
-            (is_longer (content_of self.now) limit) kept_files) }
+            (is_longer (content_of_parts self.now) limit) kept_files) }
     {
         gtfs_written::has_longer_file(alloc, self.parts(), limit)
     }

@@ -11,7 +11,7 @@ use Rattle.gtfs_stop_times.specs.declared.choices.DropOffType.TheVariants as dro
 use Rattle.gtfs_rows.specs.declared.parts.Parts.{Parts}
 use Rattle.gtfs_stop_times.specs.declared.stop_row.StopRow.{StopRow}
 use Rattle.gtfs_rows.specs.declared.trip.Trip.{Trip}
-use Rattle.gtfs_runs.specs.Patterns.{Entry, Heading, are_apart, entries_of, entry_cmp}
+use Rattle.gtfs_runs.specs.Patterns.{Entry, Heading, headings_change, entries_of, entry_cmp}
 
 abbrev heading : Option ℕ → List ℕ → Heading
 heading d stops = record { direction = d; stops = map (λ n. record { 0 = n }) stops }
@@ -40,10 +40,10 @@ by_trip = refl
 
 -- ---- neighbours
 
-other-direction : are_apart (heading None (3 ∷ []) ∷ heading (Some 0) (3 ∷ []) ∷ []) ≡ true
+other-direction : headings_change (heading None (3 ∷ []) ∷ heading (Some 0) (3 ∷ []) ∷ []) ≡ true
 other-direction = refl
 
-twice : are_apart (heading (Some 1) (3 ∷ 4 ∷ []) ∷ heading (Some 1) (3 ∷ 4 ∷ []) ∷ []) ≡ false
+twice : headings_change (heading (Some 1) (3 ∷ 4 ∷ []) ∷ heading (Some 1) (3 ∷ 4 ∷ []) ∷ []) ≡ false
 twice = refl
 
 -- ---- the trips of a route

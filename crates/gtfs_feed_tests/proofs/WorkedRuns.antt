@@ -5,7 +5,7 @@ use Rattle.gtfs_rows.specs.Rows.{StopRow}
 use Rattle.gtfs_runs.specs.declared.event.Event.{Event}
 use Rattle.gtfs_runs.specs.Events.{is_event}
 use Rattle.gtfs_runs.specs.Lanes.{period_count}
-use Rattle.gtfs_runs.specs.Order.{is_above, is_later}
+use Rattle.gtfs_runs.specs.Order.{is_above_moment, is_later}
 use Rattle.gtfs_rows.specs.Places.{is_in_place}
 use Rattle.gtfs_rows.specs.Runs.{is_run, is_departure_row, passes_at}
 use Rattle.gtfs_feed_tests.proofs.Samples.{stop_row, trip, period, plain_rows, half_hours, feed, stops}
@@ -107,17 +107,17 @@ periods = refl
 -- ---- order
 
 -- an event lies above a seek of its trip and run with a lesser sequence, and not above that of its own
-above-lesser : is_above (record { at = pos 60; trip = record { 0 = 0 }; run = 60; seq = pos 0 }) (event 60 60 1 0) ≡ true
+above-lesser : is_above_moment (record { at = pos 60; trip = record { 0 = 0 }; run = 60; seq = pos 0 }) (event 60 60 1 0) ≡ true
 above-lesser = refl
 
-above-own : is_above (record { at = pos 60; trip = record { 0 = 0 }; run = 60; seq = pos 1 }) (event 60 60 1 0) ≡ false
+above-own : is_above_moment (record { at = pos 60; trip = record { 0 = 0 }; run = 60; seq = pos 1 }) (event 60 60 1 0) ≡ false
 above-own = refl
 
 -- the same second of a greater trip lies below
-above-greater_trip : is_above (record { at = pos 60; trip = record { 0 = 1 }; run = 0; seq = negsuc 0 }) (event 60 60 1 0) ≡ false
+above-greater_trip : is_above_moment (record { at = pos 60; trip = record { 0 = 1 }; run = 0; seq = negsuc 0 }) (event 60 60 1 0) ≡ false
 above-greater_trip = refl
 
-above-before_day : is_above (record { at = negsuc 0; trip = record { 0 = 9 }; run = 99; seq = pos 9 }) (event 0 0 1 0) ≡ true
+above-before_day : is_above_moment (record { at = negsuc 0; trip = record { 0 = 9 }; run = 99; seq = pos 9 }) (event 0 0 1 0) ≡ true
 above-before_day = refl
 
 -- two rows of a run at one second are two events

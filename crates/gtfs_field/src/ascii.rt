@@ -7,7 +7,7 @@ ghost use Rattle.gtfs_field.specs.Digits.{wide};
 use crate::OutOfMemory;
 use itoa::write_digits;
 
-/// Appends ASCII bytes to a text: all of them, or none where memory is refused.
+// Appends ASCII bytes to a text: all of them, or none where memory is refused.
 pub(crate) fn push_ascii(text: &mut String, bytes: &[u8]) -> Result<(), OutOfMemory>
     requires { IsAscii bytes.now }
     ensures appended { OnOk result (string_bytes text.new ≡ string_bytes text.old ++ bytes.now) }
@@ -17,7 +17,7 @@ pub(crate) fn push_ascii(text: &mut String, bytes: &[u8]) -> Result<(), OutOfMem
     text.push_str(str::from_utf8(bytes).unwrap())
 }
 
-/// Writes a number into the `width` bytes that end at `end`, with zeros in front.
+// Writes a number into the `width` bytes that end at `end`, with zeros in front.
 pub(crate) fn write_wide(number: u64, width: usize, end: usize, bytes: &mut [u8])
     requires small { number < 10 ^ width }
     requires within { (0 < width) × (width ≤ end) × (end ≤ length bytes.old) }

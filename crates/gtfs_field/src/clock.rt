@@ -85,7 +85,7 @@ pub fn push_time(_alloc: Global, text: &mut String, clock: Clock) -> Result<(), 
     push_ascii(text, &time_bytes(seconds)[spare_digits(seconds / 3600)..])
 }
 
-/// A time with four digits of hours.
+// A time with four digits of hours.
 fn time_bytes(seconds: u32) -> [u8; 10]
     requires { seconds ≤ 7_199_999 }
     ensures { result ≡ wide 4 (seconds / 3600)
@@ -98,7 +98,7 @@ fn time_bytes(seconds: u32) -> [u8; 10]
     bytes
 }
 
-/// How many of four digits of hours the canonical text leaves out.
+// How many of four digits of hours the canonical text leaves out.
 fn spare_digits(hours: u32) -> usize
     requires { hours < 10_000 }
     ensures value { drop result (wide 4 hours) ≡ hours_text hours }
@@ -111,7 +111,7 @@ fn spare_digits(hours: u32) -> usize
     }
 }
 
-/// The seconds that a text of the shape H:MM:SS means.
+// The seconds that a text of the shape H:MM:SS means.
 fn seconds_of(text: &str) -> Option<u32>
     ensures value { result ≡ result_ok (time_of text.now) }
     ensures bound { IfSome result (λ n. n ≤ 3_599_999) }
@@ -125,7 +125,7 @@ fn seconds_of(text: &str) -> Option<u32>
     Some(3600 * hours + 60 * minutes + seconds)
 }
 
-/// The number that one to three digits write.
+// The number that one to three digits write.
 fn hours_of(text: &[u8]) -> Option<u32>
     ensures value { result ≡ (if is_number text.now && nat_le (length text.now) 3
         then Some (number text.now) else None) }
@@ -139,7 +139,7 @@ fn hours_of(text: &[u8]) -> Option<u32>
     }
 }
 
-/// The number that a digit writes.
+// The number that a digit writes.
 fn digit(byte: u8) -> Option<u32>
     ensures value { result ≡ (if is_ascii_digit byte then Some (byte - 48) else None) }
     ensures bound { IfSome result (λ n. n < 10) }
@@ -151,7 +151,7 @@ fn digit(byte: u8) -> Option<u32>
     }
 }
 
-/// The number below 60 that two digits write.
+// The number below 60 that two digits write.
 fn sixtieth(tens: u8, ones: u8) -> Option<u32>
     ensures value { result ≡ (if is_sixtieth (tens ∷ ones ∷ [])
         then Some (number (tens ∷ ones ∷ [])) else None) }

@@ -65,14 +65,14 @@ pub fn read_colour(text: &str) -> Result<Colour, FieldFault>
     }
 }
 
-/// Whether a text is six hexadecimal digits.
+// Whether a text is six hexadecimal digits.
 fn is_hexadecimal(text: &[u8]) -> bool
     ensures { result ≡ is_six_hexadecimal text.now }
 {
     text.len() == 6 && are_hexadecimal(text)
 }
 
-/// Whether each byte is a hexadecimal digit.
+// Whether each byte is a hexadecimal digit.
 fn are_hexadecimal(text: &[u8]) -> bool
     ensures { result ≡ list_all (λ b. nat_lt (digit_value b) 16) text.now }
 {
@@ -94,7 +94,7 @@ pub fn push_colour(_alloc: Global, text: &mut String, colour: Colour) -> Result<
     push_ascii(text, &hexadecimal(colour.bits()))
 }
 
-/// The six hexadecimal digits of a colour, in upper case.
+// The six hexadecimal digits of a colour, in upper case.
 fn hexadecimal(bits: u32) -> [u8; 6]
     ensures { result ≡ colour_text bits }
 {
@@ -108,7 +108,7 @@ fn hexadecimal(bits: u32) -> [u8; 6]
     ]
 }
 
-/// The upper-case hexadecimal digit of a number below 16.
+// The upper-case hexadecimal digit of a number below 16.
 fn hex_digit(value: u32) -> u8
     requires { value < 16 }
     ensures { result ≡ glyph value }

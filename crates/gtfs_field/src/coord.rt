@@ -27,7 +27,7 @@ pub enum Axis {
 impl Axis {
     ghost use Rattle.gtfs_field.specs.Kinds.{most_degrees};
 
-    /// The most units of 10^-9 degree that the axis has on either side of zero.
+    // The most units of 10^-9 degree that the axis has on either side of zero.
     fn most_nanodegrees(self) -> u64
         ensures value { result ≡ most_degrees self * 10 ^ 9 }
         ensures bound { result ≤ 180_000_000_000 }
@@ -99,7 +99,7 @@ pub fn read_coord(text: &str, axis: Axis) -> Result<Coord, FieldFault>
     }
 }
 
-/// The text without a sign at its head.
+// The text without a sign at its head.
 fn without_sign(text: &str) -> &str
     ensures { result.now ≡ unsigned_part text.now }
 {
@@ -110,14 +110,14 @@ fn without_sign(text: &str) -> &str
     }
 }
 
-/// Whether the first byte is `+` or `-`.
+// Whether the first byte is `+` or `-`.
 fn begins_with_sign(text: &[u8]) -> bool
     ensures { result ≡ is_sign (slice_index text.now 0) }
 {
     matches!(text, [b'+' | b'-', ..])
 }
 
-/// Units of 10^-9 degree, `u64::MAX` where there are more; None where the text has no coordinate's shape.
+// Units of 10^-9 degree, `u64::MAX` where there are more; None where the text has no coordinate's shape.
 fn magnitude_of(body: &str) -> Option<u64>
     ensures { result ≡ (if has_coordinate_shape body.now
         then Some (min (magnitude body.now) (2 ^ 64 - 1)) else None) }
@@ -126,7 +126,7 @@ fn magnitude_of(body: &str) -> Option<u64>
     magnitude_from(whole.as_bytes(), fraction.as_bytes())
 }
 
-/// The same, from what stands before the point and after it.
+// The same, from what stands before the point and after it.
 fn magnitude_from(whole: &[u8], fraction: &[u8]) -> Option<u64>
     ensures { result ≡ (if are_digits whole.now fraction.now
         then Some (min (billionths whole.now fraction.now) (2 ^ 64 - 1)) else None) }
@@ -143,7 +143,7 @@ fn magnitude_from(whole: &[u8], fraction: &[u8]) -> Option<u64>
     )
 }
 
-/// What stands before the first point, and after it.
+// What stands before the first point, and after it.
 fn around_point(body: &str) -> (&str, &str)
     ensures whole { result.0.now ≡ before_first is_point body.now }
     ensures fraction { result.1.now ≡ after_first is_point body.now }
@@ -151,7 +151,7 @@ fn around_point(body: &str) -> (&str, &str)
     body.split_once('.').unwrap_or((body, ""))
 }
 
-/// The billionths that the digits of a fraction mean, further digits cut off; None where a byte is no digit.
+// The billionths that the digits of a fraction mean, further digits cut off; None where a byte is no digit.
 fn billionths_of(fraction: &[u8]) -> Option<u64>
     ensures value { result ≡ (if all_ascii_digits fraction.now
         then Some (number fraction.now * 10 ^ 9 / 10 ^ length fraction.now) else None) }
@@ -168,7 +168,7 @@ fn billionths_of(fraction: &[u8]) -> Option<u64>
     Some(billionths)
 }
 
-/// How many units one degree has.
+// How many units one degree has.
 const NANODEGREES: u64 = 1_000_000_000;
 
 /// Appends the canonical text of a coordinate in degrees: `-` where it is negative, and the digits of the fraction up to
@@ -193,7 +193,7 @@ pub fn push_coord(_alloc: Global, text: &mut String, coord: Coord) -> Result<(),
     Ok(())
 }
 
-/// Appends the sign of a negative number.
+// Appends the sign of a negative number.
 fn push_sign(text: &mut String, is_negative: bool)
     requires room { string_len text.old + 1 ≤ string_capacity text.old }
     ensures appended { string_bytes text.new
@@ -206,7 +206,7 @@ fn push_sign(text: &mut String, is_negative: bool)
     }
 }
 
-/// Appends a number of nanodegrees in degrees.
+// Appends a number of nanodegrees in degrees.
 fn push_degrees(text: &mut String, magnitude: u64)
     requires small { magnitude ≤ 180_000_000_000 }
     requires room { string_len text.old + 13 ≤ string_capacity text.old }
@@ -222,7 +222,7 @@ fn push_degrees(text: &mut String, magnitude: u64)
     }
 }
 
-/// The nine digits of a fraction.
+// The nine digits of a fraction.
 fn fraction_bytes(billionths: u64) -> [u8; 9]
     requires { billionths < 10 ^ 9 }
     ensures { result ≡ wide 9 billionths }
@@ -232,7 +232,7 @@ fn fraction_bytes(billionths: u64) -> [u8; 9]
     bytes
 }
 
-/// Digits without the zeros at their end.
+// Digits without the zeros at their end.
 #[tactic(auto, using(crate::proofs::Zeros::last_zeros))]
 fn without_zeros(digits: &[u8]) -> &[u8]
     ensures { result.now ≡ without_last_zeros digits.now }

@@ -8,7 +8,7 @@ use crate::fault::FieldFault;
 use itoa::Buffer;
 use std::alloc::Global;
 
-/// The greatest count.
+// The greatest count.
 const GREATEST: u64 = 2_147_483_647;
 
 /// Reads a count: one decimal digit or more, 0 to 2,147,483,647; leading zeros are accepted.

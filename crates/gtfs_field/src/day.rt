@@ -11,7 +11,7 @@ use jiff_core::civil::Date;
 use std::alloc::Global;
 use std::marker::Model;
 
-/// The first year that a date may have.
+// The first year that a date may have.
 const FIRST_YEAR: i16 = 1900;
 
 /// A date of the years 1900 to 9999, by its number: how many days it lies after 1970-01-01.
@@ -44,7 +44,7 @@ impl Day {
         Day { number }
     }
 
-    /// The date on `jiff`'s calendar.
+    // The date on `jiff`'s calendar.
     fn date(self) -> Date
         ensures number { epoch_day result ≡ self }
         ensures from { pos 1900 ≤ℤ result.year }
@@ -77,7 +77,7 @@ pub fn read_date(text: &str) -> Result<Day, FieldFault>
     }
 }
 
-/// The day that a number of eight digits YYYYMMDD writes.
+// The day that a number of eight digits YYYYMMDD writes.
 fn day_of(digits: u64) -> Result<Day, FieldFault>
     requires { digits < 10 ^ 8 }
     ensures { result ≡ day_at (digits / 10_000) (digits / 100 % 100) (digits % 100) }
@@ -109,7 +109,7 @@ pub fn push_date(_alloc: Global, text: &mut String, day: Day) -> Result<(), OutO
     push_ascii(text, &date_bytes(day.date()))
 }
 
-/// The eight digits of a date.
+// The eight digits of a date.
 fn date_bytes(date: Date) -> [u8; 8]
     requires { pos 0 ≤ℤ date.year }
     ensures { result ≡ digits_of_date date }

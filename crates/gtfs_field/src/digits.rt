@@ -3,7 +3,7 @@ ghost use Rattle.std.specs.Prelude.{◌≡◌, ◌+◌, ◌*◌, ◌-◌, ◌^�
 ghost use Rattle.std.specs.Str.{all_ascii_digits};
 ghost use Rattle.gtfs_field.specs.Digits.{is_number, number, is_wide};
 
-/// The number that decimal digits write, `u64::MAX` where it is larger; None where the text is not one digit or more.
+// The number that decimal digits write, `u64::MAX` where it is larger; None where the text is not one digit or more.
 pub(crate) fn number_of(text: &[u8]) -> Option<u64>
     ensures value { result ≡ (if is_number text.now
         then Some (min (number text.now) (2 ^ 64 - 1)) else None) }
@@ -16,7 +16,7 @@ pub(crate) fn number_of(text: &[u8]) -> Option<u64>
     }
 }
 
-/// The same, where the text may also be empty: then the number is 0.
+// The same, where the text may also be empty: then the number is 0.
 pub(crate) fn digits_of(text: &[u8]) -> Option<u64>
     ensures value { result ≡ (if all_ascii_digits text.now
         then Some (min (number text.now) (2 ^ 64 - 1)) else None) }
@@ -34,7 +34,7 @@ pub(crate) fn digits_of(text: &[u8]) -> Option<u64>
     Some(number)
 }
 
-/// The number below 100 that two decimal digits write.
+// The number below 100 that two decimal digits write.
 pub(crate) fn two_digits(tens: u8, ones: u8) -> Option<u32>
     ensures { result ≡ (if is_wide 2 (tens ∷ ones ∷ [])
         then Some (number (tens ∷ ones ∷ [])) else None) }

@@ -20,7 +20,7 @@ pub fn read_instant(text: &str) -> Result<i64, FieldFault>
     }
 }
 
-/// The instant before 1970 of these digits after a `-`.
+// The instant before 1970 of these digits after a `-`.
 fn negative(digits: &[u8]) -> Result<i64, FieldFault>
     ensures { result ≡ shaped (is_plain_number digits.now && not (slice_index digits.now 0 == 48))
         (within (nat_le (length digits.now) 12) (neg_ℤ (pos (number digits.now)))) }
@@ -31,7 +31,7 @@ fn negative(digits: &[u8]) -> Result<i64, FieldFault>
     }
 }
 
-/// The instant from 1970 on of these digits.
+// The instant from 1970 on of these digits.
 fn positive(digits: &[u8]) -> Result<i64, FieldFault>
     ensures { result ≡ shaped (is_plain_number digits.now)
         (within (nat_le (length digits.now) 12) (pos (number digits.now))) }
@@ -39,7 +39,7 @@ fn positive(digits: &[u8]) -> Result<i64, FieldFault>
     Ok(plain_number(digits)? as i64)
 }
 
-/// The number of at most 12 digits that a text with no leading zero writes.
+// The number of at most 12 digits that a text with no leading zero writes.
 fn plain_number(digits: &[u8]) -> Result<u64, FieldFault>
     ensures value { result ≡ plain_number_of digits.now }
     ensures bound { IfOk result (λ n. n < 10 ^ 12) }

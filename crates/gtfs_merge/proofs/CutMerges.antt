@@ -7,7 +7,7 @@ use Rattle.gtfs_rows.specs.Content.{Content}
 use Rattle.gtfs_rows.specs.Trimmed.{first_part, second_part, trimmed}
 use Rattle.gtfs_rows.specs.Views.{content_of_parts}
 use Rattle.gtfs_rows.specs.declared.parts.Parts.{Parts}
-use Rattle.gtfs_merge.specs.Merged.{is_too_large, merged, zones_differ}
+use Rattle.gtfs_merge.specs.Merged.{is_too_large, merged, zone_texts_differ}
 use Rattle.gtfs_merge.specs.Merging.{AreNamesOf, AreRowsOfMerge, IsFeedOf, IsLimitFault, IsMergeOf, IsRefusal}
 use Rattle.gtfs_merge.specs.Names.{AllNames, AreHashedBy}
 use Rattle.gtfs_merge.specs.Near.{nearness}
@@ -16,9 +16,9 @@ use Rattle.gtfs_merge.specs.declared.merging.MergeFault.{MergeFault}
 use Rattle.gtfs_merge.specs.declared.merging.MergeFault.TheVariants as fault
 
 -- what was told of the zones of feeds that are lent on is told of the feeds
-pub zone-told : (a b r s : Parts) (answer : Bool) → r ≡ a → s ≡ b → answer ≡ zones_differ (content_of_parts r) (content_of_parts s) → answer ≡ false
-    → zones_differ (content_of_parts a) (content_of_parts b) ≡ false
-zone-told a b r s answer is-a is-b told one = (λ i. zones_differ (content_of_parts (sym is-a i)) (content_of_parts (sym is-b i))) ∙ sym told ∙ one
+pub zone-told : (a b r s : Parts) (answer : Bool) → r ≡ a → s ≡ b → answer ≡ zone_texts_differ (content_of_parts r) (content_of_parts s) → answer ≡ false
+    → zone_texts_differ (content_of_parts a) (content_of_parts b) ≡ false
+zone-told a b r s answer is-a is-b told one = (λ i. zone_texts_differ (content_of_parts (sym is-a i)) (content_of_parts (sym is-b i))) ∙ sym told ∙ one
 
 module _ (random : RandomState) (near : Option ℕ) (day : ℤ) (a b first second : Content) (is_first : first ≡ trimmed (Before day) a) (is_second : second ≡ trimmed (From day) b) where
   of-trimmed : (rows : Parts × AllNames) → AreRowsOfMerge random near None first second rows → AreRowsOfMerge random near (Some day) a b rows
@@ -33,7 +33,7 @@ module _ (random : RandomState) (near : Option ℕ) (day : ℤ) (a b first secon
   rows-of-trimmed (Ok rows) are = of-trimmed rows are
   rows-of-trimmed (Err x) are = are
 
-module _ (random : RandomState) (near : Option ℕ) (cutoff : Option ℤ) (a b : Content) (zone : zones_differ a b ≡ false) (limit : ℕ) (rows : Parts × AllNames)
+module _ (random : RandomState) (near : Option ℕ) (cutoff : Option ℤ) (a b : Content) (zone : zone_texts_differ a b ≡ false) (limit : ℕ) (rows : Parts × AllNames)
     (are : AreRowsOfMerge random near cutoff a b rows) where
   merge-of : (m : Merged) → IsFeedOf rows limit m → IsMergeOf near cutoff a b limit m
   merge-of m is = record {

@@ -6,7 +6,7 @@ use Rattle.std.proofs.lemmas.List.{map-id}
 use Rattle.std.proofs.lemmas.Simd.{map-map}
 use Rattle.gtfs_rows.specs.Rows.{StopRow, Trip}
 use Rattle.gtfs_rows.specs.Runs.{is_timed}
-use Rattle.gtfs_times.specs.Filling.{Placed, filled_row, filled_rows, time_at, timed_rows, timed_trip}
+use Rattle.gtfs_times.specs.Filling.{Placed, filled_row, filled_rows, time_at, timed_stop_rows, timed_trip}
 use Rattle.gtfs_times.specs.declared.times.Times.{Times}
 use Rattle.gtfs_times.specs.declared.times.Times.TheVariants as times
 use Rattle.gtfs_times.proofs.FillingFacts.{enumerate-map, placed_by, time_at-same}
@@ -33,7 +33,7 @@ module _ (stop : Renaming) where
       ∙ (λ i. map (λ x. row-renamed rows x i) all)
       ∙ sym (map-map h (filled_row rows) all)
 
-  pub rows-renamed : (choice : Times) (rows : List StopRow) → timed_rows choice (map (stop_row_with stop) rows) ≡ map (stop_row_with stop) (timed_rows choice rows)
+  pub rows-renamed : (choice : Times) (rows : List StopRow) → timed_stop_rows choice (map (stop_row_with stop) rows) ≡ map (stop_row_with stop) (timed_stop_rows choice rows)
   rows-renamed times.Given rows = refl
   rows-renamed times.Interpolated rows = filled-renamed rows
 

@@ -24,7 +24,7 @@ use Rattle.gtfs_merge.specs.Headsigns.{AreHeadsigns, HeadsignTable}
 use Rattle.gtfs_merge.specs.IdRows.{AreIdRows}
 use Rattle.gtfs_merge.specs.KindRows.{AllEntries, AreMergedKinds}
 use Rattle.gtfs_merge.specs.Law.{AreFew}
-use Rattle.gtfs_merge.specs.Merged.{zones_differ}
+use Rattle.gtfs_merge.specs.Merged.{zone_texts_differ}
 use Rattle.gtfs_merge.specs.MergedLists.{parts_with}
 use Rattle.gtfs_merge.specs.Sides.{nearness_of, merged_parts, merged_ids}
 use Rattle.gtfs_merge.specs.Transfers.{merged_transfers}
@@ -78,7 +78,7 @@ module _ (p : Parts) where
 -- ---- the merged feed
 
 module _ (sides : Sides) (sound_a : IsSoundParts sides.a.now) (sound_b : IsSoundParts sides.b.now) (few : (c : Kind) → AreFew c (content_of_parts sides.a.now) (content_of_parts sides.b.now))
-    (zone : zones_differ (content_of_parts sides.a.now) (content_of_parts sides.b.now) ≡ false) (k : AllEntries) (are : AreMergedKinds sides k) (hs : HeadsignTable) (are_h : AreHeadsigns sides hs)
+    (zone : zone_texts_differ (content_of_parts sides.a.now) (content_of_parts sides.b.now) ≡ false) (k : AllEntries) (are : AreMergedKinds sides k) (hs : HeadsignTable) (are_h : AreHeadsigns sides hs)
     (r : IdRows) (are_r : AreIdRows sides r) (st : StopTimes) (are_st : StandInTurn (map (stop_rows_from sides k.stops.numbers hs) k.trips.rows) st.starts.items st.rows.items)
     (fr : Frequencies) (are_fr : StandInTurn (map (frequencies_from sides) k.trips.rows) fr.starts.items fr.rows.items)
     (ts : List TransferRow) (are_ts : ts ≡ merged_transfers sides k) where

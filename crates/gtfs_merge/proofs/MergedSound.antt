@@ -21,7 +21,7 @@ use Rattle.gtfs_rows.proofs.ContentAgain.{transfer_total}
 use Rattle.gtfs_rows.proofs.SameElements.{pairs-map}
 use Rattle.gtfs_rows.proofs.Members.{In, In-append, In-held, In-map, all-In, all-cells, all-from, list_all-In, list_all-from}
 use Rattle.gtfs_merge.specs.Law.{AreFew, IsNearness}
-use Rattle.gtfs_merge.specs.Merged.{merged, by_id, zones_differ, zone_text, agency_with, service_with, transfer_with}
+use Rattle.gtfs_merge.specs.Merged.{merged, by_id, zone_texts_differ, zone_text, agency_with, service_with, transfer_with}
 use Rattle.gtfs_merge.specs.Renaming.{Names, Nearness, Renaming, ids, names_a, names_b, stop_with, route_with, stop_row_with, trip_with}
 use Rattle.gtfs_merge.specs.declared.kind.Kind.{Kind}
 use Rattle.gtfs_merge.specs.declared.kind.Kind.TheVariants as kind
@@ -181,7 +181,7 @@ module _ (near : Nearness) (nearness : IsNearness near) (a b : Content) (sound_a
       by [] h r i = elim i [ ]
       by (x ∷ xs) h r i = ap Some (h x r (inl refl) i)
 
-  sound-agencies : zones_differ a b ≡ false → list_all (is_sound_agency m) m.agencies ≡ true
+  sound-agencies : zone_texts_differ a b ≡ false → list_all (is_sound_agency m) m.agencies ≡ true
   sound-agencies z = list_all-from (is_sound_agency m) m.agencies (λ r i.
       elim (either agency_id_of (agency_with na.agency) (agency_with nb.agency) a.agencies b.agencies r i) as (λ w. is_sound_agency m r ≡ true) [
         | inl x ↦ ap (is_sound_agency m) (sym x.2) ∙ fit-agency a sound_a na.agency x.0 x.1 (part-a near nearness a b sound_a sound_b few x.0 x.1) (zone-is a sound_a x.0 x.1)
@@ -202,7 +202,7 @@ module _ (near : Nearness) (nearness : IsNearness near) (a b : Content) (sound_a
           and_from _ _ (and_parts (is_clean (rename x.agency_id)) _ part).1
           (list_all-from (λ b. bytes_eq x.agency_timezone b.agency_timezone) m.agencies (λ r j. bytes_same _ _ (ap (λ o. unwrap_or o []) (sym zone ∙ all-zone r j))))
 
-  pub merged-sound : zones_differ a b ≡ false → IsSound m
+  pub merged-sound : zone_texts_differ a b ≡ false → IsSound m
   merged-sound z = record {
     cells = sound-cells;
     in_order = sound-order;

@@ -9,7 +9,7 @@ use Rattle.gtfs_rows.specs.Views.{IsSoundParts, content_of_parts}
 use Rattle.gtfs_merge.specs.Law.{AreFew}
 use Rattle.gtfs_merge.specs.Names.{MeetWhereJoined, NamesOfKind, kind_names, may_meet, new_id}
 use Rattle.gtfs_merge.specs.Near.{nearness}
-use Rattle.gtfs_merge.specs.Renaming.{Names, lists_id, ids, is_joined, joined_ids, joined_stop, name_of, names_a, names_b, never_near, renamed_b, renaming, stop_b}
+use Rattle.gtfs_merge.specs.Renaming.{Names, lists_id, ids, is_joined, joined_ids, joined_stop, name_of_id, names_a, names_b, never_near, renamed_b, renaming, stop_b}
 use Rattle.gtfs_merge.specs.Sides.{nearness_of}
 use Rattle.gtfs_merge.specs.declared.kind.Kind.{Kind}
 use Rattle.gtfs_merge.specs.declared.kind.Kind.TheVariants as kind
@@ -36,7 +36,7 @@ has-filter p (y ∷ ys) x has passes = by (p y) refl (or_cases (bytes_eq x y) (l
     by false e (inr later) rest = rest later
 
 -- what has a name is an id of the feed
-named-there : (n : Names) (k : Kind) (f : Content) (x name : List ℕ) → name_of n k f x ≡ Some name → (lists_id (ids k f) x ≡ true) × (renaming n k x ≡ name)
+named-there : (n : Names) (k : Kind) (f : Content) (x name : List ℕ) → name_of_id n k f x ≡ Some name → (lists_id (ids k f) x ≡ true) × (renaming n k x ≡ name)
 named-there n k f x name = by (lists_id (ids k f) x) refl
   where
     by : (h : Bool) → lists_id (ids k f) x ≡ h → (if h then Some (renaming n k x) else None) ≡ Some name → (lists_id (ids k f) x ≡ true) × (renaming n k x ≡ name)

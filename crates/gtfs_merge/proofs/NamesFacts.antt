@@ -15,7 +15,7 @@ use Rattle.gtfs_rows.specs.Views.{IsSoundParts, content_of_parts}
 use Rattle.gtfs_merge.specs.Departures.{StaysApart}
 use Rattle.gtfs_merge.specs.Names.{AllNames, AreHashedBy, AreKindNames, in_kind, kind_names, new_id, new_ids, of_side}
 use Rattle.gtfs_merge.specs.Numbered.{known_ids}
-use Rattle.gtfs_merge.specs.Renaming.{lists_id, ids, name_of, Names, Renaming, renaming}
+use Rattle.gtfs_merge.specs.Renaming.{lists_id, ids, name_of_id, Names, Renaming, renaming}
 use Rattle.gtfs_merge.specs.Sides.{side_names, side_parts}
 use Rattle.gtfs_merge.specs.declared.kind.Kind.{Kind}
 use Rattle.gtfs_merge.specs.declared.kind.Kind.TheVariants as kind
@@ -38,7 +38,7 @@ looked-up random rename xs x = by (position (bytes_eq x) xs) refl
         ∙ ap Some (get_or-map rename xs n [] [] there.0 ∙ ap rename (sym (same_bytes x (get_or xs n []) there.1)))
         ∙ ap (λ h. if h then Some (rename x) else None) (sym (ap is_some e) ∙ has-number xs x)
 
-pub named : (random : RandomState) (n : Names) (k : Kind) (p : Parts) → IsSoundParts p → (x : List ℕ) → new_id (new_ids random (renaming n k) (known_ids k p)) x ≡ name_of n k (content_of_parts p) x
+pub named : (random : RandomState) (n : Names) (k : Kind) (p : Parts) → IsSoundParts p → (x : List ℕ) → new_id (new_ids random (renaming n k) (known_ids k p)) x ≡ name_of_id n k (content_of_parts p) x
 named random n k p sound x = looked-up random (renaming n k) (known_ids k p) x ∙ ap (λ xs. if lists_id xs x then Some (renaming n k x) else None) (sym (ids-known k p sound))
 
 -- a name by its number
@@ -56,7 +56,7 @@ joined-further p xs n before after x within so_far added own =
     added ∙ (λ i. so_far i ++ filter p (own i ∷ [])) ∙ sym (filter-append p (take n xs) (get_or xs n [] ∷ [])) ∙ ap (filter p) (sym (ap (λ m. take m xs) (add-one n) ∙ take-suc xs n [] within))
 
 -- ids that stay apart have names that tell them
-pub apart-names : (n : Names) (k : Kind) (f : Content) → StaysApart k f n → (x y name : List ℕ) → name_of n k f x ≡ Some name → name_of n k f y ≡ Some name → x ≡ y
+pub apart-names : (n : Names) (k : Kind) (f : Content) → StaysApart k f n → (x y name : List ℕ) → name_of_id n k f x ≡ Some name → name_of_id n k f y ≡ Some name → x ≡ y
 apart-names n k f apart x y name = by (lists_id (ids k f) x) refl (lists_id (ids k f) y) refl
   where
     by : (h : Bool) → lists_id (ids k f) x ≡ h → (g : Bool) → lists_id (ids k f) y ≡ g → (if h then Some (renaming n k x) else None) ≡ Some name → (if g then Some (renaming n k y) else None) ≡ Some name → x ≡ y

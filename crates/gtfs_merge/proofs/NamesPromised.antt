@@ -6,7 +6,7 @@ use Rattle.gtfs_merge.specs.Law.{AreFew}
 use Rattle.gtfs_merge.specs.Merging.{AreNamesOf}
 use Rattle.gtfs_merge.specs.Names.{AllNames, AreApart, AreKindNames, in_kind, may_meet, new_id, of_side}
 use Rattle.gtfs_merge.specs.Near.{near_pairs}
-use Rattle.gtfs_merge.specs.Renaming.{ids, name_of, names_a, names_b}
+use Rattle.gtfs_merge.specs.Renaming.{ids, name_of_id, names_a, names_b}
 use Rattle.gtfs_merge.specs.Sides.{nearness_of}
 use Rattle.gtfs_merge.specs.declared.kind.Kind.{Kind}
 use Rattle.gtfs_merge.specs.declared.kind.Side.{Side}
@@ -31,10 +31,10 @@ module _ (sides : Sides) (sound_a : IsSoundParts sides.a.now) (sound_b : IsSound
   ids-b : (k : Kind) → (in_kind names k).b.ids ≡ ids k b
   ids-b k = ap (λ t. t.b.ids) (are k) ∙ sym (ids-known k sides.b.now sound_b)
 
-  named-a : (k : Kind) (x : List ℕ) → new_id (in_kind names k).a x ≡ name_of (names_a a b) k a x
+  named-a : (k : Kind) (x : List ℕ) → new_id (in_kind names k).a x ≡ name_of_id (names_a a b) k a x
   named-a k x = ap (λ t. new_id t.a x) (are k) ∙ named (in_kind names k).a.random (names_a a b) k sides.a.now sound_a x
 
-  named-b : (k : Kind) (x : List ℕ) → new_id (in_kind names k).b x ≡ name_of (names_b (nearness_of sides) a b) k b x
+  named-b : (k : Kind) (x : List ℕ) → new_id (in_kind names k).b x ≡ name_of_id (names_b (nearness_of sides) a b) k b x
   named-b k x = ap (λ t. new_id t.b x) (are k) ∙ named (in_kind names k).a.random (names_b (nearness_of sides) a b) k sides.b.now sound_b x
 
   are-few : (k : Kind) → AreFew k a b

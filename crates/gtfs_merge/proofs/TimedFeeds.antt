@@ -5,7 +5,7 @@ use Rattle.std.specs.List.{enumerate_from}
 use Rattle.gtfs_rows.specs.Content.{Content}
 use Rattle.gtfs_rows.specs.Rows.{StopRow, Trip}
 use Rattle.gtfs_rows.specs.Runs.{is_timed}
-use Rattle.gtfs_times.specs.Filling.{filled_row, time_at, timed, timed_rows, timed_trip}
+use Rattle.gtfs_times.specs.Filling.{filled_row, time_at, timed, timed_stop_rows, timed_trip}
 use Rattle.gtfs_times.specs.declared.times.Times.{Times}
 use Rattle.gtfs_times.specs.declared.times.Times.TheVariants as times
 use Rattle.gtfs_rows.proofs.Members.{In, In-map}
@@ -24,7 +24,7 @@ stop-kept : (b : Bool) (r : StopRow) (t : Option ℕ) → (if b then r else reco
 stop-kept true r t = refl
 stop-kept false r t = refl
 
-row-of : (choice : Times) (rows : List StopRow) (row : StopRow) → In row (timed_rows choice rows) → (own : StopRow) × In own rows × (own.stop_id ≡ row.stop_id)
+row-of : (choice : Times) (rows : List StopRow) (row : StopRow) → In row (timed_stop_rows choice rows) → (own : StopRow) × In own rows × (own.stop_id ≡ row.stop_id)
 row-of times.Given rows row i = (row, i, refl)
 row-of times.Interpolated rows row i =
     let r = In-map (filled_row rows) (enumerate_from 0 rows) row i in

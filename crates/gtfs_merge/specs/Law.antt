@@ -10,7 +10,7 @@ use Rattle.gtfs_rows.specs.Departures.{Origins, is_departure}
 use Rattle.gtfs_rows.specs.Sound.{IsSound}
 use Rattle.gtfs_merge.specs.Renaming.{Renaming, Nearness, names_a, names_b, ids, joined_trip}
 use Rattle.gtfs_merge.specs.Departures.{IsImage}
-use Rattle.gtfs_merge.specs.Merged.{merged, zones_differ}
+use Rattle.gtfs_merge.specs.Merged.{merged, zone_texts_differ}
 
 -- fewer ids of a kind than the text of a number can tell apart; each feed in memory has fewer than 2 ^ 63
 abbrev pub AreFew : Kind → Content → Content → Type 0
@@ -31,4 +31,4 @@ abbrev pub ForSound : (Nearness → Content → Content → Type 0) → Type 0
 ForSound Law = (near : Nearness) (a b : Content) → IsNearness near → IsSound a → IsSound b → ((c : Kind) → AreFew c a b) → Law near a b
 
 abbrev pub IsSoundMerged : Nearness → Content → Content → Type 0
-IsSoundMerged near a b = zones_differ a b ≡ false → IsSound (merged near a b)
+IsSoundMerged near a b = zone_texts_differ a b ≡ false → IsSound (merged near a b)

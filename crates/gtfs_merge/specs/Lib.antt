@@ -21,3 +21,4 @@ pub mod Sides
 pub mod Transfers
 pub mod TripRows
 pub mod Twins
+pub mod Words

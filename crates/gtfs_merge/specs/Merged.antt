@@ -69,8 +69,8 @@ merged near a b = union (renamed (names_a a b) a) (renamed (names_b near a b) b)
 abbrev pub zone_text : Content → Option (List ℕ)
 zone_text f = option_map (λ a. a.agency_timezone) (slice_get f.agencies 0)
 
-abbrev pub zones_differ : Content → Content → Bool
-zones_differ a b = not (option_eq bytes_eq (zone_text a) (zone_text b))
+abbrev pub zone_texts_differ : Content → Content → Bool
+zone_texts_differ a b = not (option_eq bytes_eq (zone_text a) (zone_text b))
 
 -- a written file is longer than the limit
 abbrev pub is_too_large : ℕ → Content → Bool

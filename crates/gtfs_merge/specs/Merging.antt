@@ -1,7 +1,6 @@
 -- What a merge answers.
 use Rattle.std.specs.Prelude.{◌≡◌, ⊤, ℕ, true, false, List, Option, ℤ}
 use Rattle.std.specs.declared.random_state.RandomState.{RandomState}
-use Rattle.gtfs_feed.specs.Content.{content_of}
 use Rattle.gtfs_rows.specs.Content.{Content}
 use Rattle.gtfs_rows.specs.Trimmed.{first_part, second_part}
 use Rattle.gtfs_rows.specs.Views.{IsSoundParts, content_of_parts}
@@ -10,10 +9,10 @@ use Rattle.gtfs_merge.specs.Cutoff.{DepartsOn, is_first_day, is_second_day, merg
 use Rattle.gtfs_merge.specs.Departures.{HasBoards, HasUnion}
 use Rattle.gtfs_merge.specs.Law.{SharesExactly}
 use Rattle.gtfs_times.specs.declared.times.Times.{Times}
-use Rattle.gtfs_merge.specs.Merged.{is_too_large, zones_differ}
+use Rattle.gtfs_merge.specs.Merged.{is_too_large, zone_texts_differ}
 use Rattle.gtfs_merge.specs.Names.{AllNames, AreApart, AreHashedBy, MeetWhereJoined, in_kind, may_meet, new_id, of_side}
 use Rattle.gtfs_merge.specs.Near.{near_pairs, nearness}
-use Rattle.gtfs_merge.specs.Renaming.{ids, joined_ids, name_of, names_a, names_b}
+use Rattle.gtfs_merge.specs.Renaming.{ids, joined_ids, name_of_id, names_a, names_b}
 use Rattle.gtfs_merge.specs.declared.kind.Kind.{Kind}
 use Rattle.gtfs_merge.specs.declared.kind.Side.{Side}
 use Rattle.gtfs_merge.specs.declared.kind.Side.TheVariants as side
@@ -29,8 +28,8 @@ default_file_limit = 1_073_741_824
 pub record AreNamesOf (distance : Option ℕ) (first second : Content) (names : AllNames) : Type 0 where
   pub ids_a : (k : Kind) → (in_kind names k).a.ids ≡ ids k first
   pub ids_b : (k : Kind) → (in_kind names k).b.ids ≡ ids k second
-  pub a : (k : Kind) (id : List ℕ) → new_id (in_kind names k).a id ≡ name_of (names_a first second) k first id
-  pub b : (k : Kind) (id : List ℕ) → new_id (in_kind names k).b id ≡ name_of (names_b (nearness distance) first second) k second id
+  pub a : (k : Kind) (id : List ℕ) → new_id (in_kind names k).a id ≡ name_of_id (names_a first second) k first id
+  pub b : (k : Kind) (id : List ℕ) → new_id (in_kind names k).b id ≡ name_of_id (names_b (nearness distance) first second) k second id
   pub apart : (k : Kind) (s : Side) → may_meet distance k s ≡ false → AreApart (of_side (in_kind names k) s)
   pub across : (k : Kind) → may_meet distance k side.B ≡ false → MeetWhereJoined (in_kind names k)
   pub joined : (k : Kind) → (in_kind names k).joined ≡ joined_ids (nearness distance) k first second
@@ -38,16 +37,16 @@ pub record AreNamesOf (distance : Option ℕ) (first second : Content) (names : 
 
 -- the merged feed: both feeds have one zone, and no written file is longer than the limit
 pub record IsMergeOf (near : Option ℕ) (cutoff : Option ℤ) (a b : Content) (limit : ℕ) (m : Merged) : Type 0 where
-  pub zone : zones_differ a b ≡ false
+  pub zone : zone_texts_differ a b ≡ false
   pub small : is_too_large limit (merged_as near cutoff a b) ≡ false
-  pub content : content_of m.feed ≡ merged_as near cutoff a b
+  pub content : content_of_parts m.feed ≡ merged_as near cutoff a b
   pub names : AreNamesOf near (first_part cutoff a) (second_part cutoff b) m.names
 
 -- why two feeds are not merged; zones are judged first
 abbrev pub IsRefusal : Option ℕ → Option ℤ → Content → Content → ℕ → MergeFault → Type 0
-IsRefusal near cutoff a b limit fault.ZoneDiffers = zones_differ a b ≡ true
-IsRefusal near cutoff a b limit fault.TooLarge = (zones_differ a b ≡ false) × (is_too_large limit (merged_as near cutoff a b) ≡ true)
-IsRefusal near cutoff a b limit fault.OutOfMemory = zones_differ a b ≡ false
+IsRefusal near cutoff a b limit fault.ZoneDiffers = zone_texts_differ a b ≡ true
+IsRefusal near cutoff a b limit fault.TooLarge = (zone_texts_differ a b ≡ false) × (is_too_large limit (merged_as near cutoff a b) ≡ true)
+IsRefusal near cutoff a b limit fault.OutOfMemory = zone_texts_differ a b ≡ false
 
 -- ---- what the parts of the work give
 

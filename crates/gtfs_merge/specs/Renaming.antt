@@ -176,5 +176,5 @@ abbrev pub joined_ids : Nearness → Kind → Content → Content → List (List
 joined_ids near k a b = filter (is_joined near k a b) (ids k a)
 
 -- what an id of a feed became, nothing where the feed lacks it
-abbrev pub name_of : Names → Kind → Content → List ℕ → Option (List ℕ)
-name_of n k f x = if lists_id (ids k f) x then Some (renaming n k x) else None
+abbrev pub name_of_id : Names → Kind → Content → List ℕ → Option (List ℕ)
+name_of_id n k f x = if lists_id (ids k f) x then Some (renaming n k x) else None

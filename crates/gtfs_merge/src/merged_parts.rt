@@ -1,7 +1,7 @@
 ghost use Rattle.std.specs.Prelude.{◌≡◌, IfOk, false};
 ghost use Rattle.gtfs_rows.specs.Views.{IsSoundParts, content_of_parts};
 ghost use Rattle.gtfs_merge.specs.KindRows.{AreMergedKinds};
-ghost use Rattle.gtfs_merge.specs.Merged.{zones_differ};
+ghost use Rattle.gtfs_merge.specs.Merged.{zone_texts_differ};
 ghost use Rattle.gtfs_merge.specs.Names.{AreKindNames};
 ghost use Rattle.gtfs_merge.specs.Sides.{content_a, content_b, merged_parts};
 ghost use Rattle.gtfs_merge.specs.Twins.{twin_rows};
@@ -30,7 +30,7 @@ pub(crate) fn merged_parts(
 ) -> Result<Parts, OutOfMemory>
     requires twins { twins.now ≡ twin_rows sides.now }
     requires names { AreKindNames sides.now names.now }
-    requires zone { zones_differ (content_a sides.now) (content_b sides.now) ≡ false }
+    requires zone { zone_texts_differ (content_a sides.now) (content_b sides.now) ≡ false }
     ensures sound { IfOk result IsSoundParts }
     ensures content { IfOk result (λ parts. content_of_parts parts ≡ merged_parts sides.now) }
 {
@@ -46,7 +46,7 @@ fn parts_of_kinds(
     kinds: &MergedKinds,
 ) -> Result<Parts, OutOfMemory>
     requires kinds { AreMergedKinds sides.now kinds.now }
-    requires zone { zones_differ (content_a sides.now) (content_b sides.now) ≡ false }
+    requires zone { zone_texts_differ (content_a sides.now) (content_b sides.now) ≡ false }
     ensures sound { IfOk result IsSoundParts }
     ensures content { IfOk result (λ parts. content_of_parts parts ≡ merged_parts sides.now) }
 {

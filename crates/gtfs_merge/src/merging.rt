@@ -4,8 +4,7 @@ ghost use Rattle.gtfs_days.specs.Cut.{cut_day};
 ghost use Rattle.gtfs_days.specs.Service.{is_service_day};
 ghost use Rattle.gtfs_rows.specs.Trimmed.{trimmed};
 ghost use Rattle.gtfs_rows.specs.Views.{IsSoundParts, content_of_parts};
-ghost use Rattle.gtfs_feed.specs.Content.{content_of};
-ghost use Rattle.gtfs_merge.specs.Merged.{zones_differ};
+ghost use Rattle.gtfs_merge.specs.Merged.{zone_texts_differ};
 ghost use Rattle.gtfs_merge.specs.Names.{AreHashedBy};
 ghost use Rattle.gtfs_merge.specs.Merging.{AreRowsOfMerge, IsFeedOf, IsLimitFault, IsMergeOf, IsRefusal, KeepsDepartures};
 ghost use Rattle.gtfs_merge.specs.Sides.{content_a, content_b};
@@ -118,11 +117,11 @@ pub fn merge(
     requires near { IfSome options.now.near (λ n. n ≤ 2_147_483_647) }
     requires cutoff { IfSome options.now.cutoff (λ d. is_service_day d ≡ true) }
     ensures merged { IfOk result (IsMergeOf options.now.near options.now.cutoff
-        (content_of a.now) (content_of b.now) options.now.file_limit) }
+        (content_of_parts a.now) (content_of_parts b.now) options.now.file_limit) }
     ensures refused { IfErr result (IsRefusal options.now.near options.now.cutoff
-        (content_of a.now) (content_of b.now) options.now.file_limit) }
+        (content_of_parts a.now) (content_of_parts b.now) options.now.file_limit) }
     ensures departures { KeepsDepartures options.now.near options.now.cutoff
-        (content_of a.now) (content_of b.now) }
+        (content_of_parts a.now) (content_of_parts b.now) }
     ensures hashed { IfOk result (λ merged. AreHashedBy random merged.names) }
 {
     let sides = Sides {
@@ -149,11 +148,11 @@ pub fn merge_owned(
     requires near { IfSome options.now.near (λ n. n ≤ 2_147_483_647) }
     requires cutoff { IfSome options.now.cutoff (λ d. is_service_day d ≡ true) }
     ensures merged { IfOk result (IsMergeOf options.now.near options.now.cutoff
-        (content_of a) (content_of b) options.now.file_limit) }
+        (content_of_parts a) (content_of_parts b) options.now.file_limit) }
     ensures refused { IfErr result (IsRefusal options.now.near options.now.cutoff
-        (content_of a) (content_of b) options.now.file_limit) }
+        (content_of_parts a) (content_of_parts b) options.now.file_limit) }
     ensures departures { KeepsDepartures options.now.near options.now.cutoff
-        (content_of a) (content_of b) }
+        (content_of_parts a) (content_of_parts b) }
     ensures hashed { IfOk result (λ merged. AreHashedBy random merged.names) }
 {
     let sides = Sides {
@@ -175,9 +174,11 @@ fn judged(
 ) -> Result<Merged, MergeFault>
     requires { IfSome options.now.cutoff (λ d. is_service_day d ≡ true) }
     ensures merged { IfOk result (IsMergeOf options.now.near options.now.cutoff
-        (content_of (cow_value a.entry)) (content_of (cow_value b.entry)) options.now.file_limit) }
+        (content_of_parts (cow_value a.entry)) (content_of_parts (cow_value b.entry))
+        options.now.file_limit) }
     ensures refused { IfErr result (IsRefusal options.now.near options.now.cutoff
-        (content_of (cow_value a.entry)) (content_of (cow_value b.entry)) options.now.file_limit) }
+        (content_of_parts (cow_value a.entry)) (content_of_parts (cow_value b.entry))
+        options.now.file_limit) }
     ensures hashed { IfOk result (λ merged. AreHashedBy random merged.names) }
 {
     if zones_differ(a.as_ref(), b.as_ref()) {
@@ -195,10 +196,11 @@ fn rows_of(
     b: Cow<'_, Feed>,
     options: &Options,
 ) -> Result<(Parts, Names), OutOfMemory>
-    requires zone { zones_differ (content_of (cow_value a)) (content_of (cow_value b)) ≡ false }
+    requires zone { zone_texts_differ (content_of_parts (cow_value a))
+        (content_of_parts (cow_value b)) ≡ false }
     requires cutoff { IfSome options.now.cutoff (λ d. is_service_day d ≡ true) }
     ensures { IfOk result (AreRowsOfMerge random options.now.near options.now.cutoff
-        (content_of (cow_value a.entry)) (content_of (cow_value b.entry))) }
+        (content_of_parts (cow_value a.entry)) (content_of_parts (cow_value b.entry))) }
 {
     match options.cutoff {
         Some(day) => rows_cut_at(alloc, random, a, b, day, options.near),
@@ -216,10 +218,11 @@ fn rows_cut_at(
     day: Day,
     near: Option<u32>,
 ) -> Result<(Parts, Names), OutOfMemory>
-    requires zone { zones_differ (content_of (cow_value a)) (content_of (cow_value b)) ≡ false }
+    requires zone { zone_texts_differ (content_of_parts (cow_value a))
+        (content_of_parts (cow_value b)) ≡ false }
     requires day { is_service_day day ≡ true }
     ensures { IfOk result (AreRowsOfMerge random near (Some day)
-        (content_of (cow_value a.entry)) (content_of (cow_value b.entry))) }
+        (content_of_parts (cow_value a.entry)) (content_of_parts (cow_value b.entry))) }
 {
     let first = trimmed(alloc, random, a, Cut::Before(day))?;
     let second = trimmed(alloc, random, b, Cut::From(day))?;
@@ -235,7 +238,7 @@ fn trimmed(
 ) -> Result<Feed, OutOfMemory>
     requires { is_service_day (cut_day cut) ≡ true }
     ensures { IfOk result (λ left.
-        content_of left ≡ trimmed cut (content_of (cow_value feed.entry))) }
+        content_of_parts left ≡ trimmed cut (content_of_parts (cow_value feed.entry))) }
 {
     left_of(alloc, random, feed.as_ref(), cut)
 }
@@ -243,7 +246,8 @@ fn trimmed(
 // What is left of a feed that is lent.
 fn left_of(alloc: Global, random: RandomState, feed: &Feed, cut: Cut) -> Result<Feed, OutOfMemory>
     requires { is_service_day (cut_day cut) ≡ true }
-    ensures { IfOk result (λ left. content_of left ≡ trimmed cut (content_of feed.now)) }
+    ensures { IfOk result
+        (λ left. content_of_parts left ≡ trimmed cut (content_of_parts feed.now)) }
 {
     feed.trimmed(alloc, random, cut)
 }
@@ -256,9 +260,10 @@ fn rows_of_pair(
     b: Cow<'_, Feed>,
     near: Option<u32>,
 ) -> Result<(Parts, Names), OutOfMemory>
-    requires { zones_differ (content_of (cow_value a)) (content_of (cow_value b)) ≡ false }
+    requires { zone_texts_differ (content_of_parts (cow_value a))
+        (content_of_parts (cow_value b)) ≡ false }
     ensures { IfOk result (AreRowsOfMerge random near None
-        (content_of (cow_value a.entry)) (content_of (cow_value b.entry))) }
+        (content_of_parts (cow_value a.entry)) (content_of_parts (cow_value b.entry))) }
 {
     let sides = Sides {
         a: a.as_ref(),
@@ -274,7 +279,7 @@ fn whole_rows(
     random: RandomState,
     sides: &Sides,
 ) -> Result<(Parts, Names), OutOfMemory>
-    requires { zones_differ (content_a sides.now) (content_b sides.now) ≡ false }
+    requires { zone_texts_differ (content_a sides.now) (content_b sides.now) ≡ false }
     ensures { IfOk result (AreRowsOfMerge random sides.now.near None
         (content_a sides.now) (content_b sides.now)) }
 {

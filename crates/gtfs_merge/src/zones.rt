@@ -1,6 +1,6 @@
 ghost use Rattle.std.specs.Prelude.{◌≡◌};
-ghost use Rattle.gtfs_feed.specs.Content.{content_of};
-ghost use Rattle.gtfs_merge.specs.Merged.{zones_differ};
+ghost use Rattle.gtfs_rows.specs.Views.{content_of_parts};
+ghost use Rattle.gtfs_merge.specs.Merged.{zone_texts_differ};
 
 use gtfs_feed::Feed;
 use gtfs_rows::AgencyNo;
@@ -9,7 +9,7 @@ use gtfs_rows::AgencyNo;
 ///
 /// All agencies of a feed have one zone (GTFS Schedule Reference, `agency_timezone`).
 pub fn zones_differ(a: &Feed, b: &Feed) -> bool
-    ensures { result ≡ zones_differ (content_of a.now) (content_of b.now) }
+    ensures { result ≡ zone_texts_differ (content_of_parts a.now) (content_of_parts b.now) }
 {
     a.soundness();
     b.soundness();

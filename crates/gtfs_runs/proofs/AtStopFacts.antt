@@ -28,7 +28,7 @@ use Rattle.gtfs_times.proofs.FilledContent.{sound-timed}
 use Rattle.gtfs_times.specs.TimedRows.{timed_parts, timed_stop_times}
 use Rattle.gtfs_times.specs.declared.times.Times.{Times}
 use Rattle.gtfs_runs.specs.Counts.{tally}
-use Rattle.gtfs_runs.specs.StopIndex.{departs_at, departure_row_cmp, is_row}
+use Rattle.gtfs_runs.specs.StopIndex.{has_departure_row, departure_row_cmp, is_this_row}
 use Rattle.gtfs_runs.specs.declared.stop_index.DepartureRow.{DepartureRow}
 use Rattle.gtfs_runs.specs.steps.AtStops.{StandBefore, at_stop, departs_of, leaves_stop}
 use Rattle.gtfs_runs.proofs.ContentEvents.{past_trips, row_at}
@@ -62,34 +62,34 @@ never false = refl
 pub row_added : (p : Parts) (u : Trip) (rows : List StopRow) (fs : List Frequency) (t n : ℕ) (d : StopRow) (old new : List (List DepartureRow)) (x : DepartureRow) → n < length rows
     → is_departure_row (trip_of p u rows fs) (stop_row_of p (get_or rows n d)) ≡ true → x ≡ record { trip = t; row = n }
     → (get_or rows n d).stop_id.0 < length old → new ≡ set old (get_or rows n d).stop_id.0 (at_stop old (get_or rows n d).stop_id.0 ++ x ∷ [])
-    → (s v r : ℕ) → tally (is_row v r) (at_stop new s)
-    ≡ tally (is_row v r) (at_stop old s) + cond ((v == t) && (r == n) && if_there (slice_get rows r) (leaves_stop p u rows fs s)) 1 0
+    → (s v r : ℕ) → tally (is_this_row v r) (at_stop new s)
+    ≡ tally (is_this_row v r) (at_stop old s) + cond ((v == t) && (r == n) && if_there (slice_get rows r) (leaves_stop p u rows fs s)) 1 0
 row_added p u rows fs t n d old new x within departs is known pushed s v r =
     let stop = (get_or rows n d).stop_id.0 in
     let asked : ((v == t) && (r == n) && (stop == s)) ≡ ((v == t) && (r == n) && if_there (slice_get rows r) (leaves_stop p u rows fs s)) =
     ap (λ b. (v == t) && (r == n) && (b && (stop == s))) (sym departs) ∙ sym (asked_here (v == t) (leaves_stop p u rows fs s) rows n r d within) in
-    ap (λ l. tally (is_row v r) (at_stop l s)) pushed
+    ap (λ l. tally (is_this_row v r) (at_stop l s)) pushed
     ∙ here stop known (cases_Bool (stop == s))
-    ∙ ap (λ b. tally (is_row v r) (at_stop old s) + cond b 1 0) asked
+    ∙ ap (λ b. tally (is_this_row v r) (at_stop old s) + cond b 1 0) asked
   where
-    here : (stop : ℕ) → stop < length old → (((stop == s) ≡ true) ⊎ ((stop == s) ≡ false)) → tally (is_row v r) (at_stop (set old stop (at_stop old stop ++ x ∷ [])) s)
-        ≡ tally (is_row v r) (at_stop old s) + cond ((v == t) && (r == n) && (stop == s)) 1 0
+    here : (stop : ℕ) → stop < length old → (((stop == s) ≡ true) ⊎ ((stop == s) ≡ false)) → tally (is_this_row v r) (at_stop (set old stop (at_stop old stop ++ x ∷ [])) s)
+        ≡ tally (is_this_row v r) (at_stop old s) + cond ((v == t) && (r == n) && (stop == s)) 1 0
     here stop within (inl same) =
         let now : stop ≡ s = eqb-true stop s same in
-        ap (λ k. tally (is_row v r) (at_stop (set old stop (at_stop old stop ++ x ∷ [])) k)) (sym now)
-        ∙ ap (tally (is_row v r)) (get_or-set_same old stop (at_stop old stop ++ x ∷ []) [] within)
-        ∙ tally-push (is_row v r) (at_stop old stop) x
-        ∙ (λ i. tally (is_row v r) (at_stop old (now i)) + cond (is_row v r (is i)) 1 0)
-        ∙ ap (λ b. tally (is_row v r) (at_stop old s) + cond b 1 0) (sym (alone ((v == t) && (r == n))) ∙ ap (λ b. (v == t) && (r == n) && b) (sym same))
+        ap (λ k. tally (is_this_row v r) (at_stop (set old stop (at_stop old stop ++ x ∷ [])) k)) (sym now)
+        ∙ ap (tally (is_this_row v r)) (get_or-set_same old stop (at_stop old stop ++ x ∷ []) [] within)
+        ∙ tally-push (is_this_row v r) (at_stop old stop) x
+        ∙ (λ i. tally (is_this_row v r) (at_stop old (now i)) + cond (is_this_row v r (is i)) 1 0)
+        ∙ ap (λ b. tally (is_this_row v r) (at_stop old s) + cond b 1 0) (sym (alone ((v == t) && (r == n))) ∙ ap (λ b. (v == t) && (r == n) && b) (sym same))
     here stop within (inr other) =
-        ap (tally (is_row v r)) (get_or-set_other old stop s (at_stop old stop ++ x ∷ []) [] (λ same. eqb-false stop s other (sym same)))
-        ∙ kept (tally (is_row v r) (at_stop old s)) _ (ap (λ b. (v == t) && (r == n) && b) other ∙ never ((v == t) && (r == n)))
+        ap (tally (is_this_row v r)) (get_or-set_other old stop s (at_stop old stop ++ x ∷ []) [] (λ same. eqb-false stop s other (sym same)))
+        ∙ kept (tally (is_this_row v r) (at_stop old s)) _ (ap (λ b. (v == t) && (r == n) && b) other ∙ never ((v == t) && (r == n)))
 
 pub row_passed : (p : Parts) (u : Trip) (rows : List StopRow) (fs : List Frequency) (t n : ℕ) (d : StopRow) (old : List (List DepartureRow)) → n < length rows
     → is_departure_row (trip_of p u rows fs) (stop_row_of p (get_or rows n d)) ≡ false
-    → (s v r : ℕ) → tally (is_row v r) (at_stop old s) ≡ tally (is_row v r) (at_stop old s) + cond ((v == t) && (r == n) && if_there (slice_get rows r) (leaves_stop p u rows fs s)) 1 0
+    → (s v r : ℕ) → tally (is_this_row v r) (at_stop old s) ≡ tally (is_this_row v r) (at_stop old s) + cond ((v == t) && (r == n) && if_there (slice_get rows r) (leaves_stop p u rows fs s)) 1 0
 row_passed p u rows fs t n d old within stays s v r =
-    kept (tally (is_row v r) (at_stop old s)) _
+    kept (tally (is_this_row v r) (at_stop old s)) _
     (asked_here (v == t) (leaves_stop p u rows fs s) rows n r d within
     ∙ ap (λ b. (v == t) && (r == n) && (b && ((get_or rows n d).stop_id.0 == s))) stays ∙ never ((v == t) && (r == n)))
 
@@ -159,8 +159,8 @@ module _ (p : Parts) (sound : IsSoundParts p) where
 pub trip_added : (choice : Times) (p : Parts) → IsSoundParts p → (t : ℕ) (rs own : List StopRow) (old new : List (List DepartureRow)) → slice_get (stop_rows_by_trip p) t ≡ Some rs
     → own ≡ timed_stop_times choice rs
     → ((s v r : ℕ) (q : Parts) (u : Trip) (fs : List Frequency)
-    → tally (is_row v r) (at_stop new s) ≡ tally (is_row v r) (at_stop old s) + cond ((v == t) && if_there (slice_get own r) (leaves_stop q u own fs s)) 1 0)
-    → (s v r : ℕ) → tally (is_row v r) (at_stop new s) ≡ tally (is_row v r) (at_stop old s) + cond ((v == t) && departs_of (timed_parts choice p) s v r) 1 0
+    → tally (is_this_row v r) (at_stop new s) ≡ tally (is_this_row v r) (at_stop old s) + cond ((v == t) && if_there (slice_get own r) (leaves_stop q u own fs s)) 1 0)
+    → (s v r : ℕ) → tally (is_this_row v r) (at_stop new s) ≡ tally (is_this_row v r) (at_stop old s) + cond ((v == t) && departs_of (timed_parts choice p) s v r) 1 0
 trip_added choice p sound t rs own old new at is added s v r =
     let q = timed_parts choice p in
     let fair = sound-timed p sound choice in
@@ -171,7 +171,7 @@ trip_added choice p sound t rs own old new at is added s v r =
     let u = get_or p.trips t some in
     let fs = get_or (frequencies_by_trip p) t [] in
     added s v r q u fs
-    ∙ ap (λ b. tally (is_row v r) (at_stop old s) + cond b 1 0)
+    ∙ ap (λ b. tally (is_this_row v r) (at_stop old s) + cond b 1 0)
     (of_trip q fair t u own fs (slice_get-get_or p.trips t some within) at_rows (slice_get-get_or (frequencies_by_trip p) t [] periods) (trip_times q fair t own at_rows).stops v s r)
 
 -- past the last trip there is none
@@ -180,10 +180,10 @@ trip_within p s t r holds = elim (cases_Bool (nat_lt t (length p.trips))) [
   | inl is ↦ ltb-true t (length p.trips) is
   | inr isnt ↦
       let id = text_of_number (stop_ids p) s in
-      let none : departs_at (content_of_parts p) id t r ≡ false =
+      let none : has_departure_row (content_of_parts p) id t r ≡ false =
       ap (λ o. if_there o (λ v. if_there (slice_get v.stop_rows r) (λ x. is_departure_row v x && bytes_eq x.stop_id id)))
       (past_trips p p.trips (stop_rows_by_trip p) (frequencies_by_trip p) t (ltb-false t (length p.trips) isnt)) in
-      absurd (false≢true (sym none ∙ (and_parts (nat_lt s (length p.stops)) (departs_at (content_of_parts p) id t r) holds).1))
+      absurd (false≢true (sym none ∙ (and_parts (nat_lt s (length p.stops)) (has_departure_row (content_of_parts p) id t r) holds).1))
 ]
 
 -- ---- their order

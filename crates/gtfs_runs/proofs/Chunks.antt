@@ -10,7 +10,7 @@ use Rattle.std.proofs.lemmas.Simd.{map-map}
 use Rattle.gtfs_rows.specs.Order.{Ascends}
 use Rattle.gtfs_rows.specs.Views.{content_of_parts}
 use Rattle.gtfs_rows.specs.declared.parts.Parts.{Parts}
-use Rattle.gtfs_runs.specs.Kinds.{IsListLane, course_at, is_listed}
+use Rattle.gtfs_runs.specs.Kinds.{IsListLane, course_at, is_of_list}
 use Rattle.gtfs_runs.specs.Order.{event_cmp}
 use Rattle.gtfs_runs.specs.StopLanes.{LaneValue, events_of_service}
 use Rattle.gtfs_runs.specs.declared.event.Event.{Event}
@@ -71,7 +71,7 @@ module _ (p : Parts) (xs : List Listed) (n : ℕ) (first : Listed) (some : 0 < n
       let courses : All (λ x. (stopping_of p x).course ≡ c) (take n xs) = all_mapped (λ z. z.course ≡ c) (stopping_of p) (take n xs) one in
       let content = content_of_parts q in
       record {
-        listed = subst (λ es. All (λ e. is_listed content e ≡ true) es) (sym events) (All-map (λ e. is_listed content e ≡ true) event_of (take n xs) (λ k d h. (found k d h).listed));
+        listed = subst (λ es. All (λ e. is_of_list content e ≡ true) es) (sym events) (All-map (λ e. is_of_list content e ≡ true) event_of (take n xs) (λ k d h. (found k d h).listed));
         alike = subst (λ es. AllPairs (λ x y. course_at content x ≡ course_at content y) es) (sym events)
             (all_alike (course_at content) (map event_of (take n xs)) (Some (course_of q c))
             (All-map (λ e. course_at content e ≡ Some (course_of q c)) event_of (take n xs) (λ k d h. (found k d h).course ∙ ap (λ z. Some (course_of q z)) (courses k d h))));

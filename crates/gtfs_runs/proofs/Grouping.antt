@@ -15,7 +15,7 @@ use Rattle.gtfs_rows.specs.declared.numbers.TripNo.{TripNo}
 use Rattle.gtfs_rows.specs.declared.parts.Parts.{Parts}
 use Rattle.gtfs_runs.specs.declared.pattern.Headed.{Headed}
 use Rattle.gtfs_runs.specs.declared.pattern.Pattern.{Pattern}
-use Rattle.gtfs_runs.specs.Patterns.{ArePatterns, AreGroups, Entry, Heading, are_apart, entries_of, entries_under, entry_cmp, entry_value, heading_of, is_filled, is_same_heading}
+use Rattle.gtfs_runs.specs.Patterns.{ArePatterns, AreGroups, Entry, Heading, headings_change, entries_of, entries_under, entry_cmp, entry_value, heading_of, has_a_trip, is_same_heading}
 
 append-nil : {X : Type 0} (xs : List X) → xs ++ [] ≡ xs
 append-nil [] = refl
@@ -23,29 +23,29 @@ append-nil (x ∷ xs) = ap (λ ys. x ∷ ys) (append-nil xs)
 
 -- ---- a new pattern after the last
 
-apart-more : (hs : List Heading) (l h : Heading) → is_same_heading l h ≡ false → are_apart (hs ++ l ∷ []) ≡ true → are_apart ((hs ++ l ∷ []) ++ h ∷ []) ≡ true
+apart-more : (hs : List Heading) (l h : Heading) → is_same_heading l h ≡ false → headings_change (hs ++ l ∷ []) ≡ true → headings_change ((hs ++ l ∷ []) ++ h ∷ []) ≡ true
 apart-more [] l h differs apart = join (not (is_same_heading l h)) true (ap not differs) refl
 apart-more (x ∷ []) l h differs apart =
     let parts = both (not (is_same_heading x l)) true apart in
     join (not (is_same_heading x l)) (not (is_same_heading l h) && true) parts.0 (join (not (is_same_heading l h)) true (ap not differs) refl)
 apart-more (x ∷ y ∷ hs) l h differs apart =
-    let parts = both (not (is_same_heading x y)) (are_apart ((y ∷ hs) ++ l ∷ [])) apart in
-    join (not (is_same_heading x y)) (are_apart (((y ∷ hs) ++ l ∷ []) ++ h ∷ [])) parts.0 (apart-more (y ∷ hs) l h differs parts.1)
+    let parts = both (not (is_same_heading x y)) (headings_change ((y ∷ hs) ++ l ∷ [])) apart in
+    join (not (is_same_heading x y)) (headings_change (((y ∷ hs) ++ l ∷ []) ++ h ∷ [])) parts.0 (apart-more (y ∷ hs) l h differs parts.1)
 
 pub groups-more : (olds mids news xs : List Pattern) (l n : Pattern) (h : Heading) → olds ≡ xs ++ l ∷ [] → mids ≡ xs ++ l ∷ [] → news ≡ mids ++ n ∷ []
-    → is_same_heading (heading_of l) h ≡ false → heading_of n ≡ h → is_filled n ≡ true → AreGroups olds → AreGroups news
+    → is_same_heading (heading_of l) h ≡ false → heading_of n ≡ h → has_a_trip n ≡ true → AreGroups olds → AreGroups news
 groups-more olds mids news xs l n h old mid new differs same has_trip groups =
-    let was : list_all is_filled (xs ++ l ∷ []) ≡ true = ap (list_all is_filled) (sym old) ∙ groups.filled in
-    let were : are_apart (map heading_of xs ++ heading_of l ∷ []) ≡ true =
-    ap are_apart (sym (map-append heading_of xs (l ∷ []))) ∙ ap (λ ys. are_apart (map heading_of ys)) (sym old) ∙ groups.apart in
+    let was : list_all has_a_trip (xs ++ l ∷ []) ≡ true = ap (list_all has_a_trip) (sym old) ∙ groups.filled in
+    let were : headings_change (map heading_of xs ++ heading_of l ∷ []) ≡ true =
+    ap headings_change (sym (map-append heading_of xs (l ∷ []))) ∙ ap (λ ys. headings_change (map heading_of ys)) (sym old) ∙ groups.apart in
     let whole : news ≡ (xs ++ l ∷ []) ++ n ∷ [] = new ∙ ap (λ ys. ys ++ n ∷ []) mid in
     let headings : map heading_of ((xs ++ l ∷ []) ++ n ∷ []) ≡ (map heading_of xs ++ heading_of l ∷ []) ++ h ∷ [] =
     map-append heading_of (xs ++ l ∷ []) (n ∷ []) ∙ ap (λ hs. hs ++ heading_of n ∷ []) (map-append heading_of xs (l ∷ []))
     ∙ ap (λ g. (map heading_of xs ++ heading_of l ∷ []) ++ g ∷ []) same in
     record {
-      filled = ap (list_all is_filled) whole ∙ list_all-append is_filled (xs ++ l ∷ []) (n ∷ [])
-          ∙ join (list_all is_filled (xs ++ l ∷ [])) (is_filled n && true) was (join (is_filled n) true has_trip refl);
-      apart = ap (λ ys. are_apart (map heading_of ys)) whole ∙ ap are_apart headings
+      filled = ap (list_all has_a_trip) whole ∙ list_all-append has_a_trip (xs ++ l ∷ []) (n ∷ [])
+          ∙ join (list_all has_a_trip (xs ++ l ∷ [])) (has_a_trip n && true) was (join (has_a_trip n) true has_trip refl);
+      apart = ap (λ ys. headings_change (map heading_of ys)) whole ∙ ap headings_change headings
           ∙ apart-more (map heading_of xs) (heading_of l) h differs were;
     }
 

@@ -9,7 +9,7 @@ use Rattle.gtfs_times.proofs.TimedContent.{content-timed}
 use Rattle.gtfs_times.specs.TimedRows.{timed_parts}
 use Rattle.gtfs_times.specs.declared.times.Times.{Times}
 use Rattle.gtfs_runs.specs.Counts.{tally}
-use Rattle.gtfs_runs.specs.StopIndex.{AreDepartureRows, departs_at, departure_row_cmp, is_row}
+use Rattle.gtfs_runs.specs.StopIndex.{AreDepartureRows, has_departure_row, departure_row_cmp, is_this_row}
 use Rattle.gtfs_runs.specs.declared.stop_index.DepartureRow.{DepartureRow}
 use Rattle.gtfs_runs.specs.steps.AtStops.{at_stop, departs_of}
 use Rattle.gtfs_runs.proofs.Tallies.{any-tally}
@@ -31,7 +31,7 @@ any_kept q f (x ∷ xs) = elim (cases_Bool (f x)) [
     never false = refl
 
 pub are-departure-rows : (choice : Times) (p : Parts) → IsSoundParts p → (lists : List (List DepartureRow)) → length lists ≡ length p.stops
-    → ((s t r : ℕ) → tally (is_row t r) (at_stop lists s) ≡ cond (departs_of (timed_parts choice p) s t r) 1 0) → All (Ascends departure_row_cmp) lists
+    → ((s t r : ℕ) → tally (is_this_row t r) (at_stop lists s) ≡ cond (departs_of (timed_parts choice p) s t r) 1 0) → All (Ascends departure_row_cmp) lists
     → AreDepartureRows choice p lists
 are-departure-rows choice p sound lists size told up =
     let q = timed_parts choice p in
@@ -40,7 +40,7 @@ are-departure-rows choice p sound lists size told up =
       in_order = up;
       all = λ s t r within.
           let known : nat_lt s (length p.stops) ≡ true = lt-ltb s (length p.stops) within in
-          any-tally (is_row t r) (at_stop lists s) (departs_of q s t r) (told s t r)
-          ∙ ap (λ k. k && departs_at (content_of_parts q) (text_of_number (stop_ids p) s) t r) known
-          ∙ ap (λ c. departs_at c (text_of_number (stop_ids p) s) t r) (content-timed choice p sound);
+          any-tally (is_this_row t r) (at_stop lists s) (departs_of q s t r) (told s t r)
+          ∙ ap (λ k. k && has_departure_row (content_of_parts q) (text_of_number (stop_ids p) s) t r) known
+          ∙ ap (λ c. has_departure_row c (text_of_number (stop_ids p) s) t r) (content-timed choice p sound);
     }

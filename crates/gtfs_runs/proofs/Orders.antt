@@ -12,7 +12,7 @@ use Rattle.gtfs_field.proofs.NumberFacts.{int_cmp-pos as same_cmp}
 use Rattle.gtfs_field.proofs.OrderingFacts.{int-less, less, nat-greater, nat-less}
 use Rattle.gtfs_runs.specs.declared.event.Event.{Event}
 use Rattle.gtfs_runs.specs.declared.moment.Moment.{Moment}
-use Rattle.gtfs_runs.specs.Order.{event_cmp, moment_cmp, moment_of, is_later, is_above, IsFrom}
+use Rattle.gtfs_runs.specs.Order.{event_cmp, moment_cmp, moment_of_event, is_later, is_above_moment, IsFrom}
 
 pub events_total : IsTotalOrder event_cmp
 events_total = search (comparing, rules) depth 20
@@ -32,7 +32,7 @@ without_last Equal Equal Equal Less e h = refl
 without_last Equal Equal Equal Equal e h = refl
 without_last Equal Equal Equal Greater e h = absurd (cc)
 
-pub moments-rise : (x y : Event) → event_cmp x y ≡ Less → is_gt (moment_cmp (moment_of x) (moment_of y)) ≡ false
+pub moments-rise : (x y : Event) → event_cmp x y ≡ Less → is_gt (moment_cmp (moment_of_event x) (moment_of_event y)) ≡ false
 moments-rise x y h =
     rw (same_cmp x.at y.at, same_cmp x.seq y.seq) (without_last (nat_cmp x.at y.at) (nat_cmp x.trip.0 y.trip.0) (nat_cmp x.run y.run) (nat_cmp x.seq y.seq) (nat_cmp x.row y.row) h)
 
@@ -46,14 +46,14 @@ module _ {K : Type 0} {R : K → K → Ordering} (o : IsTotalOrder R) where
 pub later-upward : (e x y : Event) → event_cmp x y ≡ Less → is_later e x ≡ true → is_later e y ≡ true
 later-upward e x y rises above = ap is_lt (events_total.trans e x y (less _ above) rises)
 
-pub above-upward : (s : Moment) (x y : Event) → event_cmp x y ≡ Less → is_above s x ≡ true → is_above s y ≡ true
-above-upward s x y rises above = ap is_lt (upto moments_total s (moment_of x) (moment_of y) _ (less _ above) refl (moments-rise x y rises))
+pub above-upward : (s : Moment) (x y : Event) → event_cmp x y ≡ Less → is_above_moment s x ≡ true → is_above_moment s y ≡ true
+above-upward s x y rises above = ap is_lt (upto moments_total s (moment_of_event x) (moment_of_event y) _ (less _ above) refl (moments-rise x y rises))
 
 int-greater : (a b : ℤ) → b <ℤ a → int_cmp a b ≡ Greater
 int-greater a b h = grind (arith, ints)
 
 -- time decides first
-pub above-from : (s : Moment) → IsFrom s.at (is_above s)
+pub above-from : (s : Moment) → IsFrom s.at (is_above_moment s)
 above-from s = record {
   before = λ e h. rw (int-greater s.at (pos e.at) h) refl;
   after = λ e h. rw (int-less s.at (pos e.at) h) refl;

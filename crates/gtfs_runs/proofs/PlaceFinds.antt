@@ -24,7 +24,7 @@ use Rattle.gtfs_stop_times.specs.declared.stop_row.StopRow.{StopRow}
 use Rattle.gtfs_rows.specs.declared.trip.Trip.{Trip}
 use Rattle.gtfs_rows.proofs.SameElements.{pairs-head, pairs-map, pairs-tail}
 use Rattle.gtfs_table.proofs.PartFacts.{length-parts}
-use Rattle.gtfs_runs.specs.StopIndex.{departure_row_cmp, is_row}
+use Rattle.gtfs_runs.specs.StopIndex.{departure_row_cmp, is_this_row}
 use Rattle.gtfs_runs.specs.StopLanes.{LaneValue}
 use Rattle.gtfs_runs.specs.declared.event.Event.{Event}
 use Rattle.gtfs_runs.specs.declared.stop_index.DepartureRow.{DepartureRow}
@@ -138,15 +138,15 @@ module _ (p : Parts) (sound : IsSoundParts p) (s t : ℕ) (u : Trip) (rows : Lis
       (positions (leaves p s u rows fs) 0 rows [] (λ i j d before within. absurd (omega arith)) (λ k d within. absurd (omega arith)) (λ k d within. absurd (omega arith))
       (λ r. sym (ap (λ n. if_there (slice_get rows r) (λ x. leaves p s u rows fs (n, x))) (zero-add r) ∙ sym (in_place_of p sound s t u rows fs at_trip at_rows at_periods r) ∙ none r)))
 
-  module _ (own : List DepartureRow) (of_trip : All (λ x. x.trip ≡ t) own) (all : (r : ℕ) → list_any (is_row t r) own ≡ departs_in_place p s t r) where
+  module _ (own : List DepartureRow) (of_trip : All (λ x. x.trip ≡ t) own) (all : (r : ℕ) → list_any (is_this_row t r) own ≡ departs_in_place p s t r) where
     own_within : All (λ x. x.row < length rows) own
     own_within k d within =
         let x = get_or own k d in
-        let is : is_row t x.row x ≡ true = subst (λ n. is_row n x.row x ≡ true) (of_trip k d within) (itself_row x) in
-        let there = any_at (is_row t x.row) own k d within is in
+        let is : is_this_row t x.row x ≡ true = subst (λ n. is_this_row n x.row x ≡ true) (of_trip k d within) (itself_row x) in
+        let there = any_at (is_this_row t x.row) own k d within is in
         asked_within true (λ z. leaves p s u rows fs (x.row, z)) rows x.row (sym (in_place_of p sound s t u rows fs at_trip at_rows at_periods x.row) ∙ sym (all x.row) ∙ there)
       where
-        itself_row : (x : DepartureRow) → is_row x.trip x.row x ≡ true
+        itself_row : (x : DepartureRow) → is_this_row x.trip x.row x ≡ true
         itself_row x = rw (itself x.trip, itself x.row) refl
 
     own_passings : (d : StopRow) → Ascends departure_row_cmp own → map (passing_of rows d) own ≡ passings_of p s u rows fs
@@ -163,13 +163,13 @@ module _ (p : Parts) (sound : IsSoundParts p) (s t : ℕ) (u : Trip) (rows : Lis
         let x = get_or own k e in
         ap (slice_get rows) (nothing x.row) ∙ slice_get-get_or rows x.row d (own_within k e within)))
         (λ r. any_mapped (λ v. 0 + r == v.0) f own
-        ∙ any_of (λ x. 0 + r == x.row) (is_row t r) own (λ k e within. own_row (get_or own k e) r (of_trip k e within))
+        ∙ any_of (λ x. 0 + r == x.row) (is_this_row t r) own (λ k e within. own_row (get_or own k e) r (of_trip k e within))
         ∙ all r ∙ in_place_of p sound s t u rows fs at_trip at_rows at_periods r ∙ ap (λ n. if_there (slice_get rows r) (λ x. q (n, x))) (sym (zero-add r))))
       where
         nothing : (n : ℕ) → n - 0 ≡ n
         nothing n = omega arith
 
-        own_row : (x : DepartureRow) (r : ℕ) → x.trip ≡ t → (0 + r == x.row) ≡ is_row t r x
+        own_row : (x : DepartureRow) (r : ℕ) → x.trip ≡ t → (0 + r == x.row) ≡ is_this_row t r x
         own_row x r is = ap (λ n. n == x.row) (zero-add r) ∙ ap (λ b. b && (r == x.row)) (sym (ap (λ n. t == n) is ∙ itself t))
 
 none_passed : (t : ℕ) (e : Event) (fs : List Frequency) → times_passed_in t e [] fs ≡ 0
@@ -201,7 +201,7 @@ module _ (p : Parts) (sound : IsSoundParts p) (s : ℕ) where
         slice_get-get_or (frequencies_by_trip p) t [] here
 
     -- the stop times of a trip at its departure rows there are all that it passes
-    pub are-passings : (own : List DepartureRow) (xs : List Passing) → Ascends departure_row_cmp own → All (λ x. x.trip ≡ t) own → ((r : ℕ) → list_any (is_row t r) own ≡ departs_in_place p s t r)
+    pub are-passings : (own : List DepartureRow) (xs : List Passing) → Ascends departure_row_cmp own → All (λ x. x.trip ≡ t) own → ((r : ℕ) → list_any (is_this_row t r) own ≡ departs_in_place p s t r)
         → ((rs : List StopRow) (d : StopRow) → slice_get (stop_rows_by_trip p) t ≡ Some rs → xs ≡ map (passing_of rs d) own) → 0 < length own → ArePassings p s t xs
     are-passings own xs up of_trip all made some v rs gs at =
         let same : rs ≡ rows = same_Some rs rows (sym at ∙ at_rows) in
@@ -211,7 +211,7 @@ module _ (p : Parts) (sound : IsSoundParts p) (s : ℕ) where
         made rs d at ∙ ap (λ l. map (passing_of l d) own) same ∙ own_passings p sound s t u rows fs at_trip at_rows at_periods own of_trip all d up
         ∙ (λ i. passings_of p s u (sym same i) fs)
 
-    pub rows_within : (own : List DepartureRow) → All (λ x. x.trip ≡ t) own → ((r : ℕ) → list_any (is_row t r) own ≡ departs_in_place p s t r)
+    pub rows_within : (own : List DepartureRow) → All (λ x. x.trip ≡ t) own → ((r : ℕ) → list_any (is_this_row t r) own ≡ departs_in_place p s t r)
         → (rs : List StopRow) → slice_get (stop_rows_by_trip p) t ≡ Some rs → All (λ x. x.row < length rs) own
     rows_within own of_trip all rs at =
         subst (λ l. All (λ x. x.row < length l) own) (same_Some rows rs (sym at_rows ∙ at)) (own_within p sound s t u rows fs at_trip at_rows at_periods own of_trip all)
@@ -262,20 +262,20 @@ module _ (p : Parts) (sound : IsSoundParts p) (s : ℕ) where
     bounds : (zs : List DepartureRow) → ArePlaceRows p s k zs → (k ≤ first_trip (length p.trips) zs) × (first_trip (length p.trips) zs ≤ length p.trips)
     bounds [] all = (upto, omega arith)
     bounds (z ∷ zs) all =
-        let is : is_row z.trip z.row z ≡ true = rw (itself z.trip, itself z.row) refl in
-        let both = and_parts (nat_le k z.trip) (departs_in_place p s z.trip z.row) (sym (all.all z.trip z.row) ∙ ap (λ b. b || list_any (is_row z.trip z.row) zs) is) in
+        let is : is_this_row z.trip z.row z ≡ true = rw (itself z.trip, itself z.row) refl in
+        let both = and_parts (nat_le k z.trip) (departs_in_place p s z.trip z.row) (sym (all.all z.trip z.row) ∙ ap (λ b. b || list_any (is_this_row z.trip z.row) zs) is) in
         let inside = place_within p s z.trip z.row both.1 in
         (leb-true k z.trip both.0, omega (arith, inside))
 
     -- none of a trip before it
-    none_lower : (zs : List DepartureRow) (t r : ℕ) → All (λ x. t < x.trip) zs → list_any (is_row t r) zs ≡ false
+    none_lower : (zs : List DepartureRow) (t r : ℕ) → All (λ x. t < x.trip) zs → list_any (is_this_row t r) zs ≡ false
     none_lower [] t r above = refl
     none_lower (z ∷ zs) t r above =
         let less = All-head (λ x. t < x.trip) z zs above in
         let other : (t == z.trip) ≡ false = ne_eqb t z.trip (λ same. omega (arith, less, same)) in
         rw other (none_lower zs t r (All-tail (λ x. t < x.trip) z zs above))
 
-    silent : (t r : ℕ) → t < first → list_any (is_row t r) ys ≡ false
+    silent : (t r : ℕ) → t < first → list_any (is_this_row t r) ys ≡ false
     silent t r below = none_lower ys t r (λ j d within. let low = first_lowest (length p.trips) ys are.in_order j d within in omega (arith, below, low))
 
     pub raised : (listed : List Stopping) (periods : List LaneValue) → AreFound p s k listed periods → AreFound p s (first_trip (length p.trips) ys) listed periods
@@ -326,7 +326,7 @@ nothing_left (x ∷ xs) (suc n) past = nothing_left xs n (omega arith)
 pub first_within : (p : Parts) (s t : ℕ) (xs : List DepartureRow) → ArePlaceRows p s t xs → first_trip (length p.trips) xs ≡ t → 0 < length xs → t < length p.trips
 first_within p s t [] are is some = absurd (omega arith)
 first_within p s t (x ∷ xs) are is some =
-    let here : is_row x.trip x.row x ≡ true = rw (itself x.trip, itself x.row) refl in
-    let both = and_parts (nat_le t x.trip) (departs_in_place p s x.trip x.row) (sym (are.all x.trip x.row) ∙ ap (λ b. b || list_any (is_row x.trip x.row) xs) here) in
+    let here : is_this_row x.trip x.row x ≡ true = rw (itself x.trip, itself x.row) refl in
+    let both = and_parts (nat_le t x.trip) (departs_in_place p s x.trip x.row) (sym (are.all x.trip x.row) ∙ ap (λ b. b || list_any (is_this_row x.trip x.row) xs) here) in
     let inside = place_within p s x.trip x.row both.1 in
     omega (arith, inside, is)

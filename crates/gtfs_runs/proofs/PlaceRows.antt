@@ -41,7 +41,7 @@ use Rattle.gtfs_times.proofs.TimedContent.{content-timed}
 use Rattle.gtfs_times.specs.TimedRows.{timed_parts}
 use Rattle.gtfs_times.specs.declared.times.Times.{Times}
 use Rattle.gtfs_runs.specs.Counts.{tally}
-use Rattle.gtfs_runs.specs.StopIndex.{AreDepartureRows, departs_at, departure_row_cmp, is_row}
+use Rattle.gtfs_runs.specs.StopIndex.{AreDepartureRows, has_departure_row, departure_row_cmp, is_this_row}
 use Rattle.gtfs_runs.specs.declared.stop_index.DepartureRow.{DepartureRow}
 use Rattle.gtfs_runs.specs.declared.stop_index.children.Child.{Child}
 use Rattle.gtfs_runs.specs.steps.Children.{is_child}
@@ -87,10 +87,10 @@ place_within p s t r holds = elim (cases_Bool (nat_lt t (length p.trips))) [
 
 -- ---- the order of departure rows
 
-row_itself : (x : DepartureRow) → is_row x.trip x.row x ≡ true
+row_itself : (x : DepartureRow) → is_this_row x.trip x.row x ≡ true
 row_itself x = both_true (itself x.trip) (itself x.row)
 
-tied : (x y : DepartureRow) → departure_row_cmp x y ≡ Equal → is_row x.trip x.row y ≡ true
+tied : (x y : DepartureRow) → departure_row_cmp x y ≡ Equal → is_this_row x.trip x.row y ≡ true
 tied x y tie =
     let trips : x.trip ≡ y.trip = ranked x.trip y.trip Equal (sym (first_tie _ _ tie)) in
     let rows : x.row ≡ y.row = ranked x.row y.row Equal (sym (second_tie _ _ tie)) in
@@ -102,20 +102,20 @@ less_if_apart Equal q turned far apart = absurd (apart refl)
 less_if_apart Greater q turned far apart = absurd (false≢true (sym far ∙ ap is_lt turned))
 
 -- sorted ones of which each stands there once
-rows_ascend : (xs : List DepartureRow) → IsSorted departure_row_cmp xs → ((t r : ℕ) → tally (is_row t r) xs ≤ 1) → Ascends departure_row_cmp xs
+rows_ascend : (xs : List DepartureRow) → IsSorted departure_row_cmp xs → ((t r : ℕ) → tally (is_this_row t r) xs ≤ 1) → Ascends departure_row_cmp xs
 rows_ascend xs up once i j d before within =
     let a = get_or xs i d in
     let b = get_or xs j d in
     less_if_apart (departure_row_cmp a b) (departure_row_cmp b a) (rows_total.antisymm b a)
     (sorted_far (λ x y. is_lt (departure_row_cmp x y)) (ranks_by rows_total (λ x. x)) xs up i j d (omega arith) within)
-    (λ tie. twice (tally (is_row a.trip a.row) xs) (two_at (is_row a.trip a.row) xs i j d before within (row_itself a) (tied a b tie)) (once a.trip a.row))
+    (λ tie. twice (tally (is_this_row a.trip a.row) xs) (two_at (is_this_row a.trip a.row) xs i j d before within (row_itself a) (tied a b tie)) (once a.trip a.row))
   where
     twice : (n : ℕ) → 2 ≤ n → n ≤ 1 → ⊥
     twice n two one = omega arith
 
 -- in ascending ones each stands once
-not_again : (x y : DepartureRow) → departure_row_cmp x y ≡ Less → (t r : ℕ) → is_row t r x ≡ true → is_row t r y ≡ false
-not_again x y less t r is = elim (cases_Bool (is_row t r y)) [
+not_again : (x y : DepartureRow) → departure_row_cmp x y ≡ Less → (t r : ℕ) → is_this_row t r x ≡ true → is_this_row t r y ≡ false
+not_again x y less t r is = elim (cases_Bool (is_this_row t r y)) [
   | inr isnt ↦ isnt
   | inl also ↦
       let a = and_parts (t == x.trip) (r == x.row) is in
@@ -133,14 +133,14 @@ not_again x y less t r is = elim (cases_Bool (is_row t r y)) [
         (λ i. ordering_then (nat_cmp (trips i) y.trip) (nat_cmp (rows i) y.row))
         ∙ (λ i. ordering_then (tied_itself nat_cmp_total y.trip i) (tied_itself nat_cmp_total y.row i))
 
-pub once : (xs : List DepartureRow) (t r : ℕ) → Ascends departure_row_cmp xs → tally (is_row t r) xs ≡ cond (list_any (is_row t r) xs) 1 0
+pub once : (xs : List DepartureRow) (t r : ℕ) → Ascends departure_row_cmp xs → tally (is_this_row t r) xs ≡ cond (list_any (is_this_row t r) xs) 1 0
 once [] t r up = refl
-once (x ∷ xs) t r up = elim (cases_Bool (is_row t r x)) [
+once (x ∷ xs) t r up = elim (cases_Bool (is_this_row t r x)) [
   | inl is ↦
       let above = pairs-head (λ a b. departure_row_cmp a b ≡ Less) x xs up in
-      let none : tally (is_row t r) xs ≡ 0 = tally-none (is_row t r) xs (λ k d within. not_again x (get_or xs k d) (above k d within) t r is) in
+      let none : tally (is_this_row t r) xs ≡ 0 = tally-none (is_this_row t r) xs (λ k d within. not_again x (get_or xs k d) (above k d within) t r is) in
       rw (is, none) refl
-  | inr isnt ↦ rw isnt (ap (λ n. 0 + n) (once xs t r (pairs-tail (λ a b. departure_row_cmp a b ≡ Less) x xs up)) ∙ nothing (cond (list_any (is_row t r) xs) 1 0))
+  | inr isnt ↦ rw isnt (ap (λ n. 0 + n) (once xs t r (pairs-tail (λ a b. departure_row_cmp a b ≡ Less) x xs up)) ∙ nothing (cond (list_any (is_this_row t r) xs) 1 0))
 ]
   where
     nothing : (n : ℕ) → 0 + n ≡ n
@@ -150,16 +150,16 @@ once (x ∷ xs) t r up = elim (cases_Bool (is_row t r x)) [
 
 -- how often the index has a stop time at a stop
 pub told_at : (choice : Times) (p : Parts) → IsSoundParts p → (index : List (List DepartureRow)) → AreDepartureRows choice p index → (s t r : ℕ) (xs : List DepartureRow) → s < length p.stops
-    → slice_get index s ≡ Some xs → tally (is_row t r) xs ≡ cond (departs_of (timed_parts choice p) s t r) 1 0
+    → slice_get index s ≡ Some xs → tally (is_this_row t r) xs ≡ cond (departs_of (timed_parts choice p) s t r) 1 0
 told_at choice p sound index are s t r xs within at =
     let q = timed_parts choice p in
     let id = text_of_number (stop_ids p) s in
     let there = slice_get_within index s xs at in
     let known : nat_lt s (length p.stops) ≡ true = lt-ltb s (length p.stops) within in
     once xs t r (subst (Ascends departure_row_cmp) (get_or_from_slice_get index s xs xs at) (are.in_order s xs there))
-    ∙ ap (λ l. cond (list_any (is_row t r) l) 1 0) (sym (get_or_from_slice_get index s xs [] at))
+    ∙ ap (λ l. cond (list_any (is_this_row t r) l) 1 0) (sym (get_or_from_slice_get index s xs [] at))
     ∙ ap (λ b. cond b 1 0)
-    (are.all s t r within ∙ ap (λ c. departs_at c id t r) (sym (content-timed choice p sound)) ∙ ap (λ b. b && departs_at (content_of_parts q) id t r) (sym known))
+    (are.all s t r within ∙ ap (λ c. has_departure_row c id t r) (sym (content-timed choice p sound)) ∙ ap (λ b. b && has_departure_row (content_of_parts q) id t r) (sym known))
 
 -- those of each child
 pub children_more : {X Y : Type 0} (f : Y → Bool) (q : X → Bool) (a k : ℕ) (y : Y) (old new xs : List X) (ys : List Y) → k < length ys → y ≡ get_or ys k y
@@ -242,19 +242,19 @@ module _ (p : Parts) (sound : IsSoundParts p) (s : ℕ) (within : s < length p.s
       refuted false never = refl
 
 -- all of them, in order
-pub rows-in-order : (p : Parts) (s : ℕ) (rows : List DepartureRow) → ((t r : ℕ) → tally (is_row t r) rows ≡ cond (departs_in_place p s t r) 1 0) → Ascends departure_row_cmp rows
+pub rows-in-order : (p : Parts) (s : ℕ) (rows : List DepartureRow) → ((t r : ℕ) → tally (is_this_row t r) rows ≡ cond (departs_in_place p s t r) 1 0) → Ascends departure_row_cmp rows
     → ArePlaceRows p s 0 rows
 rows-in-order p s rows told up = record {
   in_order = up;
-  all = λ t r. any-tally (is_row t r) rows (departs_in_place p s t r) (told t r) ∙ ap (λ b. b && departs_in_place p s t r) (sym (le-leb 0 t (omega arith)));
+  all = λ t r. any-tally (is_this_row t r) rows (departs_in_place p s t r) (told t r) ∙ ap (λ b. b && departs_in_place p s t r) (sym (le-leb 0 t (omega arith)));
 }
 
 -- and sorted
-pub are-place-rows : (p : Parts) (s : ℕ) (found sorted : List DepartureRow) → ((t r : ℕ) → tally (is_row t r) found ≡ cond (departs_in_place p s t r) 1 0)
+pub are-place-rows : (p : Parts) (s : ℕ) (found sorted : List DepartureRow) → ((t r : ℕ) → tally (is_this_row t r) found ≡ cond (departs_in_place p s t r) 1 0)
     → IsPermutation found sorted → IsSorted departure_row_cmp sorted → ArePlaceRows p s 0 sorted
 are-place-rows p s found sorted told same up =
-    let every : (t r : ℕ) → tally (is_row t r) sorted ≡ cond (departs_in_place p s t r) 1 0 = λ t r. tally-permutation (is_row t r) found sorted same ∙ told t r in
-    rows-in-order p s sorted every (rows_ascend sorted up (λ t r. most (departs_in_place p s t r) (tally (is_row t r) sorted) (every t r)))
+    let every : (t r : ℕ) → tally (is_this_row t r) sorted ≡ cond (departs_in_place p s t r) 1 0 = λ t r. tally-permutation (is_this_row t r) found sorted same ∙ told t r in
+    rows-in-order p s sorted every (rows_ascend sorted up (λ t r. most (departs_in_place p s t r) (tally (is_this_row t r) sorted) (every t r)))
   where
     most : (b : Bool) (n : ℕ) → n ≡ cond b 1 0 → n ≤ 1
     most true n is = omega (arith, is)
@@ -316,7 +316,7 @@ first_counted n [] t is some = absurd (omega arith)
 first_counted n (x ∷ xs) t is some = let here : (x.trip == t) ≡ true = ap (λ k. k == t) is ∙ itself t in rw here (omega arith)
 
 -- of a trip's number and a later one
-pub other_row : (t v r : ℕ) (x : DepartureRow) → (v == t) ≡ false → (is_row v r x && not (x.trip == t)) ≡ is_row v r x
+pub other_row : (t v r : ℕ) (x : DepartureRow) → (v == t) ≡ false → (is_this_row v r x && not (x.trip == t)) ≡ is_this_row v r x
 other_row t v r x other = elim (cases_Bool (v == x.trip)) [
   | inr apart ↦ rw apart refl
   | inl same ↦
@@ -328,7 +328,7 @@ other_row t v r x other = elim (cases_Bool (v == x.trip)) [
     alone true = refl
     alone false = refl
 
-pub own_row : (t r : ℕ) (x : DepartureRow) → (is_row t r x && (x.trip == t)) ≡ is_row t r x
+pub own_row : (t r : ℕ) (x : DepartureRow) → (is_this_row t r x && (x.trip == t)) ≡ is_this_row t r x
 own_row t r x = elim (cases_Bool (t == x.trip)) [
   | inr apart ↦ rw apart refl
   | inl same ↦
@@ -340,12 +340,12 @@ own_row t r x = elim (cases_Bool (t == x.trip)) [
     alone true = refl
     alone false = refl
 
-pub none_left : (t r : ℕ) (x : DepartureRow) → (is_row t r x && not (x.trip == t)) ≡ false
+pub none_left : (t r : ℕ) (x : DepartureRow) → (is_this_row t r x && not (x.trip == t)) ≡ false
 none_left t r x = elim (cases_Bool (t == x.trip)) [
   | inr apart ↦ rw apart refl
   | inl same ↦
       let is_t : (x.trip == t) ≡ true = ap (λ n. n == t) (sym (eqb-true t x.trip same)) ∙ itself t in
-      rw is_t (never (is_row t r x))
+      rw is_t (never (is_this_row t r x))
 ]
   where
     never : (b : Bool) → (b && false) ≡ false
@@ -356,7 +356,7 @@ module _ (p : Parts) (s t n : ℕ) (xs : List DepartureRow) (are : ArePlaceRows 
   low : All (λ x. t ≤ x.trip) xs
   low k d within =
       let x = get_or xs k d in
-      let there = any_at (is_row x.trip x.row) xs k d within (row_itself x) in
+      let there = any_at (is_this_row x.trip x.row) xs k d within (row_itself x) in
       leb-true t x.trip (and_parts (nat_le t x.trip) (departs_in_place p s x.trip x.row) (sym (are.all x.trip x.row) ∙ there)).0
     where
       any_at : (q : DepartureRow → Bool) (ys : List DepartureRow) (j : ℕ) (e : DepartureRow) → j < length ys → q (get_or ys j e) ≡ true → list_any q ys ≡ true
@@ -384,24 +384,24 @@ module _ (p : Parts) (s t n : ℕ) (xs : List DepartureRow) (are : ArePlaceRows 
         | inr isnt ↦ rw isnt (kept_pass ys)
       ]
 
-  pub own_all : (r : ℕ) → list_any (is_row t r) (take n xs) ≡ departs_in_place p s t r
+  pub own_all : (r : ℕ) → list_any (is_this_row t r) (take n xs) ≡ departs_in_place p s t r
   own_all r =
-      ap (list_any (is_row t r)) cut.0 ∙ any_kept (is_row t r) (λ x. x.trip == t) xs ∙ any_alike (λ x. is_row t r x && (x.trip == t)) (is_row t r) xs (own_row t r)
+      ap (list_any (is_this_row t r)) cut.0 ∙ any_kept (is_this_row t r) (λ x. x.trip == t) xs ∙ any_alike (λ x. is_this_row t r x && (x.trip == t)) (is_this_row t r) xs (own_row t r)
       ∙ are.all t r ∙ ap (λ b. b && departs_in_place p s t r) (le-leb t t (omega arith))
 
   pub left_rows : ArePlaceRows p s (t + 1) (drop n xs)
   left_rows = record {
     in_order = subst (Ascends departure_row_cmp) (sym cut.1) (AllPairs-filter (λ x y. departure_row_cmp x y ≡ Less) (λ x. not (x.trip == t)) xs are.in_order);
     all = λ v r.
-        ap (list_any (is_row v r)) cut.1 ∙ any_kept (is_row v r) (λ x. not (x.trip == t)) xs
+        ap (list_any (is_this_row v r)) cut.1 ∙ any_kept (is_this_row v r) (λ x. not (x.trip == t)) xs
         ∙ elim (cases_Bool (v == t)) [
           | inl same ↦
               let here : v ≡ t = eqb-true v t same in
               let past : nat_le (t + 1) v ≡ false = grind (arith, nat_tests) in
-              any_silent (λ x. is_row v r x && not (x.trip == t)) xs (subst (λ n. (x : DepartureRow) → (is_row n r x && not (x.trip == t)) ≡ false) (sym here) (none_left t r))
+              any_silent (λ x. is_this_row v r x && not (x.trip == t)) xs (subst (λ n. (x : DepartureRow) → (is_this_row n r x && not (x.trip == t)) ≡ false) (sym here) (none_left t r))
               ∙ ap (λ b. b && departs_in_place p s v r) (sym past)
           | inr other ↦
               let later : nat_le t v ≡ nat_le (t + 1) v = grind (arith, nat_tests) in
-              any_alike (λ x. is_row v r x && not (x.trip == t)) (is_row v r) xs (λ x. other_row t v r x other) ∙ are.all v r ∙ ap (λ b. b && departs_in_place p s v r) later
+              any_alike (λ x. is_this_row v r x && not (x.trip == t)) (is_this_row v r) xs (λ x. other_row t v r x other) ∙ are.all v r ∙ ap (λ b. b && departs_in_place p s v r) later
         ];
   }

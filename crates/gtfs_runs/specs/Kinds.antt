@@ -16,8 +16,8 @@ use Rattle.gtfs_runs.specs.StopLanes.{LaneValue, StopLanesValue}
 use Rattle.gtfs_runs.specs.declared.event.Event.{Event}
 
 -- the event is of a trip without rows of frequencies.txt
-abbrev pub is_listed : Content → Event → Bool
-is_listed c e = if_there (slice_get c.trips e.trip.0) (λ t. not (has_periods t))
+abbrev pub is_of_list : Content → Event → Bool
+is_of_list c e = if_there (slice_get c.trips e.trip.0) (λ t. not (has_periods t))
 
 -- the stops of its trip's rows, the position of its row, and the service
 abbrev pub course_at : Content → Event → Option Course
@@ -25,7 +25,7 @@ course_at c e = option_map (λ t. (stops_of t, e.row, t.service_id)) (slice_get 
 
 -- a lane for one course of trips without rows of frequencies.txt
 pub record IsListLane (c : Content) (lane : LaneValue) : Type 0 where
-  pub listed : All (λ e. is_listed c e ≡ true) lane.events
+  pub listed : All (λ e. is_of_list c e ≡ true) lane.events
   pub alike : AllPairs (λ x y. course_at c x ≡ course_at c y) lane.events
 
 -- a lane for one row of frequencies.txt at one stop time of its trip: an event for each run of the row, and no other

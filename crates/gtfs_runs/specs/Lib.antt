@@ -9,3 +9,4 @@ pub mod Kinds
 pub mod steps
 pub mod FlatEvents
 pub mod StopIndex
+pub mod Words

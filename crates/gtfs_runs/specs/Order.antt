@@ -29,12 +29,12 @@ moment_cmp = then_cmp (on (λ s. s.at) int_cmp)
     (on (λ s. s.seq) int_cmp)))
 
 -- the position of an event
-abbrev pub moment_of : Event → Moment
-moment_of e = record { at = pos e.at; trip = e.trip; run = e.run; seq = pos e.seq }
+abbrev pub moment_of_event : Event → Moment
+moment_of_event e = record { at = pos e.at; trip = e.trip; run = e.run; seq = pos e.seq }
 
 -- the event lies above the moment
-abbrev pub is_above : Moment → Event → Bool
-is_above s e = is_lt (moment_cmp s (moment_of e))
+abbrev pub is_above_moment : Moment → Event → Bool
+is_above_moment s e = is_lt (moment_cmp s (moment_of_event e))
 
 -- an event of one of the trips
 abbrev pub IsOfTrips : Parts → Event → Type 0

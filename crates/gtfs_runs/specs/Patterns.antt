@@ -33,19 +33,19 @@ entry_value t = record { heading = record { direction = t.direction; stops = t.s
 
 -- ---- the trips of a route
 
-abbrev pub rows_of : Parts → ℕ → List StopRow
-rows_of p n = unwrap_or (slice_get (parts p.stop_row_starts p.stop_rows) n) []
+abbrev pub rows_of_number : Parts → ℕ → List StopRow
+rows_of_number p n = unwrap_or (slice_get (parts p.stop_row_starts p.stop_rows) n) []
 
 -- the trip of this number is one of the route, and has a stop row
 abbrev pub is_of_route : Parts → ℕ → ℕ → Bool
-is_of_route p route n = if_there (slice_get p.trips n) (λ t. t.route_id.0 == route) && not (length (rows_of p n) == 0)
+is_of_route p route n = if_there (slice_get p.trips n) (λ t. t.route_id.0 == route) && not (length (rows_of_number p n) == 0)
 
-abbrev pub direction_of : Parts → ℕ → Option ℕ
-direction_of p n = option_and_then (λ t. option_map direction_code t.direction_id) (slice_get p.trips n)
+abbrev pub direction_of_trip : Parts → ℕ → Option ℕ
+direction_of_trip p n = option_and_then (λ t. option_map direction_code t.direction_id) (slice_get p.trips n)
 
 abbrev pub entry_of : Parts → ℕ → Entry
 entry_of p n = record {
-  heading = record { direction = direction_of p n; stops = map (λ row. row.stop_id) (rows_of p n) };
+  heading = record { direction = direction_of_trip p n; stops = map (λ row. row.stop_id) (rows_of_number p n) };
   trip = record { 0 = n };
 }
 
@@ -72,22 +72,22 @@ heading_of x = record { direction = x.direction; stops = x.stops }
 abbrev pub entries_under : Pattern → List Entry
 entries_under x = map (λ t. record { heading = heading_of x; trip = t }) x.trips
 
-abbrev pub is_filled : Pattern → Bool
-is_filled x = not (length x.trips == 0)
+abbrev pub has_a_trip : Pattern → Bool
+has_a_trip x = not (length x.trips == 0)
 
 abbrev pub is_same_heading : Heading → Heading → Bool
 is_same_heading x y = option_eq (λ a b. a == b) x.direction y.direction && pointwise (λ s t. s.0 == t.0) x.stops y.stops
 
 -- no heading is the next one's
-abbrev pub are_apart : List Heading → Bool
-are_apart [] = true
-are_apart (x ∷ []) = true
-are_apart (x ∷ y ∷ xs) = not (is_same_heading x y) && are_apart (y ∷ xs)
+abbrev pub headings_change : List Heading → Bool
+headings_change [] = true
+headings_change (x ∷ []) = true
+headings_change (x ∷ y ∷ xs) = not (is_same_heading x y) && headings_change (y ∷ xs)
 
 -- each pattern has a trip, and neighbours have different headings
 pub record AreGroups (xs : List Pattern) : Type 0 where
-  pub filled : list_all is_filled xs ≡ true
-  pub apart : are_apart (map heading_of xs) ≡ true
+  pub filled : list_all has_a_trip xs ≡ true
+  pub apart : headings_change (map heading_of xs) ≡ true
 
 -- the patterns of a route: each of its trips that has a stop row stands once, under its heading, and all in order
 pub record ArePatterns (p : Parts) (route : ℕ) (xs : List Pattern) : Type 0 where

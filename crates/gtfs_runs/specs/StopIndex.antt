@@ -15,8 +15,8 @@ use Rattle.gtfs_times.specs.declared.times.Times.{Times}
 use Rattle.gtfs_runs.specs.declared.stop_index.DepartureRow.{DepartureRow}
 
 -- the stop time of a trip at a position, both from 0, is a departure row at the stop
-abbrev pub departs_at : Content → List ℕ → ℕ → ℕ → Bool
-departs_at c s trip row =
+abbrev pub has_departure_row : Content → List ℕ → ℕ → ℕ → Bool
+has_departure_row c s trip row =
     if_there (slice_get c.trips trip) (λ t. if_there (slice_get t.stop_rows row) (λ r. is_departure_row t r && bytes_eq r.stop_id s))
 
 -- by trip, and in each trip by position
@@ -24,8 +24,8 @@ abbrev pub departure_row_cmp : DepartureRow → DepartureRow → Ordering
 departure_row_cmp = then_cmp (on (λ x. x.trip) nat_cmp) (on (λ x. x.row) nat_cmp)
 
 -- that of this trip at this position
-abbrev pub is_row : ℕ → ℕ → DepartureRow → Bool
-is_row trip row x = (trip == x.trip) && (row == x.row)
+abbrev pub is_this_row : ℕ → ℕ → DepartureRow → Bool
+is_this_row trip row x = (trip == x.trip) && (row == x.row)
 
 -- what contracts see of an index: of which feed it is, under which times, and the departure rows at each stop, by its number
 pub record StopIndexValue : Type 0 where
@@ -38,4 +38,4 @@ pub record AreDepartureRows (times : Times) (p : Parts) (index : List (List Depa
   pub counted : length index ≡ length p.stops
   pub in_order : All (Ascends departure_row_cmp) index
   pub all : (s trip row : ℕ) → s < length p.stops
-      → list_any (is_row trip row) (slice_index_or index s []) ≡ departs_at (timed times (content_of_parts p)) (text_of_number (stop_ids p) s) trip row
+      → list_any (is_this_row trip row) (slice_index_or index s []) ≡ has_departure_row (timed times (content_of_parts p)) (text_of_number (stop_ids p) s) trip row

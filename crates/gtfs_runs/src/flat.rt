@@ -1,7 +1,6 @@
 ghost use Rattle.std.specs.Prelude.{◌≡◌, ◌≤◌, ◌<◌, ◌+◌, ◌++◌, ◌&&◌, ◌==◌, ℕ, List, All, AllPairs, IfOk, OnOk, Some, cond, length, map, slice_get, slice_index_or, unwrap_or};
-ghost use Rattle.gtfs_feed.specs.Content.{content_of};
 ghost use Rattle.gtfs_rows.specs.Trips.{ArePeriods, left_at, stop_rows_by_trip};
-ghost use Rattle.gtfs_rows.specs.Views.{frequency_of, stop_ids, stop_row_of, text_of_number, trip_of};
+ghost use Rattle.gtfs_rows.specs.Views.{content_of_parts, frequency_of, stop_ids, stop_row_of, text_of_number, trip_of};
 ghost use Rattle.gtfs_rows.specs.declared.frequency.Frequency.{Frequency as FrequencyRow};
 ghost use Rattle.gtfs_rows.specs.declared.parts.Parts.{Parts};
 ghost use Rattle.gtfs_stop_times.specs.declared.stop_row.StopRow.{StopRow as StopTime};
@@ -80,7 +79,7 @@ fn push_trip(
     requires trip { trip.0 < length feed.now.trips }
     requires place { length place.now ≡ length feed.now.stops }
     ensures { OnOk result ((s service : ℕ) (e : EventValue)
-        → place.now ≡ members (content_of feed.now) (text_of_number (stop_ids feed.now) s)
+        → place.now ≡ members (content_of_parts feed.now) (text_of_number (stop_ids feed.now) s)
         → tally (is_served service e) events.new.items
         ≡ tally (is_served service e) events.old.items
         + cond ((e.trip.0 == trip.0) && is_event_of (timed_parts times feed.now) s service e) 1 0) }
@@ -105,7 +104,7 @@ fn push_rows(
     requires trip { trip.0 < length feed.now.trips }
     requires times { AreTripTimes (length place.now) rows.now }
     ensures { OnOk result ((times : TimesValue) (s service : ℕ) (e : EventValue)
-        → place.now ≡ members (content_of feed.now) (text_of_number (stop_ids feed.now) s)
+        → place.now ≡ members (content_of_parts feed.now) (text_of_number (stop_ids feed.now) s)
         → slice_get (stop_rows_by_trip (timed_parts times feed.now)) trip.0 ≡ Some rows.now
         → tally (is_served service e) events.new.items
         ≡ tally (is_served service e) events.old.items
@@ -132,7 +131,7 @@ fn push_row(
     requires times { AreTripTimes (length place.now) rows.now }
     requires within { position < length rows.now }
     ensures { OnOk result ((times : TimesValue) (s service : ℕ) (e : EventValue)
-        → place.now ≡ members (content_of feed.now) (text_of_number (stop_ids feed.now) s)
+        → place.now ≡ members (content_of_parts feed.now) (text_of_number (stop_ids feed.now) s)
         → slice_get (stop_rows_by_trip (timed_parts times feed.now)) trip.0 ≡ Some rows.now
         → tally (is_served service e) events.new.items
         ≡ tally (is_served service e) events.old.items

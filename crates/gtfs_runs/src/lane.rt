@@ -1,7 +1,7 @@
 ghost use Rattle.std.specs.Prelude.{◌≡◌, ◌+◌, ◌-◌, ◌^◌, ℕ, All, List, min};
 ghost use Rattle.std.specs.List.{find};
 ghost use Rattle.gtfs_rows.specs.Order.{Ascends};
-ghost use Rattle.gtfs_runs.specs.Order.{IsOfTrips, event_cmp, is_above, is_above_seek, is_later};
+ghost use Rattle.gtfs_runs.specs.Order.{IsOfTrips, event_cmp, is_above_moment, is_above_seek, is_later};
 
 use crate::event::Event;
 use crate::moment::Moment;
@@ -28,7 +28,7 @@ pub trait Lane {
 
     /// The least event above a moment, and None exactly where there is none. It is one step.
     fn first_above(&self, feed: &Feed, moment: &Moment, steps: &mut Steps) -> Option<Event>
-        ensures first { result ≡ find (is_above moment.now) (events self.now) }
+        ensures first { result ≡ find (is_above_moment moment.now) (events self.now) }
         ensures counted { steps.new ≡ min (steps.old + 1) (2 ^ 64 - 1) };
 
     /// The least event above a seek, and None exactly where there is none. It is one step.

@@ -1,5 +1,5 @@
 ghost use Rattle.std.specs.Prelude.{◌≡◌};
-ghost use Rattle.gtfs_runs.specs.Order.{is_above};
+ghost use Rattle.gtfs_runs.specs.Order.{is_above_moment};
 
 use crate::event::Event;
 use gtfs_rows::TripNo;
@@ -23,7 +23,7 @@ pub struct Moment {
 impl Moment {
     /// Whether the event lies above.
     pub fn is_below(&self, event: &Event) -> bool
-        ensures { result ≡ is_above self.now event.now }
+        ensures { result ≡ is_above_moment self.now event.now }
     {
         self.at
             .cmp(&i64::from(event.at))

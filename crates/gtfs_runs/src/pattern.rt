@@ -2,7 +2,7 @@ ghost use Rattle.std.specs.Prelude.{◌≡◌, ◌<◌, ◌++◌, ◌∷◌, [],
 ghost use Rattle.std.specs.List.{flat_map};
 ghost use Rattle.std.specs.List.Sorted.{IsPermutation, IsSorted};
 ghost use Rattle.gtfs_rows.specs.Choices.{direction_code};
-ghost use Rattle.gtfs_runs.specs.Patterns.{ArePatterns, AreGroups, entries_of, entries_under, entry_of, entry_cmp, is_of_route, entry_value, heading_of, is_same_heading, is_filled};
+ghost use Rattle.gtfs_runs.specs.Patterns.{ArePatterns, AreGroups, entries_of, entries_under, entry_of, entry_cmp, is_of_route, entry_value, heading_of, is_same_heading, has_a_trip};
 
 use gtfs_feed::Feed;
 use gtfs_field::{List, OutOfMemory};
@@ -173,7 +173,7 @@ fn with_trip(pattern: Pattern, trip: TripNo) -> Result<Pattern, OutOfMemory>
 fn first_of(alloc: Global, trip: Headed) -> Result<Pattern, OutOfMemory>
     ensures told { IfOk result (λ x. entries_under x ≡ entry_value trip ∷ []) }
     ensures heading { IfOk result (λ x. heading_of x ≡ (entry_value trip).heading) }
-    ensures filled { IfOk result (λ x. is_filled x ≡ true) }
+    ensures filled { IfOk result (λ x. has_a_trip x ≡ true) }
 {
     let mut trips = Vec::new(alloc);
     trips.push(trip.trip)?;

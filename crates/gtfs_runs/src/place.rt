@@ -1,7 +1,6 @@
 ghost use Rattle.std.specs.Prelude.{◌≡◌, ◌==◌, ◌<◌, IfOk, false, length, option_map, slice_index_or};
 ghost use Rattle.gtfs_columns.specs.Values.{if_there};
-ghost use Rattle.gtfs_feed.specs.Content.{content_of};
-ghost use Rattle.gtfs_rows.specs.Views.{stop_ids, text_of_number};
+ghost use Rattle.gtfs_rows.specs.Views.{content_of_parts, stop_ids, text_of_number};
 ghost use Rattle.gtfs_rows.specs.Places.{is_in_place, members};
 
 use gtfs_feed::Feed;
@@ -32,7 +31,7 @@ impl Place {
     pub(crate) fn of_stop(alloc: Global, feed: &Feed, stop: StopNo) -> Result<Place, OutOfMemory>
         requires { stop.0 < length feed.now.stops }
         ensures { IfOk result (λ place. place
-            ≡ members (content_of feed.now) (text_of_number (stop_ids feed.now) stop.0)) }
+            ≡ members (content_of_parts feed.now) (text_of_number (stop_ids feed.now) stop.0)) }
     {
         let mut members = Vec::with_capacity(alloc, feed.stop_count())?;
         for number in 0..feed.stop_count() {
@@ -54,7 +53,7 @@ impl Place {
 fn is_in_place(feed: &Feed, place: StopNo, stop: StopNo) -> bool
     requires place { place.0 < length feed.now.stops }
     requires stop { stop.0 < length feed.now.stops }
-    ensures { result ≡ is_in_place (content_of feed.now)
+    ensures { result ≡ is_in_place (content_of_parts feed.now)
         (text_of_number (stop_ids feed.now) place.0) (text_of_number (stop_ids feed.now) stop.0) }
 {
     feed.soundness();

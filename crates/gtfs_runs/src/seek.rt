@@ -1,5 +1,5 @@
 ghost use Rattle.std.specs.Prelude.{◌≡◌, ◌<◌, length};
-ghost use Rattle.gtfs_runs.specs.Order.{is_above, is_above_seek};
+ghost use Rattle.gtfs_runs.specs.Order.{is_above_moment, is_above_seek};
 ghost use Rattle.gtfs_runs.specs.declared.event.Event.{Event};
 
 use crate::moment::Moment;
@@ -27,7 +27,7 @@ impl Seek<'_> {
     /// The same position with the trip's number: the same events of a feed's trips lie above it.
     pub fn moment(&self, feed: &Feed) -> Moment
         ensures { (e : Event) → e.trip.0 < length feed.now.trips
-            → is_above result e ≡ is_above_seek feed.now self.now e }
+            → is_above_moment result e ≡ is_above_seek feed.now self.now e }
     {
         feed.soundness();
         match feed.trip(self.trip) {

@@ -1,6 +1,5 @@
 ghost use Rattle.std.specs.Prelude.{◌≡◌, ◌<◌, IfOk, length, map};
-ghost use Rattle.gtfs_feed.specs.Content.{content_of};
-ghost use Rattle.gtfs_rows.specs.Views.{service_ids, stop_ids, text_of_number};
+ghost use Rattle.gtfs_rows.specs.Views.{content_of_parts, service_ids, stop_ids, text_of_number};
 ghost use Rattle.gtfs_runs.specs.Kinds.{AreByKind};
 ghost use Rattle.gtfs_runs.specs.Lanes.{latest};
 ghost use Rattle.gtfs_runs.specs.StopLanes.{AreLanesOf, filled_value, lanes_of, list_value, period_value};
@@ -82,12 +81,12 @@ impl StopLanes {
         times: Times,
     ) -> Result<(StopLanes, Steps), OutOfMemory>
         requires { stop.0 < length feed.now.stops }
-        ensures lanes { IfOk result (λ built. AreLanesOf (timed times (content_of feed.now))
+        ensures lanes { IfOk result (λ built. AreLanesOf (timed times (content_of_parts feed.now))
             (text_of_number (stop_ids feed.now) stop.0) (service_ids feed.now) (lanes_of built.0)) }
-        ensures kinds { IfOk result (λ built. AreByKind times (content_of feed.now)
+        ensures kinds { IfOk result (λ built. AreByKind times (content_of_parts feed.now)
             (text_of_number (stop_ids feed.now) stop.0) built.0) }
         ensures greatest { IfOk result (λ built. built.0.greatest
-            ≡ latest (timed times (content_of feed.now))
+            ≡ latest (timed times (content_of_parts feed.now))
             (text_of_number (stop_ids feed.now) stop.0)) }
         ensures steps { IfOk result (λ built. built.1 ≡ 0) }
     {
@@ -112,14 +111,14 @@ impl StopLanes {
     ) -> Result<(StopLanes, Steps), OutOfMemory>
         requires { stop.0 < length index.now.feed.stops }
         ensures lanes { IfOk result (λ built.
-            AreLanesOf (timed index.now.times (content_of index.now.feed))
+            AreLanesOf (timed index.now.times (content_of_parts index.now.feed))
             (text_of_number (stop_ids index.now.feed) stop.0) (service_ids index.now.feed)
             (lanes_of built.0)) }
         ensures kinds { IfOk result (λ built.
-            AreByKind index.now.times (content_of index.now.feed)
+            AreByKind index.now.times (content_of_parts index.now.feed)
             (text_of_number (stop_ids index.now.feed) stop.0) built.0) }
         ensures greatest { IfOk result (λ built. built.0.greatest
-            ≡ latest (timed index.now.times (content_of index.now.feed))
+            ≡ latest (timed index.now.times (content_of_parts index.now.feed))
             (text_of_number (stop_ids index.now.feed) stop.0)) }
         ensures steps { IfOk result (λ built. built.1 ≡ 0) }
     {
@@ -136,15 +135,15 @@ impl StopLanes {
         lists: Vec<ListLane>,
         periods: Vec<StepLane>,
     ) -> Result<(StopLanes, Steps), OutOfMemory>
-        requires { AreWhole (timed times (content_of feed.now))
+        requires { AreWhole (timed times (content_of_parts feed.now))
             (text_of_number (stop_ids feed.now) stop.0) (service_ids feed.now)
             (map list_value lists.items) (map period_value periods.items) }
-        ensures lanes { IfOk result (λ built. AreLanesOf (timed times (content_of feed.now))
+        ensures lanes { IfOk result (λ built. AreLanesOf (timed times (content_of_parts feed.now))
             (text_of_number (stop_ids feed.now) stop.0) (service_ids feed.now) (lanes_of built.0)) }
-        ensures kinds { IfOk result (λ built. AreByKind times (content_of feed.now)
+        ensures kinds { IfOk result (λ built. AreByKind times (content_of_parts feed.now)
             (text_of_number (stop_ids feed.now) stop.0) built.0) }
         ensures greatest { IfOk result (λ built. built.0.greatest
-            ≡ latest (timed times (content_of feed.now))
+            ≡ latest (timed times (content_of_parts feed.now))
             (text_of_number (stop_ids feed.now) stop.0)) }
         ensures steps { IfOk result (λ built. built.1 ≡ 0) }
     {

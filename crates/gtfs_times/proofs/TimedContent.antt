@@ -13,7 +13,7 @@ use Rattle.gtfs_rows.specs.declared.frequency.Frequency.{Frequency}
 use Rattle.gtfs_rows.specs.declared.parts.Parts.{Parts}
 use Rattle.gtfs_stop_times.specs.declared.stop_row.StopRow.{StopRow}
 use Rattle.gtfs_rows.specs.declared.trip.Trip.{Trip}
-use Rattle.gtfs_times.specs.Filling.{filled_row, filled_rows, timed, timed_rows, timed_trip}
+use Rattle.gtfs_times.specs.Filling.{filled_row, filled_rows, timed, timed_stop_rows, timed_trip}
 use Rattle.gtfs_times.specs.TimedRows.{filled_stop_time, filled_stop_times, timed_stop_times, timed_parts}
 use Rattle.gtfs_times.specs.declared.times.Times.{Times}
 use Rattle.gtfs_times.specs.declared.times.Times.TheVariants as times
@@ -37,7 +37,7 @@ module _ (p : Parts) where
       ∙ sym (map-map (filled_row (map (stop_row_of p) rows)) (placed_by (stop_row_of p)) all)
       ∙ ap (map (filled_row (map (stop_row_of p) rows))) (sym (enumerate-map (stop_row_of p) 0 rows))
 
-  pub rows-stand : (choice : Times) (rows : List StopRow) → map (stop_row_of p) (timed_stop_times choice rows) ≡ timed_rows choice (map (stop_row_of p) rows)
+  pub rows-stand : (choice : Times) (rows : List StopRow) → map (stop_row_of p) (timed_stop_times choice rows) ≡ timed_stop_rows choice (map (stop_row_of p) rows)
   rows-stand times.Given rows = refl
   rows-stand times.Interpolated rows = filled-stand rows
 

@@ -1,7 +1,7 @@
 -- What the definitions say of the times of small trips.
 use Rattle.std.proofs.Common.{◌≡◌, ◌∷◌, [], codes, refl, ℕ, List, Option, Some, None, map}
 use Rattle.gtfs_rows.specs.Rows.{StopRow}
-use Rattle.gtfs_times.specs.Filling.{filled_rows, timed_rows}
+use Rattle.gtfs_times.specs.Filling.{filled_rows, timed_stop_rows}
 use Rattle.gtfs_rows.specs.Sound.{comes, leaves}
 use Rattle.gtfs_times.specs.declared.times.Times.TheVariants as times
 
@@ -28,7 +28,7 @@ thirds = refl
 reached-then : map comes (filled_rows two_between) ≡ Some 28800 ∷ Some 29000 ∷ Some 29200 ∷ Some 29401 ∷ []
 reached-then = refl
 
-given : map leaves (timed_rows times.Given two_between) ≡ Some 28800 ∷ None ∷ None ∷ Some 29401 ∷ []
+given : map leaves (timed_stop_rows times.Given two_between) ≡ Some 28800 ∷ None ∷ None ∷ Some 29401 ∷ []
 given = refl
 
 -- from when the row before is left until the row after is reached; one of their times is enough, and none is passed over

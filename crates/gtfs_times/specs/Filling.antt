@@ -52,12 +52,12 @@ filled_rows rows = map (filled_row rows) (enumerate_from 0 rows)
 
 -- ---- a content with its times as given, or filled
 
-abbrev pub timed_rows : Times → List StopRow → List StopRow
-timed_rows times.Given rows = rows
-timed_rows times.Interpolated rows = filled_rows rows
+abbrev pub timed_stop_rows : Times → List StopRow → List StopRow
+timed_stop_rows times.Given rows = rows
+timed_stop_rows times.Interpolated rows = filled_rows rows
 
 abbrev pub timed_trip : Times → Trip → Trip
-timed_trip times t = record t { stop_rows = timed_rows times t.stop_rows }
+timed_trip times t = record t { stop_rows = timed_stop_rows times t.stop_rows }
 
 abbrev pub timed : Times → Content → Content
 timed times f = record f { trips = map (timed_trip times) f.trips }

@@ -98,11 +98,11 @@ abbrev pub is_flagged : Text → List Row → Bool
 is_flagged id given = is_from_words (option_and_then (λ r. r.source) (find (λ r. bytes_eq r.id id) given))
 
 -- this is the text that was given for the folder
-abbrev pub IsCheckOf : List Row → Text → Type 0
-IsCheckOf given dir = first_of (codes "DIR") given ≡ Some dir
+abbrev pub GivesCheck : List Row → Text → Type 0
+GivesCheck given dir = first_of (codes "DIR") given ≡ Some dir
 
 -- each is the text that was given for it, and None where none was given; the flag is told as it was given
-pub record IsBoardOf (given : List Row) (asked : BoardTexts) : Type 0 where
+pub record GivesBoard (given : List Row) (asked : BoardTexts) : Type 0 where
   pub dir : first_of (codes "DIR") given ≡ Some asked.dir
   pub zone : first_of (codes "zone") given ≡ Some asked.zone
   pub stop : first_of (codes "stop") given ≡ Some asked.stop
@@ -113,14 +113,14 @@ pub record IsBoardOf (given : List Row) (asked : BoardTexts) : Type 0 where
   pub interpolate : is_flagged (codes "interpolate") given ≡ asked.interpolate
 
 -- each is the text that was given for it; the flag is told as it was given
-pub record IsBoardsOf (given : List Row) (asked : BoardsTexts) : Type 0 where
+pub record GivesBoards (given : List Row) (asked : BoardsTexts) : Type 0 where
   pub dir : first_of (codes "DIR") given ≡ Some asked.dir
   pub zone : first_of (codes "zone") given ≡ Some asked.zone
   pub requests : first_of (codes "requests") given ≡ Some asked.requests
   pub interpolate : is_flagged (codes "interpolate") given ≡ asked.interpolate
 
 -- each is the text that was given for it, and None where none was given; the flag is told as it was given
-pub record IsTimetableOf (given : List Row) (asked : TimetableTexts) : Type 0 where
+pub record GivesTimetable (given : List Row) (asked : TimetableTexts) : Type 0 where
   pub dir : first_of (codes "DIR") given ≡ Some asked.dir
   pub route : first_of (codes "route") given ≡ Some asked.route
   pub date : first_of (codes "date") given ≡ Some asked.date
@@ -128,7 +128,7 @@ pub record IsTimetableOf (given : List Row) (asked : TimetableTexts) : Type 0 wh
   pub interpolate : is_flagged (codes "interpolate") given ≡ asked.interpolate
 
 -- each is the text that was given for it, and None where none was given
-pub record IsMergeOf (given : List Row) (asked : MergeTexts) : Type 0 where
+pub record GivesMerge (given : List Row) (asked : MergeTexts) : Type 0 where
   pub a : first_of (codes "A") given ≡ Some asked.a
   pub b : first_of (codes "B") given ≡ Some asked.b
   pub out : first_of (codes "OUT") given ≡ Some asked.out
@@ -140,36 +140,36 @@ pub record IsMergeOf (given : List Row) (asked : MergeTexts) : Type 0 where
 -- a subcommand is named, with what was given for each of its ids: it is the check of this folder
 abbrev pub ForCheck : Option (Text × List Row) → Text → Type 0
 ForCheck None dir = ⊥
-ForCheck (Some found) dir = (found.0 ≡ codes "check") × IsCheckOf found.1 dir
+ForCheck (Some found) dir = (found.0 ≡ codes "check") × GivesCheck found.1 dir
 
 -- it is the board of these texts
 abbrev pub ForBoard : Option (Text × List Row) → BoardTexts → Type 0
 ForBoard None asked = ⊥
-ForBoard (Some found) asked = (found.0 ≡ codes "board") × IsBoardOf found.1 asked
+ForBoard (Some found) asked = (found.0 ≡ codes "board") × GivesBoard found.1 asked
 
 -- it is the boards of these texts
 abbrev pub ForBoards : Option (Text × List Row) → BoardsTexts → Type 0
 ForBoards None asked = ⊥
-ForBoards (Some found) asked = (found.0 ≡ codes "boards") × IsBoardsOf found.1 asked
+ForBoards (Some found) asked = (found.0 ≡ codes "boards") × GivesBoards found.1 asked
 
 -- it is the timetable of these texts
 abbrev pub ForTimetable : Option (Text × List Row) → TimetableTexts → Type 0
 ForTimetable None asked = ⊥
-ForTimetable (Some found) asked = (found.0 ≡ codes "timetable") × IsTimetableOf found.1 asked
+ForTimetable (Some found) asked = (found.0 ≡ codes "timetable") × GivesTimetable found.1 asked
 
 -- it is the merge of these texts
 abbrev pub ForMerge : Option (Text × List Row) → MergeTexts → Type 0
 ForMerge None asked = ⊥
-ForMerge (Some found) asked = (found.0 ≡ codes "merge") × IsMergeOf found.1 asked
+ForMerge (Some found) asked = (found.0 ≡ codes "merge") × GivesMerge found.1 asked
 
 -- it is this command
 abbrev pub IsCommandOf : Option (Text × List Row) → Command → Type 0
 IsCommandOf None command = ⊥
-IsCommandOf (Some found) (Check dir) = (found.0 ≡ codes "check") × IsCheckOf found.1 dir.now
-IsCommandOf (Some found) (Board words) = (found.0 ≡ codes "board") × IsBoardOf found.1 (texts_of words)
-IsCommandOf (Some found) (Boards words) = (found.0 ≡ codes "boards") × IsBoardsOf found.1 (boards_texts_of words)
-IsCommandOf (Some found) (Timetable words) = (found.0 ≡ codes "timetable") × IsTimetableOf found.1 (timetable_texts_of words)
-IsCommandOf (Some found) (Merge words) = (found.0 ≡ codes "merge") × IsMergeOf found.1 (merge_texts_of words)
+IsCommandOf (Some found) (Check dir) = (found.0 ≡ codes "check") × GivesCheck found.1 dir.now
+IsCommandOf (Some found) (Board words) = (found.0 ≡ codes "board") × GivesBoard found.1 (texts_of words)
+IsCommandOf (Some found) (Boards words) = (found.0 ≡ codes "boards") × GivesBoards found.1 (boards_texts_of words)
+IsCommandOf (Some found) (Timetable words) = (found.0 ≡ codes "timetable") × GivesTimetable found.1 (timetable_texts_of words)
+IsCommandOf (Some found) (Merge words) = (found.0 ≡ codes "merge") × GivesMerge found.1 (merge_texts_of words)
 
 -- `clap` takes the words, and they ask for the check of the feed in this folder
 pub record AsksCheckOf (words : List Text) (dir : Text) : Type 0 where

@@ -1,7 +1,7 @@
 //! From the words to the command.
 ghost use Rattle.std.specs.Prelude.{◌≡◌, map, Some, option_map, true, IfOk, IfErr, IfSome, IsSome};
 ghost use Rattle.clap.specs.Words.{first_of, found_of, rows_of, subcommand_of, subcommand_rows_of, takes};
-ghost use Rattle.gtfs_words.specs.Asked.{boards_texts_of, is_flagged, is_from_words, merge_texts_of, texts_of, timetable_texts_of, HasBoard, HasBoards, HasMerge, HasTimetable, IsBoardOf, IsBoardsOf, IsCommandOf, IsMergeOf, IsTimetableOf, IsWhole};
+ghost use Rattle.gtfs_words.specs.Asked.{boards_texts_of, is_flagged, is_from_words, merge_texts_of, texts_of, timetable_texts_of, HasBoard, HasBoards, HasMerge, HasTimetable, GivesBoard, GivesBoards, IsCommandOf, GivesMerge, GivesTimetable, IsWhole};
 ghost use Rattle.gtfs_words.specs.CommandLine.{gtfs_app};
 ghost use Rattle.gtfs_words.specs.Untaken.{no_memory, IsFaultOf};
 
@@ -56,7 +56,7 @@ fn command_named<'w>(name: &str, given: &ArgMatches<'w>) -> Option<Command<'w>>
 }
 
 fn board_words<'w>(given: &ArgMatches<'w>) -> Option<BoardWords<'w>>
-    ensures value { IfSome result (λ words. IsBoardOf (rows_of (found_of given.now))
+    ensures value { IfSome result (λ words. GivesBoard (rows_of (found_of given.now))
         (texts_of words)) }
     ensures given { HasBoard (rows_of (found_of given.now)) → IsSome result }
 {
@@ -73,7 +73,7 @@ fn board_words<'w>(given: &ArgMatches<'w>) -> Option<BoardWords<'w>>
 }
 
 fn boards_words<'w>(given: &ArgMatches<'w>) -> Option<BoardsWords<'w>>
-    ensures value { IfSome result (λ words. IsBoardsOf (rows_of (found_of given.now))
+    ensures value { IfSome result (λ words. GivesBoards (rows_of (found_of given.now))
         (boards_texts_of words)) }
     ensures given { HasBoards (rows_of (found_of given.now)) → IsSome result }
 {
@@ -86,7 +86,7 @@ fn boards_words<'w>(given: &ArgMatches<'w>) -> Option<BoardsWords<'w>>
 }
 
 fn timetable_words<'w>(given: &ArgMatches<'w>) -> Option<TimetableWords<'w>>
-    ensures value { IfSome result (λ words. IsTimetableOf (rows_of (found_of given.now))
+    ensures value { IfSome result (λ words. GivesTimetable (rows_of (found_of given.now))
         (timetable_texts_of words)) }
     ensures given { HasTimetable (rows_of (found_of given.now)) → IsSome result }
 {
@@ -100,7 +100,7 @@ fn timetable_words<'w>(given: &ArgMatches<'w>) -> Option<TimetableWords<'w>>
 }
 
 fn merge_words<'w>(given: &ArgMatches<'w>) -> Option<MergeWords<'w>>
-    ensures value { IfSome result (λ words. IsMergeOf (rows_of (found_of given.now))
+    ensures value { IfSome result (λ words. GivesMerge (rows_of (found_of given.now))
         (merge_texts_of words)) }
     ensures given { HasMerge (rows_of (found_of given.now)) → IsSome result }
 {

@@ -2,7 +2,7 @@
 use Rattle.std.specs.Prelude.{◌≡◌, ◌⊎◌, ℕ, ◌+◌, ◌*◌, ◌≤◌, Bool, true, cond, ◌&&◌, List, [], ℤ, pos, ◌+ℤ◌, ◌*ℤ◌, ◌≤ℤ◌, ◌<ℤ◌, int_lt, int_le}
 use Rattle.std.specs.List.{find, filter}
 use Rattle.gtfs_board.specs.Board.{origin_distance}
-use Rattle.gtfs_board.specs.merge.Order.{In, IsAscending, tally, same, holds, in_order}
+use Rattle.gtfs_board.specs.merge.Order.{In, AscendsBy, tally, same, holds, ascending_by}
 
 -- the events of each lane on each day
 abbrev pub Events : Type 0 → Type 0
@@ -10,7 +10,7 @@ Events C = ℕ → ℤ → List C
 
 -- events of `count` lanes: each list ascends, an event tells its lane and its day, its instant is near its day, and follows the order
 pub record AreLanes {C : Type 0} (lt : C → C → Bool) (instant day : C → ℤ) (lane : C → ℕ) (count latest : ℕ) (events : Events C) : Type 0 where
-  pub ascend : (i : ℕ) (d : ℤ) → IsAscending lt (events i d)
+  pub ascend : (i : ℕ) (d : ℤ) → AscendsBy lt (events i d)
   pub of_lane : (i : ℕ) (d : ℤ) (x : C) → In x (events i d) → lane x ≡ i
   pub of_day : (i : ℕ) (d : ℤ) (x : C) → In x (events i d) → day x ≡ d
   pub few : (i : ℕ) (d : ℤ) → count ≤ i → events i d ≡ []
@@ -28,7 +28,7 @@ AreHeads {C} lt day lane events opened floor queue = (x : C) → tally (same lt 
 
 -- what is left above a floor, of all events
 abbrev pub rest_of : {C : Type 0} → (C → C → Bool) → List C → (C → Bool) → List C
-rest_of lt all floor = in_order lt (filter floor all)
+rest_of lt all floor = ascending_by lt (filter floor all)
 
 -- a list of all events
 pub record AreAll {C : Type 0} (day : C → ℤ) (lane : C → ℕ) (events : Events C) (all : List C) : Type 0 where

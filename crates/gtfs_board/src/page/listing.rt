@@ -1,7 +1,7 @@
 ghost use Rattle.std.specs.Prelude.{◌≡◌, ◌∷◌, [], List, IfOk, IfSome, OnErr, MatchOption};
 ghost use Rattle.gtfs_days.specs.Zone.{IsInstant};
 ghost use Rattle.gtfs_days.specs.declared.zone.Zone.{Zone as Clocks};
-ghost use Rattle.gtfs_board.specs.Board.{AreStepsWithin, Keeps, StepCount, step_count};
+ghost use Rattle.gtfs_board.specs.Board.{AreStepsWithin, KeepsBoard, StepCount, step_count};
 ghost use Rattle.gtfs_board.specs.Lent.{listed};
 ghost use Rattle.gtfs_board.specs.Lines.{Listed};
 ghost use Rattle.gtfs_board.specs.merge.Candidates.{taken};
@@ -35,7 +35,7 @@ pub trait Listing<'a> {
         ensures steps { IfOk result (λ o.
             AreStepsWithin (taken o) (steps self.old) (steps self.new)) }
         ensures zone { clocks self.new ≡ clocks self.old }
-        ensures keeps { (start : Self) → Keeps start self.old → Keeps start self.new };
+        ensures keeps { (start : Self) → KeepsBoard start self.old → KeepsBoard start self.new };
 
     // The zone of the lines.
     fn zone(&self) -> &'a Zone
@@ -49,7 +49,7 @@ impl<'a> Listing<'a> for Board<'a> {
 
     ghost steps = { step_count };
 
-    ghost Keeps = { Keeps };
+    ghost KeepsBoard = { KeepsBoard };
 
     fn next(&mut self) -> Result<Option<Departure<'a>>, OutOfMemory> {
         Board::next(self)

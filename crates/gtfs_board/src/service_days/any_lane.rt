@@ -1,5 +1,5 @@
 ghost use Rattle.std.specs.Prelude.{◌≡◌, ◌≤◌, ◌+◌, find};
-ghost use Rattle.gtfs_runs.specs.Order.{is_above, is_later};
+ghost use Rattle.gtfs_runs.specs.Order.{is_above_moment, is_later};
 ghost use Rattle.gtfs_board.specs.LaneDays.{any_value};
 
 use gtfs_rows::ServiceNo;
@@ -32,7 +32,7 @@ impl AnyLane<'_> {
         moment: &Moment,
         steps: &mut Steps,
     ) -> Option<Event>
-        ensures first { result ≡ find (is_above moment.now) (any_value self.entry).events }
+        ensures first { result ≡ find (is_above_moment moment.now) (any_value self.entry).events }
         ensures steps { steps.new ≤ steps.old + 1 }
     {
         match self {

@@ -1,5 +1,5 @@
 ghost use Rattle.std.specs.Prelude.{◌≡◌, ◌<◌, ◌^◌, ◌⊎◌, ◌<ℤ◌, ◌≤ℤ◌, ◌-ℤ◌, pos, ℕ};
-ghost use Rattle.gtfs_runs.specs.Order.{is_above};
+ghost use Rattle.gtfs_runs.specs.Order.{is_above_moment};
 ghost use Rattle.gtfs_runs.specs.declared.event.Event.{Event};
 ghost use Rattle.gtfs_board.specs.LaneDays.{departing};
 ghost use Rattle.gtfs_board.specs.merge.Candidates.{candidate_lt};
@@ -13,7 +13,7 @@ use gtfs_runs::Moment;
 pub(super) fn moment_from(floor: &Candidate, origin: i64, day: i32) -> Moment
     ensures { (lane : ℕ) (e : Event) → e.at < 2 ^ 32 → (floor.now.day <ℤ day)
         ⊎ (lane < floor.now.lane)
-        → is_above result e ≡ candidate_lt floor.now (departing origin day lane e) }
+        → is_above_moment result e ≡ candidate_lt floor.now (departing origin day lane e) }
 {
     Moment {
         at: floor.instant.saturating_sub(origin),

@@ -1,7 +1,7 @@
 //! The times of a sheet run by run: the stop times of a trip are filled as a whole.
 ghost use Rattle.std.specs.Prelude.{◌≡◌, ◌<◌, ◌≤◌, All, IfOk, List, length, map, option_and_then};
 ghost use Rattle.std.specs.List.{range_with_len};
-ghost use Rattle.gtfs_rows.specs.Views.{content_of_parts as content_of};
+ghost use Rattle.gtfs_rows.specs.Views.{content_of_parts};
 ghost use Rattle.gtfs_rows.specs.Views.{trip_of};
 ghost use Rattle.gtfs_rows.specs.declared.frequency.Frequency.{Frequency as PeriodRow};
 ghost use Rattle.gtfs_rows.specs.declared.parts.Parts.{Parts};
@@ -9,7 +9,7 @@ ghost use Rattle.gtfs_rows.specs.declared.trip.Trip.{Trip};
 ghost use Rattle.gtfs_times.specs.TimedRows.{timed_parts};
 ghost use Rattle.gtfs_times.specs.declared.times.Times.TheVariants.{Interpolated};
 ghost use Rattle.gtfs_board.specs.SheetSteps.{IsShownAlong, KeepTimes, column_times, times_of_column};
-ghost use Rattle.gtfs_board.specs.Timetable.{row_at, time_at};
+ghost use Rattle.gtfs_board.specs.Timetable.{row_at, time_passed};
 
 use crate::sheet::columns::Column;
 use crate::sheet::times::time_among;
@@ -29,7 +29,8 @@ pub(super) fn filled_times(
 ) -> Result<Vec<List<Option<Clock>>>, OutOfMemory>
     requires { All (IsShownAlong feed.now stop_count) columns.now }
     ensures { IfOk result (λ lines. lines.items
-        ≡ column_times (content_of (timed_parts Interpolated feed.now)) stop_count columns.now) }
+        ≡ column_times (content_of_parts (timed_parts Interpolated feed.now))
+        stop_count columns.now) }
 {
     let runs = times_by_run(alloc, feed, stop_count, columns)?;
     turned(alloc, runs.as_slice(), stop_count)
@@ -44,7 +45,7 @@ fn times_by_run(
 ) -> Result<Vec<Vec<Option<Clock>>>, OutOfMemory>
     requires { All (IsShownAlong feed.now stop_count) columns.now }
     ensures { IfOk result (λ runs. map (λ run. run.items) runs.items
-        ≡ map (times_of_column (content_of (timed_parts Interpolated feed.now)) stop_count)
+        ≡ map (times_of_column (content_of_parts (timed_parts Interpolated feed.now)) stop_count)
         columns.now) }
 {
     let mut runs = Vec::with_capacity(alloc, columns.len())?;
@@ -63,7 +64,8 @@ fn times_of_run(
 ) -> Result<Vec<Option<Clock>>, OutOfMemory>
     requires { IsShownAlong feed.now stop_count column }
     ensures { IfOk result (λ times. times.items
-        ≡ times_of_column (content_of (timed_parts Interpolated feed.now)) stop_count column) }
+        ≡ times_of_column (content_of_parts (timed_parts Interpolated feed.now))
+        stop_count column) }
 {
     feed.soundness();
     let rows = feed.trip_rows(column.trip);
@@ -85,7 +87,7 @@ fn times_along(
     requires early { start < 3_600_000 }
     requires keep { KeepTimes rows.now }
     ensures { IfOk result (λ times. (p : Parts) (t : Trip) (fs : List PeriodRow) → times.items
-        ≡ map (λ i. option_and_then (time_at (trip_of p t rows.now fs) start)
+        ≡ map (λ i. option_and_then (time_passed (trip_of p t rows.now fs) start)
         (row_at (trip_of p t rows.now fs) i)) (range_with_len 0 stop_count)) }
 {
     let mut times = Vec::with_capacity(alloc, stop_count)?;

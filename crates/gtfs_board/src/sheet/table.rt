@@ -1,7 +1,7 @@
 //! The timetable of a route: a sheet for each of its patterns that has a run on the day.
 ghost use Rattle.std.specs.Prelude.{◌≡◌, ◌≢◌, ◌<◌, ◌++◌, ◌↔◌, All, IfErr, IfOk, IsErrOf, OnOk, false, length, map};
 ghost use Rattle.std.specs.List.{filter, flat_map};
-ghost use Rattle.gtfs_rows.specs.Views.{content_of_parts as content_of};
+ghost use Rattle.gtfs_rows.specs.Views.{content_of_parts};
 ghost use Rattle.gtfs_rows.specs.Views.{route_ids, stop_ids, text_of_number};
 ghost use Rattle.gtfs_board.specs.LentSheets.{plain_sheet};
 ghost use Rattle.gtfs_board.specs.SheetSteps.{IsPattern, IsShownAlong, goes, named_column, sheet_of_columns, sheets_along};
@@ -36,9 +36,9 @@ pub fn timetable<'a>(
     times: Times,
 ) -> Result<Vec<Sheet<'a>>, TableFault>
     ensures unknown { IsErrOf result TableFault.UnknownRoute
-        ↔ (is_route (content_of feed.now) route.now ≡ false) }
+        ↔ (is_route (content_of_parts feed.now) route.now ≡ false) }
     ensures sheets { IfOk result (λ found. map plain_sheet found.items
-        ≡ sheets (timed times (content_of feed.now)) route.now direction day) }
+        ≡ sheets (timed times (content_of_parts feed.now)) route.now direction day) }
 {
     match feed.route(route) {
         Some(number) => sheets_of_route(alloc, feed, number, direction, day, times),
@@ -58,7 +58,7 @@ fn sheets_of_route<'a>(
     requires { route.0 < length feed.now.routes }
     ensures known { IfErr result (λ e. e ≢ TableFault.UnknownRoute) }
     ensures sheets { IfOk result (λ found. map plain_sheet found.items
-        ≡ sheets (timed times (content_of feed.now))
+        ≡ sheets (timed times (content_of_parts feed.now))
         (text_of_number (route_ids feed.now) route.0) direction day) }
 {
     feed.soundness();

@@ -1,6 +1,6 @@
 //! The times of a sheet: when each run passes each stop time of its trip.
 ghost use Rattle.std.specs.Prelude.{◌≡◌, ◌<◌, ◌≤◌, ◌+◌, All, IfOk, List, true, is_some, length, map, option_and_then, slice_index_or, unwrap_or};
-ghost use Rattle.gtfs_rows.specs.Views.{content_of_parts as content_of};
+ghost use Rattle.gtfs_rows.specs.Views.{content_of_parts};
 ghost use Rattle.gtfs_rows.specs.Trips.{left_at};
 ghost use Rattle.gtfs_rows.specs.Views.{stop_row_of, trip_of};
 ghost use Rattle.gtfs_rows.specs.declared.frequency.Frequency.{Frequency as PeriodRow};
@@ -9,7 +9,7 @@ ghost use Rattle.gtfs_stop_times.specs.declared.stop_row.StopRow.{StopRow as Sto
 ghost use Rattle.gtfs_rows.specs.declared.trip.Trip.{Trip};
 ghost use Rattle.gtfs_rows.specs.Runs.{passes_at};
 ghost use Rattle.gtfs_board.specs.SheetSteps.{IsShownAlong, column_times, time_of_column};
-ghost use Rattle.gtfs_board.specs.Timetable.{row_at, time_at};
+ghost use Rattle.gtfs_board.specs.Timetable.{row_at, time_passed};
 ghost use Rattle.gtfs_times.specs.TimedRows.{timed_parts};
 
 use crate::sheet::by_run::filled_times;
@@ -29,7 +29,7 @@ pub(super) fn sheet_times(
 ) -> Result<Vec<List<Option<Clock>>>, OutOfMemory>
     requires { All (IsShownAlong feed.now stop_count) columns.now }
     ensures { IfOk result (λ lines. lines.items
-        ≡ column_times (content_of (timed_parts times feed.now)) stop_count columns.now) }
+        ≡ column_times (content_of_parts (timed_parts times feed.now)) stop_count columns.now) }
 {
     feed.soundness();
     match times {
@@ -47,7 +47,7 @@ fn given_times(
 ) -> Result<Vec<List<Option<Clock>>>, OutOfMemory>
     requires { All (IsShownAlong feed.now stop_count) columns.now }
     ensures { IfOk result (λ lines. lines.items
-        ≡ column_times (content_of feed.now) stop_count columns.now) }
+        ≡ column_times (content_of_parts feed.now) stop_count columns.now) }
 {
     let mut lines = Vec::with_capacity(alloc, stop_count)?;
     for position in 0..stop_count {
@@ -65,7 +65,7 @@ fn times_at(
 ) -> Result<List<Option<Clock>>, OutOfMemory>
     requires { All (IsShownAlong feed.now (position + 1)) columns.now }
     ensures { IfOk result (λ times. times
-        ≡ map (time_of_column (content_of feed.now) position) columns.now) }
+        ≡ map (time_of_column (content_of_parts feed.now) position) columns.now) }
 {
     let mut times = Vec::with_capacity(alloc, columns.len())?;
     for column in columns {
@@ -77,7 +77,7 @@ fn times_at(
 // When a run passes the stop time of this position among those of its trip, None where that is untimed.
 fn time_at(feed: &Feed, column: Column, position: usize) -> Option<Clock>
     requires { IsShownAlong feed.now (position + 1) column }
-    ensures { result ≡ time_of_column (content_of feed.now) position column }
+    ensures { result ≡ time_of_column (content_of_parts feed.now) position column }
 {
     feed.soundness();
     let rows = feed.trip_rows(column.trip);
@@ -94,7 +94,7 @@ pub(super) fn time_among(rows: &[StopRow], start: u32, position: usize) -> Optio
         → unwrap_or (left_at (slice_index_or rows.now 0 d)) 0
         ≤ unwrap_or (left_at (slice_index_or rows.now position d)) 0 }
     ensures { (p : Parts) (t : Trip) (fs : List PeriodRow) → result
-        ≡ option_and_then (time_at (trip_of p t rows.now fs) start)
+        ≡ option_and_then (time_passed (trip_of p t rows.now fs) start)
         (row_at (trip_of p t rows.now fs) position) }
 {
     match leaves(&rows[position]) {

@@ -1,5 +1,5 @@
 ghost use Rattle.std.specs.Prelude.{◌≡◌, ◌≢◌, ◌≤◌, IfOk, IfErr, OnOk};
-ghost use Rattle.gtfs_rows.specs.Views.{content_of_parts as content_of};
+ghost use Rattle.gtfs_rows.specs.Views.{content_of_parts};
 ghost use Rattle.gtfs_devices.specs.Device.{FailsAtLast, MakesCalls};
 ghost use Rattle.gtfs_board.specs.Page.{IsPage};
 ghost use Rattle.gtfs_cli.specs.Boards.{request_of, AreValues, EndsBoard, EndsLines, IsLinesCause, IsOpeningCause, ListsBoard, OfBoard, PrintsBoard};
@@ -69,11 +69,14 @@ fn print_lines<'w, O: Out>(
     out: &mut O,
 ) -> Result<(), Refusal<'w>>
     requires { AreValues (texts_of words.now) values.now }
-    ensures printed { OnOk result (OfBoard IsPage (content_of feed.now) zone.now words.now.stop.now
+    ensures printed { OnOk result (OfBoard IsPage
+        (content_of_parts feed.now) zone.now words.now.stop.now
         (request_of values.now) (O.told out.old) (O.told out.new)) }
-    ensures cut_short { IfErr result (EndsLines (content_of feed.now) zone.now words.now.stop.now
+    ensures cut_short { IfErr result (EndsLines
+        (content_of_parts feed.now) zone.now words.now.stop.now
         (request_of values.now) (O.told out.old) (O.told out.new)) }
-    ensures refused { IfErr result (IsLinesCause (content_of feed.now) zone.now words.now.stop.now
+    ensures refused { IfErr result (IsLinesCause
+        (content_of_parts feed.now) zone.now words.now.stop.now
         (request_of values.now) (O.failure_count out.old) (O.failure_count out.new)) }
     ensures grows { O.failure_count out.old ≤ O.failure_count out.new }
     ensures no_failure { OnOk result (O.failure_count out.new ≡ O.failure_count out.old) }
@@ -96,10 +99,11 @@ fn open<'a, 'w>(
     values: &Values<'w>,
 ) -> Result<Board<'a>, Refusal<'w>>
     requires { AreValues (texts_of words.now) values.now }
-    ensures board { IfOk result (λ board. ListsBoard (content_of feed.now) zone.now
+    ensures board { IfOk result (λ board. ListsBoard (content_of_parts feed.now) zone.now
         words.now.stop.now (request_of values.now) board.rest) }
     ensures zone { IfOk result (λ board. board.zone ≡ zone.now) }
-    ensures refused { IfErr result (IsOpeningCause (content_of feed.now) zone.now words.now.stop.now
+    ensures refused { IfErr result (IsOpeningCause
+        (content_of_parts feed.now) zone.now words.now.stop.now
         (request_of values.now)) }
 {
     let span = Span {

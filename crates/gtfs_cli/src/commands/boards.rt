@@ -3,7 +3,7 @@ ghost use Rattle.gtfs_days.specs.Zone.{zone_origin};
 ghost use Rattle.gtfs_devices.specs.Device.{FailsAtLast, MakesCalls};
 ghost use Rattle.gtfs_table.specs.Tables.{without_marks};
 ghost use Rattle.gtfs_rows.specs.Content.{Content};
-ghost use Rattle.gtfs_rows.specs.Views.{content_of_parts as content_of};
+ghost use Rattle.gtfs_rows.specs.Views.{content_of_parts};
 ghost use Rattle.gtfs_words.specs.Words.{boards_texts_of};
 ghost use Rattle.gtfs_cli.specs.Boards.{request_of, ListsBoard};
 ghost use Rattle.gtfs_cli.specs.Calls.{MakesAtMost};
@@ -12,7 +12,7 @@ ghost use Rattle.gtfs_cli.specs.LentRequests.{request_texts_of, stop_request_of}
 ghost use Rattle.gtfs_cli.specs.ManyBoards.{EndsBoards, EndsOne, EndsRequests, IsBoardsCause, IsFileFault, IsRequestsFault, PrintsBoards, PrintsOne, PrintsRequests};
 ghost use Rattle.gtfs_cli.specs.Options.{times_of};
 ghost use Rattle.gtfs_cli.specs.Refusals.{IsSound, TellsFailure, TellsOutput};
-ghost use Rattle.gtfs_cli.specs.Requests.{fault_in, heading_of, numbered_from, requests_in, requests_of};
+ghost use Rattle.gtfs_cli.specs.Requests.{fault_in, request_heading, numbered_from, requests_in, requests_of};
 ghost use Rattle.gtfs_cli.specs.Failures.{FailedNowhere};
 
 use crate::commands::feed::read_feed;
@@ -79,16 +79,16 @@ fn print_file<'w, O: Out>(
     out: &mut O,
 ) -> Result<(), Refusal<'w>>
     ensures utf8 { OnOk result (IsUtf8 (without_marks bytes.now)) }
-    ensures printed { OnOk result (PrintsRequests (content_of feed.now) zone.now
-        (requests_of (content_of feed.now) (zone_origin zone.now)
+    ensures printed { OnOk result (PrintsRequests (content_of_parts feed.now) zone.now
+        (requests_of (content_of_parts feed.now) (zone_origin zone.now)
         (times_of words.now.interpolate) bytes.now)
         (O.told out.old) (O.told out.new)) }
-    ensures cut_short { IfErr result (EndsRequests (content_of feed.now) zone.now
-        (requests_of (content_of feed.now) (zone_origin zone.now)
+    ensures cut_short { IfErr result (EndsRequests (content_of_parts feed.now) zone.now
+        (requests_of (content_of_parts feed.now) (zone_origin zone.now)
         (times_of words.now.interpolate) bytes.now)
         (O.told out.old) (O.told out.new)) }
     ensures refused { IfErr result (IsFileFault words.now.requests.now bytes.now
-        (requests_of (content_of feed.now) (zone_origin zone.now)
+        (requests_of (content_of_parts feed.now) (zone_origin zone.now)
         (times_of words.now.interpolate) bytes.now)
         (O.failure_count out.old) (O.failure_count out.new)) }
     ensures grows { O.failure_count out.old ≤ O.failure_count out.new }
@@ -118,16 +118,16 @@ fn print_lines<'w, O: Out>(
     times: Times,
     out: &mut O,
 ) -> Result<(), Refusal<'w>>
-    ensures printed { OnOk result (PrintsRequests (content_of feed.now) zone.now
-        (requests_in (content_of feed.now) (zone_origin zone.now) times
+    ensures printed { OnOk result (PrintsRequests (content_of_parts feed.now) zone.now
+        (requests_in (content_of_parts feed.now) (zone_origin zone.now) times
         (numbered_from 1 (map (λ l. l.now) lines.now)))
         (O.told out.old) (O.told out.new)) }
-    ensures cut_short { IfErr result (EndsRequests (content_of feed.now) zone.now
-        (requests_in (content_of feed.now) (zone_origin zone.now) times
+    ensures cut_short { IfErr result (EndsRequests (content_of_parts feed.now) zone.now
+        (requests_in (content_of_parts feed.now) (zone_origin zone.now) times
         (numbered_from 1 (map (λ l. l.now) lines.now)))
         (O.told out.old) (O.told out.new)) }
     ensures refused { IfErr result (IsRequestsFault
-        (requests_in (content_of feed.now) (zone_origin zone.now) times
+        (requests_in (content_of_parts feed.now) (zone_origin zone.now) times
         (numbered_from 1 (map (λ l. l.now) lines.now)))
         (O.failure_count out.old) (O.failure_count out.new)) }
     ensures grows { O.failure_count out.old ≤ O.failure_count out.new }
@@ -151,14 +151,15 @@ fn print_requests<'w, O: Out>(
     out: &mut O,
 ) -> Result<(), Refusal<'w>>
     requires indexed { times ≡ index.now.times }
-    requires known { fault_in (requests_in (content_of index.now.feed) (zone_origin zone.now) times
+    requires known { fault_in (requests_in
+        (content_of_parts index.now.feed) (zone_origin zone.now) times
         (numbered_from 1 (map (λ l. l.now) lines.now))) ≡ None }
-    ensures printed { OnOk result (PrintsRequests (content_of index.now.feed) zone.now
-        (requests_in (content_of index.now.feed) (zone_origin zone.now) times
+    ensures printed { OnOk result (PrintsRequests (content_of_parts index.now.feed) zone.now
+        (requests_in (content_of_parts index.now.feed) (zone_origin zone.now) times
         (numbered_from 1 (map (λ l. l.now) lines.now)))
         (O.told out.old) (O.told out.new)) }
-    ensures cut_short { IfErr result (EndsRequests (content_of index.now.feed) zone.now
-        (requests_in (content_of index.now.feed) (zone_origin zone.now) times
+    ensures cut_short { IfErr result (EndsRequests (content_of_parts index.now.feed) zone.now
+        (requests_in (content_of_parts index.now.feed) (zone_origin zone.now) times
         (numbered_from 1 (map (λ l. l.now) lines.now)))
         (O.told out.old) (O.told out.new)) }
     ensures refused { IfErr result (IsSendingCause (O.failure_count out.old)
@@ -186,9 +187,9 @@ fn print_request<'w, O: Out>(
     requires times { request.now.values.times ≡ index.now.times }
     requires from { IsSound request.now.values.from }
     requires until { IsSound request.now.values.until }
-    ensures printed { OnOk result (PrintsOne (content_of index.now.feed) zone.now
+    ensures printed { OnOk result (PrintsOne (content_of_parts index.now.feed) zone.now
         (stop_request_of request.now) (O.told out.old) (O.told out.new)) }
-    ensures cut_short { IfErr result (EndsOne (content_of index.now.feed) zone.now
+    ensures cut_short { IfErr result (EndsOne (content_of_parts index.now.feed) zone.now
         (stop_request_of request.now) (O.told out.old) (O.told out.new)) }
     ensures refused { IfErr result (IsSendingCause (O.failure_count out.old)
         (O.failure_count out.new)) }
@@ -209,7 +210,7 @@ fn open<'a>(
     requires times { request.now.values.times ≡ index.now.times }
     requires from { IsSound request.now.values.from }
     requires until { IsSound request.now.values.until }
-    ensures board { IfOk result (λ board. ListsBoard (content_of index.now.feed) zone.now
+    ensures board { IfOk result (λ board. ListsBoard (content_of_parts index.now.feed) zone.now
         request.now.texts.stop.now (request_of request.now.values) board.rest) }
     ensures zone { IfOk result (λ board. board.zone ≡ zone.now) }
 {
@@ -262,7 +263,8 @@ fn print_opened<'w, O: Out>(
 
 // The line above a board.
 fn heading(alloc: Global, texts: &RequestTexts<'_>) -> Result<String, OutOfMemory>
-    ensures { IfOk result (λ text. string_bytes text ≡ heading_of (request_texts_of texts.now)) }
+    ensures { IfOk result
+        (λ text. string_bytes text ≡ request_heading (request_texts_of texts.now)) }
 {
     let mut text = String::new(alloc);
     text.push_str("== ")?;

@@ -1,6 +1,6 @@
 ghost use Rattle.std.specs.Prelude.{◌≡◌, ◌≢◌, ◌<◌, ◌≤◌, ℕ, length, Option, IfOk, IfErr, IfSome, OnOk, true};
 ghost use Rattle.gtfs_days.specs.Service.{is_service_day};
-ghost use Rattle.gtfs_rows.specs.Views.{content_of_parts as content_of};
+ghost use Rattle.gtfs_rows.specs.Views.{content_of_parts};
 ghost use Rattle.gtfs_merge.specs.Merging.{IsMergeOf, KeepsDepartures};
 ghost use Rattle.gtfs_table.specs.Files.{file_name};
 ghost use Rattle.gtfs_devices.specs.Device.{FailsAtLast, MakesCalls};
@@ -108,11 +108,11 @@ fn merge_feeds<'w>(
     requires near { IfSome values.now.near (λ n. n ≤ 2_147_483_647) }
     requires cutoff { IfSome values.now.cutoff (λ d. is_service_day d ≡ true) }
     ensures merged { IfOk result (IsMergeOf values.now.near values.now.cutoff
-        (content_of a) (content_of b) file_limit) }
+        (content_of_parts a) (content_of_parts b) file_limit) }
     ensures refused { IfErr result (IsMergeFault (merge_request_of values.now)
-        (content_of a) (content_of b)) }
+        (content_of_parts a) (content_of_parts b)) }
     ensures departures { KeepsDepartures values.now.near values.now.cutoff
-        (content_of a) (content_of b) }
+        (content_of_parts a) (content_of_parts b) }
 {
     let options = Options {
         near: values.near,
@@ -136,11 +136,12 @@ fn write_feed<'w, F: Folders>(
     folders: &mut F,
 ) -> Result<(), Refusal<'w>>
     ensures written { OnOk result (HoldsFiles (F.held folders.old) (F.held folders.new)
-        dir.now (content_of feed.now) kept_files) }
+        dir.now (content_of_parts feed.now) kept_files) }
     ensures named { OnOk result (0 < length dir.now) }
-    ensures read { OnOk result (AllReadAs (content_of feed.now)) }
+    ensures read { OnOk result (AllReadAs (content_of_parts feed.now)) }
     ensures refused { IfErr result (IsWritingEnd (F.held folders.old) (F.held folders.new)
-        (F.failure_count folders.old) (F.failure_count folders.new) dir.now (content_of feed.now)) }
+        (F.failure_count folders.old) (F.failure_count folders.new)
+        dir.now (content_of_parts feed.now)) }
     ensures grows { F.failure_count folders.old ≤ F.failure_count folders.new }
     ensures no_failure { OnOk result
         (F.failure_count folders.new ≡ F.failure_count folders.old) }
@@ -169,8 +170,8 @@ fn write_file<'w, F: Folders>(
     folders: &mut F,
 ) -> Result<(), Refusal<'w>>
     ensures written { OnOk result (Writes (F.held folders.old) (F.held folders.new)
-        dir.now (file_name file) (file_text (content_of feed.now) file)) }
-    ensures read { OnOk result (ReadsAs (content_of feed.now) file) }
+        dir.now (file_name file) (file_text (content_of_parts feed.now) file)) }
+    ensures read { OnOk result (ReadsAs (content_of_parts feed.now) file) }
     ensures refused { IfErr result (IsFileEnd (F.held folders.old) (F.held folders.new)
         (F.failure_count folders.old) (F.failure_count folders.new) dir.now file) }
     ensures grows { F.failure_count folders.old ≤ F.failure_count folders.new }

@@ -1,7 +1,7 @@
 ghost use Rattle.std.specs.Prelude.{◌≡◌, map, IfOk, IfSome, int_lt, option_map, slice_get};
 ghost use Rattle.std.specs.Option.{option_and_then};
 ghost use Rattle.gtfs_days.specs.Zone.{zone_origin};
-ghost use Rattle.gtfs_rows.specs.Views.{content_of_parts as content_of};
+ghost use Rattle.gtfs_rows.specs.Views.{content_of_parts};
 ghost use Rattle.gtfs_cli.specs.LentRequests.{request_texts_of, stop_request_of};
 ghost use Rattle.gtfs_cli.specs.Boards.{request_of};
 ghost use Rattle.gtfs_cli.specs.Refusals.{IsSound};
@@ -43,7 +43,7 @@ pub(super) fn first_fault(
     lines: &[&str],
     times: Times,
 ) -> Result<Option<RequestFault>, OutOfMemory>
-    ensures { IfOk result (λ fault. fault ≡ fault_in (requests_in (content_of feed.now)
+    ensures { IfOk result (λ fault. fault ≡ fault_in (requests_in (content_of_parts feed.now)
         (zone_origin zone.now) times (numbered_from 1 (map (λ l. l.now) lines.now)))) }
 {
     for (index, line) in lines.iter().enumerate() {
@@ -67,7 +67,7 @@ fn line_fault(
     line: &str,
     times: Times,
 ) -> Result<Option<RequestFault>, OutOfMemory>
-    ensures { IfOk result (λ fault. fault ≡ fault_in (judged (content_of feed.now)
+    ensures { IfOk result (λ fault. fault ≡ fault_in (judged (content_of_parts feed.now)
         (zone_origin zone.now) number (stop_request times line.now))) }
 {
     let Some(request) = read_request(line, times) else {

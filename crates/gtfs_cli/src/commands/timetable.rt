@@ -2,7 +2,7 @@ ghost use Rattle.std.specs.Prelude.{◌≡◌, ◌≢◌, ◌≤◌, ℕ, map, t
 ghost use Rattle.std.specs.List.{flat_map};
 ghost use Rattle.std.specs.Io.KnownBytes.{Appends};
 ghost use Rattle.gtfs_devices.specs.Device.{FailsAtLast, MakesCalls};
-ghost use Rattle.gtfs_rows.specs.Views.{content_of_parts as content_of};
+ghost use Rattle.gtfs_rows.specs.Views.{content_of_parts};
 ghost use Rattle.gtfs_times.specs.Filling.{timed};
 ghost use Rattle.gtfs_board.specs.LentSheets.{plain_sheet};
 ghost use Rattle.gtfs_board.specs.Timetable.{is_route, sheet_text, sheets};
@@ -69,12 +69,12 @@ fn print_sheets<'w, O: Out>(
     values: &TimetableValues,
     out: &mut O,
 ) -> Result<(), Refusal<'w>>
-    ensures known { OnOk result (is_route (content_of feed.now) route.now ≡ true) }
+    ensures known { OnOk result (is_route (content_of_parts feed.now) route.now ≡ true) }
     ensures printed { OnOk result (Appends (O.told out.old) (O.told out.new)
-        (timetable_text (content_of feed.now) route.now (timetable_request_of values.now))) }
-    ensures cut_short { IfErr result (EndsSheets (content_of feed.now) route.now
+        (timetable_text (content_of_parts feed.now) route.now (timetable_request_of values.now))) }
+    ensures cut_short { IfErr result (EndsSheets (content_of_parts feed.now) route.now
         (timetable_request_of values.now) (O.told out.old) (O.told out.new)) }
-    ensures refused { IfErr result (IsSheetsCause (content_of feed.now) route.now
+    ensures refused { IfErr result (IsSheetsCause (content_of_parts feed.now) route.now
         (O.failure_count out.old) (O.failure_count out.new)) }
     ensures grows { O.failure_count out.old ≤ O.failure_count out.new }
     ensures no_failure { OnOk result (O.failure_count out.new ≡ O.failure_count out.old) }
@@ -91,12 +91,12 @@ fn sheets_of<'a, 'w>(
     route: &str,
     values: &TimetableValues,
 ) -> Result<Vec<Sheet<'a>>, Refusal<'w>>
-    ensures known { OnOk result (is_route (content_of feed.now) route.now ≡ true) }
+    ensures known { OnOk result (is_route (content_of_parts feed.now) route.now ≡ true) }
     ensures sheets { IfOk result (λ found. map plain_sheet found.items
-        ≡ sheets (timed values.now.times (content_of feed.now)) route.now
+        ≡ sheets (timed values.now.times (content_of_parts feed.now)) route.now
         values.now.direction values.now.day) }
     ensures refused { IfErr result (λ refusal. (count : ℕ)
-        → IsSheetsCause (content_of feed.now) route.now count count refusal) }
+        → IsSheetsCause (content_of_parts feed.now) route.now count count refusal) }
 {
     match timetable(
         alloc,

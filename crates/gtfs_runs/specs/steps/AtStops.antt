@@ -8,7 +8,7 @@ use Rattle.gtfs_rows.specs.declared.frequency.Frequency.{Frequency}
 use Rattle.gtfs_rows.specs.declared.parts.Parts.{Parts}
 use Rattle.gtfs_stop_times.specs.declared.stop_row.StopRow.{StopRow}
 use Rattle.gtfs_rows.specs.declared.trip.Trip.{Trip}
-use Rattle.gtfs_runs.specs.StopIndex.{departs_at, departure_row_cmp}
+use Rattle.gtfs_runs.specs.StopIndex.{has_departure_row, departure_row_cmp}
 use Rattle.gtfs_runs.specs.declared.stop_index.DepartureRow.{DepartureRow}
 
 -- riders can leave the stop of this number at a stop time of a trip
@@ -17,7 +17,7 @@ leaves_stop p u rows fs s x = is_departure_row (trip_of p u rows fs) (stop_row_o
 
 -- the stop time is a departure row at the stop, all by their numbers, of rows whose times are as they are
 abbrev pub departs_of : Parts → ℕ → ℕ → ℕ → Bool
-departs_of p s t r = nat_lt s (length p.stops) && departs_at (content_of_parts p) (text_of_number (stop_ids p) s) t r
+departs_of p s t r = nat_lt s (length p.stops) && has_departure_row (content_of_parts p) (text_of_number (stop_ids p) s) t r
 
 -- those at the stop of this number, of the lists of all stops
 abbrev pub at_stop : List (List DepartureRow) → ℕ → List DepartureRow

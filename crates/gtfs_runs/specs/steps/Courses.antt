@@ -6,7 +6,7 @@ use Rattle.std.specs.Ordering.{nat_cmp, on, then_cmp, is_eq}
 use Rattle.std.specs.declared.cmp.Ordering.{Ordering}
 use Rattle.gtfs_rows.specs.Views.{content_of_parts, service_ids, stop_ids, text_of_number}
 use Rattle.gtfs_rows.specs.declared.parts.Parts.{Parts}
-use Rattle.gtfs_runs.specs.Kinds.{course_at, is_listed}
+use Rattle.gtfs_runs.specs.Kinds.{course_at, is_of_list}
 use Rattle.gtfs_runs.specs.Lanes.{Course}
 use Rattle.gtfs_runs.specs.Order.{event_cmp}
 use Rattle.gtfs_runs.specs.declared.event.Event.{Event}
@@ -71,5 +71,5 @@ course_of p c = (map (text_of_number (stop_ids p)) c.stops, c.row, text_of_numbe
 
 -- the event is of a trip without rows of frequencies.txt, and this is its course
 pub record IsListed (p : Parts) (x : Stopping) : Type 0 where
-  pub listed : is_listed (content_of_parts p) x.event ≡ true
+  pub listed : is_of_list (content_of_parts p) x.event ≡ true
   pub course : course_at (content_of_parts p) x.event ≡ Some (course_of p x.course)

@@ -8,7 +8,7 @@ use Rattle.gtfs_rows.specs.Runs.{is_departure_row}
 use Rattle.gtfs_rows.specs.Views.{content_of_parts, stop_ids, text_of_number}
 use Rattle.gtfs_rows.specs.declared.parts.Parts.{Parts}
 use Rattle.gtfs_stop_times.specs.declared.stop_row.StopRow.{StopRow}
-use Rattle.gtfs_runs.specs.StopIndex.{departure_row_cmp, is_row}
+use Rattle.gtfs_runs.specs.StopIndex.{departure_row_cmp, is_this_row}
 use Rattle.gtfs_runs.specs.declared.stop_index.DepartureRow.{DepartureRow}
 use Rattle.gtfs_runs.specs.declared.stop_lanes.passing.Passing.{Passing}
 use Rattle.gtfs_runs.specs.steps.Passings.{first_left, passing_at}
@@ -21,7 +21,7 @@ departs_in_place p s t r = if_there (slice_get (content_of_parts p).trips t) (λ
 -- those of the trips from this number on and no other, each once, in their order
 pub record ArePlaceRows (p : Parts) (s from : ℕ) (xs : List DepartureRow) : Type 0 where
   pub in_order : Ascends departure_row_cmp xs
-  pub all : (t r : ℕ) → list_any (is_row t r) xs ≡ (nat_le from t && departs_in_place p s t r)
+  pub all : (t r : ℕ) → list_any (is_this_row t r) xs ≡ (nat_le from t && departs_in_place p s t r)
 
 -- the trip of the first, or this number where there is none
 abbrev pub first_trip : ℕ → List DepartureRow → ℕ

@@ -5,7 +5,7 @@ ghost use Rattle.gtfs_rows.specs.declared.frequency.Frequency.{Frequency};
 ghost use Rattle.gtfs_rows.specs.declared.parts.Parts.{Parts};
 ghost use Rattle.gtfs_rows.specs.declared.trip.Trip.{Trip};
 ghost use Rattle.gtfs_runs.specs.Counts.{tally};
-ghost use Rattle.gtfs_runs.specs.StopIndex.{departure_row_cmp, is_row};
+ghost use Rattle.gtfs_runs.specs.StopIndex.{departure_row_cmp, is_this_row};
 ghost use Rattle.gtfs_runs.specs.steps.AtStops.{StandBefore, at_stop, departs_of, leaves_stop};
 ghost use Rattle.gtfs_times.specs.TimedRows.{timed_parts};
 
@@ -26,7 +26,7 @@ pub(crate) fn at_stops(
 ) -> Result<Vec<Vec<DepartureRow>>, OutOfMemory>
     ensures length { IfOk result (λ found. length found.items ≡ length feed.now.stops) }
     ensures told { IfOk result (λ found. (s t r : ℕ)
-        → tally (is_row t r) (at_stop (map (λ x. x.items) found.items) s)
+        → tally (is_this_row t r) (at_stop (map (λ x. x.items) found.items) s)
         ≡ cond (departs_of (timed_parts times feed.now) s t r) 1 0) }
     ensures order { IfOk result (λ found.
         All (Ascends departure_row_cmp) (map (λ x. x.items) found.items)) }
@@ -51,8 +51,8 @@ fn add_trip(
     requires stops { length found.now.items ≡ length feed.now.stops }
     ensures length { OnOk result (length found.new.items ≡ length found.old.items) }
     ensures told { OnOk result ((s t r : ℕ)
-        → tally (is_row t r) (at_stop (map (λ x. x.items) found.new.items) s)
-        ≡ tally (is_row t r) (at_stop (map (λ x. x.items) found.old.items) s)
+        → tally (is_this_row t r) (at_stop (map (λ x. x.items) found.new.items) s)
+        ≡ tally (is_this_row t r) (at_stop (map (λ x. x.items) found.old.items) s)
         + cond ((t == trip.0) && departs_of (timed_parts times feed.now) s t r) 1 0) }
     ensures order { OnOk result (All (StandBefore trip.0 0) (map (λ x. x.items) found.old.items)
         → All (StandBefore (trip.0 + 1) 0) (map (λ x. x.items) found.new.items)) }
@@ -76,8 +76,8 @@ fn add_rows(
     requires stops { All (λ r. r.stop_id.0 < length found.now.items) rows.now }
     ensures length { OnOk result (length found.new.items ≡ length found.old.items) }
     ensures told { OnOk result ((s t r : ℕ) (p : Parts) (u : Trip) (fs : List Frequency)
-        → tally (is_row t r) (at_stop (map (λ x. x.items) found.new.items) s)
-        ≡ tally (is_row t r) (at_stop (map (λ x. x.items) found.old.items) s)
+        → tally (is_this_row t r) (at_stop (map (λ x. x.items) found.new.items) s)
+        ≡ tally (is_this_row t r) (at_stop (map (λ x. x.items) found.old.items) s)
         + cond ((t == trip.0)
         && if_there (slice_get rows.now r) (leaves_stop p u rows.now fs s)) 1 0) }
     ensures order { OnOk result (All (StandBefore trip.0 0) (map (λ x. x.items) found.old.items)
@@ -101,8 +101,8 @@ fn add_row(
     requires within { position < length rows.now }
     ensures length { OnOk result (length found.new.items ≡ length found.old.items) }
     ensures told { OnOk result ((s t r : ℕ) (p : Parts) (u : Trip) (fs : List Frequency)
-        → tally (is_row t r) (at_stop (map (λ x. x.items) found.new.items) s)
-        ≡ tally (is_row t r) (at_stop (map (λ x. x.items) found.old.items) s)
+        → tally (is_this_row t r) (at_stop (map (λ x. x.items) found.new.items) s)
+        ≡ tally (is_this_row t r) (at_stop (map (λ x. x.items) found.old.items) s)
         + cond ((t == trip.0) && (r == position)
         && if_there (slice_get rows.now r) (leaves_stop p u rows.now fs s)) 1 0) }
     ensures order { OnOk result (

@@ -1,6 +1,6 @@
 ghost use Rattle.std.specs.Prelude.{◌≡◌, ◌<◌, ◌+◌, ℕ, All, IfOk, OnOk, length};
 ghost use Rattle.gtfs_runs.specs.Counts.{tally};
-ghost use Rattle.gtfs_runs.specs.StopIndex.{is_row};
+ghost use Rattle.gtfs_runs.specs.StopIndex.{is_this_row};
 ghost use Rattle.gtfs_runs.specs.steps.AtStops.{departs_of};
 ghost use Rattle.gtfs_runs.specs.steps.Places.{ArePlaceRows};
 ghost use Rattle.gtfs_times.specs.TimedRows.{timed_parts};
@@ -42,8 +42,8 @@ fn add_rows(
     rows: &mut Vec<DepartureRow>,
 ) -> Result<(), OutOfMemory>
     requires { All (λ x. x.stop < length index.now.feed.stops) children.now }
-    ensures { OnOk result ((t r : ℕ) → tally (is_row t r) rows.new.items
-        ≡ tally (is_row t r) rows.old.items
+    ensures { OnOk result ((t r : ℕ) → tally (is_this_row t r) rows.new.items
+        ≡ tally (is_this_row t r) rows.old.items
         + tally (λ x. departs_of (timed_parts index.now.times index.now.feed) x.stop t r)
         children.now) }
 {

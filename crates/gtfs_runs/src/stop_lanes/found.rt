@@ -1,9 +1,8 @@
 ghost use Rattle.std.specs.Prelude.{◌≡◌, ◌≤◌, ◌<◌, ◌+◌, ◌*◌, ◌++◌, ◌==◌, ℕ, All, IfOk, OnOk, Some, [], cond, length, map, slice_get, slice_index_or};
-ghost use Rattle.gtfs_feed.specs.Content.{content_of};
 ghost use Rattle.gtfs_rows.specs.Content.{Content};
 ghost use Rattle.gtfs_rows.specs.Rows.{Trip};
 ghost use Rattle.gtfs_rows.specs.Trips.{stop_rows_by_trip};
-ghost use Rattle.gtfs_rows.specs.Views.{frequency_of, stop_ids, text_of_number};
+ghost use Rattle.gtfs_rows.specs.Views.{content_of_parts, frequency_of, stop_ids, text_of_number};
 ghost use Rattle.gtfs_runs.specs.Kinds.{IsPeriodLane};
 ghost use Rattle.gtfs_rows.specs.Places.{members};
 ghost use Rattle.gtfs_rows.specs.declared.parts.Parts.{Parts};
@@ -47,7 +46,7 @@ impl Found {
     ) -> Result<Found, OutOfMemory>
         requires { length place.now ≡ length feed.now.stops }
         ensures { IfOk result (λ found. (s : ℕ)
-            → place.now ≡ members (content_of feed.now) (text_of_number (stop_ids feed.now) s)
+            → place.now ≡ members (content_of_parts feed.now) (text_of_number (stop_ids feed.now) s)
             → AreFound (timed_parts times feed.now) s (length feed.now.trips)
             (map (stopping_of feed.now) found.listed.items) (map period_value found.periods.items)) }
     {
@@ -81,7 +80,7 @@ fn add_trip(
     requires trip { trip.0 < length feed.now.trips }
     requires stops { length place.now ≡ length feed.now.stops }
     ensures { OnOk result ((s : ℕ)
-        → place.now ≡ members (content_of feed.now) (text_of_number (stop_ids feed.now) s)
+        → place.now ≡ members (content_of_parts feed.now) (text_of_number (stop_ids feed.now) s)
         → AreFound (timed_parts times feed.now) s trip.0 (map (stopping_of feed.now) listed.old.items)
         (map period_value periods.old.items)
         → AreFound (timed_parts times feed.now) s (trip.0 + 1) (map (stopping_of feed.now) listed.new.items)

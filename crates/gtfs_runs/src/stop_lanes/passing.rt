@@ -1,5 +1,4 @@
 ghost use Rattle.std.specs.Prelude.{◌≡◌, ◌≤◌, ◌<◌, ◌-◌, ℕ, All, IfOk, List, Some, length, slice_get, unwrap_or};
-ghost use Rattle.gtfs_feed.specs.Content.{content_of};
 ghost use Rattle.gtfs_rows.specs.Trips.{left_at, stop_rows_by_trip};
 ghost use Rattle.gtfs_rows.specs.Views.{content_of_parts, stop_ids, text_of_number};
 ghost use Rattle.gtfs_rows.specs.declared.frequency.Frequency.{Frequency};
@@ -58,7 +57,7 @@ pub(crate) fn passings(
     requires stops { length place.now ≡ length feed.now.stops }
     ensures passings { IfOk result (λ found. (s : ℕ) (t : Trip) (rows : List StopTime)
         (fs : List Frequency)
-        → place.now ≡ members (content_of feed.now) (text_of_number (stop_ids feed.now) s)
+        → place.now ≡ members (content_of_parts feed.now) (text_of_number (stop_ids feed.now) s)
         → slice_get (stop_rows_by_trip (timed_parts times feed.now)) trip.0 ≡ Some rows
         → found.items ≡ passings_of (timed_parts times feed.now) s t rows fs) }
     ensures after { IfOk result (λ found. All (λ x. x.after ≤ 3_599_999) found.items) }

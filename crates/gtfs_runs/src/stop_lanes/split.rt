@@ -1,6 +1,6 @@
 ghost use Rattle.std.specs.Prelude.{◌≡◌, ◌++◌, ◌∷◌, All, IfOk, List, [], OnOk, false, map};
 ghost use Rattle.std.specs.List.{list_any};
-ghost use Rattle.gtfs_feed.specs.Content.{content_of};
+ghost use Rattle.gtfs_rows.specs.Views.{content_of_parts};
 ghost use Rattle.gtfs_runs.specs.Kinds.{has_untimed, is_untimed_at};
 ghost use Rattle.gtfs_runs.specs.StopLanes.{LaneValue, filled_value, list_value};
 ghost use Rattle.gtfs_runs.specs.steps.Apart.{AreApart};
@@ -24,8 +24,9 @@ pub(crate) fn split(
     times: Times,
 ) -> Result<(Vec<ListLane>, Vec<FilledLane>), OutOfMemory>
     requires { is_interpolated times ≡ false
-        → All (λ lane. has_untimed (content_of feed.now) lane ≡ false) (map list_value lists.items) }
-    ensures { IfOk result (λ apart. AreApart (content_of feed.now)
+        → All (λ lane. has_untimed (content_of_parts feed.now) lane ≡ false)
+        (map list_value lists.items) }
+    ensures { IfOk result (λ apart. AreApart (content_of_parts feed.now)
         (map list_value lists.items) (map list_value apart.0.items)
         (map filled_value apart.1.items)) }
 {
@@ -41,7 +42,7 @@ fn by_times(
     feed: &Feed,
     lists: Vec<ListLane>,
 ) -> Result<(Vec<ListLane>, Vec<FilledLane>), OutOfMemory>
-    ensures { IfOk result (λ apart. AreApart (content_of feed.now)
+    ensures { IfOk result (λ apart. AreApart (content_of_parts feed.now)
         (map list_value lists.items) (map list_value apart.0.items)
         (map filled_value apart.1.items)) }
 {
@@ -60,9 +61,9 @@ fn push_list(
     given: &mut Vec<ListLane>,
     filled: &mut Vec<FilledLane>,
 ) -> Result<(), OutOfMemory>
-    ensures { OnOk result ((lists : List LaneValue) → AreApart (content_of feed.now) lists
+    ensures { OnOk result ((lists : List LaneValue) → AreApart (content_of_parts feed.now) lists
         (map list_value given.old.items) (map filled_value filled.old.items)
-        → AreApart (content_of feed.now) (lists ++ list_value list ∷ [])
+        → AreApart (content_of_parts feed.now) (lists ++ list_value list ∷ [])
         (map list_value given.new.items) (map filled_value filled.new.items)) }
 {
     if has_untimed(feed, list.as_slice()) {
@@ -75,14 +76,14 @@ fn push_list(
 
 // Whether one of these events is at a stop time without a time of its own.
 fn has_untimed(feed: &Feed, events: &[Event]) -> bool
-    ensures { result ≡ list_any (is_untimed_at (content_of feed.now)) events.now }
+    ensures { result ≡ list_any (is_untimed_at (content_of_parts feed.now)) events.now }
 {
     events.iter().any(|event| is_untimed_at(feed, event))
 }
 
 // Whether an event is at a stop time without a time of its own.
 fn is_untimed_at(feed: &Feed, event: &Event) -> bool
-    ensures { result ≡ is_untimed_at (content_of feed.now) event.now }
+    ensures { result ≡ is_untimed_at (content_of_parts feed.now) event.now }
 {
     feed.soundness();
     if event.trip.0 >= feed.trip_count() {

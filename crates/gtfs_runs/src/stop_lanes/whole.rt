@@ -1,6 +1,5 @@
 ghost use Rattle.std.specs.Prelude.{◌<◌, IfOk, length, map};
-ghost use Rattle.gtfs_feed.specs.Content.{content_of};
-ghost use Rattle.gtfs_rows.specs.Views.{service_ids, stop_ids, text_of_number};
+ghost use Rattle.gtfs_rows.specs.Views.{content_of_parts, service_ids, stop_ids, text_of_number};
 ghost use Rattle.gtfs_runs.specs.StopLanes.{list_value, period_value};
 ghost use Rattle.gtfs_runs.specs.steps.Courses.{stopping_of};
 ghost use Rattle.gtfs_runs.specs.steps.Finds.{AreFound};
@@ -32,7 +31,7 @@ pub(crate) fn whole(
     times: Times,
 ) -> Result<(Vec<ListLane>, Vec<StepLane>), OutOfMemory>
     requires { stop.0 < length feed.now.stops }
-    ensures { IfOk result (λ lanes. AreWhole (timed times (content_of feed.now))
+    ensures { IfOk result (λ lanes. AreWhole (timed times (content_of_parts feed.now))
         (text_of_number (stop_ids feed.now) stop.0) (service_ids feed.now)
         (map list_value lanes.0.items) (map period_value lanes.1.items)) }
 {
@@ -49,7 +48,8 @@ pub(crate) fn whole_in_index(
     stop: StopNo,
 ) -> Result<(Vec<ListLane>, Vec<StepLane>), OutOfMemory>
     requires { stop.0 < length index.now.feed.stops }
-    ensures { IfOk result (λ lanes. AreWhole (timed index.now.times (content_of index.now.feed))
+    ensures { IfOk result (λ lanes. AreWhole
+        (timed index.now.times (content_of_parts index.now.feed))
         (text_of_number (stop_ids index.now.feed) stop.0) (service_ids index.now.feed)
         (map list_value lanes.0.items) (map period_value lanes.1.items)) }
 {
@@ -70,7 +70,7 @@ fn in_lanes(
     requires found { AreFound (timed_parts times feed.now) stop.0 (length feed.now.trips)
         (map (stopping_of feed.now) listed.items) (map period_value periods.items) }
     requires numbers { AreNumbered feed.now listed.items }
-    ensures { IfOk result (λ lanes. AreWhole (timed times (content_of feed.now))
+    ensures { IfOk result (λ lanes. AreWhole (timed times (content_of_parts feed.now))
         (text_of_number (stop_ids feed.now) stop.0) (service_ids feed.now)
         (map list_value lanes.0.items) (map period_value lanes.1.items)) }
 {

@@ -2,7 +2,7 @@ use Rattle.std.proofs.Common.{◌∙◌, sym, ap, subst, refl}
 use Rattle.std.specs.Prelude.{bytes_eq, option_map, position}
 use Rattle.std.proofs.lemmas.Bool.{true≢false}
 use Rattle.gtfs_days.specs.Zone.{zone_origin}
-use Rattle.gtfs_rows.specs.Views.{content_of_parts as content_of, stop_ids}
+use Rattle.gtfs_rows.specs.Views.{content_of_parts, stop_ids}
 use Rattle.gtfs_rows.specs.declared.parts.Parts.{Parts}
 use Rattle.gtfs_times.specs.Filling.{timed}
 use Rattle.gtfs_board.specs.Board.{keys_of}
@@ -29,13 +29,13 @@ pub returns-in-Some-clause-board : goal.returns-in-Some-clause-board
 returns-in-Some-clause-board c =
     let p = c.args.index.now.feed in
     let known = stop_some p c.args.stop.now c.in-Some.number.0 (sym (c.stop.ensures ∙ ap (λ (q : Parts). position (bytes_eq c.args.stop.now) (stop_ids q)) c.feed.ensures) ∙ ap (option_map (λ n. n.0)) c.in-Some.is) in
-    if_ok c.over_indexed.result _ _ c.over_indexed.ensures.opened (λ b h. subst (λ s. IsBoard (timed c.args.index.now.times (content_of p)) (zone_origin c.args.zone.now) s c.args.span.from c.args.span.until (option_map (λ k. plain_key k.now) c.args.after) (keys_of b.rest)) known.1.0 h.board)
+    if_ok c.over_indexed.result _ _ c.over_indexed.ensures.opened (λ b h. subst (λ s. IsBoard (timed c.args.index.now.times (content_of_parts p)) (zone_origin c.args.zone.now) s c.args.span.from c.args.span.until (option_map (λ k. plain_key k.now) c.args.after) (keys_of b.rest)) known.1.0 h.board)
 
 pub returns-in-Some-clause-settings : goal.returns-in-Some-clause-settings
 returns-in-Some-clause-settings c =
     let p = c.args.index.now.feed in
     let known = stop_some p c.args.stop.now c.in-Some.number.0 (sym (c.stop.ensures ∙ ap (λ (q : Parts). position (bytes_eq c.args.stop.now) (stop_ids q)) c.feed.ensures) ∙ ap (option_map (λ n. n.0)) c.in-Some.is) in
-    if_ok c.over_indexed.result _ _ c.over_indexed.ensures.opened (λ b h. subst (λ s. HasSettings (timed c.args.index.now.times (content_of p)) c.args.zone.now s c.args.span (option_map (λ k. plain_key k.now) c.args.after) b) known.1.0 h.settings)
+    if_ok c.over_indexed.result _ _ c.over_indexed.ensures.opened (λ b h. subst (λ s. HasSettings (timed c.args.index.now.times (content_of_parts p)) c.args.zone.now s c.args.span (option_map (λ k. plain_key k.now) c.args.after) b) known.1.0 h.settings)
 
 pub returns-in-None-clause-unknown : goal.returns-in-None-clause-unknown
 returns-in-None-clause-unknown c =

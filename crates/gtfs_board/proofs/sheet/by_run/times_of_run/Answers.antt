@@ -1,7 +1,7 @@
 use Rattle.std.proofs.Common.{◌≡◌, ◌∙◌, Some, length, sym, ap, subst, arith}
 use Rattle.std.specs.List.{slice_get}
 use Rattle.gtfs_rows.specs.Trips.{stop_rows_by_trip}
-use Rattle.gtfs_runs.specs.Patterns.{rows_of}
+use Rattle.gtfs_runs.specs.Patterns.{rows_of_number}
 use Rattle.gtfs_times.specs.TimedRows.{filled_stop_times, timed_parts}
 use Rattle.gtfs_times.specs.declared.times.Times.TheVariants.{Interpolated}
 use Rattle.gtfs_times.proofs.FillValue.{filled-length}
@@ -33,7 +33,7 @@ times_along-requires-2-clause-within c =
     let p = c.args.feed.now in
     let rows = c.trip_rows-rows.result.now in
     let many : length c.as_slice.result.now ≡ length rows = ap length (c.as_slice.ensures.value ∙ c.in_ok-rows.ensures) ∙ filled-length rows in
-    let long : length (rows_of p c.args.column.trip.0) ≡ length rows = ap length (rows-are p c.args.column.trip.0 rows c.trip_rows-rows.ensures) in
+    let long : length (rows_of_number p c.args.column.trip.0) ≡ length rows = ap length (rows-are p c.args.column.trip.0 rows c.trip_rows-rows.ensures) in
     omega (arith, c.requires.reaches, many, long)
 
 pub times_along-requires-2-clause-keep : goal.times_along-requires-2-clause-keep

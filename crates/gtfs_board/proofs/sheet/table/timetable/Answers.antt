@@ -1,7 +1,7 @@
 use Rattle.std.proofs.Common.{◌∙◌, sym, ap, refl}
 use Rattle.std.specs.Prelude.{option_map}
 use Rattle.std.proofs.lemmas.Bool.{true≢false}
-use Rattle.gtfs_rows.specs.Views.{content_of_parts as content_of}
+use Rattle.gtfs_rows.specs.Views.{content_of_parts}
 use Rattle.gtfs_times.specs.Filling.{timed}
 use Rattle.gtfs_board.specs.Timetable.{sheets}
 use Rattle.gtfs_board.proofs.Results.{if_ok}
@@ -19,7 +19,7 @@ returns-in-Some-clause-unknown c =
 pub returns-in-Some-clause-sheets : goal.returns-in-Some-clause-sheets
 returns-in-Some-clause-sheets c =
     let known = route-some c.args.feed.now c.args.route.now c.in-Some.number.0 (sym c.route.ensures ∙ ap (option_map (λ n. n.0)) c.in-Some.is) in
-    if_ok c.sheets_of_route.result _ _ c.sheets_of_route.ensures.sheets (λ found are. are ∙ ap (λ id. sheets (timed c.args.times (content_of c.args.feed.now)) id c.args.direction c.args.day) known.1.0)
+    if_ok c.sheets_of_route.result _ _ c.sheets_of_route.ensures.sheets (λ found are. are ∙ ap (λ id. sheets (timed c.args.times (content_of_parts c.args.feed.now)) id c.args.direction c.args.day) known.1.0)
 
 pub returns-in-None-clause-unknown : goal.returns-in-None-clause-unknown
 returns-in-None-clause-unknown c =

@@ -1,6 +1,6 @@
 use Rattle.std.proofs.Common.{◌≡◌, ap, rules, Err, option_map, to_z, of_z, to_z-of_z, FitsSigned, w64}
 use Rattle.gtfs_days.specs.Zone.{zone_origin}
-use Rattle.gtfs_rows.specs.Views.{content_of_parts as content_of}
+use Rattle.gtfs_rows.specs.Views.{content_of_parts}
 use Rattle.gtfs_board.specs.Lent.{plain_key}
 use Rattle.gtfs_board.specs.declared.board.BoardFault.{BoardFault}
 use Rattle.gtfs_board.specs.declared.span.Span.{Span}
@@ -19,7 +19,7 @@ returns-in-Ok-clause-board c =
     let back_x : to_z w64 (of_z w64 x) ≡ x = to_z-of_z fits_x in
     let back_y : to_z w64 (of_z w64 y) ≡ y = to_z-of_z fits_y in
     let span : Span = record { from = to_z w64 (of_z w64 x); until = to_z w64 (of_z w64 y) } in
-    lists-board (content_of c.args.feed.now) c.args.zone.now c.args.words.now.stop.now (request_of c.args.values.now) span x y
+    lists-board (content_of_parts c.args.feed.now) c.args.zone.now c.args.words.now.stop.now (request_of c.args.values.now) span x y
     (option_map (λ k. plain_key k.now) c.as_ref.result) c.in-Ok.board.rest back_x back_y
     c.in_ok-instant.ensures.value c.in_ok-instant-2.ensures.value (after-lent c.as_ref.result c.args.values.now.after c.as_ref.ensures.value)
     (λ none. cc (c.in-Ok.ensures.unknown.1 none)) (λ both. cc (c.in-Ok.ensures.bad.1 both)) c.in-Ok.ensures.board c.in-Ok.ensures.shown

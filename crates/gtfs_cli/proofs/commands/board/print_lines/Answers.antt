@@ -1,5 +1,5 @@
 use Rattle.std.proofs.Common.{inr, subst}
-use Rattle.gtfs_rows.specs.Views.{content_of_parts as content_of}
+use Rattle.gtfs_rows.specs.Views.{content_of_parts}
 use Rattle.gtfs_board.specs.Page.{IsCutShort, IsPage, IsStopped}
 use Rattle.gtfs_board.specs.PageFaults.{EndsPage, IsCounted}
 use Rattle.gtfs_board.specs.declared.page.PageFault.{PageFault}
@@ -13,7 +13,7 @@ use Rattle.gtfs_cli.proofs.commands.board.print_lines.Goals as goal
 
 pub returns-in_err-board-clause-cut_short : goal.returns-in_err-board-clause-cut_short
 returns-in_err-board-clause-cut_short g c =
-    let f = content_of c.args.feed.now in
+    let f = content_of_parts c.args.feed.now in
     let z = c.args.zone.now in
     let stop = c.args.words.now.stop.now in
     let asked = request_of c.args.values.now in
@@ -24,7 +24,7 @@ returns-in_err-board-clause-cut_short g c =
 
 pub returns-in_err-board-clause-refused : goal.returns-in_err-board-clause-refused
 returns-in_err-board-clause-refused g c =
-    let f = content_of c.args.feed.now in
+    let f = content_of_parts c.args.feed.now in
     let z = c.args.zone.now in
     let stop = c.args.words.now.stop.now in
     let asked = request_of c.args.values.now in
@@ -35,7 +35,7 @@ returns-in_err-board-clause-refused g c =
 
 pub returns-in-Ok-clause-printed : goal.returns-in-Ok-clause-printed
 returns-in-Ok-clause-printed g c =
-    of-board IsPage (content_of c.args.feed.now) c.args.zone.now c.in_ok-board.board.zone c.args.words.now.stop.now (request_of c.args.values.now)
+    of-board IsPage (content_of_parts c.args.feed.now) c.args.zone.now c.in_ok-board.board.zone c.args.words.now.stop.now (request_of c.args.values.now)
     c.in_ok-board.board.rest _ _ _ _ c.in_ok-board.ensures.zone c.in_ok-board.ensures.board c.in-Ok.ensures.page
 
 pub returns-in-Err-Out-clause-cut_short : goal.returns-in-Err-Out-clause-cut_short
@@ -46,7 +46,7 @@ returns-in-Err-Out-clause-cut_short g c =
     let limit = c.args.values.now.limit in
     let old = g.O.Out.told c.args.out.now in
     let new = g.O.Out.told c.write_page.new.out in
-    of-board IsCutShort (content_of c.args.feed.now) c.args.zone.now z c.args.words.now.stop.now (request_of c.args.values.now) all left old new _
+    of-board IsCutShort (content_of_parts c.args.feed.now) c.args.zone.now z c.args.words.now.stop.now (request_of c.args.values.now) all left old new _
     c.in_ok-board.ensures.zone c.in_ok-board.ensures.board
     (subst (λ (e : PageFault). EndsPage z limit all left old new e) c.in-Err-Out.field-0-is c.in-Err-Out.ensures.fault)
 
@@ -58,7 +58,7 @@ returns-clause-cut_short g c =
     let limit = c.args.values.now.limit in
     let old = g.O.Out.told c.args.out.now in
     let new = g.O.Out.told c.write_page.new.out in
-    inr (of-board IsStopped (content_of c.args.feed.now) c.args.zone.now z c.args.words.now.stop.now (request_of c.args.values.now) all left old new _
+    inr (of-board IsStopped (content_of_parts c.args.feed.now) c.args.zone.now z c.args.words.now.stop.now (request_of c.args.values.now) all left old new _
     c.in_ok-board.ensures.zone c.in_ok-board.ensures.board
     (subst (λ (e : PageFault). EndsPage z limit all left old new e) c.in-Err-OutOfMemory.field-0-is c.in-Err-OutOfMemory.ensures.fault))
 

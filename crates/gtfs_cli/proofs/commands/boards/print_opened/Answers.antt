@@ -6,7 +6,7 @@ use Rattle.gtfs_devices.specs.Device.{Rises}
 use Rattle.gtfs_cli.specs.Checking.{IsSendingCause}
 use Rattle.gtfs_cli.specs.LentRequests.{stop_request_of}
 use Rattle.gtfs_cli.specs.ManyBoards.{EndsOne}
-use Rattle.gtfs_cli.specs.Requests.{heading_of}
+use Rattle.gtfs_cli.specs.Requests.{request_heading}
 use Rattle.gtfs_cli.specs.declared.commands.refusal.Refusal.TheVariants.{OutOfMemory, OutputFailed}
 use Rattle.gtfs_cli.proofs.Endings.{told-up}
 use Rattle.gtfs_cli.proofs.Parts.{some-sent}
@@ -35,7 +35,7 @@ returns-in_err-write_text-clause-cut_short g c = λ f lists.
     let n = c.in_err-write_text.field-0.0.written in
     told-up c.from_residual-in_err-write_text.result OutputFailed (EndsOne f z q old new) c.from_residual-in_err-write_text.ensures.1
     (heading_cut f z q old new
-    (some-sent old new (heading_of q.texts) n (subst (λ (t : List ℕ). Appends old new (take n t)) text c.in_err-write_text.ensures.prefix)))
+    (some-sent old new (request_heading q.texts) n (subst (λ (t : List ℕ). Appends old new (take n t)) text c.in_err-write_text.ensures.prefix)))
 
 pub returns-in-Ok-clause-printed : goal.returns-in-Ok-clause-printed
 returns-in-Ok-clause-printed g c = λ f lists.

@@ -4,7 +4,7 @@ use Rattle.gtfs_devices.specs.Folder.{Store}
 use Rattle.gtfs_table.specs.Reading.{kept_files}
 use Rattle.gtfs_table.proofs.FolderFacts.{calls-more}
 use Rattle.gtfs_table.proofs.StoreFacts.{on_ok-always, on_ok-map}
-use Rattle.gtfs_rows.specs.Views.{content_of_parts as content_of}
+use Rattle.gtfs_rows.specs.Views.{content_of_parts}
 use Rattle.gtfs_rows.proofs.Passing.{written_form}
 use Rattle.gtfs_words.specs.Words.{merge_texts_of}
 use Rattle.gtfs_cli.specs.MergeParts.{merge_request_of}
@@ -83,7 +83,7 @@ returns-in_err-write_feed-clause-refused g c =
     let m = c.in_ok-merged.merged in
     let r = c.in_err-write_feed.field-0.0 in
     told-up c.from_residual-in_err-write_feed.result r (IsMergeCause limit held asked before after) c.from_residual-in_err-write_feed.ensures.1
-    (writing-cause limit held asked (content_of m.feed) (names_report c.in_ok-values.values.near m.names) c.in_ok-merged.ensures.merged before after refl mid now x
+    (writing-cause limit held asked (content_of_parts m.feed) (names_report c.in_ok-values.values.near m.names) c.in_ok-merged.ensures.merged before after refl mid now x
     c.in_ok-merged.ensures.no_failure r c.in_err-write_feed.ensures.refused)
 
 pub returns-in_err-write_feed-clause-cut_short : goal.returns-in_err-write_feed-clause-cut_short
@@ -98,8 +98,8 @@ returns-in_err-write_feed-clause-cut_short g c =
     let m = c.in_ok-merged.merged in
     let r = c.in_err-write_feed.field-0.0 in
     told-up c.from_residual-in_err-write_feed.result r (EndsMerge limit held asked now told told) c.from_residual-in_err-write_feed.ensures.1
-    (writing-ends limit held asked (content_of m.feed) (names_report c.in_ok-values.values.near m.names) c.in_ok-merged.ensures.merged x y now told told (kept told) r
-    (subst (λ (h : Option Store). IsWritingEnd h now x y asked.out (content_of m.feed) r) c.merge_folders.ensures.unchanged c.in_err-write_feed.ensures.refused))
+    (writing-ends limit held asked (content_of_parts m.feed) (names_report c.in_ok-values.values.near m.names) c.in_ok-merged.ensures.merged x y now told told (kept told) r
+    (subst (λ (h : Option Store). IsWritingEnd h now x y asked.out (content_of_parts m.feed) r) c.merge_folders.ensures.unchanged c.in_err-write_feed.ensures.refused))
 
 pub returns-clause-printed : goal.returns-clause-printed
 returns-clause-printed g c =
@@ -108,7 +108,7 @@ returns-clause-printed g c =
     let now = g.F.Folders.held c.write_feed.new.folders in
     let asked = merge_texts_of c.args.words.now in
     let m = c.in_ok-merged.merged in
-    let f = content_of m.feed in
+    let f = content_of_parts m.feed in
     let files = subst (λ (h : Option Store). HoldsFiles h now asked.out f kept_files) c.merge_folders.ensures.unchanged c.in_ok-write_feed.ensures.written in
     let again = reads-again f held now asked.out (written_form f c.soundness.ensures.content) c.in_ok-write_feed.ensures.read files in
     on_ok-map c.print_names.result _ _
@@ -123,7 +123,7 @@ returns-clause-cut_short g c =
     let now = g.F.Folders.held c.write_feed.new.folders in
     let asked = merge_texts_of c.args.words.now in
     let m = c.in_ok-merged.merged in
-    let f = content_of m.feed in
+    let f = content_of_parts m.feed in
     let files = subst (λ (h : Option Store). HoldsFiles h now asked.out f kept_files) c.merge_folders.ensures.unchanged c.in_ok-write_feed.ensures.written in
     let again = reads-again f held now asked.out (written_form f c.soundness.ensures.content) c.in_ok-write_feed.ensures.read files in
     both-err c.print_names.result _ _ _
@@ -141,7 +141,7 @@ returns-clause-refused g c =
     let before : Failures = record { folders = g.F.Folders.failure_count c.args.folders.now; output = g.O.Out.failure_count c.args.out.now } in
     let after : Failures = record { folders = g.F.Folders.failure_count c.write_feed.new.folders; output = g.O.Out.failure_count c.print_names.new.out } in
     IfErr-weaker c.print_names.result _ _
-    (printing-cause limit held asked (content_of m.feed) (names_report c.in_ok-values.values.near m.names) c.in_ok-merged.ensures.merged before after
+    (printing-cause limit held asked (content_of_parts m.feed) (names_report c.in_ok-values.values.near m.names) c.in_ok-merged.ensures.merged before after
     (c.in_ok-write_feed.ensures.no_failure ∙ c.in_ok-merged.ensures.no_failure))
     c.print_names.ensures.refused
 

@@ -8,7 +8,7 @@ use Rattle.gtfs_table.specs.Reading.{kept_files}
 use Rattle.gtfs_table.proofs.FolderFacts.{calls-more, calls-none}
 use Rattle.gtfs_table.specs.declared.file.File.{File}
 use Rattle.gtfs_table.specs.declared.file.File.TheVariants as file
-use Rattle.gtfs_rows.specs.Views.{content_of_parts as content_of}
+use Rattle.gtfs_rows.specs.Views.{content_of_parts}
 use Rattle.gtfs_cli.specs.MergeParts.{ReadsAs}
 use Rattle.gtfs_cli.specs.Merges.{IsWritingEnd}
 use Rattle.gtfs_cli.specs.Refusals.{TellsFolders}
@@ -23,8 +23,8 @@ same n = omega arith
 
 pub loop-file-init : goal.loop-file-init
 loop-file-init g c = record {
-  holds = none-held (content_of c.args.feed.now) c.args.dir.now (g.F.Folders.held c.args.folders.now);
-  read = All-nil (ReadsAs (content_of c.args.feed.now));
+  holds = none-held (content_of_parts c.args.feed.now) c.args.dir.now (g.F.Folders.held c.args.folders.now);
+  read = All-nil (ReadsAs (content_of_parts c.args.feed.now));
   grows = same (g.F.Folders.failure_count c.args.folders.now);
   no_failure = refl;
   called = calls-none (g.F.Folders.calls c.args.folders.now);
@@ -33,9 +33,9 @@ loop-file-init g c = record {
 
 pub loop-file-preserved : goal.loop-file-preserved
 loop-file-preserved g c = record {
-  holds = file-held (content_of c.args.feed.now) c.args.dir.now _ _ _ c.loop-file.file-index file.Agency (omega (arith, c.loop-file-test.true)) c.loop-file.invariant.holds
+  holds = file-held (content_of_parts c.args.feed.now) c.args.dir.now _ _ _ c.loop-file.file-index file.Agency (omega (arith, c.loop-file-test.true)) c.loop-file.invariant.holds
       c.in_ok-write_file.ensures.written;
-  read = All-more (ReadsAs (content_of c.args.feed.now)) kept_files c.loop-file.file-index file.Agency (omega (arith, c.loop-file-test.true)) c.loop-file.invariant.read c.in_ok-write_file.ensures.read;
+  read = All-more (ReadsAs (content_of_parts c.args.feed.now)) kept_files c.loop-file.file-index file.Agency (omega (arith, c.loop-file-test.true)) c.loop-file.invariant.read c.in_ok-write_file.ensures.read;
   grows = omega (arith, c.loop-file.invariant.grows, c.write_file.ensures.grows);
   no_failure = c.in_ok-write_file.ensures.no_failure ∙ c.loop-file.invariant.no_failure;
   called = calls-more c.loop-file.file-index 1 (g.F.Folders.calls c.args.folders.now) (g.F.Folders.calls c.loop-file.folders) (g.F.Folders.calls c.write_file.new.folders)
@@ -45,11 +45,11 @@ loop-file-preserved g c = record {
 
 pub returns-clause-written : goal.returns-clause-written
 returns-clause-written g c =
-    files-held (content_of c.args.feed.now) c.args.dir.now _ _ c.loop-file.file-index (omega (arith, c.loop-file-test.false)) c.loop-file.invariant.holds
+    files-held (content_of_parts c.args.feed.now) c.args.dir.now _ _ c.loop-file.file-index (omega (arith, c.loop-file-test.false)) c.loop-file.invariant.holds
 
 pub returns-clause-read : goal.returns-clause-read
 returns-clause-read g c =
-    subst (λ (xs : List File). All (ReadsAs (content_of c.args.feed.now)) xs) (take_all c.loop-file.file-index kept_files (omega (arith, c.loop-file-test.false))) c.loop-file.invariant.read
+    subst (λ (xs : List File). All (ReadsAs (content_of_parts c.args.feed.now)) xs) (take_all c.loop-file.file-index kept_files (omega (arith, c.loop-file-test.false))) c.loop-file.invariant.read
 
 pub returns-in_err-write_file-clause-refused : goal.returns-in_err-write_file-clause-refused
 returns-in_err-write_file-clause-refused g c =
@@ -59,7 +59,7 @@ returns-in_err-write_file-clause-refused g c =
     let first = g.F.Folders.failure_count c.args.folders.now in
     let before = g.F.Folders.failure_count c.loop-file.folders in
     let end = g.F.Folders.failure_count c.write_file.new.folders in
-    let f = content_of c.args.feed.now in
+    let f = content_of_parts c.args.feed.now in
     let r = c.in_err-write_file.field-0.0 in
     let named : 0 < length c.args.dir.now = omega (arith, eqb-false (length c.args.dir.now) 0 (sym c.is_empty.ensures ∙ c.if-is_empty.false)) in
     told-up c.from_residual.result r (IsWritingEnd old new first end c.args.dir.now f) c.from_residual.ensures.1

@@ -3,7 +3,7 @@ use Rattle.std.specs.Prelude.{flat_map, OnErr, OnOk}
 use Rattle.std.specs.Io.KnownBytes.{Appends}
 use Rattle.std.proofs.lemmas.Result.{IfErr-weaker}
 use Rattle.gtfs_table.proofs.StoreFacts.{on_ok-map}
-use Rattle.gtfs_rows.specs.Views.{content_of_parts as content_of}
+use Rattle.gtfs_rows.specs.Views.{content_of_parts}
 use Rattle.gtfs_board.specs.LentSheets.{plain_sheet}
 use Rattle.gtfs_board.specs.Timetable.{Sheet, sheet_text}
 use Rattle.gtfs_cli.specs.Refusals.{TellsOutput}
@@ -17,7 +17,7 @@ use Rattle.gtfs_cli.proofs.commands.timetable.print_sheets.Goals as goal
 
 pub returns-in_err-sheets-clause-cut_short : goal.returns-in_err-sheets-clause-cut_short
 returns-in_err-sheets-clause-cut_short g c =
-    let f = content_of c.args.feed.now in
+    let f = content_of_parts c.args.feed.now in
     let q = timetable_request_of c.args.values.now in
     let told = g.O.Out.told c.args.out.now in
     let r = c.in_err-sheets.field-0.0 in
@@ -26,7 +26,7 @@ returns-in_err-sheets-clause-cut_short g c =
 
 pub returns-in_err-sheets-clause-refused : goal.returns-in_err-sheets-clause-refused
 returns-in_err-sheets-clause-refused g c =
-    let f = content_of c.args.feed.now in
+    let f = content_of_parts c.args.feed.now in
     let count = g.O.Out.failure_count c.args.out.now in
     let r = c.in_err-sheets.field-0.0 in
     told-up c.from_residual.result r (IsSheetsCause f c.args.route.now count count) c.from_residual.ensures.1 (c.in_err-sheets.ensures.refused count)
@@ -43,7 +43,7 @@ returns-clause-printed g c =
 
 pub returns-clause-cut_short : goal.returns-clause-cut_short
 returns-clause-cut_short g c =
-    let f = content_of c.args.feed.now in
+    let f = content_of_parts c.args.feed.now in
     let q = timetable_request_of c.args.values.now in
     let old = g.O.Out.told c.args.out.now in
     let new = g.O.Out.told c.send_sheets.new.out in
@@ -55,7 +55,7 @@ returns-clause-cut_short g c =
 pub returns-clause-refused : goal.returns-clause-refused
 returns-clause-refused g c =
     IfErr-weaker c.send_sheets.result _ _
-    (sending-cause (content_of c.args.feed.now) c.args.route.now (g.O.Out.failure_count c.args.out.now) (g.O.Out.failure_count c.send_sheets.new.out))
+    (sending-cause (content_of_parts c.args.feed.now) c.args.route.now (g.O.Out.failure_count c.args.out.now) (g.O.Out.failure_count c.send_sheets.new.out))
     c.send_sheets.ensures.refused
 
 pub returns-in_err-sheets-clause-told : goal.returns-in_err-sheets-clause-told

@@ -1,12 +1,12 @@
 use Rattle.std.proofs.Common.{ap, Err}
-use Rattle.gtfs_rows.specs.Views.{content_of_parts as content_of}
+use Rattle.gtfs_rows.specs.Views.{content_of_parts}
 use Rattle.gtfs_board.specs.declared.sheet.TableFault.{TableFault}
 use Rattle.gtfs_cli.proofs.Tabled.{known-route}
 use Rattle.gtfs_cli.proofs.commands.timetable.sheets_of.Goals as goal
 
 -- the route is known where the sheets were made
 pub returns-in-Ok-clause-known : goal.returns-in-Ok-clause-known
-returns-in-Ok-clause-known c = known-route (content_of c.args.feed.now) c.args.route.now (λ none. cc (c.in-Ok.ensures.unknown.1 none))
+returns-in-Ok-clause-known c = known-route (content_of_parts c.args.feed.now) c.args.route.now (λ none. cc (c.in-Ok.ensures.unknown.1 none))
 
 pub returns-in-Err-UnknownRoute-clause-refused : goal.returns-in-Err-UnknownRoute-clause-refused
 returns-in-Err-UnknownRoute-clause-refused c = λ count.

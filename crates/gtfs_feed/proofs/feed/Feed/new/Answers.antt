@@ -5,7 +5,6 @@ use Rattle.gtfs_rows.specs.Reading.{content_of as content_of_dataset}
 use Rattle.gtfs_rows.specs.Views.{content_of_parts, stop_row_of}
 use Rattle.gtfs_parts.specs.FeedRows.{AreRowsOf}
 use Rattle.gtfs_parts.specs.FirstNamed.{headsigns_in}
-use Rattle.gtfs_feed.specs.Content.{content_of}
 use Rattle.gtfs_feed.proofs.ReadRows.{content_is, counted, make_a_feed}
 use Rattle.gtfs_feed.proofs.feed.Feed.new.Goals as goal
 
@@ -30,7 +29,7 @@ returns-clause-content c =
     content_is d c.new.ensures.passes p (subst (AreRowsOf d) (sym w.rows) c.in_ok-rows.ensures.rows) c.in_ok-stop_times.stop_times c.in_ok-stop_times.ensures
     w.stop_rows w.starts w.headsigns
     (λ h. w.content d c.in_ok-rows.ensures.rows ((λ i. map (map (stop_row_of p)) (parts (sym w.starts i) (sym w.stop_rows i))) ∙ h)) in
-    IfOk-weaker c.assemble.result (λ feed. feed ≡ p) (λ feed. content_of feed ≡ content_of_dataset d) (λ feed same. ap content_of_parts same ∙ is) c.assemble.ensures
+    IfOk-weaker c.assemble.result (λ feed. feed ≡ p) (λ feed. content_of_parts feed ≡ content_of_dataset d) (λ feed same. ap content_of_parts same ∙ is) c.assemble.ensures
 
 pub returns-clause-headsigns : goal.returns-clause-headsigns
 returns-clause-headsigns c =

@@ -3,7 +3,6 @@ use Rattle.std.proofs.lemmas.Result.{IfOk-weaker}
 use Rattle.gtfs_rows.specs.Trimmed.{trimmed, trimmed_parts}
 use Rattle.gtfs_rows.specs.Views.{IsSoundParts, content_of_parts}
 use Rattle.gtfs_rows.proofs.TrimmedParts.{content-trimmed, sound-parts}
-use Rattle.gtfs_feed.specs.Content.{content_of}
 use Rattle.gtfs_feed.proofs.feed.Feed.trimmed.Goals as goal
 
 pub assemble-requires : goal.assemble-requires
@@ -17,7 +16,7 @@ returns-clause-content c =
     let cut = c.args.cut in
     let p = c.args.self.now in
     let is : content_of_parts c.in_ok-parts.parts ≡ trimmed cut (content_of_parts p) = ap content_of_parts (c.in_ok-parts.ensures ∙ ap (trimmed_parts cut) c.parts.ensures.value) ∙ content-trimmed cut p in
-    IfOk-weaker c.assemble.result (λ feed. feed ≡ c.in_ok-parts.parts) (λ feed. content_of feed ≡ trimmed cut (content_of p)) (λ feed same. ap content_of_parts same ∙ is) c.assemble.ensures
+    IfOk-weaker c.assemble.result (λ feed. feed ≡ c.in_ok-parts.parts) (λ feed. content_of_parts feed ≡ trimmed cut (content_of_parts p)) (λ feed same. ap content_of_parts same ∙ is) c.assemble.ensures
 
 pub returns-clause-parts : goal.returns-clause-parts
 returns-clause-parts c =

@@ -2,7 +2,7 @@ use Rattle.std.proofs.Common.{rules, of_calls, ◌≡◌, ◌∙◌, List, Bool,
 use Rattle.std.specs.List.Sorted.{IsPartitionPoint}
 use Rattle.std.proofs.lemmas.List.Sorted.{IsPartitionPoint-from_clause}
 use Rattle.gtfs_runs.specs.declared.event.Event.{Event}
-use Rattle.gtfs_runs.specs.Order.{event_cmp, is_above}
+use Rattle.gtfs_runs.specs.Order.{event_cmp, is_above_moment}
 use Rattle.gtfs_runs.proofs.Finding.{find-parted, parted-upward}
 use Rattle.gtfs_runs.proofs.Orders.{above-upward}
 use Rattle.gtfs_runs.proofs.list_lane.ListLaneLane.first_above.Goals as goal
@@ -10,7 +10,7 @@ use Rattle.gtfs_runs.proofs.list_lane.ListLaneLane.first_above.Goals as goal
 pub returns-clause-first : goal.returns-clause-first
 returns-clause-first c =
     let xs : List Event = c.args.self.now.events.items in
-    let test : Event → Bool = is_above c.args.moment.now in
+    let test : Event → Bool = is_above_moment c.args.moment.now in
     let index = c.partition_point-index.result in
     let parted : IsPartitionPoint (λ x. not (test x) ≡ true) (λ x. not (test x) ≡ false) xs index =
     IsPartitionPoint-from_clause (λ x. not (test x)) xs index (rw c.deref.ensures.value at c.partition_point-index.ensures.partitioned) (parted-upward event_cmp test (above-upward c.args.moment.now) xs c.args.self.now.ascending) (λ a r f k. search (rules, of_calls)) in

@@ -2,7 +2,7 @@ use Rattle.std.proofs.Common.{◌≡◌, ◌≤◌, ◌<◌, ◌+◌, ◌==◌, 
 use Rattle.std.specs.List.{All, slice_get}
 use Rattle.gtfs_columns.specs.Values.{if_there}
 use Rattle.gtfs_runs.specs.Counts.{tally}
-use Rattle.gtfs_runs.specs.StopIndex.{is_row}
+use Rattle.gtfs_runs.specs.StopIndex.{is_this_row}
 use Rattle.gtfs_runs.specs.steps.AtStops.{StandBefore, at_stop, leaves_stop}
 use Rattle.gtfs_runs.proofs.AtStopFacts.{asked_within}
 use Rattle.gtfs_runs.proofs.Tallies.{all_rows, more_rows, no_rows}
@@ -17,7 +17,7 @@ pub loop-position-init : goal.loop-position-init
 loop-position-init c = record {
   length = refl;
   told = λ s t r p u fs.
-      no_rows (t == c.args.trip.0) (if_there (slice_get c.args.rows.now r) (leaves_stop p u c.args.rows.now fs s)) r (tally (is_row t r) (at_stop (map (λ x. x.items) c.args.found.now.items) s));
+      no_rows (t == c.args.trip.0) (if_there (slice_get c.args.rows.now r) (leaves_stop p u c.args.rows.now fs s)) r (tally (is_this_row t r) (at_stop (map (λ x. x.items) c.args.found.now.items) s));
   order = λ was. was;
 }
 
@@ -40,7 +40,7 @@ returns c =
       told = λ s t r p u fs.
           let q = leaves_stop p u rows fs s in
           c.loop-position.invariant.told s t r p u fs
-          ∙ ap (λ b. tally (is_row t r) (at_stop (map (λ x. x.items) c.args.found.now.items) s) + cond b 1 0)
+          ∙ ap (λ b. tally (is_this_row t r) (at_stop (map (λ x. x.items) c.args.found.now.items) s) + cond b 1 0)
           (all_rows (t == c.args.trip.0) (if_there (slice_get rows r) q) r n
           (λ holds. let known : r < length rows = asked_within (t == c.args.trip.0) q rows r holds in omega (arith, known, past)));
       order = λ was.

@@ -5,7 +5,7 @@ use Rattle.gtfs_rows.specs.declared.frequency.Frequency.{Frequency}
 use Rattle.gtfs_rows.specs.declared.parts.Parts.{Parts}
 use Rattle.gtfs_rows.specs.declared.trip.Trip.{Trip}
 use Rattle.gtfs_runs.specs.Counts.{tally}
-use Rattle.gtfs_runs.specs.StopIndex.{is_row}
+use Rattle.gtfs_runs.specs.StopIndex.{is_this_row}
 use Rattle.gtfs_runs.specs.steps.AtStops.{StandBefore, at_stop, leaves_stop}
 use Rattle.gtfs_runs.proofs.stop_index.at_stops.add_rows.Given as goal
 
@@ -13,8 +13,8 @@ use Rattle.gtfs_runs.proofs.stop_index.at_stops.add_rows.Given as goal
 abbrev pub invariant-loop-position : goal.invariant-loop-position
 invariant-loop-position l = record {
   length : length l.found.items ≡ length l.fn.found.items;
-  told : (s t r : ℕ) (p : Parts) (u : Trip) (fs : List Frequency) → tally (is_row t r) (at_stop (map (λ x. x.items) l.found.items) s)
-      ≡ tally (is_row t r) (at_stop (map (λ x. x.items) l.fn.found.items) s)
+  told : (s t r : ℕ) (p : Parts) (u : Trip) (fs : List Frequency) → tally (is_this_row t r) (at_stop (map (λ x. x.items) l.found.items) s)
+      ≡ tally (is_this_row t r) (at_stop (map (λ x. x.items) l.fn.found.items) s)
       + cond ((t == l.trip.0) && nat_lt r l.position && if_there (slice_get l.rows r) (leaves_stop p u l.rows fs s)) 1 0;
   order : All (StandBefore l.trip.0 0) (map (λ x. x.items) l.fn.found.items) → All (StandBefore l.trip.0 l.position) (map (λ x. x.items) l.found.items);
 }

@@ -3,7 +3,7 @@ use Rattle.std.specs.List.{All}
 use Rattle.std.proofs.lemmas.List.{length-map}
 use Rattle.gtfs_times.specs.TimedRows.{timed_parts}
 use Rattle.gtfs_runs.specs.Counts.{tally}
-use Rattle.gtfs_runs.specs.StopIndex.{is_row}
+use Rattle.gtfs_runs.specs.StopIndex.{is_this_row}
 use Rattle.gtfs_runs.specs.steps.AtStops.{StandBefore, at_stop, departs_of}
 use Rattle.gtfs_runs.proofs.AtStopFacts.{nothing_at, nothing_stands, trip_within}
 use Rattle.gtfs_runs.proofs.Tallies.{all_trips, more_trips, no_trips}
@@ -16,7 +16,7 @@ loop-number-init c =
     record {
       length = sym (length-map c.in_ok-found.found.items (λ x. x.items)) ∙ ap length empty ∙ length-map stops (λ _. []);
       told = λ s t r.
-          ap (λ l. tally (is_row t r) (at_stop l s)) empty ∙ ap (tally (is_row t r)) (nothing_at stops s) ∙ no_trips t (departs_of (timed_parts c.args.times c.args.feed.now) s t r);
+          ap (λ l. tally (is_this_row t r) (at_stop l s)) empty ∙ ap (tally (is_this_row t r)) (nothing_at stops s) ∙ no_trips t (departs_of (timed_parts c.args.times c.args.feed.now) s t r);
       order = subst (All (StandBefore 0 0)) (sym empty) (nothing_stands stops 0 0);
     }
 

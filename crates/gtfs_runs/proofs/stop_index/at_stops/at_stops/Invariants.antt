@@ -2,7 +2,7 @@ use Rattle.std.proofs.Common.{◌≡◌, ◌&&◌, ℕ, cond, length, map, nat_l
 use Rattle.std.specs.List.{All}
 use Rattle.gtfs_times.specs.TimedRows.{timed_parts}
 use Rattle.gtfs_runs.specs.Counts.{tally}
-use Rattle.gtfs_runs.specs.StopIndex.{is_row}
+use Rattle.gtfs_runs.specs.StopIndex.{is_this_row}
 use Rattle.gtfs_runs.specs.steps.AtStops.{StandBefore, at_stop, departs_of}
 use Rattle.gtfs_runs.proofs.stop_index.at_stops.at_stops.Given as goal
 
@@ -10,6 +10,6 @@ use Rattle.gtfs_runs.proofs.stop_index.at_stops.at_stops.Given as goal
 abbrev pub invariant-loop-number : goal.invariant-loop-number
 invariant-loop-number l = record {
   length : length l.found.items ≡ length l.feed.stops;
-  told : (s t r : ℕ) → tally (is_row t r) (at_stop (map (λ x. x.items) l.found.items) s) ≡ cond (nat_lt t l.number && departs_of (timed_parts l.times l.feed) s t r) 1 0;
+  told : (s t r : ℕ) → tally (is_this_row t r) (at_stop (map (λ x. x.items) l.found.items) s) ≡ cond (nat_lt t l.number && departs_of (timed_parts l.times l.feed) s t r) 1 0;
   order : All (StandBefore l.number 0) (map (λ x. x.items) l.found.items);
 }

@@ -3,7 +3,7 @@ use Rattle.std.proofs.lemmas.List.{get_or_default, take_all}
 use Rattle.gtfs_rows.specs.Views.{IsSoundParts}
 use Rattle.gtfs_times.specs.TimedRows.{timed_parts}
 use Rattle.gtfs_runs.specs.Counts.{tally}
-use Rattle.gtfs_runs.specs.StopIndex.{is_row}
+use Rattle.gtfs_runs.specs.StopIndex.{is_this_row}
 use Rattle.gtfs_runs.specs.declared.stop_index.children.Child.{Child}
 use Rattle.gtfs_runs.specs.steps.AtStops.{departs_of}
 use Rattle.gtfs_runs.proofs.LaneTallies.{plus-zero}
@@ -16,7 +16,7 @@ rows-requires c =
     subst (λ n. n < length c.args.index.now.feed.stops) (sym c.stop.ensures) (c.requires c.loop-child.child-index none c.loop-child-test.true)
 
 pub loop-child-init : goal.loop-child-init
-loop-child-init c = λ t r. sym (plus-zero (tally (is_row t r) c.args.rows.now.items))
+loop-child-init c = λ t r. sym (plus-zero (tally (is_this_row t r) c.args.rows.now.items))
 
 pub loop-child-preserved : goal.loop-child-preserved
 loop-child-preserved c = λ t r.
@@ -30,7 +30,7 @@ loop-child-preserved c = λ t r.
     let item : Child = get_or children k none in
     let named : c.stop.result.0 ≡ item.stop = c.stop.ensures in
     let inside : c.stop.result.0 < length p.stops = subst (λ n. n < length p.stops) (sym named) (c.requires k none c.loop-child-test.true) in
-    children_more (λ (x : Child). departs_of q x.stop t r) (is_row t r) (tally (is_row t r) c.args.rows.now.items) k item
+    children_more (λ (x : Child). departs_of q x.stop t r) (is_this_row t r) (tally (is_this_row t r) c.args.rows.now.items) k item
     _ _ _ children c.loop-child-test.true (get_or_default children k none item c.loop-child-test.true) (c.loop-child.invariant t r) c.in_ok-extend_from_slice.ensures.items
     (told_at choice p sound c.args.index.now.rows c.soundness.ensures c.stop.result.0 t r c.rows.result.now inside c.rows.ensures ∙ ap (λ n. cond (departs_of q n t r) 1 0) named)
 
@@ -40,4 +40,4 @@ returns c = λ t r.
     let children = c.args.children.now in
     let past : length children ≤ c.loop-child.child-index = omega (arith, c.loop-child-test.false) in
     c.loop-child.invariant t r
-    ∙ ap (λ l. tally (is_row t r) c.args.rows.now.items + tally (λ (x : Child). departs_of q x.stop t r) l) (take_all c.loop-child.child-index children past)
+    ∙ ap (λ l. tally (is_this_row t r) c.args.rows.now.items + tally (λ (x : Child). departs_of q x.stop t r) l) (take_all c.loop-child.child-index children past)

@@ -5,7 +5,7 @@ use Rattle.gtfs_rows.specs.Views.{IsSoundParts}
 use Rattle.gtfs_times.proofs.FilledContent.{sound-timed}
 use Rattle.gtfs_times.specs.TimedRows.{timed_parts}
 use Rattle.gtfs_runs.specs.Counts.{tally}
-use Rattle.gtfs_runs.specs.StopIndex.{departure_row_cmp, is_row}
+use Rattle.gtfs_runs.specs.StopIndex.{departure_row_cmp, is_this_row}
 use Rattle.gtfs_runs.specs.declared.stop_index.children.Child.{Child}
 use Rattle.gtfs_runs.specs.steps.AtStops.{departs_of}
 use Rattle.gtfs_runs.specs.steps.Places.{ArePlaceRows}
@@ -49,6 +49,6 @@ returns c =
     let pushed = c.in_ok-extend_from_slice.ensures.items ∙ ap (λ l. l ++ rows) c.new-rows.ensures.items in
     are-place-rows q s _ _
     (λ t r. c.in_ok-add_rows.ensures t r
-    ∙ ap (λ m. m + tally (λ (x : Child). departs_of q x.stop t r) children) (ap (tally (is_row t r)) pushed ∙ told_at choice p sound index c.soundness.ensures s t r rows c.requires c.rows.ensures)
+    ∙ ap (λ m. m + tally (λ (x : Child). departs_of q x.stop t r) children) (ap (tally (is_this_row t r)) pushed ∙ told_at choice p sound index c.soundness.ensures s t r rows c.requires c.rows.ensures)
     ∙ place_sum q (sound-timed p sound choice) s c.requires children c.children-children.ensures t r)
     c.sort_unstable.ensures.permutation c.sort_unstable.ensures.sorted
