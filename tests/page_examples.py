@@ -11,7 +11,7 @@ from program import ROOT, want
 
 CRATES = os.path.join(ROOT, "crates")
 LIBRARY = os.path.join(ROOT, "docs", "library.md")
-USAGE = os.path.join(CRATES, "gtfs_words", "src", "definitions.rt")
+USAGE = os.path.join(CRATES, "gtfs_commands", "src", "definitions.rt")
 
 
 def lines_of(path):
@@ -94,7 +94,7 @@ def test_page_examples():
     code, usage = set(lines), usage_lines()
     unknown, count = [], 0
     for path in sorted(glob.glob(os.path.join(CRATES, "*", "src", "lib.rt")) + glob.glob(os.path.join(CRATES, "*", "src", "main.rt"))):
-        known = code | usage if path.startswith(os.path.join(CRATES, "gtfs_words", "")) else code
+        known = code | usage if path.startswith(os.path.join(CRATES, "gtfs_commands", "")) else code
         more, checked = unknown_lines(path, page_blocks(path), known)
         unknown, count = unknown + more, count + checked
     more, checked = unknown_lines(LIBRARY, blocks(enumerate(lines_of(LIBRARY), 1), "```rust"), code)

@@ -33,7 +33,6 @@ pub use Rattle.gtfs_board.specs.Lent.{plain_key}
 pub use Rattle.gtfs_board.specs.Board.{keys_of}
 -- the stop, route, headsign and mark of a departure are those that the feed's rows say
 pub use Rattle.gtfs_board.specs.Shown.{IsShown}
-
 -- ---- what is left of a board, what waits, and what it costs
 
 -- what clauses see of a board: the departures that are left, what waits, its settings, and its steps
@@ -48,7 +47,6 @@ pub use Rattle.gtfs_board.specs.Opening.{HasSettings}
 pub use Rattle.gtfs_board.specs.Board.{IsQueued}
 -- how often lanes may have been asked for the service days that may have been opened
 pub use Rattle.gtfs_board.specs.Board.{steps_for_days}
-
 -- ---- `Board::next`: the next departure
 
 -- a departure, as a line shows it
@@ -65,7 +63,6 @@ pub use Rattle.gtfs_board.specs.Board.{step_count}
 pub use Rattle.gtfs_board.specs.Board.{AreStepsWithin}
 -- how many departures an answer has: one or none
 pub use Rattle.gtfs_board.specs.merge.Candidates.{taken}
-
 -- ---- `write_page`: a page of a board
 
 -- the lines of the first departures went out, at most the limit, and fewer only where nothing is left
@@ -76,12 +73,10 @@ pub use Rattle.gtfs_board.specs.PageFaults.{EndsPage}
 pub use Rattle.gtfs_board.specs.PageFaults.{IsCounted}
 -- such a page cost a step for each departure that was taken, beside the steps for days
 pub use Rattle.gtfs_board.specs.PageFaults.{AreFaultSteps}
-
 -- ---- `push_line`: a line
 
 -- a text grew by the line of a departure
 pub use Rattle.gtfs_board.specs.Lines.{AppendsLine}
-
 -- ---- `push_key` and `read_key`: keys as texts
 
 -- the text of a key: @INSTANT/TRIP/RUN/SEQUENCE/YYYYMMDD
@@ -92,7 +87,6 @@ pub use Rattle.gtfs_board.specs.KeyTexts.{key_of}
 pub use Rattle.gtfs_board.specs.Lent.{ReadsAs}
 -- the text of a key reads back: its numbers and its day lie within their limits
 pub use Rattle.gtfs_rows.specs.Key.{IsInRange}
-
 -- ---- `timetable` and `push_sheet`: the runs of a route on a day
 
 -- a feed has a route of this id

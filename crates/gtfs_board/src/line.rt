@@ -59,11 +59,7 @@ pub(crate) fn push_line_by(
 }
 
 // Appends the line of a departure, at whose instant the clock shows this.
-fn push_shown(
-    text: &mut String,
-    civil: Civil,
-    departure: &Departure<'_>,
-) -> Result<(), OutOfMemory>
+fn push_shown(text: &mut String, civil: Civil, departure: &Departure<'_>) -> Result<(), OutOfMemory>
     ensures appended { OnOk result (string_bytes text.new
         ≡ string_bytes text.old ++ line_text civil (listed departure.now)) }
     ensures unchanged { OnErr result (string_bytes text.new ≡ string_bytes text.old) }

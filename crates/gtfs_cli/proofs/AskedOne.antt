@@ -2,9 +2,9 @@
 use Rattle.std.proofs.Common.{◌≡◌, ◌⊎◌, inl, inr, refl, true, List, Option, Some, None}
 use Rattle.std.specs.Prelude.{codes, IsSome}
 use Rattle.clap.specs.Words.{Row, Text, first_of, subcommand_of, takes}
-use Rattle.gtfs_words.specs.Asked.{is_flagged, ForBoard, ForBoards, ForCheck, ForMerge, ForTimetable, HasBoard, HasBoards, HasMerge, HasTimetable, GivesBoard, GivesBoards, GivesMerge, GivesTimetable, IsWhole}
-use Rattle.gtfs_words.specs.Words.{gtfs_app, BoardTexts, BoardsTexts, MergeTexts, TimetableTexts}
-use Rattle.gtfs_words.proofs.GtfsWords.{whole}
+use Rattle.gtfs_commands.specs.Asked.{is_flagged, ForBoard, ForBoards, ForCheck, ForMerge, ForTimetable, HasBoard, HasBoards, HasMerge, HasTimetable, GivesBoard, GivesBoards, GivesMerge, GivesTimetable, IsWhole}
+use Rattle.gtfs_commands.specs.Words.{gtfs_app, BoardTexts, BoardsTexts, MergeTexts, TimetableTexts}
+use Rattle.gtfs_commands.proofs.GtfsWords.{whole}
 use Rattle.gtfs_cli.specs.WordsRun.{AsksOne}
 
 value_of : {A : Type 0} (o : Option A) → IsSome o → (x : A) × (o ≡ Some x)

@@ -5,7 +5,7 @@ use Rattle.std.specs.Io.KnownBytes.{Keeps}
 use Rattle.clap.specs.Words.{Text}
 use Rattle.gtfs_devices.specs.Device.{Rises}
 use Rattle.gtfs_devices.specs.Folder.{Store}
-use Rattle.gtfs_words.specs.Words.{boards_texts_of, BoardsTexts}
+use Rattle.gtfs_commands.specs.Words.{boards_texts_of, BoardsTexts}
 use Rattle.gtfs_cli.specs.BoardsRun.{AreListed, AreUnlisted, IsBoardsRun}
 use Rattle.gtfs_cli.specs.Checking.{IsSendingCause}
 use Rattle.gtfs_cli.specs.FileRead.{IsPathCause, IsZoneCause}

@@ -5,12 +5,12 @@ use Rattle.std.specs.Prelude.{is_ok, IsErrAnd, OnOk}
 use Rattle.clap.specs.Words.{Text, subcommand_of, takes}
 use Rattle.gtfs_devices.specs.Device.{Calls, FailsAtLast, MakesCalls}
 use Rattle.gtfs_table.proofs.FolderFacts.{calls-none}
-use Rattle.gtfs_words.specs.Words.{gtfs_app, IsCommandOf}
-use Rattle.gtfs_words.specs.declared.command.BoardWords.{BoardWords}
-use Rattle.gtfs_words.specs.declared.command.BoardsWords.{BoardsWords}
-use Rattle.gtfs_words.specs.declared.command.Command.TheVariants.{Board, Boards, Check, Merge, Timetable}
-use Rattle.gtfs_words.specs.declared.command.MergeWords.{MergeWords}
-use Rattle.gtfs_words.specs.declared.command.TimetableWords.{TimetableWords}
+use Rattle.gtfs_commands.specs.Words.{gtfs_app, IsCommandOf}
+use Rattle.gtfs_commands.specs.declared.command.BoardWords.{BoardWords}
+use Rattle.gtfs_commands.specs.declared.command.BoardsWords.{BoardsWords}
+use Rattle.gtfs_commands.specs.declared.command.Command.TheVariants.{Board, Boards, Check, Merge, Timetable}
+use Rattle.gtfs_commands.specs.declared.command.MergeWords.{MergeWords}
+use Rattle.gtfs_commands.specs.declared.command.TimetableWords.{TimetableWords}
 use Rattle.gtfs_cli.specs.Calls.{AreCalls, MakesAtMost, TakesCalls}
 use Rattle.gtfs_cli.specs.declared.commands.refusal.Refusal.{Refusal}
 use Rattle.gtfs_cli.specs.declared.commands.refusal.Refusal.TheVariants.{OutOfMemory}

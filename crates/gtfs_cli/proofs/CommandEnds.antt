@@ -7,15 +7,15 @@ use Rattle.std.proofs.lemmas.Result.{IfErr-weaker}
 use Rattle.clap.specs.Words.{Row, Text, subcommand_of, takes}
 use Rattle.gtfs_devices.specs.Folder.{Store}
 use Rattle.gtfs_table.proofs.StoreFacts.{on_ok-map}
-use Rattle.gtfs_words.specs.Asked.{ForBoard, ForBoards, ForCheck, ForMerge, ForTimetable}
-use Rattle.gtfs_words.specs.Words.{gtfs_app, boards_texts_of, merge_texts_of, texts_of, timetable_texts_of, AreRefused, BoardTexts, BoardsTexts, IsCommandOf, MergeTexts, TimetableTexts}
-use Rattle.gtfs_words.proofs.OneAsked.{same_board, same_boards, same_check, same_merge, same_timetable}
-use Rattle.gtfs_words.specs.declared.command.BoardWords.{BoardWords}
-use Rattle.gtfs_words.specs.declared.command.BoardsWords.{BoardsWords}
-use Rattle.gtfs_words.specs.declared.command.Command.{Command}
-use Rattle.gtfs_words.specs.declared.command.Command.TheVariants.{Board, Boards, Check, Merge, Timetable}
-use Rattle.gtfs_words.specs.declared.command.MergeWords.{MergeWords}
-use Rattle.gtfs_words.specs.declared.command.TimetableWords.{TimetableWords}
+use Rattle.gtfs_commands.specs.Asked.{ForBoard, ForBoards, ForCheck, ForMerge, ForTimetable}
+use Rattle.gtfs_commands.specs.Words.{gtfs_app, boards_texts_of, merge_texts_of, texts_of, timetable_texts_of, AreRefused, BoardTexts, BoardsTexts, IsCommandOf, MergeTexts, TimetableTexts}
+use Rattle.gtfs_commands.proofs.OneAsked.{same_board, same_boards, same_check, same_merge, same_timetable}
+use Rattle.gtfs_commands.specs.declared.command.BoardWords.{BoardWords}
+use Rattle.gtfs_commands.specs.declared.command.BoardsWords.{BoardsWords}
+use Rattle.gtfs_commands.specs.declared.command.Command.{Command}
+use Rattle.gtfs_commands.specs.declared.command.Command.TheVariants.{Board, Boards, Check, Merge, Timetable}
+use Rattle.gtfs_commands.specs.declared.command.MergeWords.{MergeWords}
+use Rattle.gtfs_commands.specs.declared.command.TimetableWords.{TimetableWords}
 use Rattle.gtfs_cli.specs.Boards.{EndsBoard, PrintsBoard}
 use Rattle.gtfs_cli.specs.CheckRun.{EndsCheck}
 use Rattle.gtfs_cli.specs.Checking.{IsReportOf}

@@ -8,7 +8,7 @@ use Rattle.gtfs_cli.specs.Asking.{AsksCheck, AsksFor, AsksTimetable}
 use Rattle.gtfs_cli.specs.Causes.{KeepsFromReading}
 use Rattle.gtfs_cli.specs.Failures.{Failures}
 use Rattle.gtfs_cli.specs.Statuses.{IsBadUsage, IsCauseOf, IsDeviceFault}
-use Rattle.gtfs_words.specs.Words.{texts_of, BoardTexts, TimetableTexts}
+use Rattle.gtfs_commands.specs.Words.{texts_of, BoardTexts, TimetableTexts}
 use Rattle.gtfs_cli.specs.TimetableOptions.{HasTimetableValues}
 use Rattle.gtfs_cli.specs.Timetables.{IsTimetableCause}
 use Rattle.gtfs_cli.specs.Refusals.{status_in, status_of, IsCause, IsCauseInWords, IsCheckCause, IsReadingCause}

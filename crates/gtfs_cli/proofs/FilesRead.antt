@@ -3,7 +3,7 @@ use Rattle.std.proofs.Common.{◌≡◌, ℕ, ◌<◌, length, inl, inr, refl, s
 use Rattle.gtfs_devices.specs.Folder.{CountsFault, RefusesRead, Store}
 use Rattle.gtfs_devices.specs.declared.folders.FolderFault.{FolderFault}
 use Rattle.gtfs_devices.specs.declared.folders.FolderFault.TheVariants as faults
-use Rattle.gtfs_words.specs.Words.{BoardTexts}
+use Rattle.gtfs_commands.specs.Words.{BoardTexts}
 use Rattle.gtfs_cli.specs.FileRead.{IsFileCause, IsPathCause, IsZoneCause}
 use Rattle.gtfs_cli.specs.Refusals.{IsCause}
 use Rattle.gtfs_cli.specs.OptionValues.{HasValues}

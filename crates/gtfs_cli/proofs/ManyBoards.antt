@@ -9,7 +9,7 @@ use Rattle.gtfs_table.specs.Tables.{without_marks}
 use Rattle.gtfs_rows.specs.Content.{Content}
 use Rattle.gtfs_rows.specs.Views.{content_of_parts}
 use Rattle.gtfs_rows.specs.declared.parts.Parts.{Parts as Feed}
-use Rattle.gtfs_words.specs.Words.{BoardsTexts}
+use Rattle.gtfs_commands.specs.Words.{BoardsTexts}
 use Rattle.gtfs_cli.specs.Boards.{HoldsFeed}
 use Rattle.gtfs_cli.specs.Checking.{IsSendingCause}
 use Rattle.gtfs_cli.specs.FileRead.{IsPathCause, IsZoneCause}

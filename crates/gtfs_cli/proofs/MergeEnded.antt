@@ -5,7 +5,7 @@ use Rattle.std.specs.Io.KnownBytes.{Keeps}
 use Rattle.clap.specs.Words.{Text}
 use Rattle.gtfs_devices.specs.Device.{Rises}
 use Rattle.gtfs_devices.specs.Folder.{Store}
-use Rattle.gtfs_words.specs.Words.{merge_texts_of, MergeTexts}
+use Rattle.gtfs_commands.specs.Words.{merge_texts_of, MergeTexts}
 use Rattle.gtfs_cli.specs.MergeRun.{IsMerged, IsMergeRun, IsUnmerged}
 use Rattle.gtfs_cli.specs.Merges.{IsMergeCause, OfEither}
 use Rattle.gtfs_cli.specs.Messages.{message}

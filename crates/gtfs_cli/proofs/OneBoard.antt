@@ -15,7 +15,7 @@ use Rattle.gtfs_rows.specs.Key.{Key}
 use Rattle.gtfs_times.specs.Filling.{timed}
 use Rattle.gtfs_board.specs.Page.{IsPage}
 use Rattle.gtfs_board.proofs.OneBoard.{one-board as one-list-of-keys}
-use Rattle.gtfs_words.specs.Words.{BoardTexts}
+use Rattle.gtfs_commands.specs.Words.{BoardTexts}
 use Rattle.gtfs_cli.specs.Boards.{OfBoard}
 use Rattle.gtfs_cli.specs.Messages.{line_of, message}
 use Rattle.gtfs_cli.specs.Outcomes.{none_failed, IsBoarded, IsBoardOutcome, Outcome}

@@ -8,7 +8,7 @@ use Rattle.gtfs_table.specs.Tables.{Dataset}
 use Rattle.gtfs_rows.specs.Content.{Content}
 use Rattle.gtfs_rows.specs.Departures.{Origins}
 use Rattle.gtfs_rows.specs.Reading.{content_of}
-use Rattle.gtfs_words.specs.Words.{BoardsTexts}
+use Rattle.gtfs_commands.specs.Words.{BoardsTexts}
 use Rattle.gtfs_cli.specs.Checking.{IsSendingCause}
 use Rattle.gtfs_cli.specs.FileRead.{HoldsSomeZone, IsZoneCause}
 use Rattle.gtfs_cli.specs.ManyBoards.{AreBoards, BoardsSetting, IsBoardsCause, IsLineCause, IsRequestsCause, requests_at}

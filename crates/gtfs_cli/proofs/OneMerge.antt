@@ -8,7 +8,7 @@ use Rattle.gtfs_rows.specs.Content.{Content}
 use Rattle.gtfs_rows.specs.Reading.{content_of}
 use Rattle.gtfs_merge.specs.Merged.{is_too_large, zone_texts_differ}
 use Rattle.clap.specs.Words.{Text}
-use Rattle.gtfs_words.specs.Words.{MergeTexts}
+use Rattle.gtfs_commands.specs.Words.{MergeTexts}
 use Rattle.gtfs_cli.specs.MergeOptions.{first_bad_merge, HasMergeValues, IsMergeRequest, MergeRequest}
 use Rattle.gtfs_cli.specs.Merges.{file_limit, merge_of, report_for, with_files, CanMerge, HasLargeMerge, HasTwoZones, IsFolderMerge, IsMergeCause, MergeSetting}
 use Rattle.gtfs_cli.specs.Messages.{line_of, message}

@@ -16,7 +16,7 @@ use Rattle.gtfs_rows.specs.Reading.{content_of}
 use Rattle.gtfs_rules.specs.Report.{report_text}
 use Rattle.gtfs_rules.proofs.ReportLaws.{one_report}
 use Rattle.gtfs_board.specs.Timetable.{is_route}
-use Rattle.gtfs_words.specs.Words.{TimetableTexts}
+use Rattle.gtfs_commands.specs.Words.{TimetableTexts}
 use Rattle.gtfs_cli.specs.Messages.{line_of, message}
 use Rattle.gtfs_cli.specs.Outcomes.{none_failed, IsCheckOutcome, IsReported, IsTimetabled, IsTimetableOutcome, Outcome}
 use Rattle.gtfs_cli.specs.Refusals.{status_of, IsCheckCause}

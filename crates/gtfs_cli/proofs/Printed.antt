@@ -10,7 +10,7 @@ use Rattle.gtfs_rows.specs.declared.parts.Parts.{Parts as Feed}
 use Rattle.gtfs_board.specs.Board.{is_stop}
 use Rattle.gtfs_board.specs.Page.{IsCutShort, IsStopped}
 use Rattle.gtfs_cli.specs.Boards.{request_of, AreValues, EndsBoard, EndsLines, GoesOut, HoldsFeed, IsFeedCause, IsLinesCause, IsOpeningCause, Lists, OfBoard}
-use Rattle.gtfs_words.specs.Words.{BoardTexts}
+use Rattle.gtfs_commands.specs.Words.{BoardTexts}
 use Rattle.gtfs_cli.specs.Refusals.{IsCause, IsFirstBad, IsReadingCause}
 use Rattle.gtfs_cli.specs.OptionValues.{after_of, first_bad, limit_of, moment_of, HasValues, Request}
 use Rattle.gtfs_cli.specs.HeldFiles.{HoldsPassing, HoldsTables, HoldsZone}

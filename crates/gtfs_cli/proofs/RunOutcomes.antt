@@ -8,7 +8,7 @@ use Rattle.gtfs_columns.specs.Problems.{passes}
 use Rattle.gtfs_rows.specs.Reading.{content_of}
 use Rattle.gtfs_rules.specs.Report.{report_text}
 use Rattle.gtfs_board.specs.Page.{AreWritten, IsPage}
-use Rattle.gtfs_words.specs.Words.{BoardTexts, MergeTexts, TimetableTexts}
+use Rattle.gtfs_commands.specs.Words.{BoardTexts, MergeTexts, TimetableTexts}
 use Rattle.gtfs_cli.specs.BoardRun.{IsBoardRefused, IsBoardRun}
 use Rattle.gtfs_cli.specs.Boards.{EndsBoard, OfBoard, PrintsBoard}
 use Rattle.gtfs_cli.specs.CheckRun.{EndsCheck, IsCheckRefused, IsCheckRun}

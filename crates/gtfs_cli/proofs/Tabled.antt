@@ -13,7 +13,7 @@ use Rattle.gtfs_rows.specs.declared.parts.Parts.{Parts as Feed}
 use Rattle.gtfs_board.specs.LentSheets.{plain_sheet}
 use Rattle.gtfs_board.specs.Timetable.{is_route, sheet_text}
 use Rattle.gtfs_board.specs.declared.sheet.Sheet.{Sheet}
-use Rattle.gtfs_words.specs.Words.{TimetableTexts}
+use Rattle.gtfs_commands.specs.Words.{TimetableTexts}
 use Rattle.gtfs_cli.specs.Boards.{HoldsFeed}
 use Rattle.gtfs_cli.specs.Checking.{IsSendingCause}
 use Rattle.gtfs_cli.specs.Messages.{message}

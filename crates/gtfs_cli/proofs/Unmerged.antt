@@ -13,7 +13,7 @@ use Rattle.gtfs_rows.specs.Trimmed.{first_part, second_part}
 use Rattle.gtfs_merge.specs.Merged.{is_too_large, zone_texts_differ}
 use Rattle.gtfs_merge.specs.Merging.{IsMergeOf, KeepsDepartures}
 use Rattle.gtfs_merge.specs.declared.merging.Merged.{Merged}
-use Rattle.gtfs_words.specs.Words.{MergeTexts}
+use Rattle.gtfs_commands.specs.Words.{MergeTexts}
 use Rattle.gtfs_cli.specs.Boards.{HoldsFeed}
 use Rattle.gtfs_cli.specs.Checking.{IsSendingCause}
 use Rattle.gtfs_cli.specs.MergeOptions.{HasMergeValues, IsMergeRequest, MergeRequest}

@@ -9,9 +9,9 @@ use Rattle.gtfs_cli.specs.BoardsRun.{AreListed, AreUnlisted}
 use Rattle.gtfs_cli.specs.TimetableRun.{IsTabled, IsUntabled}
 use Rattle.gtfs_cli.specs.CheckRun.{IsUnchecked}
 use Rattle.gtfs_cli.specs.Checking.{IsReportOf}
-use Rattle.gtfs_words.specs.Words.{no_memory, AreRefused, BoardTexts, BoardsTexts, IsFaultOf, MergeTexts, TimetableTexts}
-use Rattle.gtfs_words.specs.declared.fault.WordsFault.{WordsFault}
-use Rattle.gtfs_words.specs.declared.fault.WordsFault.TheVariants as faults
+use Rattle.gtfs_commands.specs.Words.{no_memory, AreRefused, BoardTexts, BoardsTexts, IsFaultOf, MergeTexts, TimetableTexts}
+use Rattle.gtfs_commands.specs.declared.fault.WordsFault.{WordsFault}
+use Rattle.gtfs_commands.specs.declared.fault.WordsFault.TheVariants as faults
 use Rattle.gtfs_cli.specs.MergeRun.{IsMerged, IsUnmerged}
 use Rattle.gtfs_cli.specs.Messages.{message}
 use Rattle.gtfs_cli.specs.Refusals.{status_in, IsCauseInWords}

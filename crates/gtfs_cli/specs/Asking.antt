@@ -2,12 +2,12 @@
 use Rattle.std.specs.Prelude.{◌≡◌, true, List}
 use Rattle.std.specs.Borrow.{Bor}
 use Rattle.clap.specs.Words.{Text, subcommand_of, takes}
-use Rattle.gtfs_words.specs.Words.{gtfs_app, boards_texts_of, texts_of, timetable_texts_of, BoardTexts, BoardsTexts, IsCommandOf, MergeTexts, TimetableTexts, merge_texts_of}
-use Rattle.gtfs_words.specs.declared.command.BoardWords.{BoardWords}
-use Rattle.gtfs_words.specs.declared.command.BoardsWords.{BoardsWords}
-use Rattle.gtfs_words.specs.declared.command.Command.TheVariants.{Board, Boards, Check, Merge, Timetable}
-use Rattle.gtfs_words.specs.declared.command.MergeWords.{MergeWords}
-use Rattle.gtfs_words.specs.declared.command.TimetableWords.{TimetableWords}
+use Rattle.gtfs_commands.specs.Words.{gtfs_app, boards_texts_of, texts_of, timetable_texts_of, BoardTexts, BoardsTexts, IsCommandOf, MergeTexts, TimetableTexts, merge_texts_of}
+use Rattle.gtfs_commands.specs.declared.command.BoardWords.{BoardWords}
+use Rattle.gtfs_commands.specs.declared.command.BoardsWords.{BoardsWords}
+use Rattle.gtfs_commands.specs.declared.command.Command.TheVariants.{Board, Boards, Check, Merge, Timetable}
+use Rattle.gtfs_commands.specs.declared.command.MergeWords.{MergeWords}
+use Rattle.gtfs_commands.specs.declared.command.TimetableWords.{TimetableWords}
 
 -- `clap` takes the words, they ask for the check of the feed in a folder, and this is so of the folder
 pub record AsksCheck (texts : List Text) (Fact : Text → Type 0) : Type 0 where

@@ -7,7 +7,7 @@ use Rattle.gtfs_table.specs.Tables.{Dataset}
 use Rattle.gtfs_columns.specs.Problems.{Passes}
 use Rattle.gtfs_rows.specs.Reading.{content_of}
 use Rattle.gtfs_board.specs.Board.{is_stop}
-use Rattle.gtfs_words.specs.Words.{BoardTexts}
+use Rattle.gtfs_commands.specs.Words.{BoardTexts}
 use Rattle.gtfs_cli.specs.OptionValues.{instant_at, Request, IsRequest}
 use Rattle.gtfs_cli.specs.HeldFiles.{HoldsZone, HoldsTables}
 

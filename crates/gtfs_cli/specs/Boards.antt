@@ -18,7 +18,7 @@ use Rattle.gtfs_board.specs.Lent.{plain_key}
 use Rattle.gtfs_board.specs.Lines.{Listed}
 use Rattle.gtfs_board.specs.Page.{IsCutShort, IsPage, IsStopped}
 use Rattle.gtfs_board.specs.Shown.{IsShown}
-use Rattle.gtfs_words.specs.Words.{BoardTexts}
+use Rattle.gtfs_commands.specs.Words.{BoardTexts}
 use Rattle.gtfs_cli.specs.Refusals.{IsSound}
 use Rattle.gtfs_cli.specs.OptionValues.{instant_at, IsRequest, Request}
 use Rattle.gtfs_cli.specs.HeldFiles.{HoldsTables}

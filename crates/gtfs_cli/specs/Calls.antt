@@ -2,7 +2,7 @@
 use Rattle.std.specs.Prelude.{◌≡◌, ◌≢◌, ◌≤◌, ℕ, false, List, Option}
 use Rattle.clap.specs.Words.{Text, takes}
 use Rattle.gtfs_devices.specs.Device.{Calls, FailsAtLast, MakesCalls}
-use Rattle.gtfs_words.specs.Words.{gtfs_app, AsksBoardOf, AsksBoardsOf, AsksCheckOf, AsksMergeOf, AsksTimetableOf, BoardTexts, BoardsTexts, MergeTexts, TimetableTexts}
+use Rattle.gtfs_commands.specs.Words.{gtfs_app, AsksBoardOf, AsksBoardsOf, AsksCheckOf, AsksMergeOf, AsksTimetableOf, BoardTexts, BoardsTexts, MergeTexts, TimetableTexts}
 
 -- at most so many more calls were made
 pub record MakesAtMost (most : ℕ) (old new : Option Calls) : Type 0 where

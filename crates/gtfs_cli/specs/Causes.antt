@@ -3,7 +3,7 @@
 use Rattle.std.specs.Prelude.{◌≡◌, ◌⊎◌, ℕ, [], Option}
 use Rattle.clap.specs.Words.{Text}
 use Rattle.gtfs_devices.specs.Folder.{Store}
-use Rattle.gtfs_words.specs.Words.{BoardTexts, MergeTexts}
+use Rattle.gtfs_commands.specs.Words.{BoardTexts, MergeTexts}
 use Rattle.gtfs_cli.specs.HeldFiles.{HoldsFile, LacksFile, NamesNoFile, HoldsNoZone, LacksFeed, HoldsKeptFile}
 
 -- what can be the matter with folders that did not fail, for a check or a timetable

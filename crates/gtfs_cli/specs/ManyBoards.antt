@@ -9,7 +9,7 @@ use Rattle.gtfs_columns.specs.Problems.{Passes}
 use Rattle.gtfs_rows.specs.Content.{Content}
 use Rattle.gtfs_rows.specs.Reading.{content_of}
 use Rattle.gtfs_board.specs.Page.{IsCutShort, IsPage, IsStopped}
-use Rattle.gtfs_words.specs.Words.{BoardsTexts}
+use Rattle.gtfs_commands.specs.Words.{BoardsTexts}
 use Rattle.gtfs_cli.specs.Boards.{GoesOut, OfBoard}
 use Rattle.gtfs_cli.specs.Checking.{IsSendingCause}
 use Rattle.gtfs_cli.specs.FileRead.{HoldsNoUtf8, HoldsSomeZone, HoldsUtf8, IsPathCause, IsZoneCause}

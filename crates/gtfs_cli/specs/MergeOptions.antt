@@ -3,7 +3,7 @@ use Rattle.std.specs.Prelude.{◌≡◌, ℕ, ℤ, Bool, codes, is_some, IsSome,
 use Rattle.std.specs.Result.{result_ok}
 use Rattle.clap.specs.Words.{Text}
 use Rattle.gtfs_field.specs.Kinds.{count_of, date_of}
-use Rattle.gtfs_words.specs.Words.{MergeTexts}
+use Rattle.gtfs_commands.specs.Words.{MergeTexts}
 use Rattle.gtfs_cli.specs.Options.{first_of_bad, service_day}
 
 -- up to how many millionths of a degree apart stops become one, if they do; its text has to be a count

@@ -8,7 +8,7 @@ use Rattle.gtfs_rows.specs.Content.{Content}
 use Rattle.gtfs_rows.specs.Written.{written}
 use Rattle.gtfs_rows.specs.Views.{content_of_parts}
 use Rattle.gtfs_merge.specs.declared.merging.Merged.{Merged}
-use Rattle.gtfs_words.specs.Words.{MergeTexts}
+use Rattle.gtfs_commands.specs.Words.{MergeTexts}
 use Rattle.gtfs_cli.specs.MergeOptions.{first_bad_merge, MergeRequest}
 use Rattle.gtfs_cli.specs.Merges.{file_text, IsFolderMerge}
 use Rattle.gtfs_cli.specs.NamesReport.{names_report}

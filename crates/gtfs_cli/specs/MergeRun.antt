@@ -3,7 +3,7 @@ use Rattle.std.specs.Prelude.{◌≡◌, ◌≤◌, ℕ, Bool, false, List, Opti
 use Rattle.std.specs.Io.KnownBytes.{Keeps}
 use Rattle.clap.specs.Words.{Text}
 use Rattle.gtfs_devices.specs.Folder.{Store}
-use Rattle.gtfs_words.specs.Words.{AsksMergeOf, MergeTexts}
+use Rattle.gtfs_commands.specs.Words.{AsksMergeOf, MergeTexts}
 use Rattle.gtfs_cli.specs.Merges.{EndsMerge, IsMergeCause, PrintsMerge}
 use Rattle.gtfs_cli.specs.Messages.{message}
 use Rattle.gtfs_cli.specs.Refusals.{status_of, TellsFailure}

@@ -17,7 +17,7 @@ use Rattle.gtfs_merge.specs.Cutoff.{merged_as}
 use Rattle.gtfs_merge.specs.Merged.{is_too_large, zone_texts_differ}
 use Rattle.gtfs_merge.specs.Merging.{KeepsDepartures}
 use Rattle.gtfs_merge.specs.Near.{report as report_of}
-use Rattle.gtfs_words.specs.Words.{MergeTexts}
+use Rattle.gtfs_commands.specs.Words.{MergeTexts}
 use Rattle.gtfs_cli.specs.MergeOptions.{first_bad_merge, HasMergeValues, IsMergeRequest, MergeRequest}
 use Rattle.gtfs_cli.specs.HeldFiles.{HoldsErrors, HoldsKeptFile, HoldsPassing, HoldsTables, LacksFeed}
 use Rattle.gtfs_cli.specs.Failures.{FailedNowhere, Failures}

@@ -4,7 +4,7 @@ use Rattle.gtfs_devices.specs.Folder.{Store}
 use Rattle.gtfs_table.specs.Tables.{Dataset}
 use Rattle.gtfs_columns.specs.Problems.{Problem, passes, IsReport}
 use Rattle.gtfs_rules.specs.Report.{report_text}
-use Rattle.gtfs_words.specs.Words.{BoardTexts, BoardsTexts, MergeTexts, TimetableTexts}
+use Rattle.gtfs_commands.specs.Words.{BoardTexts, BoardsTexts, MergeTexts, TimetableTexts}
 use Rattle.gtfs_cli.specs.Boards.{PrintsBoard}
 use Rattle.gtfs_cli.specs.ManyBoards.{IsBoardsCause, IsBoardsText}
 use Rattle.gtfs_cli.specs.Merges.{IsMergeCause, PrintsMerge}

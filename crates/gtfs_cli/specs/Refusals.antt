@@ -4,7 +4,7 @@ use Rattle.clap.specs.Words.{Text}
 use Rattle.gtfs_days.specs.Service.{is_service_day}
 use Rattle.gtfs_devices.specs.Device.{Rises}
 use Rattle.gtfs_devices.specs.Folder.{Store}
-use Rattle.gtfs_words.specs.Words.{AreForHelpOrVersion, AreRefused, BoardTexts}
+use Rattle.gtfs_commands.specs.Words.{AreForHelpOrVersion, AreRefused, BoardTexts}
 use Rattle.gtfs_cli.specs.OptionValues.{first_bad, HasValues}
 use Rattle.gtfs_cli.specs.HeldFiles.{HoldsErrors, HoldsFile, HoldsKeptFile, HoldsNoZone, HoldsPassing, LacksFeed, LacksFile, NamesNoFile}
 use Rattle.gtfs_cli.specs.BoardSetting.{EndsBeforeItBegins, LacksStop}

@@ -4,7 +4,7 @@ use Rattle.std.specs.Prelude.{◌≡◌, ◌⊎◌, ℕ, List, Option, Err}
 use Rattle.clap.specs.Words.{Text}
 use Rattle.gtfs_devices.specs.Device.{Rises}
 use Rattle.gtfs_devices.specs.Folder.{Store}
-use Rattle.gtfs_words.specs.Words.{AreRefused, BoardsTexts}
+use Rattle.gtfs_commands.specs.Words.{AreRefused, BoardsTexts}
 use Rattle.gtfs_cli.specs.FileRead.{HoldsNoUtf8}
 use Rattle.gtfs_cli.specs.ManyBoards.{requests_at, BoardsSetting, IsBoardsCause}
 use Rattle.gtfs_cli.specs.MergeOptions.{HasBadMergeValue}

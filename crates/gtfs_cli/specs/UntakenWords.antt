@@ -1,7 +1,7 @@
 -- What is told of words that `clap` does not take: its text, as it came, and once.
 use Rattle.std.specs.Prelude.{◌≡◌, ℕ, Bool, List, Option, None, Some, Result, Err, string_bytes, ⊤}
-use Rattle.gtfs_words.specs.declared.fault.WordsFault.{WordsFault}
-use Rattle.gtfs_words.specs.declared.fault.WordsFault.TheVariants.{Help, OutOfMemory, Refused, Version}
+use Rattle.gtfs_commands.specs.declared.fault.WordsFault.{WordsFault}
+use Rattle.gtfs_commands.specs.declared.fault.WordsFault.TheVariants.{Help, OutOfMemory, Refused, Version}
 use Rattle.gtfs_cli.specs.declared.commands.refusal.Refusal.{Refusal}
 use Rattle.gtfs_cli.specs.declared.commands.refusal.Refusal.TheVariants.{Words}
 

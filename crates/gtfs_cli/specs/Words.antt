@@ -4,30 +4,29 @@
 -- ---- `run`: what words ask for
 
 -- how the program is called, as `clap` is told
-pub use Rattle.gtfs_words.specs.CommandLine.{gtfs_app}
+pub use Rattle.gtfs_commands.specs.CommandLine.{gtfs_app}
 -- the words ask for a check of this folder
-pub use Rattle.gtfs_words.specs.Asked.{AsksCheckOf}
+pub use Rattle.gtfs_commands.specs.Asked.{AsksCheckOf}
 -- the texts that are given to `board`
-pub use Rattle.gtfs_words.specs.Asked.{BoardTexts}
+pub use Rattle.gtfs_commands.specs.Asked.{BoardTexts}
 -- the words ask for the board of these texts
-pub use Rattle.gtfs_words.specs.Asked.{AsksBoardOf}
+pub use Rattle.gtfs_commands.specs.Asked.{AsksBoardOf}
 -- the texts that are given to `boards`
-pub use Rattle.gtfs_words.specs.Asked.{BoardsTexts}
+pub use Rattle.gtfs_commands.specs.Asked.{BoardsTexts}
 -- the words ask for the boards of these texts
-pub use Rattle.gtfs_words.specs.Asked.{AsksBoardsOf}
+pub use Rattle.gtfs_commands.specs.Asked.{AsksBoardsOf}
 -- the texts that are given to `timetable`
-pub use Rattle.gtfs_words.specs.Asked.{TimetableTexts}
+pub use Rattle.gtfs_commands.specs.Asked.{TimetableTexts}
 -- the words ask for the timetable of these texts
-pub use Rattle.gtfs_words.specs.Asked.{AsksTimetableOf}
+pub use Rattle.gtfs_commands.specs.Asked.{AsksTimetableOf}
 -- the texts that are given to `merge`
-pub use Rattle.gtfs_words.specs.Asked.{MergeTexts}
+pub use Rattle.gtfs_commands.specs.Asked.{MergeTexts}
 -- the words ask for the merge of these texts
-pub use Rattle.gtfs_words.specs.Asked.{AsksMergeOf}
+pub use Rattle.gtfs_commands.specs.Asked.{AsksMergeOf}
 -- the words ask for no merge
 pub use Rattle.gtfs_cli.specs.MergeRun.{AsksNoMerge}
 -- the words ask for one of the five
 pub use Rattle.gtfs_cli.specs.WordsRun.{AsksOne}
-
 -- ---- `run`: what each command prints, and how it ends
 
 -- at 0 and 1 the report was printed, without an error and with one; otherwise a refusal has its cause
@@ -42,7 +41,6 @@ pub use Rattle.gtfs_cli.specs.TimetableRun.{IsTimetableRun}
 pub use Rattle.gtfs_cli.specs.MergeRun.{IsMergeRun}
 -- words that `clap` does not take get help or the version at 0, and otherwise are refused
 pub use Rattle.gtfs_cli.specs.WordsRun.{IsUntakenRun}
-
 -- ---- `run`: the statuses and the devices
 
 -- status 2: `clap` refuses the words, or a value or a line of requests is bad
@@ -57,7 +55,6 @@ pub use Rattle.gtfs_cli.specs.Failures.{FailedNowhere}
 pub use Rattle.gtfs_cli.specs.Calls.{AreCalls}
 -- folders by their names, each the bytes of its files by their names
 pub use Rattle.gtfs_devices.specs.Folder.{Store}
-
 -- ---- `tell` and `close`: after the run
 
 -- the status of a fault that kept the program from running
@@ -70,7 +67,6 @@ pub use Rattle.gtfs_cli.specs.Sending.{Output}
 pub use Rattle.gtfs_cli.specs.Sending.{Sends}
 -- a count of failures after one more
 pub use Rattle.gtfs_devices.specs.Device.{counted}
-
 -- ---- the laws of runs: which outcome a command has where nothing fails
 
 -- what is printed, the line of the error output, and the status

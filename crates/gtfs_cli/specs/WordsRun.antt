@@ -2,8 +2,8 @@
 use Rattle.std.specs.Prelude.{◌≡◌, ◌≤◌, ◌⊎◌, ℕ, Bool, false, List, Option, Some}
 use Rattle.std.specs.Io.KnownBytes.{Appends, Keeps}
 use Rattle.clap.specs.Words.{Text}
-use Rattle.gtfs_words.specs.Words.{AreForHelpOrVersion, AreRefused, AsksBoardOf, AsksBoardsOf, AsksCheckOf, AsksMergeOf, AsksTimetableOf, BoardTexts, BoardsTexts, IsFaultOf, MergeTexts, TimetableTexts}
-use Rattle.gtfs_words.specs.declared.fault.WordsFault.{WordsFault}
+use Rattle.gtfs_commands.specs.Words.{AreForHelpOrVersion, AreRefused, AsksBoardOf, AsksBoardsOf, AsksCheckOf, AsksMergeOf, AsksTimetableOf, BoardTexts, BoardsTexts, IsFaultOf, MergeTexts, TimetableTexts}
+use Rattle.gtfs_commands.specs.declared.fault.WordsFault.{WordsFault}
 use Rattle.gtfs_cli.specs.Messages.{message}
 use Rattle.gtfs_cli.specs.Refusals.{status_of, IsCauseInWords}
 use Rattle.gtfs_cli.specs.Failures.{Failures}

@@ -2,7 +2,7 @@
 ghost use Rattle.std.specs.Prelude.{◌≡◌, ◌≢◌, ◌≤◌, List, ℕ, false, true, is_ok, map, IfOk, IfErr, IfSome, IsErrAnd, OnOk};
 ghost use Rattle.std.specs.Io.KnownBytes.{Appends, Keeps};
 ghost use Rattle.clap.specs.Words.{Text, takes};
-ghost use Rattle.gtfs_words.specs.Words.{gtfs_app, no_memory, AreRefused, AsksBoardOf, AsksBoardsOf, AsksCheckOf, AsksTimetableOf, BoardTexts, BoardsTexts, IsFaultOf, TimetableTexts, AsksMergeOf, MergeTexts};
+ghost use Rattle.gtfs_commands.specs.Words.{gtfs_app, no_memory, AreRefused, AsksBoardOf, AsksBoardsOf, AsksCheckOf, AsksTimetableOf, BoardTexts, BoardsTexts, IsFaultOf, TimetableTexts, AsksMergeOf, MergeTexts};
 ghost use Rattle.gtfs_cli.specs.BoardRun.{IsBoardRun};
 ghost use Rattle.gtfs_cli.specs.BoardsRun.{IsBoardsRun};
 ghost use Rattle.gtfs_cli.specs.Calls.{AreCalls};
@@ -42,8 +42,8 @@ mod timetable_values;
 mod values;
 mod zone_file;
 
+use gtfs_commands::{Command, WordsFault, read_words};
 use gtfs_table::{Folders, Out, write_text};
-use gtfs_words::{Command, WordsFault, read_words};
 use refusal::Refusal;
 use std::alloc::Global;
 use std::convert::AsStr;

@@ -1,7 +1,7 @@
 //! What a command ends with is one thing.
 ghost use Rattle.std.specs.Prelude.{◌≡◌, ℕ, List, Option, Some};
 ghost use Rattle.gtfs_devices.specs.Folder.{Store};
-ghost use Rattle.gtfs_words.specs.Words.{BoardTexts, BoardsTexts, MergeTexts, TimetableTexts};
+ghost use Rattle.gtfs_commands.specs.Words.{BoardTexts, BoardsTexts, MergeTexts, TimetableTexts};
 ghost use Rattle.gtfs_cli.specs.BoardRun.{IsBoardRun};
 ghost use Rattle.gtfs_cli.specs.BoardsRun.{IsBoardsRun};
 ghost use Rattle.gtfs_cli.specs.CheckRun.{IsCheckRun};

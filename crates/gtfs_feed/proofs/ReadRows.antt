@@ -10,12 +10,12 @@ use Rattle.gtfs_rows.specs.Reading.{content_of}
 use Rattle.gtfs_rows.specs.Sound.{IsSound}
 use Rattle.gtfs_rows.specs.Views.{IsSoundParts, content_of_parts, stop_row_of}
 use Rattle.gtfs_rows.proofs.PassingIsSound.{passing_is_sound}
-use Rattle.gtfs_parts.specs.FeedRows.{AreRowsOf, rows_in}
+use Rattle.gtfs_reading.specs.FeedRows.{AreRowsOf, rows_in}
 use Rattle.gtfs_rows.specs.NamedRows.{stop_named, trip_named, without_rows}
-use Rattle.gtfs_parts.specs.declared.feed_rows.FeedRows.{FeedRows}
-use Rattle.gtfs_parts.proofs.OfParts.{cut_in_parts, numbers_in_parts, rows_in_parts}
-use Rattle.gtfs_parts.specs.StopTimeLists.{AreStopTimesOf, content_stop_ids}
-use Rattle.gtfs_parts.specs.declared.stop_times.StopTimes.{StopTimes}
+use Rattle.gtfs_reading.specs.declared.feed_rows.FeedRows.{FeedRows}
+use Rattle.gtfs_reading.proofs.OfParts.{cut_in_parts, numbers_in_parts, rows_in_parts}
+use Rattle.gtfs_reading.specs.StopTimeLists.{AreStopTimesOf, content_stop_ids}
+use Rattle.gtfs_reading.specs.declared.stop_times.StopTimes.{StopTimes}
 
 module _ (d : Dataset) (r : FeedRows) (are : AreRowsOf d r) where
   -- as many trips as the content has

@@ -8,8 +8,7 @@ pub use Rattle.gtfs_rows.specs.Reading.{content_of}
 -- the rows of a feed, with ids and texts as their bytes
 pub use Rattle.gtfs_rows.specs.Content.{Content}
 -- the headsigns of a content's stop times, each once, in the order in which these first name them
-pub use Rattle.gtfs_parts.specs.FirstNamed.{headsigns_in}
-
+pub use Rattle.gtfs_reading.specs.FirstNamed.{headsigns_in}
 -- ---- `Feed::assemble`: a feed of given rows
 
 -- each number is that of a row, each trip has its stretch of rows, and the content makes a feed
@@ -18,7 +17,6 @@ pub use Rattle.gtfs_rows.specs.Views.{IsSoundParts}
 pub use Rattle.gtfs_rows.specs.Views.{content_of_parts}
 -- a content makes a feed: the conditions of the GTFS reference on values, order, keys and references
 pub use Rattle.gtfs_rows.specs.Sound.{IsSound}
-
 -- ---- rows and their numbers, which are their places in the order of ids, from 0
 
 -- the ids of the agencies, by number
@@ -35,14 +33,12 @@ pub use Rattle.gtfs_rows.specs.Views.{trip_ids}
 pub use Rattle.gtfs_rows.specs.Trips.{stop_rows_by_trip}
 -- the frequencies of each trip, at its number
 pub use Rattle.gtfs_rows.specs.Trips.{frequencies_by_trip}
-
 -- ---- `Feed::to_tables`: the written form
 
 -- the nine tables of a content: of each file a header, and a row of canonical texts for each row
 pub use Rattle.gtfs_rows.specs.Written.{written}
 -- the written form passes, has the same content, and begins no file with a mark that a reader cuts
 pub use Rattle.gtfs_rows.specs.WrittenForm.{IsWrittenForm}
-
 -- ---- `Feed::file_text`: one file of it
 
 -- the table of one of the nine files
@@ -55,7 +51,6 @@ pub use Rattle.gtfs_table.specs.Tables.{table_of_bytes}
 pub use Rattle.gtfs_rows.specs.FileTexts.{is_longer}
 -- the nine kept files, in their order
 pub use Rattle.gtfs_table.specs.Reading.{kept_files}
-
 -- ---- `Feed::trimmed`: the feed on one side of a service day
 
 -- a day from 1900-01-01 to 9998-12-31

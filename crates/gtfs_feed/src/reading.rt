@@ -1,14 +1,14 @@
 ghost use Rattle.std.specs.Prelude.{◌≡◌, IfOk, map};
-ghost use Rattle.gtfs_parts.specs.FeedRows.{AreRowsOf, rows_in};
+ghost use Rattle.gtfs_reading.specs.FeedRows.{AreRowsOf, rows_in};
 ghost use Rattle.gtfs_rows.specs.Reading.{content_of as content_of_dataset};
 ghost use Rattle.gtfs_rows.specs.Views.{content_of_parts, stop_row_of};
 ghost use Rattle.gtfs_table.specs.Parts.{parts};
 ghost use Rattle.gtfs_table.specs.Tables.{Dataset};
-ghost use Rattle.gtfs_parts.specs.FirstNamed.{headsigns_in};
+ghost use Rattle.gtfs_reading.specs.FirstNamed.{headsigns_in};
 
 use crate::feed::Feed;
 use gtfs_field::OutOfMemory;
-use gtfs_parts::{FeedRows, StopTimes};
+use gtfs_reading::{FeedRows, StopTimes};
 use gtfs_rows::Parts;
 use gtfs_rules::Passed;
 use std::alloc::Global;

@@ -26,7 +26,7 @@ impl Feed {
         ensures tables { IfOk result (λ tables. tables ≡ written (content_of_parts self.now)) }
         ensures form { IsWrittenForm (content_of_parts self.now) }
     {
-        gtfs_written::tables(alloc, self.parts())
+        gtfs_writing::tables(alloc, self.parts())
     }
 
     /// The text of one file of the feed, made without a table: it is what
@@ -42,7 +42,7 @@ impl Feed {
             ≡ table_of (written (content_of_parts self.now)) file) }
         ensures form { IsWrittenForm (content_of_parts self.now) }
     {
-        gtfs_written::file_text(alloc, self.parts(), file)
+        gtfs_writing::file_text(alloc, self.parts(), file)
     }
 
     /// Whether the text of some file, as [`Feed::file_text`] gives it, has more bytes than this limit. No text is made:
@@ -54,6 +54,6 @@ impl Feed {
         ensures { IfOk result (λ any. any ≡ list_any
             (is_longer (content_of_parts self.now) limit) kept_files) }
     {
-        gtfs_written::has_longer_file(alloc, self.parts(), limit)
+        gtfs_writing::has_longer_file(alloc, self.parts(), limit)
     }
 }

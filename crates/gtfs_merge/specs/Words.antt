@@ -21,7 +21,6 @@ pub use Rattle.gtfs_merge.specs.Merging.{default_file_limit}
 pub use Rattle.gtfs_merge.specs.Merging.{IsRefusal}
 -- the time zones of two feeds have different names
 pub use Rattle.gtfs_merge.specs.Merged.{zone_texts_differ}
-
 -- ---- what a merge keeps
 
 -- all departures and boards of both feeds, each on the days that the cutoff leaves to it
@@ -34,7 +33,6 @@ pub use Rattle.gtfs_merge.specs.Law.{SharesExactly}
 pub use Rattle.gtfs_merge.specs.Departures.{HasBoards}
 -- a feed on one side of a service day departs exactly as before on the days of that side
 pub use Rattle.gtfs_merge.specs.Cutoff.{DepartsInPart}
-
 -- ---- the laws of all merges
 
 -- a law holds of each merge of two sound feeds
@@ -45,7 +43,6 @@ pub use Rattle.gtfs_merge.specs.Law.{IsNearness}
 pub use Rattle.gtfs_merge.specs.Near.{nearness}
 -- where the zones do not differ, the merged content makes a feed
 pub use Rattle.gtfs_merge.specs.Law.{IsSoundMerged}
-
 -- ---- `Names`: what the ids became
 
 -- the ids of each kind of both feeds, what each became, which are joined, and which stops are near

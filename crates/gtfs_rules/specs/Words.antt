@@ -19,7 +19,6 @@ pub use Rattle.gtfs_columns.specs.View.{problem_of}
 pub use Rattle.gtfs_columns.specs.Problems.{is_problem}
 -- the order of problems: by file, then by row, code and column
 pub use Rattle.gtfs_columns.specs.Problems.{problem_cmp}
-
 -- ---- `Report::passed`, and what `Passed` gives
 
 -- none of a dataset's problems is an error
@@ -40,7 +39,6 @@ pub use Rattle.gtfs_columns.specs.IdNumbers.{ids_by_bytes}
 pub use Rattle.gtfs_columns.specs.IdNumbers.{id_numbered}
 -- the number of an id, none where no row has it
 pub use Rattle.gtfs_columns.specs.IdNumbers.{number_of_id}
-
 -- ---- what the two types are seen as, and what they hold
 
 -- a dataset, and the problems that were found in it
@@ -49,7 +47,6 @@ pub use Rattle.gtfs_columns.specs.steps.Found.{Checked}
 pub use Rattle.gtfs_rules.specs.steps.Checked.{IsChecked}
 -- the dataset passes, and the stop times are its stop times
 pub use Rattle.gtfs_rules.specs.steps.Checked.{HasPassed}
-
 -- ---- the printed report
 
 -- a line for each problem, and the counts
@@ -64,7 +61,6 @@ pub use Rattle.gtfs_columns.specs.Codes.{code_name}
 pub use Rattle.gtfs_columns.specs.Codes.{code_text}
 -- the place of a code in the order of codes: errors first, and then warnings
 pub use Rattle.gtfs_columns.specs.Codes.{code_rank}
-
 -- ---- the columns of the nine files
 
 -- the kept columns of a file, in the order in which they are written
@@ -81,7 +77,6 @@ pub use Rattle.gtfs_columns.specs.Columns.{column_named}
 pub use Rattle.gtfs_columns.specs.References.{key_columns}
 -- the columns whose values are ids of another file
 pub use Rattle.gtfs_columns.specs.References.{references}
-
 -- ---- rows and values
 
 -- a record after the header is a row if one of its fields is not blank
@@ -108,7 +103,6 @@ pub use Rattle.gtfs_columns.specs.Rows.{word_in}
 pub use Rattle.gtfs_columns.specs.Rows.{amount_in}
 -- the number of a choice, in which an empty value has its default
 pub use Rattle.gtfs_columns.specs.Rows.{choice_in}
-
 -- ---- when each code holds
 
 -- the condition of a code, in one of the nine files

@@ -37,7 +37,6 @@ pub use Rattle.gtfs_runs.specs.StopLanes.{period_value}
 pub use Rattle.gtfs_runs.specs.StopLanes.{filled_value}
 -- so many events, each a headway after the one before
 pub use Rattle.gtfs_runs.specs.Periods.{run_events}
-
 -- ---- `Lane`: the events of a lane, in order
 
 -- the order of events: by time, trip, run, sequence and row
@@ -50,7 +49,6 @@ pub use Rattle.gtfs_runs.specs.Order.{is_above_moment}
 pub use Rattle.gtfs_runs.specs.Order.{is_above_seek}
 -- the event's trip is one of the feed
 pub use Rattle.gtfs_runs.specs.Order.{IsOfTrips}
-
 -- ---- `StopIndex`: the departure rows of all stops
 
 -- what clauses see of an index: its feed, its choice of times, and the departure rows of each stop
@@ -59,14 +57,12 @@ pub use Rattle.gtfs_runs.specs.StopIndex.{StopIndexValue}
 pub use Rattle.gtfs_runs.specs.StopIndex.{AreDepartureRows}
 -- an index has these rows, the stops and platforms of each station, and what a board needs of each trip
 pub use Rattle.gtfs_runs.specs.steps.Children.{IsIndex}
-
 -- ---- `flat_events` and `patterns`
 
 -- every event at the place of a stop once, by service and then in their order, and no other
 pub use Rattle.gtfs_runs.specs.FlatEvents.{AreEvents}
 -- each trip of a route that has a stop time stands once, under its direction and its stops, in order
 pub use Rattle.gtfs_runs.specs.Patterns.{ArePatterns}
-
 -- ---- `trips_below`
 
 -- the order of texts by their bytes

@@ -13,7 +13,6 @@ pub use Rattle.gtfs_times.specs.Filling.{timed_after}
 pub use Rattle.gtfs_times.specs.Filling.{left}
 -- when it reaches one
 pub use Rattle.gtfs_times.specs.Filling.{reached}
-
 -- ---- the time of a position between them, and a row that has it
 
 -- when a vehicle passes a position between two stop times, at an even pace, cut to whole seconds
@@ -26,7 +25,6 @@ pub use Rattle.gtfs_times.specs.Filling.{time_at}
 pub use Rattle.gtfs_times.specs.Filling.{filled_row}
 -- the stop times of a trip, so filled
 pub use Rattle.gtfs_times.specs.Filling.{filled_rows}
-
 -- ---- a content with its times as given, or filled
 
 -- the stop times of a trip as given, or filled
@@ -35,7 +33,6 @@ pub use Rattle.gtfs_times.specs.Filling.{timed_stop_rows}
 pub use Rattle.gtfs_times.specs.Filling.{timed_trip}
 -- a content with its times as given, or with the times of all trips filled
 pub use Rattle.gtfs_times.specs.Filling.{timed}
-
 -- ---- the same of rows with numbers in place of ids, as code has them
 
 -- the time of a position

@@ -4,7 +4,7 @@ ghost use Rattle.gtfs_devices.specs.Device.{FailsAtLast, MakesCalls};
 ghost use Rattle.gtfs_board.specs.Page.{IsPage};
 ghost use Rattle.gtfs_cli.specs.Boards.{request_of, AreValues, EndsBoard, EndsLines, IsLinesCause, IsOpeningCause, ListsBoard, OfBoard, PrintsBoard};
 ghost use Rattle.gtfs_cli.specs.Calls.{MakesAtMost};
-ghost use Rattle.gtfs_words.specs.Words.{texts_of};
+ghost use Rattle.gtfs_commands.specs.Words.{texts_of};
 ghost use Rattle.gtfs_cli.specs.Failures.{FailedNowhere};
 ghost use Rattle.gtfs_cli.specs.Refusals.{IsCause, TellsFailure, TellsOutput};
 
@@ -13,9 +13,9 @@ use crate::commands::refusal::Refusal;
 use crate::commands::values::{Values, read_values};
 use crate::commands::zone_file::read_zone;
 use gtfs_board::{Board, BoardFault, Feed, PageFault, Span, write_page};
+use gtfs_commands::BoardWords;
 use gtfs_days::Zone;
 use gtfs_table::{Folders, Out};
-use gtfs_words::BoardWords;
 use std::alloc::Global;
 use std::hash::RandomState;
 

@@ -4,7 +4,7 @@ ghost use Rattle.gtfs_devices.specs.Device.{FailsAtLast, MakesCalls};
 ghost use Rattle.gtfs_table.specs.Tables.{without_marks};
 ghost use Rattle.gtfs_rows.specs.Content.{Content};
 ghost use Rattle.gtfs_rows.specs.Views.{content_of_parts};
-ghost use Rattle.gtfs_words.specs.Words.{boards_texts_of};
+ghost use Rattle.gtfs_commands.specs.Words.{boards_texts_of};
 ghost use Rattle.gtfs_cli.specs.Boards.{request_of, ListsBoard};
 ghost use Rattle.gtfs_cli.specs.Calls.{MakesAtMost};
 ghost use Rattle.gtfs_cli.specs.Checking.{IsSendingCause};
@@ -23,10 +23,10 @@ use crate::commands::requests::{LineRequest, RequestTexts, first_fault, read_req
 use crate::commands::times::read_times;
 use crate::commands::zone_file::read_zone;
 use gtfs_board::{Board, Feed, PageFault, Span, StopIndex, Times, write_page};
+use gtfs_commands::BoardsWords;
 use gtfs_days::Zone;
 use gtfs_field::OutOfMemory;
 use gtfs_table::{Folders, Out, write_text};
-use gtfs_words::BoardsWords;
 use std::alloc::Global;
 use std::hash::RandomState;
 

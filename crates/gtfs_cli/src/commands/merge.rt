@@ -8,7 +8,7 @@ ghost use Rattle.gtfs_devices.specs.Folder.{CountsFault, RefusesWrite, Store, Wr
 ghost use Rattle.gtfs_table.specs.Reading.{kept_files};
 ghost use Rattle.gtfs_table.specs.declared.file.File.{File as FileOf};
 ghost use Rattle.gtfs_cli.specs.Calls.{MakesAtMost};
-ghost use Rattle.gtfs_words.specs.Words.{merge_texts_of};
+ghost use Rattle.gtfs_commands.specs.Words.{merge_texts_of};
 ghost use Rattle.gtfs_cli.specs.Merges.{file_limit, file_text, EndsMerge, HoldsFiles, IsFileEnd, IsMergeCause, IsMergeFault, IsMergingCause, IsWritingEnd, PrintsMerge};
 ghost use Rattle.gtfs_cli.specs.MergeOptions.{IsMergeRequest};
 ghost use Rattle.gtfs_cli.specs.MergeParts.{merge_request_of, AllReadAs, HoldsMerge, ReadsAs};
@@ -20,9 +20,9 @@ use crate::commands::merge_values::{MergeValues, read_merge_values};
 use crate::commands::names::print_names;
 use crate::commands::refusal::Refusal;
 use gtfs_board::Feed;
+use gtfs_commands::MergeWords;
 use gtfs_merge::{MergeFault, Merged, Options, merge_owned};
 use gtfs_table::{File, FolderFault, Folders, Out};
-use gtfs_words::MergeWords;
 use std::alloc::Global;
 use std::hash::RandomState;
 

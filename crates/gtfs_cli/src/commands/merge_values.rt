@@ -1,12 +1,12 @@
 ghost use Rattle.std.specs.Prelude.{◌≡◌, option_map, IfOk, IfErr};
-ghost use Rattle.gtfs_words.specs.Words.{merge_texts_of};
+ghost use Rattle.gtfs_commands.specs.Words.{merge_texts_of};
 ghost use Rattle.gtfs_cli.specs.MergeOptions.{cutoff_of, near_of, IsMergeRequest};
 ghost use Rattle.gtfs_cli.specs.MergeParts.{merge_request_of, IsFirstBadMerge};
 
 use crate::commands::moments::read_service_day;
 use crate::commands::refusal::Refusal;
+use gtfs_commands::MergeWords;
 use gtfs_field::{Day, read_count};
-use gtfs_words::MergeWords;
 
 // The values of the options of a merge.
 #[derive(Clone, Copy)]

@@ -6,7 +6,7 @@ ghost use Rattle.gtfs_rows.specs.Views.{content_of_parts};
 ghost use Rattle.gtfs_times.specs.Filling.{timed};
 ghost use Rattle.gtfs_board.specs.LentSheets.{plain_sheet};
 ghost use Rattle.gtfs_board.specs.Timetable.{is_route, sheet_text, sheets};
-ghost use Rattle.gtfs_words.specs.Words.{timetable_texts_of};
+ghost use Rattle.gtfs_commands.specs.Words.{timetable_texts_of};
 ghost use Rattle.gtfs_cli.specs.Calls.{MakesAtMost};
 ghost use Rattle.gtfs_cli.specs.Checking.{IsSendingCause};
 ghost use Rattle.gtfs_cli.specs.Refusals.{TellsFailure, TellsOutput};
@@ -19,8 +19,8 @@ use crate::commands::refusal::Refusal;
 use crate::commands::send::send;
 use crate::commands::timetable_values::{TimetableValues, read_timetable_values};
 use gtfs_board::{Feed, Sheet, TableFault, push_sheet, timetable};
+use gtfs_commands::TimetableWords;
 use gtfs_table::{Folders, Out};
-use gtfs_words::TimetableWords;
 use std::alloc::Global;
 use std::hash::RandomState;
 

@@ -1,13 +1,13 @@
 ghost use Rattle.std.specs.Prelude.{◌≡◌, option_map, IfOk, IfErr};
-ghost use Rattle.gtfs_words.specs.Words.{timetable_texts_of};
+ghost use Rattle.gtfs_commands.specs.Words.{timetable_texts_of};
 ghost use Rattle.gtfs_cli.specs.TimetableOptions.{direction_of, IsTimetableRequest};
 ghost use Rattle.gtfs_cli.specs.Timetables.{timetable_request_of, IsFirstBadTimetable};
 
 use crate::commands::refusal::Refusal;
 use crate::commands::times::read_times;
 use gtfs_board::Times;
+use gtfs_commands::TimetableWords;
 use gtfs_field::{Day, read_date};
-use gtfs_words::TimetableWords;
 
 // The values of the options of a timetable.
 #[derive(Clone, Copy)]

@@ -1,7 +1,7 @@
 ghost use Rattle.std.specs.Prelude.{◌≡◌, None, Some, option_map, IfOk, IfErr};
 ghost use Rattle.gtfs_board.specs.Lent.{plain_key};
 ghost use Rattle.gtfs_cli.specs.Boards.{AreValues};
-ghost use Rattle.gtfs_words.specs.Words.{texts_of};
+ghost use Rattle.gtfs_commands.specs.Words.{texts_of};
 ghost use Rattle.gtfs_cli.specs.Refusals.{IsFirstBad};
 ghost use Rattle.gtfs_cli.specs.OptionValues.{after_of, limit_of};
 
@@ -9,8 +9,8 @@ use crate::commands::moments::{Moment, read_moment};
 use crate::commands::refusal::Refusal;
 use crate::commands::times::read_times;
 use gtfs_board::{Key, Times, read_key};
+use gtfs_commands::BoardWords;
 use gtfs_field::read_count;
-use gtfs_words::BoardWords;
 
 // The most lines where no limit is given: more than any output takes.
 const NO_LIMIT: u64 = u64::MAX;

@@ -1,7 +1,7 @@
 use Rattle.std.proofs.Common.{◌≡◌, true, map, refl, sym, subst, arith, ℕ, ◌≤◌, Bool, Result}
 use Rattle.clap.specs.Words.{subcommand_of}
-use Rattle.gtfs_words.specs.Words.{gtfs_app, IsCommandOf}
-use Rattle.gtfs_words.specs.declared.command.Command.{Command}
+use Rattle.gtfs_commands.specs.Words.{gtfs_app, IsCommandOf}
+use Rattle.gtfs_commands.specs.declared.command.Command.{Command}
 use Rattle.gtfs_cli.specs.CommandEnd.{answer_of, EndsCommand}
 use Rattle.gtfs_cli.specs.Failures.{Failures}
 use Rattle.gtfs_cli.specs.declared.commands.refusal.Refusal.{Refusal}

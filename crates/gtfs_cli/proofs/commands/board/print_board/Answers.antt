@@ -4,7 +4,7 @@ use Rattle.gtfs_table.proofs.FolderFacts.{calls-more}
 use Rattle.gtfs_table.proofs.StoreFacts.{on_ok-always, on_ok-map}
 use Rattle.gtfs_board.specs.Page.{IsPage}
 use Rattle.gtfs_cli.specs.Boards.{EndsBoard}
-use Rattle.gtfs_words.specs.Words.{texts_of}
+use Rattle.gtfs_commands.specs.Words.{texts_of}
 use Rattle.gtfs_cli.specs.HeldFiles.{HoldsZone}
 use Rattle.gtfs_cli.specs.Failures.{Failures}
 use Rattle.gtfs_cli.specs.Refusals.{IsCause, TellsFailure}

@@ -2,7 +2,7 @@ use Rattle.std.proofs.Common.{◌∙◌, inl, inr, subst, sym, arith, List, ℕ}
 use Rattle.std.proofs.lemmas.Result.{IfErr-weaker}
 use Rattle.gtfs_table.proofs.FolderFacts.{calls-more}
 use Rattle.gtfs_table.proofs.StoreFacts.{on_ok-always, on_ok-map}
-use Rattle.gtfs_words.specs.Words.{boards_texts_of}
+use Rattle.gtfs_commands.specs.Words.{boards_texts_of}
 use Rattle.gtfs_cli.specs.FileRead.{IsPathCause, IsZoneCause}
 use Rattle.gtfs_cli.specs.ManyBoards.{EndsBoards, IsBoardsCause}
 use Rattle.gtfs_cli.specs.Refusals.{TellsFailure}

@@ -6,7 +6,7 @@ use Rattle.gtfs_table.proofs.FolderFacts.{calls-more}
 use Rattle.gtfs_table.proofs.StoreFacts.{on_ok-always, on_ok-map}
 use Rattle.gtfs_rows.specs.Views.{content_of_parts}
 use Rattle.gtfs_rows.proofs.Passing.{written_form}
-use Rattle.gtfs_words.specs.Words.{merge_texts_of}
+use Rattle.gtfs_commands.specs.Words.{merge_texts_of}
 use Rattle.gtfs_cli.specs.MergeParts.{merge_request_of}
 use Rattle.gtfs_cli.specs.Merges.{EndsMerge, HoldsFiles, IsMergeCause, IsWritingEnd}
 use Rattle.gtfs_cli.specs.NamesReport.{names_report}

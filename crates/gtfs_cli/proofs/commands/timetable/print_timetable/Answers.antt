@@ -1,7 +1,7 @@
 use Rattle.std.proofs.Common.{refl}
 use Rattle.std.proofs.lemmas.Result.{IfErr-weaker}
 use Rattle.gtfs_table.proofs.StoreFacts.{on_ok-always, on_ok-map}
-use Rattle.gtfs_words.specs.Words.{timetable_texts_of}
+use Rattle.gtfs_commands.specs.Words.{timetable_texts_of}
 use Rattle.gtfs_cli.specs.Refusals.{TellsFailure}
 use Rattle.gtfs_cli.specs.Failures.{Failures}
 use Rattle.gtfs_cli.specs.Timetables.{timetable_request_of, EndsTimetable, IsTimetableCause}

@@ -3,8 +3,8 @@ use Rattle.std.proofs.lemmas.Result.{IfOk-weaker}
 use Rattle.gtfs_table.specs.Parts.{parts}
 use Rattle.gtfs_rows.specs.Reading.{content_of as content_of_dataset}
 use Rattle.gtfs_rows.specs.Views.{content_of_parts, stop_row_of}
-use Rattle.gtfs_parts.specs.FeedRows.{AreRowsOf}
-use Rattle.gtfs_parts.specs.FirstNamed.{headsigns_in}
+use Rattle.gtfs_reading.specs.FeedRows.{AreRowsOf}
+use Rattle.gtfs_reading.specs.FirstNamed.{headsigns_in}
 use Rattle.gtfs_feed.proofs.ReadRows.{content_is, counted, make_a_feed}
 use Rattle.gtfs_feed.proofs.feed.Feed.new.Goals as goal
 

@@ -1,0 +1,73 @@
+-- The words of this crate's clauses, in the order in which a reader meets them: of each what it means, and where it is
+-- defined. A reader starts here, and reads on in the file of a word.
+
+-- ---- `read_words`: how the program is called, as `clap` is told
+
+-- the program with its five commands
+pub use Rattle.gtfs_commands.specs.CommandLine.{gtfs_app}
+-- `check` and its folder
+pub use Rattle.gtfs_commands.specs.CommandLine.{check_app}
+-- `board`, its folder and its options
+pub use Rattle.gtfs_commands.specs.CommandLine.{board_app}
+-- `boards`, its folder and its options
+pub use Rattle.gtfs_commands.specs.CommandLine.{boards_app}
+-- `timetable`, its folder and its options
+pub use Rattle.gtfs_commands.specs.CommandLine.{timetable_app}
+-- `merge`, its three folders and its options
+pub use Rattle.gtfs_commands.specs.CommandLine.{merge_app}
+-- ---- the texts that are given to a command
+
+-- words that `clap` takes ask for this command, with its texts
+pub use Rattle.gtfs_commands.specs.Asked.{IsCommandOf}
+-- the folder that was given to `check`
+pub use Rattle.gtfs_commands.specs.Asked.{GivesCheck}
+-- the texts of `board`: a limit and a key may be missing, and a flag says whether times are filled
+pub use Rattle.gtfs_commands.specs.Asked.{BoardTexts}
+-- the same of the command that the code has
+pub use Rattle.gtfs_commands.specs.Asked.{texts_of}
+-- each of them is the text that was given for it
+pub use Rattle.gtfs_commands.specs.Asked.{GivesBoard}
+-- the texts of `boards`, and its flag
+pub use Rattle.gtfs_commands.specs.Asked.{BoardsTexts}
+-- the same of the command that the code has
+pub use Rattle.gtfs_commands.specs.Asked.{boards_texts_of}
+-- each of them is the text that was given for it
+pub use Rattle.gtfs_commands.specs.Asked.{GivesBoards}
+-- the texts of `timetable`, of which a direction may be missing, and its flag
+pub use Rattle.gtfs_commands.specs.Asked.{TimetableTexts}
+-- the same of the command that the code has
+pub use Rattle.gtfs_commands.specs.Asked.{timetable_texts_of}
+-- each of them is the text that was given for it
+pub use Rattle.gtfs_commands.specs.Asked.{GivesTimetable}
+-- the texts of `merge`, of which a distance and a cutoff may be missing
+pub use Rattle.gtfs_commands.specs.Asked.{MergeTexts}
+-- the same of the command that the code has
+pub use Rattle.gtfs_commands.specs.Asked.{merge_texts_of}
+-- each of them is the text that was given for it
+pub use Rattle.gtfs_commands.specs.Asked.{GivesMerge}
+-- ---- `words_ask_for_one`: which words ask for which command
+
+-- `clap` takes the words, and they ask for a check of this folder
+pub use Rattle.gtfs_commands.specs.Asked.{AsksCheckOf}
+-- the same of the board of these texts
+pub use Rattle.gtfs_commands.specs.Asked.{AsksBoardOf}
+-- the same of the boards of these texts
+pub use Rattle.gtfs_commands.specs.Asked.{AsksBoardsOf}
+-- the same of the timetable of these texts
+pub use Rattle.gtfs_commands.specs.Asked.{AsksTimetableOf}
+-- the same of the merge of these texts
+pub use Rattle.gtfs_commands.specs.Asked.{AsksMergeOf}
+-- ---- words that `clap` does not take
+
+-- the fault that the words get
+pub use Rattle.gtfs_commands.specs.Untaken.{IsFaultOf}
+-- they ask for help
+pub use Rattle.gtfs_commands.specs.Untaken.{AreForHelp}
+-- they ask for the version
+pub use Rattle.gtfs_commands.specs.Untaken.{AreForVersion}
+-- they ask for one of the two
+pub use Rattle.gtfs_commands.specs.Untaken.{AreForHelpOrVersion}
+-- they ask for neither, and are refused
+pub use Rattle.gtfs_commands.specs.Untaken.{AreRefused}
+-- the fault where memory ran out
+pub use Rattle.gtfs_commands.specs.Untaken.{no_memory}

@@ -1,0 +1,24 @@
+//! `gtfs check`, as `clap` is told of it.
+ghost use Rattle.std.specs.Prelude.{◌≡◌, IfOk};
+ghost use Rattle.clap.specs.Words.{app_of};
+ghost use Rattle.gtfs_commands.specs.CommandLine.{check_app};
+
+use super::rules::{DIR, new_command, with_word};
+use crate::fault::OutOfMemory;
+use clap::Command;
+use std::alloc::Global;
+
+const ABOUT: &str = "Print what is wrong with a feed";
+
+const CHECK: &str = "gtfs check DIR";
+
+const LINES: &str =
+    "A line for each problem, as E05 trips.txt:7 route_id and what it means, and last\n\
+    errors N warnings N. The status is 1 where there is an error.";
+
+pub(super) fn check_command<'w>(alloc: Global) -> Result<Command<'w>, OutOfMemory>
+    ensures { IfOk result (λ c. app_of c ≡ check_app) }
+{
+    let check = new_command(alloc, "check", ABOUT, CHECK, LINES);
+    with_word(Ok(check), alloc, "DIR", DIR)
+}

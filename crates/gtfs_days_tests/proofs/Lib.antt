@@ -1,0 +1,3 @@
+pub mod ManyDays
+mod WorkedDays
+mod WorkedTexts

@@ -1,5 +1,0 @@
-pub mod ManyDays
-mod WorkedCounts
-mod WorkedDays
-mod WorkedTables
-mod WorkedTexts

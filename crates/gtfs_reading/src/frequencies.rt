@@ -1,0 +1,175 @@
+//! The rows of frequencies.txt by trip (GTFS Schedule Reference, `frequencies.txt`).
+
+ghost use Rattle.std.specs.Ordering.{nat_cmp};
+ghost use Rattle.std.specs.Prelude.{◌≡◌, [], IfOk, OnOk, codes, length, map};
+ghost use Rattle.gtfs_columns.specs.Problems.{Passes};
+ghost use Rattle.gtfs_columns.specs.steps.Ids.{first_rows, ids_of};
+ghost use Rattle.gtfs_reading.specs.ByTrip.{AreByTrip};
+ghost use Rattle.gtfs_reading.specs.Cuts.{IsCutInto};
+ghost use Rattle.gtfs_rows.specs.Order.{by_key};
+ghost use Rattle.gtfs_rows.specs.Reading.{content_of, frequency_in, rows_of};
+ghost use Rattle.gtfs_rows.specs.Views.{frequency_of};
+ghost use Rattle.gtfs_table.specs.Parts.{parts};
+ghost use Rattle.gtfs_table.specs.declared.file.File.TheVariants as file;
+
+use crate::choices::exact_times;
+use crate::numbers::{clock, positive};
+use gtfs_columns::Ids;
+use gtfs_field::{List, OutOfMemory};
+use gtfs_rows::Frequency;
+use gtfs_table::{File, Tables};
+use gtfs_trip_rules::RowsById;
+use std::alloc::Global;
+use std::marker::Model;
+
+// The frequencies of all trips, trip after trip, and where those of each trip begin.
+#[derive(Drop)]
+pub(crate) struct TripFrequencies {
+    pub(crate) rows: List<Frequency>,
+    pub(crate) starts: List<usize>,
+}
+
+// The frequencies of all trips by their numbers, in each trip by start.
+pub(crate) fn frequencies(
+    alloc: Global,
+    tables: &Tables,
+    trips: &Ids<'_>,
+) -> Result<TripFrequencies, OutOfMemory>
+    requires passes { Passes tables.now }
+    requires trips { trips.now ≡ first_rows tables.now file.Trips (codes "trip_id") }
+    ensures rows { IfOk result (λ f. map (map frequency_of) (parts f.starts f.rows)
+        ≡ map (λ t. t.frequencies) (content_of tables.now).trips) }
+    ensures cut { IfOk result (λ f. IsCutInto (length (ids_of trips.now)) f.starts f.rows) }
+{
+    let mut starts = Vec::with_capacity(alloc, trips.len())?;
+    let mut rows = Vec::new(alloc);
+    push_frequencies(alloc, tables, trips, &mut starts, &mut rows).and(Ok(TripFrequencies {
+        rows: List::new(rows),
+        starts: List::new(starts),
+    }))
+}
+
+// Fills both lists, which have one owner whichever trip finds no memory.
+fn push_frequencies(
+    alloc: Global,
+    tables: &Tables,
+    trips: &Ids<'_>,
+    starts: &mut Vec<usize>,
+    rows: &mut Vec<Frequency>,
+) -> Result<(), OutOfMemory>
+    requires passes { Passes tables.now }
+    requires trips { trips.now ≡ first_rows tables.now file.Trips (codes "trip_id") }
+    requires no_starts { starts.old.items ≡ [] }
+    requires no_rows { rows.old.items ≡ [] }
+    ensures { OnOk result (AreByTrip tables.now trips.now starts.new.items rows.new.items) }
+{
+    let file = FrequencyFile::new(alloc, tables)?;
+    file.push_by_trip(alloc, trips, starts, rows)
+}
+
+// frequencies.txt with its columns found, and its rows by trip.
+#[derive(Drop)]
+struct FrequencyFile<'a> {
+    tables: &'a Tables,
+    rows: RowsById<'a>,
+    start_time: Option<usize>,
+    end_time: Option<usize>,
+    headway_secs: Option<usize>,
+    exact_times: Option<usize>,
+}
+
+impl<'a> Model for FrequencyFile<'a> {
+    ghost use Rattle.gtfs_table.specs.Tables.{Dataset};
+    ghost use Rattle.gtfs_reading.specs.FrequencyColumns.{AreFrequencyColumns};
+
+    ghost Value = { Dataset };
+
+    ghost view = { λ f. f.tables.now };
+
+    ghost invariant = { AreFrequencyColumns };
+}
+
+impl<'a> FrequencyFile<'a> {
+    fn new(alloc: Global, tables: &'a Tables) -> Result<FrequencyFile<'a>, OutOfMemory>
+        ensures { IfOk result (λ file. file ≡ tables.now) }
+    {
+        let trip_id = tables.column(File::Frequencies, "trip_id");
+        let start_time = tables.column(File::Frequencies, "start_time");
+        let end_time = tables.column(File::Frequencies, "end_time");
+        let headway_secs = tables.column(File::Frequencies, "headway_secs");
+        let exact_times = tables.column(File::Frequencies, "exact_times");
+        Ok(FrequencyFile {
+            tables,
+            rows: RowsById::new(alloc, tables, File::Frequencies, trip_id)?,
+            start_time,
+            end_time,
+            headway_secs,
+            exact_times,
+        })
+    }
+
+    fn push_by_trip(
+        &self,
+        alloc: Global,
+        trips: &Ids<'_>,
+        starts: &mut Vec<usize>,
+        rows: &mut Vec<Frequency>,
+    ) -> Result<(), OutOfMemory>
+        requires passes { Passes self.now }
+        requires trips { trips.now ≡ first_rows self.now file.Trips (codes "trip_id") }
+        requires no_starts { starts.old.items ≡ [] }
+        requires no_rows { rows.old.items ≡ [] }
+        ensures { OnOk result (AreByTrip self.now trips.now starts.new.items rows.new.items) }
+    {
+        let trip_id = self.tables.column(File::Trips, "trip_id");
+        for number in 0..trips.len() {
+            let record = self.tables.record(File::Trips, trips.row(number));
+            let periods = self.of_trip(alloc, record.value(trip_id))?;
+            starts.push(rows.len())?;
+            rows.extend_from_slice(&periods)?;
+        }
+        Ok(())
+    }
+
+    // The frequencies of a trip by start.
+    fn of_trip(&self, alloc: Global, trip_id: &str) -> Result<Vec<Frequency>, OutOfMemory>
+        requires { Passes self.now }
+        ensures { IfOk result (λ periods. map frequency_of periods.items
+            ≡ by_key nat_cmp (λ r. r.start_time)
+            (map (frequency_in self.now) (rows_of self.now file.Frequencies trip_id.now))) }
+    {
+        let mut periods = Vec::new(alloc);
+        self.push_periods(self.rows.of(trip_id), &mut periods)?;
+        periods.sort_unstable_by_key(|period| period.start_time.seconds());
+        Ok(periods)
+    }
+
+    // The frequencies of rows, each of which stands beside its trip.
+    fn push_periods(
+        &self,
+        rows: &[(&str, usize)],
+        periods: &mut Vec<Frequency>,
+    ) -> Result<(), OutOfMemory>
+        requires { periods.old.items ≡ [] }
+        ensures { OnOk result (map frequency_of periods.new.items
+            ≡ map (frequency_in self.now) (map (λ r. r.1) rows.now)) }
+    {
+        for row in rows {
+            periods.push(self.frequency(row.1))?;
+        }
+        Ok(())
+    }
+
+    // The frequency of a row.
+    fn frequency(&self, row: usize) -> Frequency
+        ensures { frequency_of result ≡ frequency_in self.now row }
+    {
+        let record = self.tables.record(File::Frequencies, row);
+        Frequency {
+            start_time: clock(record.value(self.start_time)),
+            end_time: clock(record.value(self.end_time)),
+            headway_secs: positive(record.value(self.headway_secs)),
+            exact_times: exact_times(record.value(self.exact_times)),
+        }
+    }
+}

@@ -1,0 +1,2 @@
+mod WorkedCounts
+mod WorkedTables

@@ -1,6 +1,0 @@
-use Rattle.gtfs_words.proofs.definitions.boards.boards_command.Goals as goal
-
-pub returns : goal.returns
-returns c =
-    c.with_flag.ensures _ (c.with_option-requests.ensures _ (c.with_option-zone.ensures _
-    (c.with_word-dir.ensures _ c.new_command-boards.ensures)))

@@ -1,7 +1,0 @@
-use Rattle.std.proofs.Common.{◌∙◌, ap}
-use Rattle.clap.specs.Simple.{app_of_fields}
-use Rattle.gtfs_words.proofs.definitions.rules.described.Goals as goal
-
--- help is no part of what is parsed
-pub returns : goal.returns
-returns c = ap app_of_fields c.override_usage.ensures ∙ ap app_of_fields c.about.ensures ∙ c.new.ensures.app

@@ -1,8 +1,0 @@
-use Rattle.std.proofs.Common.{◌∙◌, ap}
-use Rattle.clap.specs.Words.{found_of}
-use Rattle.gtfs_words.specs.Asked.{is_from_words}
-use Rattle.gtfs_words.proofs.Flags.{source-rows}
-use Rattle.gtfs_words.proofs.read.is_flagged.Goals as goal
-
-pub returns : goal.returns
-returns c = c.is_from_words.ensures ∙ ap is_from_words (c.value_source.ensures ∙ source-rows (found_of c.args.given.now) c.args.id.now)

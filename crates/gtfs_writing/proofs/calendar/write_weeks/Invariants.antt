@@ -1,0 +1,15 @@
+use Rattle.std.proofs.Common.{◌≡◌, drop, map}
+use Rattle.gtfs_columns.specs.Columns.{columns_of}
+use Rattle.gtfs_rows.specs.Cells.{record_text}
+use Rattle.gtfs_rows.specs.RowCells.{held_by, week_cells, week_list}
+use Rattle.gtfs_rows.specs.Views.{content_of_parts, service_of}
+use Rattle.gtfs_table.specs.declared.file.File.TheVariants as file
+use Rattle.gtfs_writing.specs.Taking.{rows_in, with_rows}
+use Rattle.gtfs_writing.proofs.calendar.write_weeks.Given as goal
+
+-- the rows that are left lead to where all rows lead
+abbrev pub invariant-loop-service : goal.invariant-loop-service
+invariant-loop-service g l =
+    with_rows g.S.Sink.takes l.rows
+    (map (record_text (columns_of file.Calendar)) (map week_cells (held_by (λ s. s.service_id) (λ s. week_list s.service.week) (map service_of (drop l.service-index l.services)))))
+    ≡ with_rows g.S.Sink.takes l.fn.rows (rows_in (content_of_parts l.fn.parts) file.Calendar)
