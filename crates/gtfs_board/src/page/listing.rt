@@ -49,7 +49,7 @@ impl<'a> Listing<'a> for Board<'a> {
 
     ghost steps = { step_count };
 
-    ghost KeepsBoard = { KeepsBoard };
+    ghost Keeps = { KeepsBoard };
 
     fn next(&mut self) -> Result<Option<Departure<'a>>, OutOfMemory> {
         Board::next(self)
