@@ -7,6 +7,8 @@ pub use Rattle.gtfs_rules.specs.Report.{problem_line, counts_line, report_text}
 -- ---- the stop times of a dataset that passes
 pub use Rattle.gtfs_rules.specs.StopTimes.{SaysStopTime, AreStopTimes, stop_time_cmp}
 pub use Rattle.gtfs_columns.specs.IdNumbers.{ids_by_bytes, id_numbered, number_of_id}
+-- ---- its ids
+pub use Rattle.gtfs_columns.specs.steps.FeedIds.{AreIdsOf}
 -- ---- the columns of the nine files, their keys and references, and the values that are readable
 pub use Rattle.gtfs_columns.specs.Columns.{Kind, Empty, Column, columns_of, column_named}
 pub use Rattle.gtfs_columns.specs.References.{key_columns, references}
