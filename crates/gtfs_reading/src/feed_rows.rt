@@ -68,7 +68,8 @@ impl FeedRows {
         ensures passes { Passes passed.now }
     {
         let mut rows = FeedRows::empty(alloc);
-        rows.read(alloc, passed.tables()).and(Ok(rows))
+        let ids = &passed.ids().network;
+        rows.read(alloc, passed.tables(), ids).and(Ok(rows))
     }
 
     // Rows of which no list is read yet.
@@ -85,17 +86,8 @@ impl FeedRows {
         }
     }
 
-    // Reads the lists of tables, which have one owner whichever of them finds no memory.
-    fn read(&mut self, alloc: Global, tables: &Tables) -> Result<(), OutOfMemory>
-        requires { Passes tables.now }
-        ensures { OnOk result (AreRowsOf tables.now self.new) }
-    {
-        let ids = NetworkIds::new(alloc, tables)?;
-        self.read_by_ids(alloc, tables, &ids)
-    }
-
-    // The same, with the ids by their numbers.
-    fn read_by_ids(
+    // Reads the lists of tables by their ids. They have one owner, whichever of them finds no memory.
+    fn read(
         &mut self,
         alloc: Global,
         tables: &Tables,

@@ -39,13 +39,15 @@ pub use Rattle.gtfs_columns.specs.IdNumbers.{ids_by_bytes}
 pub use Rattle.gtfs_columns.specs.IdNumbers.{id_numbered}
 -- the number of an id, none where no row has it
 pub use Rattle.gtfs_columns.specs.IdNumbers.{number_of_id}
+-- the ids of each column that other files name, each with its first row
+pub use Rattle.gtfs_columns.specs.steps.FeedIds.{AreIdsOf}
 -- ---- what the two types are seen as, and what they hold
 
 -- a dataset, and the problems that were found in it
 pub use Rattle.gtfs_columns.specs.steps.Found.{Checked}
--- the problems are the dataset's report, and the stop times are those of its rows
+-- the problems are the dataset's report, and the ids and the stop times are those of its rows
 pub use Rattle.gtfs_rules.specs.steps.Checked.{IsChecked}
--- the dataset passes, and the stop times are its stop times
+-- the dataset passes, and the ids and the stop times are its own
 pub use Rattle.gtfs_rules.specs.steps.Checked.{HasPassed}
 -- ---- the printed report
 

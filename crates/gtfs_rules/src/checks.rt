@@ -31,26 +31,28 @@ pub fn check<'a>(alloc: Global, tables: &'a Tables) -> Result<Report<'a>, OutOfM
     ensures dataset { IfOk result (λ report. report.dataset ≡ tables.now) }
     ensures report { IfOk result (λ report. IsReport tables.now report.problems) }
 {
+    let ids = FeedIds::new(alloc, tables)?;
     let mut found = Found::new(alloc);
-    let stop_times = report_all(alloc, tables, &mut found)?;
-    Ok(Report::new(tables, found, stop_times))
+    let stop_times = report_all(alloc, tables, &ids, &mut found)?;
+    Ok(Report::new(tables, ids, found, stop_times))
 }
 
-// All that is wrong. This and the parts that judge stop times hand these on.
+// All that is wrong, given the ids of the feed. This and the parts that judge stop times hand these on.
 fn report_all<'a>(
     alloc: Global,
     tables: &'a Tables,
+    ids: &FeedIds<'a>,
     found: &mut Found<'a>,
 ) -> Result<Vec<StopTime>, OutOfMemory>
+    requires { AreIdsOf tables.now ids.now }
     ensures reported { OnOk result (Reports tables.now every found.old found.new) }
     ensures kept { IfOk result (λ stop_times. AreKeptOf tables.now stop_times.items) }
 {
     let types = stop_types(alloc, tables)?;
-    let ids = FeedIds::new(alloc, tables)?;
-    report_parts(alloc, tables, &ids, types.as_slice(), found)
+    report_parts(alloc, tables, ids, types.as_slice(), found)
 }
 
-// All that is wrong, given the ids of the feed and the types of its stops.
+// The same, given the types of its stops too.
 fn report_parts<'a>(
     alloc: Global,
     tables: &'a Tables,

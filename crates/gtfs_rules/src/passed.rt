@@ -1,7 +1,9 @@
 ghost use Rattle.std.specs.Prelude.{◌≡◌};
 ghost use Rattle.gtfs_columns.specs.Problems.{Passes};
+ghost use Rattle.gtfs_columns.specs.steps.FeedIds.{AreIdsOf};
 ghost use Rattle.gtfs_rules.specs.StopTimes.{AreStopTimes};
 
+use gtfs_columns::FeedIds;
 use gtfs_table::Tables;
 use gtfs_trip_rules::StopTime;
 use std::marker::Model;
@@ -10,6 +12,7 @@ use std::marker::Model;
 #[derive(Drop)]
 pub struct Passed<'a> {
     tables: &'a Tables,
+    ids: FeedIds<'a>,
     stop_times: Vec<StopTime>,
 }
 
@@ -21,17 +24,22 @@ impl<'a> Model for Passed<'a> {
 
     ghost view = { λ p. p.tables.now };
 
-    ghost invariant = { λ p. HasPassed p.tables.now p.stop_times.items };
+    ghost invariant = { λ p. HasPassed p.tables.now p.ids p.stop_times.items };
 }
 
 impl<'a> Passed<'a> {
-    // Tables that have no error, and their stop times.
-    pub(crate) fn new(tables: &'a Tables, stop_times: Vec<StopTime>) -> Passed<'a>
+    // Tables that have no error, their ids and their stop times.
+    pub(crate) fn new(tables: &'a Tables, ids: FeedIds<'a>, stop_times: Vec<StopTime>) -> Passed<'a>
         requires passes { Passes tables.now }
+        requires ids { AreIdsOf tables.now ids }
         requires stop_times { AreStopTimes tables.now stop_times.items }
         ensures { result ≡ tables.now }
     {
-        Passed { tables, stop_times }
+        Passed {
+            tables,
+            ids,
+            stop_times,
+        }
     }
 
     /// The tables that were checked.
@@ -40,6 +48,14 @@ impl<'a> Passed<'a> {
         ensures passes { Passes result.now }
     {
         self.tables
+    }
+
+    /// The ids of the dataset, as the check found them: each has a number, from 0 in the order of the ids' bytes, and
+    /// its first row (GTFS Schedule Reference, fields of type "ID").
+    pub fn ids(&self) -> &FeedIds<'a>
+        ensures { AreIdsOf self.now result.now }
+    {
+        &self.ids
     }
 
     /// The stop times of the dataset, one for each row of `stop_times.txt`: by the numbers of their trips, and in a

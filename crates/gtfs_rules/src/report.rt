@@ -1,13 +1,14 @@
 ghost use Rattle.std.specs.Prelude.{◌≡◌, map, IfOk, IfErr};
 ghost use Rattle.std.specs.List.{list_any};
 ghost use Rattle.gtfs_columns.specs.Codes.{is_error};
+ghost use Rattle.gtfs_columns.specs.steps.FeedIds.{AreIdsOf};
 ghost use Rattle.gtfs_columns.specs.steps.Found.{ListsAll};
 ghost use Rattle.gtfs_columns.specs.Problems.{IsOnlyReport, IsReport, Passes};
 ghost use Rattle.gtfs_columns.specs.View.{problem_of};
 ghost use Rattle.gtfs_trip_rules.specs.KeptOrder.{AreKeptOf};
 
 use crate::passed::Passed;
-use gtfs_columns::{Found, Problem};
+use gtfs_columns::{FeedIds, Found, Problem};
 use gtfs_table::Tables;
 use gtfs_trip_rules::StopTime;
 use std::marker::Model;
@@ -16,6 +17,7 @@ use std::marker::Model;
 #[derive(Drop)]
 pub struct Report<'a> {
     tables: &'a Tables,
+    ids: FeedIds<'a>,
     problems: Vec<Problem<'a>>,
     // Those that name a trip and have a sequence, in their order.
     stop_times: Vec<StopTime>,
@@ -32,19 +34,26 @@ impl<'a> Model for Report<'a> {
     ghost view = { λ r. record { dataset = r.tables.now; problems = map problem_of r.problems.items } };
 
     ghost invariant = { λ r.
-        IsChecked r.tables.now (map problem_of r.problems.items) r.stop_times.items };
+        IsChecked r.tables.now r.ids (map problem_of r.problems.items) r.stop_times.items };
 }
 
 impl<'a> Report<'a> {
-    // The report of the problems that were found, which are all that the tables have, and the stop
-    // times that were read.
-    pub(crate) fn new(tables: &'a Tables, found: Found<'a>, stop_times: Vec<StopTime>) -> Report<'a>
+    // The report of the problems that were found, which are all that the tables have, the ids by which
+    // they were found, and the stop times that were read.
+    pub(crate) fn new(
+        tables: &'a Tables,
+        ids: FeedIds<'a>,
+        found: Found<'a>,
+        stop_times: Vec<StopTime>,
+    ) -> Report<'a>
+        requires ids { AreIdsOf tables.now ids }
         requires found { ListsAll tables.now found }
         requires stop_times { AreKeptOf tables.now stop_times.items }
         ensures { result.dataset ≡ tables.now }
     {
         Report {
             tables,
+            ids,
             problems: found.into_sorted(),
             stop_times,
         }
@@ -72,10 +81,11 @@ impl<'a> Report<'a> {
         }
         let Report {
             tables,
+            ids,
             problems: _,
             stop_times,
         } = self;
-        Ok(Passed::new(tables, stop_times))
+        Ok(Passed::new(tables, ids, stop_times))
     }
 }
 

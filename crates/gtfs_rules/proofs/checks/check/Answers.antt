@@ -6,8 +6,8 @@ use Rattle.gtfs_rules.proofs.CompleteFacts.{all_picked}
 use Rattle.gtfs_columns.proofs.ReportingFacts.{reports_all}
 use Rattle.gtfs_rules.proofs.checks.check.Goals as goal
 
-pub new-requires-clause-found : goal.new-requires-clause-found
-new-requires-clause-found c =
+pub new-requires-2-clause-found : goal.new-requires-2-clause-found
+new-requires-2-clause-found c =
     let d = c.args.tables.now in
     let last = c.report_all.new.found in
     reports_all d every last (all_picked d)
