@@ -3,8 +3,8 @@ ghost use Rattle.std.specs.Prelude.{◌≡◌, IfOk, true};
 ghost use Rattle.gtfs_days.specs.Cut.{cut_day};
 ghost use Rattle.gtfs_days.specs.Service.{NamesEachDayOnce, is_service_day};
 
+use crate::assertions::{assert_is, assert_is_at};
 use crate::services::{april, assert_next};
-use gtfs_assertions::{assert_is, assert_is_at};
 use gtfs_days::Exception::{Added, Removed};
 use gtfs_days::{Cut, Exception, FIRST_SERVICE_DAY, LAST_SERVICE_DAY, Service, Week};
 use gtfs_field::{Day, OutOfMemory};

@@ -2,7 +2,7 @@
 ghost use Rattle.std.specs.Prelude.{◌≡◌, ℤ, pos, ◌+ℤ◌};
 ghost use Rattle.jiff_core.specs.Calendar.{IsBetween};
 
-use gtfs_assertions::{assert_is, assert_is_at};
+use crate::assertions::{assert_is, assert_is_at};
 use gtfs_days::Exception::{Added, Removed};
 use gtfs_days::{FIRST_SERVICE_DAY, LAST_SERVICE_DAY, Service, Week};
 use gtfs_field::{Day, read_date};

@@ -1,5 +1,5 @@
 //! Texts of each kind with the values that they have, and the values' canonical texts.
-use gtfs_assertions::{assert_is, assert_is_at, assert_that};
+use crate::assertions::{assert_is, assert_is_at, assert_that};
 use gtfs_field::{
     Axis, Clock, Colour, Coord, Day, FieldFault, List, Text, push_colour, push_coord, push_count,
     push_date, push_time, read_colour, read_coord, read_count, read_date, read_instant, read_time,

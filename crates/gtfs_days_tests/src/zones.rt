@@ -1,7 +1,7 @@
 //! Zones with the origins of their days and what their clocks show.
 ghost use Rattle.std.specs.Prelude.{◌≤◌, length};
 
-use gtfs_assertions::{assert_is, assert_is_at};
+use crate::assertions::{assert_is, assert_is_at};
 use gtfs_days::{Civil, CivilFault, Zone, ZoneClock, ZoneFault};
 use gtfs_field::Day;
 use std::alloc::{AllocError, Global};

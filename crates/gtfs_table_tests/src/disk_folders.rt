@@ -3,8 +3,8 @@
 mod odd_systems;
 mod stand_in;
 
+use crate::assertions::{assert_is, assert_is_at, assert_that};
 use crate::device::{has_file, listed, read_len};
-use gtfs_assertions::{assert_is, assert_is_at, assert_that};
 use gtfs_table::{DiskFolders, FolderFault, Folders};
 use std::alloc::{AllocError, Global};
 use std::fs::Permissions;

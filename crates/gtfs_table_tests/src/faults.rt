@@ -1,5 +1,5 @@
 //! The lines of faults, which a program may print, and their numbers.
-use gtfs_assertions::{assert_is, assert_is_at};
+use crate::assertions::{assert_is, assert_is_at};
 use gtfs_days::{CivilFault, ZoneFault};
 use gtfs_field::FieldFault;
 use gtfs_table::{Failed, FolderFault, OutFault};

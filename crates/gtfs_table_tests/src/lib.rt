@@ -6,12 +6,14 @@
 //! - `memory_folders` and `disk_folders` are the two devices that hold folders, and `outputs` those that take text.
 //! - `sizes` are outputs, files, folders and records that are larger than those.
 //! - `faults` are the lines and numbers of faults, also of those of `gtfs_field` and `gtfs_days`.
-//! - `device` is what the tests ask of folders.
+//! - `assertions` are what the tests assert with, and `device` what they ask of folders.
 //!
 //! The worked examples of the definitions stand in `proofs/`, as lemmas that compute. Among them are counts of calls and
 //! failures that are full (`WorkedCounts.antt`), which no run reaches.
 #![tactic(auto)]
 
+#[cfg(test)]
+mod assertions;
 #[cfg(test)]
 mod device;
 #[cfg(test)]

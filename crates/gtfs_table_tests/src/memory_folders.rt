@@ -1,8 +1,8 @@
 //! Folders in memory: what was put or written is told, and each call fails in turn.
 ghost use Rattle.std.specs.Prelude.{◌<◌};
 
+use crate::assertions::{assert_is, assert_is_at, assert_that};
 use crate::device::has_file;
-use gtfs_assertions::{assert_is, assert_is_at, assert_that};
 use gtfs_table::{FolderFault, Folders, MemoryFolders};
 use std::alloc::Global;
 use std::process::Abort;

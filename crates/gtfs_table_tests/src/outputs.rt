@@ -1,5 +1,5 @@
 //! Outputs: a text goes out whole, or up to where its output fails.
-use gtfs_assertions::{assert_is, assert_is_at};
+use crate::assertions::{assert_is, assert_is_at};
 use gtfs_table::{Failed, MemoryOut, Out, OutFault, WriteOut, write_text};
 use std::alloc::Global;
 use std::io;

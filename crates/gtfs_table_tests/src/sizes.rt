@@ -1,5 +1,5 @@
 //! Large outputs, files, folders and records: memory alone bounds their sizes.
-use gtfs_assertions::{assert_is, assert_is_at};
+use crate::assertions::{assert_is, assert_is_at};
 use gtfs_table::{File, Folders, MemoryFolders, MemoryOut, Out, Tables, write_text};
 use std::alloc::{AllocError, Global};
 use std::process::Abort;

@@ -2,7 +2,7 @@
 ghost use Rattle.std.specs.Prelude.{◌<◌, ◌-◌, ◌^◌};
 ghost use Rattle.std.specs.Option.{ForSome};
 
-use gtfs_assertions::{assert_is, assert_is_at, assert_that};
+use crate::assertions::{assert_is, assert_is_at, assert_that};
 use gtfs_field::{OutOfMemory, Text};
 use gtfs_table::{File, FolderFault, Folders, MemoryFolders, State, Tables, plain_character};
 use std::alloc::Global;

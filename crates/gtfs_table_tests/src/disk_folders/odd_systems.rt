@@ -1,8 +1,8 @@
 //! Folders of a file system that stands in for the real one: what it refuses, lists and gives is up to the test.
 use super::make_folder;
 use super::stand_in::{Call, Counts, Drip, StandIn};
+use crate::assertions::{assert_is, assert_is_at};
 use crate::device::{has_file, listed, read_len};
-use gtfs_assertions::{assert_is, assert_is_at};
 use gtfs_table::{DiskFolders, FolderFault, Folders};
 use std::alloc::Global;
 use std::fs;

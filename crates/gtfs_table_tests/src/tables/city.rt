@@ -3,7 +3,7 @@ ghost use Rattle.std.specs.Prelude.{◌<◌, ◌-◌, ◌^◌};
 ghost use Rattle.std.specs.Option.{ForSome};
 
 use super::{ValueAt, assert_values, folders_of};
-use gtfs_assertions::{assert_is, assert_is_at};
+use crate::assertions::{assert_is, assert_is_at};
 use gtfs_field::OutOfMemory;
 use gtfs_table::{File, FolderFault, Folders, MemoryFolders, Tables};
 use std::alloc::Global;

@@ -1,16 +1,19 @@
-//! Assertions as calls, whose proofs take less than those of the macros. The crates of tests share them.
-#![tactic(auto)]
-
+//! Assertions as calls, whose proofs take less than those of the macros.
 use std::fmt::Debug;
 use std::process::Abort;
 
 /// Holds what was found to what is wanted of it.
-pub fn assert_is<T: Copy + PartialEq + Debug>(rt: &impl Abort, found: T, wanted: T, what: &str) {
+pub(crate) fn assert_is<T: Copy + PartialEq + Debug>(
+    rt: &impl Abort,
+    found: T,
+    wanted: T,
+    what: &str,
+) {
     assert_eq!(rt; found, wanted, "{what}");
 }
 
 /// The same, for one of many cases.
-pub fn assert_is_at<T: Copy + PartialEq + Debug>(
+pub(crate) fn assert_is_at<T: Copy + PartialEq + Debug>(
     rt: &impl Abort,
     found: T,
     wanted: T,
@@ -21,6 +24,6 @@ pub fn assert_is_at<T: Copy + PartialEq + Debug>(
 }
 
 /// Holds that something is so.
-pub fn assert_that(rt: &impl Abort, holds: bool, what: &str) {
+pub(crate) fn assert_that(rt: &impl Abort, holds: bool, what: &str) {
     assert!(rt; holds, "{what}");
 }
