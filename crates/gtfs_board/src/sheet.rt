@@ -34,7 +34,7 @@ impl From<OutOfMemory> for TableFault {
 }
 
 /// The runs of a route that pass one list of stops in one direction on a day. The feed lends its texts.
-#[derive(Drop)]
+#[derive(Debug, Drop)]
 pub struct Sheet<'a> {
     /// `route_id` of the route.
     pub route: &'a str,

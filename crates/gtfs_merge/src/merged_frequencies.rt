@@ -1,4 +1,4 @@
-ghost use Rattle.std.specs.Prelude.{◌≡◌, IfOk, map};
+ghost use Rattle.std.specs.Prelude.{IfOk, map};
 ghost use Rattle.gtfs_merge.specs.KindRows.{AreMergedKinds};
 ghost use Rattle.gtfs_merge.specs.TripRows.{StandInTurn, frequencies_from};
 

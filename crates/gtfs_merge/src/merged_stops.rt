@@ -1,4 +1,4 @@
-ghost use Rattle.std.specs.Prelude.{◌≡◌, ◌<◌, IfOk, IfSome, OnOk, length, map, option_map, slice_index_or, true};
+ghost use Rattle.std.specs.Prelude.{◌≡◌, ◌<◌, IfOk, IfSome, length, map, option_map, slice_index_or, true};
 ghost use Rattle.std.specs.List.{list_all};
 ghost use Rattle.gtfs_rows.specs.NamedRows.{names_parent, stop_named};
 ghost use Rattle.gtfs_merge.specs.KindRows.{AreKindRows};

@@ -4,7 +4,7 @@ ghost use Rattle.gtfs_merge.specs.Names.{AreHashedBy, AreKindNames, ArePairedNam
 ghost use Rattle.gtfs_merge.specs.Near.{near_pairs};
 ghost use Rattle.gtfs_merge.specs.Numbered.{known_ids};
 ghost use Rattle.gtfs_merge.specs.Renaming.{joined_ids};
-ghost use Rattle.gtfs_merge.specs.Sides.{content_a, content_b, nearness_of, side_names, is_joined_id};
+ghost use Rattle.gtfs_merge.specs.Sides.{content_a, content_b, nearness_of, is_joined_id};
 ghost use Rattle.gtfs_merge.specs.Twins.{near_at, pairs_at, twin_rows};
 ghost use Rattle.gtfs_merge.specs.declared.kind.Kind.TheVariants as kind;
 
@@ -37,7 +37,6 @@ pub struct Names {
 }
 
 impl Model for Names {
-    ghost use Rattle.std.specs.Prelude.{map};
     ghost use Rattle.gtfs_merge.specs.Names.{AllNames};
 
     ghost Value = { AllNames };

@@ -1,4 +1,4 @@
-ghost use Rattle.std.specs.Prelude.{◌≡◌, ◌<◌, [], ◌∷◌, ◌++◌, IfOk, OnOk, bytes_eq, false, length, option_map, slice_index_or, string_bytes};
+ghost use Rattle.std.specs.Prelude.{◌≡◌, ◌<◌, [], IfOk, OnOk, bytes_eq, false, length, option_map, slice_index_or, string_bytes};
 ghost use Rattle.std.specs.List.{list_any};
 ghost use Rattle.gtfs_merge.specs.Names.{new_id, new_ids, with_id};
 ghost use Rattle.gtfs_merge.specs.Numbered.{known_ids};

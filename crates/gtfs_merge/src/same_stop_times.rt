@@ -1,7 +1,7 @@
 ghost use Rattle.std.specs.Option.{option_eq};
-ghost use Rattle.std.specs.Prelude.{◌≡◌, ◌<◌, ◌∷◌, [], All, IfSome, None, Some, length, map, nat_eq, option_map, slice_index_or, true};
+ghost use Rattle.std.specs.Prelude.{◌≡◌, ◌<◌, IfSome, None, Some, length, map, nat_eq, option_map, slice_index_or, true};
 ghost use Rattle.gtfs_rows.specs.Trips.{AreStopTimes};
-ghost use Rattle.gtfs_rows.specs.Views.{stop_ids, text_of_number};
+ghost use Rattle.gtfs_rows.specs.Views.{text_of_number};
 ghost use Rattle.gtfs_merge.specs.Numbered.{same_stop_row_in, same_stop_rows_in};
 ghost use Rattle.gtfs_merge.specs.Renaming.{stop_b};
 ghost use Rattle.gtfs_merge.specs.Same.{same_text};

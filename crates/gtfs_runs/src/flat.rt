@@ -1,4 +1,4 @@
-ghost use Rattle.std.specs.Prelude.{◌≡◌, ◌≤◌, ◌<◌, ◌+◌, ◌++◌, ◌&&◌, ◌==◌, ℕ, List, All, AllPairs, IfOk, OnOk, Some, cond, length, map, slice_get, slice_index_or, unwrap_or};
+ghost use Rattle.std.specs.Prelude.{◌≡◌, ◌≤◌, ◌<◌, ◌+◌, ◌++◌, ◌&&◌, ◌==◌, ℕ, List, All, IfOk, OnOk, Some, cond, length, map, slice_get, slice_index_or, unwrap_or};
 ghost use Rattle.gtfs_rows.specs.Trips.{ArePeriods, left_at, stop_rows_by_trip};
 ghost use Rattle.gtfs_rows.specs.Views.{content_of_parts, frequency_of, stop_ids, stop_row_of, text_of_number, trip_of};
 ghost use Rattle.gtfs_rows.specs.declared.frequency.Frequency.{Frequency as FrequencyRow};

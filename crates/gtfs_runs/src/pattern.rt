@@ -1,4 +1,4 @@
-ghost use Rattle.std.specs.Prelude.{◌≡◌, ◌<◌, ◌++◌, ◌∷◌, [], true, IfOk, OnOk, length, map, filter, option_map, option_and_then, slice_get};
+ghost use Rattle.std.specs.Prelude.{◌≡◌, ◌<◌, ◌++◌, ◌∷◌, [], true, IfOk, OnOk, length, map, filter, option_map};
 ghost use Rattle.std.specs.List.{flat_map};
 ghost use Rattle.std.specs.List.Sorted.{IsPermutation, IsSorted};
 ghost use Rattle.gtfs_rows.specs.Choices.{direction_code};
@@ -10,7 +10,7 @@ use gtfs_rows::{Direction, RouteNo, StopNo, StopRow, TripNo};
 use std::alloc::Global;
 
 /// The trips of a route that go in one direction along one list of stops.
-#[derive(Drop)]
+#[derive(Debug, Drop)]
 pub struct Pattern {
     /// `direction_id` of the trips, 0 or 1, where they have one.
     pub direction: Option<u8>,

@@ -1,4 +1,4 @@
-ghost use Rattle.std.specs.Prelude.{◌≡◌, ◌≤◌, ◌<◌, ◌+◌, ◌*◌, ◌-◌, ◌/◌, ◌^◌, ℕ, Bool, Some, None, if◌then◌else◌, cond, nat_lt, pos, ◌+ℤ◌, ◌≤ℤ◌, ◌<ℤ◌};
+ghost use Rattle.std.specs.Prelude.{◌≡◌, ◌≤◌, ◌<◌, ◌+◌, ◌*◌, ◌-◌, ◌/◌, ◌^◌, Bool, Some, None, if◌then◌else◌, cond, nat_lt, pos, ◌+ℤ◌, ◌≤ℤ◌, ◌<ℤ◌};
 ghost use Rattle.std.specs.List.{find};
 ghost use Rattle.gtfs_runs.specs.declared.event.Event.{Event as EventValue};
 ghost use Rattle.gtfs_rows.specs.Order.{Ascends};

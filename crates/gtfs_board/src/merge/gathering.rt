@@ -1,7 +1,7 @@
 ghost use Rattle.std.specs.Prelude.{◌≡◌, ◌≤◌, ◌+◌, ◌*◌, ◌++◌, pos, negsuc, ◌+ℤ◌, ◌-ℤ◌, ◌*ℤ◌, ◌≤ℤ◌, ◌<ℤ◌, OnOk, IfOk, IsTrue, false};
 ghost use Rattle.std.specs.Option.{option_to_list};
 ghost use Rattle.gtfs_board.specs.Board.{origin_distance};
-ghost use Rattle.gtfs_board.specs.merge.Order.{Each, tally};
+ghost use Rattle.gtfs_board.specs.merge.Order.{Each};
 ghost use Rattle.gtfs_board.specs.merge.Lanes.{IsStopped, AreStepsFew, IsStartDay};
 ghost use Rattle.gtfs_board.specs.merge.Candidates.{AreGathered, AreHeadsAbove, AreWithinLeast, IsAside, heads_on, least_from, with_head};
 

@@ -3,7 +3,7 @@ ghost use Rattle.std.specs.Option.{option_to_list};
 ghost use Rattle.std.specs.Ordering.{flip_args};
 ghost use Rattle.std.specs.BinaryHeap.{heap_items, IsHeap};
 ghost use Rattle.std.specs.List.Sorted.{IsSorted};
-ghost use Rattle.gtfs_board.specs.merge.Candidates.{AreHeadedBy, HaveSameMembers, IsFirst, candidate_cmp, candidate_lt, with_head};
+ghost use Rattle.gtfs_board.specs.merge.Candidates.{AreHeadedBy, HaveSameMembers, IsFirst, candidate_cmp, with_head};
 
 use crate::merge::candidate::Candidate;
 use gtfs_field::OutOfMemory;

@@ -35,7 +35,7 @@ pub trait Listing<'a> {
         ensures steps { IfOk result (λ o.
             AreStepsWithin (taken o) (steps self.old) (steps self.new)) }
         ensures zone { clocks self.new ≡ clocks self.old }
-        ensures keeps { (start : Self) → KeepsBoard start self.old → KeepsBoard start self.new };
+        ensures keeps { (start : Self) → Keeps start self.old → Keeps start self.new };
 
     // The zone of the lines.
     fn zone(&self) -> &'a Zone

@@ -1,7 +1,7 @@
 //! The text of a sheet.
 ghost use Rattle.std.specs.Prelude.{◌≡◌, ◌++◌, codes, map, string_bytes, zip, OnOk, OnErr};
 ghost use Rattle.std.specs.List.{flat_map};
-ghost use Rattle.gtfs_board.specs.Timetable.{after_tab, direction_shown, sheet_text, stop_text, tabbed, time_shown, title_text, trips_text};
+ghost use Rattle.gtfs_board.specs.Timetable.{after_tab, direction_shown, sheet_text, stop_text, tabbed, time_shown, title_text};
 ghost use Rattle.gtfs_board.specs.LentSheets.{plain_sheet};
 
 use crate::sheet::Sheet;

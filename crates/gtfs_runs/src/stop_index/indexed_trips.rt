@@ -1,8 +1,7 @@
-ghost use Rattle.std.specs.Prelude.{◌≡◌, ◌≤◌, ◌<◌, ◌-◌, ◌==◌, ℕ, All, IfOk, false, length, map, slice_index_or, true};
+ghost use Rattle.std.specs.Prelude.{◌≡◌, ◌≤◌, ◌<◌, ◌-◌, ◌==◌, ℕ, All, IfOk, length, map, slice_index_or};
 ghost use Rattle.std.specs.List.Sorted.{IsSorted};
 ghost use Rattle.std.specs.Ordering.{is_lt};
 ghost use Rattle.gtfs_runs.specs.Counts.{tally};
-ghost use Rattle.gtfs_runs.specs.declared.grouped_trip.GroupedTrip.{GroupedTrip as TripValue};
 ghost use Rattle.gtfs_runs.specs.declared.stop_index.indexed_trips.IndexedTrip.{IndexedTrip as IndexedValue};
 ghost use Rattle.gtfs_runs.specs.steps.Groups.{AreIndexedTrips, AreOfTrips, AreStarted, HaveGroups, group_cmp, group_of};
 

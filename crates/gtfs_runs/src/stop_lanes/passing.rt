@@ -6,7 +6,7 @@ ghost use Rattle.gtfs_rows.specs.declared.parts.Parts.{Parts};
 ghost use Rattle.gtfs_stop_times.specs.declared.stop_row.StopRow.{StopRow as StopTime};
 ghost use Rattle.gtfs_rows.specs.declared.trip.Trip.{Trip};
 ghost use Rattle.gtfs_rows.specs.Places.{members};
-ghost use Rattle.gtfs_runs.specs.steps.Passings.{AreTripTimes, first_left, passing_at, passing_event, passings_of};
+ghost use Rattle.gtfs_runs.specs.steps.Passings.{AreTripTimes, passing_at, passing_event, passings_of};
 ghost use Rattle.gtfs_times.specs.TimedRows.{timed_parts};
 
 use crate::departure_row::{leaves_place, left, trip_start};
