@@ -1,4 +1,4 @@
-ghost use Rattle.std.specs.Prelude.{◌≡◌, ◌<◌, [], IfOk, Some, length, position, option_map, bytes_eq, slice_get, slice_index_or};
+ghost use Rattle.std.specs.Prelude.{◌≡◌, ◌<◌, [], IfOk, IsOk, Some, length, position, option_map, bytes_eq, slice_get, slice_index_or};
 ghost use Rattle.gtfs_rows.specs.Views.{IsSoundParts, agency_ids, stop_ids, route_ids, service_ids, trip_ids};
 ghost use Rattle.gtfs_rows.specs.Trips.{stop_rows_by_trip, frequencies_by_trip};
 
@@ -46,7 +46,8 @@ impl Feed {
     /// None: `OutOfMemory` never comes.
     pub fn assemble(_alloc: Global, _random: RandomState, parts: Parts) -> Result<Feed, OutOfMemory>
         requires { IsSoundParts parts }
-        ensures { IfOk result (λ feed. feed ≡ parts) }
+        ensures answers { IsOk result }
+        ensures value { IfOk result (λ feed. feed ≡ parts) }
     {
         Ok(Feed { parts })
     }

@@ -14,12 +14,12 @@ told m c limit large answer same is so = ap (λ x. list_any (is_longer x limit) 
 pub returns-then-is_too_large-clause-refused : goal.returns-then-is_too_large-clause-refused
 returns-then-is_too_large-clause-refused c =
     told (content_of_parts c.args.rows.0) (content_of_parts c.in_ok-feed.feed) c.args.file_limit c.in_ok-is_too_large.is_too_large _
-    (ap content_of_parts c.in_ok-feed.ensures) c.in_ok-is_too_large.ensures c.if-is_too_large.true
+    (ap content_of_parts c.in_ok-feed.ensures.value) c.in_ok-is_too_large.ensures c.if-is_too_large.true
 
 pub returns-clause-merged : goal.returns-clause-merged
 returns-clause-merged c = record {
   small = told (content_of_parts c.args.rows.0) (content_of_parts c.in_ok-feed.feed) c.args.file_limit c.in_ok-is_too_large.is_too_large _
-      (ap content_of_parts c.in_ok-feed.ensures) c.in_ok-is_too_large.ensures c.if-is_too_large.false;
-  feed = c.in_ok-feed.ensures;
+      (ap content_of_parts c.in_ok-feed.ensures.value) c.in_ok-is_too_large.ensures c.if-is_too_large.false;
+  feed = c.in_ok-feed.ensures.value;
   names = refl;
 }

@@ -29,10 +29,10 @@ returns-clause-content c =
     content_is d c.new.ensures.passes p (subst (AreRowsOf d) (sym w.rows) c.in_ok-rows.ensures.rows) c.in_ok-stop_times.stop_times c.in_ok-stop_times.ensures
     w.stop_rows w.starts w.headsigns
     (λ h. w.content d c.in_ok-rows.ensures.rows ((λ i. map (map (stop_row_of p)) (parts (sym w.starts i) (sym w.stop_rows i))) ∙ h)) in
-    IfOk-weaker c.assemble.result (λ feed. feed ≡ p) (λ feed. content_of_parts feed ≡ content_of_dataset d) (λ feed same. ap content_of_parts same ∙ is) c.assemble.ensures
+    IfOk-weaker c.assemble.result (λ feed. feed ≡ p) (λ feed. content_of_parts feed ≡ content_of_dataset d) (λ feed same. ap content_of_parts same ∙ is) c.assemble.ensures.value
 
 pub returns-clause-headsigns : goal.returns-clause-headsigns
 returns-clause-headsigns c =
     let p = c.joined-parts.result in
     let is : p.headsigns ≡ headsigns_in (content_of_dataset c.args.passed.now) = c.joined-parts.ensures.headsigns ∙ c.in_ok-stop_times.ensures.first_named in
-    IfOk-weaker c.assemble.result (λ feed. feed ≡ p) (λ feed. feed.headsigns ≡ headsigns_in (content_of_dataset c.args.passed.now)) (λ feed same. ap (λ q. q.headsigns) same ∙ is) c.assemble.ensures
+    IfOk-weaker c.assemble.result (λ feed. feed ≡ p) (λ feed. feed.headsigns ≡ headsigns_in (content_of_dataset c.args.passed.now)) (λ feed same. ap (λ q. q.headsigns) same ∙ is) c.assemble.ensures.value
