@@ -166,7 +166,7 @@ rise (x ∷ y ∷ xs) far filled apart =
 
 -- ---- headings by text
 
-abbrev pub heading_along : Parts → Pattern → timetable.Heading
+abbrev pub heading_along : Parts → Pattern → timetable.SheetHeading
 heading_along p x = (direction_rank x.direction, stops_along p x)
 
 directions : (a b : Option ℕ) → nat_cmp (direction_rank a) (direction_rank b) ≡ option_cmp nat_cmp a b
@@ -196,7 +196,7 @@ module _ (p : Parts) (sound : IsSoundParts p) where
   headings-compare x y a b = λ i. ordering_then (directions x.direction y.direction i) (stops-compare x.stops y.stops a.stops b.stops i)
 
   -- a trip of a pattern has the pattern's heading
-  pub heading-is : (x : Pattern) (m : ℕ) (t : Trip) → slice_get (content_of_parts p).trips m ≡ Some t → heading_of x ≡ (entry_of p m).heading → heading_along p x ≡ timetable.heading_of t
+  pub heading-is : (x : Pattern) (m : ℕ) (t : Trip) → slice_get (content_of_parts p).trips m ≡ Some t → heading_of x ≡ (entry_of p m).heading → heading_along p x ≡ timetable.sheet_heading t
   heading-is x m t at same =
       let r = trip-of p m t at in
       let direction : x.direction ≡ t.direction_id =
