@@ -10,7 +10,7 @@ ghost use Rattle.gtfs_trip_rules.specs.KeptOrder.{AreKeptOf};
 use crate::passed::Passed;
 use gtfs_columns::{FeedIds, Found, Problem};
 use gtfs_table::Tables;
-use gtfs_trip_rules::StopTime;
+use gtfs_trip_rules::KeptStopTimes;
 use std::marker::Model;
 
 /// The problems of a dataset, each once, in order; it lends the tables that were checked.
@@ -20,7 +20,7 @@ pub struct Report<'a> {
     ids: FeedIds<'a>,
     problems: Vec<Problem<'a>>,
     // Those that name a trip and have a sequence, in their order.
-    stop_times: Vec<StopTime>,
+    stop_times: KeptStopTimes,
 }
 
 impl<'a> Model for Report<'a> {
@@ -34,7 +34,7 @@ impl<'a> Model for Report<'a> {
     ghost view = { λ r. record { dataset = r.tables.now; problems = map problem_of r.problems.items } };
 
     ghost invariant = { λ r.
-        IsChecked r.tables.now r.ids (map problem_of r.problems.items) r.stop_times.items };
+        IsChecked r.tables.now r.ids (map problem_of r.problems.items) r.stop_times };
 }
 
 impl<'a> Report<'a> {
@@ -44,11 +44,11 @@ impl<'a> Report<'a> {
         tables: &'a Tables,
         ids: FeedIds<'a>,
         found: Found<'a>,
-        stop_times: Vec<StopTime>,
+        stop_times: KeptStopTimes,
     ) -> Report<'a>
         requires ids { AreIdsOf tables.now ids }
         requires found { ListsAll tables.now found }
-        requires stop_times { AreKeptOf tables.now stop_times.items }
+        requires stop_times { AreKeptOf tables.now stop_times }
         ensures { result.dataset ≡ tables.now }
     {
         Report {
