@@ -6,8 +6,9 @@
 //!
 //! ```text
 //! let rows = FeedRows::new(alloc, passed)?;
-//! let stop_times = StopTimes::new(alloc, random, passed, rows.trips.as_slice().len())?;
-//! rows.with_stop_times(stop_times.stop_rows, stop_times.stop_row_starts, stop_times.headsigns)
+//! let trips = rows.trips.as_slice().len();
+//! let stop_times = StopTimes::new(alloc, random, passed, trips)?;
+//! rows.with_stop_times(stop_rows, stop_row_starts, headsigns)
 //! ```
 //!
 //! Each list stands in the order of its keys: ids by their bytes, transfers by the six parts of their keys, frequencies
