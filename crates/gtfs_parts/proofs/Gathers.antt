@@ -24,12 +24,11 @@ use Rattle.gtfs_rows.specs.Reading.{content_of, stop_row_in}
 use Rattle.gtfs_rows.specs.Rows.{StopRow as StopRowOf}
 use Rattle.gtfs_stop_times.specs.declared.stop_row.StopRow.{StopRow}
 use Rattle.gtfs_parts.specs.FirstNamed.{each_once}
-use Rattle.gtfs_parts.specs.Gathering.{AreGathered, IsEmptyFor, by_trip}
+use Rattle.gtfs_parts.specs.Gathering.{AreGathered, IsEmptyFor, by_trip, with_headsign_at}
 use Rattle.gtfs_rows.specs.Headsigns.{AddsOnly, AreDistinct, KeepsHeadsigns, NamesHeadsign}
 use Rattle.gtfs_parts.specs.HeadsignIndex.{with_headsign}
 use Rattle.gtfs_parts.specs.StopTimeLists.{AreStopTimesOf, content_stop_ids, has_headsign, is_number}
 use Rattle.gtfs_rows.specs.NamedRows.{has_numbers_below, stop_row_named}
-use Rattle.gtfs_parts.specs.StopRows.{SaysRow}
 use Rattle.gtfs_parts.specs.declared.gathered.Gathered.{Gathered}
 use Rattle.gtfs_parts.specs.declared.stop_times.StopTimes.{StopTimes}
 use Rattle.gtfs_parts.proofs.EachOnce.{headsigns-more, parts-joined}
@@ -91,15 +90,13 @@ count-rows d ss ts rs named = sym (length-map rs (stop_row_named (content_stop_i
 -- what a turn of the loop does
 pub record IsOneMore (d : Dataset) (s : StopTime) (g new : Gathered) : Type 0 where
   pub headsign : Option ℕ
-  pub row : StopRow
   pub trips : new.trips ≡ g.trips
   pub kept : KeepsHeadsigns g.headsigns.texts new.headsigns.texts
   pub added : AddsOnly g.headsigns.texts new.headsigns.texts headsign
   pub texts : new.headsigns.texts ≡ with_headsign g.headsigns.texts (word_in d file.StopTimes s.row "stop_headsign")
   pub names : NamesHeadsign new.headsigns.texts headsign (word_in d file.StopTimes s.row "stop_headsign")
   pub starts : new.starts.items ≡ take (s.trip + 1) g.starts.items ++ replicate (s.trip + 1 - length g.starts.items) (length g.rows.items)
-  pub rows : new.rows.items ≡ g.rows.items ++ row ∷ []
-  pub says : SaysRow s headsign row
+  pub rows : new.rows.items ≡ g.rows.items ++ with_headsign_at s headsign ∷ []
 
 module _ (d : Dataset) (passes : Passes d) (ss : List StopTime) (s : StopTime) (g new : Gathered)
     (so_far : AreGathered d ss g) (said : SaysStopTime d s) (after : All (λ r. r.trip ≤ s.trip) ss) (more : IsOneMore d s g new) where
@@ -113,7 +110,7 @@ module _ (d : Dataset) (passes : Passes d) (ss : List StopTime) (s : StopTime) (
   size = count-rows d ss g.headsigns.texts g.rows.items so_far.named
 
   grown : length new.rows.items ≡ length g.rows.items + 1
-  grown = ap length more.rows ∙ length_push g.rows.items more.row
+  grown = ap length more.rows ∙ length_push g.rows.items (with_headsign_at s more.headsign)
 
   filled : new.starts.items ≡ g.starts.items ++ replicate (s.trip + 1 - length g.starts.items) (length g.rows.items)
   filled = filled-is g.starts.items new.starts.items (s.trip + 1) (length g.rows.items) low more.starts
@@ -126,11 +123,11 @@ module _ (d : Dataset) (passes : Passes d) (ss : List StopTime) (s : StopTime) (
       ∙ stretches-more ss g.starts.items m (subst (Rising 0 g.starts.items) size so_far.rising) so_far.below so_far.stretches s last
       ∙ ap (λ n. by_trip n (ss ++ s ∷ [])) (sym count)
 
-  used-either : (k : ℕ) → k < length new.headsigns.texts → (list_any (has_headsign k) g.rows.items || (has_headsign k more.row || false)) ≡ true
+  used-either : (k : ℕ) → k < length new.headsigns.texts → (list_any (has_headsign k) g.rows.items || (has_headsign k (with_headsign_at s more.headsign) || false)) ≡ true
   used-either k h = elim (cases_lt k (length g.headsigns.texts)) [
-    | inl known ↦ or_left (list_any (has_headsign k) g.rows.items) (has_headsign k more.row || false) (so_far.used k known)
-    | inr beyond ↦ or_right (list_any (has_headsign k) g.rows.items) (has_headsign k more.row || false)
-        (or_left (has_headsign k more.row) false (ap (is_number k) (more.says.stop_headsign ∙ more.added k beyond h) ∙ number_itself k))
+    | inl known ↦ or_left (list_any (has_headsign k) g.rows.items) (has_headsign k (with_headsign_at s more.headsign) || false) (so_far.used k known)
+    | inr beyond ↦ or_right (list_any (has_headsign k) g.rows.items) (has_headsign k (with_headsign_at s more.headsign) || false)
+        (or_left (has_headsign k (with_headsign_at s more.headsign)) false (ap (is_number k) (more.added k beyond h) ∙ number_itself k))
   ]
 
   pub gathered-more : AreGathered d (ss ++ s ∷ []) new
@@ -146,19 +143,19 @@ module _ (d : Dataset) (passes : Passes d) (ss : List StopTime) (s : StopTime) (
         ∙ filled-first g.starts.items new.starts.items (s.trip + 1) (length g.rows.items) low more.starts so_far.from_first;
     stretches = stretches;
     named = ap (map (stop_row_named (content_stop_ids d) new.headsigns.texts)) more.rows
-        ∙ map_push (stop_row_named (content_stop_ids d) new.headsigns.texts) g.rows.items more.row
-        ∙ ap (λ rs. rs ++ stop_row_named (content_stop_ids d) new.headsigns.texts more.row ∷ [])
+        ∙ map_push (stop_row_named (content_stop_ids d) new.headsigns.texts) g.rows.items (with_headsign_at s more.headsign)
+        ∙ ap (λ rs. rs ++ stop_row_named (content_stop_ids d) new.headsigns.texts (with_headsign_at s more.headsign) ∷ [])
         (sym (rows_kept (content_stop_ids d) (length (content_of d).stops) g.headsigns.texts new.headsigns.texts more.kept g.rows.items so_far.numbers) ∙ so_far.named)
-        ∙ ap (λ r. map (λ s. stop_row_in d s.row) ss ++ r ∷ []) (row_says d passes s said new.headsigns.texts more.headsign more.row more.says more.names)
+        ∙ ap (λ r. map (λ s. stop_row_in d s.row) ss ++ r ∷ []) (row_says d passes s said new.headsigns.texts more.headsign more.names)
         ∙ sym (map_push (λ s. stop_row_in d s.row) ss s);
     numbers = ap (list_all (has_numbers_below (length (content_of d).stops) (length new.headsigns.texts))) more.rows
-        ∙ list_all-append (has_numbers_below (length (content_of d).stops) (length new.headsigns.texts)) g.rows.items (more.row ∷ [])
+        ∙ list_all-append (has_numbers_below (length (content_of d).stops) (length new.headsigns.texts)) g.rows.items ((with_headsign_at s more.headsign) ∷ [])
         ∙ and_both (list_all (has_numbers_below (length (content_of d).stops) (length new.headsigns.texts)) g.rows.items)
-        (has_numbers_below (length (content_of d).stops) (length new.headsigns.texts) more.row && true)
+        (has_numbers_below (length (content_of d).stops) (length new.headsigns.texts) (with_headsign_at s more.headsign) && true)
         (numbers_kept (content_stop_ids d) (length (content_of d).stops) g.headsigns.texts new.headsigns.texts more.kept g.rows.items so_far.numbers)
-        (and_both (has_numbers_below (length (content_of d).stops) (length new.headsigns.texts) more.row) true
-        (row_below d passes s said new.headsigns.texts more.headsign more.row more.says more.names) refl);
-    used = λ k h. ap (list_any (has_headsign k)) more.rows ∙ list_any-append (has_headsign k) g.rows.items (more.row ∷ []) ∙ used-either k h;
+        (and_both (has_numbers_below (length (content_of d).stops) (length new.headsigns.texts) (with_headsign_at s more.headsign)) true
+        (row_below d passes s said new.headsigns.texts more.headsign more.names) refl);
+    used = λ k h. ap (list_any (has_headsign k)) more.rows ∙ list_any-append (has_headsign k) g.rows.items ((with_headsign_at s more.headsign) ∷ []) ∙ used-either k h;
     first_named = more.texts ∙ ap (λ ts. with_headsign ts (word_in d file.StopTimes s.row "stop_headsign")) so_far.first_named
         ∙ sym (headsigns-more (λ r. r.stop_headsign) (map (λ s. stop_row_in d s.row) ss) (stop_row_in d s.row))
         ∙ ap (λ rs. each_once (filter_map (λ r. r.stop_headsign) rs)) (sym (map_push (λ s. stop_row_in d s.row) ss s));
@@ -175,7 +172,7 @@ module _ (d : Dataset) (passes : Passes d) (all : List StopTime) (are : AreStopT
   before k f h =
       let low : k < i = omega (arith, h, length-take-le i all (omega arith)) in
       let less = Less-from_sorted stop_time_cmp all k i f are.ascending low within in
-      let lower = lower-trip (get_or all k f).trip (get_or all i f).trip (nat_cmp (get_or all k f).stop_sequence (get_or all i f).stop_sequence) less in
+      let lower = lower-trip (get_or all k f).trip (get_or all i f).trip (nat_cmp (get_or all k f).stop_row.stop_sequence (get_or all i f).stop_row.stop_sequence) less in
       subst (λ r. r.trip ≤ (get_or all i e).trip) (sym (get_or-take i all k f low))
       (subst (λ s. (get_or all k f).trip ≤ s.trip) (get_or_default all i f e within) lower)
 

@@ -1,4 +1,3 @@
-mod Blank
 mod ByIds
 mod CalendarFacts
 mod ContentIds
@@ -18,6 +17,5 @@ mod ServiceFacts
 mod SortedKeys
 mod Starts
 mod StopTimesAdded
-mod TimeBound
 mod TransferFacts
 mod TripRows

@@ -10,8 +10,7 @@ use Rattle.gtfs_table.specs.declared.file.File.TheVariants as file
 use Rattle.gtfs_columns.specs.IdNumbers.{ids_by_bytes}
 use Rattle.gtfs_columns.specs.Problems.{Passes}
 use Rattle.gtfs_columns.specs.Rows.{amount_in, text_in, word_in}
-use Rattle.gtfs_stop_times.specs.Choices.{drop_off_code, pickup_code, timepoint_code}
-use Rattle.gtfs_trip_rules.specs.KeptTimes.{arrival_time, departure_time}
+use Rattle.gtfs_stop_times.specs.Choices.{timepoint_code}
 use Rattle.gtfs_trip_rules.specs.declared.trips.row.StopTime.{StopTime}
 use Rattle.gtfs_rules.specs.StopTimes.{SaysStopTime}
 use Rattle.gtfs_rules.proofs.PassedRows.{stop_is}
@@ -21,9 +20,8 @@ use Rattle.gtfs_stop_times.specs.declared.stop_row.StopRow.{StopRow}
 use Rattle.gtfs_rows.specs.Headsigns.{KeepsHeadsigns, NamesHeadsign}
 use Rattle.gtfs_parts.specs.StopTimeLists.{content_stop_ids}
 use Rattle.gtfs_rows.specs.NamedRows.{has_numbers_below, stop_row_named}
-use Rattle.gtfs_parts.specs.StopRows.{IsTimely, SaysRow}
+use Rattle.gtfs_parts.specs.Gathering.{with_headsign_at}
 use Rattle.gtfs_parts.proofs.ContentIds.{stop_ids_are}
-use Rattle.gtfs_parts.proofs.TimeBound.{timely}
 
 number_back : (o : Option ℕ) (a : Option ℤ) → option_map pos o ≡ a → o ≡ option_map unsigned_abs a
 number_back None a e = ap (option_map unsigned_abs) e
@@ -47,38 +45,32 @@ module _ (d : Dataset) (passes : Passes d) (s : StopTime) (says : SaysStopTime d
   abbrev ids : List (List ℕ)
   ids = ids_by_bytes d file.Stops (codes "stop_id")
 
-  pub in_time : IsTimely s
-  in_time = record {
-    arrival_time = timely (arrival_time s) (text_in d file.StopTimes s.row (codes "arrival_time")) says.arrival_time;
-    departure_time = timely (departure_time s) (text_in d file.StopTimes s.row (codes "departure_time")) says.departure_time;
-  }
-
-  stop-below : s.stop < length (content_of d).stops
+  stop-below : s.stop_row.stop_id.0 < length (content_of d).stops
   stop-below =
       let t = text_in d file.StopTimes s.row (codes "stop_id") in
       let named : word_in d file.StopTimes s.row "stop_id" ≡ Some t = stop_is d passes s.row says.row in
-      let within = slice_get_within ids s.stop t (says.stop ∙ named) in
+      let within = slice_get_within ids s.stop_row.stop_id.0 t (says.stop ∙ named) in
       let many : length ids ≡ length (content_of d).stops = ap length (sym (stop_ids_are d passes)) ∙ length-map (content_of d).stops (λ r. r.stop_id) in
       omega (arith, within, many)
 
-  module _ (ts : List (List ℕ)) (h : Option ℕ) (r : StopRow) (is : SaysRow s h r) (names : NamesHeadsign ts h (word_in d file.StopTimes s.row "stop_headsign")) where
-    pub row_says : stop_row_named (content_stop_ids d) ts r ≡ stop_row_in d s.row
+  module _ (ts : List (List ℕ)) (h : Option ℕ) (names : NamesHeadsign ts h (word_in d file.StopTimes s.row "stop_headsign")) where
+    pub row_says : stop_row_named (content_stop_ids d) ts (with_headsign_at s h) ≡ stop_row_in d s.row
     row_says = λ i. record {
-      arrival_time = (is.arrival_time ∙ number_back (arrival_time s) (amount_in d file.StopTimes s.row "arrival_time") says.arrival_time) i;
-      departure_time = (is.departure_time ∙ number_back (departure_time s) (amount_in d file.StopTimes s.row "departure_time") says.departure_time) i;
-      stop_id = (ap (text_of_number (content_stop_ids d)) is.stop_id ∙ ap (λ ns. text_of_number ns s.stop) (stop_ids_are d passes)
-          ∙ sym (unwrap_or-slice_get ids s.stop []) ∙ ap (λ o. unwrap_or o []) says.stop) i;
-      stop_sequence = (is.stop_sequence ∙ ap (λ o. unsigned_abs (unwrap_or o (pos 0))) says.stop_sequence) i;
-      stop_headsign = (ap (option_map (text_of_number ts)) is.stop_headsign ∙ headsign-is ts h (word_in d file.StopTimes s.row "stop_headsign") names) i;
-      pickup_type = (ap pickup_code is.pickup_type ∙ ap (λ o. unsigned_abs (unwrap_or o (pos 0))) says.pickup_type) i;
-      drop_off_type = (ap drop_off_code is.drop_off_type ∙ ap (λ o. unsigned_abs (unwrap_or o (pos 0))) says.drop_off_type) i;
-      timepoint = (ap (option_map timepoint_code) is.timepoint ∙ number_back (option_map timepoint_code s.timepoint) (amount_in d file.StopTimes s.row "timepoint") says.timepoint) i;
+      arrival_time = number_back s.stop_row.arrival_time (amount_in d file.StopTimes s.row "arrival_time") says.arrival_time i;
+      departure_time = number_back s.stop_row.departure_time (amount_in d file.StopTimes s.row "departure_time") says.departure_time i;
+      stop_id = (ap (λ ns. text_of_number ns s.stop_row.stop_id.0) (stop_ids_are d passes)
+          ∙ sym (unwrap_or-slice_get ids s.stop_row.stop_id.0 []) ∙ ap (λ o. unwrap_or o []) says.stop) i;
+      stop_sequence = ap (λ o. unsigned_abs (unwrap_or o (pos 0))) says.stop_sequence i;
+      stop_headsign = headsign-is ts h (word_in d file.StopTimes s.row "stop_headsign") names i;
+      pickup_type = ap (λ o. unsigned_abs (unwrap_or o (pos 0))) says.pickup_type i;
+      drop_off_type = ap (λ o. unsigned_abs (unwrap_or o (pos 0))) says.drop_off_type i;
+      timepoint = number_back (option_map timepoint_code s.stop_row.timepoint) (amount_in d file.StopTimes s.row "timepoint") says.timepoint i;
     }
 
-    pub row_below : has_numbers_below (length (content_of d).stops) (length ts) r ≡ true
-    row_below = and_both (nat_lt r.stop_id.0 (length (content_of d).stops)) (is_within (length ts) r.stop_headsign)
-        (ap (λ n. nat_lt n (length (content_of d).stops)) is.stop_id ∙ below-true s.stop (length (content_of d).stops) stop-below)
-        (ap (is_within (length ts)) is.stop_headsign ∙ headsign-within ts h (word_in d file.StopTimes s.row "stop_headsign") names)
+    pub row_below : has_numbers_below (length (content_of d).stops) (length ts) (with_headsign_at s h) ≡ true
+    row_below = and_both (nat_lt s.stop_row.stop_id.0 (length (content_of d).stops)) (is_within (length ts) h)
+        (below-true s.stop_row.stop_id.0 (length (content_of d).stops) stop-below)
+        (headsign-within ts h (word_in d file.StopTimes s.row "stop_headsign") names)
 
 -- ---- rows under more headsigns
 

@@ -57,7 +57,7 @@ module _ (d : Dataset) (ss : List StopTime) (are : AreStopTimes d ss) where
   pub said : (s : StopTime) → Contains ss s → SaysStopTime d s
   said s at = All-contains (SaysStopTime d) ss s are.say at
 
-  sequence_is : (s : StopTime) → SaysStopTime d s → number_at d file.StopTimes s.row "stop_sequence" ≡ s.stop_sequence
+  sequence_is : (s : StopTime) → SaysStopTime d s → number_at d file.StopTimes s.row "stop_sequence" ≡ s.stop_row.stop_sequence
   sequence_is s says = ap (λ o. unsigned_abs (unwrap_or o (pos 0))) (sym says.stop_sequence)
 
   module _ (k : ℕ) (t : List ℕ) (here : slice_get trip_ids k ≡ Some t) where
@@ -102,8 +102,8 @@ module _ (d : Dataset) (ss : List StopTime) (are : AreStopTimes d ss) where
         let of_r = said r (contains-from_filter is_own ss r (Contains-get_or own i e first)).0 in
         let of_s = said s (contains-from_filter is_own ss s (Contains-get_or own j e within)).0 in
         let same : r.trip ≡ s.trip = same_number r.trip k (filter_passes is_own ss i e first) ∙ sym (same_number s.trip k (filter_passes is_own ss j e within)) in
-        let less = lower r.trip s.trip (nat_cmp r.stop_sequence s.stop_sequence) same (in_order i j e below within) in
-        ap (λ a. nat_cmp a (stop_row_in d s.row).stop_sequence) (sequence_is r of_r) ∙ ap (nat_cmp r.stop_sequence) (sequence_is s of_s) ∙ less
+        let less = lower r.trip s.trip (nat_cmp r.stop_row.stop_sequence s.stop_row.stop_sequence) same (in_order i j e below within) in
+        ap (λ a. nat_cmp a (stop_row_in d s.row).stop_sequence) (sequence_is r of_r) ∙ ap (nat_cmp r.stop_row.stop_sequence) (sequence_is s of_s) ∙ less
 
     -- the rows of a trip
     rows_at : by_key nat_cmp (λ r. r.stop_sequence) (map (stop_row_in d) (rows_of d file.StopTimes t)) ≡ map (λ s. stop_row_in d s.row) own

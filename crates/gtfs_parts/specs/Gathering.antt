@@ -1,15 +1,20 @@
 -- The lists of stop times while they are made.
-use Rattle.std.specs.Prelude.{◌≡◌, ◌<◌, ◌≤◌, ◌==◌, ◌++◌, ℕ, zero, suc, true, List, [], ◌∷◌, filter, filter_map, length, map, slice_index_or}
+use Rattle.std.specs.Prelude.{◌≡◌, ◌<◌, ◌≤◌, ◌==◌, ◌++◌, ℕ, zero, suc, true, List, [], Option, ◌∷◌, filter, filter_map, length, map, slice_index_or}
 use Rattle.std.specs.List.{All, list_all, list_any}
 use Rattle.csv.specs.Records.{Rising}
 use Rattle.gtfs_table.specs.Parts.{parts}
 use Rattle.gtfs_table.specs.Tables.{Dataset}
+use Rattle.gtfs_stop_times.specs.declared.stop_row.StopRow.{StopRow}
 use Rattle.gtfs_trip_rules.specs.declared.trips.row.StopTime.{StopTime}
 use Rattle.gtfs_rows.specs.Reading.{content_of, stop_row_in}
 use Rattle.gtfs_parts.specs.FirstNamed.{each_once}
 use Rattle.gtfs_parts.specs.StopTimeLists.{content_stop_ids, has_headsign}
 use Rattle.gtfs_rows.specs.NamedRows.{has_numbers_below, stop_row_named}
 use Rattle.gtfs_parts.specs.declared.gathered.Gathered.{Gathered}
+
+-- the row of a stop time, with the headsign of this number
+abbrev pub with_headsign_at : StopTime → Option ℕ → StopRow
+with_headsign_at s headsign = record s.stop_row { stop_headsign = headsign }
 
 -- the stop times of the trip with this number
 abbrev pub of_trip : ℕ → List StopTime → List StopTime

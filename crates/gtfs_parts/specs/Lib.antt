@@ -15,7 +15,6 @@ pub mod Numbers
 pub mod RouteColumns
 pub mod ServiceIds
 pub mod StopColumns
-pub mod StopRows
 pub mod StopTimeLists
 pub mod TransferColumns
 pub mod TripColumns

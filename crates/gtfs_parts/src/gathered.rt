@@ -12,11 +12,10 @@ ghost use Rattle.gtfs_table.specs.declared.file.File.TheVariants as file;
 ghost use Rattle.gtfs_trip_rules.specs.declared.trips.row.StopTime.{StopTime as StopTimeValue};
 
 use crate::headsigns::Headsigns;
-use crate::stop_row::stop_row;
 use crate::stop_times::StopTimes;
 use gtfs_field::{List, OutOfMemory};
 use gtfs_rows::StopRow;
-use gtfs_rules::StopTime;
+use gtfs_rules::{KeptStopTimes, StopTime};
 use gtfs_table::{File, Tables};
 use std::alloc::Global;
 use std::hash::RandomState;
@@ -55,7 +54,7 @@ impl Gathered {
     pub(crate) fn push_all(
         &mut self,
         tables: &Tables,
-        stop_times: &[StopTime],
+        stop_times: &KeptStopTimes,
     ) -> Result<(), OutOfMemory>
         requires passes { Passes tables.now }
         requires stop_times { AreStopTimes tables.now stop_times.now }
@@ -63,11 +62,15 @@ impl Gathered {
         ensures { OnOk result (AreGathered tables.now stop_times.now self.new) }
     {
         let column = tables.column(File::StopTimes, "stop_headsign");
-        for stop_time in stop_times {
-            let headsign = self.headsigns.number(text(tables, stop_time, column))?;
+        for at in 0..stop_times.len() {
+            let stop_time = stop_times.get(at);
+            let stop_headsign = self.headsigns.number(text(tables, &stop_time, column))?;
             self.starts
                 .resize(stop_time.trip as usize + 1, self.rows.len())?;
-            self.rows.push(stop_row(stop_time, headsign))?;
+            self.rows.push(StopRow {
+                stop_headsign,
+                ..stop_time.stop_row
+            })?;
         }
         Ok(())
     }

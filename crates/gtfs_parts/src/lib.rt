@@ -39,7 +39,6 @@ mod references;
 mod routes;
 mod service_ids;
 mod services;
-mod stop_row;
 mod stop_times;
 mod stops;
 mod texts;

@@ -14,8 +14,7 @@ use Rattle.gtfs_columns.specs.Rows.{row_with}
 use Rattle.gtfs_columns.specs.Values.{meaning, readable}
 use Rattle.gtfs_columns.specs.steps.Ids.{FirstRows, first_row_with, first_rows, ids_of, number_with}
 use Rattle.gtfs_trip_rules.specs.declared.trips.row.StopTime.{StopTime}
-use Rattle.gtfs_trip_rules.specs.Kept.{AreTimesRead, Keeps}
-use Rattle.gtfs_trip_rules.specs.KeptTimes.{is_placed}
+use Rattle.gtfs_trip_rules.specs.Kept.{Keeps}
 use Rattle.gtfs_trip_rules.specs.StopTimes.{stop_time_text}
 use Rattle.gtfs_rules.specs.StopTimes.{SaysStopTime}
 use Rattle.gtfs_columns.proofs.IdFacts.{first_row_is}
@@ -58,12 +57,6 @@ module _ (d : Dataset) (passes : Passes d) (n : ℕ) (row : is_row (records_in d
   sequence_stands : StandsAs count refused (stop_time_text d n "stop_sequence")
   sequence_stands = stands d passes file.StopTimes n row (codes "stop_sequence") (required "stop_sequence" count) refl _ refl
 
-  arrival_stands : StandsAs time nothing (stop_time_text d n "arrival_time")
-  arrival_stands = stands d passes file.StopTimes n row (codes "arrival_time") (optional "arrival_time" time) refl _ refl
-
-  departure_stands : StandsAs time nothing (stop_time_text d n "departure_time")
-  departure_stands = stands d passes file.StopTimes n row (codes "departure_time") (optional "departure_time" time) refl _ refl
-
   pickup_stands : StandsAs (up_to 3) (means (codes "0")) (stop_time_text d n "pickup_type")
   pickup_stands = stands d passes file.StopTimes n row (codes "pickup_type") (defaulting "pickup_type" (up_to 3) "0") refl _ refl
 
@@ -85,12 +78,6 @@ module _ (d : Dataset) (passes : Passes d) (n : ℕ) (row : is_row (records_in d
   choice_there : (t : List ℕ) → StandsAs (up_to 3) (means (codes "0")) t → is_some (choice_of ((0, 3) ∷ []) (codes "0") t) ≡ true
   choice_there t s = amount_some (up_to 3) refl (meaning (means (codes "0")) t) ∙ read_as_there (up_to 3) (means (codes "0")) t s refl
 
-  times_read : AreTimesRead d n
-  times_read = record {
-    arrival = read_stands time nothing (stop_time_text d n "arrival_time") arrival_stands;
-    departure = read_stands time nothing (stop_time_text d n "departure_time") departure_stands;
-  }
-
   trip_known : is_some (first_row_with (first_rows d file.Trips (codes "trip_id")) (stop_time_text d n "trip_id")) ≡ true
   trip_known = ap is_some (first_row_is d file.Trips (codes "trip_id") (stop_time_text d n "trip_id")) ∙ known_there (is_row (records_in d file.StopTimes) n) (is_some (readable id (stop_time_text d n "trip_id"))) (is_some (row_with d file.Trips (codes "trip_id") (stop_time_text d n "trip_id")))
       row (read_as_there id _ (stop_time_text d n "trip_id") trip_stands refl)
@@ -103,17 +90,17 @@ module _ (d : Dataset) (passes : Passes d) (n : ℕ) (row : is_row (records_in d
 
 -- ---- a stop time
 
-pub says : (d : Dataset) → Passes d → (s : StopTime) → is_row (records_in d file.StopTimes) s.row ≡ true → is_placed s.times ≡ true → Keeps d s → SaysStopTime d s
-says d passes s row placed keeps = record {
+pub says : (d : Dataset) → Passes d → (s : StopTime) → is_row (records_in d file.StopTimes) s.row ≡ true → Keeps d s → SaysStopTime d s
+says d passes s row keeps = record {
   row = row;
   trip = named_id (first_rows d file.Trips (codes "trip_id")) (stop_time_text d s.row "trip_id") s.trip (trip_known d passes s.row row)
       (λ m e. keeps.trip m (ap (option_and_then (number_of_id d file.Trips (codes "trip_id"))) (trip_is d passes s.row row) ∙ e))
       ∙ sym (trip_is d passes s.row row);
-  stop = named_id (first_rows d file.Stops (codes "stop_id")) (stop_time_text d s.row "stop_id") s.stop (stop_known d passes s.row row)
+  stop = named_id (first_rows d file.Stops (codes "stop_id")) (stop_time_text d s.row "stop_id") s.stop_row.stop_id.0 (stop_known d passes s.row row)
       (λ m e. keeps.rest.stop m (ap (option_and_then (number_of_id d file.Stops (codes "stop_id"))) (stop_is d passes s.row row) ∙ e))
       ∙ sym (stop_is d passes s.row row);
-  arrival_time = keeps.rest.arrival placed (times_read d passes s.row row);
-  departure_time = keeps.rest.departure placed (times_read d passes s.row row);
+  arrival_time = keeps.rest.arrival;
+  departure_time = keeps.rest.departure;
   stop_sequence = said _ _ (sequence_there d passes s.row row) keeps.rest.sequence;
   pickup_type = said _ _ (choice_there d passes s.row row (stop_time_text d s.row "pickup_type") (pickup_stands d passes s.row row)) keeps.rest.pickup_type;
   drop_off_type = said _ _ (choice_there d passes s.row row (stop_time_text d s.row "drop_off_type") (drop_off_stands d passes s.row row)) keeps.rest.drop_off_type;

@@ -91,27 +91,27 @@ module _ (d : Dataset) (passes : Passes d) where
 
   apart : (x y : StopTime) → SaysStopTime d x → SaysStopTime d y → kept_cmp x y ≡ Less → stop_time_cmp x y ≡ Less
   apart x y of_x of_y less =
-      less_then (nat_cmp x.trip y.trip) (nat_cmp x.stop_sequence y.stop_sequence) (nat_cmp x.row y.row)
-      (ap (λ o. ordering_then (nat_cmp x.trip y.trip) (ordering_then o (nat_cmp x.row y.row))) (sym (int_cmp-pos x.stop_sequence y.stop_sequence)) ∙ less)
-      (λ trips sequences later. clash (nat_cmp-IsAntisymmetric x.trip y.trip trips) (nat_cmp-IsAntisymmetric x.stop_sequence y.stop_sequence sequences) (less_is x.row y.row later))
+      less_then (nat_cmp x.trip y.trip) (nat_cmp x.stop_row.stop_sequence y.stop_row.stop_sequence) (nat_cmp x.row y.row)
+      (ap (λ o. ordering_then (nat_cmp x.trip y.trip) (ordering_then o (nat_cmp x.row y.row))) (sym (int_cmp-pos x.stop_row.stop_sequence y.stop_row.stop_sequence)) ∙ less)
+      (λ trips sequences later. clash (nat_cmp-IsAntisymmetric x.trip y.trip trips) (nat_cmp-IsAntisymmetric x.stop_row.stop_sequence y.stop_row.stop_sequence sequences) (less_is x.row y.row later))
     where
       t : List ℕ
       t = text_in d file.StopTimes x.row (codes "trip_id")
 
-      clash : x.trip ≡ y.trip → x.stop_sequence ≡ y.stop_sequence → nat_lt x.row y.row ≡ true → Equal ≡ Less
+      clash : x.trip ≡ y.trip → x.stop_row.stop_sequence ≡ y.stop_row.stop_sequence → nat_lt x.row y.row ≡ true → Equal ≡ Less
       clash trips sequences below =
           let first : word_in d file.StopTimes x.row "trip_id" ≡ Some t = trip_is d passes x.row of_x.row in
           let second : word_in d file.StopTimes y.row "trip_id" ≡ Some t =
           sym of_y.trip ∙ ap (id_numbered d file.Trips (codes "trip_id")) (sym trips) ∙ of_x.trip ∙ first in
-          let at_first : amount_in d file.StopTimes x.row "stop_sequence" ≡ Some (pos x.stop_sequence) = sym of_x.stop_sequence in
-          let at_second : amount_in d file.StopTimes y.row "stop_sequence" ≡ Some (pos x.stop_sequence) = sym of_y.stop_sequence ∙ ap (λ k. Some (pos k)) (sym sequences) in
+          let at_first : amount_in d file.StopTimes x.row "stop_sequence" ≡ Some (pos x.stop_row.stop_sequence) = sym of_x.stop_sequence in
+          let at_second : amount_in d file.StopTimes y.row "stop_sequence" ≡ Some (pos x.stop_row.stop_sequence) = sym of_y.stop_sequence ∙ ap (λ k. Some (pos k)) (sym sequences) in
           let same : same_key d file.StopTimes y.row x.row ≡ true =
           (λ i. have_one_key
           (word_value (value_in d file.StopTimes y.row (codes "trip_id")) t second i)
-          (amount_value (value_in d file.StopTimes y.row (codes "stop_sequence")) (pos x.stop_sequence) at_second i)
+          (amount_value (value_in d file.StopTimes y.row (codes "stop_sequence")) (pos x.stop_row.stop_sequence) at_second i)
           (word_value (value_in d file.StopTimes x.row (codes "trip_id")) t first i)
-          (amount_value (value_in d file.StopTimes x.row (codes "stop_sequence")) (pos x.stop_sequence) at_first i))
-          ∙ one_key t (pos x.stop_sequence) in
+          (amount_value (value_in d file.StopTimes x.row (codes "stop_sequence")) (pos x.stop_row.stop_sequence) at_first i))
+          ∙ one_key t (pos x.stop_row.stop_sequence) in
           cc (no_repeat x.row y.row of_x.row of_y.row below same)
 
   before : (x : StopTime) (ys : List StopTime) → SaysStopTime d x → All (SaysStopTime d) ys → AllByRecursion (λ y. kept_cmp x y ≡ Less) ys → AllByRecursion (λ y. stop_time_cmp x y ≡ Less) ys
@@ -151,7 +151,7 @@ module _ (d : Dataset) (passes : Passes d) where
         let site : get_or (map (λ z. z.row) ss) k s.row ≡ (get_or ss k s).row = get_or-map (λ (z : StopTime). z.row) ss k s s.row below in
         let here : is_row (records_in d file.StopTimes) (get_or ss k s).row ≡ true =
         subst (λ (n : ℕ). is_row (records_in d file.StopTimes) n ≡ true) site (all_rows k s.row (omega (arith, below, length-map ss (λ (z : StopTime). z.row)))) in
-        says d passes (get_or ss k s) here (are.placed k s below) (are.kept k s below)
+        says d passes (get_or ss k s) here (are.kept k s below)
 
     pub are_stop_times : AreStopTimes d ss
     are_stop_times = record { each_row = each_row; say = all_say; ascending = ascend ss all_say are.order.ascending }

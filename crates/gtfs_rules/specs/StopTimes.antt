@@ -12,24 +12,23 @@ use Rattle.gtfs_stop_times.specs.Choices.{drop_off_code, pickup_code, timepoint_
 use Rattle.gtfs_columns.specs.IdNumbers.{id_numbered}
 use Rattle.gtfs_columns.specs.Rows.{amount_in, choice_in, is_empty_in, word_in}
 use Rattle.gtfs_trip_rules.specs.declared.trips.row.StopTime.{StopTime}
-use Rattle.gtfs_trip_rules.specs.KeptTimes.{arrival_time, departure_time}
 
 -- a stop time says what its row says; the row's texts are read by its number
 pub record SaysStopTime (d : Dataset) (s : StopTime) : Type 0 where
   pub row : is_row (records_in d file.StopTimes) s.row ≡ true
   pub trip : id_numbered d file.Trips (codes "trip_id") s.trip ≡ word_in d file.StopTimes s.row "trip_id"
-  pub stop : id_numbered d file.Stops (codes "stop_id") s.stop ≡ word_in d file.StopTimes s.row "stop_id"
-  pub arrival_time : option_map pos (arrival_time s) ≡ amount_in d file.StopTimes s.row "arrival_time"
-  pub departure_time : option_map pos (departure_time s) ≡ amount_in d file.StopTimes s.row "departure_time"
-  pub stop_sequence : Some (pos s.stop_sequence) ≡ amount_in d file.StopTimes s.row "stop_sequence"
-  pub pickup_type : Some (pos (pickup_code s.pickup_type)) ≡ choice_in d file.StopTimes s.row "pickup_type"
-  pub drop_off_type : Some (pos (drop_off_code s.drop_off_type)) ≡ choice_in d file.StopTimes s.row "drop_off_type"
-  pub timepoint : option_map pos (option_map timepoint_code s.timepoint) ≡ amount_in d file.StopTimes s.row "timepoint"
+  pub stop : id_numbered d file.Stops (codes "stop_id") s.stop_row.stop_id.0 ≡ word_in d file.StopTimes s.row "stop_id"
+  pub arrival_time : option_map pos s.stop_row.arrival_time ≡ amount_in d file.StopTimes s.row "arrival_time"
+  pub departure_time : option_map pos s.stop_row.departure_time ≡ amount_in d file.StopTimes s.row "departure_time"
+  pub stop_sequence : Some (pos s.stop_row.stop_sequence) ≡ amount_in d file.StopTimes s.row "stop_sequence"
+  pub pickup_type : Some (pos (pickup_code s.stop_row.pickup_type)) ≡ choice_in d file.StopTimes s.row "pickup_type"
+  pub drop_off_type : Some (pos (drop_off_code s.stop_row.drop_off_type)) ≡ choice_in d file.StopTimes s.row "drop_off_type"
+  pub timepoint : option_map pos (option_map timepoint_code s.stop_row.timepoint) ≡ amount_in d file.StopTimes s.row "timepoint"
   pub has_headsign : s.has_headsign ≡ not (is_empty_in d file.StopTimes s.row "stop_headsign")
 
 -- by trip, and in a trip by sequence
 abbrev pub stop_time_cmp : StopTime → StopTime → Ordering
-stop_time_cmp = then_cmp (on (λ s. s.trip) nat_cmp) (on (λ s. s.stop_sequence) nat_cmp)
+stop_time_cmp = then_cmp (on (λ s. s.trip) nat_cmp) (on (λ s. s.stop_row.stop_sequence) nat_cmp)
 
 -- one for each row of stop_times.txt, by trip and sequence
 pub record AreStopTimes (d : Dataset) (ss : List StopTime) : Type 0 where

@@ -15,7 +15,7 @@ use gtfs_row_rules::{
 };
 use gtfs_table::Tables;
 use gtfs_trip_rules::{
-    StopTime, report_counts, report_order, report_overlaps, report_services, report_stop_times,
+    KeptStopTimes, report_counts, report_order, report_overlaps, report_services, report_stop_times,
 };
 use std::alloc::Global;
 
@@ -25,8 +25,8 @@ use std::alloc::Global;
 /// toolkit's. The time grows as n log n for every dataset. The tables are lent and not changed.
 ///
 /// # Errors
-/// `OutOfMemory` where memory ran out, and where stop_times.txt has more than 4,294,967,295 rows, or there are more stops or
-/// trips than that.
+/// `OutOfMemory` where memory ran out, and where stop_times.txt has more than 4,294,967,295 rows, or there are more trips
+/// than that.
 pub fn check<'a>(alloc: Global, tables: &'a Tables) -> Result<Report<'a>, OutOfMemory>
     ensures dataset { IfOk result (λ report. report.dataset ≡ tables.now) }
     ensures report { IfOk result (λ report. IsReport tables.now report.problems) }
@@ -41,9 +41,9 @@ fn report_all<'a>(
     alloc: Global,
     tables: &'a Tables,
     found: &mut Found<'a>,
-) -> Result<Vec<StopTime>, OutOfMemory>
+) -> Result<KeptStopTimes, OutOfMemory>
     ensures reported { OnOk result (Reports tables.now every found.old found.new) }
-    ensures kept { IfOk result (λ stop_times. AreKeptOf tables.now stop_times.items) }
+    ensures kept { IfOk result (AreKeptOf tables.now) }
 {
     let types = stop_types(alloc, tables)?;
     let ids = FeedIds::new(alloc, tables)?;
@@ -57,11 +57,11 @@ fn report_parts<'a>(
     ids: &FeedIds<'a>,
     types: &[Option<i64>],
     found: &mut Found<'a>,
-) -> Result<Vec<StopTime>, OutOfMemory>
+) -> Result<KeptStopTimes, OutOfMemory>
     requires ids { AreIdsOf tables.now ids.now }
     requires types { AreStopTypes tables.now types.now }
     ensures reported { OnOk result (Reports tables.now every found.old found.new) }
-    ensures kept { IfOk result (λ stop_times. AreKeptOf tables.now stop_times.items) }
+    ensures kept { IfOk result (AreKeptOf tables.now) }
 {
     report_files_and_fields(alloc, tables, found)?;
     report_rows_alone(tables, found)?;
@@ -118,11 +118,11 @@ fn report_trips<'a>(
     ids: &FeedIds<'a>,
     types: &[Option<i64>],
     found: &mut Found<'a>,
-) -> Result<Vec<StopTime>, OutOfMemory>
+) -> Result<KeptStopTimes, OutOfMemory>
     requires ids { AreIdsOf tables.now ids.now }
     requires types { AreStopTypes tables.now types.now }
     ensures reported { OnOk result (Reports tables.now in_trips found.old found.new) }
-    ensures kept { IfOk result (λ stop_times. AreKeptOf tables.now stop_times.items) }
+    ensures kept { IfOk result (AreKeptOf tables.now) }
 {
     let notes = report_stop_times(alloc, tables, ids, types, found)?;
     report_counts(tables, &notes, found)?;

@@ -3,14 +3,14 @@ ghost use Rattle.gtfs_columns.specs.Problems.{Passes};
 ghost use Rattle.gtfs_rules.specs.StopTimes.{AreStopTimes};
 
 use gtfs_table::Tables;
-use gtfs_trip_rules::StopTime;
+use gtfs_trip_rules::KeptStopTimes;
 use std::marker::Model;
 
 /// Tables that were checked and have no error. Nothing but [`Report::passed`](crate::Report::passed) makes one.
 #[derive(Drop)]
 pub struct Passed<'a> {
     tables: &'a Tables,
-    stop_times: Vec<StopTime>,
+    stop_times: KeptStopTimes,
 }
 
 impl<'a> Model for Passed<'a> {
@@ -21,14 +21,14 @@ impl<'a> Model for Passed<'a> {
 
     ghost view = { λ p. p.tables.now };
 
-    ghost invariant = { λ p. HasPassed p.tables.now p.stop_times.items };
+    ghost invariant = { λ p. HasPassed p.tables.now p.stop_times };
 }
 
 impl<'a> Passed<'a> {
     // Tables that have no error, and their stop times.
-    pub(crate) fn new(tables: &'a Tables, stop_times: Vec<StopTime>) -> Passed<'a>
+    pub(crate) fn new(tables: &'a Tables, stop_times: KeptStopTimes) -> Passed<'a>
         requires passes { Passes tables.now }
-        requires stop_times { AreStopTimes tables.now stop_times.items }
+        requires stop_times { AreStopTimes tables.now stop_times }
         ensures { result ≡ tables.now }
     {
         Passed { tables, stop_times }
@@ -46,9 +46,9 @@ impl<'a> Passed<'a> {
     /// trip by their sequence. Each was read once, when the tables were checked, and says what its row says (GTFS
     /// Schedule Reference, `stop_times.txt`). Trips and stops have the numbers of their ids: from 0, in the order of
     /// the ids' bytes.
-    pub fn stop_times(&self) -> &[StopTime]
+    pub fn stop_times(&self) -> &KeptStopTimes
         ensures { AreStopTimes self.now result.now }
     {
-        self.stop_times.as_slice()
+        &self.stop_times
     }
 }

@@ -9,7 +9,7 @@ ghost use Rattle.gtfs_trip_rules.specs.KeptOrder.{AreKeptOf};
 use crate::passed::Passed;
 use gtfs_columns::{Found, Problem};
 use gtfs_table::Tables;
-use gtfs_trip_rules::StopTime;
+use gtfs_trip_rules::KeptStopTimes;
 use std::marker::Model;
 
 /// The problems of a dataset, each once, in order; it lends the tables that were checked.
@@ -18,7 +18,7 @@ pub struct Report<'a> {
     tables: &'a Tables,
     problems: Vec<Problem<'a>>,
     // Those that name a trip and have a sequence, in their order.
-    stop_times: Vec<StopTime>,
+    stop_times: KeptStopTimes,
 }
 
 impl<'a> Model for Report<'a> {
@@ -32,15 +32,19 @@ impl<'a> Model for Report<'a> {
     ghost view = { λ r. record { dataset = r.tables.now; problems = map problem_of r.problems.items } };
 
     ghost invariant = { λ r.
-        IsChecked r.tables.now (map problem_of r.problems.items) r.stop_times.items };
+        IsChecked r.tables.now (map problem_of r.problems.items) r.stop_times };
 }
 
 impl<'a> Report<'a> {
     // The report of the problems that were found, which are all that the tables have, and the stop
     // times that were read.
-    pub(crate) fn new(tables: &'a Tables, found: Found<'a>, stop_times: Vec<StopTime>) -> Report<'a>
+    pub(crate) fn new(
+        tables: &'a Tables,
+        found: Found<'a>,
+        stop_times: KeptStopTimes,
+    ) -> Report<'a>
         requires found { ListsAll tables.now found }
-        requires stop_times { AreKeptOf tables.now stop_times.items }
+        requires stop_times { AreKeptOf tables.now stop_times }
         ensures { result.dataset ≡ tables.now }
     {
         Report {

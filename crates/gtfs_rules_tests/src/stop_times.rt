@@ -2,7 +2,7 @@
 
 use crate::assertions::assert_is;
 use crate::feed::{FileLines, HILL, LAKE, MILL, STOPS, TRIPS, put_files, small_feed};
-use gtfs_rules::{StopTime, check};
+use gtfs_rules::{KeptStopTimes, check};
 use gtfs_table::Tables;
 use std::alloc::Global;
 use std::test::Fail;
@@ -35,20 +35,22 @@ const WANTED: &str = "\
 1 2 7 Some(30000) Some(30000) 3 Regular Regular None true
 ";
 
-fn lines_of(alloc: Global, stop_times: &[StopTime]) -> Result<String, Fail> {
+fn lines_of(alloc: Global, stop_times: &KeptStopTimes) -> Result<String, Fail> {
     let mut lines = String::new(alloc);
-    for stop_time in stop_times {
+    for at in 0..stop_times.len() {
+        let stop_time = stop_times.get(at);
+        let said = stop_time.stop_row;
         let line = format!(in alloc;
             "{} {} {} {:?} {:?} {} {:?} {:?} {:?} {}\n",
             stop_time.trip,
-            stop_time.stop,
+            said.stop_id.0,
             stop_time.row,
-            stop_time.arrival_time(),
-            stop_time.departure_time(),
-            stop_time.stop_sequence,
-            stop_time.pickup_type,
-            stop_time.drop_off_type,
-            stop_time.timepoint,
+            said.arrival_time.get().map(|time| time.seconds()),
+            said.departure_time.get().map(|time| time.seconds()),
+            said.stop_sequence,
+            said.pickup_type,
+            said.drop_off_type,
+            said.timepoint,
             stop_time.has_headsign
         )?;
         lines.push_str(&line)?;

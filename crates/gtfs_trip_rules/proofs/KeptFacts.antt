@@ -13,21 +13,18 @@ use Rattle.gtfs_columns.specs.ReadRules.{IsReadAs}
 use Rattle.gtfs_columns.specs.Reads.{amount_of, choice_of, word_of}
 use Rattle.gtfs_columns.specs.Values.{Value, amount, as_amount, as_word, readable}
 use Rattle.gtfs_trip_rules.specs.declared.stop_times.columns.ReadStopTime.{ReadStopTime}
-use Rattle.gtfs_trip_rules.specs.declared.stop_times.kept.KeptTimes.{KeptTimes}
 use Rattle.gtfs_trip_rules.specs.declared.stop_times.named.NamedIds.{NamedIds}
 use Rattle.gtfs_trip_rules.specs.declared.stop_times.reading.Reading.{Reading}
 use Rattle.gtfs_trip_rules.specs.declared.stop_times.reading.Reading.TheVariants as reading
-use Rattle.gtfs_trip_rules.specs.declared.trips.notes.TripNote.{TripNote}
 use Rattle.gtfs_stop_times.specs.declared.choices.Timepoint.{Timepoint}
 use Rattle.gtfs_stop_times.specs.declared.choices.DropOffType.TheVariants as drop_off
 use Rattle.gtfs_stop_times.specs.declared.choices.PickupType.TheVariants as pickup
-use Rattle.gtfs_trip_rules.specs.declared.trips.row.StopTime.{StopTime}
-use Rattle.gtfs_trip_rules.specs.declared.trips.row.Times.TheVariants as times
-use Rattle.gtfs_trip_rules.specs.Kept.{AreTimesRead, Keeps, KeepsRow, named_stop_number}
+use Rattle.gtfs_trip_rules.specs.declared.trips.row.Times.{Times}
+use Rattle.gtfs_trip_rules.specs.Kept.{Keeps, KeepsRow, named_stop_number}
 use Rattle.gtfs_stop_times.specs.Choices.{drop_off_code, pickup_code, timepoint_code}
-use Rattle.gtfs_trip_rules.specs.KeptRow.{kept_row, note_of_trip, times_in, with_trip}
-use Rattle.gtfs_trip_rules.specs.KeptTimes.{given, has_arrival, has_departure, is_placed, is_timed, is_untimed}
-use Rattle.gtfs_trip_rules.specs.Readings.{is_blank, text_of, value_in}
+use Rattle.gtfs_trip_rules.specs.KeptRow.{kept_row, times_of, with_trip}
+use Rattle.gtfs_trip_rules.specs.KeptTimes.{is_clear, is_placed}
+use Rattle.gtfs_trip_rules.specs.Readings.{is_blank, is_fault, text_of, value_in}
 use Rattle.gtfs_trip_rules.specs.StopTimes.{stop_time_text, AreNumbersOf, IsReading, IsStopTime}
 use Rattle.gtfs_trip_rules.specs.TripNotes.{trip_note}
 use Rattle.gtfs_trip_rules.specs.TripStopTimes.{TripStopTime}
@@ -50,7 +47,11 @@ clear v empty = is_some v || empty
 abbrev either : Option Value → Bool → Option Value → Bool → Option ℤ
 either v empty w none = if clear v empty && clear w none then option_or (option_and_then as_amount v) (option_and_then as_amount w) else None
 
-reached : (a b : Reading ℕ) → option_map pos (given (is_timed (times_in a b).times) (times_in a b).arrival) ≡ either (value_of a) (is_blank a) (value_of b) (is_blank b)
+-- how the times of a row with a sequence stand
+abbrev times_read : Reading ℕ → Reading ℕ → Times
+times_read a b = times_of true (is_fault a || is_fault b)
+
+reached : (a b : Reading ℕ) → option_map pos (if is_clear (times_read a b) then option_or (value_in a) (value_in b) else None) ≡ either (value_of a) (is_blank a) (value_of b) (is_blank b)
 reached (reading.Value x) (reading.Value y) = refl
 reached (reading.Value x) reading.Empty = refl
 reached (reading.Value x) (reading.Fault c) = refl
@@ -61,7 +62,7 @@ reached (reading.Fault c) (reading.Value y) = refl
 reached (reading.Fault c) reading.Empty = refl
 reached (reading.Fault c) (reading.Fault e) = refl
 
-left : (a b : Reading ℕ) → option_map pos (given (is_timed (times_in a b).times) (times_in a b).departure) ≡ either (value_of b) (is_blank b) (value_of a) (is_blank a)
+left : (a b : Reading ℕ) → option_map pos (if is_clear (times_read a b) then option_or (value_in b) (value_in a) else None) ≡ either (value_of b) (is_blank b) (value_of a) (is_blank a)
 left (reading.Value x) (reading.Value y) = refl
 left (reading.Value x) reading.Empty = refl
 left (reading.Value x) (reading.Fault c) = refl
@@ -72,45 +73,16 @@ left (reading.Fault c) (reading.Value y) = refl
 left (reading.Fault c) reading.Empty = refl
 left (reading.Fault c) (reading.Fault e) = refl
 
-untimed : (a b : Reading ℕ) → is_untimed (times_in a b).times ≡ (is_blank a && is_blank b)
+untimed : (a b : Reading ℕ) → (is_clear (times_read a b) && (not (is_some (value_in a)) && not (is_some (value_in b)))) ≡ (is_blank a && is_blank b)
 untimed (reading.Value x) (reading.Value y) = refl
 untimed (reading.Value x) reading.Empty = refl
 untimed (reading.Value x) (reading.Fault c) = refl
 untimed reading.Empty (reading.Value y) = refl
 untimed reading.Empty reading.Empty = refl
 untimed reading.Empty (reading.Fault c) = refl
-untimed (reading.Fault c) r = refl
-
-never_unplaced : (a b : Reading ℕ) → is_placed (times_in a b).times ≡ true
-never_unplaced (reading.Value x) (reading.Value y) = refl
-never_unplaced (reading.Value x) reading.Empty = refl
-never_unplaced (reading.Value x) (reading.Fault c) = refl
-never_unplaced reading.Empty (reading.Value y) = refl
-never_unplaced reading.Empty reading.Empty = refl
-never_unplaced reading.Empty (reading.Fault c) = refl
-never_unplaced (reading.Fault c) r = refl
-
--- a reading that is no fault
-abbrev IsFine : {V : Type 0} → Reading V → Type 0
-IsFine r = is_some (value_in r) ≡ not (is_blank r)
-
-arrives_then : (a b : Reading ℕ) → IsFine a → IsFine b → given (has_arrival (times_in a b).times) (times_in a b).arrival ≡ value_in a
-arrives_then (reading.Value x) (reading.Value y) e f = refl
-arrives_then (reading.Value x) reading.Empty e f = refl
-arrives_then (reading.Value x) (reading.Fault c) e f = cc f
-arrives_then reading.Empty (reading.Value y) e f = refl
-arrives_then reading.Empty reading.Empty e f = refl
-arrives_then reading.Empty (reading.Fault c) e f = refl
-arrives_then (reading.Fault c) r e f = cc e
-
-departs_then : (a b : Reading ℕ) → IsFine a → IsFine b → given (has_departure (times_in a b).times) (times_in a b).departure ≡ value_in b
-departs_then (reading.Value x) (reading.Value y) e f = refl
-departs_then (reading.Value x) reading.Empty e f = refl
-departs_then (reading.Value x) (reading.Fault c) e f = cc f
-departs_then reading.Empty (reading.Value y) e f = refl
-departs_then reading.Empty reading.Empty e f = refl
-departs_then reading.Empty (reading.Fault c) e f = refl
-departs_then (reading.Fault c) r e f = cc e
+untimed (reading.Fault c) (reading.Value y) = refl
+untimed (reading.Fault c) reading.Empty = refl
+untimed (reading.Fault c) (reading.Fault e) = refl
 
 -- ---- choices
 
@@ -136,32 +108,27 @@ exactness t (reading.Value e) read whole = ap (option_and_then as_amount) read.v
 
 -- ---- a row
 
+-- a row whose times stand so
+abbrev row_of : Times → Option ℕ → Option ℕ → ℕ → List ℕ → ℤ → TripStopTime
+row_of w a b row trip x = record {
+  trip_id = trip;
+  sequence = x;
+  row = row;
+  arrival = option_map pos (if is_clear w then option_or a b else None);
+  departure = option_map pos (if is_clear w then option_or b a else None);
+  is_untimed = is_clear w && (not (is_some a) && not (is_some b));
+}
+
+abbrev said_if : Bool → TripStopTime → Option TripStopTime
+said_if placed row = if placed then Some row else None
+
 -- what is said of a row that has this sequence, or none
-abbrev row_said : KeptTimes → Option ℕ → ℕ → List ℕ → Option TripStopTime
-row_said k sequence row trip =
-    if is_placed (if is_some sequence then k.times else times.Unplaced) then Some (record {
-      trip_id = trip;
-      sequence = pos (unwrap_or sequence 0);
-      row = row;
-      arrival = option_map pos (given (is_timed (if is_some sequence then k.times else times.Unplaced)) k.arrival);
-      departure = option_map pos (given (is_timed (if is_some sequence then k.times else times.Unplaced)) k.departure);
-      is_untimed = is_untimed (if is_some sequence then k.times else times.Unplaced);
-    }) else None
-
-row_said_is : (k : KeptTimes) (sequence : Option ℕ) (row : ℕ) (trip : List ℕ) → is_placed k.times ≡ true
-    → row_said k sequence row trip ≡ option_map (λ x. record {
-      trip_id = trip;
-      sequence = x;
-      row = row;
-      arrival = option_map pos (given (is_timed k.times) k.arrival);
-      departure = option_map pos (given (is_timed k.times) k.departure);
-      is_untimed = is_untimed k.times;
-    }) (option_map pos sequence)
-row_said_is k None row trip placed = refl
-row_said_is k (Some x) row trip placed = rw placed refl
-
-fine : {V : Type 0} (v : V → Value) (t : List ℕ) (r : Reading V) → is_blank r ≡ is_empty t → option_map v (value_in r) ≡ readable time t → IsReadAs time t → IsFine r
-fine v t r empty value whole = sym (some_mapped v (value_in r)) ∙ ap is_some value ∙ whole ∙ ap not (sym empty)
+said_of : (sequence : Option ℕ) (fault : Bool) (a b : Option ℕ) (row : ℕ) (trip : List ℕ)
+    → said_if (is_placed (times_of (is_some sequence) fault)) (row_of (times_of (is_some sequence) fault) a b row trip (pos (unwrap_or sequence 0)))
+    ≡ option_map (row_of (times_of true fault) a b row trip) (option_map pos sequence)
+said_of None fault a b row trip = refl
+said_of (Some x) true a b row trip = refl
+said_of (Some x) false a b row trip = refl
 
 sequence_is : (v : Option ℕ) (x : ℤ) → option_map pos v ≡ Some x → pos (unwrap_or v 0) ≡ x
 sequence_is None x e = cc e
@@ -184,24 +151,24 @@ module _ (d : Dataset) (n : ℕ) (s : ReadStopTime) (is : IsStopTime d n s) wher
   sequence_read = sym (counted_text (value_in s.stop_sequence)) ∙ ap (option_and_then as_amount) is.stop_sequence.value
 
   module _ (stop : Option ℕ) where
-    reached_at : option_map pos (given (is_timed (times_in s.arrival_time s.departure_time).times) (times_in s.arrival_time s.departure_time).arrival) ≡ time_of_texts arrival_text departure_text
+    reached_at : option_map pos (if is_clear (times_read s.arrival_time s.departure_time) then option_or (value_in s.arrival_time) (value_in s.departure_time) else None) ≡ time_of_texts arrival_text departure_text
     reached_at = reached s.arrival_time s.departure_time
         ∙ (λ i. either (is.arrival_time.value i) (is.arrival_time.empty i) (is.departure_time.value i) (is.departure_time.empty i))
 
-    left_at : option_map pos (given (is_timed (times_in s.arrival_time s.departure_time).times) (times_in s.arrival_time s.departure_time).departure) ≡ time_of_texts departure_text arrival_text
+    left_at : option_map pos (if is_clear (times_read s.arrival_time s.departure_time) then option_or (value_in s.departure_time) (value_in s.arrival_time) else None) ≡ time_of_texts departure_text arrival_text
     left_at = left s.arrival_time s.departure_time
         ∙ (λ i. either (is.departure_time.value i) (is.departure_time.empty i) (is.arrival_time.value i) (is.arrival_time.empty i))
 
-    untimed_at : is_untimed (times_in s.arrival_time s.departure_time).times ≡ (is_empty arrival_text && is_empty departure_text)
+    untimed_at : (is_clear (times_read s.arrival_time s.departure_time) && (not (is_some (value_in s.arrival_time)) && not (is_some (value_in s.departure_time)))) ≡ (is_empty arrival_text && is_empty departure_text)
     untimed_at = untimed s.arrival_time s.departure_time ∙ (λ i. is.arrival_time.empty i && is.departure_time.empty i)
 
     -- what the row says of its trip
-    note_is : (number : Option ℕ) (trip : Option (Bor (List ℕ))) → option_map trip_note (option_map (note_of_trip number (kept_row s stop)) trip)
+    note_is : (trip : Option (Bor (List ℕ))) → option_map (λ t. trip_note t.now (kept_row s stop)) trip
         ≡ note_of_values (text_of trip) (amount_of count (stop_time_text d n "stop_sequence")) arrival_text departure_text n
-    note_is number None = refl
-    note_is number (Some t) = λ i. Some (record {
+    note_is None = refl
+    note_is (Some t) = λ i. Some (record {
       trip_id = t.now;
-      row = (row_said_is (times_in s.arrival_time s.departure_time) (value_in s.stop_sequence) s.row t.now (never_unplaced s.arrival_time s.departure_time)
+      row = (said_of (value_in s.stop_sequence) (is_fault s.arrival_time || is_fault s.departure_time) (value_in s.arrival_time) (value_in s.departure_time) s.row t.now
           ∙ (λ j. option_map (λ x. record {
             trip_id = t.now;
             sequence = x;
@@ -212,17 +179,9 @@ module _ (d : Dataset) (n : ℕ) (s : ReadStopTime) (is : IsStopTime d n s) wher
           }) (sequence_read j))) i;
     })
 
-    pub note_said : (number : Option ℕ) → option_map trip_note (option_map (note_of_trip number (kept_row s stop)) (value_in s.trip_id)) ≡ note_read d n
-    note_said number = note_is number (value_in s.trip_id)
+    pub note_said : option_map (λ t. trip_note t.now (kept_row s stop)) (value_in s.trip_id) ≡ note_read d n
+    note_said = note_is (value_in s.trip_id)
         ∙ ap (λ t. note_of_values t (amount_of count (stop_time_text d n "stop_sequence")) arrival_text departure_text n) trip_read
-
-    -- the times of a row that has a sequence
-    times_are : is_placed (kept_row s stop).times ≡ true → (kept_row s stop).times ≡ (times_in s.arrival_time s.departure_time).times
-    times_are placed = elim (cases_Bool (is_some (value_in s.stop_sequence))) [
-      | inl has ↦ ap (λ b. if b then (times_in s.arrival_time s.departure_time).times else times.Unplaced) has
-      | inr lacks ↦
-          let clash : false ≡ true = ap (λ b. is_placed (if b then (times_in s.arrival_time s.departure_time).times else times.Unplaced)) (sym lacks) ∙ placed in cc clash
-    ]
 
     module _ (names : NamedIds) (are : AreNumbersOf d s names) (same : names.stop.number ≡ stop) (t : ℕ) where
       -- the number of the row's stop
@@ -230,25 +189,13 @@ module _ (d : Dataset) (n : ℕ) (s : ReadStopTime) (is : IsStopTime d n s) wher
       stop_is m e =
           ap (λ o. unwrap_or o 0) (sym same ∙ are.stop ∙ ap (option_and_then (number_of_id d file.Stops (codes "stop_id"))) stop_read ∙ e)
 
-      arrival_fine : AreTimesRead d n → IsFine s.arrival_time
-      arrival_fine read = fine as_value arrival_text s.arrival_time is.arrival_time.empty is.arrival_time.value read.arrival
-
-      departure_fine : AreTimesRead d n → IsFine s.departure_time
-      departure_fine read = fine as_value departure_text s.departure_time is.departure_time.empty is.departure_time.value read.departure
-
       pub keeps_row : KeepsRow d n (with_trip (kept_row s stop) t)
       keeps_row = record {
         row = is.row;
         stop = stop_is;
         sequence = λ x e. sequence_is (value_in s.stop_sequence) x (sequence_read ∙ e);
-        arrival = λ placed read.
-            ap (λ w. option_map pos (given (has_arrival w) (times_in s.arrival_time s.departure_time).arrival)) (times_are placed)
-            ∙ ap (option_map pos) (arrives_then s.arrival_time s.departure_time (arrival_fine read) (departure_fine read))
-            ∙ sym (counted_text (value_in s.arrival_time)) ∙ ap (option_and_then as_amount) is.arrival_time.value;
-        departure = λ placed read.
-            ap (λ w. option_map pos (given (has_departure w) (times_in s.arrival_time s.departure_time).departure)) (times_are placed)
-            ∙ ap (option_map pos) (departs_then s.arrival_time s.departure_time (arrival_fine read) (departure_fine read))
-            ∙ sym (counted_text (value_in s.departure_time)) ∙ ap (option_and_then as_amount) is.departure_time.value;
+        arrival = sym (counted_text (value_in s.arrival_time)) ∙ ap (option_and_then as_amount) is.arrival_time.value;
+        departure = sym (counted_text (value_in s.departure_time)) ∙ ap (option_and_then as_amount) is.departure_time.value;
         pickup_type = chosen pickup_code pickup.Regular refl (stop_time_text d n "pickup_type") s.pickup_type is.pickup_type;
         drop_off_type = chosen drop_off_code drop_off.Regular refl (stop_time_text d n "drop_off_type") s.drop_off_type is.drop_off_type;
         headsign = is.has_headsign;
@@ -261,9 +208,3 @@ module _ (d : Dataset) (n : ℕ) (s : ReadStopTime) (is : IsStopTime d n s) wher
         rest = subst (λ k. KeepsRow d k (with_trip (kept_row s stop) t)) (sym is.row) keeps_row;
         trip = λ m e. known m (are.trip ∙ ap (option_and_then (number_of_id d file.Trips (codes "trip_id"))) (trip_read ∙ ap (λ k. word_of id (stop_time_text d k "trip_id")) (sym is.row)) ∙ e);
       }
-
--- what a note was made of
-pub note_from : (note : TripNote) (number : Option ℕ) (kept : StopTime) (trip : Option (Bor (List ℕ))) → Some note ≡ option_map (note_of_trip number kept) trip
-    → (note.kept ≡ kept) × (note.number ≡ number)
-note_from note number kept None e = cc e
-note_from note number kept (Some t) e = (ap (λ o. (unwrap_or o note).kept) e, ap (λ o. (unwrap_or o note).number) e)

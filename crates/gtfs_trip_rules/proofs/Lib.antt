@@ -29,3 +29,7 @@ pub mod TripRestated
 pub mod TripSorted
 pub mod TripStopTimeFacts
 pub mod TripStopTimeOrder
+mod TripPlaced
+mod KeptListFacts
+mod PlaceFacts
+mod EarlierRows

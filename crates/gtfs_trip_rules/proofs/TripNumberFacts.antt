@@ -19,7 +19,7 @@ use Rattle.gtfs_trip_rules.specs.TripNumbers.{AllNumbered, AreNamed, AreNumbered
 use Rattle.gtfs_columns.proofs.SiteFacts.{text_is, text_itself}
 
 -- a function that another one equals at each element
-map_alike : {X Y : Type 0} (f g : X → Y) (xs : List X) → All (λ x. f x ≡ g x) xs → map f xs ≡ map g xs
+pub map_alike : {X Y : Type 0} (f g : X → Y) (xs : List X) → All (λ x. f x ≡ g x) xs → map f xs ≡ map g xs
 map_alike f g [] same = refl
 map_alike f g (x ∷ xs) same = λ i. same 0 x (omega arith) i ∷ map_alike f g xs (All-tail (λ x. f x ≡ g x) x xs same) i
 

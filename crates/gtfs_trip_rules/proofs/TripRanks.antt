@@ -50,8 +50,8 @@ then_later Equal s t = refl
 then_later Greater s t = refl
 
 -- a comparison by rank and by row is the one by trip, sequence and row
-pub ranked : (x y : StopTime) → x.stop_sequence < 2 ^ 32 → y.stop_sequence < 2 ^ 32 → ordering_then (nat_cmp (rank x) (rank y)) (nat_cmp x.row y.row) ≡ kept_cmp x y
-ranked x y low high =
-    ap (λ r. ordering_then r (nat_cmp x.row y.row)) (digits_cmp x.trip x.stop_sequence y.trip y.stop_sequence low high)
-    ∙ then_later (nat_cmp x.trip y.trip) (nat_cmp x.stop_sequence y.stop_sequence) (nat_cmp x.row y.row)
-    ∙ ap (λ r. ordering_then (nat_cmp x.trip y.trip) (ordering_then r (nat_cmp x.row y.row))) (sym (int_cmp-pos x.stop_sequence y.stop_sequence))
+pub by_rank : (x y : StopTime) → x.stop_row.stop_sequence < 2 ^ 32 → y.stop_row.stop_sequence < 2 ^ 32 → ordering_then (nat_cmp (rank x) (rank y)) (nat_cmp x.row y.row) ≡ kept_cmp x y
+by_rank x y low high =
+    ap (λ r. ordering_then r (nat_cmp x.row y.row)) (digits_cmp x.trip x.stop_row.stop_sequence y.trip y.stop_row.stop_sequence low high)
+    ∙ then_later (nat_cmp x.trip y.trip) (nat_cmp x.stop_row.stop_sequence y.stop_row.stop_sequence) (nat_cmp x.row y.row)
+    ∙ ap (λ r. ordering_then (nat_cmp x.trip y.trip) (ordering_then r (nat_cmp x.row y.row))) (sym (int_cmp-pos x.stop_row.stop_sequence y.stop_row.stop_sequence))

@@ -1,13 +1,14 @@
 -- What is reported of the rows of trips, one after the other.
 use Rattle.std.proofs.Common.{◌≡◌, Option, Some, None, option_map, ℕ, zero, suc, ◌+◌, ◌-◌, ◌<◌, ◌≤◌, true, false, Bool, cond, List, [], ◌∷◌, length, map, filter, get_or, take, drop, reverse, refl, sym, ap, ◌∙◌, subst, inl, inr, arith}
 use Rattle.std.specs.Prelude.{◌&&◌, ◌||◌, ◌==◌, codes, not, nat_lt, nat_le, pos, int_lt, ℤ, IsPermutation}
-use Rattle.std.specs.List.{All, AllByRecursion, list_any, range_with_len}
+use Rattle.std.specs.List.{All, AllByRecursion, list_any, range_with_len, slice_get}
 use Rattle.std.specs.Option.{option_or}
 use Rattle.std.proofs.lemmas.Bool.{and_from as and_both, cases_Bool, eqb-true as same_number}
 use Rattle.std.proofs.lemmas.Bool.Decides.{nat_tests}
 use Rattle.std.proofs.lemmas.List.{drop-map, drop_more, get_or-map, length-map, map_more, reverse-append, take-map, take_all, take_rest}
 use Rattle.std.proofs.lemmas.List.Elements.{All-from_recursion, All-get_or}
 use Rattle.std.proofs.lemmas.List.Sorted.{All-permutation, IsPermutation-reverse, IsPermutation-trans, list_any-IsPermutation}
+use Rattle.std.proofs.lemmas.Option.{get_or_from_slice_get}
 use Rattle.gtfs_field.proofs.NumberFacts.{number_itself}
 use Rattle.gtfs_field.proofs.ListFacts.{any_mapped as any_map}
 use Rattle.gtfs_table.specs.Tables.{Dataset, Records, record_at}
@@ -22,7 +23,7 @@ use Rattle.gtfs_columns.specs.steps.Picks.{at_column}
 use Rattle.gtfs_columns.specs.Problems.{Problem, holds_in, lists_problem, is_problem}
 use Rattle.gtfs_table.specs.Rows.{is_row, records_in, rows, is_empty}
 use Rattle.gtfs_trip_rules.specs.KeptTimes.{departs, is_untimed}
-use Rattle.gtfs_trip_rules.specs.TripOrder.{ends, is_left_later, is_untimed_end, last_left, left_before, repeats, row_cmp, same_sequence, same_trip, InOrder}
+use Rattle.gtfs_trip_rules.specs.TripOrder.{ends, is_left_later, is_untimed_end, last_left, left_before, repeats, row_cmp, rows_before, rows_from, same_sequence, same_trip, InOrder}
 use Rattle.gtfs_trip_rules.specs.TripStopTimes.{TripStopTime, has_trip_stop_time, trip_stop_time, trip_stop_time_in, trip_stop_times_in}
 use Rattle.gtfs_columns.specs.Values.{if_there}
 use Rattle.gtfs_columns.specs.View.{problem_of}
@@ -155,12 +156,6 @@ module _ (d : Dataset) (c : Code) (name : List ℕ) (rule : List TripStopTime �
 
 -- ---- the rules at a site of the rows in order
 
-abbrev pub rows_before : (ℕ → List ℕ) → List StopTime → ℕ → List TripStopTime
-rows_before name lent i = reverse (map (trip_stop_time name) (take i lent))
-
-abbrev pub rows_from : (ℕ → List ℕ) → List StopTime → ℕ → List TripStopTime
-rows_from name lent i = map (trip_stop_time name) (drop i lent)
-
 map_or : (a b : Option ℕ) → option_map pos (option_or a b) ≡ option_or (option_map pos a) (option_map pos b)
 map_or None b = refl
 map_or (Some x) b = refl
@@ -171,10 +166,6 @@ module _ (name : ℕ → List ℕ) (lent : List StopTime) (i : ℕ) (z : StopTim
 
   pub rows_from_here : rows_from name lent i ≡ trip_stop_time name (get_or lent i z) ∷ rows_from name lent (i + 1)
   rows_from_here = ap (map (trip_stop_time name)) (drop_more lent i z below)
-
-  -- what a slice after the row holds
-  pub ends_more : (answer : Bool) → answer ≡ ends (trip_stop_time name (get_or lent i z) ∷ map (trip_stop_time name) (take (length lent - (i + 1)) (drop (i + 1) lent))) → answer ≡ ends (rows_from name lent i)
-  ends_more answer is = is ∙ ap (λ rest. ends (trip_stop_time name (get_or lent i z) ∷ map (trip_stop_time name) rest)) (take_rest lent (i + 1)) ∙ ap ends (sym rows_from_here)
 
   -- when a trip was left last, one row later
   pub left_more : (left next : Option ℕ) → option_map pos left ≡ left_before (rows_before name lent i) (trip_stop_time name (get_or lent i z)) → next ≡ option_or (departs (get_or lent i z)) left
@@ -265,6 +256,11 @@ silent_forward d name lent o c column rule r i z below ps asked reported =
     (seen_more d c column rule r (trip_stop_time name (get_or lent i z)) (rows_before name lent i) false ps ps ps (is_row_here d name lent o i z below) asked reported
     (λ p. nothing_added (lists_problem ps p) (is_same (problem_at c file.StopTimes column (get_or lent i z).row) p)))
 
+-- a problem of the row at an index
+pub reported_at : (c : Code) (name : List ℕ) (rows : List StopTime) (at : ℕ) (row : StopTime) → slice_get rows at ≡ Some row
+    → problem_at c file.StopTimes name row.row ≡ problem_at c file.StopTimes name (get_or rows at row).row
+reported_at c name rows at row here = ap (λ r. problem_at c file.StopTimes name r.row) (sym (get_or_from_slice_get rows at row row here))
+
 -- ---- the three rules
 
 pub repeats_reported : (d : Dataset) → ReportsRule d code.E09 (codes "stop_sequence") repeats_among
@@ -278,7 +274,7 @@ back_reported d = record { is = λ n. ap (λ b. is_row (records_in d file.StopTi
 
 -- at the next row, which has a time, and so is no end without times
 pub timed_forward : (d : Dataset) (name : ℕ → List ℕ) (lent : List StopTime) (o : InOrder d (map (trip_stop_time name) lent)) (i : ℕ) (z : StopTime) → i < length lent → (ps : List Problem)
-    → is_untimed (get_or lent i z).times ≡ false → Reports d (seen code.E15 (codes "arrival_time") (rows_before name lent i)) ps ps → Reports d (seen code.E15 (codes "arrival_time") (rows_before name lent (i + 1))) ps ps
+    → is_untimed (get_or lent i z) ≡ false → Reports d (seen code.E15 (codes "arrival_time") (rows_before name lent i)) ps ps → Reports d (seen code.E15 (codes "arrival_time") (rows_before name lent (i + 1))) ps ps
 timed_forward d name lent o i z below ps timed =
     silent_forward d name lent o code.E15 (codes "arrival_time") ends_untimed (ends_reported d) i z below ps
     (sym (ap (λ b. b && at_end (trip_stop_times_in d) (trip_stop_time name (get_or lent i z))) timed))

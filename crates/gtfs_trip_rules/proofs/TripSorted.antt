@@ -154,9 +154,9 @@ module _ (number : List ℕ → ℕ) (name : ℕ → List ℕ) where
 
   as_numbers : (x y : StopTime) → IsNumbered number name x → IsNumbered number name y → kept_cmp x y ≡ lent_cmp x y
   as_numbers x y e f =
-      then_tied (nat_cmp x.trip y.trip) (text_cmp (name x.trip) (name y.trip)) (ordering_then (int_cmp (pos x.stop_sequence) (pos y.stop_sequence)) (nat_cmp x.row y.row))
+      then_tied (nat_cmp x.trip y.trip) (text_cmp (name x.trip) (name y.trip)) (ordering_then (int_cmp (pos x.stop_row.stop_sequence) (pos y.stop_row.stop_sequence)) (nat_cmp x.row y.row))
       (λ tied. ap (λ n. text_cmp (name x.trip) (name n)) (sym (nat_cmp-IsAntisymmetric x.trip y.trip tied)) ∙ tied_itself nat_list_cmp_total (name x.trip))
-      ∙ (λ i. ordering_then (ordering_then (nat_cmp (sym e i) (sym f i)) (text_cmp (name x.trip) (name y.trip))) (ordering_then (int_cmp (pos x.stop_sequence) (pos y.stop_sequence)) (nat_cmp x.row y.row)))
+      ∙ (λ i. ordering_then (ordering_then (nat_cmp (sym e i) (sym f i)) (text_cmp (name x.trip) (name y.trip))) (ordering_then (int_cmp (pos x.stop_row.stop_sequence) (pos y.stop_row.stop_sequence)) (nat_cmp x.row y.row)))
 
   pub sorted_by_numbers : (xs : List StopTime) → AllNumbered number name xs → IsSorted kept_cmp xs → IsSorted lent_cmp xs
   sorted_by_numbers xs each sorted k d low h =
@@ -209,4 +209,4 @@ sorted_further rows at z within sorted stands k x low h = elim (eq-or-lt_of_le {
 
 pub kept_total : IsTotalOrder kept_cmp
 kept_total = then_total (on_total (λ (r : StopTime). r.trip) nat_cmp_total)
-    (then_total (on_total (λ (r : StopTime). pos r.stop_sequence) int_cmp_total) (on_total (λ (r : StopTime). r.row) nat_cmp_total))
+    (then_total (on_total (λ (r : StopTime). pos r.stop_row.stop_sequence) int_cmp_total) (on_total (λ (r : StopTime). r.row) nat_cmp_total))

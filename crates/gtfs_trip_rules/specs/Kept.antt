@@ -10,7 +10,6 @@ use Rattle.gtfs_columns.specs.ReadRules.{IsReadAs}
 use Rattle.gtfs_columns.specs.Reads.{amount_of, choice_of, word_of}
 use Rattle.gtfs_stop_times.specs.Choices.{drop_off_code, pickup_code, timepoint_code}
 use Rattle.gtfs_trip_rules.specs.declared.trips.row.StopTime.{StopTime}
-use Rattle.gtfs_trip_rules.specs.KeptTimes.{arrival_time, departure_time, is_placed}
 use Rattle.gtfs_trip_rules.specs.StopTimes.{stop_time_text}
 
 -- ---- a row
@@ -22,22 +21,17 @@ named_trip_number d t = option_and_then (number_of_id d file.Trips (codes "trip_
 abbrev pub named_stop_number : Dataset → List ℕ → Option ℕ
 named_stop_number d t = option_and_then (number_of_id d file.Stops (codes "stop_id")) (word_of id t)
 
--- both times of a row are readable, or empty
-pub record AreTimesRead (d : Dataset) (n : ℕ) : Type 0 where
-  pub arrival : IsReadAs time (stop_time_text d n "arrival_time")
-  pub departure : IsReadAs time (stop_time_text d n "departure_time")
-
 -- what is kept of a row, but for its trip
 pub record KeepsRow (d : Dataset) (n : ℕ) (r : StopTime) : Type 0 where
   pub row : r.row ≡ n
-  pub stop : (m : ℕ) → named_stop_number d (stop_time_text d n "stop_id") ≡ Some m → r.stop ≡ m
-  pub sequence : (x : ℤ) → amount_of count (stop_time_text d n "stop_sequence") ≡ Some x → pos r.stop_sequence ≡ x
-  pub arrival : is_placed r.times ≡ true → AreTimesRead d n → option_map pos (arrival_time r) ≡ amount_of time (stop_time_text d n "arrival_time")
-  pub departure : is_placed r.times ≡ true → AreTimesRead d n → option_map pos (departure_time r) ≡ amount_of time (stop_time_text d n "departure_time")
-  pub pickup_type : (x : ℤ) → choice_of ((0, 3) ∷ []) (codes "0") (stop_time_text d n "pickup_type") ≡ Some x → pos (pickup_code r.pickup_type) ≡ x
-  pub drop_off_type : (x : ℤ) → choice_of ((0, 3) ∷ []) (codes "0") (stop_time_text d n "drop_off_type") ≡ Some x → pos (drop_off_code r.drop_off_type) ≡ x
+  pub stop : (m : ℕ) → named_stop_number d (stop_time_text d n "stop_id") ≡ Some m → r.stop_row.stop_id.0 ≡ m
+  pub sequence : (x : ℤ) → amount_of count (stop_time_text d n "stop_sequence") ≡ Some x → pos r.stop_row.stop_sequence ≡ x
+  pub arrival : option_map pos r.stop_row.arrival_time ≡ amount_of time (stop_time_text d n "arrival_time")
+  pub departure : option_map pos r.stop_row.departure_time ≡ amount_of time (stop_time_text d n "departure_time")
+  pub pickup_type : (x : ℤ) → choice_of ((0, 3) ∷ []) (codes "0") (stop_time_text d n "pickup_type") ≡ Some x → pos (pickup_code r.stop_row.pickup_type) ≡ x
+  pub drop_off_type : (x : ℤ) → choice_of ((0, 3) ∷ []) (codes "0") (stop_time_text d n "drop_off_type") ≡ Some x → pos (drop_off_code r.stop_row.drop_off_type) ≡ x
   pub headsign : r.has_headsign ≡ not (is_empty (stop_time_text d n "stop_headsign"))
-  pub timepoint : IsReadAs (up_to 1) (stop_time_text d n "timepoint") → option_map pos (option_map timepoint_code r.timepoint) ≡ amount_of (up_to 1) (stop_time_text d n "timepoint")
+  pub timepoint : IsReadAs (up_to 1) (stop_time_text d n "timepoint") → option_map pos (option_map timepoint_code r.stop_row.timepoint) ≡ amount_of (up_to 1) (stop_time_text d n "timepoint")
 
 -- and with its trip
 pub record Keeps (d : Dataset) (r : StopTime) : Type 0 where

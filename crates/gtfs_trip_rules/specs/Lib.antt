@@ -1,6 +1,8 @@
 pub mod CoveredTrips
 pub mod Kept
+pub mod KeptLists
 pub mod KeptOrder
+pub mod KeptPlaces
 pub mod KeptRow
 pub mod KeptTimes
 pub mod PeriodView

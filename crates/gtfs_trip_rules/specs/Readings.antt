@@ -19,6 +19,11 @@ fault_in reading.Empty = None
 fault_in (reading.Fault c) = Some c
 fault_in (reading.Value v) = None
 
+abbrev pub is_fault : {V : Type 0} → Reading V → Bool
+is_fault reading.Empty = false
+is_fault (reading.Fault c) = true
+is_fault (reading.Value v) = false
+
 abbrev pub value_in : {V : Type 0} → Reading V → Option V
 value_in reading.Empty = None
 value_in (reading.Fault c) = None

@@ -1,10 +1,9 @@
 -- The rows of stop_times.txt that name a trip, as records.
-use Rattle.std.specs.Prelude.{◌≡◌, ℕ, ◌&&◌, ◌∷◌, ◌++◌, Bool, List, [], length, map, filter, bytes_eq, Option, Some, None, if◌then◌else◌, is_some, option_map, ℤ}
-use Rattle.std.specs.List.{filter_map}
+use Rattle.std.specs.Prelude.{◌≡◌, ◌<◌, ℕ, ◌&&◌, ◌∷◌, ◌++◌, Bool, List, [], length, map, filter, bytes_eq, Option, Some, None, if◌then◌else◌, is_some, option_map, ℤ}
+use Rattle.std.specs.List.{All, filter_map}
 use Rattle.std.specs.Option.{unwrap_or}
 use Rattle.gtfs_table.specs.Tables.{Dataset}
 use Rattle.gtfs_table.specs.declared.file.File.TheVariants as file
-use Rattle.gtfs_trip_rules.specs.declared.trips.notes.TripNote.{TripNote as CodeTripNote}
 use Rattle.gtfs_trip_rules.specs.declared.trips.row.StopTime.{StopTime}
 use Rattle.gtfs_table.specs.Rows.{rows}
 use Rattle.gtfs_columns.specs.Rows.{is_empty_in, word_in}
@@ -22,9 +21,9 @@ pub record TripNote : Type 0 where
 abbrev pub said : (ℕ → List ℕ) → StopTime → Option TripStopTime
 said name r = if is_placed r.times then Some (trip_stop_time name r) else None
 
--- a note of the code
-abbrev pub trip_note : CodeTripNote → TripNote
-trip_note n = record { trip_id = n.trip_id.now; row = said (λ t. n.trip_id.now) n.kept }
+-- what a row says that names this trip
+abbrev pub trip_note : List ℕ → StopTime → TripNote
+trip_note id kept = record { trip_id = id; row = said (λ t. id) kept }
 
 -- a row by its number, with this trip and this sequence
 abbrev pub timed_row : Dataset → ℕ → List ℕ → ℤ → TripStopTime
@@ -71,8 +70,12 @@ pub record Noted : Type 0 where
   pub notes : List TripNote
   pub rows : List StopTime
 
--- a row was noted: it has the number of its trip that its note says, if any
-pub record NotesRow (note : CodeTripNote) (old new : List StopTime) : Type 0 where
+-- a row was noted: its trip has this number, if one is known
+pub record NotesRow (number : Option ℕ) (kept : StopTime) (old new : List StopTime) : Type 0 where
   pub trip : ℕ
-  pub rows : new ≡ old ++ with_trip note.kept trip ∷ []
-  pub known : (n : ℕ) → note.number ≡ Some n → trip ≡ n
+  pub rows : new ≡ old ++ with_trip kept trip ∷ []
+  pub known : (n : ℕ) → number ≡ Some n → trip ≡ n
+
+-- all rows come before this one in the file
+abbrev pub AreEarlier : ℕ → List StopTime → Type 0
+AreEarlier n rows = All (λ r. r.row < n) rows

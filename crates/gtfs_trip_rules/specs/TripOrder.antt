@@ -1,5 +1,5 @@
 -- The rows of trips in their order: by trip, sequence and row. What a row breaks by its position among them.
-use Rattle.std.specs.Prelude.{ℕ, ◌+◌, ◌-◌, ◌*◌, ◌^◌, ◌&&◌, ◌||◌, not, Bool, true, false, if◌then◌else◌, List, [], ◌∷◌, bytes_eq, length, slice_get, Option, None, ℤ, pos, int_lt, map, IsPermutation}
+use Rattle.std.specs.Prelude.{ℕ, ◌+◌, ◌-◌, ◌*◌, ◌^◌, ◌&&◌, ◌||◌, not, Bool, true, false, if◌then◌else◌, List, [], ◌∷◌, bytes_eq, drop, length, reverse, slice_get, take, Option, None, ℤ, pos, int_lt, map, IsPermutation}
 use Rattle.std.specs.List.Sorted.{IsStrictlySortedBy}
 use Rattle.std.specs.Option.{option_or}
 use Rattle.std.specs.Ordering.{int_cmp, int_eq, is_lt, nat_cmp, on, then_cmp}
@@ -27,11 +27,11 @@ row_cmp number = then_cmp (on (λ r. r.trip_id) (trip_cmp number)) (then_cmp (on
 
 -- rows as they are kept, by the numbers of their trips
 abbrev pub kept_cmp : StopTime → StopTime → Ordering
-kept_cmp = then_cmp (on (λ r. r.trip) nat_cmp) (then_cmp (on (λ r. pos r.stop_sequence) int_cmp) (on (λ r. r.row) nat_cmp))
+kept_cmp = then_cmp (on (λ r. r.trip) nat_cmp) (then_cmp (on (λ r. pos r.stop_row.stop_sequence) int_cmp) (on (λ r. r.row) nat_cmp))
 
 -- a row by its trip and its sequence
 abbrev pub rank : StopTime → ℕ
-rank row = row.trip * 2 ^ 32 + row.stop_sequence
+rank row = row.trip * 2 ^ 32 + row.stop_row.stop_sequence
 
 -- a row stands below the last of the rows before it
 abbrev pub falls : List StopTime → StopTime → Bool
@@ -52,6 +52,13 @@ pub record AreInOrder (d : Dataset) (kept : List StopTime) : Type 0 where
   pub ascending : IsStrictlySortedBy kept_cmp kept
 
 -- ---- a row and the rows before it, of which the last comes first
+
+-- the rows before an index, and those from it on
+abbrev pub rows_before : (ℕ → List ℕ) → List StopTime → ℕ → List TripStopTime
+rows_before name rows at = reverse (map (trip_stop_time name) (take at rows))
+
+abbrev pub rows_from : (ℕ → List ℕ) → List StopTime → ℕ → List TripStopTime
+rows_from name rows at = map (trip_stop_time name) (drop at rows)
 
 -- the row before is of the same trip
 abbrev pub follows : List TripStopTime → TripStopTime → Bool

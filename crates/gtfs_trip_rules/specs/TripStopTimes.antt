@@ -22,11 +22,11 @@ pub record TripStopTime : Type 0 where
 abbrev pub trip_stop_time : (ℕ → List ℕ) → StopTime → TripStopTime
 trip_stop_time name r = record {
   trip_id = name r.trip;
-  sequence = pos r.stop_sequence;
+  sequence = pos r.stop_row.stop_sequence;
   row = r.row;
   arrival = option_map pos (arrives r);
   departure = option_map pos (departs r);
-  is_untimed = is_untimed r.times;
+  is_untimed = is_untimed r;
 }
 
 -- a row by its number; a missing id is the empty text, and a missing sequence is 0

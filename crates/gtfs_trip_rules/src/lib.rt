@@ -21,6 +21,7 @@ pub use services::by_id::RowsById;
 pub use services::report_services;
 pub use stop_times::report_stop_times;
 pub use trips::counts::report_counts;
+pub use trips::kept::KeptStopTimes;
 pub use trips::notes::TripNotes;
 pub use trips::order::report_order;
 pub use trips::row::StopTime;

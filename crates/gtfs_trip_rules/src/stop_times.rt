@@ -1,12 +1,11 @@
 pub(crate) mod columns;
 mod fields;
-pub(crate) mod kept;
 mod named;
 pub(crate) mod reading;
 mod times;
 
 ghost use Rattle.std.specs.List.{cons_option};
-ghost use Rattle.std.specs.Prelude.{◌≡◌, ◌++◌, [], true, ℕ, codes, option_and_then, IfOk, OnOk};
+ghost use Rattle.std.specs.Prelude.{◌≡◌, ◌+◌, ◌++◌, [], true, ℕ, codes, option_and_then, IfOk, OnOk};
 ghost use Rattle.gtfs_table.specs.declared.file.File.TheVariants as file;
 ghost use Rattle.gtfs_columns.specs.declared.file_name.FileName.TheVariants as file_name;
 ghost use Rattle.gtfs_table.specs.Tables.{Dataset, record_at};
@@ -20,7 +19,7 @@ ghost use Rattle.gtfs_trip_rules.specs.StopTimePicks.{in_rows, in_stop_times};
 ghost use Rattle.gtfs_trip_rules.specs.Kept.{AllKeep};
 ghost use Rattle.gtfs_trip_rules.specs.Readings.{text_of, value_in};
 ghost use Rattle.gtfs_trip_rules.specs.StopTimes.{AreNamedRows, AreNumbersOf, AreStopTimeColumns, IsRow, IsStopTime, ReportsOfRow};
-ghost use Rattle.gtfs_trip_rules.specs.TripNotes.{trip_notes_in};
+ghost use Rattle.gtfs_trip_rules.specs.TripNotes.{trip_notes_in, AreEarlier};
 ghost use Rattle.gtfs_trip_rules.specs.TripTexts.{note_read};
 
 use crate::stop_times::columns::{ReadStopTime, StopTimeColumns};
@@ -99,10 +98,12 @@ fn read_row<'a: 'i, 'i>(
         ≡ record_at (records_in columns.now.tables.now file.StopTimes) row }
     requires trips { notes.old.trips
         ≡ ids_by_bytes columns.now.tables.now file.Trips (codes "trip_id") }
+    requires earlier { AreEarlier row notes.old.rows }
     ensures named { AreNamedRows columns.now.tables.now named.new }
     ensures reported { OnOk result
         (ReportsOfRow columns.now.tables.now in_rows row found.old found.new) }
     ensures trips { notes.new.trips ≡ notes.old.trips }
+    ensures earlier { OnOk result (AreEarlier (row + 1) notes.new.rows) }
     ensures notes { OnOk result (notes.new.notes
         ≡ notes.old.notes ++ cons_option (note_read columns.now.tables.now row) []) }
     ensures kept { OnOk result (AllKeep columns.now.tables.now notes.old.rows
@@ -142,19 +143,22 @@ fn take_note<'i>(
     ids: &NamedIds<'i>,
     notes: &mut TripNotes<'i>,
 ) -> Result<(), OutOfMemory>
-    requires { ids.now.trip.number ≡ option_and_then (number_among notes.old.trips)
+    requires known { ids.now.trip.number ≡ option_and_then (number_among notes.old.trips)
         (text_of (value_in stop_time.now.trip_id)) }
+    requires earlier { AreEarlier stop_time.now.row notes.old.rows }
     ensures trips { notes.new.trips ≡ notes.old.trips }
+    ensures earlier { OnOk result (AreEarlier (stop_time.now.row + 1) notes.new.rows) }
     ensures notes { OnOk result ((d : Dataset) (n : ℕ) → IsStopTime d n stop_time.now
         → notes.new.notes ≡ notes.old.notes ++ cons_option (note_read d n) []) }
     ensures kept { OnOk result ((d : Dataset) (n : ℕ) → IsStopTime d n stop_time.now
         → AreNumbersOf d stop_time.now ids.now
         → AllKeep d notes.old.rows → AllKeep d notes.new.rows) }
 {
-    match stop_time.trip_note(ids.trip.number, ids.stop.number)? {
-        Some(note) => notes.note(note),
-        None => Ok(()),
-    }
+    let Some(trip_id) = stop_time.trip_id.value() else {
+        return Ok(());
+    };
+    let kept = stop_time.kept(ids.stop.number)?;
+    notes.note(trip_id, ids.trip.number, kept)
 }
 
 // A problem of a row of stop_times.txt.

@@ -1,7 +1,10 @@
 pub(crate) mod counts;
+pub(crate) mod kept;
 pub(crate) mod notes;
 pub(crate) mod numbers;
 pub(crate) mod order;
+pub(crate) mod places;
+pub(crate) mod ranks;
 pub(crate) mod row;
 pub(crate) mod row_counts;
 mod stretches;

@@ -1,24 +1,24 @@
-ghost use Rattle.std.specs.Prelude.{◌≡◌, option_map, IfOk};
+ghost use Rattle.std.specs.Prelude.{◌≡◌, ◌||◌, is_some, IfOk};
 ghost use Rattle.gtfs_table.specs.Tables.{record_at};
 ghost use Rattle.gtfs_table.specs.declared.file.File.TheVariants as file;
 ghost use Rattle.gtfs_columns.specs.steps.ColumnView.{kind_of};
-ghost use Rattle.gtfs_trip_rules.specs.KeptRow.{kept_row, note_of_trip};
-ghost use Rattle.gtfs_trip_rules.specs.Readings.{fault_of, value_in};
+ghost use Rattle.gtfs_trip_rules.specs.KeptRow.{kept_row, row_said, times_of};
+ghost use Rattle.gtfs_trip_rules.specs.Readings.{fault_of, is_fault, value_in};
 ghost use Rattle.gtfs_table.specs.Rows.{records_in};
 ghost use Rattle.gtfs_trip_rules.specs.StopTimes.{stop_time_text, AreStopTimeColumns, IsReading, IsStopTime};
 ghost use Rattle.gtfs_columns.specs.Columns.{id};
 ghost use Rattle.gtfs_columns.specs.Values.{word};
 
-use crate::stop_times::kept::{kept_times, placed};
 use crate::stop_times::reading::{
-    Reading, read_beside, read_drop_off_type, read_number, read_pickup_type, read_seconds,
+    Reading, read_beside, read_clock, read_drop_off_type, read_number, read_pickup_type,
     read_timepoint,
 };
-use crate::trips::notes::TripNote;
-use crate::trips::row::{StopTime, small_number};
+use crate::trips::row::{StopTime, Times, small_number};
 use gtfs_columns::{Code, Kind, fault_code};
-use gtfs_field::OutOfMemory;
-use gtfs_stop_times::{DropOffType, PickupType, Timepoint};
+use gtfs_field::{Clock, OutOfMemory};
+use gtfs_stop_times::{
+    DropOffType, OptionalClock, OptionalHeadsign, PickupType, StopNo, StopRow, Timepoint,
+};
 use gtfs_table::{File, Record, Tables};
 
 // The indices of the kept columns of stop_times.txt, and how many fields its header has.
@@ -44,8 +44,8 @@ pub(crate) struct ReadStopTime<'a> {
     // How many fields the row has.
     pub(crate) fields: usize,
     pub(crate) trip_id: Reading<&'a str>,
-    pub(crate) arrival_time: Reading<u32>,
-    pub(crate) departure_time: Reading<u32>,
+    pub(crate) arrival_time: Reading<Clock>,
+    pub(crate) departure_time: Reading<Clock>,
     pub(crate) stop_id: Reading<&'a str>,
     pub(crate) stop_sequence: Reading<u32>,
     // What is wrong with this field.
@@ -56,46 +56,51 @@ pub(crate) struct ReadStopTime<'a> {
     pub(crate) timepoint: Reading<Timepoint>,
 }
 
-impl<'a> ReadStopTime<'a> {
-    // What the row says of its trip, where it names one; these are the numbers that the trip and the
-    // stop of the row have.
-    pub(crate) fn trip_note(
-        &self,
-        trip: Option<usize>,
-        stop: Option<usize>,
-    ) -> Result<Option<TripNote<'a>>, OutOfMemory>
-        ensures { IfOk result (λ note. note
-            ≡ option_map (note_of_trip trip (kept_row self.now stop)) (value_in self.now.trip_id)) }
+impl ReadStopTime<'_> {
+    // The row as it is kept, before it has the number of its trip; its stop has this number.
+    #[inline(always)]
+    pub(crate) fn kept(&self, stop: Option<usize>) -> Result<StopTime, OutOfMemory>
+        ensures { IfOk result (λ kept. kept ≡ kept_row self.now stop) }
     {
-        match self.trip_id.value() {
-            Some(trip_id) => Ok(Some(TripNote {
-                trip_id,
-                number: trip,
-                kept: self.kept(stop)?,
-            })),
-            None => Ok(None),
+        Ok(StopTime {
+            trip: 0,
+            row: small_number(self.row)?,
+            has_headsign: self.has_headsign,
+            times: self.times(),
+            stop_row: self.stop_row(stop),
+        })
+    }
+
+    // How its times stand.
+    #[inline(always)]
+    fn times(&self) -> Times
+        ensures { result ≡ times_of (is_some (value_in self.now.stop_sequence))
+            (is_fault self.now.arrival_time || is_fault self.now.departure_time) }
+    {
+        if self.stop_sequence.value().is_none() {
+            Times::Unplaced
+        } else if self.arrival_time.is_fault() || self.departure_time.is_fault() {
+            Times::Unclear
+        } else {
+            Times::Clear
         }
     }
 
-    // The row as it is kept, before it has the number of its trip.
-    fn kept(&self, stop: Option<usize>) -> Result<StopTime, OutOfMemory>
-        ensures { IfOk result (λ kept. kept ≡ kept_row self.now stop) }
+    // What the row says, where all is as scheduled that it does not say otherwise.
+    #[inline(always)]
+    fn stop_row(&self, stop: Option<usize>) -> StopRow
+        ensures { result ≡ row_said self.now stop }
     {
-        let times = kept_times(&self.arrival_time, &self.departure_time);
-        let sequence = self.stop_sequence.value();
-        Ok(StopTime {
-            trip: 0,
-            stop: small_number(stop.unwrap_or(0))?,
-            row: small_number(self.row)?,
-            arrival: times.arrival,
-            departure: times.departure,
-            stop_sequence: sequence.unwrap_or(0),
-            times: placed(times.times, sequence.is_some()),
+        StopRow {
+            stop_id: StopNo(stop.unwrap_or(0)),
+            arrival_time: OptionalClock::new(self.arrival_time.value()),
+            departure_time: OptionalClock::new(self.departure_time.value()),
+            stop_sequence: self.stop_sequence.value().unwrap_or(0),
+            stop_headsign: OptionalHeadsign::new(None),
             pickup_type: self.pickup_type.value().unwrap_or(PickupType::Regular),
             drop_off_type: self.drop_off_type.value().unwrap_or(DropOffType::Regular),
             timepoint: self.timepoint.value(),
-            has_headsign: self.has_headsign,
-        })
+        }
     }
 }
 
@@ -140,14 +145,15 @@ impl<'a> StopTimeColumns<'a> {
     {
         let arrival = record.value(self.arrival_time);
         let departure = record.value(self.departure_time);
-        let arrival_time = read_seconds(arrival);
+        let arrival_time = read_clock(arrival);
+        let departure_time = read_beside(departure, arrival, &arrival_time);
         let headsign = record.value(self.stop_headsign);
         ReadStopTime {
             row,
             fields: record.len(),
             trip_id,
             arrival_time,
-            departure_time: read_beside(departure, arrival, arrival_time),
+            departure_time,
             stop_id,
             stop_sequence: read_number(record.value(self.stop_sequence)),
             stop_headsign: fault_in_text(Kind::Text, headsign),

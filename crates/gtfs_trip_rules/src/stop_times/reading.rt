@@ -1,6 +1,6 @@
 ghost use Rattle.std.specs.Prelude.{◌≡◌, option_map, pos};
 ghost use Rattle.gtfs_columns.specs.Columns.{count, time, up_to};
-ghost use Rattle.gtfs_trip_rules.specs.Readings.{code_in, fault_in, fault_of, is_blank, value_in, value_or};
+ghost use Rattle.gtfs_trip_rules.specs.Readings.{code_in, fault_in, fault_of, is_blank, is_fault, value_in, value_or};
 ghost use Rattle.gtfs_trip_rules.specs.StopTimes.{IsReading};
 ghost use Rattle.gtfs_columns.specs.Values.{amount, readable};
 ghost use Rattle.gtfs_table.specs.Rows.{is_empty};
@@ -8,7 +8,7 @@ ghost use Rattle.gtfs_field.specs.Kinds.{count_of};
 ghost use Rattle.gtfs_stop_times.specs.Choices.{drop_off_code, pickup_code, timepoint_code};
 
 use gtfs_columns::{Code, are_equal};
-use gtfs_field::{FieldFault, read_count, read_time};
+use gtfs_field::{Clock, FieldFault, read_count, read_time};
 use gtfs_stop_times::{DropOffType, PickupType, Timepoint};
 
 // What reading a field found.
@@ -30,6 +30,16 @@ impl<V: Copy> Reading<V> {
         }
     }
 
+    pub(crate) fn is_fault(&self) -> bool
+        ensures { result ≡ is_fault self.now }
+    {
+        match self {
+            Reading::Empty => false,
+            Reading::Fault(_) => true,
+            Reading::Value(_) => false,
+        }
+    }
+
     // The value, if there is one.
     pub(crate) fn value(&self) -> Option<V>
         ensures { result ≡ value_in self.now }
@@ -38,6 +48,16 @@ impl<V: Copy> Reading<V> {
             Reading::Empty => None,
             Reading::Fault(_) => None,
             Reading::Value(value) => Some(*value),
+        }
+    }
+
+    pub(crate) fn copied(&self) -> Reading<V>
+        ensures { result ≡ self.now }
+    {
+        match self {
+            Reading::Empty => Reading::Empty,
+            Reading::Fault(code) => Reading::Fault(*code),
+            Reading::Value(value) => Reading::Value(*value),
         }
     }
 
@@ -66,7 +86,7 @@ impl<V: Copy> Reading<V> {
 }
 
 #[inline(always)]
-pub(crate) fn read_seconds(text: &str) -> Reading<u32>
+pub(crate) fn read_clock(text: &str) -> Reading<Clock>
     ensures empty { is_blank result ≡ is_empty text.now }
     ensures fault { fault_in result ≡ fault_of time text.now }
     ensures value { option_map (λ n. amount (pos n)) (value_in result) ≡ readable time text.now }
@@ -75,7 +95,7 @@ pub(crate) fn read_seconds(text: &str) -> Reading<u32>
         return Reading::Empty;
     }
     match read_time(text) {
-        Ok(time) => Reading::Value(time.seconds()),
+        Ok(time) => Reading::Value(time),
         Err(FieldFault::Form) => Reading::Fault(Code::E07),
         Err(FieldFault::Range) => Reading::Fault(Code::E08),
     }
@@ -83,14 +103,14 @@ pub(crate) fn read_seconds(text: &str) -> Reading<u32>
 
 // The same of a time beside another one, which was read already and mostly is the same text.
 #[inline(always)]
-pub(crate) fn read_beside(text: &str, other: &str, read: Reading<u32>) -> Reading<u32>
-    requires { IsReading time (λ n. amount (pos n)) other.now read }
+pub(crate) fn read_beside(text: &str, other: &str, read: &Reading<Clock>) -> Reading<Clock>
+    requires { IsReading time (λ n. amount (pos n)) other.now read.now }
     ensures { IsReading time (λ n. amount (pos n)) text.now result }
 {
     if are_equal(text.as_bytes(), other.as_bytes()) {
-        read
+        read.copied()
     } else {
-        read_seconds(text)
+        read_clock(text)
     }
 }
 

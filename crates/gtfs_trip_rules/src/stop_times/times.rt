@@ -9,7 +9,7 @@ use crate::stop_times::columns::ReadStopTime;
 use crate::stop_times::problem;
 use crate::stop_times::reading::Reading;
 use gtfs_columns::{Code, Found};
-use gtfs_field::OutOfMemory;
+use gtfs_field::{Clock, OutOfMemory};
 
 // Reports a row that is left before it is reached, or that has one of its two times alone.
 pub(crate) fn report_times<'a>(
@@ -31,17 +31,17 @@ pub(crate) fn report_times<'a>(
 }
 
 // Whether both times are there, and the first lies before the second.
-fn is_before(first: Option<u32>, second: Option<u32>) -> bool
+fn is_before(first: Option<Clock>, second: Option<Clock>) -> bool
     ensures { result ≡ if_both (option_map pos first) (option_map pos second) int_lt }
 {
     match (first, second) {
-        (Some(first), Some(second)) => first < second,
+        (Some(first), Some(second)) => first.seconds() < second.seconds(),
         _ => false,
     }
 }
 
 // Whether a time is there beside an empty one.
-fn is_alone(time: &Reading<u32>, other: &Reading<u32>) -> bool
+fn is_alone(time: &Reading<Clock>, other: &Reading<Clock>) -> bool
     ensures { result ≡ (is_blank other.now && is_some (value_in time.now)) }
 {
     other.is_empty() && time.value().is_some()

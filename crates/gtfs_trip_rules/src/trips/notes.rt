@@ -6,9 +6,10 @@ ghost use Rattle.gtfs_table.specs.Tables.{Dataset};
 ghost use Rattle.gtfs_trip_rules.specs.Kept.{AllKeep};
 ghost use Rattle.gtfs_trip_rules.specs.KeptTimes.{is_placed};
 ghost use Rattle.gtfs_trip_rules.specs.TripCounts.{count_of};
-ghost use Rattle.gtfs_trip_rules.specs.TripNotes.{rows_of_notes, times_noted, trip_note, NotesRow};
+ghost use Rattle.gtfs_trip_rules.specs.TripNotes.{rows_of_notes, times_noted, trip_note, AreEarlier, NotesRow};
 ghost use Rattle.gtfs_trip_rules.specs.TripNumbers.{AreRowsNumbered};
 
+use crate::trips::kept::KeptStopTimes;
 use crate::trips::numbers::trip_number;
 use crate::trips::row::{StopTime, small_number};
 use crate::trips::row_counts::{RowCounts, make_room};
@@ -18,22 +19,12 @@ use std::alloc::Global;
 use std::collections::BTreeMap;
 use std::marker::Model;
 
-// A row of stop_times.txt that names a trip, as the rules about trips read it.
-#[derive(Clone, Copy)]
-pub(crate) struct TripNote<'a> {
-    pub(crate) trip_id: &'a str,
-    // The number of the trip, where trips.txt has it.
-    pub(crate) number: Option<usize>,
-    // The row, which has no number of its trip yet.
-    pub(crate) kept: StopTime,
-}
-
 /// What the rows of `stop_times.txt` say of their trips: how many name each trip, and the stop times
 /// that a feed keeps.
 #[derive(Drop)]
 pub struct TripNotes<'a> {
     trips: &'a Ids<'a>,
-    rows: Vec<StopTime>,
+    rows: KeptStopTimes,
     // Whether each row has a sequence.
     are_sequenced: bool,
     // The trips that trips.txt lacks in the order of their numbers, and these. The first row that
@@ -56,12 +47,12 @@ impl<'a> Model for TripNotes<'a> {
 
     ghost view = { λ n. record {
       trips = ids_of n.trips.now;
-      notes = map (note_of (name_at (ids_of n.trips.now) n.names.items)) n.rows.items;
-      rows = n.rows.items;
+      notes = map (note_of (name_at (ids_of n.trips.now) n.names.items)) n.rows;
+      rows = n.rows;
     } };
 
     ghost invariant = { λ n. AreKept (ids_of n.trips.now) n.numbers n.names.items n.counts.items
-        n.are_sequenced n.rows.items };
+        n.are_sequenced n.rows };
 }
 
 impl<'a> TripNotes<'a> {
@@ -76,7 +67,7 @@ impl<'a> TripNotes<'a> {
     {
         Ok(TripNotes {
             trips,
-            rows: Vec::with_capacity(alloc, rows)?,
+            rows: KeptStopTimes::with_room(alloc, rows)?,
             are_sequenced: true,
             names: Vec::new(alloc),
             numbers: BTreeMap::new(alloc),
@@ -84,27 +75,33 @@ impl<'a> TripNotes<'a> {
         })
     }
 
-    // Takes note of one more row.
-    pub(crate) fn note(&mut self, note: TripNote<'a>) -> Result<(), OutOfMemory>
-        requires { note.number ≡ number_among self.old.trips note.trip_id.now }
+    // Takes note of one more row, which comes after those so far. It names this trip, which has this number where trips.txt
+    // has it, and it is kept so once it has the number.
+    pub(crate) fn note(
+        &mut self,
+        trip_id: &'a str,
+        number: Option<usize>,
+        kept: StopTime,
+    ) -> Result<(), OutOfMemory>
+        requires known { number ≡ number_among self.old.trips trip_id.now }
+        requires earlier { AreEarlier kept.row self.old.rows }
         ensures trips { self.new.trips ≡ self.old.trips }
-        ensures notes { OnOk result (self.new.notes ≡ self.old.notes ++ trip_note note.entry ∷ []) }
-        ensures rows { OnOk result (NotesRow note.entry self.old.rows self.new.rows) }
+        ensures notes { OnOk result (self.new.notes ≡ self.old.notes ++ trip_note trip_id.now kept ∷ []) }
+        ensures rows { OnOk result (NotesRow number kept self.old.rows self.new.rows) }
     {
-        let id = note.trip_id;
         let trip = trip_number(
             self.trips,
             &mut self.numbers,
             &mut self.names,
-            id,
-            note.number,
+            trip_id,
+            number,
         )?;
         make_room(&mut self.counts, self.trips.len(), trip)?;
-        let row = note.kept.of_trip(small_number(trip)?);
+        let row = kept.of_trip(small_number(trip)?);
         self.rows.push(row)?;
         let count = &mut self.counts[trip];
         *count = (*count + 1).min(2);
-        self.are_sequenced = self.are_sequenced && row.is_placed();
+        self.are_sequenced = self.are_sequenced && row.times.are_placed();
         Ok(())
     }
 
@@ -122,19 +119,20 @@ impl<'a> TripNotes<'a> {
     }
 
     // The rows that have a sequence, in the file's order.
-    pub(crate) fn into_rows(self) -> Vec<StopTime>
-        ensures numbered { AreRowsNumbered (rows_of_notes self.entry.notes) result.items }
-        ensures placed { All (λ r. is_placed r.times ≡ true) result.items }
-        ensures kept { (d : Dataset) → AllKeep d self.entry.rows → AllKeep d result.items }
+    pub(crate) fn into_rows(self) -> Result<KeptStopTimes, OutOfMemory>
+        ensures numbered { IfOk result (AreRowsNumbered (rows_of_notes self.entry.notes)) }
+        ensures placed { IfOk result (All (λ r. is_placed r.times ≡ true)) }
+        ensures kept { IfOk result (λ rows.
+            (d : Dataset) → AllKeep d self.entry.rows → AllKeep d rows) }
     {
         let TripNotes {
-            mut rows,
+            rows,
             are_sequenced,
             ..
         } = self;
-        if !are_sequenced {
-            rows.retain(|row| row.is_placed());
+        if are_sequenced {
+            return Ok(rows);
         }
-        rows
+        rows.placed()
     }
 }

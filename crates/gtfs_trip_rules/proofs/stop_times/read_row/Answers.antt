@@ -32,10 +32,16 @@ report_row-requires-clause-stop c =
     let new = (c.find-ids.ensures.same c.args.columns.now.tables.now c.requires.named).stops in
     c.find-ids.ensures.stop.row ∙ (λ i. option_and_then (first_row_with ((old ∙ sym new) i)) (text_of (value_in (sym c.stop_time-stop_time.ensures.stop i))))
 
-pub take_note-requires : goal.take_note-requires
-take_note-requires c =
+pub take_note-requires-clause-known : goal.take_note-requires-clause-known
+take_note-requires-clause-known c =
     c.find-ids.ensures.trip.number
     ∙ (λ i. option_and_then (number_among ((ap ids_of c.requires.named.trips ∙ sym c.requires.trips) i)) (text_of (value_in (sym c.stop_time-stop_time.ensures.trip i))))
+
+pub take_note-requires-clause-earlier : goal.take_note-requires-clause-earlier
+take_note-requires-clause-earlier c = rw c.stop_time-stop_time.ensures.says.row c.requires.earlier
+
+pub returns-clause-earlier : goal.returns-clause-earlier
+returns-clause-earlier c = rw c.stop_time-stop_time.ensures.says.row at c.take_note.ensures.earlier
 
 pub returns-in_err-report_row-clause-named : goal.returns-in_err-report_row-clause-named
 returns-in_err-report_row-clause-named c = c.find-ids.ensures.same c.args.columns.now.tables.now c.requires.named

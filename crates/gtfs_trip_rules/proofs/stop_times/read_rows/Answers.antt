@@ -7,6 +7,8 @@ use Rattle.gtfs_trip_rules.specs.StopTimePicks.{in_rows}
 use Rattle.gtfs_trip_rules.specs.StopTimes.{AreStopTimeColumns}
 use Rattle.gtfs_columns.proofs.RowFacts.{reported_all, reported_more, reported_none}
 use Rattle.gtfs_trip_rules.proofs.StopTimePasses.{rows_reported, silent_rows}
+use Rattle.gtfs_trip_rules.specs.TripNotes.{AreEarlier}
+use Rattle.gtfs_trip_rules.proofs.EarlierRows.{before_more, earlier_rows}
 use Rattle.gtfs_trip_rules.proofs.TripStopTimeFacts.{notes_more, trip_notes_read}
 use Rattle.gtfs_trip_rules.proofs.stop_times.read_rows.Goals as goal
 
@@ -17,6 +19,7 @@ loop-row-init c = record {
   trips = ap (λ v. v.trips) c.requires.none ∙ ap ids_of c.requires.ids.network.trips;
   notes = ap (λ v. v.notes) c.requires.none;
   kept = subst (AllKeep c.args.tables.now) (sym (ap (λ v. v.rows) c.requires.none)) (λ k d below. absurd (omega (arith, below)));
+  earlier = λ n all. subst (AreEarlier n) (sym (ap (λ v. v.rows) c.requires.none)) (λ k d below. absurd (omega (arith, below)));
 }
 
 pub read_row-requires-clause-columns : goal.read_row-requires-clause-columns
@@ -35,6 +38,11 @@ read_row-requires-clause-fields c =
     let t = turn c.args.tables.now file.StopTimes _ c.loop-row.yielded _ (c.into_iter-row-iterator.ensures.into_iter_gives ∙ c.rows-row-items.ensures) c.loop-row.yielded_by c.in-Some.row c.in-Some.record _ c.in-Some.ensures.steps in
     rw c.of-columns.ensures.tables t.record_is
 
+pub read_row-requires-clause-earlier : goal.read_row-requires-clause-earlier
+read_row-requires-clause-earlier c =
+    let t = turn c.args.tables.now file.StopTimes _ c.loop-row.yielded _ (c.into_iter-row-iterator.ensures.into_iter_gives ∙ c.rows-row-items.ensures) c.loop-row.yielded_by c.in-Some.row c.in-Some.record _ c.in-Some.ensures.steps in
+    c.loop-row.invariant.earlier c.in-Some.row (earlier_rows c.args.tables.now file.StopTimes c.loop-row.yielded _ c.in-Some.row c.in-Some.record t)
+
 pub read_row-requires-clause-trips : goal.read_row-requires-clause-trips
 read_row-requires-clause-trips c = rw c.of-columns.ensures.tables c.loop-row.invariant.trips
 
@@ -49,6 +57,7 @@ loop-row-preserved c =
       trips = read.trips ∙ c.loop-row.invariant.trips;
       notes = read.notes ∙ notes_more d c.loop-row.yielded n c.in-Some.record _ c.loop-row.invariant.notes;
       kept = read.kept c.loop-row.invariant.kept;
+      earlier = before_more c.loop-row.yielded n c.in-Some.record _ read.earlier;
     }
 
 pub returns-clause-reported : goal.returns-clause-reported

@@ -10,6 +10,7 @@ use Rattle.gtfs_trip_rules.specs.StopTimePicks.{in_rows}
 use Rattle.gtfs_trip_rules.specs.StopTimes.{AreNamedRows}
 use Rattle.gtfs_columns.proofs.RowFacts.{at_rows}
 use Rattle.gtfs_trip_rules.specs.TripTexts.{note_read}
+use Rattle.gtfs_trip_rules.proofs.EarlierRows.{StandBefore}
 use Rattle.gtfs_trip_rules.proofs.stop_times.read_rows.Given as goal
 
 -- what is named, and of the rows so far what was reported and what they say of their trips
@@ -20,4 +21,5 @@ invariant-loop-row l = record {
   trips : l.notes.trips ≡ ids_by_bytes l.tables file.Trips (codes "trip_id");
   notes : l.notes.notes ≡ filter_map (note_read l.tables) (numbers l.yielded);
   kept : AllKeep l.tables l.notes.rows;
+  earlier : StandBefore l.yielded l.notes.rows;
 }

@@ -1,6 +1,7 @@
-use Rattle.std.proofs.Common.{◌≡◌, ◌∙◌, ◌+◌, ◌-◌, ◌++◌, ap, arith, codes, get_or, refl, subst, sym, take}
+use Rattle.std.proofs.Common.{◌≡◌, ◌∙◌, ◌+◌, ◌-◌, ◌<◌, ◌++◌, ap, arith, codes, get_or, length, refl, subst, sym, take}
 use Rattle.std.specs.Prelude.{not, replicate}
 use Rattle.std.proofs.lemmas.List.{take_all}
+use Rattle.std.proofs.lemmas.Option.{get_or_from_slice_get}
 use Rattle.gtfs_table.specs.Rows.{is_empty, records_in}
 use Rattle.gtfs_table.specs.Tables.{record_at}
 use Rattle.gtfs_table.specs.declared.file.File.TheVariants as file
@@ -9,54 +10,54 @@ use Rattle.gtfs_columns.specs.Columns as kind
 use Rattle.gtfs_columns.specs.Reads.{word_of}
 use Rattle.gtfs_parts.specs.Gathering.{AreGathered}
 use Rattle.gtfs_rows.specs.Headsigns.{NamesHeadsign}
+use Rattle.gtfs_rules.specs.StopTimes.{SaysStopTime}
 use Rattle.gtfs_parts.specs.HeadsignIndex.{with_headsign}
-use Rattle.gtfs_parts.proofs.Blank.{blank}
-use Rattle.gtfs_parts.proofs.Gathers.{gathered-next, gathered-none}
-use Rattle.gtfs_parts.proofs.RowSays.{in_time}
+use Rattle.gtfs_parts.proofs.Gathers.{gathered-next, gathered-none, IsOneMore}
 use Rattle.gtfs_parts.proofs.TripRows.{trip_below}
 use Rattle.gtfs_parts.proofs.gathered.Gathered.push_all.Goals as goal
 
 pub text-requires : goal.text-requires
 text-requires c =
     let d = c.args.tables.now in
-    let s = get_or c.args.stop_times.now c.loop-stop_time.stop_time-index blank in
-    (c.requires.stop_times.say c.loop-stop_time.stop_time-index blank c.loop-stop_time-test.true).has_headsign
+    let ss = c.args.stop_times.now in
+    let at = c.loop-at.at in
+    let s = c.get-stop_time.result in
+    let said : SaysStopTime d s = subst (SaysStopTime d) (get_or_from_slice_get ss at s s c.get-stop_time.ensures) (c.requires.stop_times.say at s c.loop-at-test.true) in
+    said.has_headsign
     ∙ ap (λ t. not (is_empty t)) (sym (value_is (records_in d file.StopTimes) s.row (record_at (records_in d file.StopTimes) s.row) (codes "stop_headsign") c.column-column.result refl c.column-column.ensures))
 
-pub overflow_add-stop_time : goal.overflow_add-stop_time
-overflow_add-stop_time c =
-    let s = get_or c.args.stop_times.now c.loop-stop_time.stop_time-index blank in
-    let below = trip_below c.args.tables.now c.args.stop_times.now c.requires.stop_times c.requires.passes s (c.requires.stop_times.say c.loop-stop_time.stop_time-index blank c.loop-stop_time-test.true) in
+pub overflow_add-at : goal.overflow_add-at
+overflow_add-at c =
+    let d = c.args.tables.now in
+    let ss = c.args.stop_times.now in
+    let at = c.loop-at.at in
+    let s = c.get-stop_time.result in
+    let said : SaysStopTime d s = subst (SaysStopTime d) (get_or_from_slice_get ss at s s c.get-stop_time.ensures) (c.requires.stop_times.say at s c.loop-at-test.true) in
+    let below = trip_below d ss c.requires.stop_times c.requires.passes s said in
     omega (arith, below, c.requires.empty.trips)
 
-pub loop-stop_time-init : goal.loop-stop_time-init
-loop-stop_time-init c = gathered-none c.args.tables.now c.args.self.now c.requires.empty
+pub loop-at-init : goal.loop-at-init
+loop-at-init c = gathered-none c.args.tables.now c.args.self.now c.requires.empty
 
-pub loop-stop_time-preserved : goal.loop-stop_time-preserved
-loop-stop_time-preserved c =
+pub loop-at-preserved : goal.loop-at-preserved
+loop-at-preserved c =
     let d = c.args.tables.now in
-    let i = c.loop-stop_time.stop_time-index in
-    let s = get_or c.args.stop_times.now i blank in
+    let ss = c.args.stop_times.now in
+    let at = c.loop-at.at in
+    let s = c.get-stop_time.result in
     let text = c.text.ensures ∙ value_is (records_in d file.StopTimes) s.row (record_at (records_in d file.StopTimes) s.row) (codes "stop_headsign") c.column-column.result refl c.column-column.ensures in
-    let g = c.loop-stop_time.self in
-    gathered-next d c.requires.passes c.args.stop_times.now c.requires.stop_times i blank c.loop-stop_time-test.true _ _ c.loop-stop_time.invariant
-    (record {
-      headsign = c.in_ok-headsign.headsign;
-      row = c.stop_row.result;
+    let g = c.loop-at.self in
+    gathered-next d c.requires.passes ss c.requires.stop_times at s c.loop-at-test.true _ _ c.loop-at.invariant
+    (subst (λ r. IsOneMore d r g _) (sym (get_or_from_slice_get ss at s s c.get-stop_time.ensures)) (record {
+      headsign = c.in_ok-stop_headsign.stop_headsign;
       trips = refl;
-      added = c.in_ok-headsign.ensures.added;
-      kept = c.in_ok-headsign.ensures.kept;
-      texts = subst (λ t. c.number.new.self.texts ≡ with_headsign g.headsigns.texts (word_of kind.text t)) text c.in_ok-headsign.ensures.texts;
-      names = subst (λ t. NamesHeadsign c.number.new.self.texts c.in_ok-headsign.headsign (word_of kind.text t)) text c.in_ok-headsign.ensures.named;
+      added = c.in_ok-stop_headsign.ensures.added;
+      kept = c.in_ok-stop_headsign.ensures.kept;
+      texts = subst (λ t. c.number.new.self.texts ≡ with_headsign g.headsigns.texts (word_of kind.text t)) text c.in_ok-stop_headsign.ensures.texts;
+      names = subst (λ t. NamesHeadsign c.number.new.self.texts c.in_ok-stop_headsign.stop_headsign (word_of kind.text t)) text c.in_ok-stop_headsign.ensures.named;
       starts = c.in_ok-resize.ensures.items ∙ (λ j. take (s.trip + 1) g.starts.items ++ replicate (s.trip + 1 - g.starts.ok.0 j) ((c.len.ensures ∙ g.rows.ok.0) j));
       rows = c.in_ok-push.ensures.items;
-      says = c.stop_row.ensures;
-    })
-
-pub stop_row-requires : goal.stop_row-requires
-stop_row-requires c =
-    let s = get_or c.args.stop_times.now c.loop-stop_time.stop_time-index blank in
-    in_time c.args.tables.now c.requires.passes s (c.requires.stop_times.say c.loop-stop_time.stop_time-index blank c.loop-stop_time-test.true)
+    }))
 
 pub returns : goal.returns
-returns c = subst (λ ss. AreGathered c.args.tables.now ss c.loop-stop_time.self) (take_all c.loop-stop_time.stop_time-index c.args.stop_times.now c.loop-stop_time-test.false) c.loop-stop_time.invariant
+returns c = subst (λ ss. AreGathered c.args.tables.now ss c.loop-at.self) (take_all c.loop-at.at c.args.stop_times.now c.loop-at-test.false) c.loop-at.invariant

@@ -4,8 +4,8 @@ use Rattle.std.specs.List.Sorted.{IsSortedWithin}
 use Rattle.gtfs_table.specs.Tables.{Dataset}
 use Rattle.gtfs_columns.specs.Problems.{Problem}
 use Rattle.gtfs_trip_rules.specs.TripNumbers.{AllNumbered}
-use Rattle.gtfs_trip_rules.specs.TripOrder.{last_left, AreInOrder}
-use Rattle.gtfs_trip_rules.proofs.TripReports.{rows_before, AreFaultless}
+use Rattle.gtfs_trip_rules.specs.TripOrder.{last_left, rows_before, AreInOrder}
+use Rattle.gtfs_trip_rules.proofs.TripReports.{AreFaultless}
 use Rattle.gtfs_trip_rules.proofs.TripSorted.{below}
 use Rattle.gtfs_trip_rules.proofs.trips.order.are_faultless.Given as goal
 

@@ -2,8 +2,8 @@ use Rattle.std.specs.Prelude.{codes}
 use Rattle.gtfs_table.specs.Tables.{Dataset}
 use Rattle.gtfs_columns.specs.declared.code.Code.TheVariants as code
 use Rattle.gtfs_columns.specs.steps.Found.{Reports}
-use Rattle.gtfs_trip_rules.specs.TripOrder.{AreInOrder}
-use Rattle.gtfs_trip_rules.proofs.TripReports.{rows_before, seen}
+use Rattle.gtfs_trip_rules.specs.TripOrder.{rows_before, AreInOrder}
+use Rattle.gtfs_trip_rules.proofs.TripReports.{seen}
 use Rattle.gtfs_trip_rules.proofs.trips.order.report_repeats.Given as goal
 
 -- the rows so far

@@ -4,8 +4,8 @@ use Rattle.gtfs_table.specs.Tables.{Dataset}
 use Rattle.gtfs_columns.specs.declared.code.Code.TheVariants as code
 use Rattle.gtfs_columns.specs.steps.Found.{Reports}
 use Rattle.gtfs_trip_rules.specs.TripNumbers.{AllNumbered}
-use Rattle.gtfs_trip_rules.specs.TripOrder.{last_left, AreInOrder}
-use Rattle.gtfs_trip_rules.proofs.TripReports.{rows_before, seen}
+use Rattle.gtfs_trip_rules.specs.TripOrder.{last_left, rows_before, AreInOrder}
+use Rattle.gtfs_trip_rules.proofs.TripReports.{seen}
 use Rattle.gtfs_trip_rules.proofs.trips.order.report_times_back.Given as goal
 
 -- the rows so far, and when the last of them left its trip

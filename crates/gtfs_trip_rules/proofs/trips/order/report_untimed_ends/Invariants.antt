@@ -4,8 +4,8 @@ use Rattle.gtfs_table.specs.Tables.{Dataset}
 use Rattle.gtfs_columns.specs.declared.code.Code.TheVariants as code
 use Rattle.gtfs_columns.specs.steps.Found.{Reports}
 use Rattle.gtfs_trip_rules.specs.TripNumbers.{AllNumbered}
-use Rattle.gtfs_trip_rules.specs.TripOrder.{ends, AreInOrder}
-use Rattle.gtfs_trip_rules.proofs.TripReports.{rows_from, seen}
+use Rattle.gtfs_trip_rules.specs.TripOrder.{ends, rows_from, AreInOrder}
+use Rattle.gtfs_trip_rules.proofs.TripReports.{seen}
 use Rattle.gtfs_trip_rules.proofs.trips.order.report_untimed_ends.Given as goal
 
 -- the rows so far, and whether no later row of the trip of the first of them has a greater sequence

@@ -1,55 +1,43 @@
-use Rattle.std.proofs.Common.{◌≡◌, ◌∙◌, filter, of_calls, rules, ap, map, subst, sym, true}
-use Rattle.std.proofs.lemmas.Fn.{filter_same}
-use Rattle.std.specs.Option.{unwrap_or}
+use Rattle.std.proofs.Common.{◌≡◌, ap, subst, sym, true}
+use Rattle.std.specs.List.{All}
+use Rattle.std.proofs.lemmas.Result.{IfOk-weaker}
 use Rattle.gtfs_columns.specs.steps.Ids.{ids_of}
+use Rattle.gtfs_table.specs.Tables.{Dataset}
+use Rattle.gtfs_trip_rules.specs.Kept.{AllKeep}
 use Rattle.gtfs_trip_rules.specs.KeptTimes.{is_placed}
 use Rattle.gtfs_trip_rules.specs.TripNotes.{rows_of_notes}
-use Rattle.gtfs_trip_rules.specs.TripNumbers.{AllNumbered, name_at, number_of_trip}
-use Rattle.gtfs_trip_rules.specs.TripStopTimes.{trip_stop_time}
-use Rattle.std.specs.List.{All}
-use Rattle.std.proofs.lemmas.List.Elements.{All-filter, filter_passes}
-use Rattle.gtfs_trip_rules.specs.Kept.{AllKeep, Keeps}
+use Rattle.gtfs_trip_rules.specs.TripNumbers.{AreRowsNumbered}
 use Rattle.gtfs_trip_rules.proofs.TripCountFacts.{all_pass}
-use Rattle.gtfs_trip_rules.proofs.TripNumberFacts.{kept_numbers}
-use Rattle.gtfs_trip_rules.proofs.TripStopTimeFacts.{rows_kept}
-use Rattle.gtfs_trip_rules.proofs.trips.notes.TripNotes.into_rows.Goals.{then-not-are_sequenced, else-not-are_sequenced}
+use Rattle.gtfs_trip_rules.proofs.TripPlaced.{placed_each, placed_keep, placed_numbered, placed_of}
 use Rattle.gtfs_trip_rules.proofs.trips.notes.TripNotes.into_rows.Goals as goal
 
 pub returns-clause-numbered : goal.returns-clause-numbered
 returns-clause-numbered c =
-    let trips = ids_of c.self.inside.trips.now in
-    let numbers = c.self.inside.numbers in
-    let name = name_at trips c.self.inside.names.items in
-    let all = c.self.inside.rows.items in
-    let kept : c.if-not-are_sequenced.rows.items ≡ filter (λ r. is_placed r.times) all = elim c.if-not-are_sequenced.branch [
-      | then-not-are_sequenced w ↦ ap (λ v. v.items) w.rows-is ∙ filter_same _ (λ r. is_placed r.times) _ (λ x b f' k. search (rules, of_calls)) _ _ w.retain.ensures.filtered
-      | else-not-are_sequenced w ↦ ap (λ v. v.items) w.rows-is ∙ sym (all_pass (λ r. is_placed r.times) all (c.self.invariant.located w.if-not-are_sequenced.false))
-    ] in
-    record {
-      number = λ id. unwrap_or (number_of_trip trips numbers id) 0;
-      name = name;
-      numbered = subst (AllNumbered (λ id. unwrap_or (number_of_trip trips numbers id) 0) name) (sym kept) (kept_numbers trips numbers c.self.inside.names.items all (λ r. is_placed r.times) c.self.invariant.numbered);
-      same = ap (map (trip_stop_time name)) kept ∙ rows_kept name all ∙ ap (λ v. rows_of_notes v.notes) c.self.view_is;
-    }
+    let n = c.self.inside in
+    IfOk-weaker c.placed.result (λ rows. rows ≡ placed_of n.rows) (AreRowsNumbered (rows_of_notes c.args.self.notes))
+    (λ rows are. subst (λ ns. AreRowsNumbered ns rows) (ap (λ v. rows_of_notes v.notes) c.self.view_is)
+    (placed_numbered n.rows rows are (ids_of n.trips.now) n.numbers n.names.items c.self.invariant.numbered)) c.placed.ensures
 
 pub returns-clause-placed : goal.returns-clause-placed
 returns-clause-placed c =
-    let all = c.self.inside.rows.items in
-    elim c.if-not-are_sequenced.branch [
-      | then-not-are_sequenced w ↦
-          let kept = ap (λ v. v.items) w.rows-is ∙ filter_same _ (λ r. is_placed r.times) _ (λ x b f' k. search (rules, of_calls)) _ _ w.retain.ensures.filtered in
-          subst (All (λ r. is_placed r.times ≡ true)) (sym kept) (filter_passes (λ r. is_placed r.times) all)
-      | else-not-are_sequenced w ↦
-          subst (All (λ r. is_placed r.times ≡ true)) (sym (ap (λ v. v.items) w.rows-is)) (c.self.invariant.located w.if-not-are_sequenced.false)
-    ]
+    let n = c.self.inside in
+    IfOk-weaker c.placed.result (λ rows. rows ≡ placed_of n.rows) (All (λ r. is_placed r.times ≡ true)) (placed_each n.rows) c.placed.ensures
 
 pub returns-clause-kept : goal.returns-clause-kept
-returns-clause-kept c = λ d each.
-    let all = c.self.inside.rows.items in
-    let here : AllKeep d all = subst (AllKeep d) (sym (ap (λ v. v.rows) c.self.view_is)) each in
-    elim c.if-not-are_sequenced.branch [
-      | then-not-are_sequenced w ↦
-          let kept = ap (λ v. v.items) w.rows-is ∙ filter_same _ (λ r. is_placed r.times) _ (λ x b f' k. search (rules, of_calls)) _ _ w.retain.ensures.filtered in
-          subst (AllKeep d) (sym kept) (All-filter (λ r. is_placed r.times) (Keeps d) all here)
-      | else-not-are_sequenced w ↦ subst (AllKeep d) (sym (ap (λ v. v.items) w.rows-is)) here
-    ]
+returns-clause-kept c =
+    let n = c.self.inside in
+    IfOk-weaker c.placed.result (λ rows. rows ≡ placed_of n.rows) (λ rows. (d : Dataset) → AllKeep d c.args.self.rows → AllKeep d rows)
+    (λ rows are d each. placed_keep n.rows rows are d (subst (AllKeep d) (sym (ap (λ v. v.rows) c.self.view_is)) each)) c.placed.ensures
+
+pub returns-then-are_sequenced-clause-numbered : goal.returns-then-are_sequenced-clause-numbered
+returns-then-are_sequenced-clause-numbered c =
+    let n = c.self.inside in
+    let are : n.rows ≡ placed_of n.rows = sym (all_pass (λ r. is_placed r.times) n.rows (c.self.invariant.located c.if-are_sequenced.true)) in
+    subst (λ ns. AreRowsNumbered ns n.rows) (ap (λ v. rows_of_notes v.notes) c.self.view_is)
+    (placed_numbered n.rows n.rows are (ids_of n.trips.now) n.numbers n.names.items c.self.invariant.numbered)
+
+pub returns-then-are_sequenced-clause-placed : goal.returns-then-are_sequenced-clause-placed
+returns-then-are_sequenced-clause-placed c = c.self.invariant.located c.if-are_sequenced.true
+
+pub returns-then-are_sequenced-clause-kept : goal.returns-then-are_sequenced-clause-kept
+returns-then-are_sequenced-clause-kept c = λ d each. subst (AllKeep d) (sym (ap (λ v. v.rows) c.self.view_is)) each

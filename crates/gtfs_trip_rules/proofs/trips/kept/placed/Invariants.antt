@@ -1,0 +1,7 @@
+use Rattle.std.proofs.Common.{◌≡◌, filter, get_or, take}
+use Rattle.gtfs_trip_rules.specs.KeptLists.{no_note}
+use Rattle.gtfs_trip_rules.specs.KeptTimes.{is_placed}
+use Rattle.gtfs_trip_rules.proofs.trips.kept.placed.Given as goal
+
+abbrev pub invariant-loop-row : goal.invariant-loop-row
+invariant-loop-row l = l.rows.items ≡ filter (λ n. is_placed (get_or l.notes n no_note).times) (take l.row-index l.order)

@@ -1,0 +1,52 @@
+-- Stop times as they are kept: the rows of the file by their numbers, what is noted of each, and the numbers of those that are stop times.
+use Rattle.std.specs.Prelude.{◌≡◌, ◌<◌, ℕ, false, List, length, map, slice_index_or, None}
+use Rattle.std.specs.List.{All}
+use Rattle.gtfs_stop_times.specs.declared.choices.DropOffType.TheVariants as drop_off
+use Rattle.gtfs_stop_times.specs.declared.choices.PickupType.TheVariants as pickup
+use Rattle.gtfs_stop_times.specs.declared.stop_row.StopRow.{StopRow}
+use Rattle.gtfs_trip_rules.specs.declared.trips.kept.RowNote.{RowNote}
+use Rattle.gtfs_trip_rules.specs.declared.trips.row.StopTime.{StopTime}
+use Rattle.gtfs_trip_rules.specs.declared.trips.row.Times.TheVariants as times
+
+-- what stands where a list has nothing
+abbrev pub no_row : StopRow
+no_row = record {
+  stop_id = record { 0 = 0 };
+  arrival_time = None;
+  departure_time = None;
+  stop_sequence = 0;
+  stop_headsign = None;
+  pickup_type = pickup.Regular;
+  drop_off_type = drop_off.Regular;
+  timepoint = None;
+}
+
+abbrev pub no_note : RowNote
+no_note = record { trip = 0; has_headsign = false; times = times.Unplaced }
+
+-- a row with what is noted of it
+abbrev pub noted_row : ℕ → StopRow → RowNote → StopTime
+noted_row n row note = record {
+  trip = note.trip;
+  row = n;
+  has_headsign = note.has_headsign;
+  times = note.times;
+  stop_row = row;
+}
+
+-- the stop time of a row
+abbrev pub stop_time_at : List StopRow → List RowNote → ℕ → StopTime
+stop_time_at rows notes n = noted_row n (slice_index_or rows n no_row) (slice_index_or notes n no_note)
+
+abbrev pub stop_times_at : List StopRow → List RowNote → List ℕ → List StopTime
+stop_times_at rows notes order = map (stop_time_at rows notes) order
+
+-- each number is that of a row
+pub record AreListed (rows : List StopRow) (notes : List RowNote) (order : List ℕ) : Type 0 where
+  pub in_rows : All (λ n. n < length rows) order
+  pub in_notes : All (λ n. n < length notes) order
+
+-- the items before an index stay
+pub record KeepsBefore {X : Type 0} (at : ℕ) (old new : List X) : Type 0 where
+  pub same : (n : ℕ) (z : X) → n < at → n < length old → slice_index_or new n z ≡ slice_index_or old n z
+  pub there : (n : ℕ) → n < at → n < length old → n < length new

@@ -1,0 +1,177 @@
+ghost use Rattle.std.specs.Prelude.{◌≡◌, ◌<◌, ◌∷◌, ◌++◌, [], filter, length, slice_get, slice_index_or, IfOk, IsPermutation, OnErr, OnOk, Some};
+ghost use Rattle.std.specs.List.Sorted.{IsSorted};
+ghost use Rattle.gtfs_trip_rules.specs.KeptLists.{no_note, KeepsBefore};
+ghost use Rattle.gtfs_trip_rules.specs.KeptTimes.{is_placed};
+ghost use Rattle.gtfs_trip_rules.specs.TripNotes.{AreEarlier};
+ghost use Rattle.gtfs_trip_rules.specs.TripOrder.{kept_cmp};
+
+use crate::trips::places::by_places;
+use crate::trips::ranks::{Ranks, ascend};
+use crate::trips::row::{StopTime, Times};
+use crate::trips::stretches::by_stretches;
+use gtfs_field::OutOfMemory;
+use gtfs_stop_times::StopRow;
+use std::alloc::Global;
+use std::marker::Model;
+
+// What is noted of a row beside what it says.
+#[derive(Clone, Copy)]
+pub(crate) struct RowNote {
+    pub(crate) trip: u32,
+    pub(crate) has_headsign: bool,
+    pub(crate) times: Times,
+}
+
+/// Stop times in an order, each a row of `stop_times.txt` with its trip. The rows themselves stay in the order of the
+/// file, whichever order the stop times are in.
+#[derive(Drop)]
+pub struct KeptStopTimes {
+    // By the numbers of rows. At a number that is not that of a row stands any.
+    rows: Vec<StopRow>,
+    notes: Vec<RowNote>,
+    // The numbers of the rows, in the order of the stop times.
+    order: Vec<u32>,
+}
+
+impl Model for KeptStopTimes {
+    ghost use Rattle.std.specs.Prelude.{List};
+    ghost use Rattle.gtfs_trip_rules.specs.declared.trips.row.StopTime.{StopTime as StopTimeValue};
+    ghost use Rattle.gtfs_trip_rules.specs.KeptLists.{stop_times_at, AreListed};
+
+    ghost Value = { List StopTimeValue };
+
+    ghost view = { λ k. stop_times_at k.rows.items k.notes.items k.order.items };
+
+    ghost invariant = { λ k. AreListed k.rows.items k.notes.items k.order.items };
+}
+
+impl KeptStopTimes {
+    // None yet, and room for those of a file with this many records.
+    pub(crate) fn with_room(alloc: Global, records: usize) -> Result<KeptStopTimes, OutOfMemory>
+        ensures { IfOk result (λ kept. kept ≡ []) }
+    {
+        // Records have their numbers from 1.
+        let end = records.saturating_add(1);
+        Ok(KeptStopTimes {
+            rows: Vec::with_capacity(alloc, end)?,
+            notes: Vec::with_capacity(alloc, end)?,
+            order: Vec::with_capacity(alloc, records)?,
+        })
+    }
+
+    // Adds a stop time, whose row comes after those of all others.
+    pub(crate) fn push(&mut self, stop_time: StopTime) -> Result<(), OutOfMemory>
+        requires { AreEarlier stop_time.row self.old }
+        ensures added { OnOk result (self.new ≡ self.old ++ stop_time ∷ []) }
+        ensures kept { OnErr result (self.new ≡ self.old) }
+    {
+        let note = RowNote {
+            trip: stop_time.trip,
+            has_headsign: stop_time.has_headsign,
+            times: stop_time.times,
+        };
+        put(&mut self.rows, stop_time.row as usize, stop_time.stop_row)?;
+        put(&mut self.notes, stop_time.row as usize, note)?;
+        self.order.push(stop_time.row)?;
+        Ok(())
+    }
+
+    /// How many there are.
+    pub fn len(&self) -> usize
+        ensures { result ≡ length self.now }
+    {
+        self.order.len()
+    }
+
+    /// The stop time at an index.
+    #[inline(always)]
+    pub fn get(&self, at: usize) -> StopTime
+        requires { at < length self.now }
+        ensures { slice_get self.now at ≡ Some result }
+    {
+        let row = self.order[at];
+        let note = self.notes[row as usize];
+        StopTime {
+            trip: note.trip,
+            row,
+            has_headsign: note.has_headsign,
+            times: note.times,
+            stop_row: self.rows[row as usize],
+        }
+    }
+
+    // Those whose rows have a sequence.
+    pub(crate) fn placed(self) -> Result<KeptStopTimes, OutOfMemory>
+        ensures { IfOk result (λ kept. kept ≡ filter (λ r. is_placed r.times) self) }
+    {
+        let KeptStopTimes { rows, notes, order } = self;
+        let order = placed(*order.allocator(), &notes, &order)?;
+        Ok(KeptStopTimes { rows, notes, order })
+    }
+
+    // The same by trip, sequence and row.
+    pub(crate) fn in_order(self) -> Result<KeptStopTimes, OutOfMemory>
+        ensures sorted { IfOk result (IsSorted kept_cmp) }
+        ensures moved { IfOk result (IsPermutation self) }
+    {
+        let kept = self.moved();
+        if ascend(&kept) {
+            return Ok(kept);
+        }
+        kept.sorted()
+    }
+
+    // The same, where that is cheap in their order, if trips do not alternate.
+    fn moved(self) -> KeptStopTimes
+        ensures { IsPermutation self result }
+    {
+        let KeptStopTimes { rows, notes, order } = self;
+        let order = by_stretches(&Ranks::of(&rows, &notes), order);
+        KeptStopTimes { rows, notes, order }
+    }
+
+    // The same in their order.
+    fn sorted(self) -> Result<KeptStopTimes, OutOfMemory>
+        ensures sorted { IfOk result (IsSorted kept_cmp) }
+        ensures moved { IfOk result (IsPermutation self) }
+    {
+        let KeptStopTimes { rows, notes, order } = self;
+        let order = by_places(&Ranks::of(&rows, &notes), order)?;
+        Ok(KeptStopTimes { rows, notes, order })
+    }
+}
+
+// Puts an item at an index, at or before which nothing is kept. It stands at all indices on the way there.
+fn put<T: Copy>(list: &mut Vec<T>, at: usize, item: T) -> Result<(), OutOfMemory>
+    ensures before { KeepsBefore at list.old.items list.new.items }
+    ensures here { OnOk result ((z : T) → slice_index_or list.new.items at z ≡ item) }
+    ensures long { OnOk result (at < length list.new.items) }
+{
+    list.resize(at, item)?;
+    list.push(item)?;
+    Ok(())
+}
+
+// Of these numbers those of rows with a sequence.
+fn placed(alloc: Global, notes: &[RowNote], order: &[u32]) -> Result<Vec<u32>, OutOfMemory>
+    ensures { IfOk result (λ rows. rows.items
+        ≡ filter (λ n. is_placed (slice_index_or notes.now n no_note).times) order.now) }
+{
+    let mut rows = Vec::new(alloc);
+    for row in order {
+        if is_placed(notes, *row) {
+            rows.push(*row)?;
+        }
+    }
+    Ok(rows)
+}
+
+// Whether a row has a sequence.
+fn is_placed(notes: &[RowNote], row: u32) -> bool
+    ensures { result ≡ is_placed (slice_index_or notes.now row no_note).times }
+{
+    match notes.get(row as usize) {
+        Some(note) => note.times.are_placed(),
+        None => false,
+    }
+}

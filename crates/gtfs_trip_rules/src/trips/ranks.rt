@@ -1,0 +1,96 @@
+ghost use Rattle.std.specs.Prelude.{◌≡◌, ◌+◌, ◌*◌, ◌<◌, ◌^◌, length, slice_index_or, take, true};
+ghost use Rattle.std.specs.List.Sorted.{IsSorted};
+ghost use Rattle.gtfs_trip_rules.specs.KeptLists.{stop_time_at};
+ghost use Rattle.gtfs_trip_rules.specs.TripOrder.{falls, kept_cmp, rank};
+ghost use Rattle.gtfs_trip_rules.specs.declared.trips.row.StopTime.{StopTime as StopTimeValue};
+
+use crate::trips::kept::{KeptStopTimes, RowNote};
+use crate::trips::row::StopTime;
+use gtfs_stop_times::StopRow;
+use std::cmp::Ordering;
+
+// The ranks of rows, which stand in lists by their numbers.
+#[derive(Clone, Copy)]
+pub(crate) struct Ranks<'a> {
+    pub(crate) rows: &'a [StopRow],
+    pub(crate) notes: &'a [RowNote],
+}
+
+impl<'a> Ranks<'a> {
+    #[inline(always)]
+    pub(crate) fn of(rows: &'a [StopRow], notes: &'a [RowNote]) -> Ranks<'a>
+        ensures rows { result.rows.now ≡ rows.now }
+        ensures notes { result.notes.now ≡ notes.now }
+    {
+        Ranks { rows, notes }
+    }
+
+    // The rank of a row: 0 where the lists have none.
+    #[inline(always)]
+    pub(crate) fn rank(&self, row: u32) -> u64
+        ensures value { result ≡ rank (stop_time_at self.now.rows.now self.now.notes.now row) }
+        ensures sequence { (stop_time_at self.now.rows.now self.now.notes.now row).stop_row.stop_sequence < 2 ^ 32 }
+    {
+        let trip = self.trip(row);
+        let sequence = self.sequence(row);
+        ranked(trip, sequence)
+    }
+
+    fn trip(&self, row: u32) -> u32
+        ensures { result ≡ (stop_time_at self.now.rows.now self.now.notes.now row).trip }
+    {
+        match self.notes.get(row as usize) {
+            Some(note) => note.trip,
+            None => 0,
+        }
+    }
+
+    fn sequence(&self, row: u32) -> u32
+        ensures { result
+            ≡ (stop_time_at self.now.rows.now self.now.notes.now row).stop_row.stop_sequence }
+    {
+        match self.rows.get(row as usize) {
+            Some(stop_row) => stop_row.stop_sequence,
+            None => 0,
+        }
+    }
+}
+
+// A number that grows with the trip, and within a trip with the sequence: one comparison in place of two.
+#[inline(always)]
+fn ranked(trip: u32, sequence: u32) -> u64
+    ensures value { result ≡ trip * 2 ^ 32 + sequence }
+    ensures sequence { sequence < 2 ^ 32 }
+{
+    (u64::from(trip) << 32) + u64::from(sequence)
+}
+
+pub(crate) fn order(a: &StopTime, b: &StopTime) -> Ordering
+    ensures { result ≡ kept_cmp a.now b.now }
+{
+    let rank = ranked(a.trip, a.stop_row.stop_sequence);
+    let other = ranked(b.trip, b.stop_row.stop_sequence);
+    rank.cmp(&other).then(a.row.cmp(&b.row))
+}
+
+// Whether a stop time stands below the one before it.
+#[inline(always)]
+pub(crate) fn falls(rows: &KeptStopTimes, at: usize) -> bool
+    requires { at < length rows.now }
+    ensures { (z : StopTimeValue) → result
+        ≡ falls (take at rows.now) (slice_index_or rows.now at z) }
+{
+    at > 0 && order(&rows.get(at), &rows.get(at - 1)).is_lt()
+}
+
+// Whether all stand in their order.
+pub(crate) fn ascend(rows: &KeptStopTimes) -> bool
+    ensures { result ≡ true → IsSorted kept_cmp rows.now }
+{
+    for at in 0..rows.len() {
+        if falls(rows, at) {
+            return false;
+        }
+    }
+    true
+}
