@@ -38,11 +38,7 @@ impl<'a> Model for Report<'a> {
 impl<'a> Report<'a> {
     // The report of the problems that were found, which are all that the tables have, and the stop
     // times that were read.
-    pub(crate) fn new(
-        tables: &'a Tables,
-        found: Found<'a>,
-        stop_times: KeptStopTimes,
-    ) -> Report<'a>
+    pub(crate) fn new(tables: &'a Tables, found: Found<'a>, stop_times: KeptStopTimes) -> Report<'a>
         requires found { ListsAll tables.now found }
         requires stop_times { AreKeptOf tables.now stop_times }
         ensures { result.dataset ≡ tables.now }
