@@ -176,10 +176,10 @@ module _ (d : Dataset) (passes : Passes d) (all : List StopTime) (are : AreStopT
       subst (λ r. r.trip ≤ (get_or all i e).trip) (sym (get_or-take i all k f low))
       (subst (λ s. (get_or all k f).trip ≤ s.trip) (get_or_default all i f e within) lower)
 
-  pub gathered-next : (g new : Gathered) → AreGathered d (take i all) g → IsOneMore d (get_or all i e) g new → AreGathered d (take (i + 1) all) new
-  gathered-next g new so_far more =
+  pub gathered-next : (s : StopTime) → get_or all i e ≡ s → (g new : Gathered) → AreGathered d (take i all) g → IsOneMore d s g new → AreGathered d (take (i + 1) all) new
+  gathered-next s here g new so_far more =
       subst (λ ss. AreGathered d ss new) (sym (take_more all i e within))
-      (gathered-more d passes (take i all) (get_or all i e) g new so_far (are.say i e within) before more)
+      (gathered-more d passes (take i all) (get_or all i e) g new so_far (are.say i e within) before (subst (λ r. IsOneMore d r g new) (sym here) more))
 
 -- ---- all
 

@@ -12,7 +12,7 @@ use Rattle.gtfs_parts.specs.Gathering.{AreGathered}
 use Rattle.gtfs_rows.specs.Headsigns.{NamesHeadsign}
 use Rattle.gtfs_rules.specs.StopTimes.{SaysStopTime}
 use Rattle.gtfs_parts.specs.HeadsignIndex.{with_headsign}
-use Rattle.gtfs_parts.proofs.Gathers.{gathered-next, gathered-none, IsOneMore}
+use Rattle.gtfs_parts.proofs.Gathers.{gathered-next, gathered-none}
 use Rattle.gtfs_parts.proofs.TripRows.{trip_below}
 use Rattle.gtfs_parts.proofs.gathered.Gathered.push_all.Goals as goal
 
@@ -22,17 +22,19 @@ text-requires c =
     let ss = c.args.stop_times.now in
     let at = c.loop-at.at in
     let s = c.get-stop_time.result in
-    let said : SaysStopTime d s = subst (SaysStopTime d) (get_or_from_slice_get ss at s s c.get-stop_time.ensures) (c.requires.stop_times.say at s c.loop-at-test.true) in
+    let within : at < length ss = omega (arith, c.loop-at-test.true, c.len-at-end.ensures) in
+    let said : SaysStopTime d s = subst (SaysStopTime d) (get_or_from_slice_get ss at s s c.get-stop_time.ensures) (c.requires.stop_times.say at s within) in
     said.has_headsign
     ∙ ap (λ t. not (is_empty t)) (sym (value_is (records_in d file.StopTimes) s.row (record_at (records_in d file.StopTimes) s.row) (codes "stop_headsign") c.column-column.result refl c.column-column.ensures))
 
-pub overflow_add-at : goal.overflow_add-at
-overflow_add-at c =
+pub overflow_add-stop_time : goal.overflow_add-stop_time
+overflow_add-stop_time c =
     let d = c.args.tables.now in
     let ss = c.args.stop_times.now in
     let at = c.loop-at.at in
     let s = c.get-stop_time.result in
-    let said : SaysStopTime d s = subst (SaysStopTime d) (get_or_from_slice_get ss at s s c.get-stop_time.ensures) (c.requires.stop_times.say at s c.loop-at-test.true) in
+    let within : at < length ss = omega (arith, c.loop-at-test.true, c.len-at-end.ensures) in
+    let said : SaysStopTime d s = subst (SaysStopTime d) (get_or_from_slice_get ss at s s c.get-stop_time.ensures) (c.requires.stop_times.say at s within) in
     let below = trip_below d ss c.requires.stop_times c.requires.passes s said in
     omega (arith, below, c.requires.empty.trips)
 
@@ -45,10 +47,11 @@ loop-at-preserved c =
     let ss = c.args.stop_times.now in
     let at = c.loop-at.at in
     let s = c.get-stop_time.result in
+    let within : at < length ss = omega (arith, c.loop-at-test.true, c.len-at-end.ensures) in
     let text = c.text.ensures ∙ value_is (records_in d file.StopTimes) s.row (record_at (records_in d file.StopTimes) s.row) (codes "stop_headsign") c.column-column.result refl c.column-column.ensures in
     let g = c.loop-at.self in
-    gathered-next d c.requires.passes ss c.requires.stop_times at s c.loop-at-test.true _ _ c.loop-at.invariant
-    (subst (λ r. IsOneMore d r g _) (sym (get_or_from_slice_get ss at s s c.get-stop_time.ensures)) (record {
+    gathered-next d c.requires.passes ss c.requires.stop_times at s within s (get_or_from_slice_get ss at s s c.get-stop_time.ensures) _ _ c.loop-at.invariant
+    (record {
       headsign = c.in_ok-stop_headsign.stop_headsign;
       trips = refl;
       added = c.in_ok-stop_headsign.ensures.added;
@@ -57,7 +60,7 @@ loop-at-preserved c =
       names = subst (λ t. NamesHeadsign c.number.new.self.texts c.in_ok-stop_headsign.stop_headsign (word_of kind.text t)) text c.in_ok-stop_headsign.ensures.named;
       starts = c.in_ok-resize.ensures.items ∙ (λ j. take (s.trip + 1) g.starts.items ++ replicate (s.trip + 1 - g.starts.ok.0 j) ((c.len.ensures ∙ g.rows.ok.0) j));
       rows = c.in_ok-push.ensures.items;
-    }))
+    })
 
 pub returns : goal.returns
-returns c = subst (λ ss. AreGathered c.args.tables.now ss c.loop-at.self) (take_all c.loop-at.at c.args.stop_times.now c.loop-at-test.false) c.loop-at.invariant
+returns c = subst (λ ss. AreGathered c.args.tables.now ss c.loop-at.self) (take_all c.loop-at.at c.args.stop_times.now (omega (arith, c.loop-at-test.false, c.len-at-end.ensures))) c.loop-at.invariant
