@@ -1,7 +1,7 @@
 //! The typed rows of a feed, of tables that passed the validator.
 //!
-//! [`FeedRows::new`] reads all rows but the stop times of a [`Passed`](gtfs_rules::Passed). [`StopTimes::new`] makes the
-//! lists of stop times of it, whose fields were read when the tables were checked, but for headsigns.
+//! [`FeedRows::new`] reads all rows but the stop times of a [`Passed`](gtfs_rules::Passed). [`StopTimes::new`] makes
+//! the lists of stop times of it, whose fields were read when the tables were checked, but for headsigns.
 //! [`FeedRows::with_stop_times`] makes [`Parts`](gtfs_rows::Parts) of both.
 //!
 //! ```text

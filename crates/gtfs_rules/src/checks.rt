@@ -25,8 +25,8 @@ use std::alloc::Global;
 /// toolkit's. The time grows as n log n for every dataset. The tables are lent and not changed.
 ///
 /// # Errors
-/// `OutOfMemory` where memory ran out, and where stop_times.txt has more than 4,294,967,295 rows, or there are more trips
-/// than that.
+/// `OutOfMemory` where memory ran out, and where stop_times.txt has more than 4,294,967,295 rows, or there are more
+/// trips than that.
 pub fn check<'a>(alloc: Global, tables: &'a Tables) -> Result<Report<'a>, OutOfMemory>
     ensures dataset { IfOk result (λ report. report.dataset ≡ tables.now) }
     ensures report { IfOk result (λ report. IsReport tables.now report.problems) }

@@ -1,11 +1,11 @@
 -- What is reported of the rows of trips, one after the other.
-use Rattle.std.proofs.Common.{◌≡◌, Option, Some, None, option_map, ℕ, zero, suc, ◌+◌, ◌-◌, ◌<◌, ◌≤◌, true, false, Bool, cond, List, [], ◌∷◌, length, map, filter, get_or, take, drop, reverse, refl, sym, ap, ◌∙◌, subst, inl, inr, arith}
+use Rattle.std.proofs.Common.{◌≡◌, Option, Some, None, option_map, ℕ, zero, suc, ◌+◌, ◌-◌, ◌<◌, ◌≤◌, true, false, Bool, cond, List, [], ◌∷◌, length, map, filter, get_or, take, reverse, refl, sym, ap, ◌∙◌, subst, inl, inr, arith}
 use Rattle.std.specs.Prelude.{◌&&◌, ◌||◌, ◌==◌, codes, not, nat_lt, nat_le, pos, int_lt, ℤ, IsPermutation}
 use Rattle.std.specs.List.{All, AllByRecursion, list_any, range_with_len, slice_get}
 use Rattle.std.specs.Option.{option_or}
 use Rattle.std.proofs.lemmas.Bool.{and_from as and_both, cases_Bool, eqb-true as same_number}
 use Rattle.std.proofs.lemmas.Bool.Decides.{nat_tests}
-use Rattle.std.proofs.lemmas.List.{drop-map, drop_more, get_or-map, length-map, map_more, reverse-append, take-map, take_all, take_rest}
+use Rattle.std.proofs.lemmas.List.{drop-map, drop_more, get_or-map, length-map, map_more, reverse-append, take-map, take_all}
 use Rattle.std.proofs.lemmas.List.Elements.{All-from_recursion, All-get_or}
 use Rattle.std.proofs.lemmas.List.Sorted.{All-permutation, IsPermutation-reverse, IsPermutation-trans, list_any-IsPermutation}
 use Rattle.std.proofs.lemmas.Option.{get_or_from_slice_get}

@@ -38,6 +38,10 @@ noted_row n row note = record {
 abbrev pub stop_time_at : List StopRow → List RowNote → ℕ → StopTime
 stop_time_at rows notes n = noted_row n (slice_index_or rows n no_row) (slice_index_or notes n no_note)
 
+-- its sequence
+abbrev pub sequence_at : List StopRow → List RowNote → ℕ → ℕ
+sequence_at rows notes n = (stop_time_at rows notes n).stop_row.stop_sequence
+
 abbrev pub stop_times_at : List StopRow → List RowNote → List ℕ → List StopTime
 stop_times_at rows notes order = map (stop_time_at rows notes) order
 

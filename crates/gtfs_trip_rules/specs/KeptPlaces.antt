@@ -4,7 +4,7 @@ use Rattle.std.specs.List.{All}
 use Rattle.std.specs.Ordering.{nat_cmp, on, then_cmp}
 use Rattle.std.specs.declared.cmp.Ordering.{Ordering}
 use Rattle.gtfs_stop_times.specs.declared.stop_row.StopRow.{StopRow}
-use Rattle.gtfs_trip_rules.specs.KeptLists.{stop_time_at}
+use Rattle.gtfs_trip_rules.specs.KeptLists.{sequence_at, stop_time_at}
 use Rattle.gtfs_trip_rules.specs.TripOrder.{rank}
 use Rattle.gtfs_trip_rules.specs.declared.trips.kept.RowNote.{RowNote}
 use Rattle.gtfs_trip_rules.specs.declared.trips.places.Place.{Place}
@@ -16,7 +16,7 @@ place_cmp = then_cmp (on (λ p. p.rank) nat_cmp) (on (λ p. p.row) nat_cmp)
 -- the rank is that of the row, whose sequence fits into 32 bits
 pub record IsPlace (rows : List StopRow) (notes : List RowNote) (p : Place) : Type 0 where
   pub rank : p.rank ≡ rank (stop_time_at rows notes p.row)
-  pub sequence : (stop_time_at rows notes p.row).stop_row.stop_sequence < 2 ^ 32
+  pub sequence : sequence_at rows notes p.row < 2 ^ 32
 
 -- these rows with their ranks
 pub record ArePlaces (rows : List StopRow) (notes : List RowNote) (order : List ℕ) (ps : List Place) : Type 0 where

@@ -75,8 +75,8 @@ impl<'a> TripNotes<'a> {
         })
     }
 
-    // Takes note of one more row, which comes after those so far. It names this trip, which has this number where trips.txt
-    // has it, and it is kept so once it has the number.
+    // Takes note of one more row, which comes after those so far. It names this trip, which has this number where
+    // trips.txt has it, and is kept so but for the number of its trip.
     pub(crate) fn note(
         &mut self,
         trip_id: &'a str,
@@ -86,7 +86,8 @@ impl<'a> TripNotes<'a> {
         requires known { number ≡ number_among self.old.trips trip_id.now }
         requires earlier { AreEarlier kept.row self.old.rows }
         ensures trips { self.new.trips ≡ self.old.trips }
-        ensures notes { OnOk result (self.new.notes ≡ self.old.notes ++ trip_note trip_id.now kept ∷ []) }
+        ensures notes { OnOk result
+            (self.new.notes ≡ self.old.notes ++ trip_note trip_id.now kept ∷ []) }
         ensures rows { OnOk result (NotesRow number kept self.old.rows self.new.rows) }
     {
         let trip = trip_number(

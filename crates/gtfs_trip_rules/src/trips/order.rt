@@ -152,8 +152,8 @@ fn problem<'a>(row: &StopTime, code: Code, column: &'static str) -> Problem<'a>
 fn follows(rows: &KeptStopTimes, at: usize) -> bool
     requires { at < length rows.now }
     ensures { (number : List ℕ → ℕ) (name : ℕ → List ℕ) → AllNumbered number name rows.now
-        → (z : StopTimeValue) → result
-        ≡ follows (rows_before name rows.now at) (trip_stop_time name (slice_index_or rows.now at z)) }
+        → (z : StopTimeValue) → result ≡ follows (rows_before name rows.now at)
+        (trip_stop_time name (slice_index_or rows.now at z)) }
 {
     if at == 0 {
         return false;
@@ -166,8 +166,8 @@ fn follows(rows: &KeptStopTimes, at: usize) -> bool
 fn repeats(rows: &KeptStopTimes, at: usize) -> bool
     requires { at < length rows.now }
     ensures { (number : List ℕ → ℕ) (name : ℕ → List ℕ) → AllNumbered number name rows.now
-        → (z : StopTimeValue) → result
-        ≡ repeats (rows_before name rows.now at) (trip_stop_time name (slice_index_or rows.now at z)) }
+        → (z : StopTimeValue) → result ≡ repeats (rows_before name rows.now at)
+        (trip_stop_time name (slice_index_or rows.now at z)) }
 {
     if at == 0 {
         return false;

@@ -1,6 +1,6 @@
 ghost use Rattle.std.specs.Prelude.{◌≡◌, ◌+◌, ◌*◌, ◌<◌, ◌^◌, length, slice_index_or, take, true};
 ghost use Rattle.std.specs.List.Sorted.{IsSorted};
-ghost use Rattle.gtfs_trip_rules.specs.KeptLists.{stop_time_at};
+ghost use Rattle.gtfs_trip_rules.specs.KeptLists.{sequence_at, stop_time_at};
 ghost use Rattle.gtfs_trip_rules.specs.TripOrder.{falls, kept_cmp, rank};
 ghost use Rattle.gtfs_trip_rules.specs.declared.trips.row.StopTime.{StopTime as StopTimeValue};
 
@@ -29,7 +29,7 @@ impl<'a> Ranks<'a> {
     #[inline(always)]
     pub(crate) fn rank(&self, row: u32) -> u64
         ensures value { result ≡ rank (stop_time_at self.now.rows.now self.now.notes.now row) }
-        ensures sequence { (stop_time_at self.now.rows.now self.now.notes.now row).stop_row.stop_sequence < 2 ^ 32 }
+        ensures sequence { sequence_at self.now.rows.now self.now.notes.now row < 2 ^ 32 }
     {
         let trip = self.trip(row);
         let sequence = self.sequence(row);
@@ -46,8 +46,7 @@ impl<'a> Ranks<'a> {
     }
 
     fn sequence(&self, row: u32) -> u32
-        ensures { result
-            ≡ (stop_time_at self.now.rows.now self.now.notes.now row).stop_row.stop_sequence }
+        ensures { result ≡ sequence_at self.now.rows.now self.now.notes.now row }
     {
         match self.rows.get(row as usize) {
             Some(stop_row) => stop_row.stop_sequence,

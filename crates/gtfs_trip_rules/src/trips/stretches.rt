@@ -16,8 +16,8 @@ struct Stretch<'a> {
     rows: &'a [u32],
 }
 
-// The rows in their order where no two trips alternate: stretches of ascending rows of one trip stay as they are, and stand
-// in the order of their first rows. Where that does not pay, or memory is refused, all rows stay where they are.
+// The rows in their order where no two trips alternate: stretches of ascending rows of one trip stay as they are, and
+// stand in the order of their first rows. Where that does not pay, or memory is refused, all rows stay where they are.
 pub(crate) fn by_stretches(ranks: &Ranks<'_>, rows: Vec<u32>) -> Vec<u32>
     ensures { IsPermutation rows.items result.items }
 {
