@@ -68,8 +68,8 @@ pub use Rattle.gtfs_cli.specs.Faults.{fault_line}
 pub use Rattle.gtfs_cli.specs.Sending.{Output}
 -- a text went out whole, or the output failed after a beginning of it
 pub use Rattle.gtfs_cli.specs.Sending.{Sends}
--- a count of failures after one more
-pub use Rattle.gtfs_devices.specs.Device.{counted}
+-- the count that follows one, of failures or of calls; it stays at its greatest value
+pub use Rattle.gtfs_devices.specs.Device.{next_count}
 
 -- ---- the laws of runs: which outcome a command has where nothing fails
 

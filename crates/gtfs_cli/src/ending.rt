@@ -2,7 +2,7 @@
 ghost use Rattle.std.specs.Prelude.{◌≡◌, ◌≤◌, [], IfOk, IfErr, OnOk, OnErr};
 ghost use Rattle.std.specs.Io.Buffered.{writer_buffer, writer_contents};
 ghost use Rattle.std.specs.Io.KnownBytes.{Keeps};
-ghost use Rattle.gtfs_devices.specs.Device.{counted};
+ghost use Rattle.gtfs_devices.specs.Device.{next_count};
 ghost use Rattle.gtfs_cli.specs.Faults.{fault_line, fault_status};
 ghost use Rattle.gtfs_cli.specs.Sending.{Sends};
 ghost use Rattle.gtfs_cli.specs.declared.fault.Fault.TheVariants.{OutputFailed};
@@ -20,7 +20,7 @@ pub fn close<W: Write + Drop>(out: &mut WriteOut<BufWriter<W>>, status: u8) -> R
     ensures emptied { status ≤ 1 → OnOk result (writer_buffer out.new.0 ≡ []) }
     ensures whole { Keeps (writer_contents W.contents out.old.0)
         (writer_contents W.contents out.new.0) }
-    ensures counted { OnErr result (out.new.1 ≡ counted out.old.1) }
+    ensures counted { OnErr result (out.new.1 ≡ next_count out.old.1) }
 {
     match out.flush_buffer() {
         Err(_) if status <= 1 => Err(Fault::OutputFailed),

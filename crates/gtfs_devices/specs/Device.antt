@@ -1,13 +1,13 @@
 -- What devices tell of themselves: how often they were called and how often they failed, and what went out to an output.
 use Rattle.std.specs.Prelude.{ℕ, zero, suc, List, Option, Some, None, ◌≡◌, ◌+◌, ◌-◌, ◌^◌, ◌≤◌, min, ⊤}
 
--- a count of failures after one more; it stays at its greatest value
-abbrev pub counted : ℕ → ℕ
-counted count = min (count + 1) (2 ^ 64 - 1)
+-- a count after one more; it stays at its greatest value
+abbrev pub next_count : ℕ → ℕ
+next_count count = min (count + 1) (2 ^ 64 - 1)
 
 -- a count of failures has risen; one that stands at its greatest value counts as risen
 abbrev pub Rises : ℕ → ℕ → Type 0
-Rises before after = counted before ≤ after
+Rises before after = next_count before ≤ after
 
 -- the last thing that happened to an output was a write that failed; fails holds from the state before such a write to the one after it
 pub record FailsLast {O : Type 0} (fails : O → O → Type 0) (now : O) : Type 0 where
@@ -22,7 +22,7 @@ pub record Calls : Type 0 where
 -- a count after so many more
 abbrev pub counted_times : ℕ → ℕ → ℕ
 counted_times zero count = count
-counted_times (suc more) count = counted (counted_times more count)
+counted_times (suc more) count = next_count (counted_times more count)
 
 -- the calls after so many more
 abbrev pub calls_after : ℕ → Calls → Calls

@@ -1,7 +1,7 @@
 -- Folders on a disk, which tell nothing of what they hold: what their answers rest on.
 use Rattle.std.specs.Prelude.{ℕ, length, List, [], ◌∷◌, ◌++◌, Option, None, Some, Result, Ok, Err, ◌≡◌, ◌<◌, ◌≤◌, ◌⊎◌, ⊤, IfSome}
 use Rattle.std.specs.Io.KnownBytes.{Appends, Consumes}
-use Rattle.gtfs_devices.specs.Device.{counted, Calls}
+use Rattle.gtfs_devices.specs.Device.{next_count, Calls}
 use Rattle.gtfs_devices.specs.Folder.{Store}
 use Rattle.std.specs.declared.io.ErrorKind.{ErrorKind}
 use Rattle.std.specs.declared.io.ErrorKind.TheVariants.{NotFound, OutOfMemory as no_memory}
@@ -27,11 +27,11 @@ calls disk = None
 
 -- the state after a call that ended in a fault: the count rises where the device failed
 abbrev pub after_fault : FolderFault → Disk → Disk
-after_fault Read disk = record disk { failures = counted disk.failures }
+after_fault Read disk = record disk { failures = next_count disk.failures }
 after_fault TooLarge disk = disk
 after_fault OutOfMemory disk = disk
 after_fault NoFolder disk = disk
-after_fault Write disk = record disk { failures = counted disk.failures }
+after_fault Write disk = record disk { failures = next_count disk.failures }
 
 -- why a folder is not listed, or a file is not opened
 abbrev pub RefusesOpen : FolderFault → Type 0

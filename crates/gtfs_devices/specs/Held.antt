@@ -1,7 +1,7 @@
 -- Folders in memory: their state, and the answer of each call as that state says it.
 use Rattle.std.specs.Prelude.{ℕ, Bool, false, ◌==◌, nat_le, if◌then◌else◌, List, length, Option, Some, None, Result, Ok, Err, IsOk, ok_or, ◌≡◌, refl}
 use Rattle.std.specs.Coded.{Coded, code_by, coded×, coded_ℕ, coded_option}
-use Rattle.gtfs_devices.specs.Device.{counted, Calls}
+use Rattle.gtfs_devices.specs.Device.{next_count, Calls}
 use Rattle.gtfs_devices.specs.Folder.{Store, names_in, file_in}
 use Rattle.gtfs_devices.specs.ByText.{store_code}
 use Rattle.gtfs_devices.specs.declared.folders.FolderFault.{FolderFault}
@@ -28,11 +28,11 @@ is_numbered (Some number) call = number == call
 
 -- whether the next call is the one that fails
 abbrev pub is_failing : Held → Bool
-is_failing held = is_numbered held.fail (counted held.calls)
+is_failing held = is_numbered held.fail (next_count held.calls)
 
 -- the state after one more call that writes nothing
 abbrev pub after_call : Held → Held
-after_call held = record held { calls = counted held.calls; failures = if is_failing held then counted held.failures else held.failures }
+after_call held = record held { calls = next_count held.calls; failures = if is_failing held then next_count held.failures else held.failures }
 
 -- its calls, which it counts
 abbrev pub calls_of : Held → Option Calls

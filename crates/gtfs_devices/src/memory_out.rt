@@ -1,6 +1,6 @@
 ghost use Rattle.std.specs.Prelude.{◌≡◌, ◌<◌, ◌≤◌, ◌-◌, ◌++◌, ◌↔◌, [], length, take, min, IfOk, OnOk, OnErr, IsErr, Some};
 ghost use Rattle.std.specs.Io.KnownBytes.{Appends, Keeps};
-ghost use Rattle.gtfs_devices.specs.Device.{Sent, Rises, counted};
+ghost use Rattle.gtfs_devices.specs.Device.{Sent, Rises, next_count};
 
 use crate::output::{Failed, Out};
 use gtfs_field::OutOfMemory;
@@ -61,7 +61,7 @@ impl Out for MemoryOut {
     ghost failure_count = { λ out. out.failures };
 
     ghost fails = { λ old new.
-        (old.left ≡ 0) × (new ≡ record old { failures = counted old.failures }) };
+        (old.left ≡ 0) × (new ≡ record old { failures = next_count old.failures }) };
 
     /// Takes as many bytes as still fit, at most the whole text. Fails exactly where the text has bytes
     /// and none fits.
@@ -72,10 +72,10 @@ impl Out for MemoryOut {
         ensures moves { IfOk result (λ n. 0 < length text.now → 0 < n) }
         ensures nothing { OnErr result (Keeps (Some self.old.text) (Some self.new.text)) }
         ensures counted { OnErr result (Rises self.old.failures self.new.failures) }
-        ensures once { OnErr result (self.new.failures ≡ counted self.old.failures) }
+        ensures once { OnErr result (self.new.failures ≡ next_count self.old.failures) }
         ensures failed { OnErr result
             ((self.old.left ≡ 0)
-            × (self.new ≡ record self.old { failures = counted self.old.failures })) }
+            × (self.new ≡ record self.old { failures = next_count self.old.failures })) }
         ensures grows { self.old.failures ≤ self.new.failures }
         ensures no_failure { OnOk result (self.new.failures ≡ self.old.failures) }
 
@@ -88,7 +88,7 @@ impl Out for MemoryOut {
             }) }
         ensures full { IsErr result ↔ ((0 < length text.now) × (self.old.left ≡ 0)) }
         ensures err { OnErr result
-            (self.new ≡ record self.old { failures = counted self.old.failures }) }
+            (self.new ≡ record self.old { failures = next_count self.old.failures }) }
     {
         let count = text.len().min(self.left);
         if count == 0 && !text.is_empty() {

@@ -1,6 +1,6 @@
 ghost use Rattle.std.specs.Prelude.{◌≡◌, ◌<◌, ◌≤◌, ℕ, List, Option, length, take, ⊤, IfOk, IfErr, OnOk, OnErr};
 ghost use Rattle.std.specs.Io.KnownBytes.{Appends, Keeps};
-ghost use Rattle.gtfs_devices.specs.Device.{counted, FailsLast, Rises};
+ghost use Rattle.gtfs_devices.specs.Device.{next_count, FailsLast, Rises};
 
 use thiserror::Error;
 
@@ -41,7 +41,7 @@ pub trait Out {
         ensures moves { IfOk result (λ n. 0 < length text.now → 0 < n) }
         ensures nothing { OnErr result (Keeps (told self.old) (told self.new)) }
         ensures counted { OnErr result (Rises (failure_count self.old) (failure_count self.new)) }
-        ensures once { OnErr result (failure_count self.new ≡ counted (failure_count self.old)) }
+        ensures once { OnErr result (failure_count self.new ≡ next_count (failure_count self.old)) }
         ensures failed { OnErr result (fails self.old self.new) }
         ensures grows { failure_count self.old ≤ failure_count self.new }
         ensures no_failure { OnOk result (failure_count self.new ≡ failure_count self.old) };
@@ -62,7 +62,7 @@ pub fn write_text<O: Out>(out: &mut O, text: &[u8]) -> Result<(), OutFault>
         (λ fault. Appends (O.told out.old) (O.told out.new) (take fault.written text.now)) }
     ensures within { IfErr result (λ fault. fault.written < length text.now) }
     ensures counted { OnErr result (Rises (O.failure_count out.old) (O.failure_count out.new)) }
-    ensures once { OnErr result (O.failure_count out.new ≡ counted (O.failure_count out.old)) }
+    ensures once { OnErr result (O.failure_count out.new ≡ next_count (O.failure_count out.old)) }
     ensures last { OnErr result (FailsLast O.fails out.new) }
     ensures grows { O.failure_count out.old ≤ O.failure_count out.new }
     ensures no_failure { OnOk result (O.failure_count out.new ≡ O.failure_count out.old) }

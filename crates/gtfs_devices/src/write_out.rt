@@ -1,7 +1,7 @@
 ghost use Rattle.std.specs.Prelude.{◌≡◌, ◌<◌, ◌≤◌, [], length, take, IfOk, IfSome, MatchOption, OnOk, OnErr};
 ghost use Rattle.std.specs.Io.Buffered.{writer_buffer, writer_contents};
 ghost use Rattle.std.specs.Io.KnownBytes.{Appends, Keeps};
-ghost use Rattle.gtfs_devices.specs.Device.{Rises, counted};
+ghost use Rattle.gtfs_devices.specs.Device.{Rises, next_count};
 
 use crate::output::{Failed, Out};
 use std::io::{BufWriter, ErrorKind, Write};
@@ -40,7 +40,7 @@ impl<W: Write> WriteOut<W> {
     pub fn flush(&mut self) -> Result<(), Failed>
         ensures kept { Keeps (W.contents self.old.0) (W.contents self.new.0) }
         ensures ok { OnOk result (self.new.1 ≡ self.old.1) }
-        ensures err { OnErr result (self.new.1 ≡ counted self.old.1) }
+        ensures err { OnErr result (self.new.1 ≡ next_count self.old.1) }
     {
         match self.writer.flush() {
             Ok(()) => Ok(()),
@@ -50,7 +50,7 @@ impl<W: Write> WriteOut<W> {
 
     fn fail(&mut self) -> Failed
         ensures kept { self.new.0 ≡ self.old.0 }
-        ensures count { self.new.1 ≡ counted self.old.1 }
+        ensures count { self.new.1 ≡ next_count self.old.1 }
         ensures grows { self.old.1 ≤ self.new.1 }
     {
         self.failures = self.failures.saturating_add(1);
@@ -69,7 +69,7 @@ impl<W: Write + Drop> WriteOut<BufWriter<W>> {
         ensures kept { Keeps (writer_contents W.contents self.old.0)
             (writer_contents W.contents self.new.0) }
         ensures ok { OnOk result (self.new.1 ≡ self.old.1) }
-        ensures err { OnErr result (self.new.1 ≡ counted self.old.1) }
+        ensures err { OnErr result (self.new.1 ≡ next_count self.old.1) }
     {
         if self.writer.flush().is_err() {
             return Err(self.fail());
@@ -83,7 +83,8 @@ impl<W: Write> Out for WriteOut<W> {
 
     ghost failure_count = { λ out. out.1 };
 
-    ghost fails = { λ old new. Keeps (W.contents old.0) (W.contents new.0) × (new.1 ≡ counted old.1) };
+    ghost fails = { λ old new.
+        Keeps (W.contents old.0) (W.contents new.0) × (new.1 ≡ next_count old.1) };
 
     /// Hands the text to the writer once, and again where a signal interrupted it. A writer that takes
     /// nothing of a text that has bytes fails.
@@ -94,10 +95,10 @@ impl<W: Write> Out for WriteOut<W> {
         ensures moves { IfOk result (λ n. 0 < length text.now → 0 < n) }
         ensures nothing { OnErr result (Keeps (W.contents self.old.0) (W.contents self.new.0)) }
         ensures counted { OnErr result (Rises self.old.1 self.new.1) }
-        ensures once { OnErr result (self.new.1 ≡ counted self.old.1) }
+        ensures once { OnErr result (self.new.1 ≡ next_count self.old.1) }
         ensures failed { OnErr result
             (Keeps (W.contents self.old.0) (W.contents self.new.0)
-            × (self.new.1 ≡ counted self.old.1)) }
+            × (self.new.1 ≡ next_count self.old.1)) }
         ensures grows { self.old.1 ≤ self.new.1 }
         ensures no_failure { OnOk result (self.new.1 ≡ self.old.1) }
     {

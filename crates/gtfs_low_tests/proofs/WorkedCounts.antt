@@ -1,15 +1,15 @@
 -- Counts of calls and of failures that are full.
 use Rattle.std.proofs.Common.{◌≡◌, ◌-◌, ◌^◌, codes, refl, false, Some, Err}
 use Rattle.std.specs.FinMap as finite
-use Rattle.gtfs_devices.specs.Device.{counted, counted_times, calls_after, FailsAtLast}
+use Rattle.gtfs_devices.specs.Device.{next_count, counted_times, calls_after, FailsAtLast}
 use Rattle.gtfs_devices.specs.Held.{Held, is_failing, after_call, names_answer}
 use Rattle.gtfs_devices.specs.declared.folders.FolderFault.TheVariants.{Read}
 
 -- a count of failures rises to 2^64 - 1 and stays there
-filled : counted (2 ^ 64 - 2) ≡ 2 ^ 64 - 1
+filled : next_count (2 ^ 64 - 2) ≡ 2 ^ 64 - 1
 filled = refl
 
-full : counted (2 ^ 64 - 1) ≡ 2 ^ 64 - 1
+full : next_count (2 ^ 64 - 1) ≡ 2 ^ 64 - 1
 full = refl
 
 -- ten calls on folders that are new, and on folders whose count is almost full

@@ -12,7 +12,7 @@ use Rattle.gtfs_rows.specs.Content.{Content}
 use Rattle.gtfs_columns.specs.Values.{if_there}
 use Rattle.gtfs_columns.proofs.SiteFacts.{text_is as same_bytes}
 use Rattle.gtfs_rows.specs.Key.{Key}
-use Rattle.gtfs_rows.specs.Departures.{is_above, is_within, Origins, departs_at, departs_from}
+use Rattle.gtfs_rows.specs.Departures.{is_above, is_in_span, Origins, departs_at, departs_from}
 use Rattle.gtfs_rows.specs.Places.{is_plain_stop, is_in_place}
 use Rattle.gtfs_merge.specs.Renaming.{Nearness, kept_as_is, lists_id, ids, names_a, names_b, stop_with, stop_b, trip_b}
 use Rattle.gtfs_merge.specs.Merged.{merged}
@@ -161,10 +161,10 @@ module _ (choice : Times) (near : Nearness) (nearness : IsNearness near) (a b : 
   has-boards origin s from until after k h = (
     λ e.
         let p = and_parts _ (is_above after k) e in
-        let q = and_parts (departs_at (timed choice m) origin s k) (is_within from until k.instant) p.0 in
+        let q = and_parts (departs_at (timed choice m) origin s k) (is_in_span from until k.instant) p.0 in
         (at-both origin s k q.0, and_from _ _ q.1 p.1),
     λ w.
-        let p = and_parts (is_within from until k.instant) (is_above after k) w.1 in
+        let p = and_parts (is_in_span from until k.instant) (is_above after k) w.1 in
         let d : departs_at (timed choice m) origin s k ≡ true = elim w.0 as (λ v. departs_at (timed choice m) origin s k ≡ true) [ inl x ↦ at-a origin s k x | inr x ↦ at-b origin s k x ] in
         and_from _ _ (and_from _ _ d p.0) p.1,
   )

@@ -2,7 +2,7 @@
 -- filled; the merged feed is filled after it is merged.
 use Rattle.std.specs.Prelude.{◌≡◌, ◌↔◌, ◌⊎◌, ℕ, ◌&&◌, true, List, Option, ℤ}
 use Rattle.gtfs_rows.specs.Content.{Content}
-use Rattle.gtfs_rows.specs.Departures.{Origins, is_departure, departs_at, is_listed, is_above, is_within}
+use Rattle.gtfs_rows.specs.Departures.{Origins, is_departure, departs_at, is_listed, is_above, is_in_span}
 use Rattle.gtfs_rows.specs.Key.{Key}
 use Rattle.gtfs_times.specs.Filling.{timed}
 use Rattle.gtfs_times.specs.declared.times.Times.{Times}
@@ -41,7 +41,7 @@ HasBoards times near a b = (origin : Origins) (s : List ℕ) (from until : ℤ) 
     → lists_id (ids kind.Stop (merged near a b)) s ≡ true
     → (is_listed (timed times (merged near a b)) origin s from until after k ≡ true)
     ↔ ((IsImageAt (timed times a) origin (names_a a b) s k ⊎ IsImageAt (timed times b) origin (names_b near a b) s k)
-    × ((is_within from until k.instant && is_above after k) ≡ true))
+    × ((is_in_span from until k.instant && is_above after k) ≡ true))
 
 -- two ids of a kind that a feed has become two ids
 abbrev pub StaysApart : Kind → Content → Names → Type 0

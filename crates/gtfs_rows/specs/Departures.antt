@@ -43,12 +43,12 @@ is_above None x = true
 is_above (Some k) x = is_lt (key_cmp k x)
 
 -- the first instant is in the span, and the last is not
-abbrev pub is_within : ℤ → ℤ → ℤ → Bool
-is_within from until x = int_le from x && int_lt x until
+abbrev pub is_in_span : ℤ → ℤ → ℤ → Bool
+is_in_span from until x = int_le from x && int_lt x until
 
 -- a key belongs on the board of a stop over a span, above a key
 abbrev pub is_listed : Content → Origins → List ℕ → ℤ → ℤ → Option Key → Key → Bool
-is_listed f origin s from until after k = departs_at f origin s k && is_within from until k.instant && is_above after k
+is_listed f origin s from until after k = departs_at f origin s k && is_in_span from until k.instant && is_above after k
 
 -- each key lies below those after it
 abbrev pub IsAscending : List Key → Type 0

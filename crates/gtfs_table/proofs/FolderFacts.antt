@@ -4,7 +4,7 @@ use Rattle.std.specs.Prelude.{option_map, filter, not, OnErr, Ok, Err, Result}
 use Rattle.std.specs.FinMap as finmap
 use Rattle.std.proofs.lemmas.List.{take_more}
 use Rattle.std.proofs.lemmas.List.Elements.{All-push}
-use Rattle.gtfs_devices.specs.Device.{counted, counted_times, calls_after, Calls, MakesCalls, MakesSomeCalls, Rises}
+use Rattle.gtfs_devices.specs.Device.{next_count, counted_times, calls_after, Calls, MakesCalls, MakesSomeCalls, Rises}
 use Rattle.gtfs_table.specs.Files.{file_name}
 use Rattle.gtfs_devices.specs.Folder.{file_in, Files, Store, Finds, Lists, RefusesNames, RefusesRead}
 use Rattle.gtfs_table.specs.Reading.{AllHoldWithin, HoldsTable, HoldsDataset, HoldsWithin, RefusesDataset, SetsTables, dataset_of, is_kept, kept_files, table_in, tables_set}
@@ -120,7 +120,7 @@ calls-none (Some a) = refl
 
 times-more : (n m count : ℕ) → counted_times m (counted_times n count) ≡ counted_times (n + m) count
 times-more n zero count = let e : n + 0 ≡ n = omega arith in rw e refl
-times-more n (suc m) count = let e : n + suc m ≡ suc (n + m) = omega arith in rw e (ap counted (times-more n m count))
+times-more n (suc m) count = let e : n + suc m ≡ suc (n + m) = omega arith in rw e (ap next_count (times-more n m count))
 
 pub calls-more : (n m : ℕ) (a b c : Option Calls) → MakesCalls n a b → MakesCalls m b c → MakesCalls (n + m) a c
 calls-more n m None b c p q = tt

@@ -1,4 +1,4 @@
--- How long the text of stop_times.txt is at the most, from the number of its rows and the longest of their texts.
+-- How long the text of stop_times.txt is at the most, from the number_as_value of its rows and the longest of their texts.
 use Rattle.std.proofs.Common.{◌≡◌, ◌∙◌, ap, refl, ℕ, zero, suc, ◌+◌, ◌-◌, ◌*◌, ◌/◌, ◌≤◌, ◌∷◌, List, [], Bool, true, false, map, drop, take, get_or, length, nat_le, max, Option, Some, None, option_map, length-append, arith}
 use Rattle.std.specs.Prelude.{◌&&◌}
 use Rattle.std.specs.List.{fold, list_all}
@@ -19,7 +19,7 @@ use Rattle.gtfs_rows.specs.declared.parts.Parts.{Parts}
 use Rattle.gtfs_rows.specs.declared.stop_row.StopRow.{StopRow as StopTime}
 use Rattle.gtfs_rows.specs.declared.trip.Trip.{Trip}
 use Rattle.gtfs_rows.specs.Cells.{are_cells, record_text}
-use Rattle.gtfs_rows.specs.RowCells.{held_by, number, stop_time_cells, stop_times_of}
+use Rattle.gtfs_rows.specs.RowCells.{held_by, number_as_value, stop_time_cells, stop_times_of}
 use Rattle.gtfs_rows.specs.Rows.{StopRow, Trip as TripWithRows}
 use Rattle.gtfs_rows.specs.Views.{IsSoundParts, content_of_parts, stop_ids, stop_row_of, text_of_number, trips_of}
 use Rattle.gtfs_written.specs.Bounds.{longest}
@@ -48,7 +48,7 @@ fold-within of m k (x ∷ xs) within =
 no-longer : {X : Type 0} (of : X → List ℕ) (xs : List X) → at_most of (longest of xs) xs ≡ true
 no-longer of xs = fold-within of 0 (longest of xs) xs (omega arith)
 
--- the text of a number in such a list
+-- the text of a number_as_value in such a list
 numbered : {X : Type 0} (of : X → List ℕ) (k : ℕ) (xs : List X) (n : ℕ) → at_most of k xs ≡ true → length (text_of_number (map of xs) n) ≤ k
 numbered of k [] n all = omega arith
 numbered of k (x ∷ xs) zero all = leb-true (length (of x)) k ((and_parts (nat_le (length (of x)) k) (at_most of k xs) all).0)
@@ -76,11 +76,11 @@ texts_length y = length y.0 + length y.1.stop_id + text_length y.1.stop_headsign
 abbrev have_texts : ℕ → List (List ℕ × StopRow) → Bool
 have_texts n ys = list_all (λ y. nat_le (texts_length y) n) ys
 
-time-most : (o : Option ℕ) → cell_most time (option_map number o) ≤ 9
+time-most : (o : Option ℕ) → cell_most time (option_map number_as_value o) ≤ 9
 time-most None = omega arith
 time-most (Some v) = omega arith
 
-choice-most : (o : Option ℕ) → cell_most (up_to 1) (option_map number o) ≤ 1
+choice-most : (o : Option ℕ) → cell_most (up_to 1) (option_map number_as_value o) ≤ 1
 choice-most None = omega arith
 choice-most (Some v) = omega arith
 
