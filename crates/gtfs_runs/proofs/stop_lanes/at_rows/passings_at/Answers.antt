@@ -1,8 +1,7 @@
-use Rattle.std.proofs.Common.{◌≤◌, ◌++◌, ◌∙◌, map, sym, ap, subst, arith}
+use Rattle.std.proofs.Common.{◌≤◌, ◌++◌, ◌∙◌, map, sym, ap, subst}
 use Rattle.std.specs.List.{All}
 use Rattle.gtfs_times.specs.TimedRows.{timed_parts}
-use Rattle.gtfs_runs.specs.declared.stop_lanes.passing.Passing.{Passing}
-use Rattle.gtfs_runs.specs.steps.Places.{ArePassingsAt, IsStopTime, passing_in}
+use Rattle.gtfs_runs.specs.steps.Places.{IsStopTime, passing_in}
 use Rattle.gtfs_runs.proofs.PlacePassings.{from_none}
 use Rattle.gtfs_runs.proofs.stop_lanes.at_rows.passings_at.Goals.{in-Given+in_ok-push_given-in-Given, in-Interpolated+in_ok-push_timed-in-Interpolated}
 use Rattle.gtfs_runs.proofs.stop_lanes.at_rows.passings_at.Goals as goal

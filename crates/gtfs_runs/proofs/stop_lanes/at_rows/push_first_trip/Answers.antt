@@ -1,5 +1,4 @@
-use Rattle.std.proofs.Common.{◌≡◌, ◌≤◌, ◌<◌, ◌++◌, ◌∙◌, [], length, map, take, get_or, sym, ap, subst, arith}
-use Rattle.std.specs.List.{All, slice_get}
+use Rattle.std.proofs.Common.{◌≡◌, ◌++◌, ◌∙◌, [], take, get_or, sym, ap, arith}
 use Rattle.std.proofs.lemmas.List.Elements.{All-take}
 use Rattle.gtfs_rows.specs.Trips.{stop_rows_by_trip}
 use Rattle.gtfs_times.proofs.FilledContent.{sound-timed}

@@ -1,16 +1,13 @@
-use Rattle.std.proofs.Common.{◌≡◌, ◌≤◌, ◌<◌, ◌++◌, ◌∙◌, [], length, map, get_or, refl, sym, ap, subst, arith, Some}
-use Rattle.std.specs.Prelude.{unwrap_or}
-use Rattle.std.specs.List.{All, slice_get}
+use Rattle.std.proofs.Common.{◌≡◌, ◌≤◌, ◌<◌, ◌++◌, ◌∙◌, length, map, get_or, sym, ap, subst, arith}
+use Rattle.std.specs.List.{All}
 use Rattle.std.proofs.lemmas.List.{get_or_default, take_all}
 use Rattle.std.proofs.lemmas.List.Elements.{All-push}
-use Rattle.gtfs_rows.specs.Trips.{left_at, stop_rows_by_trip}
-use Rattle.gtfs_stop_times.specs.declared.stop_row.StopRow.{StopRow}
 use Rattle.gtfs_times.proofs.FilledContent.{sound-timed}
 use Rattle.gtfs_times.specs.TimedRows.{timed_parts}
 use Rattle.gtfs_times.specs.declared.times.Times.TheVariants.{Given}
 use Rattle.gtfs_runs.specs.declared.stop_index.DepartureRow.{DepartureRow}
-use Rattle.gtfs_runs.specs.steps.Passings.{first_left, passing_at}
-use Rattle.gtfs_runs.specs.steps.Places.{IsStopTime, passing_in, passing_of}
+use Rattle.gtfs_runs.specs.steps.Passings.{passing_at}
+use Rattle.gtfs_runs.specs.steps.Places.{passing_in}
 use Rattle.gtfs_runs.proofs.GroupFacts.{no_trip, trips_counted}
 use Rattle.gtfs_runs.proofs.PlacePassings.{given_inside, given_left, given_passing, no_row, trip_inside}
 use Rattle.gtfs_runs.proofs.Pushes.{pushed-after}
@@ -33,21 +30,30 @@ trip_at-start-requires c =
 pub offset_bounds-stop_times-row : goal.offset_bounds-stop_times-row
 offset_bounds-stop_times-row c =
     let inside : c.row.result < length c.trip_rows-stop_times.result.now =
-    omega (arith, c.row.ensures,
-    given_inside c.args.feed.now c.soundness.ensures c.args.rows.now c.loop-row.row-index c.trip-trip.result.0 c.trip_rows-stop_times.result.now c.loop-row-test.true c.trip-trip.ensures c.requires.rows c.trip_rows-stop_times.ensures) in
+    omega (
+      arith,
+      c.row.ensures,
+      given_inside c.args.feed.now c.soundness.ensures c.args.rows.now c.loop-row.row-index c.trip-trip.result.0 c.trip_rows-stop_times.result.now c.loop-row-test.true c.trip-trip.ensures c.requires.rows c.trip_rows-stop_times.ensures,
+    ) in
     omega (arith, inside)
 
 pub bounds-stop_times-row : goal.bounds-stop_times-row
 bounds-stop_times-row c =
-    omega (arith, c.row.ensures,
-    given_inside c.args.feed.now c.soundness.ensures c.args.rows.now c.loop-row.row-index c.trip-trip.result.0 c.trip_rows-stop_times.result.now c.loop-row-test.true c.trip-trip.ensures c.requires.rows c.trip_rows-stop_times.ensures)
+    omega (
+      arith,
+      c.row.ensures,
+      given_inside c.args.feed.now c.soundness.ensures c.args.rows.now c.loop-row.row-index c.trip-trip.result.0 c.trip_rows-stop_times.result.now c.loop-row-test.true c.trip-trip.ensures c.requires.rows c.trip_rows-stop_times.ensures,
+    )
 
 pub passed-requires : goal.passed-requires
 passed-requires c =
     let rs = c.trip_rows-stop_times.result.now in
     let inside : c.row.result < length rs =
-    omega (arith, c.row.ensures,
-    given_inside c.args.feed.now c.soundness.ensures c.args.rows.now c.loop-row.row-index c.trip-trip.result.0 rs c.loop-row-test.true c.trip-trip.ensures c.requires.rows c.trip_rows-stop_times.ensures) in
+    omega (
+      arith,
+      c.row.ensures,
+      given_inside c.args.feed.now c.soundness.ensures c.args.rows.now c.loop-row.row-index c.trip-trip.result.0 rs c.loop-row-test.true c.trip-trip.ensures c.requires.rows c.trip_rows-stop_times.ensures,
+    ) in
     given_left c.args.feed.now c.soundness.ensures c.args.rows.now c.loop-row.row-index c.trip-trip.result.0 rs c.loop-row-test.true c.trip-trip.ensures c.requires.rows c.trip_rows-stop_times.ensures
     c.row.result c.index-stop_times-row.result inside c.index-stop_times-row.is
 

@@ -1,4 +1,4 @@
-use Rattle.std.proofs.Common.{◌≤◌, ◌++◌, ◌∙◌, length, map, take, drop, sym, ap, subst}
+use Rattle.std.proofs.Common.{◌++◌, ◌∙◌, map, take, sym, ap, subst}
 use Rattle.std.specs.List.{All}
 use Rattle.std.proofs.lemmas.List.{take_all, take_rest}
 use Rattle.std.proofs.lemmas.List.Elements.{All-drop}

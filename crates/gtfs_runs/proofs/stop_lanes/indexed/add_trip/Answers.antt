@@ -1,5 +1,5 @@
 use Rattle.std.proofs.Common.{◌≡◌, ◌≤◌, ◌<◌, ◌+◌, ◌∙◌, length, map, take, drop, get_or, sym, ap, subst, arith}
-use Rattle.std.proofs.lemmas.List.{length-map, length-take-le, take-map}
+use Rattle.std.proofs.lemmas.List.{length-take-le, take-map}
 use Rattle.std.proofs.lemmas.List.Elements.{All-take}
 use Rattle.gtfs_times.proofs.FilledContent.{sound-timed}
 use Rattle.gtfs_times.specs.TimedRows.{timed_parts}
