@@ -33,3 +33,5 @@ mod TripPlaced
 mod KeptListFacts
 mod PlaceFacts
 mod EarlierRows
+mod JudgedRows
+mod TogetherRows

@@ -1,11 +1,11 @@
 -- What is reported of the rows of trips, one after the other.
-use Rattle.std.proofs.Common.{◌≡◌, Option, Some, None, option_map, ℕ, zero, suc, ◌+◌, ◌-◌, ◌<◌, ◌≤◌, true, false, Bool, cond, List, [], ◌∷◌, length, map, filter, get_or, take, drop, reverse, refl, sym, ap, ◌∙◌, subst, inl, inr, arith}
+use Rattle.std.proofs.Common.{◌≡◌, Option, Some, None, option_map, ℕ, zero, suc, ◌+◌, ◌-◌, ◌<◌, ◌≤◌, true, false, Bool, cond, List, [], ◌∷◌, length, map, filter, get_or, take, reverse, refl, sym, ap, ◌∙◌, subst, inl, inr, arith}
 use Rattle.std.specs.Prelude.{◌&&◌, ◌||◌, ◌==◌, codes, not, nat_lt, nat_le, pos, int_lt, ℤ, IsPermutation}
 use Rattle.std.specs.List.{All, AllByRecursion, list_any, range_with_len, slice_get}
 use Rattle.std.specs.Option.{option_or}
 use Rattle.std.proofs.lemmas.Bool.{and_from as and_both, cases_Bool, eqb-true as same_number}
 use Rattle.std.proofs.lemmas.Bool.Decides.{nat_tests}
-use Rattle.std.proofs.lemmas.List.{drop-map, drop_more, get_or-map, length-map, map_more, reverse-append, take-map, take_all, take_rest}
+use Rattle.std.proofs.lemmas.List.{drop-map, drop_more, get_or-map, length-map, map_more, reverse-append, take-map, take_all}
 use Rattle.std.proofs.lemmas.List.Elements.{All-from_recursion, All-get_or}
 use Rattle.std.proofs.lemmas.List.Sorted.{All-permutation, IsPermutation-reverse, IsPermutation-trans, list_any-IsPermutation}
 use Rattle.std.proofs.lemmas.Option.{get_or_from_slice_get}
@@ -22,7 +22,7 @@ use Rattle.gtfs_columns.specs.steps.Found.{Adds, Reports, is_same}
 use Rattle.gtfs_columns.specs.steps.Picks.{at_column}
 use Rattle.gtfs_columns.specs.Problems.{Problem, holds_in, lists_problem, is_problem}
 use Rattle.gtfs_table.specs.Rows.{is_row, records_in, rows, is_empty}
-use Rattle.gtfs_trip_rules.specs.KeptTimes.{departs, is_untimed}
+use Rattle.gtfs_trip_rules.specs.KeptTimes.{departs}
 use Rattle.gtfs_trip_rules.specs.TripOrder.{ends, is_left_later, is_untimed_end, last_left, left_before, repeats, row_cmp, rows_before, rows_from, same_sequence, same_trip, InOrder}
 use Rattle.gtfs_trip_rules.specs.TripStopTimes.{TripStopTime, has_trip_stop_time, trip_stop_time, trip_stop_time_in, trip_stop_times_in}
 use Rattle.gtfs_columns.specs.Values.{if_there}
@@ -34,7 +34,7 @@ use Rattle.gtfs_columns.proofs.RuleFacts.{row_reported}
 use Rattle.gtfs_trip_rules.proofs.SplitLists.{IsAscending, IsSplit, ascends_from_sorted, onto, onto_index, split_of}
 use Rattle.gtfs_columns.proofs.ReportingFacts.{reports_alike, reports_none, reports_then}
 use Rattle.gtfs_trip_rules.proofs.TripPositions.{earlier_row, earlier_twin, is_left_late, is_timed_in, last_left_late, later_row}
-use Rattle.gtfs_trip_rules.proofs.TripRestated.{any_filter, at_end, back_restated, end_restated, ends_untimed, goes_back_among, key_restated, repeats_among}
+use Rattle.gtfs_trip_rules.proofs.TripRestated.{any_filter, back_restated, end_restated, ends_untimed, goes_back_among, key_restated, repeats_among}
 use Rattle.gtfs_trip_rules.proofs.TripStopTimeOrder.{is_earlier_twin, is_lower, stands_first}
 
 -- ---- the rows of a dataset
@@ -156,7 +156,7 @@ module _ (d : Dataset) (c : Code) (name : List ℕ) (rule : List TripStopTime �
 
 -- ---- the rules at a site of the rows in order
 
-map_or : (a b : Option ℕ) → option_map pos (option_or a b) ≡ option_or (option_map pos a) (option_map pos b)
+pub map_or : (a b : Option ℕ) → option_map pos (option_or a b) ≡ option_or (option_map pos a) (option_map pos b)
 map_or None b = refl
 map_or (Some x) b = refl
 
@@ -271,13 +271,6 @@ ends_reported d = record { is = λ n. ap (λ b. is_row (records_in d file.StopTi
 
 pub back_reported : (d : Dataset) → ReportsRule d code.E17 (codes "arrival_time") goes_back_among
 back_reported d = record { is = λ n. ap (λ b. is_row (records_in d file.StopTimes) n && b) (back_restated d n) }
-
--- at the next row, which has a time, and so is no end without times
-pub timed_forward : (d : Dataset) (name : ℕ → List ℕ) (lent : List StopTime) (o : InOrder d (map (trip_stop_time name) lent)) (i : ℕ) (z : StopTime) → i < length lent → (ps : List Problem)
-    → is_untimed (get_or lent i z) ≡ false → Reports d (seen code.E15 (codes "arrival_time") (rows_before name lent i)) ps ps → Reports d (seen code.E15 (codes "arrival_time") (rows_before name lent (i + 1))) ps ps
-timed_forward d name lent o i z below ps timed =
-    silent_forward d name lent o code.E15 (codes "arrival_time") ends_untimed (ends_reported d) i z below ps
-    (sym (ap (λ b. b && at_end (trip_stop_times_in d) (trip_stop_time name (get_or lent i z))) timed))
 
 -- none of the rules picks a problem of these rows
 pub record AreFaultless (d : Dataset) (xs : List TripStopTime) (ps : List Problem) : Type 0 where

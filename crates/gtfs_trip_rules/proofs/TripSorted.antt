@@ -87,7 +87,7 @@ once n d = once_in (records_in d file.StopTimes)
 -- ---- rows that come once and are sorted ascend
 
 module _ (number : List ℕ → ℕ) (name : ℕ → List ℕ) where
-  abbrev lent_cmp : StopTime → StopTime → Ordering
+  abbrev pub lent_cmp : StopTime → StopTime → Ordering
   lent_cmp x y = row_cmp number (trip_stop_time name x) (trip_stop_time name y)
 
   abbrev lent_here : ℕ → StopTime → ℕ
@@ -132,13 +132,13 @@ module _ (number : List ℕ → ℕ) (name : ℕ → List ℕ) where
   lent_total : IsTotalOrder lent_cmp
   lent_total = on_total (trip_stop_time name) (row_total number)
 
-  sorted_strictly : (d : Dataset) (old new : List StopTime) → map (trip_stop_time name) old ≡ trip_stop_times_in d → IsPermutation old new → IsSorted lent_cmp new → IsStrictlySortedBy lent_cmp new
+  pub sorted_strictly : (d : Dataset) (old new : List StopTime) → map (trip_stop_time name) old ≡ trip_stop_times_in d → IsPermutation old new → IsSorted lent_cmp new → IsStrictlySortedBy lent_cmp new
   sorted_strictly d old new is swapped sorted = subst (IsStrictlySortedBy lent_cmp) (kept_all new each) (IsStrictlySortedBy-dedup lent_total (λ x y. refl) new sorted)
     where
       each : EachOnce new
       each n = omega (arith, once n d, sum_by-IsPermutation (lent_here n) old new swapped, sum_lent n old ∙ ap (sum_by (row_here n)) is)
 
-  sorted_in_order : (d : Dataset) (old new : List StopTime) → map (trip_stop_time name) old ≡ trip_stop_times_in d → IsPermutation old new → IsStrictlySortedBy lent_cmp new → InOrder d (map (trip_stop_time name) new)
+  pub sorted_in_order : (d : Dataset) (old new : List StopTime) → map (trip_stop_time name) old ≡ trip_stop_times_in d → IsPermutation old new → IsStrictlySortedBy lent_cmp new → InOrder d (map (trip_stop_time name) new)
   sorted_in_order d old new is swapped strictly = record {
     number = number;
     moved = subst (λ (rs : List TripStopTime). IsPermutation rs (map (trip_stop_time name) new)) is (IsPermutation-map (trip_stop_time name) old new swapped);

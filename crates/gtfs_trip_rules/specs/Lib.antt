@@ -15,6 +15,7 @@ pub mod SpanView
 pub mod StopTimePicks
 pub mod StopTimes
 pub mod TripCounts
+pub mod TripJudged
 pub mod TripNotes
 pub mod TripNumbers
 pub mod TripOrder

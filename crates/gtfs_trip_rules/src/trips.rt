@@ -1,4 +1,5 @@
 pub(crate) mod counts;
+pub(crate) mod judge;
 pub(crate) mod kept;
 pub(crate) mod notes;
 pub(crate) mod numbers;

@@ -10,14 +10,14 @@ ghost use Rattle.gtfs_trip_rules.specs.Kept.{AllKeep};
 ghost use Rattle.gtfs_trip_rules.specs.StopTimePicks.{breaks_order};
 ghost use Rattle.gtfs_trip_rules.specs.KeptOrder.{AreKeptOf};
 ghost use Rattle.gtfs_trip_rules.specs.TripNotes.{trip_notes_in};
-ghost use Rattle.gtfs_trip_rules.specs.TripNumbers.{AllNumbered, AreRowsNumbered};
+ghost use Rattle.gtfs_trip_rules.specs.TripNumbers.{AllNumbered};
 ghost use Rattle.gtfs_trip_rules.specs.TripOrder.{ends, follows, is_left_later, is_untimed_end, last_left as last_left_of, left_before, repeats, rows_before, rows_from, AreInOrder};
-ghost use Rattle.gtfs_trip_rules.specs.TripStopTimes.{trip_stop_time, trip_stop_times_in};
+ghost use Rattle.gtfs_trip_rules.specs.TripStopTimes.{trip_stop_time};
 ghost use Rattle.gtfs_trip_rules.specs.declared.trips.row.StopTime.{StopTime as StopTimeValue};
 
+use crate::trips::judge::Judge;
 use crate::trips::kept::KeptStopTimes;
 use crate::trips::notes::TripNotes;
-use crate::trips::ranks::falls;
 use crate::trips::row::StopTime;
 use gtfs_columns::{Code, FileName, Found, Problem};
 use gtfs_field::OutOfMemory;
@@ -39,11 +39,12 @@ pub fn report_order<'a>(
     ensures reported { OnOk result (Reports tables.now breaks_order found.old found.new) }
     ensures kept { IfOk result (AreKeptOf tables.now) }
 {
-    let rows = notes.into_rows()?;
-    if are_faultless(&rows) {
+    let are_faultless = notes.are_faultless();
+    let noted = notes.into_rows()?;
+    let rows = noted.in_order()?;
+    if are_faultless {
         return Ok(rows);
     }
-    let rows = rows.in_order()?;
     report_rows(&rows, found)?;
     Ok(rows)
 }
@@ -62,28 +63,19 @@ fn report_rows<'a>(rows: &KeptStopTimes, found: &mut Found<'a>) -> Result<(), Ou
     Ok(())
 }
 
-// Whether rows, each of which has a time, stand in their order already and it breaks nothing, as is mostly so. Of rows
-// without times this does not tell.
+// Whether the order of these rows breaks nothing.
 fn are_faultless(rows: &KeptStopTimes) -> bool
-    ensures order { result ≡ true → (d : Dataset) → AreRowsNumbered (trip_stop_times_in d) rows.now
-        → AreInOrder d rows.now }
-    ensures faultless { result ≡ true → (d : Dataset) (found : List ProblemOf)
-        → AreInOrder d rows.now → Reports d breaks_order found found }
+    ensures { result ≡ true → (d : Dataset) → AreInOrder d rows.now
+        → (found : List ProblemOf) → Reports d breaks_order found found }
 {
-    let mut last_left = None;
+    let mut judge = Judge::new();
     for at in 0..rows.len() {
-        let row = rows.get(at);
-        let left = left_before(rows, at, last_left);
-        if falls(rows, at)
-            || repeats(rows, at)
-            || row.is_untimed()
-            || is_left_later(left, row.arrives())
-        {
+        judge.note(&rows.get(at), false);
+        if !judge.all_fit {
             return false;
         }
-        last_left = row.departs().or(left);
     }
-    true
+    judge.finds_nothing()
 }
 
 // Rows whose trip and sequence an earlier row has.
@@ -234,7 +226,7 @@ fn left_before(rows: &KeptStopTimes, at: usize, last_left: Option<u32>) -> Optio
 
 // Whether a time at which a row is left comes after that at which another one is reached.
 #[inline(always)]
-fn is_left_later(left: Option<u32>, arrival: Option<u32>) -> bool
+pub(crate) fn is_left_later(left: Option<u32>, arrival: Option<u32>) -> bool
     ensures { result ≡ is_left_later (option_map pos left) (option_map pos arrival) }
 {
     match (left, arrival) {

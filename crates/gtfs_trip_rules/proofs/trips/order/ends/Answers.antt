@@ -1,4 +1,4 @@
-use Rattle.std.proofs.Common.{◌∙◌, arith}
+use Rattle.std.proofs.Common.{◌∙◌}
 use Rattle.gtfs_trip_rules.proofs.TripKept.{ends_after}
 use Rattle.gtfs_trip_rules.proofs.trips.order.ends.Goals as goal
 

@@ -1,4 +1,4 @@
-use Rattle.std.proofs.Common.{◌∙◌, ap, sym, ◌<◌, arith, length}
+use Rattle.std.proofs.Common.{◌∙◌, ap, ◌<◌, arith, length}
 use Rattle.std.specs.Prelude.{codes}
 use Rattle.gtfs_columns.specs.View.{problem_of}
 use Rattle.gtfs_columns.specs.declared.code.Code.TheVariants as code

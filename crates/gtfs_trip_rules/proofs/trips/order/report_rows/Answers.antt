@@ -8,4 +8,4 @@ returns c = λ d o. order_reported d c.args.found.now _ _ c.report_times_back.ne
     (c.in_ok-report_times_back.ensures d o)
 
 pub returns-then-are_faultless : goal.returns-then-are_faultless
-returns-then-are_faultless c = λ d o. c.are_faultless.ensures.faultless c.if-are_faultless.true d c.args.found.now o
+returns-then-are_faultless c = λ d o. c.are_faultless.ensures c.if-are_faultless.true d o c.args.found.now

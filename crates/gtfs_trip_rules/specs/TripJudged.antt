@@ -1,0 +1,71 @@
+-- Rows that are judged as they come, each by the one before it. Of the rows so far the last comes first.
+use Rattle.std.specs.Prelude.{◌≡◌, ◌==◌, ◌&&◌, ◌||◌, ℕ, not, nat_lt, Bool, true, List, [], ◌∷◌, option_map, Option, None, Some, if◌then◌else◌, pos, false}
+use Rattle.std.specs.List.{list_any}
+use Rattle.std.specs.Option.{option_or}
+use Rattle.gtfs_trip_rules.specs.KeptTimes.{arrives, departs, is_untimed}
+use Rattle.gtfs_trip_rules.specs.TripOrder.{is_left_later}
+use Rattle.gtfs_trip_rules.specs.declared.trips.judge.Judge.{Judge}
+use Rattle.gtfs_trip_rules.specs.declared.trips.judge.Last.{Last}
+use Rattle.gtfs_trip_rules.specs.declared.trips.row.StopTime.{StopTime}
+
+-- ---- a row after the last one
+
+-- it is of the same trip
+abbrev pub goes_on : Option Last → StopTime → Bool
+goes_on None r = false
+goes_on (Some last) r = r.trip == last.trip
+
+-- when its trip was left last
+abbrev pub left_of : Option Last → StopTime → Option ℕ
+left_of None r = None
+left_of (Some last) r = if r.trip == last.trip then last.left else None
+
+-- it breaks nothing beside the last one
+abbrev pub fits : Option Last → StopTime → Bool
+fits None r = not (is_untimed r)
+fits (Some last) r = if r.trip == last.trip
+    then nat_lt last.sequence r.stop_row.stop_sequence && not (is_left_later (option_map pos last.left) (option_map pos (arrives r)))
+    else not last.is_untimed && not (is_untimed r)
+
+abbrev pub as_last : Option Last → StopTime → Last
+as_last last r = record {
+  trip = r.trip;
+  sequence = r.stop_row.stop_sequence;
+  is_untimed = is_untimed r;
+  left = option_or (departs r) (left_of last r);
+}
+
+-- ---- all rows
+
+abbrev pub last_of : List StopTime → Option Last
+last_of [] = None
+last_of (r ∷ before) = Some (as_last (last_of before) r)
+
+-- each row passes a test after those before it
+abbrev pub each_after : (List StopTime → StopTime → Bool) → List StopTime → Bool
+each_after test [] = true
+each_after test (r ∷ before) = each_after test before && test before r
+
+abbrev pub all_fit : List StopTime → Bool
+all_fit = each_after (λ before. fits (last_of before))
+
+-- the last one has a time, if there is one
+abbrev pub ends_timed : Option Last → Bool
+ends_timed None = true
+ends_timed (Some last) = not last.is_untimed
+
+abbrev pub names_trip : List StopTime → StopTime → Bool
+names_trip rows r = list_any (λ b. r.trip == b.trip) rows
+
+-- the row before is of the same trip, or none is
+abbrev pub stands_with : List StopTime → StopTime → Bool
+stands_with before r = goes_on (last_of before) r || not (names_trip before r)
+
+abbrev pub are_together : List StopTime → Bool
+are_together = each_after stands_with
+
+-- what was found of these rows
+pub record Judges (j : Judge) (rows : List StopTime) : Type 0 where
+  pub last : j.last ≡ last_of rows
+  pub fit : j.all_fit ≡ all_fit rows
+  pub together : j.are_together ≡ true → are_together rows ≡ true

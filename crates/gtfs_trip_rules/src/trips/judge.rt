@@ -1,0 +1,111 @@
+ghost use Rattle.std.specs.Prelude.{◌≡◌, ◌&&◌, ◌∷◌, [], List, false, true};
+ghost use Rattle.gtfs_trip_rules.specs.TripJudged.{as_last, ends_timed, fits, goes_on, left_of, names_trip, Judges};
+ghost use Rattle.gtfs_trip_rules.specs.declared.trips.row.StopTime.{StopTime as StopTimeValue};
+
+use crate::trips::order::is_left_later;
+use crate::trips::row::StopTime;
+
+// What is kept of the last row.
+#[derive(Clone, Copy)]
+pub(crate) struct Last {
+    pub(crate) trip: u32,
+    pub(crate) sequence: u32,
+    pub(crate) is_untimed: bool,
+    // When its trip was left last.
+    pub(crate) left: Option<u32>,
+}
+
+// Judges rows as they come, each by the one before it, which is in the cache still.
+#[derive(Clone, Copy)]
+pub(crate) struct Judge {
+    pub(crate) last: Option<Last>,
+    // Whether none broke anything beside the one before it.
+    pub(crate) all_fit: bool,
+    // Whether the rows of each trip stand together.
+    pub(crate) are_together: bool,
+}
+
+impl Judge {
+    pub(crate) fn new() -> Judge
+        ensures { Judges result [] }
+    {
+        Judge {
+            last: None,
+            all_fit: true,
+            are_together: true,
+        }
+    }
+
+    // Judges one more row. Where its trip is said to be new, none of the rows so far is of it.
+    #[inline(always)]
+    pub(crate) fn note(&mut self, row: &StopTime, is_new: bool)
+        ensures { (rows : List StopTimeValue) → Judges self.old rows
+            → (is_new ≡ true → names_trip rows row.now ≡ false)
+            → Judges self.new (row.now ∷ rows) }
+    {
+        self.all_fit = self.all_fit && self.fits(row);
+        self.are_together = self.are_together && (is_new || self.goes_on(row));
+        self.last = Some(self.as_last(row));
+    }
+
+    // Whether the rows break nothing where they stand in order, if these were all.
+    pub(crate) fn finds_nothing(&self) -> bool
+        ensures { result ≡ (self.now.all_fit && ends_timed self.now.last) }
+    {
+        self.all_fit
+            && match &self.last {
+                Some(last) => !last.is_untimed,
+                None => true,
+            }
+    }
+
+    // Whether a row is of the last one's trip.
+    #[inline(always)]
+    fn goes_on(&self, row: &StopTime) -> bool
+        ensures { result ≡ goes_on self.now.last row.now }
+    {
+        match &self.last {
+            Some(last) => row.trip == last.trip,
+            None => false,
+        }
+    }
+
+    // When a row's trip was left last.
+    #[inline(always)]
+    fn left_of(&self, row: &StopTime) -> Option<u32>
+        ensures { result ≡ left_of self.now.last row.now }
+    {
+        match &self.last {
+            Some(last) if row.trip == last.trip => last.left,
+            _ => None,
+        }
+    }
+
+    // Whether a row breaks nothing beside the last one.
+    #[inline(always)]
+    fn fits(&self, row: &StopTime) -> bool
+        ensures { result ≡ fits self.now.last row.now }
+    {
+        let Some(last) = &self.last else {
+            return !row.is_untimed();
+        };
+        if row.trip == last.trip {
+            last.sequence < row.stop_row.stop_sequence && !is_left_later(last.left, row.arrives())
+        } else {
+            !last.is_untimed && !row.is_untimed()
+        }
+    }
+
+    // A row as the last one.
+    #[inline(always)]
+    fn as_last(&self, row: &StopTime) -> Last
+        ensures { result ≡ as_last self.now.last row.now }
+    {
+        Last {
+            trip: row.trip,
+            sequence: row.stop_row.stop_sequence,
+            is_untimed: row.is_untimed(),
+            left: row.departs().or(self.left_of(row)),
+        }
+    }
+}
