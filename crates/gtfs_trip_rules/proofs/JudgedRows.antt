@@ -55,8 +55,8 @@ starts_timed None r fit first = not_true (is_untimed r) fit
 starts_timed (Some last) r fit first = not_true (is_untimed r) (and_parts (not last.is_untimed) (not (is_untimed r)) (rw first at fit)).1
 
 -- it has a greater sequence in the same trip
-pub rises : (last : Last) (r : StopTime) → fits (Some last) r ≡ true → (r.trip == last.trip) ≡ true → last.sequence < r.stop_row.stop_sequence
-rises last r fit same =
+rises_further : (last : Last) (r : StopTime) → fits (Some last) r ≡ true → (r.trip == last.trip) ≡ true → last.sequence < r.stop_row.stop_sequence
+rises_further last r fit same =
     let below = (and_parts (nat_lt last.sequence r.stop_row.stop_sequence) (not (is_left_later (option_map pos last.left) (option_map pos (arrives r)))) (rw same at fit)).0 in
     grind (arith, nat_tests, below)
 
@@ -114,7 +114,7 @@ module _ (number : List ℕ → ℕ) (name : ℕ → List ℕ) where
     no_last [] of_after timed untimed = sym untimed ∙ timed
     no_last (a ∷ after) of_after next untimed = elim (cases_Bool (a.trip == r.trip)) [
       | inl same ↦
-          let above = rises (as_last (last_of before) r) a next same in
+          let above = rises_further (as_last (last_of before) r) a next same in
           let one : (r.trip == a.trip) ≡ true = ap (λ t. r.trip == t) (same_number a.trip r.trip same) ∙ ap (λ t. t == r.trip) (sym (same_number a.trip r.trip same)) ∙ same in
           let other : (r.stop_row.stop_sequence == a.stop_row.stop_sequence) ≡ false = grind (arith, nat_tests, above) in
           (λ i. not ((sym (same_trips number name r a of_r (first_of a after of_after)) ∙ one) i) || ((sym (same_integers r.stop_row.stop_sequence a.stop_row.stop_sequence) ∙ other) i && ends (row_of a ∷ map row_of after)))
@@ -136,7 +136,7 @@ module _ (number : List ℕ → ℕ) (name : ℕ → List ℕ) where
   no_repeat : (before : List StopTime) (r : StopTime) → AllNumbered number name before → IsNumbered number name r → fits (last_of before) r ≡ true → repeats (map row_of before) (row_of r) ≡ false
   no_repeat [] r each of_r fit = refl
   no_repeat (b ∷ before) r each of_r fit = sym (λ i. same_trips number name r b of_r (first_of b before each) i && int_eq (pos r.stop_row.stop_sequence) (pos b.stop_row.stop_sequence)) ∙ elim (cases_Bool (r.trip == b.trip)) [
-    | inl same ↦ rw (same, ← same_integers r.stop_row.stop_sequence b.stop_row.stop_sequence) (apart _ _ (rises (as_last (last_of before) b) r fit same))
+    | inl same ↦ rw (same, ← same_integers r.stop_row.stop_sequence b.stop_row.stop_sequence) (apart _ _ (rises_further (as_last (last_of before) b) r fit same))
     | inr other ↦ rw other refl
   ]
 

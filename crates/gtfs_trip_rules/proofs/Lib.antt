@@ -34,4 +34,5 @@ mod KeptListFacts
 mod PlaceFacts
 mod EarlierRows
 mod JudgedRows
+mod StretchFacts
 mod TogetherRows

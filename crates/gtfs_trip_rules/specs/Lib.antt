@@ -4,6 +4,7 @@ pub mod KeptLists
 pub mod KeptOrder
 pub mod KeptPlaces
 pub mod KeptRow
+pub mod KeptStretches
 pub mod KeptTimes
 pub mod PeriodView
 pub mod Readings

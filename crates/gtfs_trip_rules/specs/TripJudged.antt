@@ -15,6 +15,11 @@ abbrev pub goes_on : Option Last → StopTime → Bool
 goes_on None r = false
 goes_on (Some last) r = r.trip == last.trip
 
+-- and has a greater sequence
+abbrev pub rises : Option Last → StopTime → Bool
+rises None r = false
+rises (Some last) r = (r.trip == last.trip) && nat_lt last.sequence r.stop_row.stop_sequence
+
 -- when its trip was left last
 abbrev pub left_of : Option Last → StopTime → Option ℕ
 left_of None r = None
@@ -57,10 +62,11 @@ ends_timed (Some last) = not last.is_untimed
 abbrev pub names_trip : List StopTime → StopTime → Bool
 names_trip rows r = list_any (λ b. r.trip == b.trip) rows
 
--- the row before is of the same trip, or none is
+-- a row rises from the one before it, or is the first of its trip
 abbrev pub stands_with : List StopTime → StopTime → Bool
-stands_with before r = goes_on (last_of before) r || not (names_trip before r)
+stands_with before r = rises (last_of before) r || not (names_trip before r)
 
+-- the rows of each trip stand together, and their sequences ascend
 abbrev pub are_together : List StopTime → Bool
 are_together = each_after stands_with
 

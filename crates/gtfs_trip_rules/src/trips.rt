@@ -8,4 +8,4 @@ pub(crate) mod places;
 pub(crate) mod ranks;
 pub(crate) mod row;
 pub(crate) mod row_counts;
-mod stretches;
+pub(crate) mod stretches;

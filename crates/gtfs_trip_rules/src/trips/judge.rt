@@ -1,5 +1,5 @@
 ghost use Rattle.std.specs.Prelude.{◌≡◌, ◌&&◌, ◌∷◌, [], List, false, true};
-ghost use Rattle.gtfs_trip_rules.specs.TripJudged.{as_last, ends_timed, fits, goes_on, left_of, names_trip, Judges};
+ghost use Rattle.gtfs_trip_rules.specs.TripJudged.{as_last, ends_timed, fits, left_of, names_trip, rises, Judges};
 ghost use Rattle.gtfs_trip_rules.specs.declared.trips.row.StopTime.{StopTime as StopTimeValue};
 
 use crate::trips::order::is_left_later;
@@ -21,7 +21,7 @@ pub(crate) struct Judge {
     pub(crate) last: Option<Last>,
     // Whether none broke anything beside the one before it.
     pub(crate) all_fit: bool,
-    // Whether the rows of each trip stand together.
+    // Whether the rows of each trip stand together, and their sequences ascend.
     pub(crate) are_together: bool,
 }
 
@@ -44,7 +44,7 @@ impl Judge {
             → Judges self.new (row.now ∷ rows) }
     {
         self.all_fit = self.all_fit && self.fits(row);
-        self.are_together = self.are_together && (is_new || self.goes_on(row));
+        self.are_together = self.are_together && (is_new || self.rises_to(row));
         self.last = Some(self.as_last(row));
     }
 
@@ -59,13 +59,13 @@ impl Judge {
             }
     }
 
-    // Whether a row is of the last one's trip.
+    // Whether a row is of the last one's trip, and has a greater sequence.
     #[inline(always)]
-    fn goes_on(&self, row: &StopTime) -> bool
-        ensures { result ≡ goes_on self.now.last row.now }
+    fn rises_to(&self, row: &StopTime) -> bool
+        ensures { result ≡ rises self.now.last row.now }
     {
         match &self.last {
-            Some(last) => row.trip == last.trip,
+            Some(last) => { row.trip == last.trip && last.sequence < row.stop_row.stop_sequence }
             None => false,
         }
     }

@@ -1,16 +1,14 @@
 ghost use Rattle.std.specs.Prelude.{◌≡◌, ◌∷◌, ◌++◌, [], true, List, ℕ, min, IfOk, OnOk};
-ghost use Rattle.std.specs.List.{All};
 ghost use Rattle.gtfs_columns.specs.IdNumbers.{number_among};
 ghost use Rattle.gtfs_columns.specs.Problems.{Problem as ProblemOf};
 ghost use Rattle.gtfs_columns.specs.steps.Found.{Reports};
 ghost use Rattle.gtfs_columns.specs.steps.Ids.{ids_of};
 ghost use Rattle.gtfs_table.specs.Tables.{Dataset};
 ghost use Rattle.gtfs_trip_rules.specs.Kept.{AllKeep};
-ghost use Rattle.gtfs_trip_rules.specs.KeptTimes.{is_placed};
+ghost use Rattle.gtfs_trip_rules.specs.KeptOrder.{AreKeptOf};
 ghost use Rattle.gtfs_trip_rules.specs.StopTimePicks.{breaks_order};
 ghost use Rattle.gtfs_trip_rules.specs.TripCounts.{count_of};
-ghost use Rattle.gtfs_trip_rules.specs.TripNotes.{rows_of_notes, times_noted, trip_note, trip_notes_in, AreEarlier, NotesRow};
-ghost use Rattle.gtfs_trip_rules.specs.TripNumbers.{AreRowsNumbered};
+ghost use Rattle.gtfs_trip_rules.specs.TripNotes.{times_noted, trip_note, trip_notes_in, AreEarlier, NotesRow};
 
 use crate::trips::judge::Judge;
 use crate::trips::kept::KeptStopTimes;
@@ -134,21 +132,23 @@ impl<'a> TripNotes<'a> {
         self.are_sequenced && self.judge.are_together && self.judge.finds_nothing()
     }
 
-    // The rows that have a sequence, in the file's order.
-    pub(crate) fn into_rows(self) -> Result<KeptStopTimes, OutOfMemory>
-        ensures numbered { IfOk result (AreRowsNumbered (rows_of_notes self.entry.notes)) }
-        ensures placed { IfOk result (All (λ r. is_placed r.times ≡ true)) }
-        ensures kept { IfOk result (λ rows.
-            (d : Dataset) → AllKeep d self.entry.rows → AllKeep d rows) }
+    // The rows that have a sequence, by trip, sequence and row.
+    pub(crate) fn into_order(self) -> Result<KeptStopTimes, OutOfMemory>
+        ensures { IfOk result (λ rows. (d : Dataset) → self.entry.notes ≡ trip_notes_in d
+            → AllKeep d self.entry.rows → AreKeptOf d rows) }
     {
         let TripNotes {
             rows,
             are_sequenced,
+            judge,
             ..
         } = self;
-        if are_sequenced {
-            return Ok(rows);
+        if !are_sequenced {
+            return rows.placed()?.sorted();
         }
-        rows.placed()
+        if judge.are_together {
+            return rows.by_trips();
+        }
+        rows.sorted()
     }
 }

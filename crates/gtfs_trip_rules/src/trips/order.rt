@@ -40,8 +40,7 @@ pub fn report_order<'a>(
     ensures kept { IfOk result (AreKeptOf tables.now) }
 {
     let are_faultless = notes.are_faultless();
-    let noted = notes.into_rows()?;
-    let rows = noted.in_order()?;
+    let rows = notes.into_order()?;
     if are_faultless {
         return Ok(rows);
     }
