@@ -1,7 +1,13 @@
 -- Rows that are judged as they come, each by the one before it. Of the rows so far the last comes first.
-use Rattle.std.specs.Prelude.{◌≡◌, ◌==◌, ◌&&◌, ◌||◌, ℕ, not, nat_lt, Bool, true, List, [], ◌∷◌, option_map, Option, None, Some, if◌then◌else◌, pos, false}
+use Rattle.std.specs.Prelude.{◌≡◌, ◌==◌, ◌&&◌, ◌||◌, ℕ, not, nat_lt, Bool, true, List, [], ◌∷◌, option_map, Option, None, Some, if◌then◌else◌, codes, pos, false}
 use Rattle.std.specs.List.{list_any}
 use Rattle.std.specs.Option.{option_or}
+use Prim.Native.String.{String as Literal}
+use Rattle.gtfs_table.specs.declared.file.File.TheVariants as file
+use Rattle.gtfs_columns.specs.declared.code.Code.{Code}
+use Rattle.gtfs_columns.specs.declared.code.Code.TheVariants as code
+use Rattle.gtfs_columns.specs.steps.Found.{Adds, is_same}
+use Rattle.gtfs_columns.specs.Problems.{Problem, kept}
 use Rattle.gtfs_trip_rules.specs.KeptTimes.{arrives, departs, is_untimed}
 use Rattle.gtfs_trip_rules.specs.TripOrder.{is_left_later}
 use Rattle.gtfs_trip_rules.specs.declared.trips.judge.Judge.{Judge}
@@ -24,6 +30,27 @@ rises (Some last) r = (r.trip == last.trip) && nat_lt last.sequence r.stop_row.s
 abbrev pub left_of : Option Last → StopTime → Option ℕ
 left_of None r = None
 left_of (Some last) r = if r.trip == last.trip then last.left else None
+
+-- it has the same trip and sequence
+abbrev pub repeats_last : Option Last → StopTime → Bool
+repeats_last None r = false
+repeats_last (Some last) r = (r.trip == last.trip) && (r.stop_row.stop_sequence == last.sequence)
+
+-- it is reached before its trip was left last
+abbrev pub is_late : Option Last → StopTime → Bool
+is_late last r = is_left_later (option_map pos (left_of last r)) (option_map pos (arrives r))
+
+abbrev pub is_twin : StopTime → StopTime → Bool
+is_twin r a = (r.trip == a.trip) && (r.stop_row.stop_sequence == a.stop_row.stop_sequence)
+
+-- no row after it is of its trip and has a greater sequence
+abbrev pub ends_trip : StopTime → List StopTime → Bool
+ends_trip r [] = true
+ends_trip r (a ∷ after) = if is_twin r a then ends_trip r after else not (r.trip == a.trip)
+
+-- it has no times, and is its trip's first, or the first of its trip's greatest sequence
+abbrev pub is_end_untimed : Option Last → StopTime → List StopTime → Bool
+is_end_untimed last r after = is_untimed r && (not (goes_on last r) || (not (repeats_last last r) && ends_trip r after))
 
 -- it breaks nothing beside the last one
 abbrev pub fits : Option Last → StopTime → Bool
@@ -75,3 +102,16 @@ pub record Judges (j : Judge) (rows : List StopTime) : Type 0 where
   pub last : j.last ≡ last_of rows
   pub fit : j.all_fit ≡ all_fit rows
   pub together : j.are_together ≡ true → are_together rows ≡ true
+
+-- ---- what is reported of a row
+
+abbrev problem_of : Code → Literal → StopTime → Problem
+problem_of c column r = record { file = kept file.StopTimes; row = r.row; code = c; column = codes column }
+
+-- those of its three problems that it has were added
+pub record AddsOfRow (r : StopTime) (twice at_end back : Bool) (old new : List Problem) : Type 0 where
+  pub first : List Problem
+  pub second : List Problem
+  pub repeated : Adds (λ p. is_same (problem_of code.E09 "stop_sequence" r) p && twice) old first
+  pub untimed : Adds (λ p. is_same (problem_of code.E15 "arrival_time" r) p && at_end) first second
+  pub late : Adds (λ p. is_same (problem_of code.E17 "arrival_time" r) p && back) second new

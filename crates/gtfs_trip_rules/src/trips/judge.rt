@@ -1,5 +1,5 @@
 ghost use Rattle.std.specs.Prelude.{◌≡◌, ◌&&◌, ◌∷◌, [], List, false, true};
-ghost use Rattle.gtfs_trip_rules.specs.TripJudged.{as_last, ends_timed, fits, left_of, names_trip, rises, Judges};
+ghost use Rattle.gtfs_trip_rules.specs.TripJudged.{as_last, ends_timed, fits, goes_on, is_late, left_of, names_trip, repeats_last, rises, Judges};
 ghost use Rattle.gtfs_trip_rules.specs.declared.trips.row.StopTime.{StopTime as StopTimeValue};
 
 use crate::trips::order::is_left_later;
@@ -68,6 +68,36 @@ impl Judge {
             Some(last) => { row.trip == last.trip && last.sequence < row.stop_row.stop_sequence }
             None => false,
         }
+    }
+
+    // Whether a row is of the last one's trip.
+    #[inline(always)]
+    pub(crate) fn goes_on(&self, row: &StopTime) -> bool
+        ensures { result ≡ goes_on self.now.last row.now }
+    {
+        match &self.last {
+            Some(last) => row.trip == last.trip,
+            None => false,
+        }
+    }
+
+    // Whether a row has the trip and the sequence of the last one.
+    #[inline(always)]
+    pub(crate) fn repeats(&self, row: &StopTime) -> bool
+        ensures { result ≡ repeats_last self.now.last row.now }
+    {
+        match &self.last {
+            Some(last) => row.trip == last.trip && row.stop_row.stop_sequence == last.sequence,
+            None => false,
+        }
+    }
+
+    // Whether a row is reached before its trip was left last.
+    #[inline(always)]
+    pub(crate) fn is_late(&self, row: &StopTime) -> bool
+        ensures { result ≡ is_late self.now.last row.now }
+    {
+        is_left_later(self.left_of(row), row.arrives())
     }
 
     // When a row's trip was left last.
