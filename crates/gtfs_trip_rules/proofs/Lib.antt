@@ -19,7 +19,6 @@ pub mod StopTimeFacts
 pub mod StopTimeFields
 pub mod StopTimePasses
 pub mod TripCountFacts
-pub mod TripKept
 pub mod TripNumberFacts
 pub mod TripPicks
 pub mod TripPositions

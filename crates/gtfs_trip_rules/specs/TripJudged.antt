@@ -52,12 +52,14 @@ ends_trip r (a ∷ after) = if is_twin r a then ends_trip r after else not (r.tr
 abbrev pub is_end_untimed : Option Last → StopTime → List StopTime → Bool
 is_end_untimed last r after = is_untimed r && (not (goes_on last r) || (not (repeats_last last r) && ends_trip r after))
 
--- it breaks nothing beside the last one
+-- the last one has a time, if there is one
+abbrev pub ends_timed : Option Last → Bool
+ends_timed None = true
+ends_timed (Some last) = not last.is_untimed
+
+-- it is not late, and where a trip begins with it that trip and the one before have times at their ends
 abbrev pub fits : Option Last → StopTime → Bool
-fits None r = not (is_untimed r)
-fits (Some last) r = if r.trip == last.trip
-    then nat_lt last.sequence r.stop_row.stop_sequence && not (is_left_later (option_map pos last.left) (option_map pos (arrives r)))
-    else not last.is_untimed && not (is_untimed r)
+fits last r = not (is_late last r) && (goes_on last r || (ends_timed last && not (is_untimed r)))
 
 abbrev pub as_last : Option Last → StopTime → Last
 as_last last r = record {
@@ -80,11 +82,6 @@ each_after test (r ∷ before) = each_after test before && test before r
 
 abbrev pub all_fit : List StopTime → Bool
 all_fit = each_after (λ before. fits (last_of before))
-
--- the last one has a time, if there is one
-abbrev pub ends_timed : Option Last → Bool
-ends_timed None = true
-ends_timed (Some last) = not last.is_untimed
 
 abbrev pub names_trip : List StopTime → StopTime → Bool
 names_trip rows r = list_any (λ b. r.trip == b.trip) rows

@@ -19,7 +19,7 @@ pub(crate) struct Last {
 #[derive(Clone, Copy)]
 pub(crate) struct Judge {
     pub(crate) last: Option<Last>,
-    // Whether none broke anything beside the one before it.
+    // Whether none was late, and no trip began or ended without times.
     pub(crate) all_fit: bool,
     // Whether the rows of each trip stand together, and their sequences ascend.
     pub(crate) are_together: bool,
@@ -48,15 +48,23 @@ impl Judge {
         self.last = Some(self.as_last(row));
     }
 
-    // Whether the rows break nothing where they stand in order, if these were all.
-    pub(crate) fn finds_nothing(&self) -> bool
-        ensures { result ≡ (self.now.all_fit && ends_timed self.now.last) }
+    // Whether the rows break nothing by their order, if these were all.
+    pub(crate) fn are_faultless(&self) -> bool
+        ensures { result ≡ ((self.now.are_together && self.now.all_fit)
+            && ends_timed self.now.last) }
     {
-        self.all_fit
-            && match &self.last {
-                Some(last) => !last.is_untimed,
-                None => true,
-            }
+        self.are_together && self.all_fit && self.ends_timed()
+    }
+
+    // Whether the last row has a time, if there is one.
+    #[inline(always)]
+    fn ends_timed(&self) -> bool
+        ensures { result ≡ ends_timed self.now.last }
+    {
+        match &self.last {
+            Some(last) => !last.is_untimed,
+            None => true,
+        }
     }
 
     // Whether a row is of the last one's trip, and has a greater sequence.
@@ -111,19 +119,12 @@ impl Judge {
         }
     }
 
-    // Whether a row breaks nothing beside the last one.
+    // Whether a row is not late, and where a trip begins with it that trip and the one before have times at their ends.
     #[inline(always)]
     fn fits(&self, row: &StopTime) -> bool
         ensures { result ≡ fits self.now.last row.now }
     {
-        let Some(last) = &self.last else {
-            return !row.is_untimed();
-        };
-        if row.trip == last.trip {
-            last.sequence < row.stop_row.stop_sequence && !is_left_later(last.left, row.arrives())
-        } else {
-            !last.is_untimed && !row.is_untimed()
-        }
+        !self.is_late(row) && (self.goes_on(row) || (self.ends_timed() && !row.is_untimed()))
     }
 
     // A row as the last one.

@@ -129,7 +129,7 @@ impl<'a> TripNotes<'a> {
         ensures { result ≡ true → (d : Dataset) → self.now.notes ≡ trip_notes_in d
             → (found : List ProblemOf) → Reports d breaks_order found found }
     {
-        self.are_sequenced && self.judge.are_together && self.judge.finds_nothing()
+        self.are_sequenced && self.judge.are_faultless()
     }
 
     // The rows that have a sequence, by trip, sequence and row.
