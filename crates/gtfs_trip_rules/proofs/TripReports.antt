@@ -207,13 +207,13 @@ module _ (d : Dataset) (name : ℕ → List ℕ) (lent : List StopTime) (o : InO
     split : IsSplit (row_cmp o.number) (rows_before name lent i) e (rows_from name lent (i + 1))
     split = split_of (row_cmp o.number) (rows_before name lent i) e (rows_from name lent (i + 1)) (subst (IsAscending (row_cmp o.number)) (sym split_rows) (ascends_from_sorted (row_cmp o.number) (map (trip_stop_time name) lent) o.ascending))
 
-    pub is_row_here : IsRowOf d e
+    is_row_here : IsRowOf d e
     is_row_here = subst (IsRowOf d) (get_or-map (trip_stop_time name) lent i z (trip_stop_time name z) below) (All-get_or (IsRowOf d) (map (trip_stop_time name) lent) i (trip_stop_time name z) (omega (arith, length-map lent (trip_stop_time name))) (each_row d (map (trip_stop_time name) lent) o.moved))
 
     in_file_order : (t : TripStopTime → Bool) → list_any t (onto (rows_before name lent i) (e ∷ rows_from name lent (i + 1))) ≡ list_any t (trip_stop_times_in d)
     in_file_order t = ap (list_any t) split_rows ∙ sym (list_any-IsPermutation t (trip_stop_times_in d) (map (trip_stop_time name) lent) o.moved)
 
-    pub repeats_here : repeats (rows_before name lent i) e ≡ repeats_among (trip_stop_times_in d) e
+    repeats_here : repeats (rows_before name lent i) e ≡ repeats_among (trip_stop_times_in d) e
     repeats_here = sym (earlier_twin o.number (rows_before name lent i) e (rows_from name lent (i + 1)) split) ∙ in_file_order (λ m. nat_lt m.row e.row && same_sequence e m)
 
     neither : (a b : Bool) → (not a && b) ≡ not (a || not b)
@@ -221,17 +221,15 @@ module _ (d : Dataset) (name : ℕ → List ℕ) (lent : List StopTime) (o : InO
     neither false true = refl
     neither false false = refl
 
-    ends_of : is_untimed_end (rows_before name lent i) e (ends (e ∷ rows_from name lent (i + 1))) ≡ ends_untimed (trip_stop_times_in d) e
-    ends_of =
+    ends_here : is_untimed_end (rows_before name lent i) e (ends (rows_from name lent i)) ≡ ends_untimed (trip_stop_times_in d) e
+    ends_here =
         let first = sym (earlier_row o.number (rows_before name lent i) e (rows_from name lent (i + 1)) split) ∙ in_file_order (λ m. same_trip e m && stands_first m e) in
         let last = sym (later_row o.number (rows_before name lent i) e (rows_from name lent (i + 1)) split) ∙ in_file_order (λ m. same_trip e m && (is_lower e m || is_earlier_twin m e)) in
-        λ j. e.is_untimed && (not (first j) || (neither (repeats (rows_before name lent i) e) (ends (e ∷ rows_from name lent (i + 1))) ∙ ap not last) j)
+        ap (λ xs. is_untimed_end (rows_before name lent i) e (ends xs)) (rows_from_here name lent i z below)
+        ∙ (λ j. e.is_untimed && (not (first j) || (neither (repeats (rows_before name lent i) e) (ends (e ∷ rows_from name lent (i + 1))) ∙ ap not last) j))
 
-    pub ends_here : (answer : Bool) → answer ≡ ends (rows_from name lent i) → is_untimed_end (rows_before name lent i) e answer ≡ ends_untimed (trip_stop_times_in d) e
-    ends_here answer is = ap (is_untimed_end (rows_before name lent i) e) (is ∙ ap ends (rows_from_here name lent i z below)) ∙ ends_of
-
-    pub back_here : (left : Option ℤ) → left ≡ left_before (rows_before name lent i) e → is_left_later left e.arrival ≡ goes_back_among (trip_stop_times_in d) e
-    back_here left is = ap (λ l. is_left_later l e.arrival) is ∙ (λ j. if_there e.arrival (λ arrives. late_here (int_lt arrives) j))
+    back_here : is_left_later (left_before (rows_before name lent i) e) e.arrival ≡ goes_back_among (trip_stop_times_in d) e
+    back_here = λ j. if_there e.arrival (λ arrives. late_here (int_lt arrives) j)
       where
         here : List TripStopTime
         here = onto (rows_before name lent i) (e ∷ rows_from name lent (i + 1))
@@ -264,8 +262,8 @@ module _ (d : Dataset) (name : ℕ → List ℕ) (lent : List StopTime) (o : InO
       (reports_then d (at_row (at_key d) x.row) (at_row (at_ends d) x.row) mid adds.first adds.second
       (reported_here d code.E09 (codes "stop_sequence") repeats_among (repeats_reported d) x repeated mid adds.first of (one ∙ repeats_here i z below) adds.repeated)
       (reported_here d code.E15 (codes "arrival_time") ends_untimed (ends_reported d) x untimed adds.first adds.second of
-      (two ∙ ends_here i z below (ends (rows_from name lent i)) refl) adds.untimed))
-      (reported_here d code.E17 (codes "arrival_time") goes_back_among (back_reported d) x late adds.second new of (three ∙ back_here i z below (left_before xs x) refl) adds.late)) in
+      (two ∙ ends_here i z below) adds.untimed))
+      (reported_here d code.E17 (codes "arrival_time") goes_back_among (back_reported d) x late adds.second new of (three ∙ back_here i z below) adds.late)) in
       subst (λ (ys : List TripStopTime). Reports d (seen ys) old new) (sym (rows_before_more name lent i z below))
       (reports_alike d (λ p. seen xs p || at_row of_order x.row p) (seen (x ∷ xs)) old new
       (λ p. ap (λ b. b && is_problem d p) (one_more (of_order p) (p.row == x.row) (is_among p.row xs)))
