@@ -20,6 +20,7 @@ use Rattle.gtfs_table.proofs.PartFacts.{length-parts}
 use Rattle.gtfs_columns.specs.Values.{if_there}
 use Rattle.gtfs_rows.specs.Trips.{frequencies_by_trip, stop_rows_by_trip}
 use Rattle.gtfs_rows.specs.Views.{IsSoundParts, content_of_parts}
+use Rattle.gtfs_rows.specs.declared.frequency.Frequency.{Frequency}
 use Rattle.gtfs_rows.specs.declared.parts.Parts.{Parts}
 use Rattle.gtfs_stop_times.specs.declared.stop_row.StopRow.{StopRow}
 use Rattle.gtfs_rows.specs.declared.trip.Trip.{Trip}
@@ -29,7 +30,7 @@ use Rattle.gtfs_runs.specs.Lanes.{has_periods}
 use Rattle.gtfs_runs.specs.declared.stop_lanes.listed.Listed.{Listed}
 use Rattle.gtfs_runs.specs.declared.stop_index.indexed_trips.IndexedTrip.{IndexedTrip}
 use Rattle.gtfs_runs.specs.steps.Courses.{IsListed, stopping_of}
-use Rattle.gtfs_runs.specs.steps.Groups.{AreIndexedTrips, AreOfTrips, AreStarted, Group, HaveGroups, group_cmp, group_of, stops_in, trip_group}
+use Rattle.gtfs_runs.specs.steps.Groups.{AreIndexedTrips, AreMarked, AreOfTrips, AreStarted, Group, HaveGroups, group_cmp, group_of, stops_in, trip_group}
 use Rattle.gtfs_runs.specs.steps.Numbers.{AreNumbered}
 use Rattle.gtfs_runs.specs.steps.Passings.{first_left}
 use Rattle.gtfs_runs.proofs.Chunks.{all_mapped}
@@ -244,13 +245,14 @@ module _ (p : Parts) (sound : IsSoundParts p) (xs sorted : List GroupedTrip) (sa
       inside t true is count some = ltb-true t (length p.trips) is
       inside t false is count some = absurd (omega (arith, count, some))
 
-  pub are_indexed : (trips : List IndexedTrip) → HaveGroups (length sorted) sorted trips → AreStarted p trips → AreIndexedTrips p trips
-  are_indexed trips numbers started = record {
+  pub are_indexed : (trips : List IndexedTrip) → HaveGroups (length sorted) sorted trips → AreStarted p trips → AreMarked p trips → AreIndexedTrips p trips
+  are_indexed trips numbers started marked = record {
     groups = λ t u e within inside.
         found_at (λ x. t == x.trip.0) sorted _ (there t within) (λ i first is.
         found_at (λ x. u == x.trip.0) sorted _ (there u inside) (λ j second has.
         pair t u e i j first second is has));
     starts = started;
+    marks = marked;
   }
     where
       there : (t : ℕ) → t < length p.trips → 1 ≤ tally (λ x. t == x.trip.0) sorted
@@ -268,7 +270,7 @@ module _ (p : Parts) (sound : IsSoundParts p) (xs sorted : List GroupedTrip) (sa
 
 -- an element that stands nowhere
 abbrev pub no_trip : IndexedTrip
-no_trip = record { group = 0; start = 0 }
+no_trip = record { group = 0; start = 0; has_frequencies = false }
 
 -- when a trip starts
 pub starts_at : (p : Parts) → IsSoundParts p → (trips : List IndexedTrip) → AreStarted p trips → (t : ℕ) (e : IndexedTrip) → t < length p.trips
@@ -278,6 +280,16 @@ starts_at p sound trips started t e within =
     let size : length rows ≡ length p.trips = omega (arith, length-parts p.stop_row_starts p.stop_rows, sound.stop_rows.0) in
     let same : length trips ≡ length rows = sym (length-map trips (λ x. x.start)) ∙ ap length started ∙ length-map rows first_left in
     sym (get_or-map (λ x. x.start) trips t e 0 (omega (arith, within, size, same))) ∙ ap (λ l. get_or l t 0) started ∙ get_or-map first_left rows t [] 0 (omega (arith, within, size))
+
+-- whether it has frequencies
+pub marked_at : (p : Parts) → IsSoundParts p → (trips : List IndexedTrip) → AreIndexedTrips p trips → (t : ℕ) (e : IndexedTrip) → t < length p.trips
+    → (fs : List Frequency) → slice_get (frequencies_by_trip p) t ≡ Some fs → (get_or trips t e).has_frequencies ≡ not (length fs == 0)
+marked_at p sound trips are t e within fs at =
+    let lists = frequencies_by_trip p in
+    let size : length lists ≡ length p.trips = omega (arith, length-parts p.frequency_starts p.frequencies, sound.frequencies.0) in
+    let same : length trips ≡ length lists = sym (length-map trips (λ x. x.has_frequencies)) ∙ ap length are.marks ∙ length-map lists (λ l. not (length l == 0)) in
+    sym (get_or-map (λ x. x.has_frequencies) trips t e false (omega (arith, within, size, same))) ∙ ap (λ l. get_or l t false) are.marks
+    ∙ get_or-map (λ l. not (length l == 0)) lists t [] false (omega (arith, within, size)) ∙ ap (λ l. not (length l == 0)) (get_or_from_slice_get lists t fs [] at)
 
 pub trips_counted : (p : Parts) → IsSoundParts p → (trips : List IndexedTrip) → AreStarted p trips → length trips ≡ length p.trips
 trips_counted p sound trips started =

@@ -37,3 +37,4 @@ mod NumberParts
 mod ChildFacts
 mod PlaceRows
 mod PlaceFinds
+mod PlacePassings

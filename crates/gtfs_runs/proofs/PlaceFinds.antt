@@ -6,7 +6,7 @@ use Rattle.std.specs.Cmp.{ranked, tied_itself}
 use Rattle.std.specs.Ordering.{nat_cmp, ordering_then}
 use Rattle.std.specs.declared.cmp.Ordering.TheVariants.{Less, Equal}
 use Rattle.std.proofs.lemmas.Cmp.{nat_cmp_total}
-use Rattle.std.proofs.lemmas.Bool.{and_parts, cases_Bool, eqb-true, true≢false, le-leb, leb-true, ltb-true, ltb-false, ne_eqb}
+use Rattle.std.proofs.lemmas.Bool.{and_parts, cases_Bool, eqb-true, true≢false, le-leb, leb-true, lt-ltb, ltb-true, ltb-false, ne_eqb}
 use Rattle.std.proofs.lemmas.Bool.Decides.{nat_tests}
 use Rattle.std.proofs.lemmas.List.{append-nil}
 use Rattle.std.proofs.lemmas.List.Elements.{All-head, All-map, All-tail}
@@ -33,7 +33,7 @@ use Rattle.gtfs_runs.specs.steps.Courses.{Stopping}
 use Rattle.gtfs_runs.specs.steps.Groups.{stops_in}
 use Rattle.gtfs_runs.specs.steps.Finds.{AreFound, stopping_at, times_passed_in, times_told}
 use Rattle.gtfs_runs.specs.steps.Passings.{ArePassings, first_left, leaves, passing_at, passings_of}
-use Rattle.gtfs_runs.specs.steps.Places.{ArePlaceRows, departs_in_place, first_trip, passing_of}
+use Rattle.gtfs_runs.specs.steps.Places.{ArePlaceRows, IsStopTime, departs_in_place, first_trip, passing_of}
 use Rattle.gtfs_runs.proofs.AtStopFacts.{asked_within}
 use Rattle.gtfs_runs.proofs.PlaceRows.{first_lowest, in_place_of, place_within}
 use Rattle.gtfs_runs.proofs.Tallies.{no_trips}
@@ -216,6 +216,10 @@ module _ (p : Parts) (sound : IsSoundParts p) (s : ℕ) where
     rows_within own of_trip all rs at =
         subst (λ l. All (λ x. x.row < length l) own) (same_Some rows rs (sym at_rows ∙ at)) (own_within p sound s t u rows fs at_trip at_rows at_periods own of_trip all)
 
+    -- a departure row is one of its stop times
+    row_within : (r : ℕ) → departs_in_place p s t r ≡ true → r < length rows
+    row_within r there = asked_within true (λ z. leaves p s u rows fs (r, z)) rows r (sym (in_place_of p sound s t u rows fs at_trip at_rows at_periods r) ∙ there)
+
     -- a trip that does not depart there adds nothing
     pub none_more : ((r : ℕ) → departs_in_place p s t r ≡ false) → (listed : List Stopping) (periods : List LaneValue) → AreFound p s t listed periods → AreFound p s (t + 1) listed periods
     none_more none listed periods was = of_periods fs at_periods
@@ -330,3 +334,13 @@ first_within p s t (x ∷ xs) are is some =
     let both = and_parts (nat_le t x.trip) (departs_in_place p s x.trip x.row) (sym (are.all x.trip x.row) ∙ ap (λ b. b || list_any (is_this_row x.trip x.row) xs) here) in
     let inside = place_within p s x.trip x.row both.1 in
     omega (arith, inside, is)
+
+-- they are stop times of trips
+pub stop_times_there : (p : Parts) → IsSoundParts p → (s k : ℕ) (xs : List DepartureRow) → ArePlaceRows p s k xs → All (IsStopTime p) xs
+stop_times_there p sound s k xs are j d below =
+    let x = get_or xs j d in
+    let here : is_this_row x.trip x.row x ≡ true = rw (itself x.trip, itself x.row) refl in
+    let there = (and_parts (nat_le k x.trip) (departs_in_place p s x.trip x.row) (sym (are.all x.trip x.row) ∙ any_at (is_this_row x.trip x.row) xs j d below here)).1 in
+    let inside = place_within p s x.trip x.row there in
+    ap (λ o. if_there o (λ rs. nat_lt x.row (length rs))) (at_rows p sound s x.trip inside)
+    ∙ lt-ltb x.row (length (get_or (stop_rows_by_trip p) x.trip [])) (row_within p sound s x.trip inside x.row there)

@@ -14,7 +14,7 @@ mod rows_by_stop;
 pub(crate) use crate::stop_index::at_stops::small_number;
 use crate::stop_index::children::{Child, Children};
 use crate::stop_index::indexed_trips::indexed_trips;
-pub(crate) use crate::stop_index::indexed_trips::{IndexedTrip, trip_at};
+pub(crate) use crate::stop_index::indexed_trips::{IndexedTrip, has_frequencies, trip_at};
 pub(crate) use crate::stop_index::place_rows::place_rows;
 use crate::stop_index::rows_by_stop::RowsByStop;
 use gtfs_feed::Feed;
@@ -57,7 +57,7 @@ impl DepartureRow {
 /// The departure rows of a feed by stop, of which the lanes of any stop can be made without a look at the other trips.
 ///
 /// It keeps a vector for each stop, eight bytes for each stop time, eight for each stop or platform
-/// with a parent, and eight for each trip.
+/// with a parent, and twelve for each trip.
 #[derive(Drop)]
 pub struct StopIndex<'a> {
     feed: &'a Feed,

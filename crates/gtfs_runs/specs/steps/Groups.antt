@@ -1,9 +1,9 @@
 -- The group of a trip, its service and its stops: trips of one group share lanes. And numbers that are compared instead of groups.
-use Rattle.std.specs.Prelude.{◌≡◌, ◌<◌, ◌==◌, ℕ, All, List, cond, nat_lt, [], length, map, option_map, slice_get, slice_index_or, unwrap_or}
+use Rattle.std.specs.Prelude.{◌≡◌, ◌<◌, ◌==◌, ℕ, All, List, cond, nat_lt, [], length, map, not, option_map, slice_get, slice_index_or, unwrap_or}
 use Rattle.std.specs.Cmp.Lexicographic.{slice_cmp}
 use Rattle.std.specs.Ordering.{is_eq, is_lt, nat_cmp, on, then_cmp}
 use Rattle.std.specs.declared.cmp.Ordering.{Ordering}
-use Rattle.gtfs_rows.specs.Trips.{stop_rows_by_trip}
+use Rattle.gtfs_rows.specs.Trips.{frequencies_by_trip, stop_rows_by_trip}
 use Rattle.gtfs_rows.specs.declared.parts.Parts.{Parts}
 use Rattle.gtfs_stop_times.specs.declared.stop_row.StopRow.{StopRow}
 use Rattle.gtfs_runs.specs.Counts.{tally}
@@ -58,8 +58,13 @@ HaveGroups n xs trips = (i j : ℕ) (d : GroupedTrip) (e : IndexedTrip) → i < 
 abbrev pub AreStarted : Parts → List IndexedTrip → Type 0
 AreStarted p trips = map (λ x. x.start) trips ≡ map first_left (stop_rows_by_trip p)
 
+-- each is marked that has frequencies
+abbrev pub AreMarked : Parts → List IndexedTrip → Type 0
+AreMarked p trips = map (λ x. x.has_frequencies) trips ≡ map (λ fs. not (length fs == 0)) (frequencies_by_trip p)
+
 -- the trips of a feed by their numbers: the numbers of two groups compare like the groups
 pub record AreIndexedTrips (p : Parts) (trips : List IndexedTrip) : Type 0 where
   pub groups : (t u : ℕ) (e : IndexedTrip) → t < length p.trips → u < length p.trips
       → nat_cmp (slice_index_or trips t e).group (slice_index_or trips u e).group ≡ group_cmp (trip_group p t) (trip_group p u)
   pub starts : AreStarted p trips
+  pub marks : AreMarked p trips

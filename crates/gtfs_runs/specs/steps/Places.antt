@@ -1,10 +1,11 @@
 -- The departure rows at the place of a stop, of all trips from a number on.
-use Rattle.std.specs.Prelude.{◌≡◌, ℕ, ◌&&◌, Bool, nat_le, List, [], ◌∷◌, slice_get, slice_index_or}
+use Rattle.std.specs.Prelude.{◌≡◌, ◌≤◌, ℕ, ◌&&◌, All, Bool, true, nat_le, nat_lt, List, [], ◌∷◌, length, map, slice_get, slice_index_or}
 use Rattle.std.specs.List.{list_any}
 use Rattle.gtfs_columns.specs.Values.{if_there}
 use Rattle.gtfs_rows.specs.Order.{Ascends}
 use Rattle.gtfs_rows.specs.Places.{is_in_place}
 use Rattle.gtfs_rows.specs.Runs.{is_departure_row}
+use Rattle.gtfs_rows.specs.Trips.{stop_rows_by_trip}
 use Rattle.gtfs_rows.specs.Views.{content_of_parts, stop_ids, text_of_number}
 use Rattle.gtfs_rows.specs.declared.parts.Parts.{Parts}
 use Rattle.gtfs_stop_times.specs.declared.stop_row.StopRow.{StopRow}
@@ -28,6 +29,19 @@ abbrev pub first_trip : ℕ → List DepartureRow → ℕ
 first_trip n [] = n
 first_trip n (x ∷ xs) = x.trip
 
+-- it is a stop time of a trip
+abbrev pub IsStopTime : Parts → DepartureRow → Type 0
+IsStopTime p x = if_there (slice_get (stop_rows_by_trip p) x.trip) (λ rows. nat_lt x.row (length rows)) ≡ true
+
 -- the departure row among the stop times of its trip
 abbrev pub passing_of : List StopRow → StopRow → DepartureRow → Passing
 passing_of rows d x = passing_at (first_left rows) (x.row, slice_index_or rows x.row d)
+
+-- and among those of all trips
+abbrev pub passing_in : Parts → StopRow → DepartureRow → Passing
+passing_in p d x = passing_of (slice_index_or (stop_rows_by_trip p) x.trip []) d x
+
+-- the passings at these rows, one for each, none of them after 999:59:59
+pub record ArePassingsAt (p : Parts) (rows : List DepartureRow) (xs : List Passing) : Type 0 where
+  pub passings : (d : StopRow) → xs ≡ map (passing_in p d) rows
+  pub after : All (λ x. x.after ≤ 3_599_999) xs

@@ -1,9 +1,11 @@
-ghost use Rattle.std.specs.Prelude.{◌≡◌, ◌≤◌, ◌<◌, ◌-◌, ◌==◌, ℕ, All, IfOk, length, map, slice_index_or};
+ghost use Rattle.std.specs.Prelude.{◌≡◌, ◌≤◌, ◌<◌, ◌-◌, ◌==◌, ℕ, All, IfOk, List, Some, length, map, not, slice_get, slice_index_or};
 ghost use Rattle.std.specs.List.Sorted.{IsSorted};
 ghost use Rattle.std.specs.Ordering.{is_lt};
+ghost use Rattle.gtfs_rows.specs.Trips.{frequencies_by_trip};
+ghost use Rattle.gtfs_rows.specs.declared.frequency.Frequency.{Frequency};
 ghost use Rattle.gtfs_runs.specs.Counts.{tally};
 ghost use Rattle.gtfs_runs.specs.declared.stop_index.indexed_trips.IndexedTrip.{IndexedTrip as IndexedValue};
-ghost use Rattle.gtfs_runs.specs.steps.Groups.{AreIndexedTrips, AreOfTrips, AreStarted, HaveGroups, group_cmp, group_of};
+ghost use Rattle.gtfs_runs.specs.steps.Groups.{AreIndexedTrips, AreMarked, AreOfTrips, AreStarted, HaveGroups, group_cmp, group_of};
 
 use crate::departure_row::trip_start;
 use crate::grouped_trip::{GroupedTrip, by_group, group_order};
@@ -20,6 +22,8 @@ pub(crate) struct IndexedTrip {
     pub(crate) group: u32,
     // The second at which it leaves its first stop.
     pub(crate) start: u32,
+    // Whether rows of `frequencies.txt` repeat it.
+    pub(crate) has_frequencies: bool,
 }
 
 // That of a trip, of those of a feed.
@@ -28,6 +32,15 @@ pub(crate) fn trip_at(trips: &[IndexedTrip], trip: TripNo) -> IndexedTrip
     ensures { (e : IndexedValue) → result ≡ slice_index_or trips.now trip.0 e }
 {
     trips[trip.0]
+}
+
+// Whether rows of `frequencies.txt` repeat a trip.
+pub(crate) fn has_frequencies(feed: &Feed, trip: TripNo) -> bool
+    requires { trip.0 < length feed.now.trips }
+    ensures { (fs : List Frequency) → slice_get (frequencies_by_trip feed.now) trip.0 ≡ Some fs
+        → result ≡ not (length fs == 0) }
+{
+    !feed.trip_frequencies(trip).is_empty()
 }
 
 // The trips of a feed, by their numbers.
@@ -46,6 +59,7 @@ fn trips_of(
 ) -> Result<(Vec<GroupedTrip<'_>>, Vec<IndexedTrip>), OutOfMemory>
     ensures trips { IfOk result (λ both. AreOfTrips feed.now (length feed.now.trips) both.0.items) }
     ensures started { IfOk result (λ both. AreStarted feed.now both.1.items) }
+    ensures marked { IfOk result (λ both. AreMarked feed.now both.1.items) }
 {
     feed.soundness();
     let mut trips = Vec::with_capacity(alloc, feed.trip_count())?;
@@ -56,6 +70,7 @@ fn trips_of(
         indexed.push(IndexedTrip {
             group: 0,
             start: trip_start(trip.rows),
+            has_frequencies: has_frequencies(feed, TripNo(number)),
         })?;
     }
     Ok((trips, indexed))
@@ -69,8 +84,9 @@ fn with_groups(
     requires in_order { IsSorted (λ x y. group_cmp (group_of x) (group_of y)) sorted.now }
     requires within { All (λ x. x.trip.0 < length trips.items) sorted.now }
     requires once { (t : ℕ) → tally (λ x. t == x.trip.0) sorted.now ≤ 1 }
-    ensures starts { IfOk result (λ found. map (λ x. x.start) found.items
-        ≡ map (λ x. x.start) trips.items) }
+    ensures kept { IfOk result (λ found.
+        (map (λ x. x.start) found.items ≡ map (λ x. x.start) trips.items)
+        × (map (λ x. x.has_frequencies) found.items ≡ map (λ x. x.has_frequencies) trips.items)) }
     ensures groups { IfOk result (λ found. HaveGroups (length sorted.now) sorted.now found.items) }
 {
     let mut group = 0;

@@ -1,7 +1,8 @@
-ghost use Rattle.std.specs.Prelude.{◌≡◌, ◌≤◌, ◌<◌, ◌+◌, ◌*◌, ◌++◌, ◌==◌, ℕ, All, IfOk, OnOk, Some, [], cond, length, map, slice_get, slice_index_or};
+ghost use Rattle.std.specs.Prelude.{◌≡◌, ◌≤◌, ◌<◌, ◌+◌, ◌*◌, ◌++◌, ◌==◌, ℕ, All, IfOk, List, OnOk, Some, [], cond, length, map, not, slice_get, slice_index_or};
 ghost use Rattle.gtfs_rows.specs.Content.{Content};
 ghost use Rattle.gtfs_rows.specs.Rows.{Trip};
-ghost use Rattle.gtfs_rows.specs.Trips.{stop_rows_by_trip};
+ghost use Rattle.gtfs_rows.specs.Trips.{frequencies_by_trip, stop_rows_by_trip};
+ghost use Rattle.gtfs_rows.specs.declared.frequency.Frequency.{Frequency as FrequencyValue};
 ghost use Rattle.gtfs_rows.specs.Views.{content_of_parts, frequency_of, stop_ids, text_of_number};
 ghost use Rattle.gtfs_runs.specs.Kinds.{IsPeriodLane};
 ghost use Rattle.gtfs_rows.specs.Places.{members};
@@ -18,7 +19,7 @@ ghost use Rattle.gtfs_times.specs.declared.times.Times.{Times as Choice};
 use crate::departure_row::trip_start;
 use crate::place::Place;
 use crate::step_lane::StepLane;
-use crate::stop_index::IndexedTrip;
+use crate::stop_index::{IndexedTrip, has_frequencies};
 use crate::stop_lanes::listed::Listed;
 use crate::stop_lanes::passing::{Passing, passings};
 use gtfs_feed::Feed;
@@ -91,6 +92,7 @@ fn add_trip(
     let indexed = IndexedTrip {
         group: 0,
         start: trip_start(feed.trip_rows(trip)),
+        has_frequencies: has_frequencies(feed, trip),
     };
     add_passings(feed, trip, indexed, &passings, listed, periods)
 }
@@ -107,6 +109,9 @@ pub(crate) fn add_passings(
     requires trip { trip.0 < length feed.now.trips }
     requires start { indexed.start
         ≡ first_left (slice_index_or (stop_rows_by_trip feed.now) trip.0 []) }
+    requires marked { (fs : List FrequencyValue)
+        → slice_get (frequencies_by_trip feed.now) trip.0 ≡ Some fs
+        → indexed.has_frequencies ≡ not (length fs == 0) }
     requires after { All (λ x. x.after ≤ 3_599_999) passings.now }
     ensures found { OnOk result ((times : Choice) (s : ℕ)
         → ArePassings (timed_parts times feed.now) s trip.0 passings.now
@@ -119,11 +124,11 @@ pub(crate) fn add_passings(
         → All (λ x. groups x.trip ≡ x.group) listed.new.items) }
 {
     feed.soundness();
-    let frequencies = feed.trip_frequencies(trip);
-    if frequencies.is_empty() {
+    if !indexed.has_frequencies {
         return add_listed(trip, indexed, passings, listed);
     }
     let service = feed.trip_by_number(trip).service_id;
+    let frequencies = feed.trip_frequencies(trip);
     add_periods(service, trip, frequencies, passings, periods)?;
     Ok(())
 }

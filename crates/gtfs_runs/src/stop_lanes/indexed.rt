@@ -1,26 +1,22 @@
-ghost use Rattle.std.specs.Prelude.{◌≡◌, ◌≤◌, ◌<◌, ◌==◌, ℕ, All, IfOk, OnOk, drop, length, map, slice_index_or};
-ghost use Rattle.gtfs_runs.specs.Counts.{tally};
-ghost use Rattle.gtfs_runs.specs.StopIndex.{departure_row_cmp};
-ghost use Rattle.gtfs_rows.specs.Order.{Ascends};
+ghost use Rattle.std.specs.Prelude.{◌≡◌, ◌≤◌, ◌<◌, All, IfOk, OnOk, drop, length, map, slice_index_or};
 ghost use Rattle.gtfs_runs.specs.StopLanes.{period_value};
-ghost use Rattle.gtfs_runs.specs.declared.stop_index.DepartureRow.{DepartureRow as RowValue};
 ghost use Rattle.gtfs_runs.specs.declared.stop_index.indexed_trips.IndexedTrip.{IndexedTrip as TripValue};
 ghost use Rattle.gtfs_runs.specs.steps.Courses.{stopping_of};
 ghost use Rattle.gtfs_runs.specs.steps.Finds.{AreFound};
 ghost use Rattle.gtfs_runs.specs.steps.Groups.{AreIndexedTrips};
 ghost use Rattle.gtfs_runs.specs.steps.Numbers.{AreNumbered};
-ghost use Rattle.gtfs_runs.specs.steps.Places.{ArePlaceRows, first_trip};
+ghost use Rattle.gtfs_runs.specs.steps.Places.{ArePassingsAt, ArePlaceRows, first_trip};
 ghost use Rattle.gtfs_times.specs.TimedRows.{timed_parts};
 
 use crate::step_lane::StepLane;
 use crate::stop_index::{DepartureRow, IndexedTrip, StopIndex, place_rows, trip_at};
-use crate::stop_lanes::at_rows::put_passings_at;
+use crate::stop_lanes::at_rows::{passings_at, rows_of};
 use crate::stop_lanes::found::{Found, add_passings};
 use crate::stop_lanes::listed::Listed;
 use crate::stop_lanes::passing::Passing;
 use gtfs_feed::Feed;
 use gtfs_field::OutOfMemory;
-use gtfs_rows::{StopNo, TripNo};
+use gtfs_rows::StopNo;
 use gtfs_times::Times;
 use std::alloc::Global;
 
@@ -39,36 +35,39 @@ pub(crate) fn found_in_index(
 {
     let rows = place_rows(alloc, index, stop)?;
     let feed = index.feed();
+    feed.soundness();
     let times = index.times();
     let trips = index.trips();
-    let mut listed = Vec::new(alloc);
+    let passings = passings_at(alloc, feed, times, trips, &rows)?;
+    let mut listed = Vec::with_capacity(alloc, rows.len())?;
     let mut periods = Vec::new(alloc);
     add_rows(
-        alloc,
         feed,
         trips,
         stop,
         times,
         &rows,
+        &passings,
         &mut listed,
         &mut periods,
     )?;
     Ok(Found { listed, periods })
 }
 
-// Adds what leaves the place of a stop at these departure rows, trip after trip.
+// Adds what leaves the place of a stop at these departure rows, with their passings, trip after trip.
 fn add_rows(
-    alloc: Global,
     feed: &Feed,
     trips: &[IndexedTrip],
     stop: StopNo,
     times: Times,
     rows: &[DepartureRow],
+    passings: &[Passing],
     listed: &mut Vec<Listed>,
     periods: &mut Vec<StepLane>,
 ) -> Result<(), OutOfMemory>
     requires trips { AreIndexedTrips feed.now trips.now }
     requires rows { ArePlaceRows (timed_parts times feed.now) stop.0 0 rows.now }
+    requires passings { ArePassingsAt (timed_parts times feed.now) rows.now passings.now }
     ensures found { OnOk result (
         AreFound (timed_parts times feed.now) stop.0 0
         (map (stopping_of feed.now) listed.old.items) (map period_value periods.old.items)
@@ -79,17 +78,15 @@ fn add_rows(
         → All (λ x. (slice_index_or trips.now x.trip e).group ≡ x.group) listed.new.items) }
 {
     feed.soundness();
-    let mut passings = Vec::new(alloc);
     let mut at = 0;
     while at < rows.len() {
         at += add_trip(
-            alloc,
             feed,
             trips,
             stop,
             times,
             &rows[at..],
-            &mut passings,
+            &passings[at..],
             listed,
             periods,
         )?;
@@ -97,16 +94,15 @@ fn add_rows(
     Ok(())
 }
 
-// Adds what leaves the place of the trip of the first of these rows. Answers how many of them are
-// that trip's. The passings are only room for its own.
+// Adds what leaves the place of the trip of the first of these rows, with their passings. Answers
+// how many of them are that trip's.
 fn add_trip(
-    alloc: Global,
     feed: &Feed,
     trips: &[IndexedTrip],
     stop: StopNo,
     times: Times,
     rows: &[DepartureRow],
-    passings: &mut Vec<Passing>,
+    passings: &[Passing],
     listed: &mut Vec<Listed>,
     periods: &mut Vec<StepLane>,
 ) -> Result<usize, OutOfMemory>
@@ -114,6 +110,7 @@ fn add_trip(
     requires trips { AreIndexedTrips feed.now trips.now }
     requires rows { ArePlaceRows (timed_parts times feed.now) stop.0
         (first_trip (length feed.now.trips) rows.now) rows.now }
+    requires passings { ArePassingsAt (timed_parts times feed.now) rows.now passings.now }
     ensures some { IfOk result (λ n. 0 < n) }
     ensures upto { IfOk result (λ n. n ≤ length rows.now) }
     ensures found { IfOk result (λ n.
@@ -132,23 +129,6 @@ fn add_trip(
     let trip = rows[0].trip();
     let count = rows_of(rows, trip);
     let indexed = trip_at(trips, trip);
-    let own = &rows[..count];
-    put_passings_at(alloc, feed, times, trip, indexed.start, own, passings)?;
-    add_passings(feed, trip, indexed, passings, listed, periods)?;
+    add_passings(feed, trip, indexed, &passings[..count], listed, periods)?;
     Ok(count)
-}
-
-// How many of these rows are of a trip, before which no other comes.
-fn rows_of(rows: &[DepartureRow], trip: TripNo) -> usize
-    requires up { Ascends departure_row_cmp rows.now }
-    requires first { (d : RowValue) (k : ℕ) → k < length rows.now
-        → trip.0 ≤ (slice_index_or rows.now k d).trip }
-    ensures value { result ≡ tally (λ x. x.trip == trip.0) rows.now }
-    ensures upto { result ≤ length rows.now }
-{
-    let mut count = 0;
-    while count < rows.len() && rows[count].trip().0 == trip.0 {
-        count += 1;
-    }
-    count
 }

@@ -23,7 +23,7 @@ pub returns : goal.returns
 returns c =
     let sorted = c.by_group.result.items in
     both_made c.with_groups.result _ _ _
-    (λ found starts groups.
+    (λ found same groups.
     are_indexed c.args.feed.now c.soundness.ensures c.in_ok-trips.trips.items sorted c.by_group.ensures.same c.in_ok-trips.ensures.trips found.items
-    (subst (λ l. HaveGroups (length l) l found.items) c.deref.ensures.value groups) (starts ∙ c.in_ok-trips.ensures.started))
-    c.with_groups.ensures.starts c.with_groups.ensures.groups
+    (subst (λ l. HaveGroups (length l) l found.items) c.deref.ensures.value groups) (same.0 ∙ c.in_ok-trips.ensures.started) (same.1 ∙ c.in_ok-trips.ensures.marked))
+    c.with_groups.ensures.kept c.with_groups.ensures.groups

@@ -6,5 +6,6 @@ use Rattle.gtfs_runs.proofs.stop_index.indexed_trips.with_groups.Given as goal
 abbrev pub invariant-loop-n : goal.invariant-loop-n
 invariant-loop-n l = record {
   starts : map (λ x. x.start) l.trips.items ≡ map (λ x. x.start) l.fn.trips.items;
+  marks : map (λ x. x.has_frequencies) l.trips.items ≡ map (λ x. x.has_frequencies) l.fn.trips.items;
   numbered : AreNumberedTo l.sorted l.trips.items l.n l.group;
 }

@@ -1,13 +1,14 @@
-use Rattle.std.proofs.Common.{◌≤◌, length, map, sym, subst, arith}
+use Rattle.std.proofs.Common.{◌≤◌, ◌-◌, drop, length, map, take, sym, subst, arith}
 use Rattle.std.proofs.lemmas.List.{take_rest}
 use Rattle.gtfs_times.proofs.FilledContent.{sound-timed}
 use Rattle.gtfs_times.specs.TimedRows.{timed_parts}
 use Rattle.gtfs_runs.specs.StopLanes.{period_value}
 use Rattle.gtfs_runs.specs.steps.Courses.{stopping_of}
 use Rattle.gtfs_runs.specs.steps.Finds.{AreFound}
-use Rattle.gtfs_runs.specs.steps.Places.{ArePlaceRows, first_trip}
+use Rattle.gtfs_runs.specs.steps.Places.{ArePassingsAt, ArePlaceRows, first_trip}
 use Rattle.gtfs_runs.proofs.Chunks.{left_more, upto_more}
 use Rattle.gtfs_runs.proofs.PlaceFinds.{nothing_left, raised, rows_raised}
+use Rattle.gtfs_runs.proofs.PlacePassings.{left_passings, passings_counted}
 use Rattle.gtfs_runs.proofs.stop_lanes.indexed.add_rows.Goals as goal
 
 pub add_trip-requires-clause-rows : goal.add_trip-requires-clause-rows
@@ -60,3 +61,18 @@ returns c =
           subst (λ l. AreFound q c.args.stop.0 (first_trip (length p.trips) l) (map (stopping_of p) c.loop-at.listed.items) (map period_value c.loop-at.periods.items)) (nothing_left xs c.loop-at.at past)
           (c.loop-at.invariant.found was);
     }
+
+pub add_trip-requires-clause-passings : goal.add_trip-requires-clause-passings
+add_trip-requires-clause-passings c =
+    let q = timed_parts c.args.times c.args.feed.now in
+    let at = c.loop-at.at in
+    subst (λ l. ArePassingsAt q l (take (length c.args.passings.now - at) (drop at c.args.passings.now))) (sym (take_rest c.args.rows.now at))
+    (subst (λ l. ArePassingsAt q (drop at c.args.rows.now) l) (sym (take_rest c.args.passings.now at)) (left_passings q at c.args.rows.now c.args.passings.now c.requires.passings))
+
+pub slice_bounds-add_trip-count-in-loop-at : goal.slice_bounds-add_trip-count-in-loop-at
+slice_bounds-add_trip-count-in-loop-at c =
+    omega (arith, c.loop-at-test.true, passings_counted (timed_parts c.args.times c.args.feed.now) c.args.rows.now c.args.passings.now c.requires.passings)
+
+pub slice_bounds-add_trip-start-in-loop-at : goal.slice_bounds-add_trip-start-in-loop-at
+slice_bounds-add_trip-start-in-loop-at c =
+    omega (arith, c.loop-at-test.true, passings_counted (timed_parts c.args.times c.args.feed.now) c.args.rows.now c.args.passings.now c.requires.passings)

@@ -1,7 +1,7 @@
 use Rattle.std.proofs.Common.{◌≤◌, ◌<◌, ◌∙◌, length, sym, arith}
 use Rattle.gtfs_runs.specs.declared.stop_index.DepartureRow.{DepartureRow}
 use Rattle.gtfs_runs.proofs.PlaceRows.{first_ones, one_row_more, other_trip}
-use Rattle.gtfs_runs.proofs.stop_lanes.indexed.rows_of.Goals as goal
+use Rattle.gtfs_runs.proofs.stop_lanes.at_rows.rows_of.Goals as goal
 
 pub loop-count-preserved : goal.loop-count-preserved
 loop-count-preserved c =
@@ -26,3 +26,9 @@ returns-after-loop-count-clause-value c =
     let past : length c.args.rows.now ≤ c.loop-count.count = omega (arith, c.loop-count-test.false) in
     first_ones c.args.rows.now c.loop-count.count c.args.trip.0 c.requires.up (λ k d within. c.requires.first d k within) c.loop-count.invariant.upto c.loop-count.invariant.own
     (λ d within. absurd (omega (arith, past, within)))
+
+pub returns-else-trip-clause-own : goal.returns-else-trip-clause-own
+returns-else-trip-clause-own c = λ k d below. c.loop-count.invariant.own k d below
+
+pub returns-after-loop-count-clause-own : goal.returns-after-loop-count-clause-own
+returns-after-loop-count-clause-own c = λ k d below. c.loop-count.invariant.own k d below

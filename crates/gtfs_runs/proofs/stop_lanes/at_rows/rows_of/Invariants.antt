@@ -1,6 +1,6 @@
 use Rattle.std.proofs.Common.{◌≡◌, ◌≤◌, ◌<◌, ◌-◌, ℕ, length, get_or}
 use Rattle.gtfs_runs.specs.declared.stop_index.DepartureRow.{DepartureRow}
-use Rattle.gtfs_runs.proofs.stop_lanes.indexed.rows_of.Given as goal
+use Rattle.gtfs_runs.proofs.stop_lanes.at_rows.rows_of.Given as goal
 
 -- the rows so far are the trip's
 abbrev pub invariant-loop-count : goal.invariant-loop-count
