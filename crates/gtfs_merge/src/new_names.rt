@@ -30,7 +30,7 @@ pub(crate) fn is_joined_row(sides: &Sides, twins: &Twins, kind: Kind, number: us
 }
 
 // Whether an id is joined.
-pub(crate) fn is_joined_id(sides: &Sides, twins: &Twins, kind: Kind, id: &str) -> bool
+fn is_joined_id(sides: &Sides, twins: &Twins, kind: Kind, id: &str) -> bool
     requires { twins.now ≡ twin_rows sides.now }
     ensures { result ≡ is_joined_id kind sides.now id.now }
 {
