@@ -12,6 +12,7 @@ use Rattle.gtfs_columns.specs.Values.{if_there}
 use Rattle.gtfs_rows.specs.Order.{Ascends}
 use Rattle.gtfs_rows.specs.Trips.{left_at, stop_rows_by_trip}
 use Rattle.gtfs_rows.specs.Views.{IsSoundParts}
+use Rattle.gtfs_rows.specs.declared.numbers.ServiceNo.{ServiceNo}
 use Rattle.gtfs_rows.specs.declared.parts.Parts.{Parts}
 use Rattle.gtfs_stop_times.specs.declared.choices.DropOffType.TheVariants as drop_off
 use Rattle.gtfs_stop_times.specs.declared.choices.PickupType.TheVariants as pickup
@@ -25,9 +26,9 @@ use Rattle.gtfs_runs.specs.StopIndex.{departure_row_cmp}
 use Rattle.gtfs_runs.specs.declared.stop_index.DepartureRow.{DepartureRow}
 use Rattle.gtfs_runs.specs.declared.stop_index.indexed_trips.IndexedTrip.{IndexedTrip}
 use Rattle.gtfs_runs.specs.declared.stop_lanes.passing.Passing.{Passing}
-use Rattle.gtfs_runs.specs.steps.Groups.{AreIndexedTrips}
+use Rattle.gtfs_runs.specs.steps.Groups.{AreIndexedTrips, trip_group}
 use Rattle.gtfs_runs.specs.steps.Passings.{first_left, passing_at}
-use Rattle.gtfs_runs.specs.steps.Places.{ArePassingsAt, IsStopTime, passing_in, passing_of}
+use Rattle.gtfs_runs.specs.steps.Places.{ArePassingsAt, AreServicesAt, IsStopTime, passing_in, passing_of}
 use Rattle.gtfs_runs.proofs.AtStopFacts.{asked_within}
 use Rattle.gtfs_runs.proofs.CourseOrder.{pairs-right}
 use Rattle.gtfs_runs.proofs.GroupFacts.{no_trip, starts_at}
@@ -143,3 +144,12 @@ left_passings p n rows xs are = record {
   passings = λ d. ap (drop n) (are.passings d) ∙ drop-map (passing_in p d) n rows;
   after = All-drop (λ x. x.after ≤ 3_599_999) n xs are.after;
 }
+
+-- ---- the services of the trips of rows
+
+pub left_services : (p : Parts) (n : ℕ) (rows : List DepartureRow) (xs : List ServiceNo) → AreServicesAt p rows xs → AreServicesAt p (drop n rows) (drop n xs)
+left_services p n rows xs are = sym (drop-map (λ k. k.0) n xs) ∙ ap (drop n) are ∙ drop-map (λ x. (trip_group p x.trip).0) n rows
+
+-- the trips of stop times are there
+pub trips_inside : (choice : Times) (p : Parts) → IsSoundParts p → (xs : List DepartureRow) → All (IsStopTime (timed_parts choice p)) xs → All (λ x. x.trip < length p.trips) xs
+trips_inside choice p sound xs are k d within = trip_inside (timed_parts choice p) (sound-timed p sound choice) (get_or xs k d) (are k d within)

@@ -6,7 +6,7 @@ ghost use Rattle.gtfs_runs.specs.StopIndex.{departure_row_cmp};
 ghost use Rattle.gtfs_runs.specs.declared.stop_index.DepartureRow.{DepartureRow as RowValue};
 ghost use Rattle.gtfs_runs.specs.steps.Groups.{AreIndexedTrips};
 ghost use Rattle.gtfs_runs.specs.steps.Passings.{first_left};
-ghost use Rattle.gtfs_runs.specs.steps.Places.{ArePassingsAt, IsStopTime, passing_in, passing_of};
+ghost use Rattle.gtfs_runs.specs.steps.Places.{ArePassingsAt, AreServicesAt, IsStopTime, passing_in, passing_of};
 ghost use Rattle.gtfs_stop_times.specs.declared.stop_row.StopRow.{StopRow as StopTime};
 ghost use Rattle.gtfs_times.specs.TimedRows.{timed_parts};
 ghost use Rattle.gtfs_times.specs.declared.times.Times.TheVariants.{Given};
@@ -15,9 +15,26 @@ use crate::stop_index::{DepartureRow, IndexedTrip, trip_at};
 use crate::stop_lanes::passing::{Passing, passed};
 use gtfs_feed::Feed;
 use gtfs_field::OutOfMemory;
-use gtfs_rows::{StopRow, TripNo};
+use gtfs_rows::{ServiceNo, StopRow, TripNo};
 use gtfs_times::{Times, filled, is_to_fill};
 use std::alloc::Global;
+
+// The services of the trips of these departure rows, one for each. The rows of trips lie far apart.
+// As little is done between two of them, a processor fetches several at once.
+pub(crate) fn services_at(
+    alloc: Global,
+    feed: &Feed,
+    rows: &[DepartureRow],
+) -> Result<Vec<ServiceNo>, OutOfMemory>
+    requires { All (λ x. x.trip < length feed.now.trips) rows.now }
+    ensures { IfOk result (λ found. AreServicesAt feed.now rows.now found.items) }
+{
+    let mut services = Vec::with_capacity(alloc, rows.len())?;
+    for row in rows {
+        services.push(feed.trip_by_number(row.trip()).service_id)?;
+    }
+    Ok(services)
+}
 
 // The passings at these departure rows, one for each.
 pub(crate) fn passings_at(

@@ -91,18 +91,20 @@ fn add_trip(
         → AreServed feed.now listed.new.items) }
 {
     feed.soundness();
+    let service = feed.trip_by_number(trip).service_id;
     let passings = passings(alloc, feed, place, trip, times)?;
     let indexed = IndexedTrip {
         group: 0,
         start: trip_start(feed.trip_rows(trip)),
         has_frequencies: has_frequencies(feed, trip),
     };
-    add_passings(feed, trip, indexed, &passings, listed, periods)
+    add_passings(feed, service, trip, indexed, &passings, listed, periods)
 }
 
-// Adds what leaves a place of one trip, by its stop times there.
+// Adds what leaves a place of one trip, which has this service, by its stop times there.
 pub(crate) fn add_passings(
     feed: &Feed,
+    service: ServiceNo,
     trip: TripNo,
     indexed: IndexedTrip,
     passings: &[Passing],
@@ -110,6 +112,7 @@ pub(crate) fn add_passings(
     periods: &mut Vec<StepLane>,
 ) -> Result<(), OutOfMemory>
     requires trip { trip.0 < length feed.now.trips }
+    requires service { service.0 ≡ (trip_group feed.now trip.0).0 }
     requires start { indexed.start
         ≡ first_left (slice_index_or (stop_rows_by_trip feed.now) trip.0 []) }
     requires marked { (fs : List FrequencyValue)
@@ -129,9 +132,6 @@ pub(crate) fn add_passings(
         → AreServed feed.now listed.new.items) }
 {
     feed.soundness();
-    // The rows of trips lie far apart. As little is done between two of them, a processor fetches
-    // several at once.
-    let service = feed.trip_by_number(trip).service_id;
     if !indexed.has_frequencies {
         return add_listed(service, trip, indexed, passings, listed);
     }

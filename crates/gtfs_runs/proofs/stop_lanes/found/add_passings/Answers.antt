@@ -1,8 +1,9 @@
-use Rattle.std.proofs.Common.{◌≡◌, ◌<◌, ◌+◌, ◌++◌, ◌∙◌, ◌==◌, ◌*◌, Bool, true, false, not, Some, cond, [], length, map, get_or, refl, sym, ap, arith}
+use Rattle.std.proofs.Common.{◌≡◌, ◌<◌, ◌+◌, ◌++◌, ◌∙◌, ◌==◌, ◌*◌, Bool, true, false, not, Some, cond, [], length, map, get_or, refl, sym, ap, subst, arith}
 use Rattle.std.specs.Prelude.{option_map, unwrap_or}
 use Rattle.std.proofs.lemmas.List.{length-map}
 use Rattle.std.proofs.lemmas.Option.{slice_get-get_or}
 use Rattle.std.proofs.lemmas.Result.{on_ok_weaker}
+use Rattle.gtfs_field.proofs.ListFacts.{some_of}
 use Rattle.gtfs_rows.specs.Trips.{frequencies_by_trip, stop_rows_by_trip}
 use Rattle.gtfs_table.proofs.PartFacts.{length-parts}
 use Rattle.gtfs_times.proofs.FilledContent.{sound-timed}
@@ -30,8 +31,9 @@ pub returns-then-not-indexed : goal.returns-then-not-indexed
 returns-then-not-indexed c =
     let p = c.args.feed.now in
     let t = c.args.trip.0 in
-    let row = c.trip_by_number.result.now in
-    let at_trip = c.trip_by_number.ensures in
+    let some = some_of p.trips t c.requires.trip in
+    let row = get_or p.trips t some in
+    let at_trip = slice_get-get_or p.trips t some c.requires.trip in
     let counted : t < length (frequencies_by_trip p) = omega (arith, c.requires.trip, length-parts p.frequency_starts p.frequencies, c.soundness.ensures.frequencies.0) in
     let fs = get_or (frequencies_by_trip p) t [] in
     let at_periods = slice_get-get_or (frequencies_by_trip p) t [] counted in
@@ -50,7 +52,7 @@ returns-then-not-indexed c =
           listed_found q (sound-timed p c.soundness.ensures times) s t row rs at_trip at_rows (at_periods ∙ ap Some none) listed _ (map period_value c.args.periods.now.items) pushed was)
           c.add_listed.ensures.events;
       groups = c.add_listed.ensures.groups;
-      services = on_ok_weaker c.add_listed.result (λ more. more p service) c.add_listed.ensures.services;
+      services = on_ok_weaker c.add_listed.result (λ more. more p (sym c.requires.service)) c.add_listed.ensures.services;
     }
   where
     is_none : (b : Bool) → not (not b) ≡ true → b ≡ true
@@ -64,7 +66,10 @@ returns c = record {
       let q = timed_parts times p in
       let sound = sound-timed p c.soundness.ensures times in
       let t = c.args.trip.0 in
-      let row = c.trip_by_number.result.now in
+      let trip = some_of p.trips t c.requires.trip in
+      let row = get_or p.trips t trip in
+      let at_trip = slice_get-get_or p.trips t trip c.requires.trip in
+      let service : c.args.service.0 ≡ row.service_id.0 = c.requires.service ∙ ap (λ o. unwrap_or (option_map (λ u. u.service_id.0) o) 0) at_trip in
       let fs = c.trip_frequencies-frequencies.result.now in
       let listed = map (stopping_of p) c.args.listed.now.items in
       let periods = map period_value c.args.periods.now.items in
@@ -72,11 +77,11 @@ returns c = record {
       let at_rows = rows_at q sound t c.requires.trip in
       let some = some_left fs (is_some_left (length fs == 0) (ap not (sym (c.requires.marked fs c.trip_frequencies-frequencies.ensures)) ∙ c.if-not-indexed.false)) in
       let found = are row rs fs at_rows in
-      periods_found q sound s t row rs fs c.trip_by_number.ensures at_rows c.trip_frequencies-frequencies.ensures some listed periods (map period_value c.add_periods.new.periods.items)
-      (λ k e. c.in_ok-add_periods.ensures.told k e ∙ ap (λ l. times_told k e periods + cond (row.service_id.0 == k) (times_passed_in t e l fs) 0) found)
+      periods_found q sound s t row rs fs at_trip at_rows c.trip_frequencies-frequencies.ensures some listed periods (map period_value c.add_periods.new.periods.items)
+      (λ k e. c.in_ok-add_periods.ensures.told k e ∙ (λ i. times_told k e periods + cond (service i == k) (times_passed_in t e (found i) fs) 0))
       (length-map c.add_periods.new.periods.items period_value ∙ c.in_ok-add_periods.ensures.counted
       ∙ (λ i. sym (length-map c.args.periods.now.items period_value) i + length fs * length (found i)))
-      c.in_ok-add_periods.ensures.within c.in_ok-add_periods.ensures.kind was;
+      (λ n below. c.in_ok-add_periods.ensures.within n (subst (λ m. m < n) (sym service) below)) c.in_ok-add_periods.ensures.kind was;
   groups = λ groups is were. were;
   services = λ were. were;
 }

@@ -11,15 +11,16 @@ use Rattle.gtfs_runs.specs.steps.Courses.{AreServed, stopping_of}
 use Rattle.gtfs_runs.specs.steps.Finds.{AreFound}
 use Rattle.gtfs_runs.specs.steps.Groups.{AreIndexedTrips}
 use Rattle.gtfs_runs.specs.steps.Numbers.{AreNumbered}
-use Rattle.gtfs_runs.specs.steps.Places.{ArePassingsAt, ArePlaceRows, IsStopTime}
+use Rattle.gtfs_runs.specs.steps.Places.{ArePassingsAt, ArePlaceRows, AreServicesAt, IsStopTime}
 use Rattle.gtfs_runs.proofs.GroupFacts.{no_trip, nothing_numbered, numbers_of, trips_listed}
 use Rattle.gtfs_runs.proofs.Numbers.{none_served}
 use Rattle.gtfs_runs.proofs.PlaceFinds.{nothing_found, stop_times_there}
+use Rattle.gtfs_runs.proofs.PlacePassings.{trips_inside}
 use Rattle.gtfs_runs.proofs.stop_lanes.indexed.found_in_index.Goals as goal
 
 pub add_rows-requires-clause-rows : goal.add_rows-requires-clause-rows
 add_rows-requires-clause-rows c =
-    subst (λ l. ArePlaceRows (timed_parts c.times-times.result c.feed-feed.result.now) c.args.stop.0 0 l) (sym c.deref-2.ensures.value)
+    subst (λ l. ArePlaceRows (timed_parts c.times-times.result c.feed-feed.result.now) c.args.stop.0 0 l) (sym c.deref-3.ensures.value)
     (subst (λ (r : Times × Parts). ArePlaceRows (timed_parts r.0 r.1) c.args.stop.0 0 c.in_ok-rows.rows.items) (λ i. (sym c.times-times.ensures i, sym c.feed-feed.ensures i)) c.in_ok-rows.ensures)
 
 pub add_rows-requires-clause-trips : goal.add_rows-requires-clause-trips
@@ -70,5 +71,20 @@ passings_at-requires-clause-rows c =
 pub add_rows-requires-clause-passings : goal.add_rows-requires-clause-passings
 add_rows-requires-clause-passings c =
     let q = timed_parts c.times-times.result c.feed-feed.result.now in
-    subst (ArePassingsAt q c.deref-2.result.now) (sym c.deref-3.ensures.value)
-    (subst (λ l. ArePassingsAt q l c.in_ok-passings.passings.items) (c.deref.ensures.value ∙ sym c.deref-2.ensures.value) c.in_ok-passings.ensures)
+    subst (ArePassingsAt q c.deref-3.result.now) (sym c.deref-4.ensures.value)
+    (subst (λ l. ArePassingsAt q l c.in_ok-passings.passings.items) (c.deref.ensures.value ∙ sym c.deref-3.ensures.value) c.in_ok-passings.ensures)
+
+pub services_at-requires : goal.services_at-requires
+services_at-requires c =
+    let p = c.feed-feed.result.now in
+    let q = timed_parts c.times-times.result p in
+    let here : ArePlaceRows q c.args.stop.0 0 c.in_ok-rows.rows.items =
+    subst (λ (r : Times × Parts). ArePlaceRows (timed_parts r.0 r.1) c.args.stop.0 0 c.in_ok-rows.rows.items) (λ i. (sym c.times-times.ensures i, sym c.feed-feed.ensures i)) c.in_ok-rows.ensures in
+    subst (All (λ x. x.trip < length p.trips)) (sym c.deref-2.ensures.value)
+    (trips_inside c.times-times.result p c.soundness.ensures c.in_ok-rows.rows.items (stop_times_there q (sound-timed p c.soundness.ensures c.times-times.result) c.args.stop.0 0 c.in_ok-rows.rows.items here))
+
+pub add_rows-requires-clause-services : goal.add_rows-requires-clause-services
+add_rows-requires-clause-services c =
+    let p = c.feed-feed.result.now in
+    subst (AreServicesAt p c.deref-3.result.now) (sym c.deref-5.ensures.value)
+    (subst (λ l. AreServicesAt p l c.in_ok-services.services.items) (c.deref-2.ensures.value ∙ sym c.deref-3.ensures.value) c.in_ok-services.ensures)
