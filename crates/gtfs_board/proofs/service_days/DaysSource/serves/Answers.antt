@@ -16,7 +16,7 @@ returns c =
     let s = c.args.self.now in
     let repeats = c.repeats_service.ensures c.if-not-repeats_service.false in
     let same : c.args.before ≡ serves_on s.feed.now (lane_at s.lanes c.args.lane).service c.args.day =
-        c.requires.before repeats.0 ∙ ap (λ n. serves_on s.feed.now n c.args.day) (sym repeats.1) in
+    c.requires.before repeats.0 ∙ ap (λ n. serves_on s.feed.now n c.args.day) (sym repeats.1) in
     record {
       value = same;
       idle = λ stands. on-idle s.feed.now (zone_origin s.zone.now) s.lanes s.end c.args.lane c.args.day (sym same ∙ stands);
