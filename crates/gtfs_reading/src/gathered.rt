@@ -16,6 +16,7 @@ use crate::stop_times::StopTimes;
 use gtfs_field::{List, OutOfMemory};
 use gtfs_rows::StopRow;
 use gtfs_rules::{KeptStopTimes, StopTime};
+use gtfs_stop_times::stop_rows_with_room;
 use gtfs_table::{File, Tables};
 use std::alloc::Global;
 use std::hash::RandomState;
@@ -44,7 +45,7 @@ impl Gathered {
     {
         Ok(Gathered {
             trips,
-            rows: Vec::with_capacity(alloc, rows)?,
+            rows: stop_rows_with_room(alloc, rows)?,
             starts: Vec::with_capacity(alloc, trips)?,
             headsigns: Headsigns::new(alloc, random),
         })

@@ -11,7 +11,7 @@ use crate::trips::ranks::Ranks;
 use crate::trips::row::{StopTime, Times};
 use crate::trips::stretches::by_trips;
 use gtfs_field::OutOfMemory;
-use gtfs_stop_times::StopRow;
+use gtfs_stop_times::{StopRow, stop_rows_with_room};
 use std::alloc::Global;
 use std::marker::Model;
 
@@ -54,7 +54,7 @@ impl KeptStopTimes {
         // Records have their numbers from 1.
         let end = records.saturating_add(1);
         Ok(KeptStopTimes {
-            rows: Vec::with_capacity(alloc, end)?,
+            rows: stop_rows_with_room(alloc, end)?,
             notes: Vec::with_capacity(alloc, end)?,
             order: Vec::with_capacity(alloc, records)?,
         })
