@@ -90,7 +90,8 @@ impl<'a> TripNotes<'a> {
         requires known { number ≡ number_among self.old.trips trip_id.now }
         requires earlier { AreEarlier kept.row self.old.rows }
         ensures trips { self.new.trips ≡ self.old.trips }
-        ensures notes { OnOk result (self.new.notes ≡ self.old.notes ++ trip_note trip_id.now kept ∷ []) }
+        ensures notes { OnOk result
+            (self.new.notes ≡ self.old.notes ++ trip_note trip_id.now kept ∷ []) }
         ensures rows { OnOk result (NotesRow number kept self.old.rows self.new.rows) }
     {
         let trip = trip_number(

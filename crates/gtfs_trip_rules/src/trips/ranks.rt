@@ -25,7 +25,8 @@ impl<'a> Ranks<'a> {
     #[inline(always)]
     pub(crate) fn rank(&self, row: u32) -> u64
         ensures value { result ≡ rank (stop_time_at self.now.rows.now self.now.notes.now row) }
-        ensures sequence { (stop_time_at self.now.rows.now self.now.notes.now row).stop_row.stop_sequence < 2 ^ 32 }
+        ensures sequence { (stop_time_at self.now.rows.now
+            self.now.notes.now row).stop_row.stop_sequence < 2 ^ 32 }
     {
         let trip = self.trip(row);
         let sequence = self.sequence(row);

@@ -18,7 +18,8 @@ pub(crate) struct Stretch<'a> {
 
 // Rows whose trips stand together, by the numbers of their trips. No row is looked at, but where a trip does not stand together.
 pub(crate) fn by_trips(ranks: &Ranks<'_>, order: Vec<u32>) -> Result<Vec<u32>, OutOfMemory>
-    ensures { IfOk result (λ rows. AreByTrips ranks.now.rows.now ranks.now.notes.now order.items rows.items) }
+    ensures { IfOk result
+        (λ rows. AreByTrips ranks.now.rows.now ranks.now.notes.now order.items rows.items) }
 {
     let alloc = *order.allocator();
     match moved(alloc, ranks, &order)? {
@@ -49,7 +50,8 @@ fn stretches<'a>(
     ranks: &Ranks<'_>,
     rows: &'a [u32],
 ) -> Result<Vec<Stretch<'a>>, OutOfMemory>
-    ensures all { IfOk result (λ stretches. flat_map (λ s. s.rows.now) stretches.items ≡ rows.now) }
+    ensures all { IfOk result
+        (λ stretches. flat_map (λ s. s.rows.now) stretches.items ≡ rows.now) }
     ensures each { IfOk result (λ stretches.
         AreRising (stop_times_at ranks.now.rows.now ranks.now.notes.now rows.now)
         → All (IsStretch ranks.now.rows.now ranks.now.notes.now) stretches.items) }
@@ -71,10 +73,12 @@ fn stretches<'a>(
 // How many of the first rows are of this trip, which is that of the first one.
 fn stretch_len(ranks: &Ranks<'_>, trip: u32, rows: &[u32]) -> usize
     requires some { 0 < length rows.now }
-    requires first { (stop_time_at ranks.now.rows.now ranks.now.notes.now (slice_index_or rows.now 0 0)).trip ≡ trip }
+    requires first { (stop_time_at ranks.now.rows.now ranks.now.notes.now
+        (slice_index_or rows.now 0 0)).trip ≡ trip }
     ensures some { 0 < result }
     ensures within { result ≤ length rows.now }
-    ensures of_trip { All (λ n. (stop_time_at ranks.now.rows.now ranks.now.notes.now n).trip ≡ trip)
+    ensures of_trip { All
+        (λ n. (stop_time_at ranks.now.rows.now ranks.now.notes.now n).trip ≡ trip)
         (take result rows.now) }
 {
     let mut len = 1;
