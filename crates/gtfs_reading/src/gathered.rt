@@ -16,10 +16,11 @@ use crate::stop_times::StopTimes;
 use gtfs_field::{List, OutOfMemory};
 use gtfs_rows::StopRow;
 use gtfs_rules::{KeptStopTimes, StopTime};
-use gtfs_stop_times::stop_rows_with_room;
+use gtfs_stop_times::room_for;
 use gtfs_table::{File, Tables};
 use std::alloc::Global;
 use std::hash::RandomState;
+use std::mem::size_of;
 
 // The stop times so far.
 #[derive(Drop)]
@@ -45,7 +46,7 @@ impl Gathered {
     {
         Ok(Gathered {
             trips,
-            rows: stop_rows_with_room(alloc, rows)?,
+            rows: Vec::with_capacity(alloc, room_for(rows, size_of::<StopRow>()))?,
             starts: Vec::with_capacity(alloc, trips)?,
             headsigns: Headsigns::new(alloc, random),
         })

@@ -1,36 +1,23 @@
-ghost use Rattle.std.specs.Prelude.{◌≡◌, ◌≤◌, [], IfOk};
+ghost use Rattle.std.specs.Prelude.{◌≡◌, ◌≤◌, ◌<◌, ◌*◌};
 
-use crate::stop_row::StopRow;
-use gtfs_field::OutOfMemory;
-use std::alloc::Global;
+// How many bytes a large list takes.
+const LARGE: usize = 1_048_576;
 
-// How many stop times a large list has: 8 MiB.
-const LARGE: usize = 262_144;
+// How many bytes the C library maps apart from all others, whatever was asked for before: 32 MiB.
+const MAPPED: usize = 33_554_432;
 
-// How many need more than 32 MiB.
-const MAPPED: usize = 1_048_577;
-
-/// A list with room for so many stop times, and none in it yet.
+/// For how many items a list should ask, which gets so many of this size in bytes.
 ///
-/// A list for 262,144 stop times, 8 MiB, or more asks for more than 32 MiB. The C library maps so much apart from all other
-/// memory and gives it back to the system as soon as the list goes, where a smaller list would leave a hole. Room in which
-/// nothing was put takes no memory.
-///
-/// # Errors
-/// `OutOfMemory` where there is no room.
-pub fn stop_rows_with_room(alloc: Global, count: usize) -> Result<Vec<StopRow>, OutOfMemory>
-    ensures { IfOk result (λ rows. rows.items ≡ []) }
+/// A list of a mebibyte or more asks for more than 32 MiB. The C library maps so much apart from all other memory, and gives it
+/// back to the system as soon as the list goes, where a smaller list would leave a hole between others. Room in which nothing
+/// was put takes no memory.
+pub fn room_for(count: usize, size: usize) -> usize
+    ensures enough { count ≤ result }
+    ensures small { count * size < 1_048_576 → result ≡ count }
+    ensures large { 1_048_576 ≤ count * size → 33_554_432 < result * size }
 {
-    Ok(Vec::with_capacity(alloc, room_for(count))?)
-}
-
-// For how many stop times a list of so many asks.
-fn room_for(count: usize) -> usize
-    ensures { count ≤ result }
-{
-    if count < LARGE {
-        count
-    } else {
-        count.max(MAPPED)
+    if size == 0 || count.saturating_mul(size) < LARGE {
+        return count;
     }
+    count.max(MAPPED / size + 1)
 }

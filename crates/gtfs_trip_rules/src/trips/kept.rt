@@ -11,9 +11,10 @@ use crate::trips::ranks::Ranks;
 use crate::trips::row::{StopTime, Times};
 use crate::trips::stretches::by_trips;
 use gtfs_field::OutOfMemory;
-use gtfs_stop_times::{StopRow, stop_rows_with_room};
+use gtfs_stop_times::{StopRow, room_for};
 use std::alloc::Global;
 use std::marker::Model;
+use std::mem::size_of;
 
 // What is noted of a row beside what it says.
 #[derive(Clone, Copy)]
@@ -54,9 +55,9 @@ impl KeptStopTimes {
         // Records have their numbers from 1.
         let end = records.saturating_add(1);
         Ok(KeptStopTimes {
-            rows: stop_rows_with_room(alloc, end)?,
-            notes: Vec::with_capacity(alloc, end)?,
-            order: Vec::with_capacity(alloc, records)?,
+            rows: Vec::with_capacity(alloc, room_for(end, size_of::<StopRow>()))?,
+            notes: Vec::with_capacity(alloc, room_for(end, size_of::<RowNote>()))?,
+            order: Vec::with_capacity(alloc, room_for(records, size_of::<u32>()))?,
         })
     }
 
