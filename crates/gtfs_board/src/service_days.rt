@@ -224,6 +224,8 @@ impl Source for Days<'_> {
 
     ghost origins = { λ s. zone_origin s.zone.now };
 
+    ghost serves = { λ s i. serves_on s.feed.now (lane_at s.lanes i).service };
+
     ghost events = { λ s. departures_on s.feed.now (zone_origin s.zone.now) s.lanes s.end };
 
     ghost all = { λ s. all_departures s.feed.now (zone_origin s.zone.now) s.lanes s.end };
@@ -272,6 +274,13 @@ impl Source for Days<'_> {
         self.zone.origin(self.alloc, Day::from_number(day))
     }
 
+    fn serves(&self, lane: usize, day: i32, before: bool) -> bool {
+        if !self.repeats_service(lane) {
+            return self.runs(lane, day);
+        }
+        before
+    }
+
     fn head(
         &self,
         lane: usize,
@@ -280,11 +289,7 @@ impl Source for Days<'_> {
         floor: &Candidate,
         steps: &mut Steps,
     ) -> Option<Candidate> {
-        if self.runs(lane, day) {
-            self.head_on(lane, day, origin, floor, steps)
-        } else {
-            None
-        }
+        self.head_on(lane, day, origin, floor, steps)
     }
 
     fn after(&self, departure: &Candidate, steps: &mut Steps) -> Option<Candidate> {

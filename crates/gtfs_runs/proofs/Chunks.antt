@@ -2,7 +2,6 @@
 use Rattle.std.proofs.Common.{◌≡◌, ◌≤◌, ◌<◌, ◌+◌, ◌-◌, ◌++◌, ◌∙◌, ℕ, false, true, List, [], ◌∷◌, Some, length, map, take, drop, get_or, nat_lt, refl, sym, ap, subst, arith, inl, inr}
 use Rattle.std.specs.Prelude.{AllPairs}
 use Rattle.std.specs.List.{All}
-use Rattle.std.specs.declared.cmp.Ordering.TheVariants.{Less}
 use Rattle.std.proofs.lemmas.Bool.{cases_Bool, ltb-false, ltb-true}
 use Rattle.std.proofs.lemmas.List.{drop-drop, get_or_default, get_or-drop, get_or-map, get_or-take, length-drop, length-map, length-take-le, map-append, take-append-drop, take_rest}
 use Rattle.std.proofs.lemmas.List.Elements.{All-map, All-take}
@@ -11,21 +10,19 @@ use Rattle.gtfs_rows.specs.Order.{Ascends}
 use Rattle.gtfs_rows.specs.Views.{content_of_parts}
 use Rattle.gtfs_rows.specs.declared.parts.Parts.{Parts}
 use Rattle.gtfs_runs.specs.Kinds.{IsListLane, course_at, is_of_list}
-use Rattle.gtfs_runs.specs.Order.{event_cmp}
 use Rattle.gtfs_runs.specs.StopLanes.{LaneValue, events_of_service}
 use Rattle.gtfs_runs.specs.declared.event.Event.{Event}
 use Rattle.gtfs_runs.specs.declared.stop_lanes.listed.Listed.{Listed}
 use Rattle.gtfs_runs.specs.steps.Courses.{CourseNo, IsListed, Stopping, course_of, event_of, how_many, is_same_course, stopping_cmp, stopping_events, stopping_of}
 use Rattle.gtfs_runs.specs.steps.Groups.{trip_group}
 use Rattle.gtfs_runs.specs.steps.Numbers.{AreNumbered, IsNumbered}
-use Rattle.gtfs_runs.proofs.CourseOrder.{chunk_differs, course_is, lane_ascends, one_course, pairs-left, pairs-right, told_more}
+use Rattle.gtfs_runs.proofs.CourseOrder.{chunk_differs, course_is, one_course, pairs-right, told_more}
 
 split : (p : Parts) (n : ℕ) (xs : List Listed) → map (stopping_of p) xs ≡ map (stopping_of p) (take n xs) ++ map (stopping_of p) (drop n xs)
 split p n xs = ap (map (stopping_of p)) (sym (take-append-drop n xs)) ∙ map-append (stopping_of p) (take n xs) (drop n xs)
 
-pub drop_up : (p : Parts) (n : ℕ) (xs : List Listed) → Ascends stopping_cmp (map (stopping_of p) xs) → Ascends stopping_cmp (map (stopping_of p) (drop n xs))
-drop_up p n xs up =
-    pairs-right (λ a b. stopping_cmp a b ≡ Less) (map (stopping_of p) (take n xs)) (map (stopping_of p) (drop n xs)) (subst (λ l. Ascends stopping_cmp l) (split p n xs) up)
+pub pairs-drop : {X : Type 0} (R : X → X → Type 0) (n : ℕ) (xs : List X) → AllPairs R xs → AllPairs R (drop n xs)
+pairs-drop R n xs up = pairs-right R (take n xs) (drop n xs) (subst (AllPairs R) (sym (take-append-drop n xs)) up)
 
 pub all_mapped : {X Y : Type 0} (P : Y → Type 0) (f : X → Y) (xs : List X) → All P (map f xs) → All (λ x. P (f x)) xs
 all_mapped P f xs all k d within = subst P (get_or-map f xs k d (f d) within) (all k (f d) (let size = length-map xs f in omega (arith, size, within)))
@@ -35,7 +32,7 @@ all_alike f es y all i j d before within = all i d (omega (arith, before, within
 
 -- an element that stands nowhere
 abbrev pub no_event : Listed
-no_event = record { group = 0; row = 0; at = 0; trip = 0; run = 0; seq = 0 }
+no_event = record { group = 0; row = 0; at = 0; trip = 0; run = 0; seq = 0; service = 0 }
 
 module _ (p : Parts) (xs : List Listed) (n : ℕ) (first : Listed) (some : 0 < n) (upto : n ≤ length xs) (up : Ascends stopping_cmp (map (stopping_of p) xs))
     (same : (k : ℕ) (d : Listed) → k < n → ◌≡◌ {A = CourseNo} (stopping_of p (get_or xs k d)).course (stopping_of p (get_or xs 0 d)).course) (head : first ≡ get_or xs 0 first) where
@@ -58,11 +55,6 @@ module _ (p : Parts) (xs : List Listed) (n : ℕ) (first : Listed) (some : 0 < n
       let below : k < n = omega (arith, long, within) in
       let filled : 0 < length xs = omega (arith, some, upto) in
       ap (λ x. (stopping_of p x).course) (get_or-take n xs k d below) ∙ same k d below ∙ ap (λ x. (stopping_of p x).course) (get_or_default xs 0 d first filled ∙ sym head))
-
-  pub lane_up : Ascends event_cmp (map event_of (take n xs))
-  lane_up =
-      subst (λ l. Ascends event_cmp l) (map-map (λ z. z.event) (stopping_of p) (take n xs))
-      (lane_ascends fs c (pairs-left (λ a b. stopping_cmp a b ≡ Less) fs bs (subst (λ l. Ascends stopping_cmp l) (split p n xs) up)) one)
 
   -- its lane has one course of trips without frequencies
   pub lane_of_course : (q : Parts) (lane : LaneValue) → lane.events ≡ map event_of (take n xs) → All (λ x. IsListed q (stopping_of p x)) xs → IsListLane (content_of_parts q) lane

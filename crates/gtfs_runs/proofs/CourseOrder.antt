@@ -10,13 +10,12 @@ use Rattle.std.specs.declared.cmp.Ordering.{Ordering}
 use Rattle.std.specs.declared.cmp.Ordering.TheVariants.{Less, Equal, Greater}
 use Rattle.std.specs.Ordering.{is_eq, is_lt, ordering_then, ordering_reverse}
 use Rattle.std.proofs.lemmas.Bool.{true≢false, false≢true, cases_Bool}
-use Rattle.std.proofs.lemmas.List.{append-nil, append_assoc as append-assoc, get_or-map, get_or_append_left, length-append, length-map, map-append}
+use Rattle.std.proofs.lemmas.List.{append-nil, append_assoc as append-assoc, get_or-map, length-map, map-append}
 use Rattle.std.proofs.lemmas.List.Elements.{All-cons, All-head, All-tail, filter-append}
 use Rattle.std.proofs.lemmas.List.Folds.{list_any_none as none_any}
 use Rattle.gtfs_field.proofs.OrderingFacts.{equal, tied as both_equal}
 use Rattle.gtfs_rows.specs.Order.{Ascends}
 use Rattle.gtfs_rows.proofs.SameElements.{pairs-head, pairs-tail}
-use Rattle.gtfs_runs.specs.Order.{event_cmp}
 use Rattle.gtfs_runs.specs.StopLanes.{LaneValue, events_of_service}
 use Rattle.gtfs_runs.specs.declared.event.Event.{Event}
 use Rattle.gtfs_runs.specs.steps.Courses.{CourseNo, Stopping, course_no_cmp, how_many, is_same_course, stopping_cmp, stopping_events}
@@ -61,14 +60,6 @@ same_courses a b is = subst (λ c. is_same_course a c ≡ true) is (course_itsel
 pub pairs-right : {X : Type 0} (R : X → X → Type 0) (xs ys : List X) → AllPairs R (xs ++ ys) → AllPairs R ys
 pairs-right R [] ys up = up
 pairs-right R (x ∷ xs) ys up = pairs-right R xs ys (pairs-tail R x (xs ++ ys) up)
-
-pub pairs-left : {X : Type 0} (R : X → X → Type 0) (xs ys : List X) → AllPairs R (xs ++ ys) → AllPairs R xs
-pairs-left R xs ys up i j d before within =
-    let size = length-append xs ys in
-    let inside : j < length (xs ++ ys) = omega (arith, size, within) in
-    let here : i < length xs = omega (arith, before, within) in
-    let pair : R (get_or (xs ++ ys) i d) (get_or (xs ++ ys) j d) = up i j d before inside in
-    subst (λ a. R a (get_or xs j d)) (get_or_append_left xs ys d i here) (subst (λ b. R (get_or (xs ++ ys) i d) b) (get_or_append_left xs ys d j within) pair)
 
 pub all-right : {X : Type 0} (P : X → Type 0) (xs ys : List X) → All P (xs ++ ys) → All P ys
 all-right P [] ys all = all
@@ -119,18 +110,6 @@ others_differ x xs (b ∷ bs) up ends =
     let differ : is_same_course x.course b.course ≡ false = ends b (omega arith) in
     All-cons (λ z. is_same_course x.course z.course ≡ false) b bs differ
     (λ k d within. never_again x b (get_or bs k d) (All-head (λ z. stopping_cmp x z ≡ Less) b bs above) (pairs-head R b bs rest k d within) differ)
-
--- in one course events ascend
-pub lane_ascends : (fs : List Stopping) (c : CourseNo) → Ascends stopping_cmp fs → All (λ z. z.course ≡ c) fs → Ascends event_cmp (map (λ z. z.event) fs)
-lane_ascends [] c up same i j d before within = let none : j < 0 = within in absurd (omega (arith, none))
-lane_ascends (f ∷ fs) c up same i j d before within =
-    let inside : j < length (f ∷ fs) = subst (λ n. j < n) (length-map (f ∷ fs) (λ z. z.event)) within in
-    let x = get_or (f ∷ fs) i f in
-    let y = get_or (f ∷ fs) j f in
-    let tie : course_no_cmp x.course y.course ≡ Equal = equal _ (same_courses x.course y.course (same i f (omega (arith, before, inside)) ∙ sym (same j f inside))) in
-    let pair : ordering_then (course_no_cmp x.course y.course) (event_cmp x.event y.event) ≡ Less = up i j f before inside in
-    let less : event_cmp x.event y.event ≡ Less = ap (λ r. ordering_then r (event_cmp x.event y.event)) (sym tie) ∙ pair in
-    (λ k. event_cmp (get_or-map (λ z. z.event) (f ∷ fs) i f d (omega (arith, before, inside)) k) (get_or-map (λ z. z.event) (f ∷ fs) j f d inside k)) ∙ less
 
 -- ---- how many courses
 

@@ -1,5 +1,6 @@
--- The numbers of groups: what they count, and that they compare like the groups.
-use Rattle.std.proofs.Common.{rules, ◌≡◌, ◌≤◌, ◌<◌, ◌+◌, ◌-◌, ◌++◌, ◌∙◌, ℕ, true, List, [], ◌∷◌, cond, length, map, drop, get_or, nat_lt, sym, ap, subst, arith, inl, inr, ◌≢◌, ◌==◌, ◌&&◌, get_or-set_other, get_or-set_same, Result, Ok, Err}
+-- The numbers of groups: what they count, and that they compare like the groups. And what steps keep of the order and the services
+-- of events that have them.
+use Rattle.std.proofs.Common.{rules, ◌≡◌, ◌≤◌, ◌<◌, ◌+◌, ◌-◌, ◌++◌, ◌∙◌, ℕ, true, List, [], ◌∷◌, cond, false, length, map, take, drop, get_or, nat_lt, sym, ap, subst, arith, inl, inr, ◌≢◌, ◌==◌, ◌&&◌, get_or-set_other, get_or-set_same, Result, Ok, Err}
 use Rattle.std.specs.Prelude.{IfOk}
 use Rattle.std.specs.List.{All, slice_set}
 use Rattle.std.specs.List.Sorted.{IsPermutation, IsSorted}
@@ -9,19 +10,23 @@ use Rattle.std.specs.Cmp.Rules.{comparing}
 use Rattle.std.specs.FinMap.{IsAntisymmetric, nat_cmp-IsAntisymmetric, slice_cmp-IsAntisymmetric}
 use Rattle.std.specs.declared.cmp.Ordering.{Ordering}
 use Rattle.std.specs.declared.cmp.Ordering.TheVariants.{Less, Equal, Greater}
-use Rattle.std.specs.Ordering.{is_eq, is_lt, nat_cmp, ordering_then}
+use Rattle.std.specs.Ordering.{is_eq, is_lt, nat_cmp, on, ordering_then, then_cmp}
 use Rattle.std.proofs.Math.Seq.{map-set_same}
 use Rattle.std.proofs.lemmas.Bool.{and_parts, cases_Bool, eq-eqb as equal_holds, eqb-true, ltb-false, ltb-true}
 use Rattle.std.proofs.lemmas.Cmp.{nat_cmp_total}
-use Rattle.std.proofs.lemmas.List.Elements.{All-drop, All-map}
+use Rattle.std.proofs.lemmas.List.{get_or-map, get_or-take, get_or_default, length-map, length-take-le}
+use Rattle.std.proofs.lemmas.List.Elements.{All-drop, All-map, All-nil, All-set}
 use Rattle.std.proofs.lemmas.List.Sorted.{All-permutation}
 use Rattle.gtfs_field.proofs.OrderingFacts.{equal, tied as both_equal}
+use Rattle.gtfs_rows.proofs.SameElements.{pairs-map}
+use Rattle.gtfs_rows.specs.Order.{Ascends}
 use Rattle.gtfs_rows.specs.declared.parts.Parts.{Parts}
+use Rattle.gtfs_runs.specs.Order.{event_cmp}
 use Rattle.gtfs_runs.specs.declared.grouped_trip.GroupedTrip.{GroupedTrip}
 use Rattle.gtfs_runs.specs.declared.stop_lanes.listed.Listed.{Listed}
-use Rattle.gtfs_runs.specs.steps.Courses.{course_no_cmp, is_same_course, stopping_cmp, stopping_of}
+use Rattle.gtfs_runs.specs.steps.Courses.{AreServed, course_no_cmp, event_of, is_same_course, stopping_cmp, stopping_of}
 use Rattle.gtfs_runs.specs.steps.Groups.{Group, below, group_cmp, group_of, sharing, trip_group}
-use Rattle.gtfs_runs.specs.steps.Numbers.{AreNumbered, IsNumbered, listed_cmp}
+use Rattle.gtfs_runs.specs.steps.Numbers.{AreNumbered, IsNumbered, is_alike, listed_cmp}
 use Rattle.gtfs_runs.proofs.Chunks.{all_mapped}
 use Rattle.gtfs_runs.proofs.Ranks.{ranks_compare}
 use Rattle.gtfs_runs.proofs.Tallies.{tally-permutation, tally-push}
@@ -158,11 +163,104 @@ same_course p x y is =
     same_pair x.group y.group x.row y.row
     ∙ ap is_eq (ap (λ o. ordering_then o (nat_cmp x.row y.row)) is ∙ then_assoc (nat_cmp (trip_group p x.trip).0 (trip_group p y.trip).0) _ (nat_cmp x.row y.row))
 
-pub in_order : (p : Parts) (xs : List Listed) → AreNumbered p xs → IsSorted listed_cmp xs → IsSorted (λ x y. stopping_cmp (stopping_of p x) (stopping_of p y)) xs
+-- that of the fields, of which the service is the last
+abbrev pub field_cmp : Listed → Listed → Ordering
+field_cmp = then_cmp (on (λ x. x.group) nat_cmp)
+    (then_cmp (on (λ x. x.row) nat_cmp)
+    (then_cmp (on (λ x. x.at) nat_cmp)
+    (then_cmp (on (λ x. x.trip) nat_cmp)
+    (then_cmp (on (λ x. x.run) nat_cmp)
+    (then_cmp (on (λ x. x.seq) nat_cmp)
+    (on (λ x. x.service) nat_cmp))))))
+
+-- what is not less by the fields is not less without the service
+without_service : (x y : Listed) → is_lt (field_cmp x y) ≡ false → is_lt (listed_cmp x y) ≡ false
+without_service x y h = first (listed_cmp x y) (nat_cmp x.service y.service) (ap is_lt (sym apart) ∙ h)
+  where
+    first : (r s : Ordering) → is_lt (ordering_then r s) ≡ false → is_lt r ≡ false
+    first Less s is = is
+    first Equal s is = λ i. false
+    first Greater s is = λ i. false
+
+    further : (r s t u : Ordering) → s ≡ ordering_then t u → ordering_then r s ≡ ordering_then (ordering_then r t) u
+    further r s t u is = ap (ordering_then r) is ∙ sym (then_assoc r t u)
+
+    apart : field_cmp x y ≡ ordering_then (listed_cmp x y) (nat_cmp x.service y.service)
+    apart =
+        further (nat_cmp x.group y.group) _ _ _ (further (nat_cmp x.row y.row) _ _ _ (further (nat_cmp x.at y.at) _ _ _ (further (nat_cmp x.trip y.trip) _ _ _
+        (sym (then_assoc (nat_cmp x.run y.run) (nat_cmp x.seq y.seq) (nat_cmp x.service y.service))))))
+
+pub in_order : (p : Parts) (xs : List Listed) → AreNumbered p xs → IsSorted field_cmp xs → IsSorted (λ x y. stopping_cmp (stopping_of p x) (stopping_of p y)) xs
 in_order p xs numbers up k d from within =
     let x = get_or xs (k + 1) d in
     let y = get_or xs k d in
-    ap is_lt (sym (same_order p x y (numbers (k + 1) d within k d (omega (arith, within))))) ∙ up k d from within
+    ap is_lt (sym (same_order p x y (numbers (k + 1) d within k d (omega (arith, within))))) ∙ without_service x y (up k d from within)
+
+-- ---- ascending events
+
+pub courses_ascend : (p : Parts) (xs : List Listed) → AreNumbered p xs → Ascends listed_cmp xs → Ascends stopping_cmp (map (stopping_of p) xs)
+courses_ascend p xs numbers up =
+    pairs-map (stopping_of p) (λ a b. stopping_cmp a b ≡ Less) xs (λ i j d before within.
+    sym (same_order p (get_or xs i d) (get_or xs j d) (numbers i d (omega (arith, before, within)) j d within)) ∙ up i j d before within)
+
+pub events_ascend : (p : Parts) (xs : List Listed) → AreNumbered p xs → Ascends stopping_cmp (map (stopping_of p) xs) → Ascends listed_cmp xs
+events_ascend p xs numbers up i j d before within =
+    let inside : j < length (map (stopping_of p) xs) = let size = length-map xs (stopping_of p) in omega (arith, size, within) in
+    let here : i < length xs = omega (arith, before, within) in
+    same_order p (get_or xs i d) (get_or xs j d) (numbers i d here j d within)
+    ∙ (λ k. stopping_cmp (sym (get_or-map (stopping_of p) xs i d (stopping_of p d) here) k) (sym (get_or-map (stopping_of p) xs j d (stopping_of p d) within) k))
+    ∙ up i j (stopping_of p d) before inside
+
+-- of one group and position the event decides
+alike_less : (x y : Listed) → nat_cmp x.group y.group ≡ Equal → nat_cmp x.row y.row ≡ Equal → listed_cmp x y ≡ Less → event_cmp (event_of x) (event_of y) ≡ Less
+alike_less x y group row less =
+    let whole = event_cmp (event_of x) (event_of y) in
+    (λ k. ordering_then (sym group k) (ordering_then (sym row k) whole))
+    ∙ sym (ap (ordering_then (nat_cmp x.group y.group)) (decided (nat_cmp x.row y.row) (nat_cmp x.at y.at) (nat_cmp x.trip y.trip) (nat_cmp x.run y.run) (nat_cmp x.seq y.seq))) ∙ less
+
+pub alike_ascend : (xs : List Listed) (n : ℕ) → n ≤ length xs → ((k : ℕ) (d : Listed) → k < n → is_alike (get_or xs 0 d) (get_or xs k d) ≡ true) → Ascends listed_cmp xs
+    → Ascends event_cmp (map event_of (take n xs))
+alike_ascend xs n upto alike up =
+    pairs-map event_of (λ a b. event_cmp a b ≡ Less) (take n xs) (λ i j d before within.
+    let size = length-take-le n xs upto in
+    let last : j < n = omega (arith, size, within) in
+    let first : i < n = omega (arith, before, last) in
+    let x = get_or xs i d in
+    let y = get_or xs j d in
+    let head = get_or xs 0 d in
+    let one = and_parts (head.group == x.group) (head.row == x.row) (alike i d first) in
+    let other = and_parts (head.group == y.group) (head.row == y.row) (alike j d last) in
+    (λ k. event_cmp (event_of (get_or-take n xs i d first k)) (event_of (get_or-take n xs j d last k)))
+    ∙ alike_less x y (one_number head.group x.group y.group one.0 other.0) (one_number head.row x.row y.row one.1 other.1) (up i j d before (omega (arith, last, upto))))
+  where
+    one_number : (a m n : ℕ) → (a == m) ≡ true → (a == n) ≡ true → nat_cmp m n ≡ Equal
+    one_number a m n first second = (λ k. nat_cmp (sym (eqb-true a m first) k) (sym (eqb-true a n second) k)) ∙ tied_itself nat_cmp_total a
+
+-- one event more of the group and position of the first
+pub alike_more : (xs : List Listed) (n : ℕ) (a b : Listed) → n < length xs → a ≡ get_or xs 0 a → b ≡ get_or xs n b → is_alike a b ≡ true
+    → ((k : ℕ) (d : Listed) → k < n → is_alike (get_or xs 0 d) (get_or xs k d) ≡ true) → (k : ℕ) (d : Listed) → k < n + 1 → is_alike (get_or xs 0 d) (get_or xs k d) ≡ true
+alike_more xs n a b inside first last same so_far k d below = elim (cases_Bool (nat_lt k n)) [
+  | inl is ↦ so_far k d (ltb-true k n is)
+  | inr isnt ↦
+      let here : k ≡ n = omega (arith, ltb-false k n isnt, below) in
+      let filled : 0 < length xs = omega (arith, inside) in
+      (λ i. is_alike (sym (first ∙ get_or_default xs 0 a d filled) i) ((ap (λ m. get_or xs m d) here ∙ sym (last ∙ get_or_default xs n b d inside)) i)) ∙ same
+]
+
+-- ---- services
+
+pub none_served : (p : Parts) (xs : List Listed) → xs ≡ [] → AreServed p xs
+none_served p xs none = subst (AreServed p) (sym none) (All-nil (λ x. (trip_group p x.trip).0 ≡ x.service))
+
+-- an event that gets its number keeps its service
+pub served_kept : (p : Parts) (xs : List Listed) (n : ℕ) (x y : Listed) → n < length xs → x ≡ get_or xs n x → y.trip ≡ x.trip → y.service ≡ x.service → AreServed p xs
+    → AreServed p (slice_set xs n y)
+served_kept p xs n x y within is trip service served =
+    let own : (trip_group p x.trip).0 ≡ x.service = subst (λ z. (trip_group p z.trip).0 ≡ z.service) (sym is) (served n x within) in
+    All-set (λ z. (trip_group p z.trip).0 ≡ z.service) xs n y (ap (λ t. (trip_group p t).0) trip ∙ own ∙ sym service) served
+
+pub served_left : (p : Parts) (n : ℕ) (xs : List Listed) → AreServed p xs → AreServed p (drop n xs)
+served_left p n xs served = All-drop (λ x. (trip_group p x.trip).0 ≡ x.service) n xs served
 
 -- ---- the steps of the code
 

@@ -73,7 +73,8 @@ impl StopLanes {
     /// GTFS Schedule Reference, `stop_times.txt`, `frequencies.txt`, and `parent_station` of `stops.txt`.
     ///
     /// # Errors
-    /// [`OutOfMemory`] where memory ran out, or where the feed has more than 4,294,967,296 trips or stop times of a trip.
+    /// [`OutOfMemory`] where memory ran out, or where the feed has more than 4,294,967,296
+    /// services, trips or stop times of a trip.
     pub fn build(
         alloc: Global,
         feed: &Feed,
@@ -103,7 +104,8 @@ impl StopLanes {
     /// GTFS Schedule Reference, `stop_times.txt`, `frequencies.txt`, and `parent_station` of `stops.txt`.
     ///
     /// # Errors
-    /// [`OutOfMemory`] where memory ran out.
+    /// [`OutOfMemory`] where memory ran out, or where the feed has more than 4,294,967,296
+    /// services.
     pub fn from_index(
         alloc: Global,
         index: &StopIndex<'_>,

@@ -1,9 +1,9 @@
-ghost use Rattle.std.specs.Prelude.{◌≡◌, ◌≤◌, ◌+◌, ◌*◌, ◌++◌, pos, negsuc, ◌+ℤ◌, ◌-ℤ◌, ◌*ℤ◌, ◌≤ℤ◌, ◌<ℤ◌, OnOk, IfOk, IsTrue, false};
+ghost use Rattle.std.specs.Prelude.{◌≡◌, ◌≤◌, ◌<◌, ◌+◌, ◌*◌, ◌++◌, [], pos, negsuc, ◌+ℤ◌, ◌-ℤ◌, ◌*ℤ◌, ◌≤ℤ◌, ◌<ℤ◌, OnOk, IfOk, IsTrue, false};
 ghost use Rattle.std.specs.Option.{option_to_list};
 ghost use Rattle.gtfs_board.specs.Board.{origin_distance};
 ghost use Rattle.gtfs_board.specs.merge.Order.{Each};
 ghost use Rattle.gtfs_board.specs.merge.Lanes.{IsStopped, AreStepsFew, IsStartDay};
-ghost use Rattle.gtfs_board.specs.merge.Candidates.{AreGathered, AreHeadsAbove, AreWithinLeast, IsAside, heads_on, least_from, with_head};
+ghost use Rattle.gtfs_board.specs.merge.Candidates.{AreGathered, AreHeadsAbove, AreWithinLeast, IsAside, first_above, heads_on, least_from, with_head};
 
 use crate::merge::candidate::Candidate;
 use crate::merge::queue::Queue;
@@ -96,11 +96,39 @@ fn open_day<S: Source>(
     ensures steps { OnOk result (steps.new ≤ steps.old + S.count source.now) }
 {
     let origin = source.origin(day)?;
+    let mut serves = false;
     for lane in 0..source.count() {
-        let head = source.head(lane, day, origin, floor, steps);
+        serves = source.serves(lane, day, serves);
+        let head = head_if(source, serves, lane, day, origin, floor, steps);
         least = keep(fresh, head, least)?;
     }
     Ok(least)
+}
+
+// The first event of a lane above a floor, on a day on which it tells events or not.
+fn head_if<S: Source>(
+    source: &S,
+    serves: bool,
+    lane: usize,
+    day: i32,
+    origin: i64,
+    floor: &Candidate,
+    steps: &mut Steps,
+) -> Option<Candidate>
+    requires inside { lane < S.count source.now }
+    requires from { S.first source.now ≤ℤ day }
+    requires to { day ≤ℤ S.last source.now }
+    requires serves { serves ≡ S.serves source.now lane day }
+    requires idle { serves ≡ false → S.events source.now lane day ≡ [] }
+    requires origin { origin ≡ S.origins source.now day }
+    requires aside { IsAside floor.now day (S.count source.now) }
+    ensures first { result ≡ first_above floor.now (S.events source.now lane day) }
+    ensures steps { steps.new ≤ steps.old + 1 }
+{
+    if serves {
+        return source.head(lane, day, origin, floor, steps);
+    }
+    None
 }
 
 // A head, if there is one, joins those that wait, and the least instant so far is answered.

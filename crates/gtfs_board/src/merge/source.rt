@@ -1,4 +1,4 @@
-ghost use Rattle.std.specs.Prelude.{◌≡◌, ℕ, ℤ, List, ◌≤◌, ◌<◌, ◌+◌, pos, negsuc, ◌≤ℤ◌, ◌<ℤ◌, ◌+ℤ◌, IfOk, []};
+ghost use Rattle.std.specs.Prelude.{◌≡◌, ℕ, ℤ, Bool, List, ◌≤◌, ◌<◌, ◌+◌, ◌-◌, true, false, pos, negsuc, ◌≤ℤ◌, ◌<ℤ◌, ◌+ℤ◌, IfOk, []};
 ghost use Rattle.gtfs_board.specs.merge.Candidates.{IsAside, IsSource, first_above, slot_of};
 ghost use Rattle.gtfs_board.specs.merge.Order.{In};
 
@@ -29,6 +29,9 @@ pub trait Source {
 
     // The origin of each day.
     ghost origins: { Self → ℤ → ℤ };
+
+    // Whether a lane tells events on a day.
+    ghost serves: { Self → ℕ → ℤ → Bool };
 
     // The events of a lane on a day.
     ghost events: { Self → ℕ → ℤ → List Candidate };
@@ -73,8 +76,18 @@ pub trait Source {
         requires to { day ≤ℤ last self.now }
         ensures { IfOk result (λ o. o ≡ origins self.now day) };
 
-    // The first event of a lane above a floor, on a service day with this origin. The floor lies on
-    // an earlier day or belongs to no lane. It may ask the lane once.
+    // Whether a lane tells events on a service day, which is told of the lane before it: lanes of one service stand
+    // together, so that most services are asked once.
+    fn serves(&self, lane: usize, day: i32, before: bool) -> bool
+        requires inside { lane < count self.now }
+        requires from { first self.now ≤ℤ day }
+        requires to { day ≤ℤ last self.now }
+        requires before { 0 < lane → before ≡ serves self.now (lane - 1) day }
+        ensures value { result ≡ serves self.now lane day }
+        ensures idle { result ≡ false → events self.now lane day ≡ [] };
+
+    // The first event of a lane above a floor, on a service day with this origin on which it tells events. The floor lies
+    // on an earlier day or belongs to no lane. It may ask the lane once.
     fn head(
         &self,
         lane: usize,
@@ -86,6 +99,7 @@ pub trait Source {
         requires inside { lane < count self.now }
         requires from { first self.now ≤ℤ day }
         requires to { day ≤ℤ last self.now }
+        requires serves { serves self.now lane day ≡ true }
         requires origin { origin ≡ origins self.now day }
         requires aside { IsAside floor.now day (count self.now) }
         ensures first { result ≡ first_above floor.now (events self.now lane day) }

@@ -34,6 +34,10 @@ stopping_of p x = record {
   event = event_of x;
 }
 
+-- each has the number of the service of its trip
+abbrev pub AreServed : Parts → List Listed → Type 0
+AreServed p xs = All (λ x. (trip_group p x.trip).0 ≡ x.service) xs
+
 -- ---- order
 
 abbrev pub course_no_cmp : CourseNo → CourseNo → Ordering

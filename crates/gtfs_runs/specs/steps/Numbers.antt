@@ -1,5 +1,5 @@
 -- The numbers of the groups of trips, which are compared instead of them.
-use Rattle.std.specs.Prelude.{◌≡◌, All, List}
+use Rattle.std.specs.Prelude.{◌≡◌, ◌==◌, ◌&&◌, All, Bool, List}
 use Rattle.std.specs.Ordering.{nat_cmp, on, then_cmp}
 use Rattle.std.specs.declared.cmp.Ordering.{Ordering}
 use Rattle.gtfs_rows.specs.declared.parts.Parts.{Parts}
@@ -12,6 +12,10 @@ IsNumbered p x y = nat_cmp x.group y.group ≡ group_cmp (trip_group p x.trip) (
 
 abbrev pub AreNumbered : Parts → List Listed → Type 0
 AreNumbered p xs = All (λ x. All (IsNumbered p x) xs) xs
+
+-- the two have one group and one position
+abbrev pub is_alike : Listed → Listed → Bool
+is_alike x y = (x.group == y.group) && (x.row == y.row)
 
 -- by group and position, and then by event
 abbrev pub listed_cmp : Listed → Listed → Ordering

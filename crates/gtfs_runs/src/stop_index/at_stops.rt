@@ -125,7 +125,8 @@ fn row_at(trip: TripNo, position: usize) -> Result<DepartureRow, OutOfMemory>
     Ok(DepartureRow::new(small_number(trip.0)?, small_number(position)?))
 }
 
-// A number as the index keeps it. No number is left for more than 4,294,967,296 stops, trips or stop times of a trip.
+// A number as the index keeps it. No number is left for more than 4,294,967,296 stops, services,
+// trips or stop times of a trip.
 pub(crate) fn small_number(number: usize) -> Result<u32, OutOfMemory>
     ensures { IfOk result (λ small. small ≡ number) }
 {

@@ -9,7 +9,7 @@ ghost use Rattle.gtfs_rows.specs.Places.{members};
 ghost use Rattle.gtfs_rows.specs.declared.parts.Parts.{Parts};
 ghost use Rattle.gtfs_runs.specs.StopLanes.{period_value};
 ghost use Rattle.gtfs_runs.specs.declared.event.Event.{Event as EventValue};
-ghost use Rattle.gtfs_runs.specs.steps.Courses.{stopping_of};
+ghost use Rattle.gtfs_runs.specs.steps.Courses.{AreServed, stopping_of};
 ghost use Rattle.gtfs_runs.specs.steps.Finds.{AreFound, HasRuns, stopping_at, times_passed, times_passed_in, times_told};
 ghost use Rattle.gtfs_runs.specs.steps.Groups.{trip_group};
 ghost use Rattle.gtfs_runs.specs.steps.Passings.{ArePassings, first_left};
@@ -46,10 +46,11 @@ impl Found {
         times: Times,
     ) -> Result<Found, OutOfMemory>
         requires { length place.now ≡ length feed.now.stops }
-        ensures { IfOk result (λ found. (s : ℕ)
+        ensures found { IfOk result (λ found. (s : ℕ)
             → place.now ≡ members (content_of_parts feed.now) (text_of_number (stop_ids feed.now) s)
             → AreFound (timed_parts times feed.now) s (length feed.now.trips)
             (map (stopping_of feed.now) found.listed.items) (map period_value found.periods.items)) }
+        ensures services { IfOk result (λ found. AreServed feed.now found.listed.items) }
     {
         let mut listed = Vec::new(alloc);
         let mut periods = Vec::new(alloc);
@@ -80,12 +81,14 @@ fn add_trip(
 ) -> Result<(), OutOfMemory>
     requires trip { trip.0 < length feed.now.trips }
     requires stops { length place.now ≡ length feed.now.stops }
-    ensures { OnOk result ((s : ℕ)
+    ensures found { OnOk result ((s : ℕ)
         → place.now ≡ members (content_of_parts feed.now) (text_of_number (stop_ids feed.now) s)
         → AreFound (timed_parts times feed.now) s trip.0 (map (stopping_of feed.now) listed.old.items)
         (map period_value periods.old.items)
         → AreFound (timed_parts times feed.now) s (trip.0 + 1) (map (stopping_of feed.now) listed.new.items)
         (map period_value periods.new.items)) }
+    ensures services { OnOk result (AreServed feed.now listed.old.items
+        → AreServed feed.now listed.new.items) }
 {
     feed.soundness();
     let passings = passings(alloc, feed, place, trip, times)?;
@@ -122,19 +125,24 @@ pub(crate) fn add_passings(
     ensures groups { OnOk result ((groups : ℕ → ℕ) → groups trip.0 ≡ indexed.group
         → All (λ x. groups x.trip ≡ x.group) listed.old.items
         → All (λ x. groups x.trip ≡ x.group) listed.new.items) }
+    ensures services { OnOk result (AreServed feed.now listed.old.items
+        → AreServed feed.now listed.new.items) }
 {
     feed.soundness();
-    if !indexed.has_frequencies {
-        return add_listed(trip, indexed, passings, listed);
-    }
+    // The rows of trips lie far apart. As little is done between two of them, a processor fetches
+    // several at once.
     let service = feed.trip_by_number(trip).service_id;
+    if !indexed.has_frequencies {
+        return add_listed(service, trip, indexed, passings, listed);
+    }
     let frequencies = feed.trip_frequencies(trip);
     add_periods(service, trip, frequencies, passings, periods)?;
     Ok(())
 }
 
-// Adds the events of a trip without frequencies.
+// Adds the events of a trip without frequencies, which has this service.
 fn add_listed(
+    service: ServiceNo,
     trip: TripNo,
     indexed: IndexedTrip,
     passings: &[Passing],
@@ -148,9 +156,11 @@ fn add_listed(
     ensures groups { OnOk result ((groups : ℕ → ℕ) → groups trip.0 ≡ indexed.group
         → All (λ x. groups x.trip ≡ x.group) listed.old.items
         → All (λ x. groups x.trip ≡ x.group) listed.new.items) }
+    ensures services { OnOk result ((p : Parts) → (trip_group p trip.0).0 ≡ service.0
+        → AreServed p listed.old.items → AreServed p listed.new.items) }
 {
     for passing in passings {
-        listed.push(Listed::of(trip, indexed, passing)?)?;
+        listed.push(Listed::of(service, trip, indexed, passing)?)?;
     }
     Ok(())
 }

@@ -1,7 +1,7 @@
 ghost use Rattle.std.specs.Prelude.{◌≡◌, ◌≤◌, ◌<◌, All, IfOk, OnOk, drop, length, map, slice_index_or};
 ghost use Rattle.gtfs_runs.specs.StopLanes.{period_value};
 ghost use Rattle.gtfs_runs.specs.declared.stop_index.indexed_trips.IndexedTrip.{IndexedTrip as TripValue};
-ghost use Rattle.gtfs_runs.specs.steps.Courses.{stopping_of};
+ghost use Rattle.gtfs_runs.specs.steps.Courses.{AreServed, stopping_of};
 ghost use Rattle.gtfs_runs.specs.steps.Finds.{AreFound};
 ghost use Rattle.gtfs_runs.specs.steps.Groups.{AreIndexedTrips};
 ghost use Rattle.gtfs_runs.specs.steps.Numbers.{AreNumbered};
@@ -32,6 +32,7 @@ pub(crate) fn found_in_index(
         (map (stopping_of index.now.feed) found.listed.items)
         (map period_value found.periods.items)) }
     ensures numbers { IfOk result (λ found. AreNumbered index.now.feed found.listed.items) }
+    ensures services { IfOk result (λ found. AreServed index.now.feed found.listed.items) }
 {
     let rows = place_rows(alloc, index, stop)?;
     let feed = index.feed();
@@ -76,6 +77,8 @@ fn add_rows(
     ensures groups { OnOk result ((e : TripValue)
         → All (λ x. (slice_index_or trips.now x.trip e).group ≡ x.group) listed.old.items
         → All (λ x. (slice_index_or trips.now x.trip e).group ≡ x.group) listed.new.items) }
+    ensures services { OnOk result (AreServed feed.now listed.old.items
+        → AreServed feed.now listed.new.items) }
 {
     feed.soundness();
     let mut at = 0;
@@ -124,6 +127,8 @@ fn add_trip(
     ensures groups { IfOk result (λ n. (e : TripValue)
         → All (λ x. (slice_index_or trips.now x.trip e).group ≡ x.group) listed.old.items
         → All (λ x. (slice_index_or trips.now x.trip e).group ≡ x.group) listed.new.items) }
+    ensures services { IfOk result (λ n. AreServed feed.now listed.old.items
+        → AreServed feed.now listed.new.items) }
 {
     feed.soundness();
     let trip = rows[0].trip();

@@ -2,19 +2,20 @@ ghost use Rattle.std.specs.Prelude.{◌≡◌, ◌≤◌, IfOk, map};
 ghost use Rattle.std.specs.List.Sorted.{IsPermutation, IsSorted};
 ghost use Rattle.gtfs_rows.specs.declared.parts.Parts.{Parts};
 ghost use Rattle.gtfs_runs.specs.steps.Courses.{event_of, is_same_course, stopping_cmp, stopping_of};
-ghost use Rattle.gtfs_runs.specs.steps.Numbers.{AreNumbered, IsNumbered};
+ghost use Rattle.gtfs_runs.specs.steps.Numbers.{AreNumbered, IsNumbered, is_alike};
 ghost use Rattle.gtfs_runs.specs.steps.Passings.{passing_event};
 
 use crate::event::Event;
 use crate::stop_index::{IndexedTrip, small_number};
 use crate::stop_lanes::passing::Passing;
 use gtfs_field::OutOfMemory;
-use gtfs_rows::TripNo;
+use gtfs_rows::{ServiceNo, TripNo};
 
 // An event of a trip without frequencies.
 //
 // Its lane is that of its course: the group of the trip and the position of the stop time. The order of the fields is that of
-// lanes, and in a lane that of events, since the trip decides between those at one second.
+// lanes, and in a lane that of events, since the trip decides between those at one second. The
+// service comes last, where it decides nothing: the events of a trip have one.
 #[derive(Clone, Copy, PartialEq, Eq, PartialOrd, Ord)]
 pub(crate) struct Listed {
     // The number of the group, by which groups are compared; 0 until it is known.
@@ -24,11 +25,14 @@ pub(crate) struct Listed {
     trip: u32,
     run: u32,
     seq: u32,
+    // The service of the trip, so that a lane need not load the row of a trip for it.
+    service: u32,
 }
 
 impl Listed {
-    // That of a trip at one of its stop times.
+    // That of a trip of this service at one of its stop times.
     pub(crate) fn of(
+        service: ServiceNo,
         trip: TripNo,
         indexed: IndexedTrip,
         passing: &Passing,
@@ -38,6 +42,7 @@ impl Listed {
         ensures event { IfOk result (λ x. event_of x
             ≡ passing_event trip.0 indexed.start passing.now) }
         ensures group { IfOk result (λ x. x.group ≡ indexed.group) }
+        ensures service { IfOk result (λ x. x.service ≡ service.0) }
     {
         Ok(Listed {
             group: indexed.group,
@@ -46,6 +51,7 @@ impl Listed {
             trip: small_number(trip.0)?,
             run: indexed.start,
             seq: passing.seq,
+            service: small_number(service.0)?,
         })
     }
 
@@ -54,6 +60,13 @@ impl Listed {
         ensures { result.0 ≡ self.now.trip }
     {
         TripNo(self.trip as usize)
+    }
+
+    // The service of the trip.
+    pub(crate) fn service(&self) -> ServiceNo
+        ensures { result.0 ≡ self.now.service }
+    {
+        ServiceNo(self.service as usize)
     }
 
     // The event.
@@ -82,7 +95,8 @@ pub(crate) fn sorted(mut listed: Vec<Listed>) -> Vec<Listed>
 
 // Whether two events have one course.
 pub(crate) fn is_one_course(a: &Listed, b: &Listed) -> bool
-    ensures { (p : Parts) → IsNumbered p a.now b.now
+    ensures numbers { result ≡ is_alike a.now b.now }
+    ensures courses { (p : Parts) → IsNumbered p a.now b.now
         → result ≡ is_same_course (stopping_of p a.now).course (stopping_of p b.now).course }
 {
     a.group == b.group && a.row == b.row

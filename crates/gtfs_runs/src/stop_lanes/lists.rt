@@ -1,4 +1,4 @@
-ghost use Rattle.std.specs.Prelude.{◌≡◌, ◌≤◌, ◌<◌, ◌+◌, ◌++◌, ℕ, All, IfOk, drop, false, length, map, slice_index_or};
+ghost use Rattle.std.specs.Prelude.{◌≡◌, ◌≤◌, ◌<◌, ◌+◌, ◌++◌, ℕ, All, IfOk, drop, false, length, map, slice_index_or, true};
 ghost use Rattle.gtfs_rows.specs.Order.{Ascends};
 ghost use Rattle.gtfs_rows.specs.Views.{content_of_parts};
 ghost use Rattle.gtfs_rows.specs.declared.parts.Parts.{Parts};
@@ -6,40 +6,34 @@ ghost use Rattle.gtfs_runs.specs.Kinds.{IsListLane};
 ghost use Rattle.gtfs_runs.specs.Order.{event_cmp};
 ghost use Rattle.gtfs_runs.specs.StopLanes.{events_of_service, list_value};
 ghost use Rattle.gtfs_runs.specs.declared.stop_lanes.listed.Listed.{Listed as ListedValue};
-ghost use Rattle.gtfs_runs.specs.steps.Groups.{trip_group};
-ghost use Rattle.gtfs_runs.specs.steps.Numbers.{AreNumbered};
-ghost use Rattle.gtfs_runs.specs.steps.Courses.{IsListed, event_of, how_many, is_same_course, stopping_cmp, stopping_events, stopping_of};
+ghost use Rattle.gtfs_runs.specs.steps.Numbers.{AreNumbered, is_alike, listed_cmp};
+ghost use Rattle.gtfs_runs.specs.steps.Courses.{AreServed, IsListed, event_of, how_many, is_same_course, stopping_events, stopping_of};
 
 use crate::list_lane::ListLane;
 use crate::stop_lanes::listed::{Listed, is_one_course};
-use gtfs_feed::Feed;
 use gtfs_field::OutOfMemory;
 use gtfs_rows::ServiceNo;
 use std::alloc::Global;
 
 // A lane for each course of these events, which are sorted.
-pub(crate) fn lists(
-    alloc: Global,
-    feed: &Feed,
-    listed: &[Listed],
-) -> Result<Vec<ListLane>, OutOfMemory>
-    requires known { All (λ x. x.trip < length feed.now.trips) listed.now }
-    requires sorted { Ascends stopping_cmp (map (stopping_of feed.now) listed.now) }
-    requires numbers { AreNumbered feed.now listed.now }
-    ensures told { IfOk result (λ lists. (k : ℕ) → events_of_service k (map list_value lists.items)
-        ≡ stopping_events k (map (stopping_of feed.now) listed.now)) }
-    ensures counted { IfOk result (λ lists. length lists.items
-        ≡ how_many is_same_course (map (λ x. x.course) (map (stopping_of feed.now) listed.now))) }
-    ensures within { IfOk result (λ lists. (n : ℕ) → All (λ x. (trip_group feed.now x.trip).0 < n) listed.now
+pub(crate) fn lists(alloc: Global, listed: &[Listed]) -> Result<Vec<ListLane>, OutOfMemory>
+    requires { Ascends listed_cmp listed.now }
+    ensures told { IfOk result (λ lists. (p : Parts) (k : ℕ) → AreNumbered p listed.now
+        → AreServed p listed.now → events_of_service k (map list_value lists.items)
+        ≡ stopping_events k (map (stopping_of p) listed.now)) }
+    ensures counted { IfOk result (λ lists. (p : Parts) → AreNumbered p listed.now
+        → length lists.items
+        ≡ how_many is_same_course (map (λ x. x.course) (map (stopping_of p) listed.now))) }
+    ensures within { IfOk result (λ lists. (n : ℕ) → All (λ x. x.service < n) listed.now
         → All (λ lane. lane.service < n) (map list_value lists.items)) }
-    ensures alike { IfOk result (λ lists. (p : Parts)
-        → All (λ x. IsListed p (stopping_of feed.now x)) listed.now
-        → All (IsListLane (content_of_parts p)) (map list_value lists.items)) }
+    ensures alike { IfOk result (λ lists. (p q : Parts) → AreNumbered p listed.now
+        → All (λ x. IsListed q (stopping_of p x)) listed.now
+        → All (IsListLane (content_of_parts q)) (map list_value lists.items)) }
 {
     let mut lists = Vec::new(alloc);
     let mut at = 0;
     while at < listed.len() {
-        at += add_list(alloc, feed, &listed[at..], &mut lists)?;
+        at += add_list(alloc, &listed[at..], &mut lists)?;
     }
     Ok(lists)
 }
@@ -47,35 +41,33 @@ pub(crate) fn lists(
 // Adds the lane of the first course of these events, which are sorted. Answers how many they are.
 fn add_list(
     alloc: Global,
-    feed: &Feed,
     listed: &[Listed],
     lists: &mut Vec<ListLane>,
 ) -> Result<usize, OutOfMemory>
     requires some { 0 < length listed.now }
-    requires known { All (λ x. x.trip < length feed.now.trips) listed.now }
-    requires sorted { Ascends stopping_cmp (map (stopping_of feed.now) listed.now) }
-    requires numbers { AreNumbered feed.now listed.now }
+    requires sorted { Ascends listed_cmp listed.now }
     ensures some { IfOk result (λ n. 0 < n) }
     ensures upto { IfOk result (λ n. n ≤ length listed.now) }
-    ensures told { IfOk result (λ n. (k : ℕ) → events_of_service k (map list_value lists.new.items)
-        ++ stopping_events k (map (stopping_of feed.now) (drop n listed.now))
+    ensures told { IfOk result (λ n. (p : Parts) (k : ℕ) → AreNumbered p listed.now
+        → AreServed p listed.now → events_of_service k (map list_value lists.new.items)
+        ++ stopping_events k (map (stopping_of p) (drop n listed.now))
         ≡ events_of_service k (map list_value lists.old.items)
-        ++ stopping_events k (map (stopping_of feed.now) listed.now)) }
-    ensures counted { IfOk result (λ n. length lists.new.items + how_many is_same_course
-        (map (λ x. x.course) (map (stopping_of feed.now) (drop n listed.now)))
+        ++ stopping_events k (map (stopping_of p) listed.now)) }
+    ensures counted { IfOk result (λ n. (p : Parts) → AreNumbered p listed.now
+        → length lists.new.items + how_many is_same_course
+        (map (λ x. x.course) (map (stopping_of p) (drop n listed.now)))
         ≡ length lists.old.items + how_many is_same_course
-        (map (λ x. x.course) (map (stopping_of feed.now) listed.now))) }
-    ensures within { IfOk result (λ n. (m : ℕ) → All (λ x. (trip_group feed.now x.trip).0 < m) listed.now
+        (map (λ x. x.course) (map (stopping_of p) listed.now))) }
+    ensures within { IfOk result (λ n. (m : ℕ) → All (λ x. x.service < m) listed.now
         → All (λ lane. lane.service < m) (map list_value lists.old.items)
         → All (λ lane. lane.service < m) (map list_value lists.new.items)) }
-    ensures alike { IfOk result (λ n. (p : Parts)
-        → All (λ x. IsListed p (stopping_of feed.now x)) listed.now
-        → All (IsListLane (content_of_parts p)) (map list_value lists.old.items)
-        → All (IsListLane (content_of_parts p)) (map list_value lists.new.items)) }
+    ensures alike { IfOk result (λ n. (p q : Parts) → AreNumbered p listed.now
+        → All (λ x. IsListed q (stopping_of p x)) listed.now
+        → All (IsListLane (content_of_parts q)) (map list_value lists.old.items)
+        → All (IsListLane (content_of_parts q)) (map list_value lists.new.items)) }
 {
     let len = course_len(listed);
-    let service = feed.trip_by_number(listed[0].trip()).service_id;
-    let list = list_lane(alloc, service, &listed[..len])?;
+    let list = list_lane(alloc, listed[0].service(), &listed[..len])?;
     lists.push(list)?;
     Ok(len)
 }
@@ -85,6 +77,8 @@ fn course_len(listed: &[Listed]) -> usize
     requires { 0 < length listed.now }
     ensures some { 0 < result }
     ensures within { result ≤ length listed.now }
+    ensures alike { (k : ℕ) (d : ListedValue) → k < result
+        → is_alike (slice_index_or listed.now 0 d) (slice_index_or listed.now k d) ≡ true }
     ensures same { (p : Parts) (k : ℕ) (d : ListedValue) → AreNumbered p listed.now → k < result
         → (stopping_of p (slice_index_or listed.now k d)).course
         ≡ (stopping_of p (slice_index_or listed.now 0 d)).course }

@@ -2,7 +2,7 @@ ghost use Rattle.std.specs.Prelude.{◌≡◌, ◌≤◌, ◌<◌, ◌-◌, ℕ,
 ghost use Rattle.std.specs.List.Sorted.{IsSorted};
 ghost use Rattle.gtfs_rows.specs.declared.parts.Parts.{Parts};
 ghost use Rattle.gtfs_runs.specs.declared.stop_lanes.listed.Listed.{Listed as ListedValue};
-ghost use Rattle.gtfs_runs.specs.steps.Courses.{stopping_of};
+ghost use Rattle.gtfs_runs.specs.steps.Courses.{AreServed, stopping_of};
 ghost use Rattle.gtfs_runs.specs.steps.Groups.{below, group_cmp, group_of, sharing, trip_group};
 ghost use Rattle.gtfs_runs.specs.steps.Numbers.{AreNumbered};
 
@@ -25,6 +25,8 @@ pub(crate) fn numbered(
     ensures same { IfOk result (λ found. (p : Parts) → map (stopping_of p) found.items
         ≡ map (stopping_of p) listed.items) }
     ensures numbers { IfOk result (λ found. AreNumbered feed.now found.items) }
+    ensures services { IfOk result (λ found. (p : Parts) → AreServed p listed.items
+        → AreServed p found.items) }
 {
     let trips = by_group(trips_of(alloc, feed, &listed)?);
     with_groups(feed, &trips, listed)
@@ -71,6 +73,8 @@ fn with_groups(
         ≡ map (stopping_of p) listed.items) }
     ensures numbers { IfOk result (λ found. All (λ x. x.group
         ≡ below trips.now (trip_group feed.now x.trip)) found.items) }
+    ensures services { IfOk result (λ found. (p : Parts) → AreServed p listed.items
+        → AreServed p found.items) }
 {
     for n in 0..listed.len() {
         let group = group_at(feed, trips, &listed, n)?;

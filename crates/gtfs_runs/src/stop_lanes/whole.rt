@@ -1,7 +1,7 @@
 ghost use Rattle.std.specs.Prelude.{◌<◌, IfOk, length, map};
 ghost use Rattle.gtfs_rows.specs.Views.{content_of_parts, service_ids, stop_ids, text_of_number};
 ghost use Rattle.gtfs_runs.specs.StopLanes.{list_value, period_value};
-ghost use Rattle.gtfs_runs.specs.steps.Courses.{stopping_of};
+ghost use Rattle.gtfs_runs.specs.steps.Courses.{AreServed, stopping_of};
 ghost use Rattle.gtfs_runs.specs.steps.Finds.{AreFound};
 ghost use Rattle.gtfs_runs.specs.steps.Numbers.{AreNumbered};
 ghost use Rattle.gtfs_runs.specs.steps.Whole.{AreWhole};
@@ -70,12 +70,13 @@ fn in_lanes(
     requires found { AreFound (timed_parts times feed.now) stop.0 (length feed.now.trips)
         (map (stopping_of feed.now) listed.items) (map period_value periods.items) }
     requires numbers { AreNumbered feed.now listed.items }
+    requires services { AreServed feed.now listed.items }
     ensures { IfOk result (λ lanes. AreWhole (timed times (content_of_parts feed.now))
         (text_of_number (stop_ids feed.now) stop.0) (service_ids feed.now)
         (map list_value lanes.0.items) (map period_value lanes.1.items)) }
 {
     feed.soundness();
     let listed = sorted(listed);
-    let lists = lists(alloc, feed, &listed)?;
+    let lists = lists(alloc, &listed)?;
     Ok((lists, periods))
 }

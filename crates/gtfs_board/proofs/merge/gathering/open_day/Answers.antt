@@ -1,4 +1,4 @@
-use Rattle.std.proofs.Common.{rules, ◌≡◌, ◌≤◌, ◌+◌, ◌++◌, w32, w64, SFits, refl, ap, subst, arith, append-nil, ◌∙◌}
+use Rattle.std.proofs.Common.{rules, ◌≡◌, ◌≤◌, ◌+◌, ◌-◌, ◌++◌, w32, w64, SFits, to_z, of_z, refl, ap, subst, arith, append-nil, ◌∙◌}
 use Rattle.std.proofs.lemmas.Int.{to_z-of_z}
 use Rattle.gtfs_runs.proofs.Pushes.{none-done, none-made}
 use Rattle.gtfs_board.specs.merge.Candidates.{heads_on, least_from}
@@ -9,18 +9,21 @@ pub loop-lane-init : goal.loop-lane-init
 loop-lane-init g c = record {
   heads = rw (heads_on-none, append-nil) refl;
   least = rw (heads_on-none, least_from-none) refl;
+  serves = λ some. absurd (omega (arith, some));
   steps = omega arith;
 }
 
 pub loop-lane-preserved : goal.loop-lane-preserved
 loop-lane-preserved g c =
     let i = c.loop-lane.invariant in
-    let first = c.head-head.ensures.first in
+    let first = c.head_if-head.ensures.first in
     let kept = c.in_ok-least.ensures in
+    let before : c.loop-lane.lane ≡ (c.loop-lane.lane + 1) - 1 = omega arith in
     record {
       heads = opened_more _ _ _ _ _ _ _ _ kept.heads i.heads first;
       least = let fits : SFits w64 c.in_ok-least.least = search rules in to_z-of_z w64 c.in_ok-least.least fits ∙ least_more _ _ _ _ _ _ _ _ kept.least i.least first;
-      steps = omega (arith, c.head-head.ensures.steps);
+      serves = λ some. c.serves-serves.ensures.value ∙ ap (λ n. g.S.Source.serves c.args.source.now n (to_z w32 (of_z w32 c.args.day))) before;
+      steps = omega (arith, c.head_if-head.ensures.steps);
     }
 
 pub returns-in_err-origin : goal.returns-in_err-origin

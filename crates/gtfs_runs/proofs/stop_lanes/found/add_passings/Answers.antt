@@ -3,7 +3,6 @@ use Rattle.std.specs.Prelude.{option_map, unwrap_or}
 use Rattle.std.proofs.lemmas.List.{length-map}
 use Rattle.std.proofs.lemmas.Option.{slice_get-get_or}
 use Rattle.std.proofs.lemmas.Result.{on_ok_weaker}
-use Rattle.gtfs_field.proofs.ListFacts.{some_of}
 use Rattle.gtfs_rows.specs.Trips.{frequencies_by_trip, stop_rows_by_trip}
 use Rattle.gtfs_table.proofs.PartFacts.{length-parts}
 use Rattle.gtfs_times.proofs.FilledContent.{sound-timed}
@@ -31,8 +30,8 @@ pub returns-then-not-indexed : goal.returns-then-not-indexed
 returns-then-not-indexed c =
     let p = c.args.feed.now in
     let t = c.args.trip.0 in
-    let row = get_or p.trips t (some_of p.trips t c.requires.trip) in
-    let at_trip = slice_get-get_or p.trips t (some_of p.trips t c.requires.trip) c.requires.trip in
+    let row = c.trip_by_number.result.now in
+    let at_trip = c.trip_by_number.ensures in
     let counted : t < length (frequencies_by_trip p) = omega (arith, c.requires.trip, length-parts p.frequency_starts p.frequencies, c.soundness.ensures.frequencies.0) in
     let fs = get_or (frequencies_by_trip p) t [] in
     let at_periods = slice_get-get_or (frequencies_by_trip p) t [] counted in
@@ -51,6 +50,7 @@ returns-then-not-indexed c =
           listed_found q (sound-timed p c.soundness.ensures times) s t row rs at_trip at_rows (at_periods ∙ ap Some none) listed _ (map period_value c.args.periods.now.items) pushed was)
           c.add_listed.ensures.events;
       groups = c.add_listed.ensures.groups;
+      services = on_ok_weaker c.add_listed.result (λ more. more p service) c.add_listed.ensures.services;
     }
   where
     is_none : (b : Bool) → not (not b) ≡ true → b ≡ true
@@ -78,6 +78,7 @@ returns c = record {
       ∙ (λ i. sym (length-map c.args.periods.now.items period_value) i + length fs * length (found i)))
       c.in_ok-add_periods.ensures.within c.in_ok-add_periods.ensures.kind was;
   groups = λ groups is were. were;
+  services = λ were. were;
 }
   where
     is_some_left : (b : Bool) → not (not b) ≡ false → b ≡ false

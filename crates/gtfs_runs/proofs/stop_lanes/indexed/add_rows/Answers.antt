@@ -27,6 +27,7 @@ loop-at-init c =
       found = raised q sound c.args.stop.0 0 c.args.rows.now c.requires.rows (omega arith) _ _;
       left = rows_raised q sound c.args.stop.0 0 c.args.rows.now c.requires.rows (omega arith);
       groups = λ e was. was;
+      services = λ was. was;
     }
 
 pub loop-at-preserved : goal.loop-at-preserved
@@ -47,6 +48,7 @@ loop-at-preserved c =
           (told.found (subst (λ l. AreFound q s (first_trip (length p.trips) l) (map (stopping_of p) c.loop-at.listed.items) (map period_value c.loop-at.periods.items)) (sym (take_rest xs at)) (so_far.found was)));
       left = subst (λ l. ArePlaceRows q s (first_trip (length p.trips) l) l) left told.left;
       groups = λ e was. told.groups e (so_far.groups e was);
+      services = λ was. told.services (so_far.services was);
     }
 
 pub returns : goal.returns
@@ -57,6 +59,7 @@ returns c =
     let past : length xs ≤ c.loop-at.at = omega (arith, c.loop-at-test.false) in
     record {
       groups = c.loop-at.invariant.groups;
+      services = c.loop-at.invariant.services;
       found = λ was.
           subst (λ l. AreFound q c.args.stop.0 (first_trip (length p.trips) l) (map (stopping_of p) c.loop-at.listed.items) (map period_value c.loop-at.periods.items)) (nothing_left xs c.loop-at.at past)
           (c.loop-at.invariant.found was);

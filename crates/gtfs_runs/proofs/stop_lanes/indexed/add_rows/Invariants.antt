@@ -3,7 +3,7 @@ use Rattle.std.specs.List.{All}
 use Rattle.gtfs_times.specs.TimedRows.{timed_parts}
 use Rattle.gtfs_runs.specs.StopLanes.{period_value}
 use Rattle.gtfs_runs.specs.declared.stop_index.indexed_trips.IndexedTrip.{IndexedTrip}
-use Rattle.gtfs_runs.specs.steps.Courses.{stopping_of}
+use Rattle.gtfs_runs.specs.steps.Courses.{AreServed, stopping_of}
 use Rattle.gtfs_runs.specs.steps.Finds.{AreFound}
 use Rattle.gtfs_runs.specs.steps.Places.{ArePlaceRows, first_trip}
 use Rattle.gtfs_runs.proofs.stop_lanes.indexed.add_rows.Given as goal
@@ -17,6 +17,7 @@ invariant-loop-at l = record {
       (map (stopping_of l.feed) l.listed.items) (map period_value l.periods.items);
   left : ArePlaceRows (timed_parts l.times l.feed) l.stop.0 (first_trip (length l.feed.trips) (drop l.at l.rows)) (drop l.at l.rows);
   groups : (e : IndexedTrip) → All (λ x. (get_or l.trips x.trip e).group ≡ x.group) l.fn.listed.items → All (λ x. (get_or l.trips x.trip e).group ≡ x.group) l.listed.items;
+  services : AreServed l.feed l.fn.listed.items → AreServed l.feed l.listed.items;
 }
 
 abbrev pub decreases-loop-at : goal.decreases-loop-at

@@ -66,6 +66,7 @@ returns c =
       left = rows_raised q sound s (t + 1) (drop n xs) left last;
       groups = λ e. c.in_ok-add_passings.ensures.groups (λ u. (get_or c.args.trips.now u e).group)
           (ap (λ z. z.group) (sym (c.trip_at-indexed.ensures e)));
+      services = c.in_ok-add_passings.ensures.services;
     }
 
 pub trip_at-indexed-requires : goal.trip_at-indexed-requires

@@ -7,12 +7,13 @@ use Rattle.gtfs_times.specs.TimedRows.{timed_parts}
 use Rattle.gtfs_times.specs.declared.times.Times.{Times}
 use Rattle.gtfs_runs.specs.StopIndex.{departure_row_cmp}
 use Rattle.gtfs_runs.specs.StopLanes.{period_value}
-use Rattle.gtfs_runs.specs.steps.Courses.{stopping_of}
+use Rattle.gtfs_runs.specs.steps.Courses.{AreServed, stopping_of}
 use Rattle.gtfs_runs.specs.steps.Finds.{AreFound}
 use Rattle.gtfs_runs.specs.steps.Groups.{AreIndexedTrips}
 use Rattle.gtfs_runs.specs.steps.Numbers.{AreNumbered}
 use Rattle.gtfs_runs.specs.steps.Places.{ArePassingsAt, ArePlaceRows, IsStopTime}
 use Rattle.gtfs_runs.proofs.GroupFacts.{no_trip, nothing_numbered, numbers_of, trips_listed}
+use Rattle.gtfs_runs.proofs.Numbers.{none_served}
 use Rattle.gtfs_runs.proofs.PlaceFinds.{nothing_found, stop_times_there}
 use Rattle.gtfs_runs.proofs.stop_lanes.indexed.found_in_index.Goals as goal
 
@@ -47,6 +48,11 @@ returns-clause-numbers c =
     subst (λ r. AreNumbered r xs) c.feed-feed.ensures
     (numbers_of p trips xs (subst (λ r. AreIndexedTrips r trips) (sym c.feed-feed.ensures) c.trips-trips.ensures) known
     (c.in_ok-add_rows.ensures.groups no_trip (nothing_numbered trips c.in_ok-listed.listed.items c.in_ok-listed.ensures.items)))
+
+pub returns-clause-services : goal.returns-clause-services
+returns-clause-services c =
+    subst (λ p. AreServed p c.add_rows.new.listed.items) c.feed-feed.ensures
+    (c.in_ok-add_rows.ensures.services (none_served c.feed-feed.result.now c.in_ok-listed.listed.items c.in_ok-listed.ensures.items))
 
 pub passings_at-requires-clause-trips : goal.passings_at-requires-clause-trips
 passings_at-requires-clause-trips c = subst (λ p. AreIndexedTrips p c.trips-trips.result.now) (sym c.feed-feed.ensures) c.trips-trips.ensures

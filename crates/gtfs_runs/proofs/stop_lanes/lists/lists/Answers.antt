@@ -1,31 +1,21 @@
-use Rattle.std.proofs.Common.{◌<◌, ◌+◌, ◌++◌, ◌∙◌, length, map, sym, ap, subst}
+use Rattle.std.proofs.Common.{◌≡◌, ◌<◌, ◌+◌, ◌++◌, ◌∙◌, length, map, sym, ap, subst}
 use Rattle.std.specs.List.{All}
+use Rattle.std.specs.declared.cmp.Ordering.TheVariants.{Less}
 use Rattle.std.proofs.lemmas.List.{take_rest}
 use Rattle.std.proofs.lemmas.List.Elements.{All-drop}
 use Rattle.gtfs_rows.specs.Order.{Ascends}
 use Rattle.gtfs_runs.specs.StopLanes.{events_of_service, list_value}
-use Rattle.gtfs_runs.specs.steps.Courses.{IsListed, how_many, is_same_course, stopping_cmp, stopping_events, stopping_of}
-use Rattle.gtfs_runs.specs.steps.Groups.{trip_group}
-use Rattle.gtfs_runs.specs.steps.Numbers.{AreNumbered}
-use Rattle.gtfs_runs.proofs.Chunks.{drop_up, left_more, upto_more}
-use Rattle.gtfs_runs.proofs.Numbers.{numbers_left}
+use Rattle.gtfs_runs.specs.steps.Courses.{AreServed, IsListed, how_many, is_same_course, stopping_events, stopping_of}
+use Rattle.gtfs_runs.specs.steps.Numbers.{AreNumbered, listed_cmp}
+use Rattle.gtfs_runs.proofs.Chunks.{left_more, pairs-drop, upto_more}
+use Rattle.gtfs_runs.proofs.Numbers.{numbers_left, served_left}
 use Rattle.gtfs_runs.proofs.Pushes.{none-made}
 use Rattle.gtfs_runs.proofs.stop_lanes.lists.lists.Goals as goal
 
 pub add_list-requires-clause-sorted : goal.add_list-requires-clause-sorted
 add_list-requires-clause-sorted c =
     let xs = c.args.listed.now in
-    subst (λ l. Ascends stopping_cmp (map (stopping_of c.args.feed.now) l)) (sym (take_rest xs c.loop-at.at)) (drop_up c.args.feed.now c.loop-at.at xs c.requires.sorted)
-
-pub add_list-requires-clause-known : goal.add_list-requires-clause-known
-add_list-requires-clause-known c =
-    let xs = c.args.listed.now in
-    subst (All (λ x. x.trip < length c.args.feed.now.trips)) (sym (take_rest xs c.loop-at.at)) (All-drop (λ x. x.trip < length c.args.feed.now.trips) c.loop-at.at xs c.requires.known)
-
-pub add_list-requires-clause-numbers : goal.add_list-requires-clause-numbers
-add_list-requires-clause-numbers c =
-    let xs = c.args.listed.now in
-    subst (AreNumbered c.args.feed.now) (sym (take_rest xs c.loop-at.at)) (numbers_left c.args.feed.now c.loop-at.at xs c.requires.numbers)
+    subst (Ascends listed_cmp) (sym (take_rest xs c.loop-at.at)) (pairs-drop (λ a b. listed_cmp a b ≡ Less) c.loop-at.at xs c.requires)
 
 pub loop-at-preserved : goal.loop-at-preserved
 loop-at-preserved c =
@@ -40,12 +30,18 @@ loop-at-preserved c =
     let left = left_more xs at n in
     record {
       upto = upto_more xs at n so_far.upto told.upto;
-      told = λ k. ap (λ l. events_of_service k (map list_value new) ++ stopping_events k (map (stopping_of c.args.feed.now) l)) (sym left) ∙ told.told k
-          ∙ ap (λ l. events_of_service k (map list_value old) ++ stopping_events k (map (stopping_of c.args.feed.now) l)) here ∙ so_far.told k;
-      counted = ap (λ l. length new + how_many is_same_course (map (λ x. x.course) (map (stopping_of c.args.feed.now) l))) (sym left) ∙ told.counted
-          ∙ ap (λ l. length old + how_many is_same_course (map (λ x. x.course) (map (stopping_of c.args.feed.now) l))) here ∙ so_far.counted;
-      within = λ m serve. told.within m (subst (All (λ x. (trip_group c.args.feed.now x.trip).0 < m)) (sym here) (All-drop (λ x. (trip_group c.args.feed.now x.trip).0 < m) at xs serve)) (so_far.within m serve);
-      alike = λ p own. told.alike p (subst (All (λ x. IsListed p (stopping_of c.args.feed.now x))) (sym here) (All-drop (λ x. IsListed p (stopping_of c.args.feed.now x)) at xs own)) (so_far.alike p own);
+      told = λ p k numbers served.
+          ap (λ l. events_of_service k (map list_value new) ++ stopping_events k (map (stopping_of p) l)) (sym left)
+          ∙ told.told p k (subst (AreNumbered p) (sym here) (numbers_left p at xs numbers)) (subst (AreServed p) (sym here) (served_left p at xs served))
+          ∙ ap (λ l. events_of_service k (map list_value old) ++ stopping_events k (map (stopping_of p) l)) here ∙ so_far.told p k numbers served;
+      counted = λ p numbers.
+          ap (λ l. length new + how_many is_same_course (map (λ x. x.course) (map (stopping_of p) l))) (sym left)
+          ∙ told.counted p (subst (AreNumbered p) (sym here) (numbers_left p at xs numbers))
+          ∙ ap (λ l. length old + how_many is_same_course (map (λ x. x.course) (map (stopping_of p) l))) here ∙ so_far.counted p numbers;
+      within = λ m serve. told.within m (subst (All (λ x. x.service < m)) (sym here) (All-drop (λ x. x.service < m) at xs serve)) (so_far.within m serve);
+      alike = λ p q numbers own.
+          told.alike p q (subst (AreNumbered p) (sym here) (numbers_left p at xs numbers))
+          (subst (All (λ x. IsListed q (stopping_of p x))) (sym here) (All-drop (λ x. IsListed q (stopping_of p x)) at xs own)) (so_far.alike p q numbers own);
     }
 
 pub returns-in_err-at : goal.returns-in_err-at

@@ -6,7 +6,7 @@ use Rattle.gtfs_runs.specs.declared.stop_lanes.listed.Listed.{Listed}
 use Rattle.gtfs_runs.specs.steps.Courses.{stopping_of}
 use Rattle.gtfs_runs.specs.steps.Groups.{below, trip_group}
 use Rattle.gtfs_runs.proofs.Chunks.{all_mapped}
-use Rattle.gtfs_runs.proofs.Numbers.{kept_by, number_more}
+use Rattle.gtfs_runs.proofs.Numbers.{kept_by, number_more, served_kept}
 use Rattle.gtfs_runs.proofs.stop_lanes.numbered.with_groups.Goals as goal
 
 pub loop-n-preserved : goal.loop-n-preserved
@@ -14,7 +14,7 @@ loop-n-preserved c =
     let xs = c.loop-n.listed.items in
     let n = c.loop-n.n in
     let x = c.index_mut.result.now in
-    let y : Listed = record { group = c.in_ok-group.group; row = x.row; at = x.at; trip = x.trip; run = x.run; seq = x.seq } in
+    let y : Listed = record { group = c.in_ok-group.group; row = x.row; at = x.at; trip = x.trip; run = x.run; seq = x.seq; service = x.service } in
     let all = c.args.listed.items in
     let size : length xs ≡ length all = sym (length-map xs (λ z. z.trip)) ∙ ap length c.loop-n.invariant.trips ∙ length-map all (λ z. z.trip) in
     let within : n < length xs = omega (arith, size, c.loop-n-test.true, c.len-n-end.ensures) in
@@ -26,6 +26,7 @@ loop-n-preserved c =
       same = λ p. kept_by (stopping_of p) xs n x y is refl ∙ c.loop-n.invariant.same p;
       trips = kept_by (λ z. z.trip) xs n x y is refl ∙ c.loop-n.invariant.trips;
       numbers = number_more c.args.feed.now c.args.trips.now xs n y within number c.loop-n.invariant.numbers;
+      services = λ p were. served_kept p xs n x y within is refl refl (c.loop-n.invariant.services p were);
     }
 
 pub group_at-requires-clause-known : goal.group_at-requires-clause-known

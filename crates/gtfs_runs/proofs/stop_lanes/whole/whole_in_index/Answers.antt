@@ -6,7 +6,7 @@ use Rattle.gtfs_times.specs.Filling.{timed}
 use Rattle.gtfs_times.specs.TimedRows.{timed_parts}
 use Rattle.gtfs_times.specs.declared.times.Times.{Times}
 use Rattle.gtfs_runs.specs.StopLanes.{list_value, period_value}
-use Rattle.gtfs_runs.specs.steps.Courses.{stopping_of}
+use Rattle.gtfs_runs.specs.steps.Courses.{AreServed, stopping_of}
 use Rattle.gtfs_runs.specs.steps.Finds.{AreFound}
 use Rattle.gtfs_runs.specs.steps.Numbers.{AreNumbered}
 use Rattle.gtfs_runs.specs.steps.Whole.{AreWhole}
@@ -19,6 +19,9 @@ in_lanes-requires-clause-found c =
 
 pub in_lanes-requires-clause-numbers : goal.in_lanes-requires-clause-numbers
 in_lanes-requires-clause-numbers c = subst (λ p. AreNumbered p c.in_ok-found.found.listed.items) (sym c.feed.ensures) c.in_ok-found.ensures.numbers
+
+pub in_lanes-requires-clause-services : goal.in_lanes-requires-clause-services
+in_lanes-requires-clause-services c = subst (λ p. AreServed p c.in_ok-found.found.listed.items) (sym c.feed.ensures) c.in_ok-found.ensures.services
 
 pub returns : goal.returns
 returns c =
