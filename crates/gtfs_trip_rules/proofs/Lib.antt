@@ -19,6 +19,7 @@ pub mod StopTimeFacts
 pub mod StopTimeFields
 pub mod StopTimePasses
 pub mod TripCountFacts
+pub mod TripKept
 pub mod TripNumberFacts
 pub mod TripPicks
 pub mod TripPositions
@@ -32,6 +33,3 @@ mod TripPlaced
 mod KeptListFacts
 mod PlaceFacts
 mod EarlierRows
-mod JudgedRows
-mod StretchFacts
-mod TogetherRows

@@ -1,5 +1,4 @@
 pub(crate) mod counts;
-pub(crate) mod judge;
 pub(crate) mod kept;
 pub(crate) mod notes;
 pub(crate) mod numbers;
@@ -8,4 +7,4 @@ pub(crate) mod places;
 pub(crate) mod ranks;
 pub(crate) mod row;
 pub(crate) mod row_counts;
-pub(crate) mod stretches;
+mod stretches;
