@@ -5,7 +5,7 @@ use crate::opening::{Fixture, assert_none};
 use gtfs_board::{Board, Span};
 use gtfs_field::OutOfMemory;
 use gtfs_fixtures::{Clocks, FileText};
-use std::alloc::{AllocError, Global};
+use std::alloc::Global;
 use std::test::Fail;
 
 // The trip of the small dataset runs on eight days. A departure that has one opens a later day, which takes memory.
@@ -37,7 +37,7 @@ fn take_pieces(alloc: Global, size: usize, taken: &mut Vec<Vec<u8>>) {
 
 // Takes all memory that can be addressed, which is not touched: large pieces first, then those of each small size.
 // Where there is too much of it, some is left.
-fn take_memory(alloc: Global) -> Result<Vec<Vec<u8>>, AllocError> {
+fn take_memory(alloc: Global) -> Result<Vec<Vec<u8>>, OutOfMemory> {
     let mut taken = Vec::with_capacity(alloc, 1_000_000)?;
     for power in 0..34u32 {
         take_pieces(alloc, 1 << (44 - power), &mut taken);

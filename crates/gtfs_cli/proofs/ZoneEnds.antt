@@ -2,7 +2,7 @@
 use Rattle.std.proofs.Common.{◌≡◌, ◌∙◌, ap, sym, subst, ℕ, ◌<◌, ◌⊎◌, inl, inr, length, List, [], Some, None, codes, arith}
 use Rattle.std.specs.Prelude.{option_map}
 use Rattle.std.specs.FinMap as map
-use Rattle.gtfs_days.specs.Zone.{table_of, IsUnreadable, IsZoneOf, SaysSame}
+use Rattle.gtfs_days.specs.Zone.{transitions_of, IsUnreadable, IsZoneOf, SaysSame}
 use Rattle.gtfs_days.specs.declared.zone.Zone.{Zone}
 use Rattle.gtfs_days.proofs.Footers.{no_bad_rule}
 use Rattle.gtfs_days.proofs.SameZones.{zones_one}
@@ -82,7 +82,7 @@ module _ (limit : ℕ) (store : Store) (path : List ℕ) where
   readable : (bytes : List ℕ) (zone : Zone) → IsZoneOf bytes zone → FitsZone bytes → IsUnreadable bytes → ⊥
   readable bytes zone is fits (inl long) = fits long
   readable bytes zone is fits (inr (inl fault)) = cc (rw is.read at fault)
-  readable bytes zone is fits (inr (inr bad)) = no_bad_rule (table_of zone) is.agrees (subst Table.HasBadRule is.read bad)
+  readable bytes zone is fits (inr (inr bad)) = no_bad_rule (transitions_of zone) is.agrees (subst Table.HasBadRule is.read bad)
 
   unread : (zone : Zone) → HoldsNoZone limit (Some store) path → HoldsZone limit (Some store) path zone → ⊥
   unread zone a b =

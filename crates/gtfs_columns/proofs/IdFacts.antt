@@ -1,6 +1,6 @@
 -- The rows of a file with their ids: as they are listed, sorted and searched.
 use Rattle.std.proofs.Common.{◌≡◌, ℕ, zero, suc, ◌+◌, ◌<◌, ◌∷◌, [], List, map, length, get_or, true, false, Bool, cond, bytes_eq, Option, Some, None, option_map, refl, sym, ap, ◌∙◌, arith, inl, inr}
-use Rattle.std.specs.Prelude.{◌&&◌, not}
+use Rattle.std.specs.Prelude.{◌&&◌, ◌==◌, not}
 use Rattle.std.specs.Cmp.{Equal-is, alike_right, on_total}
 use Rattle.std.specs.Cmp.Lexicographic.{nat_list_cmp_total}
 use Rattle.std.specs.FinMap as table
@@ -18,6 +18,7 @@ use Rattle.std.proofs.lemmas.List.Sorted.{searchable_from_sorted}
 use Rattle.std.proofs.lemmas.Map.Keys.{Less-from_sorted}
 use Rattle.std.proofs.lemmas.Map.Text.{is_eq-slice_cmp}
 use Rattle.std.proofs.Math.Seq.{take-length}
+use Rattle.gtfs_field.proofs.NumberFacts.{suc-not_zero}
 use Rattle.gtfs_field.specs.TextOrder.{text_cmp}
 use Rattle.gtfs_columns.specs.declared.id_row.IdRow.{IdRow}
 use Rattle.gtfs_columns.specs.steps.Ids.{first_row_with, first_rows, listed_first_rows, FirstRows, ListsFirstRows}
@@ -187,6 +188,26 @@ module _ (id : List ℕ) (xs : List IdRow) (up : IsStrictlySortedBy row_cmp xs) 
         | inl before ↦ sym (same_id id (get_or xs k x)) ∙ ap is_eq (sides.0 k x (omega arith) before)
         | inr after ↦ sym (same_id id (get_or xs k x)) ∙ ap is_eq (sides.1 k x after h)
       ]))
+
+-- no text is less than the empty one
+not_below : (a b : List ℕ) → text_cmp a b ≡ Less → bytes_eq b [] ≡ false
+not_below [] [] less = cc less
+not_below (x ∷ a) [] less = cc less
+not_below a (y ∷ b) less = refl
+
+-- the empty id comes before all others: where the first row has another, none has it
+pub missing_empty : (xs : List IdRow) → IsStrictlySortedBy row_cmp xs → ((d : IdRow) → 0 < length xs → bytes_eq (id_of (get_or xs 0 d)) [] ≡ false) → listed_row xs [] ≡ None
+missing_empty xs up first =
+    let later : (k : ℕ) (d : IdRow) → k < length xs → has_id [] (get_or xs k d) ≡ false = λ k d h. elim (cases_lt 0 k) [
+      | inl after ↦ not_below (id_of (get_or xs 0 d)) (id_of (get_or xs k d)) (Less-from_sorted row_cmp xs 0 k d up after h)
+      | inr here ↦ let zero : k ≡ 0 = omega arith in rw zero (first d (omega arith))
+    ] in
+    ap (option_map (λ r. r.row)) (find_none (has_id []) xs later)
+
+-- the text without bytes
+pub empty_text : (a : List ℕ) → bytes_eq a [] ≡ (length a == 0)
+empty_text [] = refl
+empty_text (x ∷ a) = sym (suc-not_zero (length a))
 
 -- the rows before the one with an id have others
 pub earlier : (at : ℕ) (x : IdRow) (id : List ℕ) (xs : List IdRow) → IsStrictlySortedBy row_cmp xs → at < length xs → x ≡ get_or xs at x → bytes_eq (id_of x) id ≡ true

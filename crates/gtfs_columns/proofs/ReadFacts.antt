@@ -21,7 +21,7 @@ use Rattle.gtfs_columns.specs.FieldRules.{is_id, is_text, is_form_fault, is_rang
 use Rattle.gtfs_columns.specs.Problems.{Passes, holds_in, kept}
 use Rattle.gtfs_columns.specs.ReadRules.{IsReadAs, IsReadUnder, StandsAs, StandsUnder, may_lack}
 use Rattle.gtfs_columns.specs.Rows.{is_named, text_in}
-use Rattle.gtfs_columns.specs.Values.{Value, as_amount, counted, has_control, meaning, measured, one_of, read_as, readable}
+use Rattle.gtfs_columns.specs.Values.{Value, as_amount, value_of_count, has_control, meaning, measured, one_of, read_as, readable}
 use Rattle.gtfs_columns.specs.Reads.{amount_of, word_of}
 use Rattle.gtfs_field.specs.Kinds.{count_of, time_of, date_of, colour_of, coordinate_of}
 use Rattle.gtfs_field.proofs.OptionFacts.{is_some-map as mapped_some}
@@ -165,7 +165,7 @@ read_stands kind e t s = rw s.kind_is at (read_under s.column t s.stands).read
 abbrev pub is_of_numbers : Kind → Bool
 is_of_numbers kind = not (is_id kind) && not (is_text kind)
 
-counted_some : (e : Bool) (r : Result ℕ FieldFault) → is_some (option_and_then as_amount (if e then None else result_ok (counted r))) ≡ is_some (if e then None else result_ok (counted r))
+counted_some : (e : Bool) (r : Result ℕ FieldFault) → is_some (option_and_then as_amount (if e then None else result_ok (value_of_count r))) ≡ is_some (if e then None else result_ok (value_of_count r))
 counted_some true r = refl
 counted_some false (Ok n) = refl
 counted_some false (Err f) = refl

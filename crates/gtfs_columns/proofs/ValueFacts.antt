@@ -3,7 +3,7 @@ use Rattle.std.proofs.Common.{◌≡◌, ℕ, ℤ, pos, List, Option, Some, None
 use Rattle.std.specs.Option.{option_and_then, option_map}
 use Rattle.std.specs.Result.{result_ok}
 use Rattle.gtfs_field.specs.declared.fault.FieldFault.{FieldFault}
-use Rattle.gtfs_columns.specs.Values.{Value, amount, as_amount, as_word, counted, is_word, word}
+use Rattle.gtfs_columns.specs.Values.{Value, amount, as_amount, as_word, value_of_count, is_word, word}
 use Rattle.gtfs_columns.proofs.SiteFacts.{text_is}
 
 pub word_value : (v : Option Value) (t : List ℕ) → option_and_then as_word v ≡ Some t → v ≡ Some (word t)
@@ -20,7 +20,7 @@ pub amount_back : (o : Option ℤ) → option_and_then as_amount (option_map amo
 amount_back None = refl
 amount_back (Some x) = refl
 
-pub counted_amount : (r : Result ℕ FieldFault) → option_and_then as_amount (result_ok (counted r)) ≡ option_map pos (result_ok r)
+pub counted_amount : (r : Result ℕ FieldFault) → option_and_then as_amount (result_ok (value_of_count r)) ≡ option_map pos (result_ok r)
 counted_amount (Ok n) = refl
 counted_amount (Err e) = refl
 

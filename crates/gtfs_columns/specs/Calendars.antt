@@ -27,14 +27,14 @@ first_service_row d x service = find (λ n. is_word (word_in d x n "service_id")
 abbrev pub field_number : Dataset → File → ℕ → Literal → ℤ
 field_number d x n column = unwrap_or (amount_in d x n column) (pos 0)
 
-abbrev pub runs_on : Dataset → ℕ → Literal → Bool
-runs_on d n weekday = int_eq (field_number d file.Calendar n weekday) (pos 1)
+abbrev pub serves_weekday : Dataset → ℕ → Literal → Bool
+serves_weekday d n weekday = int_eq (field_number d file.Calendar n weekday) (pos 1)
 
 -- a row of calendar.txt
 abbrev pub week_in : Dataset → ℕ → Week
 week_in d n = record {
-  days = runs_on d n "monday" ∷ runs_on d n "tuesday" ∷ runs_on d n "wednesday" ∷ runs_on d n "thursday"
-      ∷ runs_on d n "friday" ∷ runs_on d n "saturday" ∷ runs_on d n "sunday" ∷ [];
+  days = serves_weekday d n "monday" ∷ serves_weekday d n "tuesday" ∷ serves_weekday d n "wednesday" ∷ serves_weekday d n "thursday"
+      ∷ serves_weekday d n "friday" ∷ serves_weekday d n "saturday" ∷ serves_weekday d n "sunday" ∷ [];
   start = field_number d file.Calendar n "start_date";
   end = field_number d file.Calendar n "end_date";
 }

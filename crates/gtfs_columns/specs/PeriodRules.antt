@@ -9,16 +9,16 @@ use Rattle.gtfs_columns.specs.Values.{if_there, if_both, is_word}
 use Rattle.gtfs_table.specs.Rows.{rows}
 use Rattle.gtfs_columns.specs.Rows.{word_in, amount_in, Rule, Condition, reported_at}
 
-abbrev pub start_in : Dataset → ℕ → Option ℤ
-start_in d n = amount_in d file.Frequencies n "start_time"
+abbrev pub period_start : Dataset → ℕ → Option ℤ
+period_start d n = amount_in d file.Frequencies n "start_time"
 
-abbrev pub end_in : Dataset → ℕ → Option ℤ
-end_in d n = amount_in d file.Frequencies n "end_time"
+abbrev pub period_end : Dataset → ℕ → Option ℤ
+period_end d n = amount_in d file.Frequencies n "end_time"
 
 -- ---- E18 period empty
 
 abbrev pub ends_at_start : Rule
-ends_at_start d n = if_both (end_in d n) (start_in d n) int_le
+ends_at_start d n = if_both (period_end d n) (period_start d n) int_le
 
 abbrev pub period_empty : Condition
 period_empty = reported_at file.Frequencies "end_time" ends_at_start
@@ -30,7 +30,7 @@ abbrev pub share_second : ℤ → ℤ → ℤ → ℤ → Bool
 share_second start end start' end' = int_lt (int_max start start') (int_min end end')
 
 abbrev pub periods_meet : Dataset → ℕ → ℕ → Bool
-periods_meet d m n = if_both (start_in d m) (end_in d m) (λ start end. if_both (start_in d n) (end_in d n) (share_second start end))
+periods_meet d m n = if_both (period_start d m) (period_end d m) (λ start end. if_both (period_start d n) (period_end d n) (share_second start end))
 
 -- an earlier row of the trip has a period that shares a second with that of the row
 abbrev pub overlaps_earlier : Rule

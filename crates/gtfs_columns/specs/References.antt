@@ -51,31 +51,31 @@ pub record Reference : Type 0 where
   pub column : List ℕ
   pub targets : List (File × List ℕ)
 
-abbrev pub stop_ids : List (File × List ℕ)
-stop_ids = (file.Stops, codes "stop_id") ∷ []
+abbrev pub stop_targets : List (File × List ℕ)
+stop_targets = (file.Stops, codes "stop_id") ∷ []
 
-abbrev pub route_ids : List (File × List ℕ)
-route_ids = (file.Routes, codes "route_id") ∷ []
+abbrev pub route_targets : List (File × List ℕ)
+route_targets = (file.Routes, codes "route_id") ∷ []
 
-abbrev pub trip_ids : List (File × List ℕ)
-trip_ids = (file.Trips, codes "trip_id") ∷ []
+abbrev pub trip_targets : List (File × List ℕ)
+trip_targets = (file.Trips, codes "trip_id") ∷ []
 
 abbrev pub naming : File → Literal → List (File × List ℕ) → Reference
 naming x column targets = record { file = x; column = codes column; targets = targets }
 
 abbrev pub references : List Reference
 references =
-    naming file.Stops "parent_station" stop_ids
-    ∷ naming file.StopTimes "stop_id" stop_ids
-    ∷ naming file.Transfers "from_stop_id" stop_ids
-    ∷ naming file.Transfers "to_stop_id" stop_ids
+    naming file.Stops "parent_station" stop_targets
+    ∷ naming file.StopTimes "stop_id" stop_targets
+    ∷ naming file.Transfers "from_stop_id" stop_targets
+    ∷ naming file.Transfers "to_stop_id" stop_targets
     ∷ naming file.Routes "agency_id" ((file.Agency, codes "agency_id") ∷ [])
-    ∷ naming file.Trips "route_id" route_ids
-    ∷ naming file.Transfers "from_route_id" route_ids
-    ∷ naming file.Transfers "to_route_id" route_ids
+    ∷ naming file.Trips "route_id" route_targets
+    ∷ naming file.Transfers "from_route_id" route_targets
+    ∷ naming file.Transfers "to_route_id" route_targets
     ∷ naming file.Trips "service_id" ((file.Calendar, codes "service_id") ∷ (file.CalendarDates, codes "service_id") ∷ [])
-    ∷ naming file.StopTimes "trip_id" trip_ids
-    ∷ naming file.Frequencies "trip_id" trip_ids
-    ∷ naming file.Transfers "from_trip_id" trip_ids
-    ∷ naming file.Transfers "to_trip_id" trip_ids
+    ∷ naming file.StopTimes "trip_id" trip_targets
+    ∷ naming file.Frequencies "trip_id" trip_targets
+    ∷ naming file.Transfers "from_trip_id" trip_targets
+    ∷ naming file.Transfers "to_trip_id" trip_targets
     ∷ []

@@ -22,9 +22,9 @@ has_control t = list_any is_control t
 abbrev pub plain : List ℕ → List ℕ
 plain t = map (λ b. if is_control b then 32 else b) t
 
-abbrev pub counted : Result ℕ FieldFault → Result Value FieldFault
-counted (Ok n) = Ok (amount (pos n))
-counted (Err e) = Err e
+abbrev pub value_of_count : Result ℕ FieldFault → Result Value FieldFault
+value_of_count (Ok n) = Ok (amount (pos n))
+value_of_count (Err e) = Err e
 
 abbrev pub measured : Result ℤ FieldFault → Result Value FieldFault
 measured (Ok x) = Ok (amount x)
@@ -39,11 +39,11 @@ one_of ranges (Err e) = Err e
 abbrev pub read_as : Kind → List ℕ → Result Value FieldFault
 read_as id t = shaped (not (has_control t)) (Ok (word t))
 read_as text t = Ok (word (plain t))
-read_as count t = counted (count_of t)
-read_as (choice ranges) t = counted (one_of ranges (count_of t))
-read_as time t = counted (time_of t)
+read_as count t = value_of_count (count_of t)
+read_as (choice ranges) t = value_of_count (one_of ranges (count_of t))
+read_as time t = value_of_count (time_of t)
 read_as date t = measured (date_of t)
-read_as colour t = counted (colour_of t)
+read_as colour t = value_of_count (colour_of t)
 read_as (coordinate axis) t = measured (coordinate_of axis t)
 
 -- a text is readable as a kind where it is not empty and the kind accepts it

@@ -80,6 +80,10 @@ impl<'a> Finder<'a> {
             ≡ number_with self.old.ids.now id.now }
         ensures same { self.new.ids.now ≡ self.old.ids.now }
     {
+        // References that may be left out mostly are.
+        if id.is_empty() {
+            return self.ids.find_empty();
+        }
         let found = match self.guess(id) {
             Some(found) => found,
             None => self.ids.find(id)?,

@@ -1,4 +1,4 @@
-ghost use Rattle.std.specs.Prelude.{◌≡◌, ◌<◌, ◌^◌, length, option_map, slice_index_or, IfOk, IfSome, Some};
+ghost use Rattle.std.specs.Prelude.{◌≡◌, ◌<◌, ◌^◌, [], length, option_map, slice_index_or, IfOk, IfSome, Some};
 ghost use Rattle.std.specs.List.{All};
 ghost use Rattle.gtfs_columns.specs.References.{id_column};
 ghost use Rattle.gtfs_columns.specs.steps.Ids.{are_clear, first_row_with, first_rows, ids_of, number_with, rows_are_clear, rows_by_number, Answers, FirstRows, IsIdIndex, ListsFirstRows};
@@ -94,6 +94,21 @@ impl<'a> Ids<'a> {
             }),
             Err(_) => None,
         }
+    }
+
+    // The empty id, which comes before all others: it is the first or none.
+    pub(crate) fn find_empty(&self) -> Option<FoundId>
+        ensures row { option_map (λ found. found.row) result ≡ first_row_with self.now [] }
+        ensures number { option_map (λ found. found.number) result ≡ number_with self.now [] }
+    {
+        let first = self.rows.first()?;
+        if !first.id.is_empty() {
+            return None;
+        }
+        Some(FoundId {
+            number: 0,
+            row: first.row,
+        })
     }
 
     // This id, where it stands in its slots.

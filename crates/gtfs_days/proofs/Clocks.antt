@@ -16,7 +16,7 @@ use Rattle.gtfs_days.specs.declared.civil.Civil.{Civil}
 use Rattle.gtfs_days.specs.declared.zone.Zone.{Zone}
 use Rattle.gtfs_days.specs.Noon.{shown}
 use Rattle.gtfs_days.specs.Service.{first_service_day}
-use Rattle.gtfs_days.specs.Zone.{table_of, noon_offset, zone_origin, IsCivil}
+use Rattle.gtfs_days.specs.Zone.{transitions_of, noon_offset, zone_origin, IsCivil}
 use Rattle.gtfs_days.proofs.Weekdays.{distance}
 
 -- the date of a day has its number
@@ -30,7 +30,7 @@ whole : (s x o : ℤ) (n : ℕ) → n < 1_000_000_000 → s *ℤ pos 1_000_000_0
 whole s x o n h e = omega (arith, signed_arith)
 
 -- a clock that is as far ahead of an instant as the zone says
-pub civil_from : (z : Zone) (x : ℤ) (clock : DateTime) (o : Offset) → o.seconds ≡ (Table.offset_at (table_of z) (nanos_of_seconds x)).seconds → civil_nanos clock ≡ nanos_of_seconds x +ℤ nanos_of_seconds o.seconds → IsCivil z x (shown clock o)
+pub civil_from : (z : Zone) (x : ℤ) (clock : DateTime) (o : Offset) → o.seconds ≡ (Table.offset_at (transitions_of z) (nanos_of_seconds x)).seconds → civil_nanos clock ≡ nanos_of_seconds x +ℤ nanos_of_seconds o.seconds → IsCivil z x (shown clock o)
 unfolding civil_seconds
 civil_from z x clock o offset nanos =
     let seconds = whole (civil_seconds clock) x o.seconds clock.time.subsec_nanosecond clock.time.subsec_in (rw (← civil_nanos-civil_seconds) nanos) in

@@ -5,7 +5,7 @@ use Rattle.jiff_core.proofs.SignedLemmas.{signed_arith}
 use Rattle.jiff_core.specs.Timestamp.{nanos_of_seconds}
 use Rattle.jiff_tz.specs.Tzif as Table
 use Rattle.gtfs_field.proofs.NumberFacts.{abs-above}
-use Rattle.gtfs_days.specs.Zone.{table_of, IsCivil, IsInstant}
+use Rattle.gtfs_days.specs.Zone.{transitions_of, IsCivil, IsInstant}
 use Rattle.gtfs_days.specs.ZoneClock.{after_midnight, IsKnown}
 use Rattle.gtfs_days.specs.declared.civil.Civil.{Civil}
 use Rattle.gtfs_days.specs.declared.zone.Zone.{Zone}
@@ -30,7 +30,7 @@ known_shows z k x instant known from until =
 
 -- a look at the zone tells of the instants after it, as long as the offset stays
 pub look_tells : (z : Zone) (k : Known) (i e : ℤ) → k.from ≡ i → k.until ≤ℤ e → k.until ≤ℤ (k.midnight +ℤ pos 86_400) → k.midnight ≡ i -ℤ pos (second_of k.shown) → IsInstant i → IsCivil z i k.shown
-    → ((x : ℤ) → IsInstant x → i ≤ℤ x → x <ℤ e → Table.offset_at (table_of z) (nanos_of_seconds x) ≡ Table.offset_at (table_of z) (nanos_of_seconds i)) → IsKnown z k
+    → ((x : ℤ) → IsInstant x → i ≤ℤ x → x <ℤ e → Table.offset_at (transitions_of z) (nanos_of_seconds x) ≡ Table.offset_at (transitions_of z) (nanos_of_seconds i)) → IsKnown z k
 look_tells z k i e from until day midnight instant shown keeps = record {
   date = shown.date;
   midnight = omega (arith, signed_arith, midnight, shown.clock);

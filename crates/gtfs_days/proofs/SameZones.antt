@@ -24,7 +24,7 @@ use Rattle.jiff_tz.specs.declared.tzif.transition.LocalTimeType.{LocalTimeType}
 use Rattle.jiff_tz.specs.declared.tzif.transition.Transition.{Transition}
 use Rattle.gtfs_field.specs.Calendar.{date_of_day}
 use Rattle.gtfs_days.specs.Noon.{noon}
-use Rattle.gtfs_days.specs.Zone.{table_of, zone_origin, IsCivil, IsZoneOf, SaysSame}
+use Rattle.gtfs_days.specs.Zone.{transitions_of, zone_origin, IsCivil, IsZoneOf, SaysSame}
 use Rattle.gtfs_days.specs.declared.civil.Civil.{Civil}
 use Rattle.gtfs_days.specs.declared.zone.Zone.{Zone}
 use Rattle.gtfs_days.proofs.Clocks.{civil_unique}
@@ -246,30 +246,30 @@ same_ambiguous_at y z dt h =
 -- ---- zones
 
 same_table : (bytes : List ℕ) (y z : Zone) → IsZoneOf bytes y → IsZoneOf bytes z
-    → SameTable (table_of y) (table_of z)
+    → SameTable (transitions_of y) (transitions_of z)
 same_table bytes y z of_y of_z =
-    let same : tzif_view (table_of y) ≡ tzif_view (table_of z) = cc (of_y.read, of_z.read) in
+    let same : tzif_view (transitions_of y) ≡ tzif_view (transitions_of z) = cc (of_y.read, of_z.read) in
     record {
       first = ap (λ (t : TzifText). t.first) same;
       rows = ap (λ (t : TzifText). t.transitions) same;
       rule = ap (λ (t : TzifText). t.rule) same;
     }
 
-same_clock : (y z : Zone) → SameTable (table_of y) (table_of z) → (x : ℤ) (c : Civil)
+same_clock : (y z : Zone) → SameTable (transitions_of y) (transitions_of z) → (x : ℤ) (c : Civil)
     → IsCivil y x c → IsCivil z x c
 same_clock y z h x c is = record {
   date = is.date;
   hour = is.hour;
   minute = is.minute;
   second = is.second;
-  offset = is.offset ∙ same_offset_at (table_of y) (table_of z) _ h;
+  offset = is.offset ∙ same_offset_at (transitions_of y) (transitions_of z) _ h;
   clock = is.clock;
 }
 
-same_origin : (y z : Zone) (n : ℤ) → SameTable (table_of y) (table_of z)
+same_origin : (y z : Zone) (n : ℤ) → SameTable (transitions_of y) (transitions_of z)
     → zone_origin y n ≡ zone_origin z n
 same_origin y z n h =
-    let at_noon = same_ambiguous_at (table_of y) (table_of z) (noon (date_of_day n)) h in
+    let at_noon = same_ambiguous_at (transitions_of y) (transitions_of z) (noon (date_of_day n)) h in
     ap (λ ahead. n *ℤ pos 86_400 -ℤ ahead) at_noon.seconds
 
 -- two zones of the same bytes say the same

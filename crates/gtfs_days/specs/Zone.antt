@@ -15,8 +15,8 @@ use Rattle.gtfs_days.specs.declared.civil.Civil.{Civil}
 use Rattle.gtfs_days.specs.declared.zone.Zone.{Zone}
 
 -- the table of transitions and the rule that the zone's file states
-abbrev pub table_of : Zone → Tzif
-table_of z = z.table
+abbrev pub transitions_of : Zone → Tzif
+transitions_of z = z.table
 
 -- how many bytes of a zone file are read at most
 abbrev pub read_limit : ℕ
@@ -35,12 +35,12 @@ IsUnreadable bytes = IsTooLong bytes ⊎ (HasFault bytes ⊎ Table.HasBadRule (r
 
 -- the zone is what the bytes say, and its rule agrees with its table
 pub record IsZoneOf (bytes : List ℕ) (z : Zone) : Type 0 where
-  pub read : read_tzif bytes ≡ Ok (Table.tzif_view (table_of z))
-  pub agrees : Table.RuleAgrees (table_of z)
+  pub read : read_tzif bytes ≡ Ok (Table.tzif_view (transitions_of z))
+  pub agrees : Table.RuleAgrees (transitions_of z)
 
 -- the offset by which the zone reads noon of a date: in a gap that before it, and of two the one of the earlier instant
 abbrev pub noon_offset : Zone → Date → Offset
-noon_offset z d = compatible_offset (Table.ambiguous_at (table_of z) (noon d))
+noon_offset z d = compatible_offset (Table.ambiguous_at (transitions_of z) (noon d))
 
 -- where the service day of that number begins: noon of its date less twelve hours, in seconds of the epoch
 -- (GTFS Schedule Reference, "Field Types", Time)
@@ -57,7 +57,7 @@ pub record IsCivil (z : Zone) (x : ℤ) (c : Civil) : Type 0 where
   pub hour : c.hour < 24
   pub minute : c.minute < 60
   pub second : c.second < 60
-  pub offset : c.offset ≡ (Table.offset_at (table_of z) (nanos_of_seconds x)).seconds
+  pub offset : c.offset ≡ (Table.offset_at (transitions_of z) (nanos_of_seconds x)).seconds
   pub clock : days_from_civil c.year c.month c.day *ℤ pos 86_400 +ℤ pos (3600 * c.hour + 60 * c.minute + c.second) ≡ x +ℤ c.offset
 
 -- the zones say the same: of each day one origin, and of each instant one local clock

@@ -3,7 +3,7 @@ use Rattle.std.specs.Prelude.{◌≡◌, ℕ, ◌/◌, ◌%◌, ℤ, pos, ◌+�
 use Rattle.jiff_core.specs.Calendar.{days_from_civil, IsCivilDate}
 use Rattle.jiff_core.specs.Timestamp.{nanos_of_seconds}
 use Rattle.jiff_tz.specs.Tzif as Table
-use Rattle.gtfs_days.specs.Zone.{table_of, IsInstant}
+use Rattle.gtfs_days.specs.Zone.{transitions_of, IsInstant}
 use Rattle.gtfs_days.specs.declared.civil.Civil.{Civil}
 use Rattle.gtfs_days.specs.declared.zone.Zone.{Zone}
 use Rattle.gtfs_days.specs.declared.zone_clock.Known.{Known}
@@ -26,4 +26,4 @@ pub record IsKnown (z : Zone) (k : Known) : Type 0 where
   pub midnight : days_from_civil k.shown.year k.shown.month k.shown.day *ℤ pos 86_400 ≡ k.midnight +ℤ k.shown.offset
   pub low : k.midnight ≤ℤ k.from
   pub high : k.until ≤ℤ (k.midnight +ℤ pos 86_400)
-  pub offset : (x : ℤ) → IsInstant x → k.from ≤ℤ x → x <ℤ k.until → k.shown.offset ≡ (Table.offset_at (table_of z) (nanos_of_seconds x)).seconds
+  pub offset : (x : ℤ) → IsInstant x → k.from ≤ℤ x → x <ℤ k.until → k.shown.offset ≡ (Table.offset_at (transitions_of z) (nanos_of_seconds x)).seconds

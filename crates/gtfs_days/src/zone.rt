@@ -42,7 +42,7 @@ pub enum ZoneFault {
 }
 
 impl Zone {
-    ghost use Rattle.gtfs_days.specs.Zone.{table_of, zone_origin, noon_offset, IsTooLong, HasFault, IsUnreadable, IsZoneOf, IsInstant, IsCivil};
+    ghost use Rattle.gtfs_days.specs.Zone.{transitions_of, zone_origin, noon_offset, IsTooLong, HasFault, IsUnreadable, IsZoneOf, IsInstant, IsCivil};
 
     /// Reads a zone file, which is TZif data (RFC 9636).
     ///
@@ -134,8 +134,8 @@ impl Zone {
     pub(crate) fn offset_end(&self, instant: i64) -> i64
         requires { IsInstant instant }
         ensures { (x : ℤ) → IsInstant x → instant ≤ℤ x → x <ℤ result
-            → Table.offset_at (table_of self.now) (nanos_of_seconds x)
-            ≡ Table.offset_at (table_of self.now) (nanos_of_seconds instant) }
+            → Table.offset_at (transitions_of self.now) (nanos_of_seconds x)
+            ≡ Table.offset_at (transitions_of self.now) (nanos_of_seconds instant) }
     {
         let timestamp = Timestamp::from_second(instant).unwrap();
         let day_end = (instant.div_euclid(SECONDS_PER_DAY) + 1) * SECONDS_PER_DAY;

@@ -1,10 +1,11 @@
 //! Texts of each kind with the values that they have, and the values' canonical texts.
 use crate::assertions::{assert_is, assert_is_at, assert_that};
 use gtfs_field::{
-    Axis, Clock, Colour, Coord, Day, FieldFault, List, Text, push_colour, push_coord, push_count,
-    push_date, push_time, read_colour, read_coord, read_count, read_date, read_instant, read_time,
+    Axis, Clock, Colour, Coord, Day, FieldFault, List, OutOfMemory, Text, push_colour, push_coord,
+    push_count, push_date, push_time, read_colour, read_coord, read_count, read_date, read_instant,
+    read_time,
 };
-use std::alloc::{AllocError, Global};
+use std::alloc::Global;
 use std::process::Abort;
 use std::test::Fail;
 
@@ -188,7 +189,7 @@ fn instants(rt: HostRuntime) {
     assert_read(&rt, Kind::Instant, INSTANTS);
 }
 
-fn push_times(alloc: Global, text: &mut String) -> Result<(), AllocError> {
+fn push_times(alloc: Global, text: &mut String) -> Result<(), OutOfMemory> {
     push_time(alloc, text, Clock::from_seconds(25_500))?;
     text.push(' ')?;
     push_time(alloc, text, Clock::from_seconds(3_599_999))?;
@@ -197,7 +198,7 @@ fn push_times(alloc: Global, text: &mut String) -> Result<(), AllocError> {
     text.push(' ')
 }
 
-fn push_dates(alloc: Global, text: &mut String) -> Result<(), AllocError> {
+fn push_dates(alloc: Global, text: &mut String) -> Result<(), OutOfMemory> {
     push_date(alloc, text, Day::from_number(19_782))?;
     text.push(' ')?;
     push_date(alloc, text, Day::from_number(2_932_896))?;
@@ -217,7 +218,7 @@ fn canonical_texts(rt: HostRuntime) -> Result<(), Fail> {
     Ok(())
 }
 
-fn coordinate_text(alloc: Global, coordinate: Coord) -> Result<String, AllocError> {
+fn coordinate_text(alloc: Global, coordinate: Coord) -> Result<String, OutOfMemory> {
     let mut text = String::new(alloc);
     push_coord(alloc, &mut text, coordinate)?;
     Ok(text)

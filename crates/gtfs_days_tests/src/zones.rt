@@ -3,8 +3,8 @@ ghost use Rattle.std.specs.Prelude.{◌≤◌, length};
 
 use crate::assertions::{assert_is, assert_is_at};
 use gtfs_days::{Civil, CivilFault, Zone, ZoneClock, ZoneFault};
-use gtfs_field::Day;
-use std::alloc::{AllocError, Global};
+use gtfs_field::{Day, OutOfMemory};
+use std::alloc::Global;
 use std::process::Abort;
 use std::test::Fail;
 
@@ -12,7 +12,7 @@ mod cities;
 
 // A header of a zone file: a version, and how many UT indicators, standard indicators, leap
 // seconds, transitions, types and bytes of designations follow.
-fn push_header(file: &mut Vec<u8>, counts: [u8; 6]) -> Result<(), AllocError> {
+fn push_header(file: &mut Vec<u8>, counts: [u8; 6]) -> Result<(), OutOfMemory> {
     file.extend_from_slice(b"TZif2")?;
     file.extend_from_slice(&[0; 15])?;
     for count in counts {
@@ -31,7 +31,7 @@ struct ZoneFile {
 }
 
 impl ZoneFile {
-    fn bytes(&self, alloc: Global) -> Result<Vec<u8>, AllocError> {
+    fn bytes(&self, alloc: Global) -> Result<Vec<u8>, OutOfMemory> {
         let mut file = Vec::new(alloc);
         push_header(&mut file, ONE_TYPE)?;
         file.extend_from_slice(b"\0\0\0\0\0\0UTC\0")?;
@@ -145,7 +145,7 @@ fn files_have_their_lengths(rt: HostRuntime) -> Result<(), Fail> {
 }
 
 // That many zero bytes.
-fn zeros(alloc: Global, len: usize) -> Result<Vec<u8>, AllocError> {
+fn zeros(alloc: Global, len: usize) -> Result<Vec<u8>, OutOfMemory> {
     vec![in alloc; 0; len]
 }
 
@@ -194,7 +194,7 @@ fn bytes_that_are_no_zone_file_are_unreadable(rt: HostRuntime) -> Result<(), Fai
 }
 
 // The file of UTC with so many bytes after its footer.
-fn longer_utc(alloc: Global, more: usize) -> Result<Vec<u8>, AllocError> {
+fn longer_utc(alloc: Global, more: usize) -> Result<Vec<u8>, OutOfMemory> {
     let mut file = UTC.bytes(alloc)?;
     file.extend_from_slice(&zeros(alloc, more)?)?;
     Ok(file)

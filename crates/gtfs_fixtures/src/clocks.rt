@@ -1,7 +1,8 @@
 //! The zones of the tests.
 
 use gtfs_days::Zone;
-use std::alloc::{AllocError, Global};
+use gtfs_field::OutOfMemory;
+use std::alloc::Global;
 use std::test::Fail;
 
 /// A zone by what it does.
@@ -36,7 +37,7 @@ impl Clocks {
         Ok(Zone::read(alloc, &self.file(alloc)?)?)
     }
 
-    fn file(self, alloc: Global) -> Result<Vec<u8>, AllocError> {
+    fn file(self, alloc: Global) -> Result<Vec<u8>, OutOfMemory> {
         let (counts, data, footer): ([u8; 6], &[u8], &str) = match self {
             Clocks::Utc => (ONE_TYPE, b"\0\0\0\0\0\0UTC\0", "UTC0"),
             Clocks::CentralEurope => (
@@ -73,7 +74,7 @@ fn zone_file(
     counts: [u8; 6],
     data: &[u8],
     footer: &str,
-) -> Result<Vec<u8>, AllocError> {
+) -> Result<Vec<u8>, OutOfMemory> {
     let mut file = Vec::new(alloc);
     push_zone(&mut file, counts, data, footer)?;
     Ok(file)
@@ -84,7 +85,7 @@ fn push_zone(
     counts: [u8; 6],
     data: &[u8],
     footer: &str,
-) -> Result<(), AllocError> {
+) -> Result<(), OutOfMemory> {
     push_header(file, ONE_TYPE)?;
     file.extend_from_slice(b"\0\0\0\0\0\0UTC\0")?;
     push_header(file, counts)?;
@@ -97,7 +98,7 @@ fn push_zone(
 
 // A header: how many UT indicators, standard indicators, leap seconds, transitions, types and bytes of designations
 // follow.
-fn push_header(file: &mut Vec<u8>, counts: [u8; 6]) -> Result<(), AllocError> {
+fn push_header(file: &mut Vec<u8>, counts: [u8; 6]) -> Result<(), OutOfMemory> {
     file.extend_from_slice(b"TZif2")?;
     file.extend_from_slice(&[0; 15])?;
     for count in counts {

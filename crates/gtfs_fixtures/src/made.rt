@@ -4,7 +4,7 @@ use crate::dataset::{FEED, FileText, put_all, read_first};
 use gtfs_feed::Feed;
 use gtfs_field::OutOfMemory;
 use gtfs_table::MemoryFolders;
-use std::alloc::{AllocError, Global};
+use std::alloc::Global;
 use std::random::RandomSource;
 use std::test::Fail;
 
@@ -108,7 +108,7 @@ fn put(
 }
 
 // Adds a text, if it was made.
-fn push(text: &mut String, made: Result<String, AllocError>) -> Result<(), OutOfMemory> {
+fn push(text: &mut String, made: Result<String, OutOfMemory>) -> Result<(), OutOfMemory> {
     let made = made?;
     text.push_str(&made)?;
     Ok(())

@@ -1,5 +1,5 @@
 -- What holds of rows holds of the rows by key that they make, and each key stands there once.
-use Rattle.std.proofs.Common.{◌≡◌, ◌+◌, Bool, true, false, cond, T, List, [], ◌∷◌, ◌++◌, Less, Equal, Greater, Ordering, refl, sym, ap, ◌∙◌, subst, inl, inr, ◌⊎◌, length, map, count_by, true≢false, arith, zero-add, eq-eqb}
+use Rattle.std.proofs.Common.{◌≡◌, ◌+◌, Bool, true, false, cond, T, List, [], ◌∷◌, Less, Equal, Greater, Ordering, refl, sym, ap, ◌∙◌, subst, inl, inr, length, map, count_by, true≢false, arith, zero-add, eq-eqb}
 use Rattle.std.specs.Prelude.{◌==◌}
 use Rattle.std.specs.List.{list_all}
 use Rattle.std.specs.Ordering.{is_lt, is_eq, eq_by_cmp, on, ordering_reverse}

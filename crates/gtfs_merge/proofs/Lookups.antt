@@ -1,5 +1,5 @@
 -- Rows by their ids: look-ups in a list of rows, and in rows that stand by id.
-use Rattle.std.proofs.Common.{◌≡◌, ℕ, Bool, true, false, cond, T, List, [], ◌∷◌, Some, None, Option, Less, Equal, Greater, Ordering, refl, sym, ap, ◌∙◌, subst, inl, inr, ◌⊎◌, arith, length, map, bytes_eq, find, option_map, is_some}
+use Rattle.std.proofs.Common.{◌≡◌, ℕ, Bool, true, false, cond, T, List, [], ◌∷◌, Some, None, Option, Less, Equal, Greater, Ordering, refl, sym, ap, ◌∙◌, subst, inl, inr, arith, length, map, bytes_eq, find, option_map, is_some}
 use Rattle.std.specs.Prelude.{◌&&◌, ◌||◌}
 use Rattle.std.specs.List.{list_any}
 use Rattle.std.specs.Ordering.{is_lt, is_eq, eq_by_cmp}

@@ -10,7 +10,7 @@ use Rattle.gtfs_rows.specs.TransferEnds.{transfer_named}
 use Rattle.gtfs_rows.specs.Order.{Ascends}
 use Rattle.gtfs_rows.specs.Rows.{Trip}
 use Rattle.gtfs_rows.specs.Sound.{IsSound}
-use Rattle.gtfs_rows.specs.Views.{IsCut, IsSoundParts, agency_ids, agency_of, content_of_parts, frequency_of, is_within, route_ids, service_ids, service_of, stop_ids, stop_row_of, trip_ids, trip_of, trips_of}
+use Rattle.gtfs_rows.specs.Views.{IsCut, IsSoundParts, agency_ids, agency_of, content_of_parts, frequency_of, is_number_within, route_ids, service_ids, service_of, stop_ids, stop_row_of, trip_ids, trip_of, trips_of}
 use Rattle.gtfs_rows.specs.declared.frequency.Frequency.{Frequency as FrequencyRow}
 use Rattle.gtfs_rows.specs.declared.parts.Parts.{Parts}
 use Rattle.gtfs_stop_times.specs.declared.stop_row.StopRow.{StopRow as StopTime}
@@ -170,14 +170,14 @@ module _ (sides : Sides) (sound_a : IsSoundParts sides.a.now) (sound_b : IsSound
   pub make-a-feed : IsSoundParts m
   make-a-feed = record {
     names_rows = record {
-      stops = subst (λ n. list_all (λ s. is_within n (option_map (λ x. x.0) s.parent_station)) r.stops ≡ true) stop-count are_r.parents;
+      stops = subst (λ n. list_all (λ s. is_number_within n (option_map (λ x. x.0) s.parent_station)) r.stops ≡ true) stop-count are_r.parents;
       routes = subst (λ n. list_all (λ x. nat_lt x.agency_id.0 n) r.routes ≡ true) agency-count are_r.route_agencies;
       trips = subst (λ n. list_all (λ t. nat_lt t.route_id.0 n && nat_lt t.service_id.0 (length r.services)) r.trips ≡ true) route-count
           (subst (λ n. list_all (λ t. nat_lt t.route_id.0 (length (merged_ids kind.Route sides)) && nat_lt t.service_id.0 n) r.trips ≡ true) service-count are_r.trip_references);
       stop_rows = (λ i. list_all (has_numbers_below (sym stop-count i) (length hs.texts)) (are_st.whole i)) ∙ merged-within sides sound_a sound_b k are hs are_h;
-      transfers = (λ i. list_all (λ t. is_within (sym stop-count i) (option_map (λ n. n.0) t.from_stop_id) && is_within (sym stop-count i) (option_map (λ n. n.0) t.to_stop_id)
-          && is_within (sym route-count i) (option_map (λ n. n.0) t.from_route_id) && is_within (sym route-count i) (option_map (λ n. n.0) t.to_route_id)
-          && is_within (sym trip-count i) (option_map (λ n. n.0) t.from_trip_id) && is_within (sym trip-count i) (option_map (λ n. n.0) t.to_trip_id)) (are_ts i))
+      transfers = (λ i. list_all (λ t. is_number_within (sym stop-count i) (option_map (λ n. n.0) t.from_stop_id) && is_number_within (sym stop-count i) (option_map (λ n. n.0) t.to_stop_id)
+          && is_number_within (sym route-count i) (option_map (λ n. n.0) t.from_route_id) && is_number_within (sym route-count i) (option_map (λ n. n.0) t.to_route_id)
+          && is_number_within (sym trip-count i) (option_map (λ n. n.0) t.from_trip_id) && is_number_within (sym trip-count i) (option_map (λ n. n.0) t.to_trip_id)) (are_ts i))
           ∙ transfers-within sides sound_a sound_b k are;
     };
     stop_rows = row-cut;

@@ -10,7 +10,7 @@ use Rattle.std.proofs.lemmas.Simd.{map-map}
 use Rattle.gtfs_field.proofs.ListFacts.{mapped_at as row-map}
 use Rattle.gtfs_rows.specs.NamedRows.{names_agency, names_parent, names_route_and_service, route_named, stop_named, trip_named, without_rows}
 use Rattle.gtfs_rows.specs.Rows.{Trip as ContentTrip}
-use Rattle.gtfs_rows.specs.Views.{IsSoundParts, agency_of, agency_ids, is_within, route_ids, route_of, service_ids, service_of, stop_ids, stop_of, text_of_number, trips_of}
+use Rattle.gtfs_rows.specs.Views.{IsSoundParts, agency_of, agency_ids, is_number_within, route_ids, route_of, service_ids, service_of, stop_ids, stop_of, text_of_number, trips_of}
 use Rattle.gtfs_days.specs.Service.{ServiceDates}
 use Rattle.gtfs_rows.specs.declared.agency.Agency.{Agency}
 use Rattle.gtfs_rows.specs.declared.frequency.Frequency.{Frequency}
@@ -171,7 +171,7 @@ module _ (sides : Sides) (s : Side) (n : ℕ) (name : List ℕ) where
 
   parent-renamed : (numbers : List ℕ) → New kind.Stop numbers → (o parent : Option StopNo) → option_map (λ n. n.0) parent ≡ option_map (λ n. get_or numbers n.0 0) o → IfSome o (λ n. n.0 < length (stop_ids (side_parts s sides)))
       → (option_map (λ n. text_of_number (merged_ids kind.Stop sides) n.0) parent ≡ option_map (side_names s sides).stop (option_map (λ n. text_of_number (stop_ids (side_parts s sides)) n.0) o))
-      × (is_within (length (merged_ids kind.Stop sides)) (option_map (λ n. n.0) parent) ≡ true)
+      × (is_number_within (length (merged_ids kind.Stop sides)) (option_map (λ n. n.0) parent) ≡ true)
   parent-renamed numbers new None None e within = (refl, refl)
   parent-renamed numbers new None (Some x) e within = cc
   parent-renamed numbers new (Some x) None e within = cc

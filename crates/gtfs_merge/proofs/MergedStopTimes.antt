@@ -11,7 +11,7 @@ use Rattle.gtfs_rows.specs.Trips.{frequencies_by_trip, stop_rows_by_trip}
 use Rattle.gtfs_rows.proofs.TripFacts.{stop_times}
 use Rattle.gtfs_rows.proofs.TripsAt.{content_trip}
 use Rattle.gtfs_rows.specs.Rows.{StopRow, Trip}
-use Rattle.gtfs_rows.specs.Views.{IsSoundParts, content_of_parts, frequency_of, is_within, stop_ids, stop_row_of, trip_of}
+use Rattle.gtfs_rows.specs.Views.{IsSoundParts, content_of_parts, frequency_of, is_number_within, stop_ids, stop_row_of, trip_of}
 use Rattle.gtfs_rows.specs.declared.parts.Parts.{Parts}
 use Rattle.gtfs_stop_times.specs.declared.stop_row.StopRow.{StopRow as RowByNumber}
 use Rattle.gtfs_rows.specs.declared.trip.Trip.{Trip as TripByNumber}
@@ -31,7 +31,7 @@ use Rattle.gtfs_merge.specs.declared.sides.Sides.{Sides}
 use Rattle.gtfs_merge.proofs.ReferenceNumbers.{headsign-named, headsign-within, number-named, number-within}
 use Rattle.gtfs_merge.proofs.MergedLists.{side-sound}
 
-within-told : (count : ℕ) (o : Option ℕ) → IfSome o (λ n. n < count) → is_within count o ≡ true
+within-told : (count : ℕ) (o : Option ℕ) → IfSome o (λ n. n < count) → is_number_within count o ≡ true
 within-told count None within = refl
 within-told count (Some n) within = lt-ltb n count within
 

@@ -7,7 +7,7 @@ use Rattle.std.proofs.lemmas.List.{length-map, map-append}
 use Rattle.gtfs_rows.specs.TransferEnds.{names_ends, transfer_named, transfer_numbers}
 use Rattle.gtfs_rows.specs.Order.{Ascends, transfer_key, transfer_key_cmp}
 use Rattle.gtfs_rows.specs.Rows.{Transfer}
-use Rattle.gtfs_rows.specs.Views.{IsSoundParts, is_within, names_route, names_stop, names_trip, route_ids, stop_ids, transfer_names_rows, transfer_of, trip_ids}
+use Rattle.gtfs_rows.specs.Views.{IsSoundParts, is_number_within, names_route, names_stop, names_trip, route_ids, stop_ids, transfer_names_rows, transfer_of, trip_ids}
 use Rattle.gtfs_rows.specs.declared.numbers.RouteNo.{RouteNo}
 use Rattle.gtfs_stop_times.specs.declared.numbers.StopNo.{StopNo}
 use Rattle.gtfs_rows.specs.declared.numbers.TripNo.{TripNo}
@@ -54,7 +54,7 @@ trip_number n = n.0
 
 -- ---- what a transfer of a side names has a new number
 
-number_there : {N : Type 0} (number : N → ℕ) (count : ℕ) (o : Option N) → is_within count (option_map number o) ≡ true → IfSome o (λ n. number n < count)
+number_there : {N : Type 0} (number : N → ℕ) (count : ℕ) (o : Option N) → is_number_within count (option_map number o) ≡ true → IfSome o (λ n. number n < count)
 number_there number count None within = tt
 number_there number count (Some n) within = ltb-true (number n) count within
 

@@ -1,29 +1,39 @@
 -- Tables of names tell what each id became.
 use Rattle.std.proofs.Common.{◌≡◌, ◌<◌, ◌+◌, ◌++◌, ℕ, Bool, true, false, List, [], ◌∷◌, Some, None, Option, refl, sym, ap, ◌∙◌, length, map, filter, take, get_or, bytes_eq, is_some, option_and_then, add-one, arith}
 use Rattle.std.specs.Prelude.{if◌then◌else◌}
-use Rattle.std.specs.List.{position, slice_get}
+use Rattle.std.specs.List.{AllPairs, position, slice_get}
+use Rattle.std.specs.declared.cmp.Ordering.TheVariants.{Less}
 use Rattle.std.specs.declared.random_state.RandomState.{RandomState}
 use Rattle.std.proofs.Math.Seq.{take-suc}
 use Rattle.std.proofs.lemmas.List.{get_or-map, length-map}
 use Rattle.std.proofs.lemmas.List.Quantifiers.{position-Some}
 use Rattle.std.proofs.lemmas.Option.{slice_get-get_or}
 use Rattle.std.proofs.lemmas.List.Elements.{filter-append}
+use Rattle.std.proofs.lemmas.List.Kept.{AllPairs-filter}
+use Rattle.std.proofs.lemmas.Map.Views.{Contains-from_any}
+use Rattle.gtfs_field.proofs.TextOrderFacts.{texts_total}
+use Rattle.gtfs_field.specs.TextOrder.{text_cmp}
 use Rattle.gtfs_columns.proofs.SiteFacts.{text_is as same_bytes}
 use Rattle.gtfs_rows.specs.Content.{Content}
 use Rattle.gtfs_rows.specs.declared.parts.Parts.{Parts}
 use Rattle.gtfs_rows.specs.Views.{IsSoundParts, content_of_parts}
+use Rattle.gtfs_rows.proofs.ByKey.{by_key_is}
+use Rattle.gtfs_rows.proofs.Held.{text_antisymmetric}
+use Rattle.gtfs_rows.proofs.SameElements.{SameElements, contains-filter, contains-from_filter}
 use Rattle.gtfs_merge.specs.Departures.{StaysApart}
 use Rattle.gtfs_merge.specs.Names.{AllNames, AreHashedBy, AreKindNames, in_kind, kind_names, new_id, new_ids, of_side}
 use Rattle.gtfs_merge.specs.Numbered.{known_ids}
 use Rattle.gtfs_merge.specs.Renaming.{lists_id, ids, name_of_id, Names, Renaming, renaming}
-use Rattle.gtfs_merge.specs.Sides.{side_names, side_parts}
+use Rattle.gtfs_merge.specs.Sides.{is_joined_id, nearness_of, side_names, side_parts}
 use Rattle.gtfs_merge.specs.declared.kind.Kind.{Kind}
 use Rattle.gtfs_merge.specs.declared.kind.Kind.TheVariants as kind
 use Rattle.gtfs_merge.specs.declared.kind.Side.{Side}
 use Rattle.gtfs_merge.specs.declared.kind.Side.TheVariants as side
 use Rattle.gtfs_merge.specs.declared.sides.Sides.{Sides}
-use Rattle.gtfs_merge.proofs.JoinedIds.{has-number}
+use Rattle.gtfs_merge.proofs.JoinedIds.{has-number, joined-has}
 use Rattle.gtfs_merge.proofs.JoinedKinds.{ids-known}
+use Rattle.gtfs_merge.proofs.Premises.{by_id-ascending}
+use Rattle.gtfs_merge.proofs.RenamedLists.{ascend}
 
 looked-up : (random : RandomState) (rename : Renaming) (xs : List (List ℕ)) (x : List ℕ) → new_id (new_ids random rename xs) x ≡ (if lists_id xs x then Some (rename x) else None)
 looked-up random rename xs x = by (position (bytes_eq x) xs) refl
@@ -54,6 +64,24 @@ pub joined-further : (p : List ℕ → Bool) (xs : List (List ℕ)) (n : ℕ) (b
     → after ≡ filter p (take (n + 1) xs)
 joined-further p xs n before after x within so_far added own =
     added ∙ (λ i. so_far i ++ filter p (own i ∷ [])) ∙ sym (filter-append p (take n xs) (get_or xs n [] ∷ [])) ∙ ap (filter p) (sym (ap (λ m. take m xs) (add-one n) ∙ take-suc xs n [] within))
+
+-- what two ascending lists of ids have in common stands in both in one order
+common-alike : (p : List ℕ → Bool) (xs ys : List (List ℕ)) → AllPairs (λ s t. text_cmp s t ≡ Less) xs → AllPairs (λ s t. text_cmp s t ≡ Less) ys → ((x : List ℕ) → p x ≡ true → (lists_id xs x ≡ true) × (lists_id ys x ≡ true))
+    → filter p xs ≡ filter p ys
+common-alike p xs ys up_x up_y both =
+    let same : SameElements (filter p xs) (filter p ys) = record {
+      there = λ x at. let from = contains-from_filter p xs x at in contains-filter p ys x from.1 (Contains-from_any same_bytes x ys (both x from.1).1);
+      back = λ x at. let from = contains-from_filter p ys x at in contains-filter p xs x from.1 (Contains-from_any same_bytes x xs (both x from.1).0);
+    } in
+    sym (by_id-ascending (λ x. x) (filter p xs) (AllPairs-filter (λ s t. text_cmp s t ≡ Less) p xs up_x))
+    ∙ by_key_is text_cmp texts_total (λ x. x) text_antisymmetric (filter p xs) (filter p ys) same (AllPairs-filter (λ s t. text_cmp s t ≡ Less) p ys up_y)
+
+-- the joined ids of B are those of A
+pub joined-alike : (k : Kind) (sides : Sides) → IsSoundParts sides.a.now → IsSoundParts sides.b.now → filter (is_joined_id k sides) (known_ids k sides.b.now) ≡ filter (is_joined_id k sides) (known_ids k sides.a.now)
+joined-alike k sides sound_a sound_b =
+    common-alike (is_joined_id k sides) (known_ids k sides.b.now) (known_ids k sides.a.now) (ascend k sides.b.now sound_b) (ascend k sides.a.now sound_a) (λ x joined.
+    let has = joined-has (nearness_of sides) k (content_of_parts sides.a.now) (content_of_parts sides.b.now) x joined in
+    (ap (λ xs. lists_id xs x) (sym (ids-known k sides.b.now sound_b)) ∙ has.1, ap (λ xs. lists_id xs x) (sym (ids-known k sides.a.now sound_a)) ∙ has.0))
 
 -- ids that stay apart have names that tell them
 pub apart-names : (n : Names) (k : Kind) (f : Content) → StaysApart k f n → (x y name : List ℕ) → name_of_id n k f x ≡ Some name → name_of_id n k f y ≡ Some name → x ≡ y

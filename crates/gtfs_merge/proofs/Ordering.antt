@@ -3,11 +3,12 @@ use Rattle.std.proofs.Common.{◌≡◌, ◌<◌, ◌+◌, ◌++◌, ℕ, suc, B
 use Rattle.std.specs.List.{range_with_len}
 use Rattle.std.specs.List.Sorted.{IsSorted}
 use Rattle.std.specs.Ordering.{is_lt, on}
-use Rattle.std.proofs.lemmas.List.{get_or-map, length-map, map-append}
+use Rattle.std.proofs.lemmas.List.{get_or-map, get_or_default, length-map, map-append}
 use Rattle.std.proofs.lemmas.List.Elements.{filter-append}
 use Rattle.gtfs_field.proofs.ListFacts.{range-push as range-more}
 use Rattle.gtfs_field.specs.TextOrder.{text_cmp}
 use Rattle.gtfs_merge.specs.Order.{Entry, entry_value}
+use Rattle.gtfs_merge.specs.declared.kind.Side.TheVariants as side
 use Rattle.gtfs_merge.specs.declared.order.MergedRow.{MergedRow}
 
 range-next : (n : ℕ) → range_with_len 0 (n + 1) ≡ range_with_len 0 n ++ n ∷ []
@@ -28,6 +29,13 @@ passing-more p f n start olds news old new =
     new ∙ ap (λ l. l ++ map f (filter p (n ∷ []))) old
     ∙ append_assoc start (map f (filter p (range_with_len 0 n))) (map f (filter p (n ∷ [])))
     ∙ ap (λ l. start ++ l) (sym (map-append f (filter p (range_with_len 0 n)) (filter p (n ∷ []))) ∙ ap (map f) (sym (filter-append p (range_with_len 0 n) (n ∷ [])) ∙ ap (filter p) (sym (range-next n))))
+
+-- a row of a list, as loops read it
+abbrev pub row_at : List MergedRow → ℕ → MergedRow
+row_at rows n = get_or rows n (record { id = record { ref_ptr = (0, 0); now = [] }; side = side.A; number = 0 })
+
+pub own-row : (rows : List MergedRow) (n : ℕ) → n < length rows → row_at rows n ≡ get_or rows n (row_at rows n)
+own-row rows n within = get_or_default rows n _ _ within
 
 abbrev pub entry_id : Entry → List ℕ
 entry_id e = e.id

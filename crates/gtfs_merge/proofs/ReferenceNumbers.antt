@@ -5,7 +5,7 @@ use Rattle.std.specs.List.{slice_get}
 use Rattle.std.proofs.lemmas.Bool.{lt-ltb}
 use Rattle.std.proofs.lemmas.List.{get_or-map, length-map}
 use Rattle.std.proofs.lemmas.Option.{get_or_from_slice_get, slice_get_within}
-use Rattle.gtfs_rows.specs.Views.{is_within, text_of_number}
+use Rattle.gtfs_rows.specs.Views.{is_number_within, text_of_number}
 use Rattle.gtfs_merge.specs.Headsigns.{AreNumbersOf}
 use Rattle.gtfs_merge.specs.Renaming.{Renaming}
 use Rattle.gtfs_merge.specs.Renumbered.{AreNewNumbers}
@@ -31,7 +31,7 @@ module _ (merged : List (List ℕ)) (rename : Renaming) (olds : List (List ℕ))
   option-named number made (Some n) again within = ap Some (ap (text_of_number merged) (again (get_or numbers (number n) 0)) ∙ number-named (number n) within)
 
   pub option-within : {N : Type 0} (number : N → ℕ) (made : ℕ → N) (o : Option N) → ((n : ℕ) → number (made n) ≡ n) → IfSome o (λ n. number n < length olds)
-      → is_within (length merged) (option_map number (option_map (λ n. made (get_or numbers (number n) 0)) o)) ≡ true
+      → is_number_within (length merged) (option_map number (option_map (λ n. made (get_or numbers (number n) 0)) o)) ≡ true
   option-within number made None again within = refl
   option-within number made (Some n) again within = ap (λ m. nat_lt m (length merged)) (again (get_or numbers (number n) 0)) ∙ lt-ltb _ (length merged) (number-within (number n) within)
 

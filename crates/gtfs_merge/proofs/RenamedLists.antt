@@ -1,11 +1,13 @@
 -- Ids of a kind, put into a table with what each became.
-use Rattle.std.proofs.Common.{◌≡◌, ◌<◌, ◌≤◌, ◌+◌, ℕ, zero, suc, false, List, [], ◌∷◌, ◌++◌, Some, None, Option, refl, sym, ap, ◌∙◌, length, map, take, get_or, bytes_eq, option_map, option_and_then, add-one, arith}
+use Rattle.std.proofs.Common.{◌≡◌, ◌<◌, ◌≤◌, ◌+◌, ℕ, Bool, zero, suc, true, false, List, [], ◌∷◌, ◌++◌, Some, None, Option, refl, sym, ap, ◌∙◌, length, map, take, get_or, bytes_eq, option_map, option_and_then, add-one, true≢false, arith}
+use Rattle.std.specs.Prelude.{if◌then◌else◌, ◌||◌, String, string_bytes}
 use Rattle.std.specs.List.{AllPairs, list_any, position, slice_get}
 use Rattle.std.specs.declared.cmp.Ordering.TheVariants.{Less}
 use Rattle.std.specs.declared.random_state.RandomState.{RandomState}
 use Rattle.std.proofs.Math.Seq.{take-suc}
 use Rattle.std.proofs.lemmas.List.{map-append, take_all}
-use Rattle.std.proofs.lemmas.Option.{slice_get-map as slice_get-mapped}
+use Rattle.std.proofs.lemmas.Option.{get_or_from_slice_get, slice_get-map as slice_get-mapped}
+use Rattle.indexmap.specs.IndexMap.{insert_entry}
 use Rattle.gtfs_field.proofs.ListFacts.{position-map as position-mapped}
 use Rattle.gtfs_field.specs.TextOrder.{text_cmp}
 use Rattle.gtfs_rows.proofs.Held.{apart_turned}
@@ -13,7 +15,7 @@ use Rattle.gtfs_rows.proofs.SameElements.{pairs-head, pairs-map, pairs-tail}
 use Rattle.gtfs_rows.specs.declared.parts.Parts.{Parts}
 use Rattle.gtfs_rows.specs.Views.{IsSoundParts}
 use Rattle.gtfs_rows.proofs.SoundOrder.{in_order}
-use Rattle.gtfs_merge.specs.Names.{NewIds, new_id, new_ids, with_id}
+use Rattle.gtfs_merge.specs.Names.{NewIds, name_or, new_id, new_ids, with_id}
 use Rattle.gtfs_merge.specs.Numbered.{known_ids}
 use Rattle.gtfs_merge.specs.Renaming.{Renaming}
 use Rattle.gtfs_merge.specs.declared.kind.Kind.{Kind}
@@ -57,22 +59,44 @@ renamed-more random rename ids n before after id name within so_far pushed own r
 pub renamed-all : (random : RandomState) (rename : Renaming) (ids : List (List ℕ)) (n : ℕ) → length ids ≤ n → new_ids random rename (take n ids) ≡ new_ids random rename ids
 renamed-all random rename ids n past = ap (new_ids random rename) (take_all n ids past)
 
--- ---- one more id and its name
+-- ---- a table as the code keeps it: each id with its other text, if it has one
 
-pub table-more : {S : Type 0} (bytes : S → List ℕ) (keys keys_after names names_after : List S) (id name : S) → keys_after ≡ keys ++ id ∷ [] → names_after ≡ names ++ name ∷ []
-    → (random random_after : RandomState) → random_after ≡ random
-    → (table : NewIds) → new_ids_of random (map bytes keys) (map bytes names) ≡ table → new_ids_of random_after (map bytes keys_after) (map bytes names_after) ≡ with_id table (bytes id) (bytes name)
-table-more bytes keys keys_after names names_after id name more_keys more_names random random_after same table is =
-    (λ i. new_ids_of (same i) (map bytes (more_keys i)) (map bytes (more_names i)))
-    ∙ (λ i. new_ids_of random (map-append bytes keys (id ∷ []) i) (map-append bytes names (name ∷ []) i))
-    ∙ ap (λ t. with_id t (bytes id) (bytes name)) is
+abbrev pub entry_id : {A : Type 0} → String A × Option (String A) → List ℕ
+entry_id e = string_bytes e.0
 
--- what a table tells of an id that was looked up
-pub told-name : {S : Type 0} (bytes : S → List ℕ) (keys names : List S) (x : List ℕ) (random : RandomState) (table : NewIds) → new_ids_of random (map bytes keys) (map bytes names) ≡ table
-    → (o : Option ℕ) → o ≡ position (λ k. bytes_eq x (bytes k)) keys → option_and_then (λ n. option_map bytes (slice_get names n)) o ≡ new_id table x
-told-name bytes keys names x random table is o found =
-    at o ∙ ap (option_and_then (slice_get (map bytes names))) (found ∙ sym (position-mapped (bytes_eq x) bytes keys)) ∙ ap (λ t. new_id t x) is
+abbrev pub entry_name : {A : Type 0} → String A × Option (String A) → List ℕ
+entry_name e = name_or (string_bytes e.0) e.1
+
+-- an id that is not there goes last
+pub new-last : {K V : Type 0} (eq : K → K → Bool) (k : K) (v : V) (es : List (K × V)) → list_any (λ e. eq k e.0) es ≡ false → insert_entry eq es k v ≡ es ++ (k, v) ∷ []
+new-last eq k v [] none = refl
+new-last eq k v (e ∷ es) none = by (new-last eq k v es) (eq k e.0) refl none
   where
-    at : (o : Option ℕ) → option_and_then (λ n. option_map bytes (slice_get names n)) o ≡ option_and_then (slice_get (map bytes names)) o
-    at None = refl
-    at (Some n) = sym (slice_get-mapped bytes names n)
+    by : (list_any (λ f. eq k f.0) es ≡ false → insert_entry eq es k v ≡ es ++ (k, v) ∷ []) → (b : Bool) → eq k e.0 ≡ b → (b || list_any (λ f. eq k f.0) es) ≡ false → insert_entry eq (e ∷ es) k v ≡ e ∷ es ++ (k, v) ∷ []
+    by rest true at h = absurd (true≢false h)
+    by rest false at h = ap (λ b. if b then (e.0, v) ∷ es else e ∷ insert_entry eq es k v) at ∙ ap (λ l. e ∷ l) (rest h)
+
+module _ {A : Type 0} where
+  pub table-more : (entries after : List (String A × Option (String A))) (e : String A × Option (String A)) → after ≡ entries ++ e ∷ [] → (random random_after : RandomState) → random_after ≡ random
+      → (table : NewIds) → new_ids_of random (map entry_id entries) (map entry_name entries) ≡ table → new_ids_of random_after (map entry_id after) (map entry_name after) ≡ with_id table (entry_id e) (entry_name e)
+  table-more entries after e more random random_after same table is =
+      (λ i. new_ids_of (same i) (map entry_id (more i)) (map entry_name (more i)))
+      ∙ (λ i. new_ids_of random (map-append entry_id entries (e ∷ []) i) (map-append entry_name entries (e ∷ []) i))
+      ∙ ap (λ t. with_id t (entry_id e) (entry_name e)) is
+
+  -- what a table tells of an id that was looked up
+  pub told-name : (entries : List (String A × Option (String A))) (x : List ℕ) (random : RandomState) (table : NewIds) → new_ids_of random (map entry_id entries) (map entry_name entries) ≡ table
+      → (o : Option ℕ) → o ≡ position (λ k. bytes_eq x (string_bytes k)) (map (λ e. e.0) entries) → option_and_then (λ n. option_map entry_name (slice_get entries n)) o ≡ new_id table x
+  told-name entries x random table is o found =
+      at o ∙ ap (option_and_then (slice_get (map entry_name entries)))
+      (found ∙ position-mapped (λ k. bytes_eq x (string_bytes k)) (λ e. e.0) entries ∙ sym (position-mapped (bytes_eq x) entry_id entries)) ∙ ap (λ t. new_id t x) is
+    where
+      at : (o : Option ℕ) → option_and_then (λ n. option_map entry_name (slice_get entries n)) o ≡ option_and_then (slice_get (map entry_name entries)) o
+      at None = refl
+      at (Some n) = sym (slice_get-mapped entry_name entries n)
+
+  -- the name of a number
+  pub name-of : (entries : List (String A × Option (String A))) (n : ℕ) (random : RandomState) (table : NewIds) → new_ids_of random (map entry_id entries) (map entry_name entries) ≡ table
+      → (e : String A × Option (String A)) → Some e ≡ slice_get entries n → entry_name e ≡ get_or table.names n []
+  name-of entries n random table is e found =
+      sym (get_or_from_slice_get (map entry_name entries) n (entry_name e) [] (slice_get-mapped entry_name entries n ∙ sym (ap (option_map entry_name) found))) ∙ ap (λ t. get_or t.names n []) is

@@ -11,7 +11,7 @@ use Rattle.std.proofs.lemmas.Bool.{and_parts, cases_lt, ltb-true}
 use Rattle.std.proofs.lemmas.Bool.Decides.{nat_tests}
 use Rattle.gtfs_rows.specs.TransferEnds.{names_ends, transfer_named, transfer_numbers}
 use Rattle.gtfs_rows.specs.Order.{Ascends, transfer_key, transfer_key_cmp}
-use Rattle.gtfs_rows.specs.Views.{is_within, text_of_number}
+use Rattle.gtfs_rows.specs.Views.{is_number_within, text_of_number}
 use Rattle.gtfs_rows.specs.declared.transfer.Transfer.{Transfer as ByNumber}
 use Rattle.gtfs_field.specs.TextOrder.{text_cmp}
 use Rattle.gtfs_rows.proofs.ContentAgain.{same_option}
@@ -45,10 +45,10 @@ module _ (ids : List (List ℕ)) (up : Ascends text_cmp ids) where
     ]
   ]
 
-  below : (n : ℕ) → is_within (length ids) (Some n) ≡ true → n < length ids
+  below : (n : ℕ) → is_number_within (length ids) (Some n) ≡ true → n < length ids
   below n h = ltb-true n (length ids) h
 
-  end-order : {N : Type 0} (number : N → ℕ) (o p : Option N) → is_within (length ids) (option_map number o) ≡ true → is_within (length ids) (option_map number p) ≡ true
+  end-order : {N : Type 0} (number : N → ℕ) (o p : Option N) → is_number_within (length ids) (option_map number o) ≡ true → is_number_within (length ids) (option_map number p) ≡ true
       → option_cmp nat_cmp (option_map number o) (option_map number p)
       ≡ option_cmp text_cmp (option_map (λ n. text (number n)) o) (option_map (λ n. text (number n)) p)
   end-order number None None g h = refl

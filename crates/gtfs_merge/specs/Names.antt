@@ -1,5 +1,5 @@
 -- What ids became.
-use Rattle.std.specs.Prelude.{◌≡◌, ℕ, ◌==◌, Bool, true, false, List, ◌∷◌, ◌++◌, [], length, map, bytes_eq, position, slice_get, Option, Some, option_and_then, is_some}
+use Rattle.std.specs.Prelude.{◌≡◌, ℕ, ◌==◌, Bool, true, false, List, ◌∷◌, ◌++◌, [], length, map, bytes_eq, position, slice_get, Option, Some, None, option_and_then, is_some, String, string_bytes}
 use Rattle.std.specs.declared.random_state.RandomState.{RandomState}
 use Rattle.gtfs_merge.specs.Near.{near_pairs}
 use Rattle.gtfs_merge.specs.Numbered.{known_ids}
@@ -18,6 +18,11 @@ is_nameless kind.Stop x = false
 is_nameless kind.Route x = false
 is_nameless kind.Service x = false
 is_nameless kind.Trip x = false
+
+-- what an id became: its new text, or itself where it stays
+abbrev pub name_or : {A : Type 0} → List ℕ → Option (String A) → List ℕ
+name_or id None = id
+name_or id (Some name) = string_bytes name
 
 -- the ids of one kind of a feed, and what each became
 pub record NewIds : Type 0 where

@@ -1,5 +1,5 @@
 -- The rows of a merged feed of one kind under their new ids, and the order in which they stand.
-use Rattle.std.specs.Prelude.{ℕ, Bool, not, is_some, List, length, map, filter, string_bytes}
+use Rattle.std.specs.Prelude.{ℕ, Bool, not, is_some, List, length, map, filter}
 use Rattle.std.specs.List.{range_with_len}
 use Rattle.gtfs_rows.specs.Views.{text_of_number}
 use Rattle.gtfs_merge.specs.Numbered.{known_ids}
@@ -20,7 +20,7 @@ pub record Entry : Type 0 where
 
 -- what a row of the code's list stands for
 abbrev pub entry_value : MergedRow → Entry
-entry_value r = record { id = string_bytes r.id; side = r.side; number = r.number }
+entry_value r = record { id = r.id.now; side = r.side; number = r.number }
 
 abbrev pub entry_of : Side → Kind → Sides → ℕ → Entry
 entry_of s k sides n = record {

@@ -16,12 +16,12 @@ use std::alloc::Global;
 use std::marker::Model;
 
 // The merged rows of one kind, and the numbers that the rows of both sides have among them.
-pub(crate) struct KindRows {
-    rows: Vec<MergedRow>,
+pub(crate) struct KindRows<'a> {
+    rows: Vec<MergedRow<'a>>,
     numbers: Numbers,
 }
 
-impl Model for KindRows {
+impl<'a> Model for KindRows<'a> {
     ghost use Rattle.std.specs.Prelude.{map};
     ghost use Rattle.gtfs_merge.specs.KindRows.{KindEntries};
     ghost use Rattle.gtfs_merge.specs.Order.{entry_value};
@@ -32,7 +32,7 @@ impl Model for KindRows {
 }
 
 // Written out, so that a function that lets rows go has one call to prove.
-impl Drop for KindRows {
+impl Drop for KindRows<'_> {
     fn drop(self) {
         let KindRows {
             rows: _,
@@ -41,15 +41,15 @@ impl Drop for KindRows {
     }
 }
 
-impl KindRows {
+impl<'a> KindRows<'a> {
     // The merged rows of a kind.
     pub(crate) fn of_feeds(
         alloc: Global,
         sides: &Sides,
         twins: &Twins,
-        names: &Names,
+        names: &'a Names,
         kind: Kind,
-    ) -> Result<KindRows, OutOfMemory>
+    ) -> Result<KindRows<'a>, OutOfMemory>
         requires twins { twins.now ≡ twin_rows sides.now }
         requires names { AreKindNames sides.now names.now }
         ensures { IfOk result (AreKindRows kind sides.now) }
@@ -60,7 +60,7 @@ impl KindRows {
     }
 
     // The rows in the order of their new ids.
-    pub(crate) fn rows(&self) -> &[MergedRow]
+    pub(crate) fn rows(&self) -> &[MergedRow<'a>]
         ensures { map entry_value result.now ≡ self.now.rows }
     {
         self.rows.as_slice()

@@ -23,7 +23,7 @@ pub(crate) fn merged_agencies(
     let mut list = Vec::with_capacity(alloc, rows.len())?;
     for row in rows {
         let source = sides.of(row.side).agency_by_number(AgencyNo(row.number));
-        list.push(source.under(alloc, row.id.as_str())?)?;
+        list.push(source.under(alloc, row.id)?)?;
     }
     Ok(List::new(list))
 }

@@ -13,15 +13,15 @@ use std::alloc::Global;
 use std::marker::Model;
 
 // The merged rows of all kinds of ids.
-pub(crate) struct MergedKinds {
-    pub(crate) agencies: KindRows,
-    pub(crate) stops: KindRows,
-    pub(crate) routes: KindRows,
-    pub(crate) services: KindRows,
-    pub(crate) trips: KindRows,
+pub(crate) struct MergedKinds<'a> {
+    pub(crate) agencies: KindRows<'a>,
+    pub(crate) stops: KindRows<'a>,
+    pub(crate) routes: KindRows<'a>,
+    pub(crate) services: KindRows<'a>,
+    pub(crate) trips: KindRows<'a>,
 }
 
-impl Model for MergedKinds {
+impl<'a> Model for MergedKinds<'a> {
     ghost use Rattle.gtfs_merge.specs.KindRows.{AllEntries};
 
     ghost Value = { AllEntries };
@@ -36,7 +36,7 @@ impl Model for MergedKinds {
 }
 
 // Written out, so that a function that lets rows go has one call to prove.
-impl Drop for MergedKinds {
+impl Drop for MergedKinds<'_> {
     fn drop(self) {
         let MergedKinds {
             agencies: _,
@@ -48,14 +48,14 @@ impl Drop for MergedKinds {
     }
 }
 
-impl MergedKinds {
+impl<'a> MergedKinds<'a> {
     // The merged rows of two feeds.
     pub(crate) fn of_feeds(
         alloc: Global,
         sides: &Sides,
         twins: &Twins,
-        names: &Names,
-    ) -> Result<MergedKinds, OutOfMemory>
+        names: &'a Names,
+    ) -> Result<MergedKinds<'a>, OutOfMemory>
         requires twins { twins.now ≡ twin_rows sides.now }
         requires names { AreKindNames sides.now names.now }
         ensures { IfOk result (AreMergedKinds sides.now) }

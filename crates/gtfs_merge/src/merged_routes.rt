@@ -31,7 +31,7 @@ pub(crate) fn merged_routes(
     for row in rows {
         let source = sides.of(row.side).route_by_number(RouteNo(row.number));
         let agency = renumbered(source.agency_id, agencies.numbers(row.side));
-        list.push(source.under(alloc, row.id.as_str(), agency)?)?;
+        list.push(source.under(alloc, row.id, agency)?)?;
     }
     Ok(List::new(list))
 }

@@ -24,7 +24,7 @@ pub(crate) fn merged_services(
     let mut list = Vec::with_capacity(alloc, rows.len())?;
     for row in rows {
         let source = sides.of(row.side).service_by_number(ServiceNo(row.number));
-        list.push(with_id(alloc, source, row.id.as_str())?)?;
+        list.push(with_id(alloc, source, row.id)?)?;
     }
     Ok(List::new(list))
 }

@@ -29,7 +29,7 @@ pub(crate) fn merged_stops(
     for row in rows {
         let source = sides.of(row.side).stop_by_number(StopNo(row.number));
         let parent = renumbered(source.parent_station, stops.numbers(row.side));
-        list.push(source.under(alloc, row.id.as_str(), parent)?)?;
+        list.push(source.under(alloc, row.id, parent)?)?;
     }
     Ok(List::new(list))
 }

@@ -37,7 +37,7 @@ pub(crate) fn merged_trips(
         let route = renumbered_route(source.route_id, route_numbers);
         let service_numbers = services.numbers(row.side);
         let service = renumbered_service(source.service_id, service_numbers);
-        list.push(source.under(alloc, row.id.as_str(), route, service)?)?;
+        list.push(source.under(alloc, row.id, route, service)?)?;
     }
     Ok(List::new(list))
 }

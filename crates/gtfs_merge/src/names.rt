@@ -10,7 +10,7 @@ ghost use Rattle.gtfs_merge.specs.declared.kind.Kind.TheVariants as kind;
 
 use crate::kind::{Kind, Side};
 use crate::kinds::{count_of, id_of};
-use crate::new_names::is_joined_id;
+use crate::new_names::is_joined_row;
 use crate::renamed::Renamed;
 use crate::sides::Sides;
 use crate::twins::Twins;
@@ -255,7 +255,7 @@ fn ids_of(alloc: Global, feed: &Feed, kind: Kind) -> Result<Vec<Text>, OutOfMemo
     Ok(ids)
 }
 
-// The joined ids of a kind.
+// The joined ids of a kind. They stand in both feeds, and in the same order.
 fn joined_ids(
     alloc: Global,
     sides: &Sides,
@@ -268,34 +268,29 @@ fn joined_ids(
 {
     sides.soundness();
     let mut found = Vec::new(alloc);
-    for number in 0..count_of(sides.a, kind) {
-        push_if_joined(
-            alloc,
-            sides,
-            twins,
-            kind,
-            id_of(sides.a, kind, number),
-            &mut found,
-        )?;
+    for number in 0..count_of(sides.b, kind) {
+        push_if_joined(alloc, sides, twins, kind, number, &mut found)?;
     }
     Ok(found)
 }
 
-// Adds an id if it is joined.
+// Adds the id of a number of B if it is joined.
 fn push_if_joined(
     alloc: Global,
     sides: &Sides,
     twins: &Twins,
     kind: Kind,
-    id: &str,
+    number: usize,
     found: &mut Vec<Text>,
 ) -> Result<(), OutOfMemory>
-    requires { twins.now ≡ twin_rows sides.now }
+    requires twins { twins.now ≡ twin_rows sides.now }
+    requires within { number < length (known_ids kind sides.now.b.now) }
     ensures { OnOk result (found.new.items ≡ found.old.items
-        ++ filter (is_joined_id kind sides.now) (id.now ∷ [])) }
+        ++ filter (is_joined_id kind sides.now)
+        (slice_index_or (known_ids kind sides.now.b.now) number [] ∷ [])) }
 {
-    if is_joined_id(sides, twins, kind, id) {
-        let joined = String::from_str(alloc, id)?;
+    if is_joined_row(sides, twins, kind, number) {
+        let joined = String::from_str(alloc, id_of(sides.b, kind, number))?;
         found.push(Text::new(joined))?;
     }
     Ok(())

@@ -14,7 +14,9 @@ use std::alloc::Global;
 pub(crate) fn numbered_id(alloc: Global, base: &str, number: u128) -> Result<String, OutOfMemory>
     ensures { IfOk result (λ id. string_bytes id ≡ merged_id base.now number) }
 {
-    let mut id = String::from_str(alloc, base)?;
+    // Room for a number of one digit, which most are.
+    let mut id = String::with_capacity(alloc, base.len().saturating_add(9))?;
+    id.push_str(base)?;
     id.push_str("_merged_")?;
     id.push_str(Buffer::new().format(number))?;
     Ok(id)

@@ -1,5 +1,5 @@
 ghost use Rattle.std.specs.Prelude.{◌≡◌, ◌<◌, ◌&&◌, [], IfOk, None, false, length, not, slice_index_or, string_bytes, true};
-ghost use Rattle.gtfs_merge.specs.Names.{is_nameless};
+ghost use Rattle.gtfs_merge.specs.Names.{is_nameless, name_or};
 ghost use Rattle.gtfs_merge.specs.Numbered.{known_ids};
 ghost use Rattle.gtfs_merge.specs.Renaming.{agency_b, lists_id, joined_agency, renaming};
 ghost use Rattle.gtfs_merge.specs.Sides.{content_a, content_b, side_names, is_joined_id};
@@ -30,7 +30,7 @@ pub(crate) fn is_joined_row(sides: &Sides, twins: &Twins, kind: Kind, number: us
 }
 
 // Whether an id is joined.
-pub(crate) fn is_joined_id(sides: &Sides, twins: &Twins, kind: Kind, id: &str) -> bool
+fn is_joined_id(sides: &Sides, twins: &Twins, kind: Kind, id: &str) -> bool
     requires { twins.now ≡ twin_rows sides.now }
     ensures { result ≡ is_joined_id kind sides.now id.now }
 {
@@ -60,59 +60,75 @@ fn is_nameless(kind: Kind, id: &str) -> bool
     }
 }
 
-// What an id of A becomes: only an agency's empty id that is not joined gets another.
+// What an id of A becomes, None where it stays: only an agency's empty id that is not joined gets another.
 pub(crate) fn new_id_of_a(
     alloc: Global,
     sides: &Sides,
     twins: &Twins,
     kind: Kind,
     id: &str,
-) -> Result<String, OutOfMemory>
+) -> Result<Option<String>, OutOfMemory>
     requires { twins.now ≡ twin_rows sides.now }
-    ensures { IfOk result (λ new. string_bytes new
+    ensures { IfOk result (λ new. name_or id.now new
         ≡ renaming (side_names side.A sides.now) kind id.now) }
 {
     sides.soundness();
     if is_left_nameless(sides, twins, kind, id) {
-        return free_id(alloc, sides, Kind::Agency, AGENCY);
+        return Ok(Some(free_id(alloc, sides, Kind::Agency, AGENCY)?));
     }
-    Ok(String::from_str(alloc, id)?)
+    Ok(None)
 }
 
-// What an id of B becomes, where this is its twin: it gets the id of its twin, and else it stays where A lacks it.
+// What an id of B becomes, None where it stays. This is its twin: it gets the id of its twin, and else it stays where A
+// lacks it.
 pub(crate) fn new_id_of_b(
     alloc: Global,
     sides: &Sides,
     kind: Kind,
     id: &str,
     twin: Option<usize>,
-) -> Result<String, OutOfMemory>
+) -> Result<Option<String>, OutOfMemory>
     requires there { lists_id (known_ids kind sides.now.b.now) id.now ≡ true }
     requires twin { twin ≡ twin_number kind sides.now id.now }
-    ensures { IfOk result (λ new. string_bytes new
+    ensures { IfOk result (λ new. name_or id.now new
         ≡ renaming (side_names side.B sides.now) kind id.now) }
 {
     match twin {
-        Some(first) => Ok(String::from_str(alloc, id_of(sides.a, kind, first))?),
+        Some(first) => other_name(alloc, id, id_of(sides.a, kind, first)),
         None => own_id_of_b(alloc, sides, kind, id),
     }
 }
 
-// What an id of B becomes that has no twin.
-fn own_id_of_b(alloc: Global, sides: &Sides, kind: Kind, id: &str) -> Result<String, OutOfMemory>
+// A name of an id, None where it is the id itself.
+fn other_name(alloc: Global, id: &str, name: &str) -> Result<Option<String>, OutOfMemory>
+    ensures { IfOk result (λ new. name_or id.now new ≡ name.now) }
+{
+    if id == name {
+        return Ok(None);
+    }
+    Ok(Some(String::from_str(alloc, name)?))
+}
+
+// What an id of B becomes that has no twin, None where it stays.
+fn own_id_of_b(
+    alloc: Global,
+    sides: &Sides,
+    kind: Kind,
+    id: &str,
+) -> Result<Option<String>, OutOfMemory>
     requires there { lists_id (known_ids kind sides.now.b.now) id.now ≡ true }
     requires alone { None ≡ twin_number kind sides.now id.now }
-    ensures { IfOk result (λ new. string_bytes new
+    ensures { IfOk result (λ new. name_or id.now new
         ≡ renaming (side_names side.B sides.now) kind id.now) }
 {
     sides.soundness();
     if is_nameless(kind, id) {
-        return new_agency_id_of_b(alloc, sides);
+        return Ok(Some(new_agency_id_of_b(alloc, sides)?));
     }
     if !has_this_id(sides.a, kind, id) {
-        return Ok(String::from_str(alloc, id)?);
+        return Ok(None);
     }
-    free_id(alloc, sides, kind, id)
+    Ok(Some(free_id(alloc, sides, kind, id)?))
 }
 
 // What the empty id of B's agency becomes where it is not joined.

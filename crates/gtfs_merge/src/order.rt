@@ -21,72 +21,73 @@ use std::cmp::Ordering;
 
 // A row of the merged feed under its new id, by its number on one side. A row of B with a twin is that of A.
 #[derive(Drop)]
-pub(crate) struct MergedRow {
-    pub(crate) id: String,
+pub(crate) struct MergedRow<'a> {
+    pub(crate) id: &'a str,
     pub(crate) side: Side,
     pub(crate) number: usize,
 }
 
 // The rows of a kind of the merged feed, by their new ids: all of A's and those of B's that have no twin.
-pub(crate) fn merged_rows(
+pub(crate) fn merged_rows<'a>(
     alloc: Global,
     sides: &Sides,
     twins: &Twins,
-    names: &Names,
+    names: &'a Names,
     kind: Kind,
-) -> Result<Vec<MergedRow>, OutOfMemory>
+) -> Result<Vec<MergedRow<'a>>, OutOfMemory>
     requires twins { twins.now ≡ twin_rows sides.now }
     requires names { AreKindNames sides.now names.now }
     ensures { IfOk result (λ rows. AreMergedRows kind sides.now (map entry_value rows.items)) }
 {
     sides.soundness();
     let mut rows = of_a(alloc, sides, names, kind)?;
-    add_of_b(alloc, sides, twins, names, kind, &mut rows)?;
+    add_of_b(sides, twins, names, kind, &mut rows)?;
     Ok(sorted(rows)?)
 }
 
 // The rows of A under their new ids.
-fn of_a(
+fn of_a<'a>(
     alloc: Global,
     sides: &Sides,
-    names: &Names,
+    names: &'a Names,
     kind: Kind,
-) -> Result<Vec<MergedRow>, OutOfMemory>
+) -> Result<Vec<MergedRow<'a>>, OutOfMemory>
     requires { AreKindNames sides.now names.now }
     ensures { IfOk result (λ rows. map entry_value rows.items ≡ rows_of_a kind sides.now) }
 {
     let mut rows = Vec::new(alloc);
     for number in 0..count_of(sides.a, kind) {
-        rows.push(row_of(alloc, sides, names, Side::A, kind, number)?)?;
+        rows.push(row_of(sides, names, Side::A, kind, number))?;
     }
     Ok(rows)
 }
 
 // A row of a side under its new id.
-fn row_of(
-    alloc: Global,
+fn row_of<'a>(
     sides: &Sides,
-    names: &Names,
+    names: &'a Names,
     side: Side,
     kind: Kind,
     number: usize,
-) -> Result<MergedRow, OutOfMemory>
+) -> MergedRow<'a>
     requires names { AreKindNames sides.now names.now }
     requires within { number < length (known_ids kind (side_parts side sides.now)) }
-    ensures { IfOk result (λ row. entry_value row ≡ entry_of side kind sides.now number) }
+    ensures { entry_value result ≡ entry_of side kind sides.now number }
 {
-    let id = String::from_str(alloc, names.by_number(side, kind, number))?;
-    Ok(MergedRow { id, side, number })
+    MergedRow {
+        id: names.by_number(side, kind, number),
+        side,
+        number,
+    }
 }
 
 // Adds the rows of B that have no twin.
-fn add_of_b(
-    alloc: Global,
+fn add_of_b<'a>(
     sides: &Sides,
     twins: &Twins,
-    names: &Names,
+    names: &'a Names,
     kind: Kind,
-    rows: &mut Vec<MergedRow>,
+    rows: &mut Vec<MergedRow<'a>>,
 ) -> Result<(), OutOfMemory>
     requires twins { twins.now ≡ twin_rows sides.now }
     requires names { AreKindNames sides.now names.now }
@@ -94,20 +95,19 @@ fn add_of_b(
         ≡ map entry_value rows.old.items ++ rows_of_b kind sides.now) }
 {
     for number in 0..count_of(sides.b, kind) {
-        add_if_apart(alloc, sides, twins, names, kind, number, rows)?;
+        add_if_apart(sides, twins, names, kind, number, rows)?;
     }
     Ok(())
 }
 
 // Adds a row of B that has no twin.
-fn add_if_apart(
-    alloc: Global,
+fn add_if_apart<'a>(
     sides: &Sides,
     twins: &Twins,
-    names: &Names,
+    names: &'a Names,
     kind: Kind,
     number: usize,
-    rows: &mut Vec<MergedRow>,
+    rows: &mut Vec<MergedRow<'a>>,
 ) -> Result<(), OutOfMemory>
     requires twins { twins.now ≡ twin_rows sides.now }
     requires names { AreKindNames sides.now names.now }
@@ -117,14 +117,14 @@ fn add_if_apart(
         (filter (is_apart kind sides.now) (number ∷ []))) }
 {
     if !twins.has(kind, number) {
-        rows.push(row_of(alloc, sides, names, Side::B, kind, number)?)?;
+        rows.push(row_of(sides, names, Side::B, kind, number))?;
     }
     Ok(())
 }
 
 // The rows by their new ids. This sort is fast where long stretches are in order, as the rows of each side mostly are.
-fn sorted(mut rows: Vec<MergedRow>) -> Result<Vec<MergedRow>, OutOfMemory>
-    ensures same { IfOk result (λ sorted. IsPermutation (map entry_value rows.items)
+fn sorted(mut rows: Vec<MergedRow<'_>>) -> Result<Vec<MergedRow<'_>>, OutOfMemory>
+    ensures same { IfOk result (λ sorted. IsPermutation (map entry_value rows.entry.items)
         (map entry_value sorted.items)) }
     ensures in_order { IfOk result (λ sorted. IsSorted (on (λ e. e.id) text_cmp)
         (map entry_value sorted.items)) }
@@ -133,8 +133,8 @@ fn sorted(mut rows: Vec<MergedRow>) -> Result<Vec<MergedRow>, OutOfMemory>
     Ok(rows)
 }
 
-fn order(a: &MergedRow, b: &MergedRow) -> Ordering
+fn order(a: &MergedRow<'_>, b: &MergedRow<'_>) -> Ordering
     ensures { result ≡ text_cmp (entry_value a.now).id (entry_value b.now).id }
 {
-    a.id.cmp(&b.id)
+    a.id.cmp(b.id)
 }

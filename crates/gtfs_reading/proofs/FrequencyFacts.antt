@@ -17,7 +17,7 @@ use Rattle.gtfs_table.specs.declared.file.File.TheVariants as file
 use Rattle.gtfs_columns.specs.Columns.{id, refused, required, time}
 use Rattle.gtfs_columns.specs.Problems.{Passes}
 use Rattle.gtfs_columns.specs.Rows.{text_in, value_in, word_in}
-use Rattle.gtfs_columns.specs.Values.{as_amount, counted, is_word}
+use Rattle.gtfs_columns.specs.Values.{as_amount, value_of_count, is_word}
 use Rattle.gtfs_columns.proofs.ReadFacts.{amount_some, read_as_there, stands}
 use Rattle.gtfs_rows.specs.declared.frequency.Frequency.{Frequency as FrequencyRow}
 use Rattle.gtfs_rows.specs.Order.{by_key}
@@ -30,9 +30,9 @@ use Rattle.gtfs_reading.proofs.CalendarFacts.{rows_named}
 use Rattle.gtfs_reading.proofs.RowKeys.{all_rows, numbers_apart}
 use Rattle.gtfs_reading.proofs.SortedKeys.{by_key_mapped}
 
-counted_is : (e : Bool) (r : Result ℕ FieldFault) → is_some (option_and_then as_amount (if e then None else result_ok (counted r))) ≡ true
-    → option_and_then as_amount (if e then None else result_ok (counted r))
-    ≡ Some (pos (unsigned_abs (unwrap_or (option_and_then as_amount (if e then None else result_ok (counted r))) (pos 0))))
+counted_is : (e : Bool) (r : Result ℕ FieldFault) → is_some (option_and_then as_amount (if e then None else result_ok (value_of_count r))) ≡ true
+    → option_and_then as_amount (if e then None else result_ok (value_of_count r))
+    ≡ Some (pos (unsigned_abs (unwrap_or (option_and_then as_amount (if e then None else result_ok (value_of_count r))) (pos 0))))
 counted_is true r there = cc there
 counted_is false (Ok n) there = refl
 counted_is false (Err f) there = cc there

@@ -29,7 +29,7 @@ use Rattle.std.proofs.lemmas.Slice.Eq.{bytes_eq-Decides}
 use Rattle.gtfs_table.proofs.BlankFacts.{no_text}
 use Rattle.gtfs_rows.specs.Order.{by_key}
 use Rattle.gtfs_rows.specs.Reading.{text_at}
-use Rattle.gtfs_rows.specs.Views.{is_within, text_of_number}
+use Rattle.gtfs_rows.specs.Views.{is_number_within, text_of_number}
 use Rattle.gtfs_reading.proofs.ByIds.{by_key_made, ids_read, rows_are}
 
 -- ---- an id that is there
@@ -171,10 +171,10 @@ module _ (i : FirstRows) (t : List ℕ) where
   pub unnumbered : first_row_with i t ≡ None → number_with i t ≡ None
   unnumbered none = unnumbered_from (number_with i t) (number_known i t) none
 
-  within_from : (o : Option ℕ) → number_with i t ≡ o → is_within (length (ids_of i)) o ≡ true
+  within_from : (o : Option ℕ) → number_with i t ≡ o → is_number_within (length (ids_of i)) o ≡ true
   within_from None e = refl
   within_from (Some n) e = let at = position-Some (λ k. bytes_eq k t) (ids_of i) n [] e in let below = at.0 in grind (arith, nat_tests, below)
 
   -- a number is that of one of the ids
-  pub number_within : is_within (length (ids_of i)) (number_with i t) ≡ true
+  pub number_within : is_number_within (length (ids_of i)) (number_with i t) ≡ true
   number_within = within_from (number_with i t) refl

@@ -30,7 +30,7 @@ use Rattle.gtfs_table.proofs.BlankFacts.{no_text}
 use Rattle.gtfs_columns.specs.Rows.{row_with, text_in, word_in}
 use Rattle.gtfs_columns.specs.steps.Ids.{FirstRows, first_row_with, first_rows, ids_of as ids_of_column, number_with, rows_by_number}
 use Rattle.gtfs_rows.specs.Reading.{first_agency, text_at}
-use Rattle.gtfs_rows.specs.Views.{is_within, text_of_number}
+use Rattle.gtfs_rows.specs.Views.{is_number_within, text_of_number}
 use Rattle.gtfs_rows.proofs.SameElements.{contains-first, contains-later}
 use Rattle.gtfs_rows.proofs.KeyedRows.{no_entries}
 use Rattle.gtfs_reading.specs.ServiceIds.{HasAll, NumbersText, service_ids, service_texts}
@@ -165,13 +165,13 @@ module _ (d : Dataset) (passes : Passes d) (n : ℕ) (row : is_row (records_in d
       and_first true e = e
       and_first false e = refl
 
-  first_of_one : (o : Option ℕ) → is_within 1 o ≡ true → unwrap_or o 0 ≡ 0
+  first_of_one : (o : Option ℕ) → is_number_within 1 o ≡ true → unwrap_or o 0 ≡ 0
   first_of_one None within = refl
   first_of_one (Some k) within = let below : k ≡ 0 = grind (arith, nat_tests, within) in below
 
   -- the number is that of the only agency
   one_number : (m : ℕ) → rows d file.Agency ≡ m ∷ [] → (t : List ℕ) → unwrap_or (number_with agency_ids t) 0 ≡ 0
-  one_number m one t = first_of_one (number_with agency_ids t) (subst (λ ids. is_within (length ids) (number_with agency_ids t) ≡ true) (only_id d file.Agency (codes "agency_id") m one) (number_within agency_ids t))
+  one_number m one t = first_of_one (number_with agency_ids t) (subst (λ ids. is_number_within (length ids) (number_with agency_ids t) ≡ true) (only_id d file.Agency (codes "agency_id") m one) (number_within agency_ids t))
 
   only_agency : (ns : List ℕ) → rows d file.Agency ≡ ns → nat_lt 1 (length ns) ≡ false → (t : List ℕ)
       → text_of_number (ids_of d file.Agency "agency_id") (unwrap_or (number_with agency_ids t) 0) ≡ first_agency d ns
@@ -213,7 +213,7 @@ module _ (d : Dataset) (passes : Passes d) (n : ℕ) (row : is_row (records_in d
 pub first_within : (i : FirstRows) (t : List ℕ) (k : ℕ) → k ≡ unwrap_or (number_with i t) 0 → nat_lt 0 (length (ids_of_column i)) ≡ true → nat_lt k (length (ids_of_column i)) ≡ true
 first_within i t k number some = within (number_with i t) number (number_within i t)
   where
-    within : (o : Option ℕ) → k ≡ unwrap_or o 0 → is_within (length (ids_of_column i)) o ≡ true → nat_lt k (length (ids_of_column i)) ≡ true
+    within : (o : Option ℕ) → k ≡ unwrap_or o 0 → is_number_within (length (ids_of_column i)) o ≡ true → nat_lt k (length (ids_of_column i)) ≡ true
     within None number h = ap (λ k. nat_lt k (length (ids_of_column i))) number ∙ some
     within (Some m) number h = ap (λ k. nat_lt k (length (ids_of_column i))) number ∙ h
 
@@ -221,7 +221,7 @@ first_within i t k number some = within (number_with i t) number (number_within 
 rows_ids : (d : Dataset) (x : File) (column : List ℕ) → nat_lt 0 (length (rows d x)) ≡ true → nat_lt 0 (length (ids_of_column (first_rows d x column))) ≡ true
 rows_ids d x column some = from (rows d x) refl some
   where
-    some_within : (k : ℕ) (o : Option ℕ) → is_some o ≡ true → is_within k o ≡ true → nat_lt 0 k ≡ true
+    some_within : (k : ℕ) (o : Option ℕ) → is_some o ≡ true → is_number_within k o ≡ true → nat_lt 0 k ≡ true
     some_within k None has within = cc has
     some_within k (Some m) has within = grind (arith, nat_tests, within)
 
@@ -242,10 +242,10 @@ agency_within d passes i t k same number =
     first_within j t k (same_number (λ o. unwrap_or o 0) i j t t k same refl number) (rows_ids d file.Agency (codes "agency_id") (has_agency d passes))
 
 pub end_within : (d : Dataset) (y : File) (target : Literal) (i : FirstRows) (t : List ℕ) (o : Option ℕ) → i ≡ first_rows d y (codes target) → o ≡ number_with i t
-    → is_within (length (ids_of d y target)) o ≡ true
+    → is_number_within (length (ids_of d y target)) o ≡ true
 end_within d y target i t o same number =
     let j = first_rows d y (codes target) in
-    ap (is_within (length (ids_of_column j))) (same_number (λ o. o) i j t t o same refl number) ∙ number_within j t
+    ap (is_number_within (length (ids_of_column j))) (same_number (λ o. o) i j t t o same refl number) ∙ number_within j t
 
 -- ---- references that are always there
 
@@ -285,7 +285,7 @@ module _ (d : Dataset) (passes : Passes d) (n : ℕ) (row : is_row (records_in d
       known_within (number_with route_ids route_there) (same_number (λ o. unwrap_or o 0) i route_ids t route_there k same is number)
       (number_there route_ids route_there (route_known route_filled)) (number_within route_ids route_there)
     where
-      known_within : {k : ℕ} (o : Option ℕ) → k ≡ unwrap_or o 0 → is_some o ≡ true → is_within (length (ids_of_column route_ids)) o ≡ true
+      known_within : {k : ℕ} (o : Option ℕ) → k ≡ unwrap_or o 0 → is_some o ≡ true → is_number_within (length (ids_of_column route_ids)) o ≡ true
           → nat_lt k (length (ids_of_column route_ids)) ≡ true
       known_within None number has within = cc has
       known_within (Some m) number has within = ap (λ k. nat_lt k (length (ids_of_column route_ids))) number ∙ within

@@ -15,7 +15,7 @@ use Rattle.gtfs_trip_rules.specs.declared.trips.row.StopTime.{StopTime}
 use Rattle.gtfs_rules.specs.StopTimes.{SaysStopTime}
 use Rattle.gtfs_rules.proofs.PassedRows.{stop_is}
 use Rattle.gtfs_rows.specs.Reading.{content_of, stop_row_in}
-use Rattle.gtfs_rows.specs.Views.{is_within, text_of_number}
+use Rattle.gtfs_rows.specs.Views.{is_number_within, text_of_number}
 use Rattle.gtfs_stop_times.specs.declared.stop_row.StopRow.{StopRow}
 use Rattle.gtfs_rows.specs.Headsigns.{KeepsHeadsigns, NamesHeadsign}
 use Rattle.gtfs_reading.specs.StopTimeLists.{content_stop_ids}
@@ -34,7 +34,7 @@ headsign-is ts None w names = sym names
 headsign-is ts (Some k) None names = absurd names
 headsign-is ts (Some k) (Some t) names = ap Some (get_or_from_slice_get ts k t [] names)
 
-headsign-within : (ts : List (List ℕ)) (h : Option ℕ) (w : Option (List ℕ)) → NamesHeadsign ts h w → is_within (length ts) h ≡ true
+headsign-within : (ts : List (List ℕ)) (h : Option ℕ) (w : Option (List ℕ)) → NamesHeadsign ts h w → is_number_within (length ts) h ≡ true
 headsign-within ts None w names = refl
 headsign-within ts (Some k) None names = absurd names
 headsign-within ts (Some k) (Some t) names = below-true k (length ts) (slice_get_within ts k t names)
@@ -68,7 +68,7 @@ module _ (d : Dataset) (passes : Passes d) (s : StopTime) (says : SaysStopTime d
     }
 
     pub row_below : has_numbers_below (length (content_of d).stops) (length ts) (with_headsign_at s h) ≡ true
-    row_below = and_both (nat_lt s.stop_row.stop_id.0 (length (content_of d).stops)) (is_within (length ts) h)
+    row_below = and_both (nat_lt s.stop_row.stop_id.0 (length (content_of d).stops)) (is_number_within (length ts) h)
         (below-true s.stop_row.stop_id.0 (length (content_of d).stops) stop-below)
         (headsign-within ts h (word_in d file.StopTimes s.row "stop_headsign") names)
 
@@ -78,16 +78,16 @@ module _ (stop_ids : List (List ℕ)) (stops : ℕ) (old new : List (List ℕ)) 
   same-text : (k : ℕ) → nat_lt k (length old) ≡ true → slice_get new k ≡ Some (get_or old k [])
   same-text k within = kept k (get_or old k []) (slice_get-get_or old k [] (ltb-true k (length old) within))
 
-  kept-headsign : (h : Option ℕ) → is_within (length old) h ≡ true → option_map (text_of_number old) h ≡ option_map (text_of_number new) h
+  kept-headsign : (h : Option ℕ) → is_number_within (length old) h ≡ true → option_map (text_of_number old) h ≡ option_map (text_of_number new) h
   kept-headsign None within = refl
   kept-headsign (Some k) within = ap Some (sym (get_or_from_slice_get new k (get_or old k []) [] (same-text k within)))
 
-  kept-within : (h : Option ℕ) → is_within (length old) h ≡ true → is_within (length new) h ≡ true
+  kept-within : (h : Option ℕ) → is_number_within (length old) h ≡ true → is_number_within (length new) h ≡ true
   kept-within None within = refl
   kept-within (Some k) within = below-true k (length new) (slice_get_within new k (get_or old k []) (same-text k within))
 
-  row-parts : (r : StopRow) → has_numbers_below stops (length old) r ≡ true → (nat_lt r.stop_id.0 stops ≡ true) × (is_within (length old) r.stop_headsign ≡ true)
-  row-parts r below = and_parts (nat_lt r.stop_id.0 stops) (is_within (length old) r.stop_headsign) below
+  row-parts : (r : StopRow) → has_numbers_below stops (length old) r ≡ true → (nat_lt r.stop_id.0 stops ≡ true) × (is_number_within (length old) r.stop_headsign ≡ true)
+  row-parts r below = and_parts (nat_lt r.stop_id.0 stops) (is_number_within (length old) r.stop_headsign) below
 
   kept-row : (r : StopRow) → has_numbers_below stops (length old) r ≡ true → stop_row_named stop_ids old r ≡ stop_row_named stop_ids new r
   kept-row r below = λ i. record (stop_row_named stop_ids old r) { stop_headsign = kept-headsign r.stop_headsign (row-parts r below).1 i }
@@ -104,4 +104,4 @@ module _ (stop_ids : List (List ℕ)) (stops : ℕ) (old new : List (List ℕ)) 
       let both = and_parts (has_numbers_below stops (length old) r) (list_all (has_numbers_below stops (length old)) rs) below in
       let row = row-parts r both.0 in
       and_both (has_numbers_below stops (length new) r) (list_all (has_numbers_below stops (length new)) rs)
-      (and_both (nat_lt r.stop_id.0 stops) (is_within (length new) r.stop_headsign) row.0 (kept-within r.stop_headsign row.1)) (numbers_kept rs both.1)
+      (and_both (nat_lt r.stop_id.0 stops) (is_number_within (length new) r.stop_headsign) row.0 (kept-within r.stop_headsign row.1)) (numbers_kept rs both.1)

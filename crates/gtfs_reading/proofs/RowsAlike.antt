@@ -13,7 +13,7 @@ use Rattle.gtfs_columns.specs.Columns.{id, optional, required}
 use Rattle.gtfs_columns.specs.Problems.{Passes}
 use Rattle.gtfs_columns.specs.steps.Ids.{FirstRows, ids_of as ids_of_column}
 use Rattle.gtfs_rows.specs.Reading.{agency_in, content_of, route_in, service_row_in, services_named, stop_in, trip_in}
-use Rattle.gtfs_rows.specs.Views.{agency_of, frequency_of, is_within, service_of}
+use Rattle.gtfs_rows.specs.Views.{agency_of, frequency_of, is_number_within, service_of}
 use Rattle.gtfs_reading.specs.declared.feed_rows.FeedRows.{FeedRows}
 use Rattle.gtfs_reading.specs.Cuts.{IsCutInto}
 use Rattle.gtfs_reading.specs.FeedRows.{AreRowsOf, NumbersWithin}
@@ -100,12 +100,12 @@ module _ (d : Dataset) (passes : Passes d) (r : FeedRows) (are : AreLists d r) w
 
   numbers_within : NumbersWithin r
   numbers_within = record {
-    stops = sym (ap (λ k. list_all (λ s. is_within k (option_map (λ n. n.0) s.parent_station)) r.stops) stop_count) ∙ are.parents;
+    stops = sym (ap (λ k. list_all (λ s. is_number_within k (option_map (λ n. n.0) s.parent_station)) r.stops) stop_count) ∙ are.parents;
     routes = sym (ap (λ k. list_all (λ x. nat_lt x.agency_id.0 k) r.routes) agency_count) ∙ are.agency_numbers;
     trips = sym (λ i. list_all (λ t. nat_lt t.route_id.0 (route_count i) && nat_lt t.service_id.0 (service_count i)) r.trips) ∙ are.trip_numbers;
-    transfers = sym (λ i. list_all (λ t. is_within (stop_count i) (option_map (λ n. n.0) t.from_stop_id) && is_within (stop_count i) (option_map (λ n. n.0) t.to_stop_id)
-        && is_within (route_count i) (option_map (λ n. n.0) t.from_route_id) && is_within (route_count i) (option_map (λ n. n.0) t.to_route_id)
-        && is_within (trip_count i) (option_map (λ n. n.0) t.from_trip_id) && is_within (trip_count i) (option_map (λ n. n.0) t.to_trip_id)) r.transfers) ∙ are.ends;
+    transfers = sym (λ i. list_all (λ t. is_number_within (stop_count i) (option_map (λ n. n.0) t.from_stop_id) && is_number_within (stop_count i) (option_map (λ n. n.0) t.to_stop_id)
+        && is_number_within (route_count i) (option_map (λ n. n.0) t.from_route_id) && is_number_within (route_count i) (option_map (λ n. n.0) t.to_route_id)
+        && is_number_within (trip_count i) (option_map (λ n. n.0) t.from_trip_id) && is_number_within (trip_count i) (option_map (λ n. n.0) t.to_trip_id)) r.transfers) ∙ are.ends;
   }
 
   pub rows_alike : AreRowsOf d r

@@ -34,7 +34,7 @@ use Rattle.gtfs_rows.specs.declared.transfer.Transfer.{Transfer as TransferRow}
 use Rattle.gtfs_rows.specs.Order.{Ascends, by_key, transfer_key, transfer_key_cmp}
 use Rattle.gtfs_rows.specs.Reading.{transfer_in}
 use Rattle.gtfs_rows.specs.Rows.{Transfer}
-use Rattle.gtfs_rows.specs.Views.{is_within, text_of_number}
+use Rattle.gtfs_rows.specs.Views.{is_number_within, text_of_number}
 use Rattle.gtfs_rows.proofs.ContentAgain.{transfer_antisymmetric, transfer_total}
 use Rattle.gtfs_rows.proofs.RowTexts.{all_at}
 use Rattle.gtfs_rows.proofs.SameElements.{pairs-map}
@@ -88,7 +88,7 @@ module _ (ids : List (List ℕ)) (up : Ascends text_cmp ids) where
     ]
   ]
 
-  part_order : (o p : Option ℕ) → is_within (length ids) o ≡ true → is_within (length ids) p ≡ true
+  part_order : (o p : Option ℕ) → is_number_within (length ids) o ≡ true → is_number_within (length ids) p ≡ true
       → option_cmp nat_cmp o p ≡ option_cmp text_cmp (option_map named o) (option_map named p)
   part_order None None g h = refl
   part_order None (Some n) g h = refl
@@ -96,7 +96,7 @@ module _ (ids : List (List ℕ)) (up : Ascends text_cmp ids) where
   part_order (Some m) (Some n) g h = number_order m n (within_is (length ids) m g) (within_is (length ids) n h)
 
   -- of numbers in their types
-  pub end_order : {N : Type 0} (number : N → ℕ) (o p : Option N) → is_within (length ids) (option_map number o) ≡ true → is_within (length ids) (option_map number p) ≡ true
+  pub end_order : {N : Type 0} (number : N → ℕ) (o p : Option N) → is_number_within (length ids) (option_map number o) ≡ true → is_number_within (length ids) (option_map number p) ≡ true
       → option_cmp nat_cmp (option_map number o) (option_map number p)
       ≡ option_cmp text_cmp (option_map (λ n. named (number n)) o) (option_map (λ n. named (number n)) p)
   end_order number o p g h =

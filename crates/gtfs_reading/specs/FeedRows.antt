@@ -5,7 +5,7 @@ use Rattle.gtfs_table.specs.Parts.{parts}
 use Rattle.gtfs_table.specs.Tables.{Dataset}
 use Rattle.gtfs_rows.specs.declared.parts.Parts.{Parts}
 use Rattle.gtfs_rows.specs.Reading.{content_of}
-use Rattle.gtfs_rows.specs.Views.{agency_of, frequency_of, is_within, service_of}
+use Rattle.gtfs_rows.specs.Views.{agency_of, frequency_of, is_number_within, service_of}
 use Rattle.gtfs_reading.specs.declared.feed_rows.FeedRows.{FeedRows}
 use Rattle.gtfs_reading.specs.Cuts.{IsCutInto}
 use Rattle.gtfs_rows.specs.NamedRows.{route_named, stop_named, trip_named, without_rows}
@@ -13,12 +13,12 @@ use Rattle.gtfs_rows.specs.TransferEnds.{transfer_named}
 
 -- each number is that of a row in its list
 pub record NumbersWithin (r : FeedRows) : Type 0 where
-  pub stops : list_all (λ s. is_within (length r.stops) (option_map (λ n. n.0) s.parent_station)) r.stops ≡ true
+  pub stops : list_all (λ s. is_number_within (length r.stops) (option_map (λ n. n.0) s.parent_station)) r.stops ≡ true
   pub routes : list_all (λ x. nat_lt x.agency_id.0 (length r.agencies)) r.routes ≡ true
   pub trips : list_all (λ t. nat_lt t.route_id.0 (length r.routes) && nat_lt t.service_id.0 (length r.services)) r.trips ≡ true
-  pub transfers : list_all (λ t. is_within (length r.stops) (option_map (λ n. n.0) t.from_stop_id) && is_within (length r.stops) (option_map (λ n. n.0) t.to_stop_id)
-      && is_within (length r.routes) (option_map (λ n. n.0) t.from_route_id) && is_within (length r.routes) (option_map (λ n. n.0) t.to_route_id)
-      && is_within (length r.trips) (option_map (λ n. n.0) t.from_trip_id) && is_within (length r.trips) (option_map (λ n. n.0) t.to_trip_id)) r.transfers ≡ true
+  pub transfers : list_all (λ t. is_number_within (length r.stops) (option_map (λ n. n.0) t.from_stop_id) && is_number_within (length r.stops) (option_map (λ n. n.0) t.to_stop_id)
+      && is_number_within (length r.routes) (option_map (λ n. n.0) t.from_route_id) && is_number_within (length r.routes) (option_map (λ n. n.0) t.to_route_id)
+      && is_number_within (length r.trips) (option_map (λ n. n.0) t.from_trip_id) && is_number_within (length r.trips) (option_map (λ n. n.0) t.to_trip_id)) r.transfers ≡ true
 
 -- with ids in place of numbers the rows are those of the dataset's content; trips without their stop times
 pub record AreRowsOf (d : Dataset) (r : FeedRows) : Type 0 where

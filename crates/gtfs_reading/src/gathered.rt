@@ -16,9 +16,11 @@ use crate::stop_times::StopTimes;
 use gtfs_field::{List, OutOfMemory};
 use gtfs_rows::StopRow;
 use gtfs_rules::{KeptStopTimes, StopTime};
+use gtfs_stop_times::room_for;
 use gtfs_table::{File, Tables};
 use std::alloc::Global;
 use std::hash::RandomState;
+use std::mem::size_of;
 
 // The stop times so far.
 #[derive(Drop)]
@@ -44,7 +46,7 @@ impl Gathered {
     {
         Ok(Gathered {
             trips,
-            rows: Vec::with_capacity(alloc, rows)?,
+            rows: Vec::with_capacity(alloc, room_for(rows, size_of::<StopRow>()))?,
             starts: Vec::with_capacity(alloc, trips)?,
             headsigns: Headsigns::new(alloc, random),
         })

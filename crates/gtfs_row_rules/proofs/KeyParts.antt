@@ -8,7 +8,7 @@ use Rattle.gtfs_field.specs.declared.fault.FieldFault.{FieldFault}
 use Rattle.gtfs_columns.specs.Columns.{date, id, time}
 use Rattle.gtfs_columns.specs.KeyRules.{all_there}
 use Rattle.gtfs_columns.specs.Reads.{amount_of, word_of}
-use Rattle.gtfs_columns.specs.Values.{word, amount, as_amount, as_word, counted, has_control, measured, readable}
+use Rattle.gtfs_columns.specs.Values.{word, amount, as_amount, as_word, value_of_count, has_control, measured, readable}
 use Rattle.gtfs_table.specs.Rows.{is_empty}
 use Rattle.gtfs_row_rules.specs.KeyView.{kind_of_number, numbered_key}
 use Rattle.gtfs_row_rules.specs.declared.keys.Number.{Number}
@@ -21,7 +21,7 @@ id_back true is_clean t = refl
 id_back false true t = refl
 id_back false false t = refl
 
-counted_back : (empty : Bool) (r : Result ℕ FieldFault) → let v = if empty then None else result_ok (counted r) in option_map amount (option_and_then as_amount v) ≡ v
+counted_back : (empty : Bool) (r : Result ℕ FieldFault) → let v = if empty then None else result_ok (value_of_count r) in option_map amount (option_and_then as_amount v) ≡ v
 counted_back true r = refl
 counted_back false (Ok n) = refl
 counted_back false (Err e) = refl

@@ -17,7 +17,7 @@ use Rattle.gtfs_table.specs.Blanks.{cut}
 use Rattle.gtfs_table.specs.Rows.{is_empty}
 use Rattle.gtfs_table.proofs.BlankFacts.{no_text as empty-is}
 use Rattle.gtfs_columns.specs.Columns.{Kind, id, text, count, choice, time, date, colour, coordinate}
-use Rattle.gtfs_columns.specs.Values.{Value, word, amount, read_as, readable, has_control, counted, measured, one_of}
+use Rattle.gtfs_columns.specs.Values.{Value, word, amount, read_as, readable, has_control, value_of_count, measured, one_of}
 use Rattle.gtfs_columns.proofs.SiteFacts.{text_is}
 use Rattle.gtfs_columns.proofs.PlainTexts.{plain-itself as plain-clean}
 use Rattle.gtfs_rows.specs.Cells.{is_clean, is_filled, is_between, is_of_kind, text_of}
@@ -89,8 +89,8 @@ filled_parts t h =
     let clean = and_parts (bytes_eq (cut t) t) (not (has_control t)) parts.0 in
     record { cut = text_is (cut t) t clean.0; clean = not-true (has_control t) clean.1; filled = not-true (is_empty t) parts.1 }
 
-counted-ok : {r : Result ℕ FieldFault} (x : ℤ) → r ≡ Ok (unsigned_abs x) → pos (unsigned_abs x) ≡ x → counted r ≡ Ok (amount x)
-counted-ok x e same = ap counted e ∙ ap (λ n. Ok (amount n)) same
+value_of_count-ok : {r : Result ℕ FieldFault} (x : ℤ) → r ≡ Ok (unsigned_abs x) → pos (unsigned_abs x) ≡ x → value_of_count r ≡ Ok (amount x)
+value_of_count-ok x e same = ap value_of_count e ∙ ap (λ n. Ok (amount n)) same
 
 most-degrees : (axis : Axis) → most_degrees axis * 10 ^ 9 ≤ 180_000_000_000
 most-degrees Latitude = omega arith
@@ -113,21 +113,21 @@ writes_value id (amount x) h = cc
 writes_value text (amount x) h = cc
 writes_value count (amount x) h =
     let n = natural_between 2_147_483_647 x h in
-    writes count (amount x) (count_text (unsigned_abs x)) h (visible-count (unsigned_abs x) (omega (arith, n.below))) (counted-ok x (count_of-text (unsigned_abs x) n.below) n.same)
+    writes count (amount x) (count_text (unsigned_abs x)) h (visible-count (unsigned_abs x) (omega (arith, n.below))) (value_of_count-ok x (count_of-text (unsigned_abs x) n.below) n.same)
 writes_value (choice ranges) (amount x) h =
     let parts = and_parts (is_between (pos 0) (pos 2_147_483_647) x) (is_in_ranges ranges (unsigned_abs x)) h in
     let n = natural_between 2_147_483_647 x parts.0 in
     let read : one_of ranges (count_of (count_text (unsigned_abs x))) ≡ Ok (unsigned_abs x) = ap (one_of ranges) (count_of-text (unsigned_abs x) n.below) ∙ (rw parts.1 refl) in
-    writes (choice ranges) (amount x) (count_text (unsigned_abs x)) h (visible-count (unsigned_abs x) (omega (arith, n.below))) (counted-ok x read n.same)
+    writes (choice ranges) (amount x) (count_text (unsigned_abs x)) h (visible-count (unsigned_abs x) (omega (arith, n.below))) (value_of_count-ok x read n.same)
 writes_value time (amount x) h =
     let n = natural_between 3_599_999 x h in
-    writes time (amount x) (time_text (unsigned_abs x)) h (visible-time (unsigned_abs x) n.below) (counted-ok x (time_of-text (unsigned_abs x) n.below) n.same)
+    writes time (amount x) (time_text (unsigned_abs x)) h (visible-time (unsigned_abs x) n.below) (value_of_count-ok x (time_of-text (unsigned_abs x) n.below) n.same)
 writes_value date (amount x) h =
     let bounds = signed_bounds (negsuc 25_566) (pos 2_932_896) x h in
     writes date (amount x) (date_text x) h (visible-date x) (ap measured (date_of-text x bounds.0 bounds.1))
 writes_value colour (amount x) h =
     let n = natural_between 16_777_215 x h in
-    writes colour (amount x) (colour_text (unsigned_abs x)) h (visible-colour (unsigned_abs x)) (counted-ok x (colour_of-text (unsigned_abs x) n.below) n.same)
+    writes colour (amount x) (colour_text (unsigned_abs x)) h (visible-colour (unsigned_abs x)) (value_of_count-ok x (colour_of-text (unsigned_abs x) n.below) n.same)
 writes_value (coordinate axis) (amount x) h =
     let inside = leb-true (unsigned_abs x) (most_degrees axis * 10 ^ 9) h in
     let most : unsigned_abs x ≤ 180_000_000_000 = omega (arith, inside, most-degrees axis) in

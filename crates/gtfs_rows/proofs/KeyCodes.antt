@@ -20,7 +20,7 @@ use Rattle.gtfs_columns.proofs.EachFacts.{none_in_range}
 use Rattle.gtfs_columns.proofs.SiteFacts.{text_is, text_itself}
 use Rattle.gtfs_rows.specs.Cells.{Cell, are_cells}
 use Rattle.gtfs_rows.specs.Content.{Content}
-use Rattle.gtfs_rows.specs.RowCells.{cells_in, number, id_cell, week_list, agency_cells, stop_cells, route_cells, trip_cells, stop_time_cells, week_cells, exception_cells, frequency_cells, stop_times_of, weeks_of, exceptions_of, frequencies_of}
+use Rattle.gtfs_rows.specs.RowCells.{cells_in, value_of_number, id_cell, week_list, agency_cells, stop_cells, route_cells, trip_cells, stop_time_cells, week_cells, exception_cells, frequency_cells, stop_times_of, weeks_of, exceptions_of, frequencies_of}
 use Rattle.gtfs_rows.specs.Sound.{IsSound}
 use Rattle.gtfs_rows.specs.Written.{written_beside}
 use Rattle.gtfs_rows.proofs.FileRows.{row_index}
@@ -119,13 +119,13 @@ module _ (others : List (List ℕ)) (c : Content) (sound : IsSound c) where
   -- ---- keys of held rows
 
   pub no_stop_time_twice : (n : ℕ) (name : List ℕ) → key_twice (written_beside others c) file.StopTimes n name ≡ false
-  no_stop_time_twice = no_repeat others c file.StopTimes (stop_times_of c) stop_time_cells refl (sound.cells file.StopTimes) (λ p. Some (word p.0 ∷ number p.1.stop_sequence ∷ []))
+  no_stop_time_twice = no_repeat others c file.StopTimes (stop_times_of c) stop_time_cells refl (sound.cells file.StopTimes) (λ p. Some (word p.0 ∷ value_of_number p.1.stop_sequence ∷ []))
       (λ k e h i. all_there (value_at others c file.StopTimes (stop_times_of c) stop_time_cells refl (sound.cells file.StopTimes) k e h (codes "trip_id") refl i
       ∷ value_at others c file.StopTimes (stop_times_of c) stop_time_cells refl (sound.cells file.StopTimes) k e h (codes "stop_sequence") refl i ∷ []))
       (λ i j d h l. let a = get_or (stop_times_of c) i d in let b = get_or (stop_times_of c) j d in two_parts a.0 b.0 (int_eq (pos b.1.stop_sequence) (pos a.1.stop_sequence)) (λ e. number_apart a.1.stop_sequence b.1.stop_sequence (held_pairs (λ t. t.trip_id) (λ t. t.stop_rows) (λ r s. nat_cmp r.stop_sequence s.stop_sequence ≡ Less) c.trips sound.in_order.trips sound.in_order.stop_rows i j d h l e)))
 
   pub no_frequency_twice : (n : ℕ) (name : List ℕ) → key_twice (written_beside others c) file.Frequencies n name ≡ false
-  no_frequency_twice = no_repeat others c file.Frequencies (frequencies_of c) frequency_cells refl (sound.cells file.Frequencies) (λ p. Some (word p.0 ∷ number p.1.start_time ∷ []))
+  no_frequency_twice = no_repeat others c file.Frequencies (frequencies_of c) frequency_cells refl (sound.cells file.Frequencies) (λ p. Some (word p.0 ∷ value_of_number p.1.start_time ∷ []))
       (λ k e h i. all_there (value_at others c file.Frequencies (frequencies_of c) frequency_cells refl (sound.cells file.Frequencies) k e h (codes "trip_id") refl i
       ∷ value_at others c file.Frequencies (frequencies_of c) frequency_cells refl (sound.cells file.Frequencies) k e h (codes "start_time") refl i ∷ []))
       (λ i j d h l. let a = get_or (frequencies_of c) i d in let b = get_or (frequencies_of c) j d in two_parts a.0 b.0 (int_eq (pos b.1.start_time) (pos a.1.start_time)) (λ e. number_apart a.1.start_time b.1.start_time (held_pairs (λ t. t.trip_id) (λ t. t.frequencies) (λ r s. nat_cmp r.start_time s.start_time ≡ Less) c.trips sound.in_order.trips sound.in_order.frequencies i j d h l e)))

@@ -6,7 +6,7 @@ use Rattle.std.proofs.lemmas.Bool.{and_parts}
 use Rattle.gtfs_columns.specs.Columns.{Kind, id, text, count, choice, time, date, colour, coordinate, optional}
 use Rattle.gtfs_columns.specs.Values.{Value, word, amount, as_word, as_amount}
 use Rattle.gtfs_rows.specs.Cells.{is_between, is_of_kind, is_cell}
-use Rattle.gtfs_rows.specs.RowCells.{number}
+use Rattle.gtfs_rows.specs.RowCells.{value_of_number}
 use Rattle.gtfs_rows.proofs.CellTexts.{natural_between}
 
 -- the values of the kind are texts
@@ -42,7 +42,7 @@ pub record HasWord (k : Kind) (o : Option Value) : Type 0 where
 
 pub record HasNumber (k : Kind) (o : Option Value) : Type 0 where
   pub number_of : ℕ
-  pub reads : Reads k o (number number_of)
+  pub reads : Reads k o (value_of_number number_of)
 
 pub record HasAmount (k : Kind) (o : Option Value) : Type 0 where
   pub amount_of : ℤ
@@ -122,7 +122,7 @@ module _ (k : Kind) where
   amounts_back numbers (Some (word t)) fits = absurd (no_word k t numbers (fits (word t) refl))
   amounts_back numbers (Some (amount x)) fits = refl
 
-  pub numbers_back : is_natural k ≡ true → (o : Option Value) → Fits k o → option_map number (option_map unsigned_abs (option_and_then as_amount o)) ≡ o
+  pub numbers_back : is_natural k ≡ true → (o : Option Value) → Fits k o → option_map value_of_number (option_map unsigned_abs (option_and_then as_amount o)) ≡ o
   numbers_back natural None fits = refl
   numbers_back natural (Some (word t)) fits = absurd (no_word k t (natural_numbers k natural) (fits (word t) refl))
   numbers_back natural (Some (amount x)) fits = ap (λ y. Some (amount y)) (natural_of k x natural (fits (amount x) refl))

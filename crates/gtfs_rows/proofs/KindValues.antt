@@ -20,7 +20,7 @@ use Rattle.gtfs_field.proofs.Dates.{day_number-low}
 use Rattle.gtfs_field.proofs.Numerals.{numerals}
 use Rattle.gtfs_table.specs.Rows.{is_empty}
 use Rattle.gtfs_columns.specs.Columns.{Kind, id, text, count, choice, time, date, colour, coordinate}
-use Rattle.gtfs_columns.specs.Values.{Value, word, amount, read_as, readable, has_control, plain, counted, measured, one_of}
+use Rattle.gtfs_columns.specs.Values.{Value, word, amount, read_as, readable, has_control, plain, value_of_count, measured, one_of}
 use Rattle.gtfs_rows.specs.Cells.{is_between, is_of_kind}
 use Rattle.gtfs_rows.proofs.CutTexts.{IsCut, id_filled, text_filled}
 
@@ -66,7 +66,7 @@ record IsCounted (r : Result ℕ FieldFault) (v : Value) : Type 0 where
   read : r ≡ Ok value
   same : amount (pos value) ≡ v
 
-counted_ok : (r : Result ℕ FieldFault) (v : Value) → counted r ≡ Ok v → IsCounted r v
+counted_ok : (r : Result ℕ FieldFault) (v : Value) → value_of_count r ≡ Ok v → IsCounted r v
 counted_ok (Ok n) v e = record { value = n; read = refl; same = ok_same (amount (pos n)) v e }
 counted_ok (Err f) v e = cc
 

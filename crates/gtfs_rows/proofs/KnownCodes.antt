@@ -12,7 +12,7 @@ use Rattle.gtfs_table.specs.Rows.{is_row, records_in, is_empty}
 use Rattle.gtfs_table.proofs.BlankFacts.{no_text}
 use Rattle.gtfs_columns.specs.Columns.{columns_of, id}
 use Rattle.gtfs_columns.specs.KeyRules.{is_known, unknown_reference}
-use Rattle.gtfs_columns.specs.References.{stop_ids, route_ids, trip_ids}
+use Rattle.gtfs_columns.specs.References.{stop_targets, route_targets, trip_targets}
 use Rattle.gtfs_columns.specs.Rows.{is_file, text_in, value_in, row_with}
 use Rattle.gtfs_columns.specs.Values.{word}
 use Rattle.gtfs_columns.proofs.SiteFacts.{text_itself}
@@ -97,22 +97,22 @@ module _ (others : List (List ℕ)) (c : Content) (sound : IsSound c) where
       ]
 
   -- the trip of a held row
-  trip_known : (q : List ℕ) (k : ℕ) (d : Trip) → k < length c.trips → q ≡ (get_or c.trips k d).trip_id → is_known (written_beside others c) trip_ids q ≡ true
+  trip_known : (q : List ℕ) (k : ℕ) (d : Trip) → k < length c.trips → q ≡ (get_or c.trips k d).trip_id → is_known (written_beside others c) trip_targets q ≡ true
   trip_known q k d within named =
       trip_is_known others c sound q (any_at (λ t. bytes_eq t.trip_id q) c.trips k d within (ap (λ u. bytes_eq u q) (sym named) ∙ text_itself q))
 
   -- ---- what the rows name
 
-  parent_known : (k : ℕ) (e : Stop) → k < length c.stops → if_given (get_or c.stops k e).parent_station (is_known (written_beside others c) stop_ids) ≡ true
+  parent_known : (k : ℕ) (e : Stop) → k < length c.stops → if_given (get_or c.stops k e).parent_station (is_known (written_beside others c) stop_targets) ≡ true
   parent_known k e h =
       let s = get_or c.stops k e in
       of_parent s.location_type s.parent_station (and_parts (_ || has_name_and_position s) (has_right_parent c s.location_type s.parent_station) (all_at (is_sound_stop c) c.stops k e sound.stops h)).1
     where
-      of_parent : (type : ℕ) (o : Option (List ℕ)) → has_right_parent c type o ≡ true → if_given o (is_known (written_beside others c) stop_ids) ≡ true
+      of_parent : (type : ℕ) (o : Option (List ℕ)) → has_right_parent c type o ≡ true → if_given o (is_known (written_beside others c) stop_targets) ≡ true
       of_parent type None fine = refl
       of_parent type (Some p) fine = stop_is_known others c sound ((if type == 4 then 0 else 1) ∷ []) p (and_parts (not (type == 1)) (is_stop_of c ((if type == 4 then 0 else 1) ∷ []) p) fine).1
 
-  platform_known : (k : ℕ) (e : List ℕ × StopRow) → k < length (stop_times_of c) → is_known (written_beside others c) stop_ids (get_or (stop_times_of c) k e).1.stop_id ≡ true
+  platform_known : (k : ℕ) (e : List ℕ × StopRow) → k < length (stop_times_of c) → is_known (written_beside others c) stop_targets (get_or (stop_times_of c) k e).1.stop_id ≡ true
   platform_known k e h =
       let r = (get_or (stop_times_of c) k e).1 in
       let s = stop_time others c sound k e h in
@@ -139,12 +139,12 @@ module _ (others : List (List ℕ)) (c : Content) (sound : IsSound c) where
 
   -- what a transfer names
   record Names (t : Transfer) : Type 0 where
-    from_stop : if_given t.from_stop_id (is_known (written_beside others c) stop_ids) ≡ true
-    to_stop : if_given t.to_stop_id (is_known (written_beside others c) stop_ids) ≡ true
-    from_route : if_given t.from_route_id (is_known (written_beside others c) route_ids) ≡ true
-    to_route : if_given t.to_route_id (is_known (written_beside others c) route_ids) ≡ true
-    from_trip : if_given t.from_trip_id (is_known (written_beside others c) trip_ids) ≡ true
-    to_trip : if_given t.to_trip_id (is_known (written_beside others c) trip_ids) ≡ true
+    from_stop : if_given t.from_stop_id (is_known (written_beside others c) stop_targets) ≡ true
+    to_stop : if_given t.to_stop_id (is_known (written_beside others c) stop_targets) ≡ true
+    from_route : if_given t.from_route_id (is_known (written_beside others c) route_targets) ≡ true
+    to_route : if_given t.to_route_id (is_known (written_beside others c) route_targets) ≡ true
+    from_trip : if_given t.from_trip_id (is_known (written_beside others c) trip_targets) ≡ true
+    to_trip : if_given t.to_trip_id (is_known (written_beside others c) trip_targets) ≡ true
 
   transfer_names : (k : ℕ) (e : Transfer) → k < length c.transfers → Names (get_or c.transfers k e)
   transfer_names k e h =
@@ -156,12 +156,12 @@ module _ (others : List (List ℕ)) (c : Content) (sound : IsSound c) where
       let g = and_parts _ (if_given t.from_route_id (has_id (λ r. r.route_id) c.routes)) f.0 in
       let i = and_parts (if_given t.from_stop_id (is_stop_of c (0 ∷ 1 ∷ []))) (if_given t.to_stop_id (is_stop_of c (0 ∷ 1 ∷ []))) g.0 in
       record {
-        from_stop = given_more t.from_stop_id (is_stop_of c (0 ∷ 1 ∷ [])) (is_known (written_beside others c) stop_ids) (stop_is_known others c sound (0 ∷ 1 ∷ [])) i.0;
-        to_stop = given_more t.to_stop_id (is_stop_of c (0 ∷ 1 ∷ [])) (is_known (written_beside others c) stop_ids) (stop_is_known others c sound (0 ∷ 1 ∷ [])) i.1;
-        from_route = given_more t.from_route_id (has_id (λ r. r.route_id) c.routes) (is_known (written_beside others c) route_ids) (route_is_known others c sound) g.1;
-        to_route = given_more t.to_route_id (has_id (λ r. r.route_id) c.routes) (is_known (written_beside others c) route_ids) (route_is_known others c sound) f.1;
-        from_trip = given_more t.from_trip_id (has_id (λ r. r.trip_id) c.trips) (is_known (written_beside others c) trip_ids) (trip_is_known others c sound) d.1;
-        to_trip = given_more t.to_trip_id (has_id (λ r. r.trip_id) c.trips) (is_known (written_beside others c) trip_ids) (trip_is_known others c sound) b.1;
+        from_stop = given_more t.from_stop_id (is_stop_of c (0 ∷ 1 ∷ [])) (is_known (written_beside others c) stop_targets) (stop_is_known others c sound (0 ∷ 1 ∷ [])) i.0;
+        to_stop = given_more t.to_stop_id (is_stop_of c (0 ∷ 1 ∷ [])) (is_known (written_beside others c) stop_targets) (stop_is_known others c sound (0 ∷ 1 ∷ [])) i.1;
+        from_route = given_more t.from_route_id (has_id (λ r. r.route_id) c.routes) (is_known (written_beside others c) route_targets) (route_is_known others c sound) g.1;
+        to_route = given_more t.to_route_id (has_id (λ r. r.route_id) c.routes) (is_known (written_beside others c) route_targets) (route_is_known others c sound) f.1;
+        from_trip = given_more t.from_trip_id (has_id (λ r. r.trip_id) c.trips) (is_known (written_beside others c) trip_targets) (trip_is_known others c sound) d.1;
+        to_trip = given_more t.to_trip_id (has_id (λ r. r.trip_id) c.trips) (is_known (written_beside others c) trip_targets) (trip_is_known others c sound) b.1;
       }
 
   -- ---- the thirteen references
@@ -180,22 +180,22 @@ module _ (others : List (List ℕ)) (c : Content) (sound : IsSound c) where
       elim (cases_Bool there) [
         | inr none ↦ and_left there _ none
         | inl some ↦ and_right there _
-            (or_from _ _ (reference_ok others c file.Stops c.stops stop_cells refl (sound.cells file.Stops) "parent_station" refl stop_ids (λ s. s.parent_station) (λ s. refl) (λ s. refl) parent_known x n name some)
-            (or_from _ _ (reference_ok others c file.StopTimes (stop_times_of c) stop_time_cells refl (sound.cells file.StopTimes) "stop_id" refl stop_ids (λ p. Some p.1.stop_id) (λ p. refl) (λ p. refl) platform_known x n name some)
-            (or_from _ _ (transfer_name "from_stop_id" refl stop_ids (λ t. t.from_stop_id) (λ t. refl) (λ t. refl) (λ k e h. (transfer_names k e h).from_stop) x n name some)
-            (or_from _ _ (transfer_name "to_stop_id" refl stop_ids (λ t. t.to_stop_id) (λ t. refl) (λ t. refl) (λ k e h. (transfer_names k e h).to_stop) x n name some)
+            (or_from _ _ (reference_ok others c file.Stops c.stops stop_cells refl (sound.cells file.Stops) "parent_station" refl stop_targets (λ s. s.parent_station) (λ s. refl) (λ s. refl) parent_known x n name some)
+            (or_from _ _ (reference_ok others c file.StopTimes (stop_times_of c) stop_time_cells refl (sound.cells file.StopTimes) "stop_id" refl stop_targets (λ p. Some p.1.stop_id) (λ p. refl) (λ p. refl) platform_known x n name some)
+            (or_from _ _ (transfer_name "from_stop_id" refl stop_targets (λ t. t.from_stop_id) (λ t. refl) (λ t. refl) (λ k e h. (transfer_names k e h).from_stop) x n name some)
+            (or_from _ _ (transfer_name "to_stop_id" refl stop_targets (λ t. t.to_stop_id) (λ t. refl) (λ t. refl) (λ k e h. (transfer_names k e h).to_stop) x n name some)
             (or_from _ _ (reference_ok others c file.Routes c.routes route_cells refl (sound.cells file.Routes) "agency_id" refl ((file.Agency, codes "agency_id") ∷ []) (λ r. given r.agency_id) (λ r. id_given r.agency_id)
             (λ r. ap (cell_text id) (id_given r.agency_id)) agency_known x n name some)
-            (or_from _ _ (reference_ok others c file.Trips c.trips trip_cells refl (sound.cells file.Trips) "route_id" refl route_ids (λ t. Some t.route_id) (λ t. refl) (λ t. refl)
+            (or_from _ _ (reference_ok others c file.Trips c.trips trip_cells refl (sound.cells file.Trips) "route_id" refl route_targets (λ t. Some t.route_id) (λ t. refl) (λ t. refl)
             (λ k e h. route_is_known others c sound (get_or c.trips k e).route_id (trip_ends k e h).0) x n name some)
-            (or_from _ _ (transfer_name "from_route_id" refl route_ids (λ t. t.from_route_id) (λ t. refl) (λ t. refl) (λ k e h. (transfer_names k e h).from_route) x n name some)
-            (or_from _ _ (transfer_name "to_route_id" refl route_ids (λ t. t.to_route_id) (λ t. refl) (λ t. refl) (λ k e h. (transfer_names k e h).to_route) x n name some)
+            (or_from _ _ (transfer_name "from_route_id" refl route_targets (λ t. t.from_route_id) (λ t. refl) (λ t. refl) (λ k e h. (transfer_names k e h).from_route) x n name some)
+            (or_from _ _ (transfer_name "to_route_id" refl route_targets (λ t. t.to_route_id) (λ t. refl) (λ t. refl) (λ k e h. (transfer_names k e h).to_route) x n name some)
             (or_from _ _ (reference_ok others c file.Trips c.trips trip_cells refl (sound.cells file.Trips) "service_id" refl ((file.Calendar, codes "service_id") ∷ (file.CalendarDates, codes "service_id") ∷ []) (λ t. Some t.service_id) (λ t. refl) (λ t. refl)
             (λ k e h. service_is_known (get_or c.trips k e).service_id (trip_ends k e h).1) x n name some)
-            (or_from _ _ (reference_ok others c file.StopTimes (stop_times_of c) stop_time_cells refl (sound.cells file.StopTimes) "trip_id" refl trip_ids (λ p. Some p.0) (λ p. refl) (λ p. refl)
+            (or_from _ _ (reference_ok others c file.StopTimes (stop_times_of c) stop_time_cells refl (sound.cells file.StopTimes) "trip_id" refl trip_targets (λ p. Some p.0) (λ p. refl) (λ p. refl)
             (λ k e h. let s = stop_time others c sound k e h in trip_known (get_or (stop_times_of c) k e).0 s.index s.none s.within s.named) x n name some)
-            (or_from _ _ (reference_ok others c file.Frequencies (frequencies_of c) frequency_cells refl (sound.cells file.Frequencies) "trip_id" refl trip_ids (λ p. Some p.0) (λ p. refl) (λ p. refl)
+            (or_from _ _ (reference_ok others c file.Frequencies (frequencies_of c) frequency_cells refl (sound.cells file.Frequencies) "trip_id" refl trip_targets (λ p. Some p.0) (λ p. refl) (λ p. refl)
             (λ k e h. let s = period others c sound k e h in trip_known (get_or (frequencies_of c) k e).0 s.index s.none s.within s.named) x n name some)
-            (or_from _ _ (transfer_name "from_trip_id" refl trip_ids (λ t. t.from_trip_id) (λ t. refl) (λ t. refl) (λ k e h. (transfer_names k e h).from_trip) x n name some)
-            (or_from _ _ (transfer_name "to_trip_id" refl trip_ids (λ t. t.to_trip_id) (λ t. refl) (λ t. refl) (λ k e h. (transfer_names k e h).to_trip) x n name some) refl)))))))))))))
+            (or_from _ _ (transfer_name "from_trip_id" refl trip_targets (λ t. t.from_trip_id) (λ t. refl) (λ t. refl) (λ k e h. (transfer_names k e h).from_trip) x n name some)
+            (or_from _ _ (transfer_name "to_trip_id" refl trip_targets (λ t. t.to_trip_id) (λ t. refl) (λ t. refl) (λ k e h. (transfer_names k e h).to_trip) x n name some) refl)))))))))))))
       ]

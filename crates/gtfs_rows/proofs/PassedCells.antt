@@ -14,7 +14,7 @@ use Rattle.gtfs_table.specs.Rows.{is_row, records_in, rows, is_empty}
 use Rattle.gtfs_table.specs.Tables.{Dataset}
 use Rattle.gtfs_table.specs.declared.file.File.{File}
 use Rattle.gtfs_table.specs.declared.file.File.TheVariants as file
-use Rattle.gtfs_columns.specs.Calendars.{week_in, exception_in, runs_on, field_number as signed_in}
+use Rattle.gtfs_columns.specs.Calendars.{week_in, exception_in, serves_weekday, field_number as signed_in}
 use Rattle.gtfs_columns.specs.Columns.{Kind, id, text, count, choice, time, date, colour, coordinate, column_named, columns_of, required, optional, defaulting, up_to, positive, route_types}
 use Rattle.gtfs_columns.specs.Problems.{Passes}
 use Rattle.gtfs_columns.specs.Rows.{word_in}
@@ -22,7 +22,7 @@ use Rattle.gtfs_columns.specs.Values.{Value, word, amount, as_word}
 use Rattle.gtfs_rows.specs.Cells.{is_clean, is_of_kind, is_cell, are_cells}
 use Rattle.gtfs_rows.specs.Order.{transfer_key, transfer_key_cmp}
 use Rattle.gtfs_rows.specs.Reading.{text_at, number_in, number_at, agency_in, stop_in, first_agency, route_in, stop_row_in, frequency_in, trip_in, transfer_in, content_of}
-use Rattle.gtfs_rows.specs.RowCells.{number, id_cell, flag, exception_number, cells_in, agency_cells, stop_cells, route_cells, trip_cells, stop_time_cells, week_cells, exception_cells, frequency_cells, transfer_cells, stop_times_of, weeks_of, exceptions_of, frequencies_of}
+use Rattle.gtfs_rows.specs.RowCells.{value_of_number, id_cell, flag, exception_number, cells_in, agency_cells, stop_cells, route_cells, trip_cells, stop_time_cells, week_cells, exception_cells, frequency_cells, transfer_cells, stop_times_of, weeks_of, exceptions_of, frequencies_of}
 use Rattle.gtfs_rows.proofs.ContentAgain.{transfer_total}
 use Rattle.gtfs_rows.proofs.ContentRows.{row_of, all_made, NamesTrip, NamesService, stop_time_made, frequency_made, week_made, exception_made}
 use Rattle.gtfs_rows.proofs.CutTexts.{IsCut}
@@ -46,7 +46,7 @@ flag_fits : (name : Literal) (b : Bool) → is_cell (required name (up_to 1)) (f
 flag_fits name true = refl
 flag_fits name false = refl
 
-exception_fits : (b : Bool) → is_cell (required "exception_type" (choice ((1, 2) ∷ []))) (Some (number (exception_number (if b then Added else Removed)))) ≡ true
+exception_fits : (b : Bool) → is_cell (required "exception_type" (choice ((1, 2) ∷ []))) (Some (value_of_number (exception_number (if b then Added else Removed)))) ≡ true
 exception_fits true = refl
 exception_fits false = refl
 
@@ -78,14 +78,14 @@ module _ (d : Dataset) (passes : Passes d) (x : File) (n : ℕ) (row : is_row (r
   text_if_any : (name : Literal) → column_named x (codes name) ≡ Some (optional name text) → is_cell (optional name text) (option_map word (word_in d x n name)) ≡ true
   text_if_any name there = optional_word d passes x n row name text there refl
 
-  number_if_any : (name : Literal) (k : Kind) → column_named x (codes name) ≡ Some (optional name k) → is_natural k ≡ true → is_cell (optional name k) (option_map number (number_in d x n name)) ≡ true
+  number_if_any : (name : Literal) (k : Kind) → column_named x (codes name) ≡ Some (optional name k) → is_natural k ≡ true → is_cell (optional name k) (option_map value_of_number (number_in d x n name)) ≡ true
   number_if_any name k there natural = optional_number d passes x n row name k there natural
 
-  a_number : (name : Literal) (k : Kind) → column_named x (codes name) ≡ Some (required name k) → is_natural k ≡ true → is_of_kind k (number (number_at d x n name)) ≡ true
+  a_number : (name : Literal) (k : Kind) → column_named x (codes name) ≡ Some (required name k) → is_natural k ≡ true → is_of_kind k (value_of_number (number_at d x n name)) ≡ true
   a_number name k there natural = required_number d passes x n row name k there natural
 
   -- a choice that is 0 where it is empty
-  a_choice : (name : Literal) (k : Kind) → column_named x (codes name) ≡ Some (defaulting name k "0") → is_natural k ≡ true → is_of_kind k (number (number_at d x n name)) ≡ true
+  a_choice : (name : Literal) (k : Kind) → column_named x (codes name) ≡ Some (defaulting name k "0") → is_natural k ≡ true → is_of_kind k (value_of_number (number_at d x n name)) ≡ true
   a_choice name k there natural = defaulting_number d passes x n row name k "0" there digit_cut natural
 
 -- ---- the rows of each file
@@ -184,13 +184,13 @@ module _ (d : Dataset) (passes : Passes d) where
   week_fits q n names =
       let row = names.row in
       more (named_fits file.Calendar n row "service_id" refl q names.named)
-      (more (flag_fits "monday" (runs_on d n "monday"))
-      (more (flag_fits "tuesday" (runs_on d n "tuesday"))
-      (more (flag_fits "wednesday" (runs_on d n "wednesday"))
-      (more (flag_fits "thursday" (runs_on d n "thursday"))
-      (more (flag_fits "friday" (runs_on d n "friday"))
-      (more (flag_fits "saturday" (runs_on d n "saturday"))
-      (more (flag_fits "sunday" (runs_on d n "sunday"))
+      (more (flag_fits "monday" (serves_weekday d n "monday"))
+      (more (flag_fits "tuesday" (serves_weekday d n "tuesday"))
+      (more (flag_fits "wednesday" (serves_weekday d n "wednesday"))
+      (more (flag_fits "thursday" (serves_weekday d n "thursday"))
+      (more (flag_fits "friday" (serves_weekday d n "friday"))
+      (more (flag_fits "saturday" (serves_weekday d n "saturday"))
+      (more (flag_fits "sunday" (serves_weekday d n "sunday"))
       (more (required_amount d passes file.Calendar n row "start_date" date refl refl)
       (more (required_amount d passes file.Calendar n row "end_date" date refl refl) refl)))))))))
 

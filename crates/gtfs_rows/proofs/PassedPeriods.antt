@@ -11,7 +11,7 @@ use Rattle.gtfs_table.specs.Tables.{Dataset}
 use Rattle.gtfs_table.specs.declared.file.File.TheVariants as file
 use Rattle.gtfs_columns.specs.declared.code.Code.TheVariants as code
 use Rattle.gtfs_columns.specs.Columns.{time}
-use Rattle.gtfs_columns.specs.PeriodRules.{start_in, end_in, ends_at_start, share_second, periods_meet, overlaps_earlier}
+use Rattle.gtfs_columns.specs.PeriodRules.{period_start, period_end, ends_at_start, share_second, periods_meet, overlaps_earlier}
 use Rattle.gtfs_columns.specs.Problems.{Passes}
 use Rattle.gtfs_columns.specs.Rows.{word_in}
 use Rattle.gtfs_columns.specs.Values.{if_there, if_both, is_word}
@@ -63,10 +63,10 @@ share_turned a b c e = λ i. int_lt (max_turned a c i) (min_turned b e i)
 
 module _ (d : Dataset) (passes : Passes d) (q : List ℕ) where
   module _ (m : ℕ) (is : NamesTrip d file.Frequencies q m) where
-    start_is : start_in d m ≡ Some (pos (number_at d file.Frequencies m "start_time"))
+    start_is : period_start d m ≡ Some (pos (number_at d file.Frequencies m "start_time"))
     start_is = number_is d passes file.Frequencies m is.row "start_time" time refl refl
 
-    end_is : end_in d m ≡ Some (pos (number_at d file.Frequencies m "end_time"))
+    end_is : period_end d m ≡ Some (pos (number_at d file.Frequencies m "end_time"))
     end_is = number_is d passes file.Frequencies m is.row "end_time" time refl refl
 
     -- E18

@@ -21,7 +21,7 @@ use Rattle.gtfs_columns.specs.Values.{word, value_eq, if_there, if_both, is_word
 use Rattle.gtfs_columns.proofs.SiteFacts.{text_itself}
 use Rattle.gtfs_columns.proofs.ValueFacts.{word_value}
 use Rattle.gtfs_rows.specs.Reading.{number_in, number_at, stop_row_in}
-use Rattle.gtfs_rows.specs.RowCells.{number}
+use Rattle.gtfs_rows.specs.RowCells.{value_of_number}
 use Rattle.gtfs_rows.specs.Sound.{comes, leaves, keeps_time}
 use Rattle.gtfs_rows.proofs.ContentRows.{NamesTrip, names_word}
 use Rattle.gtfs_rows.proofs.PassedReferences.{after, no_error}
@@ -134,10 +134,10 @@ module _ (d : Dataset) (passes : Passes d) where
         (and_from (is_row_of d q m) (is_some (sequence_in d m)) (ap (λ o. is_word o q) is.named ∙ text_itself q) (ap (λ o. is_some o) (sequence_is m is.row))) is.among
 
     -- E09: no two rows have one sequence
-    key_is : (m : ℕ) → NamesTrip d file.StopTimes q m → key_in d file.StopTimes m ≡ Some (word q ∷ number (number_at d file.StopTimes m "stop_sequence") ∷ [])
+    key_is : (m : ℕ) → NamesTrip d file.StopTimes q m → key_in d file.StopTimes m ≡ Some (word q ∷ value_of_number (number_at d file.StopTimes m "stop_sequence") ∷ [])
     key_is m is = λ i. all_there (word_value (value_in d file.StopTimes m (codes "trip_id")) q is.named i ∷ sequence_value i ∷ [])
       where
-        sequence_value : value_in d file.StopTimes m (codes "stop_sequence") ≡ Some (number (number_at d file.StopTimes m "stop_sequence"))
+        sequence_value : value_in d file.StopTimes m (codes "stop_sequence") ≡ Some (value_of_number (number_at d file.StopTimes m "stop_sequence"))
         sequence_value = number_value d passes file.StopTimes m is.row "stop_sequence" count refl refl
 
     different : (m n : ℕ) → NamesTrip d file.StopTimes q m → NamesTrip d file.StopTimes q n → nat_lt m n ≡ true → int_eq (pos (number_at d file.StopTimes n "stop_sequence")) (pos (number_at d file.StopTimes m "stop_sequence")) ≡ false

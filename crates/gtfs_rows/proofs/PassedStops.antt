@@ -22,7 +22,7 @@ use Rattle.gtfs_columns.specs.Values.{if_there, is_count_between, is_one_of}
 use Rattle.gtfs_rows.specs.Cells.{is_of_kind, is_between as lies_between}
 use Rattle.gtfs_rows.specs.Content.{Content}
 use Rattle.gtfs_rows.specs.Reading.{number_at, stop_in, content_of}
-use Rattle.gtfs_rows.specs.RowCells.{number}
+use Rattle.gtfs_rows.specs.RowCells.{value_of_number}
 use Rattle.gtfs_rows.specs.Sound.{is_stop_of, has_name_and_position, has_right_parent, is_sound_stop}
 use Rattle.gtfs_rows.proofs.ContentRows.{row_of, all_made}
 use Rattle.gtfs_rows.proofs.PassedAgencies.{filled_some}
@@ -37,7 +37,7 @@ pub turned : (a b : Bool) → a ≡ not b → b ≡ not a
 turned a true e = ap not (sym e)
 turned a false e = ap not (sym e)
 
-pub few_types : (m n : ℕ) → is_of_kind (up_to m) (number n) ≡ true → n ≤ m
+pub few_types : (m n : ℕ) → is_of_kind (up_to m) (value_of_number n) ≡ true → n ≤ m
 few_types m n fits =
     let inside = (and_parts (lies_between (pos 0) (pos 2_147_483_647) (pos n)) (is_in_ranges ((0, m) ∷ []) n) fits).1 in
     elim (or_cases (nat_le 0 n && nat_le n m) false inside) [

@@ -20,7 +20,7 @@ use Rattle.gtfs_columns.proofs.ReadFacts.{passes_read}
 use Rattle.gtfs_columns.proofs.ValueFacts.{word_value}
 use Rattle.gtfs_rows.specs.Cells.{is_of_kind, is_cell}
 use Rattle.gtfs_rows.specs.Reading.{text_at, number_in, number_at}
-use Rattle.gtfs_rows.specs.RowCells.{number}
+use Rattle.gtfs_rows.specs.RowCells.{value_of_number}
 use Rattle.gtfs_rows.proofs.CutTexts.{IsCut, text-is_cut}
 use Rattle.gtfs_rows.proofs.KindValues.{value_of_kind}
 use Rattle.gtfs_rows.proofs.KindOptions.{is_of_words, is_natural, HasWord, HasNumber, HasAmount, Fits, some_word, some_amount, some_number, words_back, amounts_back, numbers_back, fits_optional}
@@ -73,10 +73,10 @@ module _ (d : Dataset) (passes : Passes d) (x : File) (n : ℕ) (row : is_row (r
         let there_is : amount_in d x n name ≡ Some (pos w.number_of) = ap (option_and_then as_amount) w.reads.is in
         there_is ∙ ap (λ m. Some (pos m)) (ap (λ o. unsigned_abs (unwrap_or o (pos 0))) (sym (choice_same ∙ there_is)))
 
-    pub number_value : is_natural k ≡ true → value_in d x n (codes name) ≡ Some (number (number_at d x n name))
+    pub number_value : is_natural k ≡ true → value_in d x n (codes name) ≡ Some (value_of_number (number_at d x n name))
     number_value natural =
         let w = number_there natural in
-        w.reads.is ∙ ap (λ o. Some (number (unsigned_abs (unwrap_or o (pos 0))))) (sym (choice_same ∙ ap (option_and_then as_amount) w.reads.is))
+        w.reads.is ∙ ap (λ o. Some (value_of_number (unsigned_abs (unwrap_or o (pos 0))))) (sym (choice_same ∙ ap (option_and_then as_amount) w.reads.is))
 
     pub signed_is : is_of_words k ≡ false → amount_in d x n name ≡ Some (signed_in d x n name)
     signed_is numbers =
@@ -89,10 +89,10 @@ module _ (d : Dataset) (passes : Passes d) (x : File) (n : ℕ) (row : is_row (r
         let w = word_there words in
         subst (λ t. is_of_kind k (word t) ≡ true) (ap (λ o. unwrap_or o []) (sym (ap (option_and_then as_word) w.reads.is))) w.reads.fits
 
-    pub required_number : is_natural k ≡ true → is_of_kind k (number (number_at d x n name)) ≡ true
+    pub required_number : is_natural k ≡ true → is_of_kind k (value_of_number (number_at d x n name)) ≡ true
     required_number natural =
         let w = number_there natural in
-        subst (λ m. is_of_kind k (number m) ≡ true) (ap (λ o. unsigned_abs (unwrap_or o (pos 0))) (sym (choice_same ∙ ap (option_and_then as_amount) w.reads.is))) w.reads.fits
+        subst (λ m. is_of_kind k (value_of_number m) ≡ true) (ap (λ o. unsigned_abs (unwrap_or o (pos 0))) (sym (choice_same ∙ ap (option_and_then as_amount) w.reads.is))) w.reads.fits
 
     pub required_amount : is_of_words k ≡ false → is_of_kind k (amount (signed_in d x n name)) ≡ true
     required_amount numbers =
@@ -110,7 +110,7 @@ module _ (d : Dataset) (passes : Passes d) (x : File) (n : ℕ) (row : is_row (r
     pub optional_word : is_of_words k ≡ true → is_cell (optional name k) (option_map word (word_in d x n name)) ≡ true
     optional_word words = ap (is_cell (optional name k)) (words_back k words (value_in d x n (codes name)) value_fits) ∙ fits_optional name k (value_in d x n (codes name)) value_fits
 
-    pub optional_number : is_natural k ≡ true → is_cell (optional name k) (option_map number (number_in d x n name)) ≡ true
+    pub optional_number : is_natural k ≡ true → is_cell (optional name k) (option_map value_of_number (number_in d x n name)) ≡ true
     optional_number natural = ap (is_cell (optional name k)) (numbers_back k natural (value_in d x n (codes name)) value_fits) ∙ fits_optional name k (value_in d x n (codes name)) value_fits
 
     pub optional_amount : is_of_words k ≡ false → is_cell (optional name k) (option_map amount (amount_in d x n name)) ≡ true
@@ -154,10 +154,10 @@ module _ (d : Dataset) (passes : Passes d) (x : File) (n : ℕ) (row : is_row (r
         let there_is : choice_in d x n name ≡ Some (pos w.number_of) = choice_meant ∙ ap (option_and_then as_amount) w.reads.is in
         there_is ∙ ap (λ o. Some (pos (unsigned_abs (unwrap_or o (pos 0))))) (sym there_is)
 
-    pub defaulting_number : is_natural k ≡ true → is_of_kind k (number (number_at d x n name)) ≡ true
+    pub defaulting_number : is_natural k ≡ true → is_of_kind k (value_of_number (number_at d x n name)) ≡ true
     defaulting_number natural =
         let w = number_meant natural in
-        subst (λ j. is_of_kind k (number j) ≡ true) (ap (λ o. unsigned_abs (unwrap_or o (pos 0))) (sym (choice_meant ∙ ap (option_and_then as_amount) w.reads.is))) w.reads.fits
+        subst (λ j. is_of_kind k (value_of_number j) ≡ true) (ap (λ o. unsigned_abs (unwrap_or o (pos 0))) (sym (choice_meant ∙ ap (option_and_then as_amount) w.reads.is))) w.reads.fits
 
 -- ---- ids
 

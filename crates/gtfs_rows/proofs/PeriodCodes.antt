@@ -56,10 +56,10 @@ module _ (others : List (List ℕ)) (c : Content) (sound : IsSound c) where
         own = own;
       }
 
-  start_at : (k : ℕ) (e : List ℕ × Frequency) → k < length (frequencies_of c) → rule.start_in (written_beside others c) (k + 2) ≡ Some (pos (get_or (frequencies_of c) k e).1.start_time)
+  start_at : (k : ℕ) (e : List ℕ × Frequency) → k < length (frequencies_of c) → rule.period_start (written_beside others c) (k + 2) ≡ Some (pos (get_or (frequencies_of c) k e).1.start_time)
   start_at k e h = amounts_at others c file.Frequencies (frequencies_of c) frequency_cells refl (sound.cells file.Frequencies) k e h "start_time" refl (Some (get_or (frequencies_of c) k e).1.start_time) refl
 
-  end_at : (k : ℕ) (e : List ℕ × Frequency) → k < length (frequencies_of c) → rule.end_in (written_beside others c) (k + 2) ≡ Some (pos (get_or (frequencies_of c) k e).1.end_time)
+  end_at : (k : ℕ) (e : List ℕ × Frequency) → k < length (frequencies_of c) → rule.period_end (written_beside others c) (k + 2) ≡ Some (pos (get_or (frequencies_of c) k e).1.end_time)
   end_at k e h = amounts_at others c file.Frequencies (frequencies_of c) frequency_cells refl (sound.cells file.Frequencies) k e h "end_time" refl (Some (get_or (frequencies_of c) k e).1.end_time) refl
 
   pub trip_at : (k : ℕ) (e : List ℕ × Frequency) → k < length (frequencies_of c) → word_in (written_beside others c) file.Frequencies (k + 2) "trip_id" ≡ Some (get_or (frequencies_of c) k e).0

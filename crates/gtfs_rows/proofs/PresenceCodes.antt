@@ -12,7 +12,7 @@ use Rattle.gtfs_columns.specs.PresenceRules.{has_many_agencies, has_wrong_parent
 use Rattle.gtfs_columns.specs.Rows.{is_empty_in, is_readable_in}
 use Rattle.gtfs_columns.specs.Values.{Value, word, amount, if_there}
 use Rattle.gtfs_rows.specs.Content.{Content}
-use Rattle.gtfs_rows.specs.RowCells.{agency_cells, route_cells, stop_cells, transfer_cells, id_cell, number}
+use Rattle.gtfs_rows.specs.RowCells.{agency_cells, route_cells, stop_cells, transfer_cells, id_cell, value_of_number}
 use Rattle.gtfs_rows.specs.Rows.{Agency, Route, Stop, Transfer}
 use Rattle.gtfs_rows.specs.Sound.{IsSound, has_ends, has_id, has_name_and_position, has_right_parent, is_sound_agency, is_sound_route, is_sound_stop, is_sound_transfer}
 use Rattle.gtfs_rows.specs.Written.{written_beside}
@@ -156,7 +156,7 @@ module _ (others : List (List ℕ)) (c : Content) (sound : IsSound c) where
   module _ (k : ℕ) (e : Stop) (h : k < length c.stops) where
     type_at : (low high : ℕ) → is_choice low high file.Stops "location_type" (written_beside others c) (k + 2) ≡ within low high (get_or c.stops k e).location_type
     type_at low high = ap (λ o. if_there o (λ choice. int_le (pos low) choice && int_le choice (pos high)))
-        (choice_from (written_beside others c) file.Stops (k + 2) "location_type" (number (get_or c.stops k e).location_type) (value_at others c file.Stops c.stops stop_cells refl (sound.cells file.Stops) k e h (codes "location_type") refl))
+        (choice_from (written_beside others c) file.Stops (k + 2) "location_type" (value_of_number (get_or c.stops k e).location_type) (value_at others c file.Stops c.stops stop_cells refl (sound.cells file.Stops) k e h (codes "location_type") refl))
 
     stop_fine : ((nat_lt 2 (get_or c.stops k e).location_type || has_name_and_position (get_or c.stops k e)) ≡ true) × (has_right_parent c (get_or c.stops k e).location_type (get_or c.stops k e).parent_station ≡ true)
     stop_fine = and_parts _ _ (all_at (is_sound_stop c) c.stops k e sound.stops h)
@@ -218,7 +218,7 @@ module _ (others : List (List ℕ)) (c : Content) (sound : IsSound c) where
         let type = (get_or c.transfers k e).transfer_type in
         let choice : is_choice low high file.Transfers "transfer_type" (written_beside others c) (k + 2) ≡ within low high type =
         ap (λ o. if_there o (λ choice. int_le (pos low) choice && int_le choice (pos high)))
-        (choice_from (written_beside others c) file.Transfers (k + 2) "transfer_type" (number type) (value_at others c file.Transfers c.transfers transfer_cells refl (sound.cells file.Transfers) k e h (codes "transfer_type") refl)) in
+        (choice_from (written_beside others c) file.Transfers (k + 2) "transfer_type" (value_of_number type) (value_at others c file.Transfers c.transfers transfer_cells refl (sound.cells file.Transfers) k e h (codes "transfer_type") refl)) in
         (λ i. choice i && is i) ∙ unless (within low high type) missing there
 
   from_stop_there : (k : ℕ) (e : Transfer) → k < length c.transfers → lacks_end 1 3 "from_stop_id" (written_beside others c) (k + 2) ≡ false

@@ -18,7 +18,7 @@ use Rattle.gtfs_columns.proofs.BoolFacts.{same_test}
 use Rattle.gtfs_rows.specs.Cells.{Cell, are_cells}
 use Rattle.gtfs_rows.specs.Content.{Content}
 use Rattle.gtfs_rows.specs.Named.{text_named}
-use Rattle.gtfs_rows.specs.RowCells.{cells_in, transfer_cells, stop_cells, stop_time_cells, stop_times_of, number}
+use Rattle.gtfs_rows.specs.RowCells.{cells_in, transfer_cells, stop_cells, stop_time_cells, stop_times_of, value_of_number}
 use Rattle.gtfs_rows.specs.Rows.{Stop, StopRow, Transfer}
 use Rattle.gtfs_rows.proofs.RowTexts.{all_at}
 use Rattle.gtfs_rows.specs.Sound.{IsSound, has_name_and_position, has_right_parent, is_sound_stop, if_given, has_id, is_stop_of, is_sound_transfer, is_sound_stop_row, is_end, leaves, keeps_time}
@@ -55,7 +55,7 @@ module _ (others : List (List ℕ)) (c : Content) (sound : IsSound c) where
       ap (λ ns. option_and_then (λ m. choice_in (written_beside others c) file.Stops m "location_type") (find (λ m. bytes_eq (text_in (written_beside others c) file.Stops m (codes "stop_id")) t) ns)) (rows_are others c file.Stops c.stops stop_cells refl (sound.cells file.Stops))
       ∙ find_range (λ m. bytes_eq (text_in (written_beside others c) file.Stops m (codes "stop_id")) t) (λ s. bytes_eq s.stop_id t) (λ m. choice_in (written_beside others c) file.Stops m "location_type") (λ s. Some (pos s.location_type)) 2 c.stops
       (record { at = λ k e h. ap (λ u. bytes_eq u t) (text_at' others c file.Stops c.stops stop_cells refl (sound.cells file.Stops) k e h (codes "stop_id") refl) })
-      (record { at = λ k e h. choice_from (written_beside others c) file.Stops (k + 2) "location_type" (number (get_or c.stops k e).location_type) (value_at others c file.Stops c.stops stop_cells refl (sound.cells file.Stops) k e h (codes "location_type") refl) })
+      (record { at = λ k e h. choice_from (written_beside others c) file.Stops (k + 2) "location_type" (value_of_number (get_or c.stops k e).location_type) (value_at others c file.Stops c.stops stop_cells refl (sound.cells file.Stops) k e h (codes "location_type") refl) })
 
   -- a reference to a stop of a wanted type
   pub names_wanted : (types : List ℕ) (x : File) (n : ℕ) (column : Literal) (t : List ℕ) → word_in (written_beside others c) x n column ≡ Some t → is_stop_of c types t ≡ true → names_none_of types x column (written_beside others c) n ≡ false
@@ -143,7 +143,7 @@ module _ (others : List (List ℕ)) (c : Content) (sound : IsSound c) where
   parent_type k e h =
       let s = get_or c.stops k e in
       let type : choice_in (written_beside others c) file.Stops (k + 2) "location_type" ≡ Some (pos s.location_type) =
-      choice_from (written_beside others c) file.Stops (k + 2) "location_type" (number s.location_type) (value_at others c file.Stops c.stops stop_cells refl (sound.cells file.Stops) k e h (codes "location_type") refl) in
+      choice_from (written_beside others c) file.Stops (k + 2) "location_type" (value_of_number s.location_type) (value_at others c file.Stops c.stops stop_cells refl (sound.cells file.Stops) k e h (codes "location_type") refl) in
       let fine = (and_parts (nat_lt 2 s.location_type || has_name_and_position s) (has_right_parent c s.location_type s.parent_station) (all_at (is_sound_stop c) c.stops k e sound.stops h)).1 in
       ap (λ o. if_there o (λ own. (is_one_of (0 ∷ 2 ∷ 3 ∷ []) own && names_none_of (1 ∷ []) file.Stops "parent_station" (written_beside others c) (k + 2)) || (is_one_of (4 ∷ []) own && names_none_of (0 ∷ []) file.Stops "parent_station" (written_beside others c) (k + 2)))) type
       ∙ parent_of s.location_type (k + 2) s.parent_station (word_at others c file.Stops c.stops stop_cells refl (sound.cells file.Stops) k e h "parent_station" refl s.parent_station refl) fine

@@ -17,7 +17,7 @@ use Rattle.gtfs_days.specs.declared.exception.Exception.TheVariants.{Added, Remo
 use Rattle.gtfs_field.specs.TextOrder.{text_cmp}
 use Rattle.gtfs_table.specs.declared.file.File.TheVariants as file
 use Rattle.gtfs_table.specs.Rows.{rows, is_empty}
-use Rattle.gtfs_columns.specs.Calendars.{service_rows, first_service_row, field_number, runs_on, week_in, exception_in}
+use Rattle.gtfs_columns.specs.Calendars.{service_rows, first_service_row, field_number, serves_weekday, week_in, exception_in}
 use Rattle.gtfs_columns.specs.Columns.{Column, columns_of}
 use Rattle.gtfs_columns.specs.Rows.{word_in}
 use Rattle.gtfs_columns.specs.Values.{is_word, amount, word}
@@ -116,7 +116,7 @@ module _ (others : List (List ℕ)) (c : Content) (sound : IsSound c) where
         ∙ all_at (are_cells (columns_of file.Calendar)) (cells_in c file.Calendar) k [] (sound.cells file.Calendar) inside
 
     weekday : (column : Literal) → is_empty (codes column) ≡ false → (b : Bool) → cell_named (columns_of file.Calendar) (week_cells (get_or (weeks_of c) k e)) (codes column) ≡ flag b
-        → runs_on (written_beside others c) (k + 2) column ≡ b
+        → serves_weekday (written_beside others c) (k + 2) column ≡ b
     weekday column filled b is =
         ap (λ o. int_eq (unwrap_or o (pos 0)) (pos 1)) (amount_at others c file.Calendar (weeks_of c) week_cells refl (sound.cells file.Calendar) k e within column filled (Some (pos (if b then 1 else 0))) is)
         ∙ flag_back b

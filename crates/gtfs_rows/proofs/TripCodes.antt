@@ -22,7 +22,7 @@ use Rattle.gtfs_rows.specs.Named.{cell_named}
 use Rattle.gtfs_columns.proofs.EachFacts.{any_follows}
 use Rattle.gtfs_rows.specs.Cells.{Cell}
 use Rattle.gtfs_rows.specs.Content.{Content}
-use Rattle.gtfs_rows.specs.RowCells.{stop_time_cells, stop_times_of, number}
+use Rattle.gtfs_rows.specs.RowCells.{stop_time_cells, stop_times_of, value_of_number}
 use Rattle.gtfs_rows.specs.Rows.{StopRow, Trip}
 use Rattle.gtfs_rows.specs.Sound.{IsSound, comes, leaves, is_sound_stop_row, is_stop_of, keeps_time, is_end, is_sound_in, is_sound_trip, has_id, is_sound_period}
 use Rattle.gtfs_rows.specs.Written.{written_beside}
@@ -56,7 +56,7 @@ clear_cell (Some x) = refl
 pub if_clear : (a b : Bool) (o : Option ℤ) → a ≡ true → b ≡ true → (if a && b then o else None) ≡ o
 if_clear a b o p q = rw (p, q) refl
 
-timed_cells : (a b : Option ℕ) → is_some (option_or b a) ≡ true → (is_none (option_map number a) && is_none (option_map number b)) ≡ false
+timed_cells : (a b : Option ℕ) → is_some (option_or b a) ≡ true → (is_none (option_map value_of_number a) && is_none (option_map value_of_number b)) ≡ false
 timed_cells None None h = cc
 timed_cells None (Some n) h = refl
 timed_cells (Some m) b h = refl
@@ -155,14 +155,14 @@ module _ (others : List (List ℕ)) (c : Content) (sound : IsSound c) where
   pub arrives_at : (k : ℕ) (e : List ℕ × StopRow) → k < length (stop_times_of c) → rule.arrival_in (written_beside others c) (k + 2) ≡ option_map pos (comes (get_or (stop_times_of c) k e).1)
   arrives_at k e within =
       let r = (get_or (stop_times_of c) k e).1 in
-      if_clear _ _ _ (readable_at k e within (option_map number r.arrival_time) "arrival_time" refl refl refl) (readable_at k e within (option_map number r.departure_time) "departure_time" refl refl refl)
+      if_clear _ _ _ (readable_at k e within (option_map value_of_number r.arrival_time) "arrival_time" refl refl refl) (readable_at k e within (option_map value_of_number r.departure_time) "departure_time" refl refl refl)
       ∙ (λ i. option_or (arrival_at k e within i) (departure_at k e within i))
       ∙ or_numbers r.arrival_time r.departure_time
 
   pub departs_at : (k : ℕ) (e : List ℕ × StopRow) → k < length (stop_times_of c) → rule.departure_in (written_beside others c) (k + 2) ≡ option_map pos (leaves (get_or (stop_times_of c) k e).1)
   departs_at k e within =
       let r = (get_or (stop_times_of c) k e).1 in
-      if_clear _ _ _ (readable_at k e within (option_map number r.departure_time) "departure_time" refl refl refl) (readable_at k e within (option_map number r.arrival_time) "arrival_time" refl refl refl)
+      if_clear _ _ _ (readable_at k e within (option_map value_of_number r.departure_time) "departure_time" refl refl refl) (readable_at k e within (option_map value_of_number r.arrival_time) "arrival_time" refl refl refl)
       ∙ (λ i. option_or (departure_at k e within i) (arrival_at k e within i))
       ∙ or_numbers r.departure_time r.arrival_time
 
@@ -215,8 +215,8 @@ module _ (others : List (List ℕ)) (c : Content) (sound : IsSound c) where
       elim (or_cases (is_some (leaves r)) (not (is_end rs r)) inner.1) [
         | inl timed ↦
             let none : (arrival && departure) ≡ false =
-            (λ i. empty_at others c file.StopTimes (stop_times_of c) stop_time_cells refl (sound.cells file.StopTimes) k e within "arrival_time" refl (option_map number r.arrival_time) refl refl i
-            && empty_at others c file.StopTimes (stop_times_of c) stop_time_cells refl (sound.cells file.StopTimes) k e within "departure_time" refl (option_map number r.departure_time) refl refl i)
+            (λ i. empty_at others c file.StopTimes (stop_times_of c) stop_time_cells refl (sound.cells file.StopTimes) k e within "arrival_time" refl (option_map value_of_number r.arrival_time) refl refl i
+            && empty_at others c file.StopTimes (stop_times_of c) stop_time_cells refl (sound.cells file.StopTimes) k e within "departure_time" refl (option_map value_of_number r.departure_time) refl refl i)
             ∙ timed_cells r.arrival_time r.departure_time timed in
             and_left (arrival && departure && some) end (and_left (arrival && departure) some none)
         | inr inside ↦

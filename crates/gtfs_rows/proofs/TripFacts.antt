@@ -18,7 +18,7 @@ use Rattle.gtfs_stop_times.specs.declared.stop_row.StopRow.{StopRow}
 use Rattle.gtfs_rows.specs.declared.trip.Trip.{Trip}
 use Rattle.gtfs_rows.specs.Order.{Ascends}
 use Rattle.gtfs_rows.specs.Sound.{comes, leaves, keeps_time, is_end, is_sound_in, is_sound_stop_row, is_sound_period, is_sound_trip, is_stop_of, are_apart, has_id}
-use Rattle.gtfs_rows.specs.Views.{IsSoundParts, content_of_parts, trip_of, stop_row_of, frequency_of, stop_time_names_rows, is_within}
+use Rattle.gtfs_rows.specs.Views.{IsSoundParts, content_of_parts, trip_of, stop_row_of, frequency_of, stop_time_names_rows, is_number_within}
 use Rattle.gtfs_rows.proofs.RowTexts.{all_at}
 use Rattle.gtfs_rows.specs.Trips.{AreStopTimes, ArePeriods, stop_rows_by_trip, frequencies_by_trip}
 use Rattle.gtfs_rows.proofs.ListFacts.{all_of, all_from, less_is}
@@ -27,7 +27,7 @@ use Rattle.gtfs_rows.proofs.TripsAt.{content_trip}
 -- ---- tests
 
 -- a number that is there lies within its list
-pub number_within : (count : ℕ) (o : Option ℕ) → is_within count o ≡ true → IfSome o (λ n. n < count)
+pub number_within : (count : ℕ) (o : Option ℕ) → is_number_within count o ≡ true → IfSome o (λ n. n < count)
 number_within count None within = tt
 number_within count (Some n) within = ltb-true n count within
 
@@ -202,7 +202,7 @@ module _ (p : Parts) (sound : IsSoundParts p) where
       let fs = get_or (frequencies_by_trip p) t [] in
       let u = trip t rs fs at_rows (slice_get-get_or (frequencies_by_trip p) t [] within) in
       let named = all_in_part (stop_time_names_rows p) p.stop_row_starts p.stop_rows t rs sound.names_rows.stop_rows at_rows in
-      let names = λ (k : ℕ) (d : StopRow) (h : k < length rs). and_parts (nat_lt (get_or rs k d).stop_id.0 (length p.stops)) (is_within (length p.headsigns) (get_or rs k d).stop_headsign)
+      let names = λ (k : ℕ) (d : StopRow) (h : k < length rs). and_parts (nat_lt (get_or rs k d).stop_id.0 (length p.stops)) (is_number_within (length p.headsigns) (get_or rs k d).stop_headsign)
       (all_at (stop_time_names_rows p) rs k d named h) in
       record {
         stops = λ k d h. ltb-true (get_or rs k d).stop_id.0 (length p.stops) (names k d h).0;

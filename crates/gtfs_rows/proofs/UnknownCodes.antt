@@ -10,7 +10,7 @@ use Rattle.gtfs_table.specs.Rows.{is_row, records_in, is_empty}
 use Rattle.gtfs_columns.specs.Columns.{columns_of, id}
 use Rattle.gtfs_columns.specs.KeyRules.{is_known}
 use Rattle.gtfs_columns.specs.steps.ProblemOrder.{same_file}
-use Rattle.gtfs_columns.specs.References.{stop_ids, route_ids, trip_ids}
+use Rattle.gtfs_columns.specs.References.{stop_targets, route_targets, trip_targets}
 use Rattle.gtfs_columns.specs.Rows.{file_rank, is_file, text_in, value_in}
 use Rattle.gtfs_columns.specs.Values.{Value, word}
 use Rattle.gtfs_columns.proofs.SiteFacts.{text_is}
@@ -72,11 +72,11 @@ module _ {X : Type 0} (others : List (List ℕ)) (c : Content) (x0 : File) (xs :
 -- ---- what is known
 
 module _ (others : List (List ℕ)) (c : Content) (sound : IsSound c) where
-  pub stop_is_known : (types : List ℕ) (t : List ℕ) → is_stop_of c types t ≡ true → is_known (written_beside others c) stop_ids t ≡ true
+  pub stop_is_known : (types : List ℕ) (t : List ℕ) → is_stop_of c types t ≡ true → is_known (written_beside others c) stop_targets t ≡ true
   stop_is_known types t h = or_left _ false (stop_known others c sound types t h)
 
-  pub route_is_known : (t : List ℕ) → has_id (λ r. r.route_id) c.routes t ≡ true → is_known (written_beside others c) route_ids t ≡ true
+  pub route_is_known : (t : List ℕ) → has_id (λ r. r.route_id) c.routes t ≡ true → is_known (written_beside others c) route_targets t ≡ true
   route_is_known t h = or_left _ false (known_in others c file.Routes c.routes route_cells refl (sound.cells file.Routes) "route_id" refl (λ r. r.route_id) (λ r. refl) t ∙ h)
 
-  pub trip_is_known : (t : List ℕ) → has_id (λ r. r.trip_id) c.trips t ≡ true → is_known (written_beside others c) trip_ids t ≡ true
+  pub trip_is_known : (t : List ℕ) → has_id (λ r. r.trip_id) c.trips t ≡ true → is_known (written_beside others c) trip_targets t ≡ true
   trip_is_known t h = or_left _ false (known_in others c file.Trips c.trips trip_cells refl (sound.cells file.Trips) "trip_id" refl (λ r. r.trip_id) (λ r. refl) t ∙ h)

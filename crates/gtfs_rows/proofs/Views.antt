@@ -16,7 +16,7 @@ use Rattle.gtfs_rows.specs.Cells.{Cell, is_cell, are_cells, cell_text}
 use Rattle.gtfs_rows.specs.Content.{Content}
 use Rattle.gtfs_rows.specs.Named.{cell_named, text_named}
 use Rattle.gtfs_rows.specs.Reading.{text_at, number_in, number_at}
-use Rattle.gtfs_rows.specs.RowCells.{cells_in, number}
+use Rattle.gtfs_rows.specs.RowCells.{cells_in, value_of_number}
 use Rattle.gtfs_rows.specs.Written.{written_beside}
 use Rattle.gtfs_rows.proofs.FileRows.{rows_written, row_index, cell_found}
 use Rattle.gtfs_rows.proofs.RowTexts.{all_at, value_written, text_written}
@@ -28,11 +28,11 @@ pub word_back : (o : Option (List ℕ)) → option_and_then as_word (option_map 
 word_back None = refl
 word_back (Some t) = refl
 
-pub number_back : (o : Option ℕ) → option_map unsigned_abs (option_and_then as_amount (option_map number o)) ≡ o
+pub number_back : (o : Option ℕ) → option_map unsigned_abs (option_and_then as_amount (option_map value_of_number o)) ≡ o
 number_back None = refl
 number_back (Some n) = refl
 
-pub amounts_back : (o : Option ℕ) → option_and_then as_amount (option_map number o) ≡ option_map pos o
+pub amounts_back : (o : Option ℕ) → option_and_then as_amount (option_map value_of_number o) ≡ option_map pos o
 amounts_back None = refl
 amounts_back (Some n) = refl
 
@@ -91,16 +91,16 @@ module _ {X : Type 0} (others : List (List ℕ)) (c : Content) (x : File) (xs : 
       pub amount_at : (o : Option ℤ) → cell_named (columns_of x) (cells (get_or xs k e)) (codes column) ≡ option_map amount o → amount_in (written_beside others c) x (k + 2) column ≡ o
       amount_at o is = ap (option_and_then as_amount) (value_at (codes column) filled ∙ is) ∙ amount_back o
 
-      pub number_in_at : (o : Option ℕ) → cell_named (columns_of x) (cells (get_or xs k e)) (codes column) ≡ option_map number o → number_in (written_beside others c) x (k + 2) column ≡ o
+      pub number_in_at : (o : Option ℕ) → cell_named (columns_of x) (cells (get_or xs k e)) (codes column) ≡ option_map value_of_number o → number_in (written_beside others c) x (k + 2) column ≡ o
       number_in_at o is = ap (λ v. option_map unsigned_abs (option_and_then as_amount v)) (value_at (codes column) filled ∙ is) ∙ number_back o
 
       pub given_at : (t : List ℕ) → cell_named (columns_of x) (cells (get_or xs k e)) (codes column) ≡ Some (word t) → text_at (written_beside others c) x (k + 2) column ≡ t
       given_at t is = ap (λ v. unwrap_or (option_and_then as_word v) []) (value_at (codes column) filled ∙ is)
 
-      pub choice_at : (n : ℕ) → cell_named (columns_of x) (cells (get_or xs k e)) (codes column) ≡ Some (number n) → number_at (written_beside others c) x (k + 2) column ≡ n
-      choice_at n is = ap (λ o. unsigned_abs (unwrap_or o (pos 0))) (choice_from (written_beside others c) x (k + 2) column (number n) (value_at (codes column) filled ∙ is))
+      pub choice_at : (n : ℕ) → cell_named (columns_of x) (cells (get_or xs k e)) (codes column) ≡ Some (value_of_number n) → number_at (written_beside others c) x (k + 2) column ≡ n
+      choice_at n is = ap (λ o. unsigned_abs (unwrap_or o (pos 0))) (choice_from (written_beside others c) x (k + 2) column (value_of_number n) (value_at (codes column) filled ∙ is))
 
-      pub amounts_at : (o : Option ℕ) → cell_named (columns_of x) (cells (get_or xs k e)) (codes column) ≡ option_map number o → amount_in (written_beside others c) x (k + 2) column ≡ option_map pos o
+      pub amounts_at : (o : Option ℕ) → cell_named (columns_of x) (cells (get_or xs k e)) (codes column) ≡ option_map value_of_number o → amount_in (written_beside others c) x (k + 2) column ≡ option_map pos o
       amounts_at o is = ap (option_and_then as_amount) (value_at (codes column) filled ∙ is) ∙ amounts_back o
 
       -- a column is empty just where the row has no value in it

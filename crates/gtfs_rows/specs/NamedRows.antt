@@ -12,9 +12,9 @@ abbrev pub text_of_number : List (List ℕ) → ℕ → List ℕ
 text_of_number texts n = slice_index_or texts n []
 
 -- a number that is there lies within a list of this length
-abbrev pub is_within : ℕ → Option ℕ → Bool
-is_within count None = true
-is_within count (Some n) = nat_lt n count
+abbrev pub is_number_within : ℕ → Option ℕ → Bool
+is_number_within count None = true
+is_number_within count (Some n) = nat_lt n count
 
 -- a stop, where these are the ids of all stops
 abbrev pub stop_named : List (List ℕ) → StopRowOf → Stop
@@ -35,7 +35,7 @@ stop_named ids s = record {
 
 -- the number of its parent, if it has one, is that of one of these ids
 abbrev pub names_parent : List (List ℕ) → StopRowOf → Bool
-names_parent ids s = is_within (length ids) (option_map (λ n. n.0) s.parent_station)
+names_parent ids s = is_number_within (length ids) (option_map (λ n. n.0) s.parent_station)
 
 -- a route, where these are the ids of all agencies
 abbrev pub route_named : List (List ℕ) → RouteRow → Route
@@ -94,4 +94,4 @@ stop_row_named stop_ids headsigns r = record {
 
 -- its stop and its headsign lie within lists of these lengths
 abbrev pub has_numbers_below : ℕ → ℕ → RowByNumber → Bool
-has_numbers_below stops headsigns r = nat_lt r.stop_id.0 stops && is_within headsigns r.stop_headsign
+has_numbers_below stops headsigns r = nat_lt r.stop_id.0 stops && is_number_within headsigns r.stop_headsign

@@ -11,8 +11,8 @@ use Rattle.gtfs_rows.specs.Cells.{Cell}
 use Rattle.gtfs_rows.specs.Content.{Content}
 use Rattle.gtfs_rows.specs.Rows.{Agency, Stop, Route, StopRow, Frequency, Trip, Transfer}
 
-abbrev pub number : ℕ → Value
-number n = amount (pos n)
+abbrev pub value_of_number : ℕ → Value
+value_of_number n = amount (pos n)
 
 -- an id that is empty where there is none
 abbrev pub id_cell : List ℕ → Cell
@@ -25,24 +25,24 @@ agency_cells a = id_cell a.agency_id ∷ Some (word a.agency_name) ∷ Some (wor
 abbrev pub stop_cells : Stop → List Cell
 stop_cells s = Some (word s.stop_id) ∷ option_map word s.stop_code ∷ option_map word s.stop_name ∷ option_map word s.tts_stop_name
     ∷ option_map word s.stop_desc ∷ option_map amount s.stop_lat ∷ option_map amount s.stop_lon ∷ option_map word s.stop_url
-    ∷ Some (number s.location_type) ∷ option_map word s.parent_station ∷ Some (number s.wheelchair_boarding) ∷ option_map word s.platform_code ∷ []
+    ∷ Some (value_of_number s.location_type) ∷ option_map word s.parent_station ∷ Some (value_of_number s.wheelchair_boarding) ∷ option_map word s.platform_code ∷ []
 
 abbrev pub route_cells : Route → List Cell
 route_cells r = Some (word r.route_id) ∷ id_cell r.agency_id ∷ option_map word r.route_short_name ∷ option_map word r.route_long_name
-    ∷ option_map word r.route_desc ∷ Some (number r.route_type) ∷ option_map word r.route_url ∷ Some (number r.route_color)
-    ∷ Some (number r.route_text_color) ∷ option_map number r.route_sort_order ∷ []
+    ∷ option_map word r.route_desc ∷ Some (value_of_number r.route_type) ∷ option_map word r.route_url ∷ Some (value_of_number r.route_color)
+    ∷ Some (value_of_number r.route_text_color) ∷ option_map value_of_number r.route_sort_order ∷ []
 
 abbrev pub trip_cells : Trip → List Cell
 trip_cells t = Some (word t.route_id) ∷ Some (word t.service_id) ∷ Some (word t.trip_id) ∷ option_map word t.trip_headsign
-    ∷ option_map word t.trip_short_name ∷ option_map number t.direction_id ∷ Some (number t.wheelchair_accessible) ∷ Some (number t.bikes_allowed) ∷ []
+    ∷ option_map word t.trip_short_name ∷ option_map value_of_number t.direction_id ∷ Some (value_of_number t.wheelchair_accessible) ∷ Some (value_of_number t.bikes_allowed) ∷ []
 
 abbrev pub stop_time_cells : List ℕ × StopRow → List Cell
-stop_time_cells p = Some (word p.0) ∷ option_map number p.1.arrival_time ∷ option_map number p.1.departure_time ∷ Some (word p.1.stop_id)
-    ∷ Some (number p.1.stop_sequence) ∷ option_map word p.1.stop_headsign ∷ Some (number p.1.pickup_type) ∷ Some (number p.1.drop_off_type)
-    ∷ option_map number p.1.timepoint ∷ []
+stop_time_cells p = Some (word p.0) ∷ option_map value_of_number p.1.arrival_time ∷ option_map value_of_number p.1.departure_time ∷ Some (word p.1.stop_id)
+    ∷ Some (value_of_number p.1.stop_sequence) ∷ option_map word p.1.stop_headsign ∷ Some (value_of_number p.1.pickup_type) ∷ Some (value_of_number p.1.drop_off_type)
+    ∷ option_map value_of_number p.1.timepoint ∷ []
 
 abbrev pub flag : Bool → Cell
-flag b = Some (number (if b then 1 else 0))
+flag b = Some (value_of_number (if b then 1 else 0))
 
 abbrev pub week_cells : List ℕ × Week → List Cell
 week_cells p = Some (word p.0) ∷ (map flag p.1.days ++ Some (amount p.1.start) ∷ Some (amount p.1.end) ∷ [])
@@ -52,15 +52,15 @@ exception_number Added = 1
 exception_number Removed = 2
 
 abbrev pub exception_cells : List ℕ × (ℤ × Exception) → List Cell
-exception_cells p = Some (word p.0) ∷ Some (amount p.1.0) ∷ Some (number (exception_number p.1.1)) ∷ []
+exception_cells p = Some (word p.0) ∷ Some (amount p.1.0) ∷ Some (value_of_number (exception_number p.1.1)) ∷ []
 
 abbrev pub frequency_cells : List ℕ × Frequency → List Cell
-frequency_cells p = Some (word p.0) ∷ Some (number p.1.start_time) ∷ Some (number p.1.end_time) ∷ Some (number p.1.headway_secs)
-    ∷ Some (number p.1.exact_times) ∷ []
+frequency_cells p = Some (word p.0) ∷ Some (value_of_number p.1.start_time) ∷ Some (value_of_number p.1.end_time) ∷ Some (value_of_number p.1.headway_secs)
+    ∷ Some (value_of_number p.1.exact_times) ∷ []
 
 abbrev pub transfer_cells : Transfer → List Cell
 transfer_cells t = option_map word t.from_stop_id ∷ option_map word t.to_stop_id ∷ option_map word t.from_route_id ∷ option_map word t.to_route_id
-    ∷ option_map word t.from_trip_id ∷ option_map word t.to_trip_id ∷ Some (number t.transfer_type) ∷ option_map number t.min_transfer_time ∷ []
+    ∷ option_map word t.from_trip_id ∷ option_map word t.to_trip_id ∷ Some (value_of_number t.transfer_type) ∷ option_map value_of_number t.min_transfer_time ∷ []
 
 -- ---- the rows of the files that a trip or a service holds
 

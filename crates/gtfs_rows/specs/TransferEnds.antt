@@ -3,7 +3,7 @@ use Rattle.std.specs.Prelude.{ℕ, ◌&&◌, [], ◌∷◌, Bool, List, length, 
 use Rattle.gtfs_rows.specs.declared.transfer.Transfer.{Transfer as TransferRow}
 use Rattle.gtfs_rows.specs.Choices.{transfer_code}
 use Rattle.gtfs_rows.specs.Rows.{Transfer}
-use Rattle.gtfs_rows.specs.NamedRows.{is_within, text_of_number}
+use Rattle.gtfs_rows.specs.NamedRows.{is_number_within, text_of_number}
 
 abbrev pub transfer_named : List (List ℕ) → List (List ℕ) → List (List ℕ) → TransferRow → Transfer
 transfer_named stops routes trips t = record {
@@ -24,6 +24,6 @@ transfer_numbers t = option_map (λ n. n.0) t.from_stop_id ∷ option_map (λ n.
 
 -- each is that of one of these ids
 abbrev pub names_ends : List (List ℕ) → List (List ℕ) → List (List ℕ) → TransferRow → Bool
-names_ends stops routes trips t = is_within (length stops) (option_map (λ n. n.0) t.from_stop_id) && is_within (length stops) (option_map (λ n. n.0) t.to_stop_id)
-    && is_within (length routes) (option_map (λ n. n.0) t.from_route_id) && is_within (length routes) (option_map (λ n. n.0) t.to_route_id)
-    && is_within (length trips) (option_map (λ n. n.0) t.from_trip_id) && is_within (length trips) (option_map (λ n. n.0) t.to_trip_id)
+names_ends stops routes trips t = is_number_within (length stops) (option_map (λ n. n.0) t.from_stop_id) && is_number_within (length stops) (option_map (λ n. n.0) t.to_stop_id)
+    && is_number_within (length routes) (option_map (λ n. n.0) t.from_route_id) && is_number_within (length routes) (option_map (λ n. n.0) t.to_route_id)
+    && is_number_within (length trips) (option_map (λ n. n.0) t.from_trip_id) && is_number_within (length trips) (option_map (λ n. n.0) t.to_trip_id)

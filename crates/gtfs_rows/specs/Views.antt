@@ -17,7 +17,7 @@ use Rattle.gtfs_rows.specs.declared.transfer.Transfer.{Transfer as TransferRow}
 use Rattle.gtfs_rows.specs.declared.trip.Trip.{Trip as TripRow}
 use Rattle.gtfs_rows.specs.Choices.{exact_code}
 use Rattle.gtfs_rows.specs.Content.{Content}
-pub use Rattle.gtfs_rows.specs.NamedRows.{is_within, text_of_number}
+pub use Rattle.gtfs_rows.specs.NamedRows.{is_number_within, text_of_number}
 use Rattle.gtfs_rows.specs.NamedRows.{route_named, stop_named, stop_row_named, trip_named}
 use Rattle.gtfs_rows.specs.Rows.{Agency, Stop, Route, ServiceRow, StopRow, Frequency, Trip, Transfer}
 use Rattle.gtfs_rows.specs.Sound.{IsSound}
@@ -105,19 +105,19 @@ content_of_parts p = record {
 -- ---- parts that make a feed
 
 abbrev pub names_stop : Parts → Option StopNo → Bool
-names_stop p o = is_within (length p.stops) (option_map (λ n. n.0) o)
+names_stop p o = is_number_within (length p.stops) (option_map (λ n. n.0) o)
 
 abbrev pub names_route : Parts → Option RouteNo → Bool
-names_route p o = is_within (length p.routes) (option_map (λ n. n.0) o)
+names_route p o = is_number_within (length p.routes) (option_map (λ n. n.0) o)
 
 abbrev pub names_trip : Parts → Option TripNo → Bool
-names_trip p o = is_within (length p.trips) (option_map (λ n. n.0) o)
+names_trip p o = is_number_within (length p.trips) (option_map (λ n. n.0) o)
 
 abbrev pub trip_names_rows : Parts → TripRow → Bool
 trip_names_rows p t = nat_lt t.route_id.0 (length p.routes) && nat_lt t.service_id.0 (length p.services)
 
 abbrev pub stop_time_names_rows : Parts → StopTime → Bool
-stop_time_names_rows p r = nat_lt r.stop_id.0 (length p.stops) && is_within (length p.headsigns) r.stop_headsign
+stop_time_names_rows p r = nat_lt r.stop_id.0 (length p.stops) && is_number_within (length p.headsigns) r.stop_headsign
 
 abbrev pub transfer_names_rows : Parts → TransferRow → Bool
 transfer_names_rows p t = names_stop p t.from_stop_id && names_stop p t.to_stop_id && names_route p t.from_route_id

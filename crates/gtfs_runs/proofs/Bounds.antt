@@ -10,7 +10,7 @@ use Rattle.std.proofs.lemmas.List.Folds.{list_all-append, list_all-map}
 use Rattle.gtfs_table.specs.declared.file.File.TheVariants as file
 use Rattle.gtfs_columns.specs.Columns.{columns_of, optional, time}
 use Rattle.gtfs_rows.specs.Cells.{are_cells, is_between, is_cell}
-use Rattle.gtfs_rows.specs.RowCells.{frequency_cells, held_by, number, stop_time_cells}
+use Rattle.gtfs_rows.specs.RowCells.{frequency_cells, held_by, value_of_number, stop_time_cells}
 use Rattle.gtfs_rows.specs.Rows as content
 use Rattle.gtfs_rows.specs.declared.frequency.Frequency.{Frequency}
 use Rattle.gtfs_rows.specs.declared.parts.Parts.{Parts}
@@ -48,7 +48,7 @@ bounds low high x h =
     at_most : (a b : ℕ) → int_le (pos a) (pos b) ≡ true → a ≤ b
     at_most a b le = grind (arith, ints)
 
-given_time : (o : Option ℕ) → is_cell (optional "departure_time" time) (option_map number o) ≡ true → IfSome o (λ a. a ≤ 3_599_999)
+given_time : (o : Option ℕ) → is_cell (optional "departure_time" time) (option_map value_of_number o) ≡ true → IfSome o (λ a. a ≤ 3_599_999)
 given_time None h = tt
 given_time (Some a) h = (bounds 0 3_599_999 a h).1
 

@@ -5,6 +5,7 @@
 //! - [`PickupType`], [`DropOffType`] and [`Timepoint`] are its choices, with the numbers of the standard.
 //! - A [`StopNo`] is the rank of an id among the ids of all stops, by bytes, from 0; a [`HeadsignNo`] is the index of a
 //!   headsign.
+//! - [`room_for`] tells for how many items a list of millions asks.
 //!
 //! The numbers of choices are in `specs/Choices.antt`; a value that may be missing, and its four bytes, in
 //! `specs/Optional.antt`.
@@ -13,9 +14,11 @@
 mod choices;
 mod numbers;
 mod optional;
+mod room;
 mod stop_row;
 
 pub use choices::{DropOffType, PickupType, Timepoint};
 pub use numbers::{HeadsignNo, StopNo};
 pub use optional::{OptionalClock, OptionalHeadsign};
+pub use room::room_for;
 pub use stop_row::StopRow;

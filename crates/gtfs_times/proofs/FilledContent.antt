@@ -16,7 +16,7 @@ use Rattle.gtfs_columns.specs.Columns.{columns_of, optional, time}
 use Rattle.gtfs_rows.proofs.RowTexts.{all_at}
 use Rattle.gtfs_rows.specs.Cells.{are_cells, is_between, is_cell}
 use Rattle.gtfs_rows.specs.Content.{Content}
-use Rattle.gtfs_rows.specs.RowCells.{cells_in, frequency_cells, held_by, number, stop_time_cells, stop_times_of, trip_cells}
+use Rattle.gtfs_rows.specs.RowCells.{cells_in, frequency_cells, held_by, value_of_number, stop_time_cells, stop_times_of, trip_cells}
 use Rattle.gtfs_rows.specs.Rows.{StopRow, Transfer, Trip}
 use Rattle.gtfs_field.proofs.ListFacts.{any_mapped}
 use Rattle.gtfs_rows.specs.NamedRows.{stop_row_named}
@@ -71,7 +71,7 @@ at-most m h = below m 3_599_999 (and_parts (int_le (pos 0) (pos m)) (int_le (pos
     below : (a b : ℕ) → int_le (pos a) (pos b) ≡ true → a ≤ b
     below a b le = grind (arith, ints)
 
-reached-early : (a d : Option ℕ) → is_cell (optional "arrival_time" time) (option_map number a) ≡ true → is_cell (optional "departure_time" time) (option_map number d) ≡ true → unwrap_or (option_or a d) 0 ≤ 3_599_999
+reached-early : (a d : Option ℕ) → is_cell (optional "arrival_time" time) (option_map value_of_number a) ≡ true → is_cell (optional "departure_time" time) (option_map value_of_number d) ≡ true → unwrap_or (option_or a d) 0 ≤ 3_599_999
 reached-early None None h k = omega arith
 reached-early None (Some m) h k = at-most m k
 reached-early (Some m) d h k = at-most m h

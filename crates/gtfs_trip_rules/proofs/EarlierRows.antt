@@ -1,9 +1,9 @@
 -- Rows that come before a row in the file.
-use Rattle.std.proofs.Common.{◌≡◌, ◌+◌, ◌<◌, ◌≤◌, ◌∙◌, ◌++◌, ◌∷◌, [], ℕ, zero, suc, List, Bool, true, false, cond, filter, length, ◌-◌, arith, subst}
+use Rattle.std.proofs.Common.{◌≡◌, ◌+◌, ◌<◌, ◌≤◌, ◌++◌, ◌∷◌, [], ℕ, zero, suc, List, Bool, true, false, cond, filter, length, ◌-◌, arith, subst}
 use Rattle.std.specs.List.{All, range_with_len}
 use Rattle.std.proofs.lemmas.List.Elements.{All-cons, All-head, All-nil, All-push, All-tail}
 use Rattle.gtfs_field.proofs.ListFacts.{first_is, rest_is}
-use Rattle.gtfs_table.specs.Rows.{is_row, numbers, records_in, rows, Row}
+use Rattle.gtfs_table.specs.Rows.{is_row, numbers, records_in, Row}
 use Rattle.gtfs_table.specs.Tables.{Dataset}
 use Rattle.gtfs_table.specs.declared.file.File.{File}
 use Rattle.gtfs_table.proofs.RowFacts.{numbers_more, IsTurn}

@@ -1,5 +1,5 @@
 -- Lists of stop times as they are kept: one more, those of some rows, and the same in another order.
-use Rattle.std.proofs.Common.{◌≡◌, ◌<◌, ◌∙◌, ◌++◌, ◌∷◌, [], ℕ, Bool, true, List, Some, ap, arith, cond, filter, get_or, inl, inr, length, map, refl, subst, sym}
+use Rattle.std.proofs.Common.{◌≡◌, ◌<◌, ◌∙◌, ◌++◌, ◌∷◌, [], ℕ, List, Some, ap, arith, filter, get_or, inl, inr, length, refl, subst, sym}
 use Rattle.std.specs.Prelude.{option_map, slice_get, IsPermutation}
 use Rattle.std.specs.List.{All}
 use Rattle.std.proofs.lemmas.Bool.{cases_Bool}

@@ -19,7 +19,6 @@ pub mod StopTimeFacts
 pub mod StopTimeFields
 pub mod StopTimePasses
 pub mod TripCountFacts
-pub mod TripKept
 pub mod TripNumberFacts
 pub mod TripPicks
 pub mod TripPositions
@@ -33,3 +32,6 @@ mod TripPlaced
 mod KeptListFacts
 mod PlaceFacts
 mod EarlierRows
+mod JudgedRows
+mod StretchFacts
+mod TogetherRows

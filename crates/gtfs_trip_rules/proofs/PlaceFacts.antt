@@ -1,5 +1,5 @@
 -- Rows with their ranks beside them, in the order of these.
-use Rattle.std.proofs.Common.{◌≡◌, ◌<◌, ◌+◌, ◌∙◌, ℕ, false, List, ap, arith, get_or, length, map, subst, sym}
+use Rattle.std.proofs.Common.{◌≡◌, ◌<◌, ◌+◌, ◌∙◌, ℕ, List, ap, arith, get_or, length, map, sym}
 use Rattle.std.specs.Cmp.{IsTotalOrder, nat_cmp_total, on_total, then_total}
 use Rattle.std.specs.List.{All}
 use Rattle.std.specs.List.Sorted.{IsSorted}

@@ -18,7 +18,7 @@ use Rattle.gtfs_columns.specs.Reads.{is_id}
 use Rattle.gtfs_columns.specs.Rows.{value_in}
 use Rattle.gtfs_trip_rules.specs.ServiceRows.{date_text, exception_in_texts, week_in_texts, week_text}
 use Rattle.gtfs_trip_rules.specs.ServiceView.{exception_type_of}
-use Rattle.gtfs_columns.specs.Values.{word, amount, as_amount, as_word, counted, has_control, measured, one_of, readable}
+use Rattle.gtfs_columns.specs.Values.{word, amount, as_amount, as_word, value_of_count, has_control, measured, one_of, readable}
 use Rattle.gtfs_table.specs.Rows.{is_empty}
 use Rattle.gtfs_columns.proofs.BoolFacts.{and_parts}
 use Rattle.gtfs_columns.proofs.ValueFacts.{amount_back, counted_amount}
@@ -37,7 +37,7 @@ id_word t = word_at (is_empty t) (has_control t) t
 
 -- ---- choices and dates
 
-counted_some : (r : Result ℕ FieldFault) → is_some (result_ok (counted r)) ≡ is_some (result_ok r)
+counted_some : (r : Result ℕ FieldFault) → is_some (result_ok (value_of_count r)) ≡ is_some (result_ok r)
 counted_some (Ok n) = refl
 counted_some (Err e) = refl
 
@@ -46,12 +46,12 @@ measured_is (Ok x) = refl
 measured_is (Err e) = refl
 
 choice_at : (empty : Bool) (r : Result ℕ FieldFault) → (empty ≡ true → result_ok r ≡ None)
-    → option_and_then as_amount (if empty then None else result_ok (counted r)) ≡ option_map pos (result_ok r)
+    → option_and_then as_amount (if empty then None else result_ok (value_of_count r)) ≡ option_map pos (result_ok r)
 choice_at true r none = ap (option_map pos) (sym (none refl))
 choice_at false r none = counted_amount r
 
 some_at : (empty : Bool) (r : Result ℕ FieldFault) → (empty ≡ true → result_ok r ≡ None)
-    → is_some (if empty then None else result_ok (counted r)) ≡ is_some (result_ok r)
+    → is_some (if empty then None else result_ok (value_of_count r)) ≡ is_some (result_ok r)
 some_at true r none = ap is_some (sym (none refl))
 some_at false r none = counted_some r
 

@@ -1,13 +1,14 @@
 -- How many rows of stop_times.txt name a trip, counted by the numbers of trips.
-use Rattle.std.proofs.Common.{◌≡◌, ◌≢◌, ◌+◌, ◌<◌, ◌≤◌, ◌∙◌, ◌++◌, ◌∷◌, [], ℕ, Bool, true, false, List, cond, filter, length, length-append, map, get_or, set, refl, sym, ap, arith, inl, inr, Bor, Option, Some, None, option_map}
+use Rattle.std.proofs.Common.{◌≡◌, ◌≢◌, ◌+◌, ◌<◌, ◌≤◌, ◌∙◌, ◌++◌, ◌∷◌, [], ℕ, Bool, true, false, List, cond, filter, length, length-append, map, get_or, set, refl, reverse, sym, ap, arith, inl, inr, Bor, Option, Some, None, option_map}
 use Rattle.std.specs.Prelude.{◌&&◌, ◌==◌, bytes_eq, codes, min, nat_lt}
 use Rattle.std.specs.BTreeMap.{BTreeMap}
-use Rattle.std.specs.List.{All}
+use Rattle.std.specs.List.{All, list_any}
 use Rattle.std.specs.Option.{unwrap_or}
 use Rattle.std.proofs.lemmas.Bool.{cases_Bool, eqb-true as same_number}
 use Rattle.std.proofs.lemmas.Bool.Decides.{nat_tests}
 use Rattle.std.proofs.lemmas.List.{get_or_default, get_or-set_other, get_or-set_same}
 use Rattle.std.proofs.lemmas.List.Elements.{All-push, All-tail, filter-append}
+use Rattle.std.proofs.lemmas.List.Sorted.{IsPermutation-reverse, list_any-IsPermutation}
 use Rattle.gtfs_field.proofs.NumberFacts.{number_itself}
 use Rattle.gtfs_table.specs.Tables.{Dataset}
 use Rattle.gtfs_table.specs.declared.file.File.TheVariants as file
@@ -17,7 +18,9 @@ use Rattle.gtfs_columns.specs.Problems.{holds_in}
 use Rattle.gtfs_table.specs.Rows.{is_row, records_in}
 use Rattle.gtfs_columns.specs.Rows.{text_in}
 use Rattle.gtfs_trip_rules.specs.TripCounts.{AreCounts, AreKept, count_of}
+use Rattle.gtfs_trip_rules.specs.declared.trips.judge.Judge.{Judge}
 use Rattle.gtfs_trip_rules.specs.KeptTimes.{is_placed}
+use Rattle.gtfs_trip_rules.specs.TripJudged.{Judges}
 use Rattle.gtfs_trip_rules.specs.TripNotes.{note_of, times_noted, trip_notes_in}
 use Rattle.gtfs_trip_rules.specs.TripNumbers.{AreNamed, AreNumbered, Keeps, name_at, number_of_trip}
 use Rattle.gtfs_columns.specs.Columns.{id as id_kind}
@@ -39,6 +42,13 @@ one_more n rows row =
     if_one : (b : Bool) → length (cond b (row ∷ []) []) ≡ cond b 1 0
     if_one true = refl
     if_one false = refl
+
+none_pass : (p : StopTime → Bool) (rows : List StopTime) → length (filter p rows) ≡ 0 → list_any p rows ≡ false
+none_pass p [] none = refl
+none_pass p (r ∷ rows) none = elim (cases_Bool (p r)) [
+  | inl has ↦ absurd (omega (arith, (rw has at none)))
+  | inr other ↦ rw other (none_pass p rows (rw other at none))
+]
 
 module _ (counts : List ℕ) (rows : List StopTime) (counted : AreCounts counts rows) where
   counts_more : (row : StopTime) → row.trip < length counts → (count more : ℕ) → count ≡ get_or counts row.trip count → more ≡ min (count + 1) 2 → AreCounts (set counts row.trip more) (rows ++ row ∷ [])
@@ -65,28 +75,36 @@ module _ (counts : List ℕ) (rows : List StopTime) (counted : AreCounts counts 
       add_none : (m : ℕ) → m + 0 ≡ m
       add_none m = omega arith
 
+  -- a count of none
+  pub none_named : (count n : ℕ) → n < length counts → count ≡ get_or counts n count → count ≡ 0 → list_any (λ r. n == r.trip) (reverse rows) ≡ false
+  none_named count n inside is none =
+      sym (list_any-IsPermutation (λ (r : StopTime). n == r.trip) rows (reverse rows) (IsPermutation-reverse rows))
+      ∙ none_pass (λ r. n == r.trip) rows (omega (arith, none, is, get_or_default counts n count 0 inside, counted n))
+
   -- no count is greater than two
   pub count_fits : (count n : ℕ) → n < length counts → count ≡ get_or counts n count → count ≤ 2
   count_fits count n inside is = omega (arith, is, get_or_default counts n count 0 inside, counted n)
 
 module _ (trips : List (List ℕ)) where
   -- after a trip was given its number
-  pub still_kept : (old new : BTreeMap (Bor (List ℕ)) ℕ) (names more : List (Bor (List ℕ))) (counts wide : List ℕ) (are_sequenced : Bool) (rows : List StopTime) → AreKept trips old names counts are_sequenced rows
-      → Keeps trips old new → AreNamed trips new more → ((n : ℕ) → get_or wide n 0 ≡ get_or counts n 0) → AreKept trips new more wide are_sequenced rows
-  still_kept old new names more counts wide are_sequenced rows kept keeps named same = record {
+  pub still_kept : (old new : BTreeMap (Bor (List ℕ)) ℕ) (names more : List (Bor (List ℕ))) (counts wide : List ℕ) (are_sequenced : Bool) (judge : Judge) (rows : List StopTime) → AreKept trips old names counts are_sequenced judge rows
+      → Keeps trips old new → AreNamed trips new more → ((n : ℕ) → get_or wide n 0 ≡ get_or counts n 0) → AreKept trips new more wide are_sequenced judge rows
+  still_kept old new names more counts wide are_sequenced judge rows kept keeps named same = record {
     numbered = record { named = named; numbered = rows_stay trips old new names more rows kept.numbered.numbered keeps named };
     counted = λ n. same n ∙ kept.counted n;
     located = kept.located;
+    judged = kept.judged;
   }
 
   -- one row more
-  pub one_kept : (numbers : BTreeMap (Bor (List ℕ)) ℕ) (names : List (Bor (List ℕ))) (counts : List ℕ) (are_sequenced : Bool) (rows : List StopTime) (row : StopTime) (id : List ℕ) (count more : ℕ) (are : Bool)
-      → are ≡ (are_sequenced && is_placed row.times) → AreKept trips numbers names counts are_sequenced rows → number_of_trip trips numbers id ≡ Some row.trip → row.trip < length counts → count ≡ get_or counts row.trip count → more ≡ min (count + 1) 2
-      → AreKept trips numbers names (set counts row.trip more) are (rows ++ row ∷ [])
-  one_kept numbers names counts are_sequenced rows row id count more are both kept here inside was is_more = record {
+  pub one_kept : (numbers : BTreeMap (Bor (List ℕ)) ℕ) (names : List (Bor (List ℕ))) (counts : List ℕ) (are_sequenced : Bool) (rows : List StopTime) (row : StopTime) (id : List ℕ) (count more : ℕ) (are : Bool) (old new : Judge)
+      → are ≡ (are_sequenced && is_placed row.times) → Judges new (reverse (rows ++ row ∷ [])) → AreKept trips numbers names counts are_sequenced old rows → number_of_trip trips numbers id ≡ Some row.trip → row.trip < length counts → count ≡ get_or counts row.trip count → more ≡ min (count + 1) 2
+      → AreKept trips numbers names (set counts row.trip more) are new (rows ++ row ∷ [])
+  one_kept numbers names counts are_sequenced rows row id count more are old new both judged kept here inside was is_more = record {
     numbered = one_numbered trips numbers names rows row id kept.numbered.named kept.numbered.numbered here;
     counted = counts_more counts rows kept.counted row inside count more was is_more;
     located = λ all. let parts = and_parts are_sequenced (is_placed row.times) (sym both ∙ all) in All-push (λ (r : StopTime). is_placed r.times ≡ true) rows row (kept.located parts.0) parts.1;
+    judged = judged;
   }
 
 -- rows that all pass

@@ -9,7 +9,6 @@ use Rattle.gtfs_table.specs.declared.file.File.{File}
 use Rattle.gtfs_table.specs.declared.file.File.TheVariants as file
 use Rattle.gtfs_columns.specs.declared.code.Code.{Code}
 use Rattle.gtfs_columns.specs.declared.code.Code.TheVariants as code
-use Rattle.gtfs_columns.specs.steps.Found.{Reports}
 use Rattle.gtfs_columns.specs.KeyRules.{key_twice}
 use Rattle.gtfs_columns.specs.steps.Picks.{at_column, in_file, is_kept, of_codes}
 use Rattle.gtfs_columns.specs.Problems.{FileName, kept, other, Problem, holds, is_code, is_problem}
@@ -19,7 +18,6 @@ use Rattle.gtfs_columns.specs.TripRules.{goes_back, is_end_untimed}
 use Rattle.gtfs_trip_rules.specs.StopTimePicks.{breaks_order}
 use Rattle.gtfs_columns.proofs.BoolFacts.{and_parts, or_left, or_right, same_test}
 use Rattle.gtfs_columns.proofs.SiteFacts.{code_is, file_is}
-use Rattle.gtfs_columns.proofs.ReportingFacts.{reports_alike, reports_then}
 
 -- a rule that is reported at one column
 in_stop_times : (x : File) → is_file x file.StopTimes ≡ true → is_file file.StopTimes x ≡ true
@@ -46,13 +44,13 @@ column_of c name p is site =
     and_both (is_code p.code c && is_kept file.StopTimes p.file) (bytes_eq p.column name) (and_both (is_code p.code c) (is_kept file.StopTimes p.file) is parts.0) parts.1
 
 module _ (d : Dataset) (p : Problem) where
-  abbrev at_key : Bool
+  abbrev pub at_key : Bool
   at_key = at_column code.E09 file.StopTimes (codes "stop_sequence") p
 
-  abbrev at_ends : Bool
+  abbrev pub at_ends : Bool
   at_ends = at_column code.E15 file.StopTimes (codes "arrival_time") p
 
-  abbrev at_back : Bool
+  abbrev pub at_back : Bool
   at_back = at_column code.E17 file.StopTimes (codes "arrival_time") p
 
   abbrev picked : Bool
@@ -97,16 +95,7 @@ module _ (d : Dataset) (p : Problem) where
         (or_left (is_code p.code code.E17) false (and_parts (is_code p.code code.E17) (is_kept file.StopTimes p.file) (code_of code.E17 (codes "arrival_time") back)).0))
   ]
 
-  same_picks : (((at_key || at_ends) || at_back) && is_problem d p) ≡ (picked && is_problem d p)
+  pub same_picks : (((at_key || at_ends) || at_back) && is_problem d p) ≡ (picked && is_problem d p)
   same_picks = same_test (((at_key || at_ends) || at_back) && is_problem d p) (picked && is_problem d p)
       (λ e. let parts = and_parts ((at_key || at_ends) || at_back) (is_problem d p) e in and_both picked (is_problem d p) (joined parts.0) parts.1)
       (λ e. let parts = and_parts picked (is_problem d p) e in and_both ((at_key || at_ends) || at_back) (is_problem d p) (apart parts.1 parts.0) parts.1)
-
-pub order_reported : (d : Dataset) (old first second new : List Problem)
-    → Reports d (at_column code.E09 file.StopTimes (codes "stop_sequence")) old first
-    → Reports d (at_column code.E15 file.StopTimes (codes "arrival_time")) first second
-    → Reports d (at_column code.E17 file.StopTimes (codes "arrival_time")) second new
-    → Reports d breaks_order old new
-order_reported d old first second new keys ends back =
-    reports_alike d (λ p. (at_key d p || at_ends d p) || at_back d p) (picked d) old new (same_picks d)
-    (reports_then d (λ p. at_key d p || at_ends d p) (at_back d) old second new (reports_then d (at_key d) (at_ends d) old first second keys ends) back)

@@ -20,7 +20,7 @@ use Rattle.gtfs_columns.specs.Rows.{text_in, word_in}
 use Rattle.gtfs_trip_rules.specs.TripOrder.{same_sequence, same_trip}
 use Rattle.gtfs_trip_rules.specs.TripStopTimes.{TripStopTime, has_trip_stop_time, trip_stop_time_in, trip_stop_times_in}
 use Rattle.gtfs_columns.specs.TripRules.{arrival_in, departure_in, goes_back, is_end_untimed, is_first_row, is_earlier_equal, is_last_row, is_timed_before, sequence_in, stands_before, timed_rows}
-use Rattle.gtfs_columns.specs.Values.{Value, amount, as_amount, as_word, counted, has_control, if_both, if_there, is_word, value_eq, word}
+use Rattle.gtfs_columns.specs.Values.{Value, amount, as_amount, as_word, value_of_count, has_control, if_both, if_there, is_word, value_eq, word}
 use Rattle.gtfs_columns.proofs.BoolFacts.{and_parts, no_test}
 use Rattle.gtfs_trip_rules.proofs.TripPositions.{is_left_late, is_timed_in, left_late}
 use Rattle.gtfs_trip_rules.proofs.TripStopTimeOrder.{is_earlier_twin, is_lower, stands_first}
@@ -236,7 +236,7 @@ id_value true clean t = refl
 id_value false true t = refl
 id_value false false t = refl
 
-count_value : (empty : Bool) (r : Result ℕ FieldFault) → let v : Option Value = cond empty None (result_ok (counted r)) in v ≡ option_map amount (option_and_then as_amount v)
+count_value : (empty : Bool) (r : Result ℕ FieldFault) → let v : Option Value = cond empty None (result_ok (value_of_count r)) in v ≡ option_map amount (option_and_then as_amount v)
 count_value true r = refl
 count_value false (Ok x) = refl
 count_value false (Err e) = refl

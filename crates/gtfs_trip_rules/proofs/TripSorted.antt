@@ -1,23 +1,19 @@
 -- The rows of trips after a sort: each row once, in the order of trip, sequence and row.
-use Rattle.std.proofs.Common.{◌≡◌, ℕ, zero, suc, ◌-◌, length, ◌+◌, ◌<◌, ◌≤◌, true, false, Bool, cond, get_or, take, Some, List, [], ◌∷◌, map, filter, refl, sym, ap, ◌∙◌, subst, inl, inr, arith}
-use Rattle.std.specs.Prelude.{◌==◌, pos, slice_get, IsPermutation}
-use Rattle.std.specs.Cmp.{Equal-is, IsTotalOrder, nat_cmp_total, on_total, then_total, tied_itself}
+use Rattle.std.proofs.Common.{◌≡◌, ℕ, zero, suc, ◌-◌, length, ◌+◌, ◌<◌, ◌≤◌, true, false, Bool, cond, get_or, List, [], ◌∷◌, map, filter, refl, sym, ap, ◌∙◌, subst, inl, inr, arith}
+use Rattle.std.specs.Prelude.{◌==◌, pos, IsPermutation}
+use Rattle.std.specs.Cmp.{Equal-is, IsTotalOrder, on_total, tied_itself}
 use Rattle.std.specs.Cmp.Lexicographic.{nat_list_cmp_total}
 use Rattle.std.specs.FinMap.{nat_cmp-IsAntisymmetric}
 use Rattle.std.specs.List.{AllByRecursion, dedup, dedup_from, range_with_len, sum_by}
-use Rattle.std.specs.List.Sorted.{IsSorted, IsSortedWithin, IsStrictlySortedBy}
+use Rattle.std.specs.List.Sorted.{IsSorted, IsStrictlySortedBy}
 use Rattle.std.specs.Ordering.{eq_by_cmp, int_cmp, is_lt, nat_cmp, ordering_then}
 use Rattle.std.specs.declared.cmp.Ordering.{Ordering}
 use Rattle.std.specs.declared.cmp.Ordering.TheVariants.{Less, Equal, Greater}
 use Rattle.std.proofs.lemmas.Bool.{cases_Bool, eqb-true as same_number}
-use Rattle.std.proofs.Math.Nat.{eq-or-lt_of_le}
 use Rattle.std.proofs.lemmas.Bool.Decides.{nat_tests}
-use Rattle.std.proofs.lemmas.List.{get_or-take, length-take-le}
 use Rattle.std.proofs.lemmas.List.Kept.{IsStrictlySortedBy-dedup}
 use Rattle.std.proofs.lemmas.List.Sorted.{All-permutation, IsPermutation-map, sum_by-IsPermutation}
 use Rattle.std.proofs.lemmas.List.Sums.{sum_by-cons}
-use Rattle.std.proofs.lemmas.Cmp.{int_cmp_total}
-use Rattle.std.proofs.lemmas.Option.{get_or_from_slice_get, slice_get-get_or}
 use Rattle.gtfs_field.proofs.NumberFacts.{number_itself}
 use Rattle.gtfs_field.specs.TextOrder.{text_cmp}
 use Rattle.gtfs_table.specs.Tables.{Dataset, Records}
@@ -25,9 +21,8 @@ use Rattle.gtfs_table.specs.declared.file.File.TheVariants as file
 use Rattle.gtfs_table.specs.Rows.{is_row, records_in}
 use Rattle.gtfs_trip_rules.specs.declared.trips.row.StopTime.{StopTime}
 use Rattle.gtfs_trip_rules.specs.TripNumbers.{AllNumbered, IsNumbered}
-use Rattle.gtfs_trip_rules.specs.TripOrder.{falls, kept_cmp, row_cmp, AreInOrder, InOrder}
+use Rattle.gtfs_trip_rules.specs.TripOrder.{kept_cmp, row_cmp, AreInOrder, InOrder}
 use Rattle.gtfs_trip_rules.specs.TripStopTimes.{TripStopTime, has_trip_stop_time, trip_stop_time, trip_stop_time_in, trip_stop_times_in}
-use Rattle.gtfs_columns.specs.Values.{if_there}
 use Rattle.gtfs_columns.proofs.BoolFacts.{no_test}
 use Rattle.gtfs_columns.proofs.FoundFacts.{sorted_mapped}
 use Rattle.gtfs_trip_rules.proofs.TripStopTimeOrder.{row_total}
@@ -87,7 +82,7 @@ once n d = once_in (records_in d file.StopTimes)
 -- ---- rows that come once and are sorted ascend
 
 module _ (number : List ℕ → ℕ) (name : ℕ → List ℕ) where
-  abbrev lent_cmp : StopTime → StopTime → Ordering
+  abbrev pub lent_cmp : StopTime → StopTime → Ordering
   lent_cmp x y = row_cmp number (trip_stop_time name x) (trip_stop_time name y)
 
   abbrev lent_here : ℕ → StopTime → ℕ
@@ -132,13 +127,13 @@ module _ (number : List ℕ → ℕ) (name : ℕ → List ℕ) where
   lent_total : IsTotalOrder lent_cmp
   lent_total = on_total (trip_stop_time name) (row_total number)
 
-  sorted_strictly : (d : Dataset) (old new : List StopTime) → map (trip_stop_time name) old ≡ trip_stop_times_in d → IsPermutation old new → IsSorted lent_cmp new → IsStrictlySortedBy lent_cmp new
+  pub sorted_strictly : (d : Dataset) (old new : List StopTime) → map (trip_stop_time name) old ≡ trip_stop_times_in d → IsPermutation old new → IsSorted lent_cmp new → IsStrictlySortedBy lent_cmp new
   sorted_strictly d old new is swapped sorted = subst (IsStrictlySortedBy lent_cmp) (kept_all new each) (IsStrictlySortedBy-dedup lent_total (λ x y. refl) new sorted)
     where
       each : EachOnce new
       each n = omega (arith, once n d, sum_by-IsPermutation (lent_here n) old new swapped, sum_lent n old ∙ ap (sum_by (row_here n)) is)
 
-  sorted_in_order : (d : Dataset) (old new : List StopTime) → map (trip_stop_time name) old ≡ trip_stop_times_in d → IsPermutation old new → IsStrictlySortedBy lent_cmp new → InOrder d (map (trip_stop_time name) new)
+  pub sorted_in_order : (d : Dataset) (old new : List StopTime) → map (trip_stop_time name) old ≡ trip_stop_times_in d → IsPermutation old new → IsStrictlySortedBy lent_cmp new → InOrder d (map (trip_stop_time name) new)
   sorted_in_order d old new is swapped strictly = record {
     number = number;
     moved = subst (λ (rs : List TripStopTime). IsPermutation rs (map (trip_stop_time name) new)) is (IsPermutation-map (trip_stop_time name) old new swapped);
@@ -188,25 +183,3 @@ module _ (number : List ℕ → ℕ) (name : ℕ → List ℕ) where
         order = sorted_in_order d old new is swapped strictly;
         ascending = ascend_by_numbers new numbered strictly;
       }
-
--- ---- rows that are found to be sorted, one after the other
-
-abbrev pub below : StopTime → StopTime → Bool
-below x y = is_lt (kept_cmp x y)
-
--- a row that does not stand below the last of the sorted rows before it
-pub sorted_further : (rows : List StopTime) (at : ℕ) (z : StopTime) → at < length rows → IsSortedWithin below rows 0 at → falls (take at rows) (get_or rows at z) ≡ false → IsSortedWithin below rows 0 (at + 1)
-sorted_further rows at z within sorted stands k x low h = elim (eq-or-lt_of_le {n = k + 1} {m = at} (omega (arith, h))) [
-  | inr before ↦ sorted k x low before
-  | inl here ↦
-      let size : length (take at rows) ≡ at = length-take-le at rows (omega (arith, within)) in
-      let before_it : length (take at rows) - 1 ≡ k = omega (arith, size, here) in
-      let last : slice_get (take at rows) (length (take at rows) - 1) ≡ Some (get_or rows k x) =
-      ap (slice_get (take at rows)) before_it ∙ slice_get-get_or (take at rows) k x (omega (arith, size, here)) ∙ ap (λ y. Some y) (get_or-take at rows k x (omega (arith, here))) in
-      let row : get_or rows at x ≡ get_or rows at z = get_or_from_slice_get rows at (get_or rows at z) x (slice_get-get_or rows at z within) in
-      ap (λ n. below (get_or rows n x) (get_or rows k x)) here ∙ ap (λ r. below r (get_or rows k x)) row ∙ ap (λ o. if_there o (below (get_or rows at z))) (sym last) ∙ stands
-]
-
-pub kept_total : IsTotalOrder kept_cmp
-kept_total = then_total (on_total (λ (r : StopTime). r.trip) nat_cmp_total)
-    (then_total (on_total (λ (r : StopTime). pos r.stop_row.stop_sequence) int_cmp_total) (on_total (λ (r : StopTime). r.row) nat_cmp_total))

@@ -1,5 +1,5 @@
 -- What a stop time as it is kept says of its row, where the row's values are readable and what they name is there.
-use Rattle.std.specs.Prelude.{◌≡◌, ℕ, true, Option, Some, option_and_then, option_map, ℤ, pos, [], ◌∷◌, List, codes, not}
+use Rattle.std.specs.Prelude.{◌≡◌, ℕ, Option, Some, option_and_then, option_map, ℤ, pos, [], ◌∷◌, List, codes, not}
 use Rattle.std.specs.List.{All}
 use Rattle.gtfs_table.specs.Tables.{Dataset}
 use Rattle.gtfs_table.specs.declared.file.File.TheVariants as file

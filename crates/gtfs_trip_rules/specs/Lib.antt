@@ -4,6 +4,7 @@ pub mod KeptLists
 pub mod KeptOrder
 pub mod KeptPlaces
 pub mod KeptRow
+pub mod KeptStretches
 pub mod KeptTimes
 pub mod PeriodView
 pub mod Readings
@@ -15,6 +16,7 @@ pub mod SpanView
 pub mod StopTimePicks
 pub mod StopTimes
 pub mod TripCounts
+pub mod TripJudged
 pub mod TripNotes
 pub mod TripNumbers
 pub mod TripOrder

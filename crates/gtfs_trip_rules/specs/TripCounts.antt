@@ -1,11 +1,13 @@
 -- What is kept of the rows of stop_times.txt: how many name a trip, by the numbers of trips, and whether each has a sequence.
-use Rattle.std.specs.Prelude.{◌≡◌, ◌==◌, ℕ, Bool, true, List, filter, get_or, length, min, nat_lt, option_map}
+use Rattle.std.specs.Prelude.{◌≡◌, ◌==◌, ℕ, Bool, true, List, filter, get_or, length, min, nat_lt, option_map, reverse}
 use Rattle.std.specs.Borrow.{Bor}
 use Rattle.std.specs.BTreeMap.{BTreeMap}
 use Rattle.std.specs.List.{All}
 use Rattle.std.specs.Option.{unwrap_or}
 use Rattle.gtfs_trip_rules.specs.declared.trips.row.StopTime.{StopTime}
+use Rattle.gtfs_trip_rules.specs.declared.trips.judge.Judge.{Judge}
 use Rattle.gtfs_trip_rules.specs.KeptTimes.{is_placed}
+use Rattle.gtfs_trip_rules.specs.TripJudged.{Judges}
 use Rattle.gtfs_trip_rules.specs.TripNumbers.{number_of_trip, AreNumbered}
 
 -- of each number how many rows have it, up to two
@@ -25,7 +27,8 @@ abbrev pub AreSequenced : Bool → List StopTime → Type 0
 AreSequenced are rows = are ≡ true → All (λ r. is_placed r.times ≡ true) rows
 
 -- what is kept beside the rows is right of them
-pub record AreKept (trips : List (List ℕ)) (numbers : BTreeMap (Bor (List ℕ)) ℕ) (names : List (Bor (List ℕ))) (counts : List ℕ) (are_sequenced : Bool) (rows : List StopTime) : Type 0 where
+pub record AreKept (trips : List (List ℕ)) (numbers : BTreeMap (Bor (List ℕ)) ℕ) (names : List (Bor (List ℕ))) (counts : List ℕ) (are_sequenced : Bool) (judge : Judge) (rows : List StopTime) : Type 0 where
   pub numbered : AreNumbered trips numbers names rows
   pub counted : AreCounts counts rows
   pub located : AreSequenced are_sequenced rows
+  pub judged : Judges judge (reverse rows)

@@ -1,13 +1,13 @@
 -- The rows of trips in their order: by trip, sequence and row. What a row breaks by its position among them.
-use Rattle.std.specs.Prelude.{ℕ, ◌+◌, ◌-◌, ◌*◌, ◌^◌, ◌&&◌, ◌||◌, not, Bool, true, false, if◌then◌else◌, List, [], ◌∷◌, bytes_eq, drop, length, reverse, slice_get, take, Option, None, ℤ, pos, int_lt, map, IsPermutation}
+use Rattle.std.specs.Prelude.{ℕ, ◌+◌, ◌*◌, ◌^◌, ◌&&◌, ◌||◌, not, Bool, true, false, if◌then◌else◌, List, [], ◌∷◌, bytes_eq, drop, reverse, take, Option, None, ℤ, pos, int_lt, map, IsPermutation}
 use Rattle.std.specs.List.Sorted.{IsStrictlySortedBy}
 use Rattle.std.specs.Option.{option_or}
-use Rattle.std.specs.Ordering.{int_cmp, int_eq, is_lt, nat_cmp, on, then_cmp}
+use Rattle.std.specs.Ordering.{int_cmp, int_eq, nat_cmp, on, then_cmp}
 use Rattle.std.specs.declared.cmp.Ordering.{Ordering}
 use Rattle.gtfs_field.specs.TextOrder.{text_cmp}
 use Rattle.gtfs_table.specs.Tables.{Dataset}
 use Rattle.gtfs_trip_rules.specs.declared.trips.row.StopTime.{StopTime}
-use Rattle.gtfs_columns.specs.Values.{if_both, if_there}
+use Rattle.gtfs_columns.specs.Values.{if_both}
 use Rattle.gtfs_trip_rules.specs.TripNumbers.{AllNumbered}
 use Rattle.gtfs_trip_rules.specs.TripStopTimes.{TripStopTime, trip_stop_time, trip_stop_times_in}
 
@@ -32,10 +32,6 @@ kept_cmp = then_cmp (on (λ r. r.trip) nat_cmp) (then_cmp (on (λ r. pos r.stop_
 -- a row by its trip and its sequence
 abbrev pub rank : StopTime → ℕ
 rank row = row.trip * 2 ^ 32 + row.stop_row.stop_sequence
-
--- a row stands below the last of the rows before it
-abbrev pub falls : List StopTime → StopTime → Bool
-falls before row = if_there (slice_get before (length before - 1)) (λ last. is_lt (kept_cmp row last))
 
 -- the rows of a dataset, each once and in their order, by some numbers of trips
 pub record InOrder (d : Dataset) (rows : List TripStopTime) : Type 0 where

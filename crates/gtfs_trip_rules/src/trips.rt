@@ -1,4 +1,5 @@
 pub(crate) mod counts;
+pub(crate) mod judge;
 pub(crate) mod kept;
 pub(crate) mod notes;
 pub(crate) mod numbers;
@@ -7,4 +8,4 @@ pub(crate) mod places;
 pub(crate) mod ranks;
 pub(crate) mod row;
 pub(crate) mod row_counts;
-mod stretches;
+pub(crate) mod stretches;

@@ -19,7 +19,7 @@ use Rattle.gtfs_rows.specs.declared.parts.Parts.{Parts}
 use Rattle.gtfs_stop_times.specs.declared.stop_row.StopRow.{StopRow as StopTime}
 use Rattle.gtfs_rows.specs.declared.trip.Trip.{Trip}
 use Rattle.gtfs_rows.specs.Cells.{are_cells, record_text}
-use Rattle.gtfs_rows.specs.RowCells.{held_by, number, stop_time_cells, stop_times_of}
+use Rattle.gtfs_rows.specs.RowCells.{held_by, value_of_number, stop_time_cells, stop_times_of}
 use Rattle.gtfs_rows.specs.Rows.{StopRow, Trip as TripWithRows}
 use Rattle.gtfs_rows.specs.Views.{IsSoundParts, content_of_parts, stop_ids, stop_row_of, text_of_number, trips_of}
 use Rattle.gtfs_writing.specs.Bounds.{longest}
@@ -76,11 +76,11 @@ texts_length y = length y.0 + length y.1.stop_id + text_length y.1.stop_headsign
 abbrev have_texts : ℕ → List (List ℕ × StopRow) → Bool
 have_texts n ys = list_all (λ y. nat_le (texts_length y) n) ys
 
-time-most : (o : Option ℕ) → cell_most time (option_map number o) ≤ 9
+time-most : (o : Option ℕ) → cell_most time (option_map value_of_number o) ≤ 9
 time-most None = omega arith
 time-most (Some v) = omega arith
 
-choice-most : (o : Option ℕ) → cell_most (up_to 1) (option_map number o) ≤ 1
+choice-most : (o : Option ℕ) → cell_most (up_to 1) (option_map value_of_number o) ≤ 1
 choice-most None = omega arith
 choice-most (Some v) = omega arith
 

@@ -6,7 +6,7 @@ ghost use Rattle.gtfs_field.specs.declared.coord.Axis.{Axis};
 ghost use Rattle.gtfs_columns.specs.Columns.{Kind, choice, coordinate, count, time};
 ghost use Rattle.gtfs_columns.specs.Values.{amount, word};
 ghost use Rattle.gtfs_rows.specs.Cells.{cell_text};
-ghost use Rattle.gtfs_rows.specs.RowCells.{number as numbered};
+ghost use Rattle.gtfs_rows.specs.RowCells.{value_of_number as numbered};
 
 use crate::digits::{one_digit, short_time, two_digits};
 use crate::sink::Sink;

@@ -3,7 +3,7 @@ ghost use Rattle.std.specs.Prelude.{◌≡◌, ◌<◌, length, option_map, true
 ghost use Rattle.gtfs_columns.specs.Columns.{Kind};
 ghost use Rattle.gtfs_columns.specs.Values.{word};
 ghost use Rattle.gtfs_rows.specs.Cells.{cell_text};
-ghost use Rattle.gtfs_rows.specs.Views.{agency_ids, is_within, names_route, names_stop, names_trip, route_ids, service_ids, stop_ids, text_of_number, trip_ids};
+ghost use Rattle.gtfs_rows.specs.Views.{agency_ids, is_number_within, names_route, names_stop, names_trip, route_ids, service_ids, stop_ids, text_of_number, trip_ids};
 
 use gtfs_rows::{
     AgencyNo, HeadsignNo, OptionalHeadsign, Parts, RouteNo, ServiceNo, StopNo, TripNo,
@@ -86,7 +86,7 @@ pub(crate) fn trip_id_if_any(parts: &Parts, trip: Option<TripNo>) -> &str
 }
 
 pub(crate) fn headsign_if_any(parts: &Parts, number: OptionalHeadsign) -> &str
-    requires { is_within (length parts.now.headsigns) number ≡ true }
+    requires { is_number_within (length parts.now.headsigns) number ≡ true }
     ensures { (kind : Kind) → result.now ≡ cell_text kind (option_map word
         (option_map (text_of_number parts.now.headsigns) number)) }
 {

@@ -1,18 +1,20 @@
 ghost use Rattle.std.specs.Prelude.{◌≡◌, ◌<◌, ◌∷◌, ◌++◌, [], filter, length, slice_get, slice_index_or, IfOk, IsPermutation, OnErr, OnOk, Some};
 ghost use Rattle.std.specs.List.Sorted.{IsSorted};
 ghost use Rattle.gtfs_trip_rules.specs.KeptLists.{no_note, KeepsBefore};
+ghost use Rattle.gtfs_trip_rules.specs.KeptStretches.{AreRising};
 ghost use Rattle.gtfs_trip_rules.specs.KeptTimes.{is_placed};
 ghost use Rattle.gtfs_trip_rules.specs.TripNotes.{AreEarlier};
 ghost use Rattle.gtfs_trip_rules.specs.TripOrder.{kept_cmp};
 
 use crate::trips::places::by_places;
-use crate::trips::ranks::{Ranks, ascend};
+use crate::trips::ranks::Ranks;
 use crate::trips::row::{StopTime, Times};
-use crate::trips::stretches::by_stretches;
+use crate::trips::stretches::by_trips;
 use gtfs_field::OutOfMemory;
-use gtfs_stop_times::StopRow;
+use gtfs_stop_times::{StopRow, room_for};
 use std::alloc::Global;
 use std::marker::Model;
+use std::mem::size_of;
 
 // What is noted of a row beside what it says.
 #[derive(Clone, Copy)]
@@ -53,9 +55,9 @@ impl KeptStopTimes {
         // Records have their numbers from 1.
         let end = records.saturating_add(1);
         Ok(KeptStopTimes {
-            rows: Vec::with_capacity(alloc, end)?,
-            notes: Vec::with_capacity(alloc, end)?,
-            order: Vec::with_capacity(alloc, records)?,
+            rows: Vec::with_capacity(alloc, room_for(end, size_of::<StopRow>()))?,
+            notes: Vec::with_capacity(alloc, room_for(end, size_of::<RowNote>()))?,
+            order: Vec::with_capacity(alloc, room_for(records, size_of::<u32>()))?,
         })
     }
 
@@ -110,33 +112,22 @@ impl KeptStopTimes {
     }
 
     // The same by trip, sequence and row.
-    pub(crate) fn in_order(self) -> Result<KeptStopTimes, OutOfMemory>
-        ensures sorted { IfOk result (IsSorted kept_cmp) }
-        ensures moved { IfOk result (IsPermutation self) }
-    {
-        let kept = self.moved();
-        if ascend(&kept) {
-            return Ok(kept);
-        }
-        kept.sorted()
-    }
-
-    // The same, where that is cheap in their order, if trips do not alternate.
-    fn moved(self) -> KeptStopTimes
-        ensures { IsPermutation self result }
-    {
-        let KeptStopTimes { rows, notes, order } = self;
-        let order = by_stretches(&Ranks::of(&rows, &notes), order);
-        KeptStopTimes { rows, notes, order }
-    }
-
-    // The same in their order.
-    fn sorted(self) -> Result<KeptStopTimes, OutOfMemory>
+    pub(crate) fn sorted(self) -> Result<KeptStopTimes, OutOfMemory>
         ensures sorted { IfOk result (IsSorted kept_cmp) }
         ensures moved { IfOk result (IsPermutation self) }
     {
         let KeptStopTimes { rows, notes, order } = self;
-        let order = by_places(&Ranks::of(&rows, &notes), order)?;
+        let order = by_places(*order.allocator(), &Ranks::of(&rows, &notes), &order)?;
+        Ok(KeptStopTimes { rows, notes, order })
+    }
+
+    // The same, where those of each trip stand together and ascend.
+    pub(crate) fn by_trips(self) -> Result<KeptStopTimes, OutOfMemory>
+        ensures sorted { IfOk result (λ kept. AreRising self → IsSorted kept_cmp kept) }
+        ensures moved { IfOk result (IsPermutation self) }
+    {
+        let KeptStopTimes { rows, notes, order } = self;
+        let order = by_trips(&Ranks::of(&rows, &notes), order)?;
         Ok(KeptStopTimes { rows, notes, order })
     }
 }

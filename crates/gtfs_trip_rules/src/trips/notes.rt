@@ -1,14 +1,16 @@
 ghost use Rattle.std.specs.Prelude.{◌≡◌, ◌∷◌, ◌++◌, [], true, List, ℕ, min, IfOk, OnOk};
-ghost use Rattle.std.specs.List.{All};
 ghost use Rattle.gtfs_columns.specs.IdNumbers.{number_among};
+ghost use Rattle.gtfs_columns.specs.Problems.{Problem as ProblemOf};
+ghost use Rattle.gtfs_columns.specs.steps.Found.{Reports};
 ghost use Rattle.gtfs_columns.specs.steps.Ids.{ids_of};
 ghost use Rattle.gtfs_table.specs.Tables.{Dataset};
 ghost use Rattle.gtfs_trip_rules.specs.Kept.{AllKeep};
-ghost use Rattle.gtfs_trip_rules.specs.KeptTimes.{is_placed};
+ghost use Rattle.gtfs_trip_rules.specs.KeptOrder.{AreKeptOf};
+ghost use Rattle.gtfs_trip_rules.specs.StopTimePicks.{breaks_order};
 ghost use Rattle.gtfs_trip_rules.specs.TripCounts.{count_of};
-ghost use Rattle.gtfs_trip_rules.specs.TripNotes.{rows_of_notes, times_noted, trip_note, AreEarlier, NotesRow};
-ghost use Rattle.gtfs_trip_rules.specs.TripNumbers.{AreRowsNumbered};
+ghost use Rattle.gtfs_trip_rules.specs.TripNotes.{times_noted, trip_note, trip_notes_in, AreEarlier, NotesRow};
 
+use crate::trips::judge::Judge;
 use crate::trips::kept::KeptStopTimes;
 use crate::trips::numbers::trip_number;
 use crate::trips::row::{StopTime, small_number};
@@ -27,6 +29,7 @@ pub struct TripNotes<'a> {
     rows: KeptStopTimes,
     // Whether each row has a sequence.
     are_sequenced: bool,
+    judge: Judge,
     // The trips that trips.txt lacks in the order of their numbers, and these. The first row that
     // names such a trip gives it its number.
     names: Vec<&'a str>,
@@ -52,7 +55,7 @@ impl<'a> Model for TripNotes<'a> {
     } };
 
     ghost invariant = { λ n. AreKept (ids_of n.trips.now) n.numbers n.names.items n.counts.items
-        n.are_sequenced n.rows };
+        n.are_sequenced n.judge n.rows };
 }
 
 impl<'a> TripNotes<'a> {
@@ -69,6 +72,7 @@ impl<'a> TripNotes<'a> {
             trips,
             rows: KeptStopTimes::with_room(alloc, rows)?,
             are_sequenced: true,
+            judge: Judge::new(),
             names: Vec::new(alloc),
             numbers: BTreeMap::new(alloc),
             counts: Vec::new(alloc),
@@ -86,7 +90,8 @@ impl<'a> TripNotes<'a> {
         requires known { number ≡ number_among self.old.trips trip_id.now }
         requires earlier { AreEarlier kept.row self.old.rows }
         ensures trips { self.new.trips ≡ self.old.trips }
-        ensures notes { OnOk result (self.new.notes ≡ self.old.notes ++ trip_note trip_id.now kept ∷ []) }
+        ensures notes { OnOk result
+            (self.new.notes ≡ self.old.notes ++ trip_note trip_id.now kept ∷ []) }
         ensures rows { OnOk result (NotesRow number kept self.old.rows self.new.rows) }
     {
         let trip = trip_number(
@@ -99,6 +104,7 @@ impl<'a> TripNotes<'a> {
         make_room(&mut self.counts, self.trips.len(), trip)?;
         let row = kept.of_trip(small_number(trip)?);
         self.rows.push(row)?;
+        self.judge.note(&row, self.counts[trip] == 0);
         let count = &mut self.counts[trip];
         *count = (*count + 1).min(2);
         self.are_sequenced = self.are_sequenced && row.times.are_placed();
@@ -118,21 +124,32 @@ impl<'a> TripNotes<'a> {
         }
     }
 
-    // The rows that have a sequence, in the file's order.
-    pub(crate) fn into_rows(self) -> Result<KeptStopTimes, OutOfMemory>
-        ensures numbered { IfOk result (AreRowsNumbered (rows_of_notes self.entry.notes)) }
-        ensures placed { IfOk result (All (λ r. is_placed r.times ≡ true)) }
-        ensures kept { IfOk result (λ rows.
-            (d : Dataset) → AllKeep d self.entry.rows → AllKeep d rows) }
+    // Whether the rows break nothing, as is mostly so: each has a sequence, and those of each trip stand together and in order.
+    // Where this says no, they may break nothing too.
+    pub(crate) fn are_faultless(&self) -> bool
+        ensures { result ≡ true → (d : Dataset) → self.now.notes ≡ trip_notes_in d
+            → (found : List ProblemOf) → Reports d breaks_order found found }
+    {
+        self.are_sequenced && self.judge.are_faultless()
+    }
+
+    // The rows that have a sequence, by trip, sequence and row.
+    pub(crate) fn into_order(self) -> Result<KeptStopTimes, OutOfMemory>
+        ensures { IfOk result (λ rows. (d : Dataset) → self.entry.notes ≡ trip_notes_in d
+            → AllKeep d self.entry.rows → AreKeptOf d rows) }
     {
         let TripNotes {
             rows,
             are_sequenced,
+            judge,
             ..
         } = self;
-        if are_sequenced {
-            return Ok(rows);
+        if !are_sequenced {
+            return rows.placed()?.sorted();
         }
-        rows.placed()
+        if judge.are_together {
+            return rows.by_trips();
+        }
+        rows.sorted()
     }
 }

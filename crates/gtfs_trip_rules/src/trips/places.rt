@@ -17,13 +17,16 @@ pub(crate) struct Place {
 }
 
 // These rows by their ranks, and rows of one rank by their numbers.
-pub(crate) fn by_places(ranks: &Ranks<'_>, order: Vec<u32>) -> Result<Vec<u32>, OutOfMemory>
-    ensures moved { IfOk result (λ rows. IsPermutation order.items rows.items) }
+pub(crate) fn by_places(
+    alloc: Global,
+    ranks: &Ranks<'_>,
+    order: &[u32],
+) -> Result<Vec<u32>, OutOfMemory>
+    ensures moved { IfOk result (λ rows. IsPermutation order.now rows.items) }
     ensures sorted { IfOk result (λ rows. IsSorted kept_cmp
         (stop_times_at ranks.now.rows.now ranks.now.notes.now rows.items)) }
 {
-    let alloc = *order.allocator();
-    let mut places = places(alloc, ranks, &order)?;
+    let mut places = places(alloc, ranks, order)?;
     places.sort_unstable_by(|a, b| compare(a, b));
     numbers(alloc, &places)
 }

@@ -1,13 +1,9 @@
-ghost use Rattle.std.specs.Prelude.{◌≡◌, ◌+◌, ◌*◌, ◌<◌, ◌^◌, length, slice_index_or, take, true};
-ghost use Rattle.std.specs.List.Sorted.{IsSorted};
+ghost use Rattle.std.specs.Prelude.{◌≡◌, ◌+◌, ◌*◌, ◌<◌, ◌^◌};
 ghost use Rattle.gtfs_trip_rules.specs.KeptLists.{stop_time_at};
-ghost use Rattle.gtfs_trip_rules.specs.TripOrder.{falls, kept_cmp, rank};
-ghost use Rattle.gtfs_trip_rules.specs.declared.trips.row.StopTime.{StopTime as StopTimeValue};
+ghost use Rattle.gtfs_trip_rules.specs.TripOrder.{rank};
 
-use crate::trips::kept::{KeptStopTimes, RowNote};
-use crate::trips::row::StopTime;
+use crate::trips::kept::RowNote;
 use gtfs_stop_times::StopRow;
-use std::cmp::Ordering;
 
 // The ranks of rows, which stand in lists by their numbers.
 #[derive(Clone, Copy)]
@@ -29,14 +25,16 @@ impl<'a> Ranks<'a> {
     #[inline(always)]
     pub(crate) fn rank(&self, row: u32) -> u64
         ensures value { result ≡ rank (stop_time_at self.now.rows.now self.now.notes.now row) }
-        ensures sequence { (stop_time_at self.now.rows.now self.now.notes.now row).stop_row.stop_sequence < 2 ^ 32 }
+        ensures sequence { (stop_time_at self.now.rows.now
+            self.now.notes.now row).stop_row.stop_sequence < 2 ^ 32 }
     {
         let trip = self.trip(row);
         let sequence = self.sequence(row);
         ranked(trip, sequence)
     }
 
-    fn trip(&self, row: u32) -> u32
+    #[inline(always)]
+    pub(crate) fn trip(&self, row: u32) -> u32
         ensures { result ≡ (stop_time_at self.now.rows.now self.now.notes.now row).trip }
     {
         match self.notes.get(row as usize) {
@@ -63,34 +61,4 @@ fn ranked(trip: u32, sequence: u32) -> u64
     ensures sequence { sequence < 2 ^ 32 }
 {
     (u64::from(trip) << 32) + u64::from(sequence)
-}
-
-pub(crate) fn order(a: &StopTime, b: &StopTime) -> Ordering
-    ensures { result ≡ kept_cmp a.now b.now }
-{
-    let rank = ranked(a.trip, a.stop_row.stop_sequence);
-    let other = ranked(b.trip, b.stop_row.stop_sequence);
-    rank.cmp(&other).then(a.row.cmp(&b.row))
-}
-
-// Whether a stop time stands below the one before it.
-#[inline(always)]
-pub(crate) fn falls(rows: &KeptStopTimes, at: usize) -> bool
-    requires { at < length rows.now }
-    ensures { (z : StopTimeValue) → result
-        ≡ falls (take at rows.now) (slice_index_or rows.now at z) }
-{
-    at > 0 && order(&rows.get(at), &rows.get(at - 1)).is_lt()
-}
-
-// Whether all stand in their order.
-pub(crate) fn ascend(rows: &KeptStopTimes) -> bool
-    ensures { result ≡ true → IsSorted kept_cmp rows.now }
-{
-    for at in 0..rows.len() {
-        if falls(rows, at) {
-            return false;
-        }
-    }
-    true
 }

@@ -1,58 +1,47 @@
-ghost use Rattle.std.specs.Prelude.{◌≡◌, ◌<◌, ◌≤◌, length, IfOk, IsPermutation};
-ghost use Rattle.std.specs.List.{flat_map};
+ghost use Rattle.std.specs.Option.{unwrap_or};
+ghost use Rattle.std.specs.Prelude.{◌≡◌, ◌<◌, ◌≤◌, length, option_map, slice_index_or, take, IfOk};
+ghost use Rattle.std.specs.List.{flat_map, All};
+ghost use Rattle.gtfs_trip_rules.specs.KeptLists.{stop_time_at, stop_times_at};
+ghost use Rattle.gtfs_trip_rules.specs.KeptStretches.{ascend_from, AreByTrips, AreRising, IsStretch};
 
+use crate::trips::places::by_places;
 use crate::trips::ranks::Ranks;
 use gtfs_field::OutOfMemory;
 use std::alloc::Global;
 
-// Of so many rows one is looked at to tell how they stand.
-const SAMPLE: usize = 64;
-
-// Rows of one trip that ascend by their sequences.
+// Rows of one trip that stand one after the other.
 #[derive(Clone, Copy)]
-struct Stretch<'a> {
-    // The rank of the first one. It stands here so that sorting looks at no row, which may be far away.
-    rank: u64,
-    rows: &'a [u32],
+pub(crate) struct Stretch<'a> {
+    pub(crate) trip: u32,
+    pub(crate) rows: &'a [u32],
 }
 
-// The rows in their order where no two trips alternate: stretches of ascending rows of one trip stay as they are, and stand
-// in the order of their first rows. Where that does not pay, or memory is refused, all rows stay where they are.
-pub(crate) fn by_stretches(ranks: &Ranks<'_>, rows: Vec<u32>) -> Vec<u32>
-    ensures { IsPermutation rows.items result.items }
+// Rows whose trips stand together, by the numbers of their trips. No row is looked at, but where a trip does not stand together.
+pub(crate) fn by_trips(ranks: &Ranks<'_>, order: Vec<u32>) -> Result<Vec<u32>, OutOfMemory>
+    ensures { IfOk result
+        (λ rows. AreByTrips ranks.now.rows.now ranks.now.notes.now order.items rows.items) }
 {
-    if !are_to_be_moved(ranks, &rows) {
-        return rows;
-    }
-    let alloc = *rows.allocator();
-    match moved(alloc, ranks, &rows) {
-        Ok(moved) => moved,
-        Err(_) => rows,
+    let alloc = *order.allocator();
+    match moved(alloc, ranks, &order)? {
+        Some(moved) => Ok(moved),
+        None => Ok(order),
     }
 }
 
-// Whether trips come out of their order, and most rows before the next one of their trip. Some rows tell.
-fn are_to_be_moved(ranks: &Ranks<'_>, rows: &[u32]) -> bool {
-    let mut last = 0;
-    let mut is_out_of_order = false;
-    let mut together: usize = 0;
-    for few in rows.chunks(SAMPLE) {
-        if let [first, second, ..] = few {
-            let rank = ranks.rank(*first);
-            is_out_of_order |= trip_of(rank) < last;
-            last = trip_of(rank);
-            together = together.saturating_add(usize::from(is_next(rank, ranks.rank(*second))));
-        }
-    }
-    is_out_of_order && together > rows.len() / SAMPLE / 2
-}
-
-fn moved(alloc: Global, ranks: &Ranks<'_>, rows: &[u32]) -> Result<Vec<u32>, OutOfMemory>
-    ensures { IfOk result (λ moved. IsPermutation rows.now moved.items) }
+// The same, where they do not stand so already.
+fn moved(alloc: Global, ranks: &Ranks<'_>, rows: &[u32]) -> Result<Option<Vec<u32>>, OutOfMemory>
+    ensures { IfOk result (λ moved. AreByTrips ranks.now.rows.now ranks.now.notes.now rows.now
+        (unwrap_or (option_map (λ m. m.items) moved) rows.now)) }
 {
     let mut stretches = stretches(alloc, ranks, rows)?;
-    stretches.sort_unstable_by_key(|stretch| stretch.rank);
-    joined(alloc, rows.len(), &stretches)
+    if ascend(&stretches) {
+        return Ok(None);
+    }
+    stretches.sort_unstable_by_key(|stretch| stretch.trip);
+    if !ascend(&stretches) {
+        return Ok(Some(by_places(alloc, ranks, rows)?));
+    }
+    Ok(Some(joined(alloc, rows.len(), &stretches)?))
 }
 
 // The rows in stretches, each as long as it can be.
@@ -61,14 +50,19 @@ fn stretches<'a>(
     ranks: &Ranks<'_>,
     rows: &'a [u32],
 ) -> Result<Vec<Stretch<'a>>, OutOfMemory>
-    ensures { IfOk result (λ stretches. flat_map (λ s. s.rows.now) stretches.items ≡ rows.now) }
+    ensures all { IfOk result
+        (λ stretches. flat_map (λ s. s.rows.now) stretches.items ≡ rows.now) }
+    ensures each { IfOk result (λ stretches.
+        AreRising (stop_times_at ranks.now.rows.now ranks.now.notes.now rows.now)
+        → All (IsStretch ranks.now.rows.now ranks.now.notes.now) stretches.items) }
 {
     let mut stretches = Vec::new(alloc);
     let mut left = rows;
     while let Some(first) = left.first() {
-        let (stretch, rest) = left.split_at(stretch_len(ranks, left));
+        let trip = ranks.trip(*first);
+        let (stretch, rest) = left.split_at(stretch_len(ranks, trip, left));
         stretches.push(Stretch {
-            rank: ranks.rank(*first),
+            trip,
             rows: stretch,
         })?;
         left = rest;
@@ -76,27 +70,37 @@ fn stretches<'a>(
     Ok(stretches)
 }
 
-// How many of the first rows are of one trip and ascend by their sequences.
-fn stretch_len(ranks: &Ranks<'_>, rows: &[u32]) -> usize
-    requires { 0 < length rows.now }
+// How many of the first rows are of this trip, which is that of the first one.
+fn stretch_len(ranks: &Ranks<'_>, trip: u32, rows: &[u32]) -> usize
+    requires some { 0 < length rows.now }
+    requires first { (stop_time_at ranks.now.rows.now ranks.now.notes.now
+        (slice_index_or rows.now 0 0)).trip ≡ trip }
     ensures some { 0 < result }
     ensures within { result ≤ length rows.now }
+    ensures of_trip { All
+        (λ n. (stop_time_at ranks.now.rows.now ranks.now.notes.now n).trip ≡ trip)
+        (take result rows.now) }
 {
     let mut len = 1;
-    while len < rows.len() && is_next(ranks.rank(rows[len - 1]), ranks.rank(rows[len])) {
+    while len < rows.len() && ranks.trip(rows[len]) == trip {
         len += 1;
     }
     len
 }
 
-// Whether a row of one rank is of the same trip as a row of another one, and comes before it.
-fn is_next(rank: u64, next: u64) -> bool {
-    trip_of(rank) == trip_of(next) && rank < next
-}
-
-// The trip of a row of a rank.
-fn trip_of(rank: u64) -> u64 {
-    rank >> 32
+// Whether each stretch is of a trip after those of the stretches before it.
+fn ascend(stretches: &[Stretch<'_>]) -> bool
+    ensures { result ≡ ascend_from 0 stretches.now }
+{
+    let mut least: u64 = 0;
+    for stretch in stretches {
+        let trip = u64::from(stretch.trip);
+        if trip < least {
+            return false;
+        }
+        least = trip + 1;
+    }
+    true
 }
 
 // The stretches one after the other, which have so many rows.

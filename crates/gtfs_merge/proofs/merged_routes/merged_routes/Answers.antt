@@ -9,20 +9,21 @@ use Rattle.gtfs_merge.specs.Renumbered.{numbers_of}
 use Rattle.gtfs_merge.specs.Sides.{merged_ids, merged_parts, side_names, side_parts}
 use Rattle.gtfs_merge.specs.declared.kind.Kind.TheVariants as kind
 use Rattle.gtfs_merge.proofs.MergedLists.{agency-inside, all-more, numbers-long, route-row, row-named, row-within, rows-all, rows-more, side-sound}
+use Rattle.gtfs_merge.proofs.Ordering.{own-row, row_at}
 use Rattle.gtfs_merge.proofs.merged_routes.merged_routes.Goals as goal
 
 pub route_by_number-source-requires : goal.route_by_number-source-requires
 route_by_number-source-requires c =
     let sides = c.args.sides.now in
-    let row = c.row-item.result in
+    let row = row_at c.rows-rows.result.now c.loop-row.row-index in
     let are = subst (AreMergedRows kind.Route sides) (sym c.rows-rows.ensures) c.requires.routes.rows in
-    let within = row-within kind.Route sides c.rows-rows.result.now are c.loop-row.row-index c.loop-row-test.true row c.row-item.is in
+    let within = row-within kind.Route sides c.rows-rows.result.now are c.loop-row.row-index c.loop-row-test.true row (own-row c.rows-rows.result.now c.loop-row.row-index c.loop-row-test.true) in
     subst (λ (f : Parts). row.number < length f.routes) (sym c.of.ensures) (omega (arith, within, length-map (side_parts row.side sides).routes (λ s. s.route_id)))
 
 pub renumbered-agency-requires : goal.renumbered-agency-requires
 renumbered-agency-requires c =
     let sides = c.args.sides.now in
-    let row = c.row-item.result in
+    let row = row_at c.rows-rows.result.now c.loop-row.row-index in
     let source = c.route_by_number-source.result.now in
     let f = side_parts row.side sides in
     let at = subst (λ (f : Parts). slice_get f.routes row.number ≡ Some source) c.of.ensures c.route_by_number-source.ensures in
@@ -35,7 +36,7 @@ loop-row-preserved c =
     let sides = c.args.sides.now in
     let rows = c.rows-rows.result.now in
     let index = c.loop-row.row-index in
-    let row = c.row-item.result in
+    let row = row_at c.rows-rows.result.now c.loop-row.row-index in
     let items = c.loop-row.list.items in
     let source = c.route_by_number-source.result.now in
     let made = c.in_ok-under.field-0 in
@@ -44,11 +45,11 @@ loop-row-preserved c =
     let f = side_parts row.side sides in
     let at = subst (λ (f : Parts). slice_get f.routes row.number ≡ Some source) c.of.ensures c.route_by_number-source.ensures in
     let inside = agency-inside f (side-sound row.side sides c.soundness.ensures.a c.soundness.ensures.b) row.number source at in
-    let named = row-named kind.Route sides rows are index c.loop-row-test.true row c.row-item.is in
+    let named = row-named kind.Route sides rows are index c.loop-row-test.true row (own-row c.rows-rows.result.now c.loop-row.row-index c.loop-row-test.true) in
     let agency = c.renumbered-agency.ensures ∙ ap (λ (ns : List ℕ). get_or ns source.agency_id.0 0) c.numbers.ensures in
-    let both = route-row sides row.side row.number c.as_str.result.now numbers (c.requires.agencies.numbers row.side) source made c.renumbered-agency.result at (c.as_str.ensures.value ∙ named) agency inside c.in_ok-under.ensures in
+    let both = route-row sides row.side row.number row.id.now numbers (c.requires.agencies.numbers row.side) source made c.renumbered-agency.result at named agency inside c.in_ok-under.ensures in
     record {
-      listed = rows-more (route_named (merged_ids kind.Agency sides)) (route_from sides) rows index items _ made row c.loop-row-test.true c.loop-row.invariant.listed c.in_ok-push.ensures.items c.row-item.is both.0;
+      listed = rows-more (route_named (merged_ids kind.Agency sides)) (route_from sides) rows index items _ made row c.loop-row-test.true c.loop-row.invariant.listed c.in_ok-push.ensures.items (own-row c.rows-rows.result.now c.loop-row.row-index c.loop-row-test.true) both.0;
       within = all-more (names_agency (merged_ids kind.Agency sides)) items _ made c.loop-row.invariant.within c.in_ok-push.ensures.items both.1;
     }
 

@@ -6,13 +6,14 @@ use Rattle.gtfs_merge.specs.MergedKinds.{AreMergedRows, service_from}
 use Rattle.gtfs_merge.specs.Sides.{merged_parts, side_parts}
 use Rattle.gtfs_merge.specs.declared.kind.Kind.TheVariants as kind
 use Rattle.gtfs_merge.proofs.MergedLists.{service-row, row-named, row-within, rows-all, rows-more}
+use Rattle.gtfs_merge.proofs.Ordering.{own-row, row_at}
 use Rattle.gtfs_merge.proofs.merged_services.merged_services.Goals as goal
 
 pub service_by_number-source-requires : goal.service_by_number-source-requires
 service_by_number-source-requires c =
     let sides = c.args.sides.now in
-    let row = c.row-item.result in
-    let within = row-within kind.Service sides c.rows-rows.result.now (subst (AreMergedRows kind.Service c.args.sides.now) (sym c.rows-rows.ensures) c.requires.rows) c.loop-row.row-index c.loop-row-test.true row c.row-item.is in
+    let row = row_at c.rows-rows.result.now c.loop-row.row-index in
+    let within = row-within kind.Service sides c.rows-rows.result.now (subst (AreMergedRows kind.Service c.args.sides.now) (sym c.rows-rows.ensures) c.requires.rows) c.loop-row.row-index c.loop-row-test.true row (own-row c.rows-rows.result.now c.loop-row.row-index c.loop-row-test.true) in
     subst (λ (f : Parts). row.number < length f.services) (sym c.of.ensures) (omega (arith, within, length-map (side_parts row.side sides).services (λ a. a.service_id)))
 
 pub loop-row-preserved : goal.loop-row-preserved
@@ -20,11 +21,11 @@ loop-row-preserved c =
     let sides = c.args.sides.now in
     let rows = c.rows-rows.result.now in
     let index = c.loop-row.row-index in
-    let row = c.row-item.result in
+    let row = row_at c.rows-rows.result.now c.loop-row.row-index in
     let at = subst (λ (f : Parts). option_map (λ s. s.service) (slice_get f.services row.number) ≡ Some c.service_by_number-source.result.now) c.of.ensures c.service_by_number-source.ensures in
-    let named = row-named kind.Service sides rows (subst (AreMergedRows kind.Service c.args.sides.now) (sym c.rows-rows.ensures) c.requires.rows) index c.loop-row-test.true row c.row-item.is in
-    rows-more service_of (service_from sides) rows index c.loop-row.list.items _ c.in_ok-with_id.field-0 row c.loop-row-test.true c.loop-row.invariant c.in_ok-push.ensures.items c.row-item.is
-    (service-row sides row.side row.number c.as_str.result.now c.service_by_number-source.result.now c.in_ok-with_id.field-0 at (c.as_str.ensures.value ∙ named) c.in_ok-with_id.ensures)
+    let named = row-named kind.Service sides rows (subst (AreMergedRows kind.Service c.args.sides.now) (sym c.rows-rows.ensures) c.requires.rows) index c.loop-row-test.true row (own-row c.rows-rows.result.now c.loop-row.row-index c.loop-row-test.true) in
+    rows-more service_of (service_from sides) rows index c.loop-row.list.items _ c.in_ok-with_id.field-0 row c.loop-row-test.true c.loop-row.invariant c.in_ok-push.ensures.items (own-row c.rows-rows.result.now c.loop-row.row-index c.loop-row-test.true)
+    (service-row sides row.side row.number row.id.now c.service_by_number-source.result.now c.in_ok-with_id.field-0 at named c.in_ok-with_id.ensures)
 
 pub returns : goal.returns
 returns c =

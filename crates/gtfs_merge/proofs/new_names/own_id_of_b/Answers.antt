@@ -6,7 +6,7 @@ use Rattle.gtfs_merge.specs.Sides.{content_a, content_b, is_joined_id, nearness_
 use Rattle.gtfs_merge.specs.declared.kind.Kind.TheVariants as kind
 use Rattle.gtfs_merge.specs.declared.kind.Side.TheVariants as side
 use Rattle.gtfs_merge.proofs.MergesOfKinds.{has-twin}
-use Rattle.gtfs_merge.proofs.NewIdRules.{few-taken, gets-free, has-known, nameless-apart, nameless-name, nameless-there, on-ok, stays-lacking, taken-known}
+use Rattle.gtfs_merge.proofs.NewIdRules.{few-taken, gets-free, has-known, nameless-apart, nameless-name, nameless-there, stays-lacking, taken-known}
 use Rattle.gtfs_merge.proofs.Stops.{is-nearness}
 use Rattle.gtfs_merge.proofs.new_names.own_id_of_b.Goals as goal
 
@@ -23,8 +23,7 @@ new_agency_id_of_b-requires-clause-apart c =
 pub returns-then-is_nameless : goal.returns-then-is_nameless
 returns-then-is_nameless c =
     let sides = c.args.sides.now in
-    on-ok c.new_agency_id_of_b.result c.new_agency_id_of_b.ensures
-    (λ id e. e ∙ nameless-name (nearness_of sides) (content_a sides) (content_b sides) c.args.kind c.args.id.now (sym c.is_nameless.ensures ∙ c.if-is_nameless.true))
+    c.in_ok-new_agency_id_of_b.ensures ∙ nameless-name (nearness_of sides) (content_a sides) (content_b sides) c.args.kind c.args.id.now (sym c.is_nameless.ensures ∙ c.if-is_nameless.true)
 
 pub returns-then-not-has_this_id : goal.returns-then-not-has_this_id
 returns-then-not-has_this_id c =
@@ -35,8 +34,7 @@ returns-then-not-has_this_id c =
     let none : lists_id (ids c.args.kind (content_a sides)) (renaming (side_names side.B sides) c.args.kind c.args.id.now) ≡ false =
     sym (has-twin sides c.soundness.ensures.a c.soundness.ensures.b c.soundness.ensures.few c.args.kind c.args.id.now) ∙ ap is_some (sym c.requires.alone) in
     let lacks = has-known c.args.kind sides.a.now c.soundness.ensures.a c.args.id.now false (sym c.has_this_id.ensures ∙ c.if-not-has_this_id.true) in
-    c.in_ok-from_str.ensures.ok
-    ∙ sym (stays-lacking (nearness_of sides) (is-nearness sides.near) (content_a sides) (content_b sides) c.soundness.ensures.a.content c.soundness.ensures.b.content few c.args.kind c.args.id.now there named none lacks)
+    sym (stays-lacking (nearness_of sides) (is-nearness sides.near) (content_a sides) (content_b sides) c.soundness.ensures.a.content c.soundness.ensures.b.content few c.args.kind c.args.id.now there named none lacks)
 
 pub free_id-requires : goal.free_id-requires
 free_id-requires c = few-taken c.args.kind c.args.sides.now c.soundness.ensures.a c.soundness.ensures.b (c.soundness.ensures.few c.args.kind)
@@ -50,6 +48,5 @@ returns c =
     let none : lists_id (ids c.args.kind (content_a sides)) (renaming (side_names side.B sides) c.args.kind c.args.id.now) ≡ false =
     sym (has-twin sides c.soundness.ensures.a c.soundness.ensures.b c.soundness.ensures.few c.args.kind c.args.id.now) ∙ ap is_some (sym c.requires.alone) in
     let has = has-known c.args.kind sides.a.now c.soundness.ensures.a c.args.id.now true (sym c.has_this_id.ensures ∙ c.if-not-has_this_id.false) in
-    on-ok c.free_id.result c.free_id.ensures
-    (λ id e. e ∙ taken-known c.args.kind sides c.soundness.ensures.a c.soundness.ensures.b c.args.id.now
-    ∙ sym (gets-free (nearness_of sides) (is-nearness sides.near) (content_a sides) (content_b sides) c.soundness.ensures.a.content c.soundness.ensures.b.content few c.args.kind c.args.id.now there named none has))
+    c.in_ok-free_id.ensures ∙ taken-known c.args.kind sides c.soundness.ensures.a c.soundness.ensures.b c.args.id.now
+    ∙ sym (gets-free (nearness_of sides) (is-nearness sides.near) (content_a sides) (content_b sides) c.soundness.ensures.a.content c.soundness.ensures.b.content few c.args.kind c.args.id.now there named none has)

@@ -16,8 +16,8 @@ returns-in_ok-push c =
     let has = c.has.ensures ∙ ap (λ t. is_some (get_or (of_kind t c.args.kind) c.args.number None)) c.requires.twins ∙ ap is_some (twin-at c.args.sides.now c.args.kind c.args.number c.requires.within) in
     let apart : is_apart c.args.kind c.args.sides.now c.args.number ≡ true = ap not (sym has ∙ c.if-not-has.true) in
     let old = map entry_value c.args.rows.now.items in
-    ap (map entry_value) c.in_ok-push.ensures.items ∙ map-append entry_value c.args.rows.now.items (c.in_ok-row_of.field-0 ∷ [])
-    ∙ (λ i. old ++ c.in_ok-row_of.ensures i ∷ [])
+    ap (map entry_value) c.in_ok-push.ensures.items ∙ map-append entry_value c.args.rows.now.items (c.row_of.result ∷ [])
+    ∙ (λ i. old ++ c.row_of.ensures i ∷ [])
     ∙ ap (λ t. old ++ map (entry_of side.B c.args.kind c.args.sides.now) (cond t (c.args.number ∷ []) [])) (sym apart)
 
 pub returns-else-not-has : goal.returns-else-not-has

@@ -9,5 +9,5 @@ pub loop-number-preserved : goal.loop-number-preserved
 loop-number-preserved c =
     let so_far = c.loop-number.rows.items in
     rows-more (entry_of side.A c.args.kind c.args.sides.now) c.loop-number.number (map entry_value so_far) _ c.loop-number.invariant
-    (ap (map entry_value) c.in_ok-push.ensures.items ∙ map-append entry_value so_far (c.in_ok-row_of.field-0 ∷ [])
-    ∙ (λ i. map entry_value so_far ++ c.in_ok-row_of.ensures i ∷ []))
+    (ap (map entry_value) c.in_ok-push.ensures.items ∙ map-append entry_value so_far (c.row_of.result ∷ [])
+    ∙ (λ i. map entry_value so_far ++ c.row_of.ensures i ∷ []))

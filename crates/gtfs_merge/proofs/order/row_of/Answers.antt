@@ -10,6 +10,6 @@ by_number-requires c =
 
 pub returns : goal.returns
 returns c =
-    let own = c.in_ok-id.ensures.ok ∙ c.by_number.ensures ∙ ap (λ n. get_or (of_side n c.args.side).names c.args.number []) (c.requires.names c.args.kind)
+    let own = c.by_number.ensures ∙ ap (λ n. get_or (of_side n c.args.side).names c.args.number []) (c.requires.names c.args.kind)
     ∙ name-at (in_kind c.args.names.now c.args.kind).a.random c.args.kind c.args.sides.now c.args.side c.args.number c.requires.within in
     λ i. record { id = own i; side = c.args.side; number = c.args.number }

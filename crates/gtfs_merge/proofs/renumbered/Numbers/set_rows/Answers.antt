@@ -3,15 +3,16 @@ use Rattle.std.proofs.lemmas.List.{get_or-map, length-map}
 use Rattle.gtfs_merge.specs.Order.{Entry, entry_value}
 use Rattle.gtfs_merge.specs.Renumbered.{numbers_of}
 use Rattle.gtfs_merge.proofs.NumberTables.{none-set, set-more}
+use Rattle.gtfs_merge.proofs.Ordering.{own-row, row_at}
 use Rattle.gtfs_merge.proofs.renumbered.Numbers.set_rows.Goals as goal
 
 pub set-requires : goal.set-requires
 set-requires c =
     let es = map entry_value c.args.rows.now in
     let index = c.loop-index.index in
-    let row = c.index-rows-index.result in
+    let row = row_at c.args.rows.now c.loop-index.index in
     let within : index < length es = omega (arith, c.loop-index-test.true, length-map c.args.rows.now entry_value) in
-    let is : get_or es index (entry_value row) ≡ entry_value row = get_or-map entry_value c.args.rows.now index row (entry_value row) c.loop-index-test.true ∙ ap entry_value (sym c.index-rows-index.is) in
+    let is : get_or es index (entry_value row) ≡ entry_value row = get_or-map entry_value c.args.rows.now index row (entry_value row) c.loop-index-test.true ∙ ap entry_value (sym (own-row c.args.rows.now c.loop-index.index c.loop-index-test.true)) in
     let before = subst (λ (e : Entry). e.number < length (numbers_of c.args.self.now e.side)) is (c.requires index (entry_value row) within) in
     subst (λ n. row.number < n) (sym (c.loop-index.invariant.long row.side)) before
 
@@ -22,9 +23,9 @@ pub loop-index-preserved : goal.loop-index-preserved
 loop-index-preserved c =
     let es = map entry_value c.args.rows.now in
     let index = c.loop-index.index in
-    let row = c.index-rows-index.result in
+    let row = row_at c.args.rows.now c.loop-index.index in
     let within : index < length es = omega (arith, c.loop-index-test.true, length-map c.args.rows.now entry_value) in
-    let is : (d : Entry) → get_or es index d ≡ entry_value row = λ d. get_or-map entry_value c.args.rows.now index row d c.loop-index-test.true ∙ ap entry_value (sym c.index-rows-index.is) in
+    let is : (d : Entry) → get_or es index d ≡ entry_value row = λ d. get_or-map entry_value c.args.rows.now index row d c.loop-index-test.true ∙ ap entry_value (sym (own-row c.args.rows.now c.loop-index.index c.loop-index-test.true)) in
     let at = is (entry_value row) in
     let before = subst (λ (e : Entry). e.number < length (numbers_of c.args.self.now e.side)) at (c.requires index (entry_value row) within) in
     let inside = subst (λ n. row.number < n) (sym (c.loop-index.invariant.long row.side)) before in

@@ -1,4 +1,4 @@
-use Rattle.std.proofs.Common.{◌≡◌, ◌∙◌, ◌++◌, ◌∷◌, [], ap, subst, sym}
+use Rattle.std.proofs.Common.{◌∙◌, ◌++◌, ◌∷◌, [], ap, subst, sym}
 use Rattle.gtfs_table.proofs.FolderFacts.{on_err-always}
 use Rattle.gtfs_trip_rules.specs.KeptLists.{no_note, no_row, stop_times_at}
 use Rattle.gtfs_trip_rules.specs.TripNotes.{AreEarlier}

@@ -1,14 +1,16 @@
-use Rattle.std.proofs.Common.{◌≡◌, ◌≤◌, ◌∙◌, ◌++◌, ◌∷◌, [], ap, arith, map, refl, subst, sym}
+use Rattle.std.proofs.Common.{◌≡◌, ◌≤◌, ◌∙◌, ◌++◌, ◌∷◌, [], ap, arith, map, refl, reverse, subst, sym}
 use Rattle.std.specs.Prelude.{◌&&◌}
-use Rattle.std.proofs.lemmas.List.{map-append}
+use Rattle.std.proofs.lemmas.Bool.{eqb-true as same_number}
+use Rattle.std.proofs.lemmas.List.{map-append, reverse-append}
 use Rattle.gtfs_columns.specs.IdNumbers.{number_among}
 use Rattle.gtfs_columns.specs.steps.Ids.{ids_of, number_with}
 use Rattle.gtfs_trip_rules.specs.KeptRow.{with_trip}
 use Rattle.gtfs_trip_rules.specs.KeptTimes.{is_placed}
+use Rattle.gtfs_trip_rules.specs.TripJudged.{Judges}
 use Rattle.gtfs_trip_rules.specs.TripNotes.{note_of, said, AreEarlier}
 use Rattle.gtfs_trip_rules.specs.TripNumbers.{name_at, other_number}
 use Rattle.std.specs.Option.{option_or, unwrap_or}
-use Rattle.gtfs_trip_rules.proofs.TripCountFacts.{count_fits, one_kept, still_kept}
+use Rattle.gtfs_trip_rules.proofs.TripCountFacts.{count_fits, none_named, one_kept, still_kept}
 use Rattle.gtfs_trip_rules.proofs.TripNumberFacts.{notes_stay}
 use Rattle.gtfs_trip_rules.proofs.trips.notes.TripNotes.note.Goals.{then-self, else-self}
 use Rattle.gtfs_trip_rules.proofs.trips.notes.TripNotes.note.Goals as goal
@@ -18,21 +20,21 @@ invariant_of-self c =
     let n = c.self.inside in
     let trips = ids_of n.trips.now in
     let reported = c.trip_number.ensures in
-    still_kept trips n.numbers c.trip_number.new.numbers n.names.items c.trip_number.new.names.items n.counts.items n.counts.items n.are_sequenced n.rows c.self.invariant reported.keeps reported.named (λ m. refl)
+    still_kept trips n.numbers c.trip_number.new.numbers n.names.items c.trip_number.new.names.items n.counts.items n.counts.items n.are_sequenced n.judge n.rows c.self.invariant reported.keeps reported.named (λ m. refl)
 
 pub invariant_of-self-in_err-make_room : goal.invariant_of-self-in_err-make_room
 invariant_of-self-in_err-make_room c =
     let n = c.self.inside in
     let trips = ids_of n.trips.now in
     let reported = c.trip_number.ensures in
-    still_kept trips n.numbers c.trip_number.new.numbers n.names.items c.trip_number.new.names.items n.counts.items c.make_room.new.counts.items n.are_sequenced n.rows c.self.invariant reported.keeps reported.named c.make_room.ensures.same
+    still_kept trips n.numbers c.trip_number.new.numbers n.names.items c.trip_number.new.names.items n.counts.items c.make_room.new.counts.items n.are_sequenced n.judge n.rows c.self.invariant reported.keeps reported.named c.make_room.ensures.same
 
 pub invariant_of-self-in_err-small_number : goal.invariant_of-self-in_err-small_number
 invariant_of-self-in_err-small_number c =
     let n = c.self.inside in
     let trips = ids_of n.trips.now in
     let reported = c.trip_number.ensures in
-    still_kept trips n.numbers c.trip_number.new.numbers n.names.items c.trip_number.new.names.items n.counts.items c.make_room.new.counts.items n.are_sequenced n.rows c.self.invariant reported.keeps reported.named c.make_room.ensures.same
+    still_kept trips n.numbers c.trip_number.new.numbers n.names.items c.trip_number.new.names.items n.counts.items c.make_room.new.counts.items n.are_sequenced n.judge n.rows c.self.invariant reported.keeps reported.named c.make_room.ensures.same
 
 pub invariant_of-self-in_err-push : goal.invariant_of-self-in_err-push
 invariant_of-self-in_err-push c =
@@ -40,7 +42,7 @@ invariant_of-self-in_err-push c =
     let trips = ids_of n.trips.now in
     let reported = c.trip_number.ensures in
     rw c.in_err-push.ensures.kept
-    (still_kept trips n.numbers c.trip_number.new.numbers n.names.items c.trip_number.new.names.items n.counts.items c.make_room.new.counts.items n.are_sequenced n.rows c.self.invariant reported.keeps reported.named c.make_room.ensures.same)
+    (still_kept trips n.numbers c.trip_number.new.numbers n.names.items c.trip_number.new.names.items n.counts.items c.make_room.new.counts.items n.are_sequenced n.judge n.rows c.self.invariant reported.keeps reported.named c.make_room.ensures.same)
 
 pub push-requires : goal.push-requires
 push-requires c =
@@ -62,7 +64,7 @@ overflow_add-count c =
     let n = c.self.inside in
     let trips = ids_of n.trips.now in
     let reported = c.trip_number.ensures in
-    let kept = still_kept trips n.numbers c.trip_number.new.numbers n.names.items c.trip_number.new.names.items n.counts.items c.make_room.new.counts.items n.are_sequenced n.rows c.self.invariant reported.keeps reported.named c.make_room.ensures.same in
+    let kept = still_kept trips n.numbers c.trip_number.new.numbers n.names.items c.trip_number.new.names.items n.counts.items c.make_room.new.counts.items n.are_sequenced n.judge n.rows c.self.invariant reported.keeps reported.named c.make_room.ensures.same in
     let small : c.index_mut-count.result.now ≤ 2 =
     count_fits c.make_room.new.counts.items n.rows kept.counted c.index_mut-count.result.now c.in_ok-trip.trip c.in_ok-make_room.ensures.room c.index_mut-count.ensures.value in
     omega (arith, small)
@@ -72,15 +74,19 @@ invariant_of-self-2 c =
     let n = c.self.inside in
     let trips = ids_of n.trips.now in
     let reported = c.trip_number.ensures in
-    let kept = still_kept trips n.numbers c.trip_number.new.numbers n.names.items c.trip_number.new.names.items n.counts.items c.make_room.new.counts.items n.are_sequenced n.rows c.self.invariant reported.keeps reported.named c.make_room.ensures.same in
+    let kept = still_kept trips n.numbers c.trip_number.new.numbers n.names.items c.trip_number.new.names.items n.counts.items c.make_room.new.counts.items n.are_sequenced n.judge n.rows c.self.invariant reported.keeps reported.named c.make_room.ensures.same in
     let inside = c.in_ok-make_room.ensures.room in
     let both : c.if-self.self ≡ (n.are_sequenced && is_placed c.of_trip-row.result.times) = elim c.if-self.branch [
       | then-self w ↦ w.self-is ∙ w.are_placed-self-inside.ensures ∙ ap (λ b. b && is_placed c.of_trip-row.result.times) (sym w.if-self.true)
       | else-self w ↦ w.self-is ∙ w.if-self.false ∙ ap (λ b. b && is_placed c.of_trip-row.result.times) (sym w.if-self.false)
     ] in
     let of_trip : c.of_trip-row.result.trip ≡ c.in_ok-trip.trip = ap (λ r. r.trip) c.of_trip-row.ensures ∙ c.in_ok-small_number.ensures in
+    let judged : Judges c.note.new.self (reverse (n.rows ++ c.of_trip-row.result ∷ [])) =
+    subst (Judges c.note.new.self) (sym (reverse-append n.rows (c.of_trip-row.result ∷ [])))
+    (c.note.ensures (reverse n.rows) kept.judged
+    (λ new. none_named c.make_room.new.counts.items n.rows kept.counted c.index.result.now c.of_trip-row.result.trip (rw of_trip inside) (rw of_trip c.index.ensures) (same_number c.index.result.now 0 new))) in
     rw (c.in_ok-push.ensures.added, ← of_trip)
-    (one_kept trips c.trip_number.new.numbers c.trip_number.new.names.items c.make_room.new.counts.items n.are_sequenced n.rows c.of_trip-row.result c.args.trip_id.now c.index_mut-count.result.now c.min.result c.if-self.self both kept
+    (one_kept trips c.trip_number.new.numbers c.trip_number.new.names.items c.make_room.new.counts.items n.are_sequenced n.rows c.of_trip-row.result c.args.trip_id.now c.index_mut-count.result.now c.min.result c.if-self.self n.judge c.note.new.self both judged kept
     (rw of_trip c.in_ok-trip.ensures.number) (rw of_trip inside) (rw of_trip c.index_mut-count.ensures.value) c.min.ensures)
 
 pub returns-clause-notes : goal.returns-clause-notes
