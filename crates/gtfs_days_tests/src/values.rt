@@ -250,7 +250,28 @@ fn texts(rt: HostRuntime) -> Result<(), Fail> {
     assert_is(&rt, text.as_str(), "Mill", "text");
     assert_is(&rt, text.len(), 4, "length");
     assert_that(&rt, !text.is_empty(), "a text is not empty");
-    assert_is(&rt, text.into_string().as_str(), "Mill", "string");
+    Ok(())
+}
+
+// Texts of no bytes, of as many as lie in the value itself, of one less and of more.
+const COPIED: &[&str] = &[
+    "",
+    "M",
+    "Marktplatz (Nordseite) 1",
+    "Marktplatz (Nordseite) ",
+    "Marktplatz (Nordseite) 12",
+    "Marktplatz (Nordseite) é",
+    "Rådhuspladsen (Vesterbrogade)",
+];
+
+#[test]
+fn copied_texts(rt: HostRuntime) -> Result<(), Fail> {
+    for &want in COPIED {
+        let text = Text::copy_of(rt.alloc(), want)?;
+        assert_is_at(&rt, text.as_str(), want, "copy of", want);
+        assert_is_at(&rt, text.len(), want.len(), "length of", want);
+        assert_is_at(&rt, text.is_empty(), want == "", "emptiness of", want);
+    }
     Ok(())
 }
 

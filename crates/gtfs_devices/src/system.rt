@@ -219,6 +219,6 @@ fn push_name(
     if names.len() >= entries {
         return Err(FolderFault::Read);
     }
-    names.push(Text::new(String::from_str(alloc, name)?))?;
+    names.push(Text::copy_of(alloc, name)?)?;
     Ok(())
 }

@@ -37,7 +37,7 @@ impl Copied for Trip {
 
 impl Copied for Text {
     fn again(&self, alloc: Global) -> Result<Text, OutOfMemory> {
-        Ok(Text::new(String::from_str(alloc, self.as_str())?))
+        Text::copy_of(alloc, self.as_str())
     }
 }
 

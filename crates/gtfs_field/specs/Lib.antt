@@ -3,3 +3,4 @@ pub mod Kinds
 pub mod Calendar
 pub mod Canonical
 pub mod TextOrder
+pub mod Texts

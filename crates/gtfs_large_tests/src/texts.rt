@@ -3,7 +3,7 @@
 use crate::assertions::{assert_is, assert_that};
 use gtfs_board::{Departure, Key, Mark, push_key, push_line, read_key};
 use gtfs_field::{
-    Clock, Colour, Coord, Day, OutOfMemory, push_colour, push_coord, push_count, push_date,
+    Clock, Colour, Coord, Day, OutOfMemory, Text, push_colour, push_coord, push_count, push_date,
     push_time,
 };
 use gtfs_fixtures::Clocks;
@@ -37,6 +37,14 @@ fn values_are_appended_to_a_long_text(rt: HostRuntime) -> Result<(), Fail> {
     push_values(rt.alloc(), &mut text)?;
     assert_is(&rt, text.len(), LONG + 37, "length");
     assert_that(&rt, text.as_str().ends_with(ENDING), "each value is there");
+    Ok(())
+}
+
+#[test]
+fn a_long_text_is_copied(rt: HostRuntime) -> Result<(), Fail> {
+    let text = long_text(rt.alloc(), "x", LONG)?;
+    let copy = Text::copy_of(rt.alloc(), text.as_str())?;
+    assert_that(&rt, copy.as_str() == text.as_str(), "the copy is the text");
     Ok(())
 }
 

@@ -35,7 +35,7 @@ fn with_id(alloc: Global, service: &Service, id: &str) -> Result<ServiceRow, Out
         ≡ record { service_id = id.now; service = service.now }) }
 {
     Ok(ServiceRow {
-        service_id: Text::new(String::from_str(alloc, id)?),
+        service_id: Text::copy_of(alloc, id)?,
         service: Service::new(alloc, service.week().copied(), service.exceptions())?,
     })
 }

@@ -249,8 +249,7 @@ fn ids_of(alloc: Global, feed: &Feed, kind: Kind) -> Result<Vec<Text>, OutOfMemo
 {
     let mut ids = Vec::with_capacity(alloc, count_of(feed, kind))?;
     for number in 0..count_of(feed, kind) {
-        let id = String::from_str(alloc, id_of(feed, kind, number))?;
-        ids.push(Text::new(id))?;
+        ids.push(Text::copy_of(alloc, id_of(feed, kind, number))?)?;
     }
     Ok(ids)
 }
@@ -290,8 +289,7 @@ fn push_if_joined(
         (slice_index_or (known_ids kind sides.now.b.now) number [] ∷ [])) }
 {
     if is_joined_row(sides, twins, kind, number) {
-        let joined = String::from_str(alloc, id_of(sides.b, kind, number))?;
-        found.push(Text::new(joined))?;
+        found.push(Text::copy_of(alloc, id_of(sides.b, kind, number))?)?;
     }
     Ok(())
 }
@@ -342,8 +340,8 @@ fn push_pair(
     ensures { OnOk result (pairs.new.items ≡ pairs.old.items
         ++ pairs_at sides.now (Some first) number) }
 {
-    let own = String::from_str(alloc, id_of(sides.b, Kind::Stop, number))?;
-    let other = String::from_str(alloc, id_of(sides.a, Kind::Stop, first))?;
-    pairs.push((Text::new(own), Text::new(other)))?;
+    let own = Text::copy_of(alloc, id_of(sides.b, Kind::Stop, number))?;
+    let other = Text::copy_of(alloc, id_of(sides.a, Kind::Stop, first))?;
+    pairs.push((own, other))?;
     Ok(())
 }

@@ -55,7 +55,7 @@ pub(crate) fn stop_no(number: Option<usize>) -> Option<StopNo> {
 }
 
 fn text(alloc: Global, text: &str) -> Result<Text, OutOfMemory> {
-    Ok(Text::new(String::from_str(alloc, text)?))
+    Text::copy_of(alloc, text)
 }
 
 // What lies beyond 180 degrees is put there.

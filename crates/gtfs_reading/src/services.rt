@@ -14,9 +14,8 @@ ghost use Rattle.gtfs_table.specs.declared.file.File.TheVariants as file;
 use crate::calendar::CalendarFile;
 use crate::dates::DatesFile;
 use crate::service_ids::ServiceIds;
-use crate::texts::own;
 use gtfs_days::{Service, Week};
-use gtfs_field::{List, OutOfMemory};
+use gtfs_field::{List, OutOfMemory, Text};
 use gtfs_rows::ServiceRow;
 use gtfs_table::{File, Tables};
 use gtfs_trip_rules::RowsById;
@@ -136,7 +135,7 @@ impl<'a> Calendars<'a> {
         let week = self.week(id);
         let exceptions = self.dates.exceptions(alloc, self.date_rows.of(id))?;
         Ok(ServiceRow {
-            service_id: own(alloc, id)?,
+            service_id: Text::copy_of(alloc, id)?,
             service: Service::new(alloc, week, &exceptions)?,
         })
     }

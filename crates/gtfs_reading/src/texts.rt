@@ -26,7 +26,7 @@ pub(crate) fn read_id(
     ensures { OnOk result
         (into.new ≡ unwrap_or (word_of kind.id (field_under fields.now column)) []) }
 {
-    *into = own(alloc, values::id(fields.value(column)).unwrap_or(""))?;
+    *into = Text::copy_of(alloc, values::id(fields.value(column)).unwrap_or(""))?;
     Ok(())
 }
 
@@ -67,19 +67,12 @@ fn optional_plain(alloc: Global, text: &str) -> Result<Option<Text>, OutOfMemory
     Ok(Some(plain(alloc, text)?))
 }
 
-// The text as it stands.
-pub(crate) fn own(alloc: Global, text: &str) -> Result<Text, OutOfMemory>
-    ensures { IfOk result (λ t. t ≡ text.now) }
-{
-    Ok(Text::new(String::from_str(alloc, text)?))
-}
-
 // The text with a space in place of each control character.
 fn plain(alloc: Global, text: &str) -> Result<Text, OutOfMemory>
     ensures { IfOk result (λ t. t ≡ plain text.now) }
 {
     if !has_control(text) {
-        return own(alloc, text);
+        return Text::copy_of(alloc, text);
     }
     let mut shown = String::with_capacity(alloc, text.len())?;
     push_plain(&mut shown, text);

@@ -1,6 +1,6 @@
 ghost use Rattle.std.specs.Prelude.{◌≡◌, IfOk};
 
-use crate::copies::{copied, copied_if_any, own};
+use crate::copies::{copied, copied_if_any};
 use gtfs_field::{OutOfMemory, Text};
 use std::alloc::Global;
 
@@ -28,7 +28,7 @@ impl Agency {
         ensures { IfOk result (λ other. other ≡ record self.now { agency_id = id.now }) }
     {
         Ok(Agency {
-            agency_id: own(alloc, id)?,
+            agency_id: Text::copy_of(alloc, id)?,
             agency_name: copied(alloc, &self.agency_name)?,
             agency_url: copied(alloc, &self.agency_url)?,
             agency_timezone: copied(alloc, &self.agency_timezone)?,

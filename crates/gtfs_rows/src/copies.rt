@@ -3,18 +3,11 @@ ghost use Rattle.std.specs.Prelude.{◌≡◌, IfOk, OnOk};
 use gtfs_field::{OutOfMemory, Text};
 use std::alloc::Global;
 
-// A text of these characters.
-pub(crate) fn own(alloc: Global, text: &str) -> Result<Text, OutOfMemory>
-    ensures { IfOk result (λ t. t ≡ text.now) }
-{
-    Ok(Text::new(String::from_str(alloc, text)?))
-}
-
 // The same text once more.
 pub(crate) fn copied(alloc: Global, text: &Text) -> Result<Text, OutOfMemory>
     ensures { IfOk result (λ t. t ≡ text.now) }
 {
-    own(alloc, text.as_str())
+    Text::copy_of(alloc, text.as_str())
 }
 
 // Makes a text that may be missing the same as another.

@@ -1,7 +1,7 @@
 ghost use Rattle.std.specs.Prelude.{◌≡◌, IfOk, true};
 ghost use Rattle.gtfs_rows.specs.RouteTypes.{is_route_type};
 
-use crate::copies::{copied_if_any, own};
+use crate::copies::copied_if_any;
 use crate::numbers::AgencyNo;
 use gtfs_field::{Colour, OutOfMemory, Text};
 use std::alloc::Global;
@@ -72,7 +72,7 @@ impl Route {
             ≡ record self.now { route_id = id.now; agency_id = agency }) }
     {
         Ok(Route {
-            route_id: own(alloc, id)?,
+            route_id: Text::copy_of(alloc, id)?,
             agency_id: agency,
             route_short_name: copied_if_any(alloc, &self.route_short_name)?,
             route_long_name: copied_if_any(alloc, &self.route_long_name)?,

@@ -1,7 +1,7 @@
 ghost use Rattle.std.specs.Prelude.{◌≡◌, IfOk, OnOk};
 
 use crate::choices::{LocationType, WheelchairBoarding};
-use crate::copies::{copy_if_any, own};
+use crate::copies::copy_if_any;
 use gtfs_field::{Coord, OutOfMemory, Text};
 use gtfs_stop_times::StopNo;
 use std::alloc::Global;
@@ -39,7 +39,7 @@ impl Stop {
             ≡ record self.now { stop_id = id.now; parent_station = parent }) }
     {
         let mut other = Stop {
-            stop_id: own(alloc, id)?,
+            stop_id: Text::copy_of(alloc, id)?,
             stop_code: None,
             stop_name: None,
             tts_stop_name: None,

@@ -1,7 +1,7 @@
 ghost use Rattle.std.specs.Prelude.{◌≡◌, IfOk};
 
 use crate::choices::{BikesAllowed, Direction, WheelchairAccessible};
-use crate::copies::{copied_if_any, own};
+use crate::copies::copied_if_any;
 use crate::numbers::{RouteNo, ServiceNo};
 use gtfs_field::{OutOfMemory, Text};
 use std::alloc::Global;
@@ -37,7 +37,7 @@ impl Trip {
         Ok(Trip {
             route_id: route,
             service_id: service,
-            trip_id: own(alloc, id)?,
+            trip_id: Text::copy_of(alloc, id)?,
             trip_headsign: copied_if_any(alloc, &self.trip_headsign)?,
             trip_short_name: copied_if_any(alloc, &self.trip_short_name)?,
             direction_id: self.direction_id,

@@ -26,7 +26,7 @@ fn writers(
     _coord: fn(Global, &mut String, Coord) -> Result<(), OutOfMemory>,
 ) {}
 
-fn texts(_new: fn(String) -> Text) {}
+fn texts(_new: fn(String) -> Text, _copy_of: fn(Global, &str) -> Result<Text, OutOfMemory>) {}
 
 // A list takes items of every type.
 fn list<T>(items: Vec<T>) -> List<T> {
@@ -54,5 +54,5 @@ fn the_calls_are_these() {
         read_coord,
     );
     writers(push_time, push_date, push_colour, push_count, push_coord);
-    texts(Text::new);
+    texts(Text::new, Text::copy_of);
 }
