@@ -3,15 +3,15 @@ use Rattle.gtfs_days.specs.Service.{IsOrdered}
 use Rattle.gtfs_merge.proofs.ServiceCopies.{once-by_day, same-exceptions}
 use Rattle.gtfs_merge.proofs.merged_services.with_id.Goals as goal
 
-pub new-requires-2-clause-ordered : goal.new-requires-2-clause-ordered
-new-requires-2-clause-ordered c = subst IsOrdered (sym (c.copied.ensures ∙ c.week.ensures.value)) c.week.ensures.ordered
+pub new-requires-clause-ordered : goal.new-requires-clause-ordered
+new-requires-clause-ordered c = subst IsOrdered (sym (c.copied.ensures ∙ c.week.ensures.value)) c.week.ensures.ordered
 
-pub new-requires-2-clause-once : goal.new-requires-2-clause-once
-new-requires-2-clause-once c = once-by_day _ c.exceptions.ensures.by_day
+pub new-requires-clause-once : goal.new-requires-clause-once
+new-requires-clause-once c = once-by_day _ c.exceptions.ensures.by_day
 
 pub returns : goal.returns
 returns c = λ i. record {
-  service_id = (c.new.ensures ∙ c.in_ok-from_str.ensures.ok) i;
+  service_id = c.in_ok-copy_of.ensures i;
   service = record {
     week = (c.in_ok-new.ensures.week ∙ c.copied.ensures ∙ c.week.ensures.value) i;
     exceptions = (same-exceptions _ _ c.in_ok-new.ensures.exceptions c.exceptions.ensures.by_day c.in_ok-new.ensures.by_day ∙ c.exceptions.ensures.value) i;

@@ -7,7 +7,7 @@ pub loop-number-preserved : goal.loop-number-preserved
 loop-number-preserved c =
     let ids = known_ids c.args.kind c.args.feed.now in
     let within : c.loop-number.number < length ids = omega (arith, c.count_of-number-end.ensures) in
-    c.in_ok-push.ensures.items ∙ (λ i. c.loop-number.invariant i ++ (c.new.ensures ∙ c.in_ok-id.ensures.ok ∙ c.id_of.ensures) i ∷ [])
+    c.in_ok-push.ensures.items ∙ (λ i. c.loop-number.invariant i ++ (c.in_ok-copy_of.ensures ∙ c.id_of.ensures) i ∷ [])
     ∙ sym (take_more ids c.loop-number.number [] within)
 
 pub returns : goal.returns

@@ -32,7 +32,7 @@ returns c =
     c.deref.ensures.value ∙ c.in_ok-exceptions.ensures ∙ ap (λ e. map (exception_in e) (map (λ r. r.1) c.of.result.now)) (c.self.invariant.dates ∙ c.self.view_is)
     ∙ ap (map (exception_in d)) rows_are in
     λ i. record {
-      service_id = c.in_ok-own.ensures i;
+      service_id = c.in_ok-copy_of.ensures i;
       service = record {
         week = (c.in_ok-new.ensures.week ∙ c.week-week.ensures.value) i;
         exceptions = (sym (by_day _ _ c.in_ok-new.ensures.exceptions c.in_ok-new.ensures.by_day) ∙ ap (by_key int_cmp (λ e. e.0)) are) i;
