@@ -21,7 +21,7 @@ pub record LaneValue : Type 0 where
   pub events : List Event
 
 abbrev pub list_value : ListLane → LaneValue
-list_value lane = record { service = lane.service.0; events = lane.events.items }
+list_value lane = record { service = lane.service.0; events = lane.events }
 
 abbrev pub filled_value : FilledLane → LaneValue
 filled_value lane = list_value lane.list

@@ -18,7 +18,7 @@ pub struct FilledLane {
 impl Lane for FilledLane {
     ghost serves = { λ lane. lane.list.service.0 };
 
-    ghost events = { λ lane. lane.list.events.items };
+    ghost events = { λ lane. lane.list.events };
 
     ghost ascending = { λ lane. lane.list.ascending };
 

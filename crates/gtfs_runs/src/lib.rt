@@ -18,6 +18,7 @@
 
 mod departure_row;
 mod event;
+mod event_range;
 mod filled_lane;
 mod flat;
 mod grouped_trip;

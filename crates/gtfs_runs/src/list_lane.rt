@@ -5,6 +5,7 @@ ghost use Rattle.gtfs_runs.specs.Order.{event_cmp};
 ghost use Rattle.gtfs_runs.specs.steps.Lists.{latest_of};
 
 use crate::event::Event;
+use crate::event_range::EventRange;
 use crate::lane::Lane;
 use crate::moment::Moment;
 use crate::steps::Steps;
@@ -15,14 +16,14 @@ use gtfs_rows::ServiceNo;
 #[derive(Drop)]
 pub struct ListLane {
     service: ServiceNo,
-    events: Vec<Event>,
-    ghost ascending: { Ascends event_cmp events.items },
+    events: EventRange,
+    ghost ascending: { Ascends event_cmp events },
 }
 
 impl Lane for ListLane {
     ghost serves = { λ lane. lane.service.0 };
 
-    ghost events = { λ lane. lane.events.items };
+    ghost events = { λ lane. lane.events };
 
     ghost ascending = { λ lane. lane.ascending };
 
@@ -32,32 +33,32 @@ impl Lane for ListLane {
 
     fn first_above(&self, _feed: &Feed, moment: &Moment, steps: &mut Steps) -> Option<Event> {
         steps.add_one();
-        let index = self.events.partition_point(|event| !moment.is_below(event));
+        let index = self.as_slice().partition_point(|event| !moment.is_below(event));
         self.event(index)
     }
 
     fn next(&self, _feed: &Feed, event: &Event, steps: &mut Steps) -> Option<Event> {
         steps.add_one();
-        let index = self.events.partition_point(|other| !event.is_below(other));
+        let index = self.as_slice().partition_point(|other| !event.is_below(other));
         self.event(index)
     }
 }
 
 impl ListLane {
     // The lane of these events.
-    pub(crate) fn new(service: ServiceNo, events: Vec<Event>) -> ListLane
-        requires { Ascends event_cmp events.items }
+    pub(crate) fn new(service: ServiceNo, events: EventRange) -> ListLane
+        requires { Ascends event_cmp events }
         ensures service { result.service ≡ service }
-        ensures events { result.events.items ≡ events.items }
+        ensures events { result.events ≡ events }
     {
         ListLane { service, events }
     }
 
     // The time of the last event, 0 where there is none.
     pub(crate) fn latest(&self) -> u32
-        ensures { result ≡ latest_of self.now.events.items }
+        ensures { result ≡ latest_of self.now.events }
     {
-        match self.events.last() {
+        match self.as_slice().last() {
             Some(event) => event.at,
             None => 0,
         }
@@ -65,15 +66,15 @@ impl ListLane {
 
     // The events of the list.
     pub(crate) fn as_slice(&self) -> &[Event]
-        ensures { result.now ≡ self.now.events.items }
+        ensures { result.now ≡ self.now.events }
     {
-        &self.events
+        self.events.as_slice()
     }
 
     // The event at an index of the list, if there is one.
     fn event(&self, index: usize) -> Option<Event>
-        ensures { result ≡ slice_get self.now.events.items index }
+        ensures { result ≡ slice_get self.now.events index }
     {
-        self.events.get(index).copied()
+        self.as_slice().get(index).copied()
     }
 }

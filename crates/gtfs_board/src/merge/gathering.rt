@@ -96,6 +96,7 @@ fn open_day<S: Source>(
     ensures steps { OnOk result (steps.new ≤ steps.old + S.count source.now) }
 {
     let origin = source.origin(day)?;
+    fresh.reserve(source.count())?;
     let mut serves = false;
     for lane in 0..source.count() {
         serves = source.serves(lane, day, serves);

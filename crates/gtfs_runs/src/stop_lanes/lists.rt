@@ -9,10 +9,11 @@ ghost use Rattle.gtfs_runs.specs.declared.stop_lanes.listed.Listed.{Listed as Li
 ghost use Rattle.gtfs_runs.specs.steps.Numbers.{AreNumbered, is_alike, listed_cmp};
 ghost use Rattle.gtfs_runs.specs.steps.Courses.{AreServed, IsListed, event_of, how_many, is_same_course, stopping_events, stopping_of};
 
+use crate::event::Event;
+use crate::event_range::EventRange;
 use crate::list_lane::ListLane;
 use crate::stop_lanes::listed::{Listed, is_one_course};
 use gtfs_field::OutOfMemory;
-use gtfs_rows::ServiceNo;
 use std::alloc::Global;
 
 // A lane for each course of these events, which are sorted.
@@ -30,21 +31,26 @@ pub(crate) fn lists(alloc: Global, listed: &[Listed]) -> Result<Vec<ListLane>, O
         → All (λ x. IsListed q (stopping_of p x)) listed.now
         → All (IsListLane (content_of_parts q)) (map list_value lists.items)) }
 {
+    let events = events_of(alloc, listed)?;
+    let all = EventRange::new(alloc, events)?;
     let mut lists = Vec::new(alloc);
     let mut at = 0;
     while at < listed.len() {
-        at += add_list(alloc, &listed[at..], &mut lists)?;
+        at += add_list(&listed[at..], &all, at, &mut lists)?;
     }
     Ok(lists)
 }
 
-// Adds the lane of the first course of these events, which are sorted. Answers how many they are.
+// Adds the lane of the first course of these events, which are sorted, and stand among all from an
+// index on. Answers how many they are.
 fn add_list(
-    alloc: Global,
     listed: &[Listed],
+    all: &EventRange,
+    at: usize,
     lists: &mut Vec<ListLane>,
 ) -> Result<usize, OutOfMemory>
     requires some { 0 < length listed.now }
+    requires events { drop at all.now ≡ map event_of listed.now }
     requires sorted { Ascends listed_cmp listed.now }
     ensures some { IfOk result (λ n. 0 < n) }
     ensures upto { IfOk result (λ n. n ≤ length listed.now) }
@@ -67,8 +73,8 @@ fn add_list(
         → All (IsListLane (content_of_parts q)) (map list_value lists.new.items)) }
 {
     let len = course_len(listed);
-    let list = list_lane(alloc, listed[0].service(), &listed[..len])?;
-    lists.push(list)?;
+    let events = all.part(at, len)?;
+    lists.push(ListLane::new(listed[0].service(), events))?;
     Ok(len)
 }
 
@@ -94,15 +100,13 @@ fn course_len(listed: &[Listed]) -> usize
     len
 }
 
-// The lane of these events.
-fn list_lane(alloc: Global, service: ServiceNo, listed: &[Listed]) -> Result<ListLane, OutOfMemory>
-    requires { Ascends event_cmp (map event_of listed.now) }
-    ensures service { IfOk result (λ lane. lane.service ≡ service) }
-    ensures events { IfOk result (λ lane. lane.events.items ≡ map event_of listed.now) }
+// The events of a list, in its order.
+fn events_of(alloc: Global, listed: &[Listed]) -> Result<Vec<Event>, OutOfMemory>
+    ensures { IfOk result (λ events. events.items ≡ map event_of listed.now) }
 {
     let mut events = Vec::with_capacity(alloc, listed.len())?;
     for stopping in listed {
         events.push(stopping.event())?;
     }
-    Ok(ListLane::new(service, events))
+    Ok(events)
 }

@@ -1,11 +1,11 @@
-use Rattle.std.proofs.Common.{◌≡◌, ◌<◌, ◌+◌, ◌++◌, ◌∙◌, length, map, sym, ap, subst}
+use Rattle.std.proofs.Common.{◌≡◌, ◌<◌, ◌+◌, ◌++◌, ◌∙◌, length, map, drop, sym, ap, subst}
 use Rattle.std.specs.List.{All}
 use Rattle.std.specs.declared.cmp.Ordering.TheVariants.{Less}
-use Rattle.std.proofs.lemmas.List.{take_rest}
+use Rattle.std.proofs.lemmas.List.{drop-map, take_rest}
 use Rattle.std.proofs.lemmas.List.Elements.{All-drop}
 use Rattle.gtfs_rows.specs.Order.{Ascends}
 use Rattle.gtfs_runs.specs.StopLanes.{events_of_service, list_value}
-use Rattle.gtfs_runs.specs.steps.Courses.{AreServed, IsListed, how_many, is_same_course, stopping_events, stopping_of}
+use Rattle.gtfs_runs.specs.steps.Courses.{AreServed, IsListed, event_of, how_many, is_same_course, stopping_events, stopping_of}
 use Rattle.gtfs_runs.specs.steps.Numbers.{AreNumbered, listed_cmp}
 use Rattle.gtfs_runs.proofs.Chunks.{left_more, pairs-drop, upto_more}
 use Rattle.gtfs_runs.proofs.Numbers.{numbers_left, served_left}
@@ -16,6 +16,12 @@ pub add_list-requires-clause-sorted : goal.add_list-requires-clause-sorted
 add_list-requires-clause-sorted c =
     let xs = c.args.listed.now in
     subst (Ascends listed_cmp) (sym (take_rest xs c.loop-at.at)) (pairs-drop (λ a b. listed_cmp a b ≡ Less) c.loop-at.at xs c.requires)
+
+pub add_list-requires-clause-events : goal.add_list-requires-clause-events
+add_list-requires-clause-events c =
+    let xs = c.args.listed.now in
+    let at = c.loop-at.at in
+    ap (drop at) (c.in_ok-all.ensures ∙ c.in_ok-events.ensures) ∙ drop-map event_of at xs ∙ ap (map event_of) (sym (take_rest xs at))
 
 pub loop-at-preserved : goal.loop-at-preserved
 loop-at-preserved c =
@@ -46,6 +52,6 @@ loop-at-preserved c =
 
 pub returns-in_err-at : goal.returns-in_err-at
 returns-in_err-at c =
-    let r = c.from_residual.result in
-    let refused = c.from_residual.ensures.1 in
+    let r = c.from_residual-in_err-at.result in
+    let refused = c.from_residual-in_err-at.ensures.1 in
     record { told = none-made r _ _ refused; counted = none-made r _ _ refused; within = none-made r _ _ refused; alike = none-made r _ _ refused }

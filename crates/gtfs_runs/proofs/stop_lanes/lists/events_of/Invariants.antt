@@ -1,6 +1,6 @@
 use Rattle.std.proofs.Common.{◌≡◌, map, take}
 use Rattle.gtfs_runs.specs.steps.Courses.{event_of}
-use Rattle.gtfs_runs.proofs.stop_lanes.lists.list_lane.Given as goal
+use Rattle.gtfs_runs.proofs.stop_lanes.lists.events_of.Given as goal
 
 -- the events so far
 abbrev pub invariant-loop-stopping : goal.invariant-loop-stopping
