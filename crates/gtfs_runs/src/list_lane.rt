@@ -33,13 +33,17 @@ impl Lane for ListLane {
 
     fn first_above(&self, _feed: &Feed, moment: &Moment, steps: &mut Steps) -> Option<Event> {
         steps.add_one();
-        let index = self.as_slice().partition_point(|event| !moment.is_below(event));
+        let index = self
+            .as_slice()
+            .partition_point(|event| !moment.is_below(event));
         self.event(index)
     }
 
     fn next(&self, _feed: &Feed, event: &Event, steps: &mut Steps) -> Option<Event> {
         steps.add_one();
-        let index = self.as_slice().partition_point(|other| !event.is_below(other));
+        let index = self
+            .as_slice()
+            .partition_point(|other| !event.is_below(other));
         self.event(index)
     }
 }

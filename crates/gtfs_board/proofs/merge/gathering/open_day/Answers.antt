@@ -7,7 +7,7 @@ use Rattle.gtfs_board.proofs.merge.gathering.open_day.Goals as goal
 
 pub loop-lane-init : goal.loop-lane-init
 loop-lane-init g c = record {
-  heads = rw (heads_on-none, append-nil) refl;
+  heads = rw (heads_on-none, append-nil) c.reserve.ensures.items;
   least = rw (heads_on-none, least_from-none) refl;
   serves = λ some. absurd (omega (arith, some));
   steps = omega arith;
