@@ -3,7 +3,6 @@ ghost use Rattle.gtfs_rows.specs.Order.{Ascends};
 ghost use Rattle.gtfs_rows.specs.Views.{content_of_parts};
 ghost use Rattle.gtfs_rows.specs.declared.parts.Parts.{Parts};
 ghost use Rattle.gtfs_runs.specs.Kinds.{IsListLane};
-ghost use Rattle.gtfs_runs.specs.Order.{event_cmp};
 ghost use Rattle.gtfs_runs.specs.StopLanes.{events_of_service, list_value};
 ghost use Rattle.gtfs_runs.specs.declared.stop_lanes.listed.Listed.{Listed as ListedValue};
 ghost use Rattle.gtfs_runs.specs.steps.Numbers.{AreNumbered, is_alike, listed_cmp};
