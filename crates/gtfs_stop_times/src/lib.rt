@@ -11,12 +11,14 @@
 //! `specs/Optional.antt`.
 #![tactic(auto)]
 
+mod arranged;
 mod choices;
 mod numbers;
 mod optional;
 mod room;
 mod stop_row;
 
+pub use arranged::arrange;
 pub use choices::{DropOffType, PickupType, Timepoint};
 pub use numbers::{HeadsignNo, StopNo};
 pub use optional::{OptionalClock, OptionalHeadsign};
