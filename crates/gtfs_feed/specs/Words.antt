@@ -9,6 +9,10 @@ pub use Rattle.gtfs_rows.specs.Reading.{content_of}
 pub use Rattle.gtfs_rows.specs.Content.{Content}
 -- the headsigns of a content's stop times, each once, in the order in which these first name them
 pub use Rattle.gtfs_reading.specs.FirstNamed.{headsigns_in}
+-- ---- `FeedDraft`: a feed whose stop times are not in their list yet
+
+-- the rows of a feed, of those without stop times and of the lists of stop times
+pub use Rattle.gtfs_feed.specs.Draft.{parts_with}
 -- ---- `Feed::assemble`: a feed of given rows
 
 -- each number is that of a row, each trip has its stretch of rows, and the content makes a feed

@@ -1,4 +1,5 @@
 ghost use Rattle.std.specs.Prelude.{◌≡◌, IfOk, map};
+ghost use Rattle.gtfs_feed.specs.Draft.{parts_with};
 ghost use Rattle.gtfs_reading.specs.FeedRows.{AreRowsOf, rows_in};
 ghost use Rattle.gtfs_rows.specs.Reading.{content_of as content_of_dataset};
 ghost use Rattle.gtfs_rows.specs.Views.{content_of_parts, stop_row_of};
@@ -40,7 +41,8 @@ impl Feed {
 }
 
 // The rows of a feed, with its stop times.
-fn joined(rows: FeedRows, stop_times: StopTimes) -> Parts
+pub(crate) fn joined(rows: FeedRows, stop_times: StopTimes) -> Parts
+    ensures whole { result ≡ parts_with rows stop_times }
     ensures rows { rows_in result ≡ rows }
     ensures stop_rows { result.stop_rows ≡ stop_times.stop_rows }
     ensures starts { result.stop_row_starts ≡ stop_times.stop_row_starts }

@@ -3,7 +3,7 @@
 use crate::assertions::{assert_holds, assert_is};
 use crate::full::FULL;
 use gtfs_feed::Feed;
-use gtfs_fixtures::{FileText, feed_with, folders_of, read_feed};
+use gtfs_fixtures::{FileText, feed_with, folders_of, read_by_draft};
 use gtfs_rules::check;
 use gtfs_table::{File, Folders, MemoryFolders, Tables};
 use std::alloc::Global;
@@ -87,7 +87,7 @@ pub(crate) fn assert_feed_reads_back<R: Abort + RandomSource>(
 ) -> Result<(), Fail> {
     let mut folders = MemoryFolders::new(alloc, 10_000, None);
     write_tables(rt, alloc, feed, &mut folders)?;
-    let other = read_feed(alloc, RandomState::new(rt)?, &mut folders, "again")?;
+    let other = read_by_draft(alloc, RandomState::new(rt)?, &mut folders, "again")?;
     assert_same(rt, alloc, feed, &other)
 }
 

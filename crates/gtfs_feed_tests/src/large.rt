@@ -9,7 +9,7 @@ use crate::named::stop_named;
 use crate::trimmed::{Side, assert_others, cut_at};
 use gtfs_feed::Feed;
 use gtfs_field::OutOfMemory;
-use gtfs_fixtures::read_feed;
+use gtfs_fixtures::{read_by_draft, read_feed};
 use gtfs_rows::{AgencyNo, RouteNo, ServiceNo, StopNo, TripNo};
 use gtfs_runs::{Event, Lane, ListLane, Steps, StopLanes, Times, flat_events, patterns};
 use gtfs_table::{File, MemoryFolders};
@@ -156,7 +156,7 @@ fn assert_reads_back<R: Abort + RandomSource>(
 ) -> Result<(), Fail> {
     let mut folders = MemoryFolders::new(alloc, 100_000_000, None);
     write_tables(rt, alloc, feed, &mut folders)?;
-    let other = read_feed(alloc, RandomState::new(rt)?, &mut folders, "again")?;
+    let other = read_by_draft(alloc, RandomState::new(rt)?, &mut folders, "again")?;
     assert_whole(rt, &other);
     assert_same(rt, alloc, feed, &other)?;
     assert_same_headsigns(rt, feed, &other);

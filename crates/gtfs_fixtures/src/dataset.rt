@@ -1,6 +1,6 @@
 //! A small dataset without a problem, changes to it, and the feeds of both.
 
-use gtfs_feed::Feed;
+use gtfs_feed::{Feed, FeedDraft};
 use gtfs_field::OutOfMemory;
 use gtfs_rules::check;
 use gtfs_table::{MemoryFolders, Tables};
@@ -74,6 +74,27 @@ fn feed_of(alloc: Global, random: RandomState, tables: &Tables) -> Result<Feed, 
     let report = check(alloc, tables)?;
     match report.passed() {
         Ok(passed) => Ok(Feed::new(alloc, random, &passed)?),
+        Err(_) => Err(Fail::new("the dataset has errors")),
+    }
+}
+
+/// The same feed, whose tables are let go before its stop times are copied.
+pub fn read_by_draft(
+    alloc: Global,
+    random: RandomState,
+    folders: &mut MemoryFolders,
+    dir: &str,
+) -> Result<Feed, Fail> {
+    let tables = Tables::read(alloc, folders, dir)?;
+    let draft = draft_of(alloc, random, &tables)?;
+    drop(tables);
+    Ok(draft.into_feed(alloc, random)?)
+}
+
+fn draft_of(alloc: Global, random: RandomState, tables: &Tables) -> Result<FeedDraft, Fail> {
+    let report = check(alloc, tables)?;
+    match report.passed() {
+        Ok(passed) => Ok(FeedDraft::new(alloc, random, passed)?),
         Err(_) => Err(Fail::new("the dataset has errors")),
     }
 }

@@ -24,7 +24,8 @@ use Rattle.gtfs_rows.specs.Reading.{content_of, stop_row_in}
 use Rattle.gtfs_rows.specs.Rows.{StopRow as StopRowOf}
 use Rattle.gtfs_stop_times.specs.declared.stop_row.StopRow.{StopRow}
 use Rattle.gtfs_reading.specs.FirstNamed.{each_once}
-use Rattle.gtfs_reading.specs.Gathering.{AreGathered, IsEmptyFor, by_trip, with_headsign_at}
+use Rattle.gtfs_reading.specs.Gathering.{AreGathered, IsEmptyFor, by_trip}
+use Rattle.gtfs_reading.specs.StopTimeDraft.{rows_with, with_headsign_at}
 use Rattle.gtfs_rows.specs.Headsigns.{AddsOnly, AreDistinct, KeepsHeadsigns, NamesHeadsign}
 use Rattle.gtfs_reading.specs.HeadsignIndex.{with_headsign}
 use Rattle.gtfs_reading.specs.StopTimeLists.{AreStopTimesOf, content_stop_ids, has_headsign, is_number}
@@ -35,6 +36,28 @@ use Rattle.gtfs_reading.proofs.EachOnce.{headsigns-more, parts-joined}
 use Rattle.gtfs_reading.proofs.RowSays.{numbers_kept, row_below, row_says, rows_kept}
 use Rattle.gtfs_reading.proofs.Starts.{first-filled, parts-map, rising-filled, stretches-filled, stretches-more}
 use Rattle.gtfs_reading.proofs.TripRows.{rows_by_trip, trip_below}
+
+-- ---- rows with headsigns
+
+pub rows_with-none : (hs : List (Option ℕ)) → rows_with [] hs ≡ []
+unfolding rows_with
+rows_with-none hs = refl
+
+rows_with-push : (ss : List StopTime) (hs : List (Option ℕ)) (s : StopTime) (h : Option ℕ) → length hs ≡ length ss
+    → rows_with (ss ++ s ∷ []) (hs ++ h ∷ []) ≡ rows_with ss hs ++ with_headsign_at s h ∷ []
+unfolding rows_with
+rows_with-push [] [] s h same = refl
+rows_with-push [] (k ∷ hs) s h same = cc same
+rows_with-push (r ∷ ss) [] s h same = cc same
+rows_with-push (r ∷ ss) (k ∷ hs) s h same = ap (λ rs. with_headsign_at r k ∷ rs) (rows_with-push ss hs s h (omega (arith, same)))
+
+pub rows_with-next : (ss : List StopTime) (hs : List (Option ℕ)) (at : ℕ) (s : StopTime) (h : Option ℕ) → length hs ≡ length ss → at < length ss
+    → rows_with (take (at + 1) ss) (take (at + 1) hs) ≡ rows_with (take at ss) (take at hs) ++ with_headsign_at (get_or ss at s) (get_or hs at h) ∷ []
+rows_with-next ss hs at s h same within =
+    let so_many : length (take at hs) ≡ length (take at ss) = length-take-le at hs (omega (arith, same, within)) ∙ sym (length-take-le at ss (omega (arith, within))) in
+    ap (λ rs. rows_with rs (take (at + 1) hs)) (take_more ss at s within)
+    ∙ ap (rows_with (take at ss ++ get_or ss at s ∷ [])) (take_more hs at h (omega (arith, same, within)))
+    ∙ rows_with-push (take at ss) (take at hs) (get_or ss at s) (get_or hs at h) so_many
 
 -- ---- none
 
@@ -55,11 +78,12 @@ gathered-none d g empty = record {
   trips = empty.trips;
   below = All-nil (λ s. s.trip < length g.starts.items);
   least = λ n all. let many = ap length empty.starts in omega (arith, many);
-  rising = none-rise g.starts.items (length g.rows.items) empty.starts;
-  from_first = ap (λ ks. get_or ks 0 (length g.rows.items)) empty.starts ∙ ap length empty.rows;
+  size = ap length empty.numbers;
+  rising = none-rise g.starts.items 0 empty.starts;
+  from_first = ap (λ ks. get_or ks 0 0) empty.starts;
   stretches = none-by_trip g.starts.items [] empty.starts;
-  named = ap (map (stop_row_named (content_stop_ids d) g.headsigns.texts)) empty.rows;
-  numbers = ap (list_all (has_numbers_below (length (content_of d).stops) (length g.headsigns.texts))) empty.rows;
+  named = ap (map (stop_row_named (content_stop_ids d) g.headsigns.texts)) (rows_with-none g.numbers.items);
+  numbers = ap (list_all (has_numbers_below (length (content_of d).stops) (length g.headsigns.texts))) (rows_with-none g.numbers.items);
   used = λ k h. let many = ap length empty.headsigns in absurd (omega (arith, h, many));
   first_named = empty.headsigns ∙ none-once;
 }
@@ -95,67 +119,74 @@ pub record IsOneMore (d : Dataset) (s : StopTime) (g new : Gathered) : Type 0 wh
   pub added : AddsOnly g.headsigns.texts new.headsigns.texts headsign
   pub texts : new.headsigns.texts ≡ with_headsign g.headsigns.texts (word_in d file.StopTimes s.row "stop_headsign")
   pub names : NamesHeadsign new.headsigns.texts headsign (word_in d file.StopTimes s.row "stop_headsign")
-  pub starts : new.starts.items ≡ take (s.trip + 1) g.starts.items ++ replicate (s.trip + 1 - length g.starts.items) (length g.rows.items)
-  pub rows : new.rows.items ≡ g.rows.items ++ with_headsign_at s headsign ∷ []
+  pub starts : new.starts.items ≡ take (s.trip + 1) g.starts.items ++ replicate (s.trip + 1 - length g.starts.items) (length g.numbers.items)
+  pub numbers : new.numbers.items ≡ g.numbers.items ++ headsign ∷ []
 
 module _ (d : Dataset) (passes : Passes d) (ss : List StopTime) (s : StopTime) (g new : Gathered)
     (so_far : AreGathered d ss g) (said : SaysStopTime d s) (after : All (λ r. r.trip ≤ s.trip) ss) (more : IsOneMore d s g new) where
+  abbrev earlier : List StopRow
+  earlier = rows_with ss g.numbers.items
+
+  rows : rows_with (ss ++ s ∷ []) new.numbers.items ≡ earlier ++ with_headsign_at s more.headsign ∷ []
+  rows = ap (rows_with (ss ++ s ∷ [])) more.numbers ∙ rows_with-push ss g.numbers.items s more.headsign so_far.size
+
+  starts : new.starts.items ≡ take (s.trip + 1) g.starts.items ++ replicate (s.trip + 1 - length g.starts.items) (length ss)
+  starts = more.starts ∙ ap (λ n. take (s.trip + 1) g.starts.items ++ replicate (s.trip + 1 - length g.starts.items) n) so_far.size
+
   low : length g.starts.items ≤ s.trip + 1
-  low = so_far.least (s.trip + 1) (λ k e h. let before = after k e h in omega (arith, before))
+  low = so_far.least (s.trip + 1) (λ k e h. let lower = after k e h in omega (arith, lower))
 
   count : length new.starts.items ≡ s.trip + 1
-  count = count-filled g.starts.items new.starts.items (s.trip + 1) (length g.rows.items) low more.starts
+  count = count-filled g.starts.items new.starts.items (s.trip + 1) (length ss) low starts
 
-  size : length g.rows.items ≡ length ss
-  size = count-rows d ss g.headsigns.texts g.rows.items so_far.named
+  grown : length (ss ++ s ∷ []) ≡ length ss + 1
+  grown = length_push ss s
 
-  grown : length new.rows.items ≡ length g.rows.items + 1
-  grown = ap length more.rows ∙ length_push g.rows.items (with_headsign_at s more.headsign)
-
-  filled : new.starts.items ≡ g.starts.items ++ replicate (s.trip + 1 - length g.starts.items) (length g.rows.items)
-  filled = filled-is g.starts.items new.starts.items (s.trip + 1) (length g.rows.items) low more.starts
+  filled : new.starts.items ≡ g.starts.items ++ replicate (s.trip + 1 - length g.starts.items) (length ss)
+  filled = filled-is g.starts.items new.starts.items (s.trip + 1) (length ss) low starts
 
   stretches : parts new.starts.items (ss ++ s ∷ []) ≡ by_trip (length new.starts.items) (ss ++ s ∷ [])
   stretches =
       let m = s.trip + 1 - length g.starts.items in
       let last : length g.starts.items + m ≡ s.trip + 1 = omega (arith, low) in
-      ap (λ ks. parts ks (ss ++ s ∷ [])) (filled ∙ ap (λ n. g.starts.items ++ replicate m n) size)
-      ∙ stretches-more ss g.starts.items m (subst (Rising 0 g.starts.items) size so_far.rising) so_far.below so_far.stretches s last
+      ap (λ ks. parts ks (ss ++ s ∷ [])) filled
+      ∙ stretches-more ss g.starts.items m so_far.rising so_far.below so_far.stretches s last
       ∙ ap (λ n. by_trip n (ss ++ s ∷ [])) (sym count)
 
-  used-either : (k : ℕ) → k < length new.headsigns.texts → (list_any (has_headsign k) g.rows.items || (has_headsign k (with_headsign_at s more.headsign) || false)) ≡ true
+  used-either : (k : ℕ) → k < length new.headsigns.texts → (list_any (has_headsign k) earlier || (has_headsign k (with_headsign_at s more.headsign) || false)) ≡ true
   used-either k h = elim (cases_lt k (length g.headsigns.texts)) [
-    | inl known ↦ or_left (list_any (has_headsign k) g.rows.items) (has_headsign k (with_headsign_at s more.headsign) || false) (so_far.used k known)
-    | inr beyond ↦ or_right (list_any (has_headsign k) g.rows.items) (has_headsign k (with_headsign_at s more.headsign) || false)
+    | inl known ↦ or_left (list_any (has_headsign k) earlier) (has_headsign k (with_headsign_at s more.headsign) || false) (so_far.used k known)
+    | inr beyond ↦ or_right (list_any (has_headsign k) earlier) (has_headsign k (with_headsign_at s more.headsign) || false)
         (or_left (has_headsign k (with_headsign_at s more.headsign)) false (ap (is_number k) (more.added k beyond h) ∙ number_itself k))
   ]
 
   pub gathered-more : AreGathered d (ss ++ s ∷ []) new
   gathered-more = record {
     trips = more.trips ∙ so_far.trips;
+    size = ap length more.numbers ∙ length_push g.numbers.items more.headsign ∙ ap (λ n. n + 1) so_far.size ∙ sym grown;
     below = All-append (λ r. r.trip < length new.starts.items) ss (s ∷ [])
-        (λ k e h. let before = after k e h in omega (arith, before, count))
+        (λ k e h. let lower = after k e h in omega (arith, lower, count))
         (All-cons (λ r. r.trip < length new.starts.items) s [] (omega (arith, count)) (All-nil (λ r. r.trip < length new.starts.items)));
     least = λ n all. let last : s.trip < n = at-end ss s n all in omega (arith, last, count);
-    rising = rising-more 0 new.starts.items (length g.rows.items) (length new.rows.items)
-        (filled-rising g.starts.items new.starts.items (s.trip + 1) (length g.rows.items) low more.starts so_far.rising) (omega (arith, grown));
-    from_first = get_or_default new.starts.items 0 (length new.rows.items) (length g.rows.items) (omega (arith, count))
-        ∙ filled-first g.starts.items new.starts.items (s.trip + 1) (length g.rows.items) low more.starts so_far.from_first;
+    rising = rising-more 0 new.starts.items (length ss) (length (ss ++ s ∷ []))
+        (filled-rising g.starts.items new.starts.items (s.trip + 1) (length ss) low starts so_far.rising) (omega (arith, grown));
+    from_first = get_or_default new.starts.items 0 (length (ss ++ s ∷ [])) (length ss) (omega (arith, count))
+        ∙ filled-first g.starts.items new.starts.items (s.trip + 1) (length ss) low starts so_far.from_first;
     stretches = stretches;
-    named = ap (map (stop_row_named (content_stop_ids d) new.headsigns.texts)) more.rows
-        ∙ map_push (stop_row_named (content_stop_ids d) new.headsigns.texts) g.rows.items (with_headsign_at s more.headsign)
+    named = ap (map (stop_row_named (content_stop_ids d) new.headsigns.texts)) rows
+        ∙ map_push (stop_row_named (content_stop_ids d) new.headsigns.texts) earlier (with_headsign_at s more.headsign)
         ∙ ap (λ rs. rs ++ stop_row_named (content_stop_ids d) new.headsigns.texts (with_headsign_at s more.headsign) ∷ [])
-        (sym (rows_kept (content_stop_ids d) (length (content_of d).stops) g.headsigns.texts new.headsigns.texts more.kept g.rows.items so_far.numbers) ∙ so_far.named)
+        (sym (rows_kept (content_stop_ids d) (length (content_of d).stops) g.headsigns.texts new.headsigns.texts more.kept earlier so_far.numbers) ∙ so_far.named)
         ∙ ap (λ r. map (λ s. stop_row_in d s.row) ss ++ r ∷ []) (row_says d passes s said new.headsigns.texts more.headsign more.names)
         ∙ sym (map_push (λ s. stop_row_in d s.row) ss s);
-    numbers = ap (list_all (has_numbers_below (length (content_of d).stops) (length new.headsigns.texts))) more.rows
-        ∙ list_all-append (has_numbers_below (length (content_of d).stops) (length new.headsigns.texts)) g.rows.items ((with_headsign_at s more.headsign) ∷ [])
-        ∙ and_both (list_all (has_numbers_below (length (content_of d).stops) (length new.headsigns.texts)) g.rows.items)
+    numbers = ap (list_all (has_numbers_below (length (content_of d).stops) (length new.headsigns.texts))) rows
+        ∙ list_all-append (has_numbers_below (length (content_of d).stops) (length new.headsigns.texts)) earlier ((with_headsign_at s more.headsign) ∷ [])
+        ∙ and_both (list_all (has_numbers_below (length (content_of d).stops) (length new.headsigns.texts)) earlier)
         (has_numbers_below (length (content_of d).stops) (length new.headsigns.texts) (with_headsign_at s more.headsign) && true)
-        (numbers_kept (content_stop_ids d) (length (content_of d).stops) g.headsigns.texts new.headsigns.texts more.kept g.rows.items so_far.numbers)
+        (numbers_kept (content_stop_ids d) (length (content_of d).stops) g.headsigns.texts new.headsigns.texts more.kept earlier so_far.numbers)
         (and_both (has_numbers_below (length (content_of d).stops) (length new.headsigns.texts) (with_headsign_at s more.headsign)) true
         (row_below d passes s said new.headsigns.texts more.headsign more.names) refl);
-    used = λ k h. ap (list_any (has_headsign k)) more.rows ∙ list_any-append (has_headsign k) g.rows.items ((with_headsign_at s more.headsign) ∷ []) ∙ used-either k h;
+    used = λ k h. ap (list_any (has_headsign k)) rows ∙ list_any-append (has_headsign k) earlier ((with_headsign_at s more.headsign) ∷ []) ∙ used-either k h;
     first_named = more.texts ∙ ap (λ ts. with_headsign ts (word_in d file.StopTimes s.row "stop_headsign")) so_far.first_named
         ∙ sym (headsigns-more (λ r. r.stop_headsign) (map (λ s. stop_row_in d s.row) ss) (stop_row_in d s.row))
         ∙ ap (λ rs. each_once (filter_map (λ r. r.stop_headsign) rs)) (sym (map_push (λ s. stop_row_in d s.row) ss s));
@@ -184,39 +215,42 @@ module _ (d : Dataset) (passes : Passes d) (all : List StopTime) (are : AreStopT
 -- ---- all
 
 module _ (d : Dataset) (passes : Passes d) (ss : List StopTime) (are : AreStopTimes d ss) (g : Gathered) (so_far : AreGathered d ss g) (lists : StopTimes)
-    (rows : lists.stop_rows ≡ g.rows.items)
-    (starts : lists.stop_row_starts ≡ take g.trips g.starts.items ++ replicate (g.trips - length g.starts.items) (length g.rows.items))
+    (rows : lists.stop_rows ≡ rows_with ss g.numbers.items)
+    (starts : lists.stop_row_starts ≡ take g.trips g.starts.items ++ replicate (g.trips - length g.starts.items) (length ss))
     (headsigns : lists.headsigns ≡ g.headsigns.texts) (distinct : AreDistinct g.headsigns.texts) where
   within : length g.starts.items ≤ g.trips
   within = so_far.least g.trips (λ k e h. let below = trip_below d ss are passes (get_or ss k e) (are.say k e h) in omega (arith, below, so_far.trips))
 
   all-count : length lists.stop_row_starts ≡ g.trips
-  all-count = count-filled g.starts.items lists.stop_row_starts g.trips (length g.rows.items) within starts
+  all-count = count-filled g.starts.items lists.stop_row_starts g.trips (length ss) within starts
 
-  all-size : length g.rows.items ≡ length ss
-  all-size = count-rows d ss g.headsigns.texts g.rows.items so_far.named
+  abbrev found : List StopRow
+  found = rows_with ss g.numbers.items
+
+  all-size : length found ≡ length ss
+  all-size = count-rows d ss g.headsigns.texts found so_far.named
 
   all-stretches : parts lists.stop_row_starts ss ≡ by_trip (length (content_of d).trips) ss
   all-stretches =
       let m = g.trips - length g.starts.items in
       let last : length g.starts.items + m ≡ length (content_of d).trips = omega (arith, within, so_far.trips) in
-      ap (λ ks. parts ks ss) (filled-is g.starts.items lists.stop_row_starts g.trips (length g.rows.items) within starts ∙ ap (λ n. g.starts.items ++ replicate m n) all-size)
-      ∙ stretches-filled ss g.starts.items m (subst (Rising 0 g.starts.items) all-size so_far.rising) so_far.below so_far.stretches
+      ap (λ ks. parts ks ss) (filled-is g.starts.items lists.stop_row_starts g.trips (length ss) within starts)
+      ∙ stretches-filled ss g.starts.items m so_far.rising so_far.below so_far.stretches
       ∙ ap (λ n. by_trip n ss) last
 
   abbrev row : StopTime → StopRowOf
   row s = stop_row_in d s.row
 
-  all-rising : Rising 0 lists.stop_row_starts (length g.rows.items)
-  all-rising = filled-rising g.starts.items lists.stop_row_starts g.trips (length g.rows.items) within starts so_far.rising
+  all-rising : Rising 0 lists.stop_row_starts (length ss)
+  all-rising = filled-rising g.starts.items lists.stop_row_starts g.trips (length ss) within starts so_far.rising
 
-  all-first : get_or lists.stop_row_starts 0 (length g.rows.items) ≡ 0
-  all-first = filled-first g.starts.items lists.stop_row_starts g.trips (length g.rows.items) within starts so_far.from_first
+  all-first : get_or lists.stop_row_starts 0 (length ss) ≡ 0
+  all-first = filled-first g.starts.items lists.stop_row_starts g.trips (length ss) within starts so_far.from_first
 
   -- the rows of the content's trips, one trip after the other
   all-rows : flat_map (λ t. t.stop_rows) (content_of d).trips ≡ map row ss
   all-rows =
-      let size : length g.rows.items ≡ length (map row ss) = all-size ∙ sym (length-map ss row) in
+      let size : length ss ≡ length (map row ss) = sym (length-map ss row) in
       sym (flat_map-map (λ rs. rs) (λ t. t.stop_rows) (content_of d).trips)
       ∙ ap (flat_map (λ rs. rs)) (sym (rows_by_trip d ss are passes) ∙ ap (map (map row)) (sym all-stretches) ∙ sym (parts-map row lists.stop_row_starts ss))
       ∙ parts-joined 0 lists.stop_row_starts (map row ss) (subst (Rising 0 lists.stop_row_starts) size all-rising)
@@ -225,16 +259,16 @@ module _ (d : Dataset) (passes : Passes d) (ss : List StopTime) (are : AreStopTi
   pub gathered-all : AreStopTimesOf d lists
   gathered-all = record {
     trips = all-count ∙ so_far.trips;
-    rising = subst (λ n. Rising 0 lists.stop_row_starts n) (ap length (sym rows)) all-rising;
-    from_first = ap (λ rs. get_or lists.stop_row_starts 0 (length rs)) rows ∙ all-first;
+    rising = subst (λ n. Rising 0 lists.stop_row_starts n) (sym (ap length rows ∙ all-size)) all-rising;
+    from_first = ap (get_or lists.stop_row_starts 0) (ap length rows ∙ all-size) ∙ all-first;
     by_trip = sym (parts-map (stop_row_named (content_stop_ids d) lists.headsigns) lists.stop_row_starts lists.stop_rows)
         ∙ ap (parts lists.stop_row_starts) (ap (map (stop_row_named (content_stop_ids d) lists.headsigns)) rows
-        ∙ ap (λ ts. map (stop_row_named (content_stop_ids d) ts) g.rows.items) headsigns ∙ so_far.named)
+        ∙ ap (λ ts. map (stop_row_named (content_stop_ids d) ts) found) headsigns ∙ so_far.named)
         ∙ parts-map row lists.stop_row_starts ss
         ∙ ap (map (map row)) all-stretches
         ∙ rows_by_trip d ss are passes;
     numbers = ap (list_all (has_numbers_below (length (content_of d).stops) (length lists.headsigns))) rows
-        ∙ ap (λ ts. list_all (has_numbers_below (length (content_of d).stops) (length ts)) g.rows.items) headsigns ∙ so_far.numbers;
+        ∙ ap (λ ts. list_all (has_numbers_below (length (content_of d).stops) (length ts)) found) headsigns ∙ so_far.numbers;
     first_named = headsigns ∙ so_far.first_named ∙ ap (λ rs. each_once (filter_map (λ r. r.stop_headsign) rs)) (sym all-rows);
     distinct = subst AreDistinct (sym headsigns) distinct;
     used = λ k h. ap (list_any (has_headsign k)) rows ∙ so_far.used k (subst (λ ts. k < length ts) headsigns h);

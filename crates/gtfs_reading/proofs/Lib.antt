@@ -16,6 +16,6 @@ mod RowsAlike
 mod ServiceFacts
 mod SortedKeys
 mod Starts
-mod StopTimesAdded
+pub mod StopTimesAdded
 mod TransferFacts
 mod TripRows

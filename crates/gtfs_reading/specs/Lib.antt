@@ -15,6 +15,7 @@ pub mod Numbers
 pub mod RouteColumns
 pub mod ServiceIds
 pub mod StopColumns
+pub mod StopTimeDraft
 pub mod StopTimeLists
 pub mod TransferColumns
 pub mod TripColumns

@@ -1,20 +1,21 @@
 //! The lists of stop times while they are made.
 
-ghost use Rattle.std.specs.Prelude.{◌≡◌, List as Sequence, length, not, IfOk, OnOk};
+ghost use Rattle.std.specs.Prelude.{◌≡◌, length, not, IfOk, OnOk};
 ghost use Rattle.gtfs_columns.specs.Problems.{Passes};
 ghost use Rattle.gtfs_rows.specs.Reading.{content_of};
 ghost use Rattle.gtfs_rules.specs.StopTimes.{AreStopTimes};
 ghost use Rattle.gtfs_reading.specs.Gathering.{AreGathered, IsEmptyFor};
+ghost use Rattle.gtfs_reading.specs.StopTimeDraft.{rows_with};
 ghost use Rattle.gtfs_reading.specs.StopTimeLists.{AreStopTimesOf};
 ghost use Rattle.gtfs_table.specs.Rows.{is_empty, records_in};
 ghost use Rattle.gtfs_table.specs.Tables.{Dataset, field_under, record_at};
 ghost use Rattle.gtfs_table.specs.declared.file.File.TheVariants as file;
-ghost use Rattle.gtfs_trip_rules.specs.declared.trips.row.StopTime.{StopTime as StopTimeValue};
 
+use crate::draft::StopTimesDraft;
 use crate::headsigns::Headsigns;
 use crate::stop_times::StopTimes;
 use gtfs_field::{List, OutOfMemory};
-use gtfs_rows::StopRow;
+use gtfs_rows::{OptionalHeadsign, StopRow};
 use gtfs_rules::{KeptStopTimes, StopTime};
 use gtfs_stop_times::room_for;
 use gtfs_table::{File, Tables};
@@ -27,8 +28,9 @@ use std::mem::size_of;
 pub(crate) struct Gathered {
     // How many trips there are in all.
     trips: usize,
-    rows: Vec<StopRow>,
-    // Where the rows of each trip begin, up to the trip of the last row.
+    // The headsign of each stop time.
+    numbers: Vec<OptionalHeadsign>,
+    // Where the stop times of each trip begin, up to the trip of the last one.
     starts: Vec<usize>,
     headsigns: Headsigns,
 }
@@ -38,7 +40,7 @@ impl Gathered {
     pub(crate) fn new(
         alloc: Global,
         random: RandomState,
-        rows: usize,
+        count: usize,
         trips: usize,
     ) -> Result<Gathered, OutOfMemory>
         ensures empty { IfOk result (IsEmptyFor trips) }
@@ -46,7 +48,7 @@ impl Gathered {
     {
         Ok(Gathered {
             trips,
-            rows: Vec::with_capacity(alloc, room_for(rows, size_of::<StopRow>()))?,
+            numbers: Vec::with_capacity(alloc, room_for(count, size_of::<OptionalHeadsign>()))?,
             starts: Vec::with_capacity(alloc, trips)?,
             headsigns: Headsigns::new(alloc, random),
         })
@@ -66,35 +68,74 @@ impl Gathered {
         let column = tables.column(File::StopTimes, "stop_headsign");
         for at in 0..stop_times.len() {
             let stop_time = stop_times.get(at);
-            let stop_headsign = self.headsigns.number(text(tables, &stop_time, column))?;
+            let number = self.headsigns.number(text(tables, &stop_time, column))?;
             self.starts
-                .resize(stop_time.trip as usize + 1, self.rows.len())?;
-            self.rows.push(StopRow {
-                stop_headsign,
-                ..stop_time.stop_row
-            })?;
+                .resize(stop_time.trip as usize + 1, self.numbers.len())?;
+            self.numbers.push(number)?;
         }
         Ok(())
     }
 
-    // The lists. The trips after that of the last row begin at the end.
-    pub(crate) fn into_stop_times(self) -> Result<StopTimes, OutOfMemory>
-        ensures { (d : Dataset) (ss : Sequence StopTimeValue) → Passes d → AreStopTimes d ss
-            → AreGathered d ss self → IfOk result (AreStopTimesOf d) }
+    // The lists, with the rows of these stop times. The trips after that of the last one begin at the end.
+    pub(crate) fn into_stop_times(
+        self,
+        alloc: Global,
+        stop_times: &KeptStopTimes,
+    ) -> Result<StopTimes, OutOfMemory>
+        requires { length self.numbers.items ≡ length stop_times.now }
+        ensures { (d : Dataset) → Passes d → AreStopTimes d stop_times.now
+            → AreGathered d stop_times.now self → IfOk result (AreStopTimesOf d) }
     {
         let Gathered {
             trips,
-            rows,
+            numbers,
             mut starts,
             headsigns,
         } = self;
-        starts.resize(trips, rows.len())?;
+        let rows = rows_with(alloc, stop_times, &numbers)?;
+        starts.resize(trips, stop_times.len())?;
         Ok(StopTimes {
             stop_rows: List::new(rows),
             stop_row_starts: List::new(starts),
             headsigns: headsigns.into_list()?,
         })
     }
+
+    // The same with these stop times, whose rows are copied later.
+    pub(crate) fn into_draft(self, stop_times: KeptStopTimes) -> Result<StopTimesDraft, OutOfMemory>
+        requires { length self.numbers.items ≡ length stop_times }
+        ensures { (d : Dataset) → Passes d → AreStopTimes d stop_times
+            → AreGathered d stop_times self → IfOk result (AreStopTimesOf d) }
+    {
+        let Gathered {
+            trips,
+            numbers,
+            mut starts,
+            headsigns,
+        } = self;
+        starts.resize(trips, numbers.len())?;
+        let headsigns = headsigns.into_list()?;
+        Ok(StopTimesDraft::of(stop_times, numbers, List::new(starts), headsigns))
+    }
+}
+
+// The rows of stop times, with the headsigns of these numbers.
+pub(crate) fn rows_with(
+    alloc: Global,
+    stop_times: &KeptStopTimes,
+    numbers: &[OptionalHeadsign],
+) -> Result<Vec<StopRow>, OutOfMemory>
+    requires { length numbers.now ≡ length stop_times.now }
+    ensures { IfOk result (λ rows. rows.items ≡ rows_with stop_times.now numbers.now) }
+{
+    let mut rows = Vec::with_capacity(alloc, room_for(numbers.len(), size_of::<StopRow>()))?;
+    for at in 0..numbers.len() {
+        rows.push(StopRow {
+            stop_headsign: numbers[at],
+            ..stop_times.get(at).stop_row
+        })?;
+    }
+    Ok(rows)
 }
 
 // The headsign of a stop time, which stands under this column. Where it has none, its row is not looked up.

@@ -2,7 +2,8 @@
 //!
 //! [`FeedRows::new`] reads all rows but the stop times of a [`Passed`](gtfs_rules::Passed). [`StopTimes::new`] makes the
 //! lists of stop times of it, whose fields were read when the tables were checked, but for headsigns.
-//! [`FeedRows::with_stop_times`] makes [`Parts`](gtfs_rows::Parts) of both.
+//! [`FeedRows::with_stop_times`] makes [`Parts`](gtfs_rows::Parts) of both. A [`StopTimesDraft`] makes the same lists, and
+//! needs the tables no more: they can be let go before its lists are made.
 //!
 //! ```text
 //! let rows = FeedRows::new(alloc, passed)?;
@@ -30,6 +31,7 @@ mod agencies;
 mod calendar;
 mod choices;
 mod dates;
+mod draft;
 mod feed_rows;
 mod frequencies;
 mod gathered;
@@ -46,5 +48,6 @@ mod texts;
 mod transfers;
 mod trips;
 
+pub use draft::StopTimesDraft;
 pub use feed_rows::FeedRows;
 pub use stop_times::StopTimes;

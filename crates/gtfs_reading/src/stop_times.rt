@@ -42,6 +42,6 @@ impl StopTimes {
         let stop_times = passed.stop_times();
         let mut gathered = Gathered::new(alloc, random, stop_times.len(), trips)?;
         gathered.push_all(passed.tables(), stop_times)?;
-        gathered.into_stop_times()
+        gathered.into_stop_times(alloc, stop_times)
     }
 }

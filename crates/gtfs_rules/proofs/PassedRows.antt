@@ -5,7 +5,7 @@ use Rattle.gtfs_table.specs.Tables.{Dataset}
 use Rattle.gtfs_table.specs.Rows.{is_row, records_in}
 use Rattle.gtfs_table.specs.declared.file.File.TheVariants as file
 use Rattle.gtfs_columns.specs.declared.code.Code.TheVariants as code
-use Rattle.gtfs_columns.specs.Columns.{count, defaulting, id, means, nothing, optional, refused, required, time, up_to}
+use Rattle.gtfs_columns.specs.Columns.{count, defaulting, id, means, nothing, optional, refused, required, up_to}
 use Rattle.gtfs_columns.specs.IdNumbers.{number_of_id}
 use Rattle.gtfs_columns.specs.Problems.{Passes, kept}
 use Rattle.gtfs_columns.specs.ReadRules.{StandsAs}

@@ -67,4 +67,16 @@ impl<'a> Passed<'a> {
     {
         &self.stop_times
     }
+
+    /// The stop times of the dataset, as [`Passed::stop_times`] lends them. The ids are let go.
+    pub fn into_stop_times(self) -> KeptStopTimes
+        ensures { AreStopTimes self.entry result }
+    {
+        let Passed {
+            tables: _,
+            ids: _,
+            stop_times,
+        } = self;
+        stop_times
+    }
 }

@@ -7,6 +7,7 @@ ghost use Rattle.gtfs_cli.specs.Refusals.{IsReadingCause, TellsFolders};
 use crate::commands::folder::read_tables;
 use crate::commands::refusal::Refusal;
 use gtfs_board::Feed;
+use gtfs_feed::FeedDraft;
 use gtfs_rules::check;
 use gtfs_table::{Folders, Tables};
 use std::alloc::Global;
@@ -38,21 +39,36 @@ pub(super) fn read_feed<'w, F: Folders>(
         → FailsAtLast (F.calls folders.new) }
 {
     let tables = read_tables(alloc, folders, dir)?;
-    feed_of(alloc, random, &tables, dir)
+    feed_of(alloc, random, tables, dir)
 }
 
-// The feed of the tables of a folder.
+// The feed of the tables of a folder. They are let go before its stop times are copied.
 fn feed_of<'w>(
+    alloc: Global,
+    random: RandomState,
+    tables: Tables,
+    dir: &'w str,
+) -> Result<Feed, Refusal<'w>>
+    ensures read { IfOk result (IsFeedOf tables) }
+    ensures refused { IfErr result (IsFeedCause tables dir.now) }
+{
+    let draft = draft_of(alloc, random, &tables, dir)?;
+    drop(tables);
+    Ok(draft.into_feed(alloc, random)?)
+}
+
+// All that is read of the feed of these tables.
+fn draft_of<'w>(
     alloc: Global,
     random: RandomState,
     tables: &Tables,
     dir: &'w str,
-) -> Result<Feed, Refusal<'w>>
+) -> Result<FeedDraft, Refusal<'w>>
     ensures read { IfOk result (IsFeedOf tables.now) }
     ensures refused { IfErr result (IsFeedCause tables.now dir.now) }
 {
     match check(alloc, tables)?.passed() {
-        Ok(passed) => Ok(Feed::new(alloc, random, &passed)?),
+        Ok(passed) => Ok(FeedDraft::new(alloc, random, passed)?),
         Err(_) => Err(Refusal::HasErrors(dir)),
     }
 }

@@ -1,4 +1,4 @@
-use Rattle.std.proofs.Common.{◌≡◌, ◌∙◌, ◌+◌, ◌-◌, ◌<◌, ◌++◌, ap, arith, codes, get_or, length, refl, subst, sym, take}
+use Rattle.std.proofs.Common.{◌≡◌, ◌∙◌, ◌+◌, ◌-◌, ◌<◌, ◌++◌, ap, arith, codes, length, refl, subst, sym, take}
 use Rattle.std.specs.Prelude.{not, replicate}
 use Rattle.std.proofs.lemmas.List.{take_all}
 use Rattle.std.proofs.lemmas.Option.{get_or_from_slice_get}
@@ -52,14 +52,14 @@ loop-at-preserved c =
     let g = c.loop-at.self in
     gathered-next d c.requires.passes ss c.requires.stop_times at s within s (get_or_from_slice_get ss at s s c.get-stop_time.ensures) _ _ c.loop-at.invariant
     (record {
-      headsign = c.in_ok-stop_headsign.stop_headsign;
+      headsign = c.in_ok-number.number;
       trips = refl;
-      added = c.in_ok-stop_headsign.ensures.added;
-      kept = c.in_ok-stop_headsign.ensures.kept;
-      texts = subst (λ t. c.number.new.self.texts ≡ with_headsign g.headsigns.texts (word_of kind.text t)) text c.in_ok-stop_headsign.ensures.texts;
-      names = subst (λ t. NamesHeadsign c.number.new.self.texts c.in_ok-stop_headsign.stop_headsign (word_of kind.text t)) text c.in_ok-stop_headsign.ensures.named;
-      starts = c.in_ok-resize.ensures.items ∙ (λ j. take (s.trip + 1) g.starts.items ++ replicate (s.trip + 1 - g.starts.ok.0 j) ((c.len.ensures ∙ g.rows.ok.0) j));
-      rows = c.in_ok-push.ensures.items;
+      added = c.in_ok-number.ensures.added;
+      kept = c.in_ok-number.ensures.kept;
+      texts = subst (λ t. c.number.new.self.texts ≡ with_headsign g.headsigns.texts (word_of kind.text t)) text c.in_ok-number.ensures.texts;
+      names = subst (λ t. NamesHeadsign c.number.new.self.texts c.in_ok-number.number (word_of kind.text t)) text c.in_ok-number.ensures.named;
+      starts = c.in_ok-resize.ensures.items ∙ (λ j. take (s.trip + 1) g.starts.items ++ replicate (s.trip + 1 - g.starts.ok.0 j) ((c.len.ensures ∙ g.numbers.ok.0) j));
+      numbers = c.in_ok-push.ensures.items;
     })
 
 pub returns : goal.returns

@@ -1,0 +1,99 @@
+ghost use Rattle.std.specs.Prelude.{◌≡◌, IfOk, length};
+ghost use Rattle.gtfs_rows.specs.Reading.{content_of};
+ghost use Rattle.gtfs_reading.specs.StopTimeDraft.{lists_with};
+ghost use Rattle.gtfs_reading.specs.StopTimeLists.{AreStopTimesOf};
+
+use crate::gathered::{Gathered, rows_with};
+use crate::stop_times::StopTimes;
+use gtfs_field::{List, OutOfMemory, Text};
+use gtfs_rows::OptionalHeadsign;
+use gtfs_rules::{KeptStopTimes, Passed};
+use std::alloc::Global;
+use std::hash::RandomState;
+use std::marker::Model;
+
+/// The stop times of a dataset before their rows are copied into a list of a feed. It lends nothing of the tables, so
+/// that they can be let go before the copy takes memory. It is seen as the lists that it becomes.
+#[derive(Drop)]
+pub struct StopTimesDraft {
+    stop_times: KeptStopTimes,
+    // The headsign of each.
+    numbers: Vec<OptionalHeadsign>,
+    starts: List<usize>,
+    headsigns: List<Text>,
+}
+
+impl Model for StopTimesDraft {
+    ghost use Rattle.std.specs.Prelude.{◌≡◌, length};
+    ghost use Rattle.gtfs_reading.specs.StopTimeDraft.{lists_with};
+    ghost use Rattle.gtfs_reading.specs.declared.stop_times.StopTimes.{StopTimes as StopTimesValue};
+
+    ghost Value = { StopTimesValue };
+
+    ghost view = { λ d. lists_with d.stop_times d.numbers.items d.starts d.headsigns };
+
+    ghost invariant = { λ d. length d.numbers.items ≡ length d.stop_times };
+}
+
+impl StopTimesDraft {
+    /// The stop times of a dataset that passed, which has this many trips (GTFS Schedule Reference, `stop_times.txt`). It
+    /// takes over what was read when the dataset was checked. Only headsigns are read of the tables here. They are hashed
+    /// by the random state, on which the lists do not depend.
+    ///
+    /// # Errors
+    /// `OutOfMemory` where memory is refused, and where there are more than 4,294,967,295 different headsigns.
+    pub fn new(
+        alloc: Global,
+        random: RandomState,
+        passed: Passed<'_>,
+        trips: usize,
+    ) -> Result<StopTimesDraft, OutOfMemory>
+        requires { trips ≡ length (content_of passed).trips }
+        ensures { IfOk result (AreStopTimesOf passed.entry) }
+    {
+        let tables = passed.tables();
+        let stop_times = passed.into_stop_times();
+        let mut gathered = Gathered::new(alloc, random, stop_times.len(), trips)?;
+        gathered.push_all(tables, &stop_times)?;
+        gathered.into_draft(stop_times)
+    }
+
+    // Stop times with the numbers of their headsigns.
+    pub(crate) fn of(
+        stop_times: KeptStopTimes,
+        numbers: Vec<OptionalHeadsign>,
+        starts: List<usize>,
+        headsigns: List<Text>,
+    ) -> StopTimesDraft
+        requires { length numbers.items ≡ length stop_times }
+        ensures { result ≡ lists_with stop_times numbers.items starts headsigns }
+    {
+        StopTimesDraft {
+            stop_times,
+            numbers,
+            starts,
+            headsigns,
+        }
+    }
+
+    /// The lists, for which the rows are copied.
+    ///
+    /// # Errors
+    /// `OutOfMemory` where memory is refused.
+    pub fn into_stop_times(self, alloc: Global) -> Result<StopTimes, OutOfMemory>
+        ensures { IfOk result (λ lists. lists ≡ self) }
+    {
+        let StopTimesDraft {
+            stop_times,
+            numbers,
+            starts,
+            headsigns,
+        } = self;
+        let rows = rows_with(alloc, &stop_times, &numbers)?;
+        Ok(StopTimes {
+            stop_rows: List::new(rows),
+            stop_row_starts: starts,
+            headsigns,
+        })
+    }
+}
