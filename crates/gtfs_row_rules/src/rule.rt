@@ -2,7 +2,8 @@ ghost use Rattle.std.specs.Prelude.{◌≡◌, ◌||◌, ⊤, ℕ, Bool, List, t
 ghost use Rattle.gtfs_columns.specs.steps.Found.{Reports};
 ghost use Rattle.gtfs_columns.specs.steps.Picks.{at_column};
 ghost use Rattle.gtfs_columns.proofs.RuleFacts.{silent_column};
-ghost use Rattle.gtfs_row_rules.specs.RowRules.{HoldsWhere, IsSilent, Picks, ReportsOfRow, both_silent};
+ghost use Rattle.gtfs_row_rules.specs.RowRules.{HoldsWhere, Picks, ReportsOfRow};
+ghost use Rattle.gtfs_row_rules.specs.RowRules.{IsSilent, both_silent};
 ghost use Rattle.gtfs_table.specs.Rows.{is_row, records_in};
 ghost use Rattle.gtfs_table.specs.Tables.{Dataset, record_at};
 ghost use Rattle.gtfs_table.specs.declared.file.File.{File};
@@ -21,11 +22,13 @@ pub(crate) trait Rule {
         ensures same { breaks self.new ≡ breaks self.old };
 }
 
-// Rules that one pass asks of each row of a file: a rule with its site, or a pair of rules, whose second may be a pair.
+// Rules that one pass asks of each row of a file: one at its site, or a pair, whose second may be a
+// pair again.
 pub(crate) trait RowRules {
     // The rules are those of the dataset, at the columns of the file where they are reported.
     ghost holds: { Self → Dataset → File → Type 0 };
 
+    // The problems that the rules look at.
     ghost picks: { Self → File → Picks };
 
     // Reports what is wrong with a row. The rules stay the same.
@@ -43,7 +46,9 @@ pub(crate) trait RowRules {
         ensures holding { (d : Dataset) (x : File) → holds self.old d x → holds self.new d x }
         ensures same { picks self.new ≡ picks self.old };
 
-    ghost silent: { (s : Self) (d : Dataset) (x : File) → holds s d x → IsSilent d x (picks s x) };
+    // None of them stands at a record that is no row, so that rows are all that a pass walks.
+    ghost silent: { (s : Self) (d : Dataset) (x : File) → holds s d x
+        → IsSilent d x (picks s x) };
 }
 
 // A rule, and its site: the code and the column under which rows that break it are reported.
@@ -59,6 +64,7 @@ impl<R: Rule> RowRules for At<R> {
     ghost silent = { λ s d x. silent_column d s.0 x s.1.now
         (λ n. R.breaks s.2 n (record_at (records_in d x) n)) };
 
+    #[inline(always)]
     fn report(
         &mut self,
         file: File,
@@ -84,6 +90,7 @@ impl<A: RowRules, B: RowRules> RowRules for (A, B) {
     ghost silent = { λ s d x h. both_silent d x (A.picks s.0 x) (B.picks s.1 x)
         (A.silent s.0 d x h.0) (B.silent s.1 d x h.1) };
 
+    #[inline(always)]
     fn report(
         &mut self,
         file: File,
