@@ -1,5 +1,6 @@
 -- What is reported of values that are missing or forbidden beside others.
 use Rattle.std.proofs.Common.{◌≡◌, ℕ, List, [], ◌∷◌, true, Bool, refl, codes}
+use Prim.Native.String.{String as Literal}
 use Rattle.std.specs.Prelude.{◌&&◌, ◌||◌, is_some}
 use Rattle.std.specs.List.{list_any}
 use Rattle.gtfs_table.specs.Tables.{Dataset}
@@ -15,7 +16,7 @@ use Rattle.gtfs_columns.specs.Rows.{is_file, text_in}
 use Rattle.gtfs_table.specs.Rows.{is_empty}
 use Rattle.gtfs_columns.specs.Values.{readable}
 use Rattle.gtfs_row_rules.specs.PresenceView.{is_chosen}
-use Rattle.gtfs_columns.proofs.StepFacts.{Reported, AtColumns, InFiles, column_then, file_then, no_columns, no_files, reports_columns, reports_files, reported_files, reported_there}
+use Rattle.gtfs_columns.proofs.StepFacts.{InFiles, Reported, at_columns, column_then, file_then, no_columns, no_files, reported_files, reported_there, reports_columns, reports_files}
 
 abbrev pub presence_rules : List Reported
 presence_rules = (file.Agency, "agency_id", lacks_agency file.Agency)
@@ -44,51 +45,28 @@ in_four x e = e
 in_four_files : (d : Dataset) → InFiles d code.E12 four_files
 in_four_files d x n name e = in_four x (reported_files presence_rules d x n name e)
 
-at_agency : (d : Dataset) → AtColumns d code.E12 file.Agency ("agency_id" ∷ [])
-at_agency d = reported_there presence_rules d file.Agency
-
-at_stops : (d : Dataset) → AtColumns d code.E12 file.Stops ("stop_name" ∷ "stop_lat" ∷ "stop_lon" ∷ "parent_station" ∷ [])
-at_stops d = reported_there presence_rules d file.Stops
-
-at_routes : (d : Dataset) → AtColumns d code.E12 file.Routes ("route_short_name" ∷ "agency_id" ∷ [])
-at_routes d = reported_there presence_rules d file.Routes
-
-at_transfers : (d : Dataset) → AtColumns d code.E12 file.Transfers ("from_stop_id" ∷ "to_stop_id" ∷ "from_trip_id" ∷ "to_trip_id" ∷ [])
-at_transfers d = reported_there presence_rules d file.Transfers
-
 pub agencies_reported : (d : Dataset) (xs ys : List Problem)
     → Reports d (at_column code.E12 file.Agency (codes "agency_id")) xs ys → Reports d (in_file code.E12 file.Agency) xs ys
-agencies_reported d xs ys first = reports_columns d code.E12 file.Agency ("agency_id" ∷ []) (at_agency d) xs ys
-    (column_then d code.E12 file.Agency "agency_id" [] xs ys ys first (no_columns d code.E12 file.Agency ys))
+agencies_reported d xs ys reported = reports_columns d code.E12 file.Agency ("agency_id" ∷ []) (reported_there presence_rules d file.Agency) xs ys
+    (column_then d code.E12 file.Agency "agency_id" [] xs ys ys reported (no_columns d code.E12 file.Agency ys))
 
-pub routes_reported : (d : Dataset) (xs ys zs : List Problem)
-    → Reports d (at_column code.E12 file.Routes (codes "route_short_name")) xs ys
-    → Reports d (at_column code.E12 file.Routes (codes "agency_id")) ys zs → Reports d (in_file code.E12 file.Routes) xs zs
-routes_reported d xs ys zs first second = reports_columns d code.E12 file.Routes ("route_short_name" ∷ "agency_id" ∷ []) (at_routes d) xs zs
-    (column_then d code.E12 file.Routes "route_short_name" ("agency_id" ∷ []) xs ys zs first
-    (column_then d code.E12 file.Routes "agency_id" [] ys zs zs second (no_columns d code.E12 file.Routes zs)))
+abbrev stop_columns : List Literal
+stop_columns = "stop_name" ∷ "stop_lat" ∷ "stop_lon" ∷ "parent_station" ∷ []
 
-pub stops_reported : (d : Dataset) (us vs ws xs ys : List Problem)
-    → Reports d (at_column code.E12 file.Stops (codes "stop_name")) us vs
-    → Reports d (at_column code.E12 file.Stops (codes "stop_lat")) vs ws
-    → Reports d (at_column code.E12 file.Stops (codes "stop_lon")) ws xs
-    → Reports d (at_column code.E12 file.Stops (codes "parent_station")) xs ys → Reports d (in_file code.E12 file.Stops) us ys
-stops_reported d us vs ws xs ys first second third fourth = reports_columns d code.E12 file.Stops ("stop_name" ∷ "stop_lat" ∷ "stop_lon" ∷ "parent_station" ∷ []) (at_stops d) us ys
-    (column_then d code.E12 file.Stops "stop_name" ("stop_lat" ∷ "stop_lon" ∷ "parent_station" ∷ []) us vs ys first
-    (column_then d code.E12 file.Stops "stop_lat" ("stop_lon" ∷ "parent_station" ∷ []) vs ws ys second
-    (column_then d code.E12 file.Stops "stop_lon" ("parent_station" ∷ []) ws xs ys third
-    (column_then d code.E12 file.Stops "parent_station" [] xs ys ys fourth (no_columns d code.E12 file.Stops ys)))))
+pub stops_reported : (d : Dataset) (xs ys : List Problem) → Reports d (at_columns code.E12 file.Stops stop_columns) xs ys → Reports d (in_file code.E12 file.Stops) xs ys
+stops_reported d = reports_columns d code.E12 file.Stops stop_columns (reported_there presence_rules d file.Stops)
 
-pub transfers_reported : (d : Dataset) (us vs ws xs ys : List Problem)
-    → Reports d (at_column code.E12 file.Transfers (codes "from_stop_id")) us vs
-    → Reports d (at_column code.E12 file.Transfers (codes "to_stop_id")) vs ws
-    → Reports d (at_column code.E12 file.Transfers (codes "from_trip_id")) ws xs
-    → Reports d (at_column code.E12 file.Transfers (codes "to_trip_id")) xs ys → Reports d (in_file code.E12 file.Transfers) us ys
-transfers_reported d us vs ws xs ys first second third fourth = reports_columns d code.E12 file.Transfers ("from_stop_id" ∷ "to_stop_id" ∷ "from_trip_id" ∷ "to_trip_id" ∷ []) (at_transfers d) us ys
-    (column_then d code.E12 file.Transfers "from_stop_id" ("to_stop_id" ∷ "from_trip_id" ∷ "to_trip_id" ∷ []) us vs ys first
-    (column_then d code.E12 file.Transfers "to_stop_id" ("from_trip_id" ∷ "to_trip_id" ∷ []) vs ws ys second
-    (column_then d code.E12 file.Transfers "from_trip_id" ("to_trip_id" ∷ []) ws xs ys third
-    (column_then d code.E12 file.Transfers "to_trip_id" [] xs ys ys fourth (no_columns d code.E12 file.Transfers ys)))))
+abbrev route_columns : List Literal
+route_columns = "route_short_name" ∷ "agency_id" ∷ []
+
+pub routes_reported : (d : Dataset) (xs ys : List Problem) → Reports d (at_columns code.E12 file.Routes route_columns) xs ys → Reports d (in_file code.E12 file.Routes) xs ys
+routes_reported d = reports_columns d code.E12 file.Routes route_columns (reported_there presence_rules d file.Routes)
+
+abbrev transfer_columns : List Literal
+transfer_columns = "from_stop_id" ∷ "to_stop_id" ∷ "from_trip_id" ∷ "to_trip_id" ∷ []
+
+pub transfers_reported : (d : Dataset) (xs ys : List Problem) → Reports d (at_columns code.E12 file.Transfers transfer_columns) xs ys → Reports d (in_file code.E12 file.Transfers) xs ys
+transfers_reported d = reports_columns d code.E12 file.Transfers transfer_columns (reported_there presence_rules d file.Transfers)
 
 pub presence_reported : (d : Dataset) (us vs ws xs ys : List Problem)
     → Reports d (in_file code.E12 file.Agency) us vs → Reports d (in_file code.E12 file.Stops) vs ws

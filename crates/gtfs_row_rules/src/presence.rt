@@ -1,16 +1,15 @@
 ghost use Rattle.std.specs.Prelude.{◌≡◌, ◌&&◌, ◌||◌, ℕ, [], ◌∷◌, is_some, OnOk};
 ghost use Rattle.gtfs_columns.specs.Columns.{id};
 ghost use Rattle.gtfs_columns.specs.steps.Found.{Reports};
-ghost use Rattle.gtfs_columns.specs.steps.Picks.{at_column, in_file, of_codes};
+ghost use Rattle.gtfs_columns.specs.steps.Picks.{in_file, of_codes};
 ghost use Rattle.gtfs_columns.specs.PresenceRules.{has_many_agencies, is_choice, is_of_type, lacks_agency};
 ghost use Rattle.gtfs_row_rules.specs.PresenceView.{is_chosen};
-ghost use Rattle.gtfs_row_rules.specs.RowRules.{HoldsWhere};
 ghost use Rattle.gtfs_table.specs.Rows.{records_in, is_empty};
 ghost use Rattle.gtfs_table.specs.Tables.{field_under, record_at};
 ghost use Rattle.gtfs_columns.specs.Rows.{text_in};
 ghost use Rattle.gtfs_columns.specs.Values.{readable};
 
-use crate::rule::{Rule, Site, report_rows};
+use crate::rule::{At, Rule, report_rows};
 use gtfs_columns::{Code, Found, values};
 use gtfs_field::OutOfMemory;
 use gtfs_table::{File, Record, Tables};
@@ -111,30 +110,26 @@ fn report_agencies<'a>(
     requires { has_many ≡ has_many_agencies tables.now }
     ensures { OnOk result (Reports tables.now (in_file Code.E12 File.Agency) found.old found.new) }
 {
-    let mut rule = lacks_agency(tables, File::Agency, has_many);
-    report(tables, File::Agency, "agency_id", &mut rule, found)
+    let rule = lacks_agency(tables, File::Agency, has_many);
+    let mut rule = At(Code::E12, "agency_id", rule);
+    report_rows(tables, File::Agency, &mut rule, found)
 }
 
 fn report_stops<'a>(tables: &'a Tables, found: &mut Found<'a>) -> Result<(), OutOfMemory>
     ensures { OnOk result (Reports tables.now (in_file Code.E12 File.Stops) found.old found.new) }
 {
-    let mut lacks_name = lacks_name_or_position(tables, "stop_name");
-    report(tables, File::Stops, "stop_name", &mut lacks_name, found)?;
-    let mut lacks_latitude = lacks_name_or_position(tables, "stop_lat");
-    report(tables, File::Stops, "stop_lat", &mut lacks_latitude, found)?;
-    let mut lacks_longitude = lacks_name_or_position(tables, "stop_lon");
-    report(tables, File::Stops, "stop_lon", &mut lacks_longitude, found)?;
-    let mut has_wrong_parent = HasWrongParent {
+    let lacks_name = lacks_name_or_position(tables, "stop_name");
+    let lacks_latitude = lacks_name_or_position(tables, "stop_lat");
+    let lacks_longitude = lacks_name_or_position(tables, "stop_lon");
+    let has_wrong_parent = HasWrongParent {
         location_type: tables.column(File::Stops, "location_type"),
         parent: tables.column(File::Stops, "parent_station"),
     };
-    report(
-        tables,
-        File::Stops,
-        "parent_station",
-        &mut has_wrong_parent,
-        found,
-    )
+    let rules = (At(Code::E12, "parent_station", has_wrong_parent), ());
+    let rules = (At(Code::E12, "stop_lon", lacks_longitude), rules);
+    let rules = (At(Code::E12, "stop_lat", lacks_latitude), rules);
+    let mut rules = (At(Code::E12, "stop_name", lacks_name), rules);
+    report_rows(tables, File::Stops, &mut rules, found)
 }
 
 fn report_routes<'a>(
@@ -145,78 +140,29 @@ fn report_routes<'a>(
     requires { has_many ≡ has_many_agencies tables.now }
     ensures { OnOk result (Reports tables.now (in_file Code.E12 File.Routes) found.old found.new) }
 {
-    let mut lacks_name = LacksName {
+    let lacks_name = LacksName {
         short: tables.column(File::Routes, "route_short_name"),
         long: tables.column(File::Routes, "route_long_name"),
     };
-    report(
-        tables,
-        File::Routes,
-        "route_short_name",
-        &mut lacks_name,
-        found,
-    )?;
-    let mut lacks_agency = lacks_agency(tables, File::Routes, has_many);
-    report(tables, File::Routes, "agency_id", &mut lacks_agency, found)
+    let lacks_agency = lacks_agency(tables, File::Routes, has_many);
+    let rules = (At(Code::E12, "agency_id", lacks_agency), ());
+    let mut rules = (At(Code::E12, "route_short_name", lacks_name), rules);
+    report_rows(tables, File::Routes, &mut rules, found)
 }
 
 fn report_transfers<'a>(tables: &'a Tables, found: &mut Found<'a>) -> Result<(), OutOfMemory>
     ensures { OnOk result
         (Reports tables.now (in_file Code.E12 File.Transfers) found.old found.new) }
 {
-    let mut lacks_from_stop = lacks_end(tables, 1, 3, "from_stop_id");
-    report(
-        tables,
-        File::Transfers,
-        "from_stop_id",
-        &mut lacks_from_stop,
-        found,
-    )?;
-    let mut lacks_to_stop = lacks_end(tables, 1, 3, "to_stop_id");
-    report(
-        tables,
-        File::Transfers,
-        "to_stop_id",
-        &mut lacks_to_stop,
-        found,
-    )?;
-    let mut lacks_from_trip = lacks_end(tables, 4, 5, "from_trip_id");
-    report(
-        tables,
-        File::Transfers,
-        "from_trip_id",
-        &mut lacks_from_trip,
-        found,
-    )?;
-    let mut lacks_to_trip = lacks_end(tables, 4, 5, "to_trip_id");
-    report(
-        tables,
-        File::Transfers,
-        "to_trip_id",
-        &mut lacks_to_trip,
-        found,
-    )
-}
-
-// Reports each row of a file whose value of a column is missing or forbidden.
-fn report<'a, R: Rule>(
-    tables: &'a Tables,
-    file: File,
-    column: &'static str,
-    rule: &mut R,
-    found: &mut Found<'a>,
-) -> Result<(), OutOfMemory>
-    requires { HoldsWhere Code.E12 tables.now file column.now
-        (λ n. R.breaks rule.old n (record_at (records_in tables.now file) n)) }
-    ensures { OnOk result
-        (Reports tables.now (at_column Code.E12 file column.entry.now) found.old found.new) }
-{
-    let site = Site {
-        code: Code::E12,
-        file,
-        column,
-    };
-    report_rows(tables, site, rule, found)
+    let lacks_from_stop = lacks_end(tables, 1, 3, "from_stop_id");
+    let lacks_to_stop = lacks_end(tables, 1, 3, "to_stop_id");
+    let lacks_from_trip = lacks_end(tables, 4, 5, "from_trip_id");
+    let lacks_to_trip = lacks_end(tables, 4, 5, "to_trip_id");
+    let rules = (At(Code::E12, "to_trip_id", lacks_to_trip), ());
+    let rules = (At(Code::E12, "from_trip_id", lacks_from_trip), rules);
+    let rules = (At(Code::E12, "to_stop_id", lacks_to_stop), rules);
+    let mut rules = (At(Code::E12, "from_stop_id", lacks_from_stop), rules);
+    report_rows(tables, File::Transfers, &mut rules, found)
 }
 
 // Whether agency.txt has more rows than one.

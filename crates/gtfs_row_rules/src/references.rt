@@ -1,17 +1,17 @@
-ghost use Rattle.std.specs.Prelude.{◌≡◌, codes, OnOk};
-ghost use Rattle.gtfs_columns.specs.steps.FeedIds.{AreIdsOf};
+ghost use Rattle.std.specs.Prelude.{ℕ, OnOk};
+ghost use Rattle.gtfs_columns.specs.steps.FeedIds.{AreIdsOf, AreNetworkIdsOf};
 ghost use Rattle.gtfs_columns.specs.steps.Found.{Reports};
-ghost use Rattle.gtfs_columns.specs.steps.Ids.{first_rows};
 ghost use Rattle.gtfs_columns.specs.steps.Picks.{at_column, elsewhere};
 ghost use Rattle.gtfs_columns.specs.steps.SitePicks.{at_sites};
-ghost use Rattle.gtfs_columns.specs.steps.ReferencePicks.{route_names, service_names, stop_names, trip_names};
+ghost use Rattle.gtfs_row_rules.specs.ReferenceSites.{transfer_sites, trip_sites};
 ghost use Rattle.gtfs_row_rules.specs.RowRules.{HoldsWhere};
-ghost use Rattle.gtfs_table.specs.Tables.{field_under};
+ghost use Rattle.gtfs_table.specs.Rows.{records_in};
+ghost use Rattle.gtfs_table.specs.Tables.{field_under, record_at};
 ghost use Rattle.gtfs_columns.specs.Rows.{text_in};
 ghost use Rattle.gtfs_columns.specs.steps.UnknownIds.{is_unknown, is_unknown_in_both};
 
-use crate::rule::{Rule, Site, report_rows};
-use gtfs_columns::{Code, FeedIds, Finder, Found, Ids, values};
+use crate::rule::{At, Rule, report_rows};
+use gtfs_columns::{Code, FeedIds, Finder, Found, Ids, NetworkIds, values};
 use gtfs_field::OutOfMemory;
 use gtfs_table::{File, Record, Tables};
 
@@ -67,79 +67,57 @@ pub fn report_references<'a>(
     requires { AreIdsOf tables.now ids.now }
     ensures { OnOk result (Reports tables.now (elsewhere Code.E10) found.old found.new) }
 {
-    report_unknown_stops(tables, &ids.network.stops, found)?;
-    report_unknown(
-        tables,
-        File::Routes,
-        "agency_id",
-        &ids.network.agencies,
-        found,
-    )?;
-    report_unknown_routes(tables, &ids.network.routes, found)?;
-    report_unknown_services(tables, ids, found)?;
-    report_unknown_trips(tables, &ids.network.trips, found)
-}
-
-fn report_unknown_stops<'a>(
-    tables: &'a Tables,
-    stops: &Ids<'a>,
-    found: &mut Found<'a>,
-) -> Result<(), OutOfMemory>
-    requires { stops.now ≡ first_rows tables.now File.Stops (codes "stop_id") }
-    ensures { OnOk result (Reports tables.now (at_sites Code.E10 stop_names) found.old found.new) }
-{
-    report_unknown(tables, File::Stops, "parent_station", stops, found)?;
-    report_unknown(tables, File::Transfers, "from_stop_id", stops, found)?;
-    report_unknown(tables, File::Transfers, "to_stop_id", stops, found)
-}
-
-fn report_unknown_routes<'a>(
-    tables: &'a Tables,
-    routes: &Ids<'a>,
-    found: &mut Found<'a>,
-) -> Result<(), OutOfMemory>
-    requires { routes.now ≡ first_rows tables.now File.Routes (codes "route_id") }
-    ensures { OnOk result (Reports tables.now (at_sites Code.E10 route_names) found.old found.new) }
-{
-    report_unknown(tables, File::Trips, "route_id", routes, found)?;
-    report_unknown(tables, File::Transfers, "from_route_id", routes, found)?;
-    report_unknown(tables, File::Transfers, "to_route_id", routes, found)
-}
-
-fn report_unknown_trips<'a>(
-    tables: &'a Tables,
-    trips: &Ids<'a>,
-    found: &mut Found<'a>,
-) -> Result<(), OutOfMemory>
-    requires { trips.now ≡ first_rows tables.now File.Trips (codes "trip_id") }
-    ensures { OnOk result (Reports tables.now (at_sites Code.E10 trip_names) found.old found.new) }
-{
-    report_unknown(tables, File::Frequencies, "trip_id", trips, found)?;
-    report_unknown(tables, File::Transfers, "from_trip_id", trips, found)?;
-    report_unknown(tables, File::Transfers, "to_trip_id", trips, found)
+    let network = &ids.network;
+    report_unknown(tables, File::Stops, "parent_station", &network.stops, found)?;
+    report_unknown(tables, File::Routes, "agency_id", &network.agencies, found)?;
+    report_trips(tables, ids, found)?;
+    report_unknown(tables, File::Frequencies, "trip_id", &network.trips, found)?;
+    report_transfers(tables, network, found)
 }
 
 // A service stands in calendar.txt, in calendar_dates.txt or in both.
-fn report_unknown_services<'a>(
+fn report_trips<'a>(
     tables: &'a Tables,
     ids: &FeedIds<'a>,
     found: &mut Found<'a>,
 ) -> Result<(), OutOfMemory>
     requires { AreIdsOf tables.now ids.now }
-    ensures { OnOk result
-        (Reports tables.now (at_sites Code.E10 service_names) found.old found.new) }
+    ensures { OnOk result (Reports tables.now (at_sites Code.E10 trip_sites) found.old found.new) }
 {
-    let site = Site {
-        code: Code::E10,
-        file: File::Trips,
-        column: "service_id",
-    };
-    let mut rule = UnknownService {
-        column: tables.column(site.file, site.column),
+    let route = unknown(tables, File::Trips, "route_id", &ids.network.routes);
+    let service = UnknownService {
+        column: tables.column(File::Trips, "service_id"),
         calendar: Finder::new(&ids.calendar),
         calendar_dates: Finder::new(&ids.calendar_dates),
     };
-    report_rows(tables, site, &mut rule, found)
+    let rules = (At(Code::E10, "service_id", service), ());
+    let mut rules = (At(Code::E10, "route_id", route), rules);
+    report_rows(tables, File::Trips, &mut rules, found)
+}
+
+fn report_transfers<'a>(
+    tables: &'a Tables,
+    ids: &NetworkIds<'a>,
+    found: &mut Found<'a>,
+) -> Result<(), OutOfMemory>
+    requires { AreNetworkIdsOf tables.now ids.now }
+    ensures { OnOk result
+        (Reports tables.now (at_sites Code.E10 transfer_sites) found.old found.new) }
+{
+    let file = File::Transfers;
+    let from_stop = unknown(tables, file, "from_stop_id", &ids.stops);
+    let to_stop = unknown(tables, file, "to_stop_id", &ids.stops);
+    let from_route = unknown(tables, file, "from_route_id", &ids.routes);
+    let to_route = unknown(tables, file, "to_route_id", &ids.routes);
+    let from_trip = unknown(tables, file, "from_trip_id", &ids.trips);
+    let to_trip = unknown(tables, file, "to_trip_id", &ids.trips);
+    let rules = (At(Code::E10, "to_trip_id", to_trip), ());
+    let rules = (At(Code::E10, "from_trip_id", from_trip), rules);
+    let rules = (At(Code::E10, "to_route_id", to_route), rules);
+    let rules = (At(Code::E10, "from_route_id", from_route), rules);
+    let rules = (At(Code::E10, "to_stop_id", to_stop), rules);
+    let mut rules = (At(Code::E10, "from_stop_id", from_stop), rules);
+    report_rows(tables, file, &mut rules, found)
 }
 
 // Reports the rows of a file whose column names no row.
@@ -155,14 +133,20 @@ fn report_unknown<'a>(
     ensures { OnOk result
         (Reports tables.now (at_column Code.E10 file column.now) found.old found.new) }
 {
-    let site = Site {
-        code: Code::E10,
-        file,
-        column,
-    };
-    let mut rule = UnknownId {
+    let mut rule = At(Code::E10, column, unknown(tables, file, column, ids));
+    report_rows(tables, file, &mut rule, found)
+}
+
+// The rule that a column of a file names rows with these ids.
+fn unknown<'i, 'a>(tables: &Tables, file: File, column: &str, ids: &'i Ids<'a>) -> UnknownId<'i>
+    requires { HoldsWhere Code.E10 tables.now file column.now
+        (λ n. is_unknown ids.now (text_in tables.now file n column.now)) }
+    ensures { HoldsWhere Code.E10 tables.now file column.now
+        (λ n. ⟦<UnknownId<'i> as Rule>⟧.breaks result n
+        (record_at (records_in tables.now file) n)) }
+{
+    UnknownId {
         column: tables.column(file, column),
         ids: Finder::new(ids),
-    };
-    report_rows(tables, site, &mut rule, found)
+    }
 }

@@ -1,9 +1,12 @@
-ghost use Rattle.std.specs.Prelude.{◌≡◌, ℕ, Bool, List, OnOk};
+ghost use Rattle.std.specs.Prelude.{◌≡◌, ◌||◌, ⊤, ℕ, Bool, List, true, false, OnOk};
 ghost use Rattle.gtfs_columns.specs.steps.Found.{Reports};
 ghost use Rattle.gtfs_columns.specs.steps.Picks.{at_column};
-ghost use Rattle.gtfs_row_rules.specs.RowRules.{HoldsWhere};
-ghost use Rattle.gtfs_table.specs.Rows.{records_in};
-ghost use Rattle.gtfs_table.specs.Tables.{record_at};
+ghost use Rattle.gtfs_columns.proofs.RuleFacts.{silent_column};
+ghost use Rattle.gtfs_row_rules.specs.RowRules.{HoldsWhere, Picks, ReportsOfRow};
+ghost use Rattle.gtfs_row_rules.specs.RowRules.{IsSilent, both_silent};
+ghost use Rattle.gtfs_table.specs.Rows.{is_row, records_in};
+ghost use Rattle.gtfs_table.specs.Tables.{Dataset, record_at};
+ghost use Rattle.gtfs_table.specs.declared.file.File.{File};
 
 use gtfs_columns::{Code, FileName, Found, Problem};
 use gtfs_field::OutOfMemory;
@@ -19,34 +22,118 @@ pub(crate) trait Rule {
         ensures same { breaks self.new ≡ breaks self.old };
 }
 
-// Where rows that break a rule are reported.
-#[derive(Clone, Copy)]
-pub(crate) struct Site {
-    pub(crate) code: Code,
-    pub(crate) file: File,
-    pub(crate) column: &'static str,
+// Rules that one pass asks of each row of a file: one at its site, or a pair, whose second may be a
+// pair again.
+pub(crate) trait RowRules {
+    // The rules are those of the dataset, at the columns of the file where they are reported.
+    ghost holds: { Self → Dataset → File → Type 0 };
+
+    // The problems that the rules look at.
+    ghost picks: { Self → File → Picks };
+
+    // Reports what is wrong with a row. The rules stay the same.
+    fn report(
+        &mut self,
+        file: File,
+        row: usize,
+        record: &Record<'_>,
+        found: &mut Found<'_>,
+    ) -> Result<(), OutOfMemory>
+        ensures reported { OnOk result ((d : Dataset) → holds self.old d file
+            → is_row (records_in d file) row ≡ true
+            → «record».now ≡ record_at (records_in d file) row
+            → ReportsOfRow d (picks self.old file) row found.old found.new) }
+        ensures holding { (d : Dataset) (x : File) → holds self.old d x → holds self.new d x }
+        ensures same { picks self.new ≡ picks self.old };
+
+    // None of them stands at a record that is no row, so that rows are all that a pass walks.
+    ghost silent: { (s : Self) (d : Dataset) (x : File) → holds s d x
+        → IsSilent d x (picks s x) };
 }
 
-// Reports each row of a file that breaks a rule.
-pub(crate) fn report_rows<'a, R: Rule>(
+// A rule, and its site: the code and the column under which rows that break it are reported.
+#[derive(Drop)]
+pub(crate) struct At<R>(pub(crate) Code, pub(crate) &'static str, pub(crate) R);
+
+impl<R: Rule> RowRules for At<R> {
+    ghost holds = { λ s d x. HoldsWhere s.0 d x s.1.now
+        (λ n. R.breaks s.2 n (record_at (records_in d x) n)) };
+
+    ghost picks = { λ s x. at_column s.0 x s.1.now };
+
+    ghost silent = { λ s d x. silent_column d s.0 x s.1.now
+        (λ n. R.breaks s.2 n (record_at (records_in d x) n)) };
+
+    #[inline(always)]
+    fn report(
+        &mut self,
+        file: File,
+        row: usize,
+        record: &Record<'_>,
+        found: &mut Found<'_>,
+    ) -> Result<(), OutOfMemory> {
+        let problem = Problem {
+            file: FileName::Kept(file),
+            row,
+            code: self.0,
+            column: self.1,
+        };
+        found.report_if(problem, self.2.breaks(row, record))
+    }
+}
+
+impl<A: RowRules, B: RowRules> RowRules for (A, B) {
+    ghost holds = { λ s d x. A.holds s.0 d x × B.holds s.1 d x };
+
+    ghost picks = { λ s x p. A.picks s.0 x p || B.picks s.1 x p };
+
+    ghost silent = { λ s d x h. both_silent d x (A.picks s.0 x) (B.picks s.1 x)
+        (A.silent s.0 d x h.0) (B.silent s.1 d x h.1) };
+
+    #[inline(always)]
+    fn report(
+        &mut self,
+        file: File,
+        row: usize,
+        record: &Record<'_>,
+        found: &mut Found<'_>,
+    ) -> Result<(), OutOfMemory> {
+        self.0.report(file, row, record, found)?;
+        self.1.report(file, row, record, found)
+    }
+}
+
+// The end of a list of pairs.
+impl RowRules for () {
+    ghost holds = { λ s d x. ⊤ };
+
+    ghost picks = { λ s x p. false };
+
+    ghost silent = { λ s d x h p picked. cc picked };
+
+    fn report(
+        &mut self,
+        file: File,
+        row: usize,
+        record: &Record<'_>,
+        found: &mut Found<'_>,
+    ) -> Result<(), OutOfMemory> {
+        Ok(())
+    }
+}
+
+// Reports what is wrong with the rows of a file, in one pass.
+pub(crate) fn report_rows<'a, R: RowRules>(
     tables: &'a Tables,
-    site: Site,
-    rule: &mut R,
+    file: File,
+    rules: &mut R,
     found: &mut Found<'a>,
 ) -> Result<(), OutOfMemory>
-    requires { HoldsWhere site.code tables.now site.file site.column.now
-        (λ n. R.breaks rule.old n (record_at (records_in tables.now site.file) n)) }
-    ensures { OnOk result
-        (Reports tables.now (at_column site.code site.file site.column.now) found.old found.new) }
+    requires { R.holds rules.old tables.now file }
+    ensures { OnOk result (Reports tables.now (R.picks rules.old file) found.old found.new) }
 {
-    for (row, record) in tables.rows(site.file) {
-        let problem = Problem {
-            file: FileName::Kept(site.file),
-            row,
-            code: site.code,
-            column: site.column,
-        };
-        found.report_if(problem, rule.breaks(row, &record))?;
+    for (row, record) in tables.rows(file) {
+        rules.report(file, row, &record, found)?;
     }
     Ok(())
 }

@@ -8,7 +8,7 @@ ghost use Rattle.gtfs_row_rules.specs.RowRules.{HoldsWhere};
 ghost use Rattle.gtfs_row_rules.specs.SingleKeys.{is_repeated};
 ghost use Rattle.gtfs_table.specs.Tables.{field_under};
 
-use crate::rule::{Rule, Site, report_rows};
+use crate::rule::{At, Rule, report_rows};
 use gtfs_columns::{Code, FeedIds, Finder, Found, Ids, values};
 use gtfs_field::OutOfMemory;
 use gtfs_table::{File, Record, Tables};
@@ -74,14 +74,10 @@ fn report_single_key<'a>(
         (λ n. is_repeated ids.now (text_in tables.now file n column.now) n) }
     ensures { OnOk result (Reports tables.now (in_file Code.E09 file) found.old found.new) }
 {
-    let site = Site {
-        code: Code::E09,
-        file,
-        column,
-    };
-    let mut rule = RepeatedId {
+    let rule = RepeatedId {
         column: tables.column(file, column),
         ids: Finder::new(ids),
     };
-    report_rows(tables, site, &mut rule, found)
+    let mut rule = At(Code::E09, column, rule);
+    report_rows(tables, file, &mut rule, found)
 }

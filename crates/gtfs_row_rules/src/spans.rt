@@ -6,7 +6,7 @@ ghost use Rattle.gtfs_columns.specs.steps.Found.{Reports};
 ghost use Rattle.gtfs_columns.specs.steps.Picks.{of_codes};
 ghost use Rattle.gtfs_table.specs.Tables.{field_under};
 
-use crate::rule::{Rule, Site, report_rows};
+use crate::rule::{At, Rule, report_rows};
 use gtfs_columns::{Code, Found, values};
 use gtfs_field::OutOfMemory;
 use gtfs_table::{File, Record, Tables};
@@ -64,29 +64,21 @@ pub fn report_spans<'a>(tables: &'a Tables, found: &mut Found<'a>) -> Result<(),
 fn report_calendar_spans<'a>(tables: &'a Tables, found: &mut Found<'a>) -> Result<(), OutOfMemory>
     ensures { OnOk result (Reports tables.now (of_codes (Code.E14 ∷ [])) found.old found.new) }
 {
-    let site = Site {
-        code: Code::E14,
-        file: File::Calendar,
-        column: "end_date",
-    };
-    let mut rule = EndsBeforeStart {
+    let rule = EndsBeforeStart {
         start: tables.column(File::Calendar, "start_date"),
         end: tables.column(File::Calendar, "end_date"),
     };
-    report_rows(tables, site, &mut rule, found)
+    let mut rule = At(Code::E14, "end_date", rule);
+    report_rows(tables, File::Calendar, &mut rule, found)
 }
 
 fn report_empty_periods<'a>(tables: &'a Tables, found: &mut Found<'a>) -> Result<(), OutOfMemory>
     ensures { OnOk result (Reports tables.now (of_codes (Code.E18 ∷ [])) found.old found.new) }
 {
-    let site = Site {
-        code: Code::E18,
-        file: File::Frequencies,
-        column: "end_time",
-    };
-    let mut rule = EndsAtStart {
+    let rule = EndsAtStart {
         start: tables.column(File::Frequencies, "start_time"),
         end: tables.column(File::Frequencies, "end_time"),
     };
-    report_rows(tables, site, &mut rule, found)
+    let mut rule = At(Code::E18, "end_time", rule);
+    report_rows(tables, File::Frequencies, &mut rule, found)
 }

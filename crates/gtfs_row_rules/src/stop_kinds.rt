@@ -1,14 +1,17 @@
-ghost use Rattle.std.specs.Prelude.{◌≡◌, ◌∷◌, [], not, codes, OnOk};
+ghost use Rattle.std.specs.Prelude.{◌≡◌, ◌∷◌, [], not, ℕ, codes, OnOk};
 ghost use Rattle.gtfs_columns.specs.steps.Found.{Reports};
 ghost use Rattle.gtfs_columns.specs.steps.Ids.{first_rows};
 ghost use Rattle.gtfs_columns.specs.steps.Picks.{at_column, elsewhere};
+ghost use Rattle.gtfs_columns.specs.steps.SitePicks.{at_sites};
 ghost use Rattle.gtfs_columns.specs.Rows.{text_in};
 ghost use Rattle.gtfs_row_rules.specs.RowRules.{HoldsWhere};
-ghost use Rattle.gtfs_row_rules.specs.StopKinds.{is_other_parent, named_type};
+ghost use Rattle.gtfs_row_rules.specs.StopKinds.{is_other_parent, named_type, transfer_stops};
+ghost use Rattle.gtfs_table.specs.Rows.{records_in};
+ghost use Rattle.gtfs_table.specs.Tables.{record_at};
 ghost use Rattle.gtfs_columns.specs.steps.StopTypes.{type_with, type_of, AreStopTypes};
 ghost use Rattle.gtfs_columns.specs.Values.{if_there, is_one_of};
 
-use crate::rule::{Rule, Site, report_rows};
+use crate::rule::{At, Rule, report_rows};
 use gtfs_columns::{Code, Finder, Found, Ids, is_one_of, type_of, values};
 use gtfs_field::OutOfMemory;
 use gtfs_table::{File, Record, Tables};
@@ -106,8 +109,7 @@ pub fn report_stop_kinds<'a>(
     ensures { OnOk result (Reports tables.now (elsewhere Code.E11) found.old found.new) }
 {
     report_parents(tables, stops, types, found)?;
-    report_ends(tables, "from_stop_id", stops, types, found)?;
-    report_ends(tables, "to_stop_id", stops, types, found)
+    report_transfers(tables, stops, types, found)
 }
 
 fn report_parents<'a>(
@@ -122,48 +124,59 @@ fn report_parents<'a>(
         (Reports tables.now (at_column Code.E11 File.Stops (codes "parent_station"))
         found.old found.new) }
 {
-    let site = Site {
-        code: Code::E11,
-        file: File::Stops,
-        column: "parent_station",
-    };
     let parent = NamedStop {
-        column: tables.column(site.file, site.column),
+        column: tables.column(File::Stops, "parent_station"),
         stops: Finder::new(stops),
         types,
     };
-    let mut rule = HasOtherParent { parent, types };
-    report_rows(tables, site, &mut rule, found)
+    let mut rule = At(
+        Code::E11,
+        "parent_station",
+        HasOtherParent { parent, types },
+    );
+    report_rows(tables, File::Stops, &mut rule, found)
 }
 
-// Reports the transfers whose column names what is neither a stop or platform nor a station.
-fn report_ends<'a>(
+fn report_transfers<'a>(
     tables: &'a Tables,
-    column: &'static str,
     stops: &Ids<'a>,
     types: &[Option<i64>],
     found: &mut Found<'a>,
 ) -> Result<(), OutOfMemory>
+    requires ids { stops.now ≡ first_rows tables.now File.Stops (codes "stop_id") }
+    requires types { AreStopTypes tables.now types.now }
+    ensures { OnOk result (Reports tables.now (at_sites Code.E11 transfer_stops)
+        found.old found.new) }
+{
+    let from_stop = names_other(tables, "from_stop_id", stops, types);
+    let to_stop = names_other(tables, "to_stop_id", stops, types);
+    let rules = (At(Code::E11, "to_stop_id", to_stop), ());
+    let mut rules = (At(Code::E11, "from_stop_id", from_stop), rules);
+    report_rows(tables, File::Transfers, &mut rules, found)
+}
+
+// The rule that a column of transfers.txt names a stop or platform or a station.
+fn names_other<'i>(
+    tables: &Tables,
+    column: &str,
+    stops: &'i Ids<'_>,
+    types: &'i [Option<i64>],
+) -> NamesOther<'i>
     requires { HoldsWhere Code.E11 tables.now File.Transfers column.now
         (λ n. if_there
         (type_with types.now stops.now (text_in tables.now File.Transfers n column.now))
         (λ t. not (is_one_of (0 ∷ 1 ∷ []) t))) }
-    ensures { OnOk result
-        (Reports tables.now (at_column Code.E11 File.Transfers column.now) found.old found.new) }
+    ensures { HoldsWhere Code.E11 tables.now File.Transfers column.now
+        (λ n. ⟦<NamesOther<'i> as Rule>⟧.breaks result n
+        (record_at (records_in tables.now File.Transfers) n)) }
 {
-    let site = Site {
-        code: Code::E11,
-        file: File::Transfers,
-        column,
-    };
     let stop = NamedStop {
-        column: tables.column(site.file, column),
+        column: tables.column(File::Transfers, column),
         stops: Finder::new(stops),
         types,
     };
-    let mut rule = NamesOther {
+    NamesOther {
         stop,
         wanted: &[0, 1],
-    };
-    report_rows(tables, site, &mut rule, found)
+    }
 }

@@ -8,7 +8,7 @@ ghost use Rattle.gtfs_columns.specs.Values.{if_both};
 ghost use Rattle.gtfs_table.specs.Rows.{records_in};
 ghost use Rattle.gtfs_table.specs.Tables.{column_of, field_under};
 
-use crate::rule::{Rule, Site, report_rows};
+use crate::rule::{At, Rule, report_rows};
 use gtfs_columns::{Code, Found, values};
 use gtfs_field::OutOfMemory;
 use gtfs_table::{File, Record, Tables};
@@ -39,15 +39,10 @@ impl Rule for HasOtherZone<'_> {
 pub fn report_zones<'a>(tables: &'a Tables, found: &mut Found<'a>) -> Result<(), OutOfMemory>
     ensures { OnOk result (Reports tables.now (of_codes (Code.E13 ∷ [])) found.old found.new) }
 {
-    let site = Site {
-        code: Code::E13,
-        file: File::Agency,
-        column: "agency_timezone",
-    };
     let zone = tables.column(File::Agency, "agency_timezone");
     let first = first_zone(tables, zone);
-    let mut rule = HasOtherZone { zone, first };
-    report_rows(tables, site, &mut rule, found)
+    let mut rule = At(Code::E13, "agency_timezone", HasOtherZone { zone, first });
+    report_rows(tables, File::Agency, &mut rule, found)
 }
 
 // The zone of the first agency that has a readable one.

@@ -2,8 +2,8 @@ use Rattle.std.proofs.Common.{ap}
 use Rattle.gtfs_table.specs.Rows.{records_in}
 use Rattle.gtfs_table.specs.Tables.{field_under, record_at}
 use Rattle.gtfs_columns.proofs.ReferenceFacts.{read_alike}
-use Rattle.gtfs_row_rules.proofs.references.report_unknown.Goals as goal
+use Rattle.gtfs_row_rules.proofs.references.unknown.Goals as goal
 
-pub report_rows-requires : goal.report_rows-requires
-report_rows-requires c = λ n. read_alike _ _ c.args.ids.now _ _ _ (c.requires n) c.new.ensures
+pub returns : goal.returns
+returns c = λ n. read_alike _ _ c.args.ids.now _ _ _ (c.requires n) c.new.ensures
     (ap (field_under (record_at (records_in c.args.tables.now c.args.file) n)) c.column.ensures)

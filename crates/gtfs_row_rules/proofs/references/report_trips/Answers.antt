@@ -1,17 +1,15 @@
 use Rattle.std.proofs.Common.{◌≡◌, ◌∙◌, ◌&&◌, ◌||◌, ℕ, List, Bool, true, false, not, codes, refl, sym, ap}
 use Rattle.std.specs.Prelude.{is_some}
-use Rattle.std.proofs.lemmas.Result.{on_ok_weaker}
 use Rattle.gtfs_table.specs.Rows.{is_row, records_in}
 use Rattle.gtfs_table.specs.Tables.{field_under, record_at}
 use Rattle.gtfs_table.specs.declared.file.File.TheVariants as file
 use Rattle.gtfs_columns.specs.Reads.{is_id}
 use Rattle.gtfs_columns.specs.Rows.{row_with, text_in}
-use Rattle.gtfs_columns.specs.declared.code.Code.TheVariants as code
 use Rattle.gtfs_columns.specs.steps.Ids.{first_rows, FirstRows}
 use Rattle.gtfs_columns.specs.steps.UnknownIds.{is_unknown_in_both}
 use Rattle.gtfs_columns.proofs.IdFacts.{first_row_is}
-use Rattle.gtfs_columns.proofs.SiteSteps.{reports_last}
-use Rattle.gtfs_row_rules.proofs.references.report_unknown_services.Goals as goal
+use Rattle.gtfs_columns.proofs.ReferenceFacts.{unknown_in}
+use Rattle.gtfs_row_rules.proofs.references.report_trips.Goals as goal
 
 -- of two files, as the list of both and one by one
 two_files : (row there a b : Bool) → ((row && there) && (not (a || (b || false)) || false)) ≡ (row && (there && not (a || b)))
@@ -25,18 +23,25 @@ both_alike : (reported row : Bool) (i j k l : FirstRows) (t u : List ℕ) → re
     → reported ≡ (row && is_unknown_in_both k l u)
 both_alike reported row i j k l t u rule first second text = rule ∙ (λ m. row && is_unknown_in_both (sym first m) (sym second m) (sym text m))
 
+pub unknown-route-requires : goal.unknown-route-requires
+unknown-route-requires c = λ n. unknown_in c.args.tables.now file.Trips n (codes "route_id") file.Routes (codes "route_id") _ c.requires.network.routes
+
 pub report_rows-requires : goal.report_rows-requires
-report_rows-requires c = λ n.
+report_rows-requires c =
     let d = c.args.tables.now in
     let weeks = first_rows d file.Calendar (codes "service_id") in
     let dates = first_rows d file.CalendarDates (codes "service_id") in
-    let id = text_in d file.Trips n (codes "service_id") in
-    let row = is_row (records_in d file.Trips) n in
-    both_alike _ row weeks dates _ _ id _
-    (two_files row (is_id id) (is_some (row_with d file.Calendar (codes "service_id") id)) (is_some (row_with d file.CalendarDates (codes "service_id") id))
-    ∙ (λ k. row && (is_id id && not (is_some (sym (first_row_is d file.Calendar (codes "service_id") id) k) || is_some (sym (first_row_is d file.CalendarDates (codes "service_id") id) k)))))
-    (c.new.ensures ∙ c.requires.calendar) (c.new-2.ensures ∙ c.requires.calendar_dates)
-    (ap (field_under (record_at (records_in d file.Trips) n)) c.column.ensures)
-
-pub returns : goal.returns
-returns c = on_ok_weaker _ (reports_last c.args.tables.now code.E10 file.Trips (codes "service_id") c.args.found.now c.report_rows.new.found) c.report_rows.ensures
+    let id : ℕ → List ℕ = λ n. text_in d file.Trips n (codes "service_id") in
+    let row : ℕ → Bool = λ n. is_row (records_in d file.Trips) n in
+    let of_weeks : ℕ → Bool = λ n. is_some (row_with d file.Calendar (codes "service_id") (id n)) in
+    let of_dates : ℕ → Bool = λ n. is_some (row_with d file.CalendarDates (codes "service_id") (id n)) in (
+      c.unknown-route.ensures,
+      (
+        (λ n. both_alike _ (row n) weeks dates _ _ (id n) _
+            (two_files (row n) (is_id (id n)) (of_weeks n) (of_dates n)
+            ∙ (λ k. row n && (is_id (id n) && not (is_some (sym (first_row_is d file.Calendar (codes "service_id") (id n)) k) || is_some (sym (first_row_is d file.CalendarDates (codes "service_id") (id n)) k)))))
+            (c.new.ensures ∙ c.requires.calendar) (c.new-2.ensures ∙ c.requires.calendar_dates)
+            (ap (field_under (record_at (records_in d file.Trips) n)) c.column.ensures)),
+        tt,
+      ),
+    )
