@@ -31,7 +31,7 @@ use Rattle.gtfs_runs.specs.declared.event.Event.{Event}
 use Rattle.gtfs_rows.specs.Departures.{Origins}
 use Rattle.gtfs_board.specs.LaneDays.{departing, event_of, serves_on, no_lane, lane_at, ends_by, departures_on, departures_of_day, all_departures, AreAscending, AreTimely}
 use Rattle.gtfs_board.specs.declared.merge.candidate.Candidate.{Candidate}
-use Rattle.gtfs_board.specs.merge.Candidates.{candidate_lt, IsAside, AreCandidateLanes, EndsBy, day_of, lane_of, first_above}
+use Rattle.gtfs_board.specs.merge.Candidates.{candidate_lt, IsAside, AreCandidateLanes, AreFromOrigin, EndsBy, day_of, lane_of, first_above}
 use Rattle.gtfs_board.specs.merge.Lanes.{AreAll}
 use Rattle.gtfs_board.specs.merge.Order.{In, Each, AscendsBy}
 use Rattle.gtfs_board.proofs.Candidates.{candidates_strict, not_lt-instant}
@@ -193,6 +193,9 @@ day_there d h =
     let both = and_parts (int_le first_service_day d) (int_le d last_service_day) h in
     (int_le-true first_service_day d both.0, int_le-true d last_service_day both.1)
 
+close_after : (o x : ℤ) (at latest : ℕ) → x ≡ o +ℤ pos at → at ≤ latest → (o ≤ℤ x) × (x ≤ℤ (o +ℤ pos latest))
+close_after o x at latest is upto = (omega (arith, ints, is), omega (arith, ints, is, upto))
+
 module _ (p : Parts) (origin : Origins) (lanes : StopLanesValue) (end : ℤ) where
   abbrev on : ℕ → ℤ → List Candidate
   on i d = departures_on p origin lanes end i d
@@ -252,6 +255,13 @@ module _ (p : Parts) (origin : Origins) (lanes : StopLanesValue) (end : ℤ) whe
     | inl inside ↦ Each-in (λ x. (x.at ≤ lanes.greatest) × (x.at ≤ 7_199_998)) (lane_at lanes i).events e (each-all (λ x. (x.at ≤ lanes.greatest) × (x.at ≤ 7_199_998)) (lane_at lanes i).events (timely i no_lane inside)) there
     | inr past ↦ absurd (subst (In e) (lane_past i past) there)
   ]
+
+  pub events_timely : AreTimely lanes → (i : ℕ) (d : ℤ) → AreFromOrigin (origin d) lanes.greatest (departures_on p origin lanes end i d)
+  events_timely timely i d c there =
+      let r = on-event i d c there in
+      let upto = (lane_timely timely i r.1.0 r.1.1.0).0 in
+      let is : c.instant ≡ origin d +ℤ pos r.1.0.at = ap (λ (x : Candidate). x.instant) r.1.1.1 in
+      close_after (origin d) c.instant r.1.0.at lanes.greatest is upto
 
   pub on-ascend : AreAscending lanes → (i : ℕ) (d : ℤ) → AscendsBy candidate_lt (departures_on p origin lanes end i d)
   on-ascend up i d = elim (cases_Bool (serves_on p (lane_at lanes i).service d)) [
