@@ -5,7 +5,7 @@ use Rattle.std.specs.Int.{int_max, int_min}
 use Rattle.std.specs.List.{filter, flat_map, range_with_len}
 use Rattle.std.proofs.lemmas.Int.{ints, clamps}
 use Rattle.std.proofs.lemmas.Bool.{cases_Bool, cases_lt, true≢false, and_parts}
-use Rattle.std.proofs.lemmas.List.{get_or_past}
+use Rattle.std.proofs.lemmas.List.{get_or_past, length-map}
 use Rattle.jiff_core.specs.Calendar.{IsWithin}
 use Rattle.gtfs_columns.specs.Values.{if_there}
 use Rattle.gtfs_days.proofs.Clocks.{zone_origin-near}
@@ -97,6 +97,18 @@ none_passes p (x ∷ xs) all = rw all.0 (none_passes p xs all.1)
 abbrev pub keep : {C : Type 0} → (C → Bool) → Option C → Option C
 keep p None = None
 keep p (Some x) = cond (p x) (Some x) None
+
+-- what is left of a list of one has nothing after itself
+none_after : (p : Candidate → Bool) (c : Candidate) (xs : List Candidate) → length xs ≡ 1 → In c (filter p xs) → first_above c (filter p xs) ≡ None
+none_after p c [] one there = absurd there
+none_after p c (x ∷ y ∷ ys) one there = absurd (omega (arith, one))
+none_after p c (x ∷ []) one there =
+    let same : c ≡ x = elim (filter-in p (x ∷ []) c there).0 [ inl e ↦ e | inr later ↦ absurd later ] in
+    let last : candidate_lt c x ≡ false = ap (candidate_lt c) (sym same) ∙ candidates_strict.irrefl c in
+    elim (cases_Bool (p x)) [
+      | inl is ↦ rw (is, last) refl
+      | inr isnt ↦ rw isnt refl
+    ]
 
 -- in a list that ascends and is cut at an end, the first that passes
 pub find-cut : {C : Type 0} (lt : C → C → Bool) (p cut : C → Bool) → ((x y : C) → lt x y ≡ true → cut x ≡ false → cut y ≡ false)
@@ -423,6 +435,15 @@ module _ (p : Parts) (z : Zone) (lanes : StopLanesValue) (end : ℤ) where
       first_found p (zone_origin z) lanes end up c.lane c.day c (is_later (event_of c))
       (λ x _. ap (λ e. is_later e x) same ∙ sym (in_order_of (zone_origin z c.day) c.day c.lane on.1.0 x) ∙ ap (λ y. candidate_lt y (departing (zone_origin z c.day) c.day c.lane x)) (sym on.1.1.1)) on.0
       ∙ (let o_is = sym origin in let found_is = sym is in λ k. keep (ends_by end) (map_option (departing (o_is k) c.day c.lane) (found_is k)))
+
+  -- a lane of one event has none after a departure of its own
+  pub after_single : (c : Candidate) → In c (departures_on p (zone_origin z) lanes end c.lane c.day) → length (lane_at lanes c.lane).events ≡ 1
+      → None ≡ first_above c (departures_on p (zone_origin z) lanes end c.lane c.day)
+  after_single c there one =
+      let leaves : Event → Candidate = departing (zone_origin z c.day) c.day c.lane in
+      let events = (lane_at lanes c.lane).events in
+      let busy = on-busy p (zone_origin z) lanes end c.lane c.day (on-event p (zone_origin z) lanes end c.lane c.day c there).0 in
+      sym (ap (first_above c) busy ∙ none_after (ends_by end) c (map leaves events) (length-map events leaves ∙ one) (subst (In c) busy there))
 
   pub after_inside : (c : Candidate) → In c (departures_on p (zone_origin z) lanes end c.lane c.day) → c.lane < length (lanes_of lanes)
   after_inside c there = elim (cases_lt c.lane (length (lanes_of lanes))) [
