@@ -5,7 +5,7 @@ use Rattle.std.specs.Int.{int_max, int_min}
 use Rattle.std.specs.List.{filter, flat_map, range_with_len}
 use Rattle.std.proofs.lemmas.Int.{ints, clamps}
 use Rattle.std.proofs.lemmas.Bool.{cases_Bool, cases_lt, true≢false, and_parts}
-use Rattle.std.proofs.lemmas.List.{get_or_past}
+use Rattle.std.proofs.lemmas.List.{get_or_past, length-map}
 use Rattle.jiff_core.specs.Calendar.{IsWithin}
 use Rattle.gtfs_columns.specs.Values.{if_there}
 use Rattle.gtfs_days.proofs.Clocks.{zone_origin-near}
@@ -31,7 +31,7 @@ use Rattle.gtfs_runs.specs.declared.event.Event.{Event}
 use Rattle.gtfs_rows.specs.Departures.{Origins}
 use Rattle.gtfs_board.specs.LaneDays.{departing, event_of, serves_on, no_lane, lane_at, ends_by, departures_on, departures_of_day, all_departures, AreAscending, AreTimely}
 use Rattle.gtfs_board.specs.declared.merge.candidate.Candidate.{Candidate}
-use Rattle.gtfs_board.specs.merge.Candidates.{candidate_lt, IsAside, AreCandidateLanes, EndsBy, day_of, lane_of, first_above}
+use Rattle.gtfs_board.specs.merge.Candidates.{candidate_lt, IsAside, AreCandidateLanes, AreFromOrigin, EndsBy, day_of, lane_of, first_above}
 use Rattle.gtfs_board.specs.merge.Lanes.{AreAll}
 use Rattle.gtfs_board.specs.merge.Order.{In, Each, AscendsBy}
 use Rattle.gtfs_board.proofs.Candidates.{candidates_strict, not_lt-instant}
@@ -97,6 +97,18 @@ none_passes p (x ∷ xs) all = rw all.0 (none_passes p xs all.1)
 abbrev pub keep : {C : Type 0} → (C → Bool) → Option C → Option C
 keep p None = None
 keep p (Some x) = cond (p x) (Some x) None
+
+-- what is left of a list of one has nothing after itself
+none_after : (p : Candidate → Bool) (c : Candidate) (xs : List Candidate) → length xs ≡ 1 → In c (filter p xs) → first_above c (filter p xs) ≡ None
+none_after p c [] one there = absurd there
+none_after p c (x ∷ y ∷ ys) one there = absurd (omega (arith, one))
+none_after p c (x ∷ []) one there =
+    let same : c ≡ x = elim (filter-in p (x ∷ []) c there).0 [ inl e ↦ e | inr later ↦ absurd later ] in
+    let last : candidate_lt c x ≡ false = ap (candidate_lt c) (sym same) ∙ candidates_strict.irrefl c in
+    elim (cases_Bool (p x)) [
+      | inl is ↦ rw (is, last) refl
+      | inr isnt ↦ rw isnt refl
+    ]
 
 -- in a list that ascends and is cut at an end, the first that passes
 pub find-cut : {C : Type 0} (lt : C → C → Bool) (p cut : C → Bool) → ((x y : C) → lt x y ≡ true → cut x ≡ false → cut y ≡ false)
@@ -193,6 +205,9 @@ day_there d h =
     let both = and_parts (int_le first_service_day d) (int_le d last_service_day) h in
     (int_le-true first_service_day d both.0, int_le-true d last_service_day both.1)
 
+close_after : (o x : ℤ) (at latest : ℕ) → x ≡ o +ℤ pos at → at ≤ latest → (o ≤ℤ x) × (x ≤ℤ (o +ℤ pos latest))
+close_after o x at latest is upto = (omega (arith, ints, is), omega (arith, ints, is, upto))
+
 module _ (p : Parts) (origin : Origins) (lanes : StopLanesValue) (end : ℤ) where
   abbrev on : ℕ → ℤ → List Candidate
   on i d = departures_on p origin lanes end i d
@@ -252,6 +267,13 @@ module _ (p : Parts) (origin : Origins) (lanes : StopLanesValue) (end : ℤ) whe
     | inl inside ↦ Each-in (λ x. (x.at ≤ lanes.greatest) × (x.at ≤ 7_199_998)) (lane_at lanes i).events e (each-all (λ x. (x.at ≤ lanes.greatest) × (x.at ≤ 7_199_998)) (lane_at lanes i).events (timely i no_lane inside)) there
     | inr past ↦ absurd (subst (In e) (lane_past i past) there)
   ]
+
+  pub events_timely : AreTimely lanes → (i : ℕ) (d : ℤ) → AreFromOrigin (origin d) lanes.greatest (departures_on p origin lanes end i d)
+  events_timely timely i d c there =
+      let r = on-event i d c there in
+      let upto = (lane_timely timely i r.1.0 r.1.1.0).0 in
+      let is : c.instant ≡ origin d +ℤ pos r.1.0.at = ap (λ (x : Candidate). x.instant) r.1.1.1 in
+      close_after (origin d) c.instant r.1.0.at lanes.greatest is upto
 
   pub on-ascend : AreAscending lanes → (i : ℕ) (d : ℤ) → AscendsBy candidate_lt (departures_on p origin lanes end i d)
   on-ascend up i d = elim (cases_Bool (serves_on p (lane_at lanes i).service d)) [
@@ -413,6 +435,15 @@ module _ (p : Parts) (z : Zone) (lanes : StopLanesValue) (end : ℤ) where
       first_found p (zone_origin z) lanes end up c.lane c.day c (is_later (event_of c))
       (λ x _. ap (λ e. is_later e x) same ∙ sym (in_order_of (zone_origin z c.day) c.day c.lane on.1.0 x) ∙ ap (λ y. candidate_lt y (departing (zone_origin z c.day) c.day c.lane x)) (sym on.1.1.1)) on.0
       ∙ (let o_is = sym origin in let found_is = sym is in λ k. keep (ends_by end) (map_option (departing (o_is k) c.day c.lane) (found_is k)))
+
+  -- a lane of one event has none after a departure of its own
+  pub after_single : (c : Candidate) → In c (departures_on p (zone_origin z) lanes end c.lane c.day) → length (lane_at lanes c.lane).events ≡ 1
+      → None ≡ first_above c (departures_on p (zone_origin z) lanes end c.lane c.day)
+  after_single c there one =
+      let leaves : Event → Candidate = departing (zone_origin z c.day) c.day c.lane in
+      let events = (lane_at lanes c.lane).events in
+      let busy = on-busy p (zone_origin z) lanes end c.lane c.day (on-event p (zone_origin z) lanes end c.lane c.day c there).0 in
+      sym (ap (first_above c) busy ∙ none_after (ends_by end) c (map leaves events) (length-map events leaves ∙ one) (subst (In c) busy there))
 
   pub after_inside : (c : Candidate) → In c (departures_on p (zone_origin z) lanes end c.lane c.day) → c.lane < length (lanes_of lanes)
   after_inside c there = elim (cases_lt c.lane (length (lanes_of lanes))) [

@@ -9,6 +9,7 @@ pub mod Days
 pub mod Candidates
 pub mod Queues
 pub mod Gathers
+pub mod Idle
 pub mod Merges
 pub mod Starts
 pub mod Joined

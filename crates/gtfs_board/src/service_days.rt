@@ -293,6 +293,10 @@ impl Source for Days<'_> {
     }
 
     fn after(&self, departure: &Candidate, steps: &mut Steps) -> Option<Candidate> {
+        // The event of a lane of one lies far away in memory, and no other comes after it.
+        if self.lane(departure.lane).is_single() {
+            return None;
+        }
         let origin = departure.instant - i64::from(departure.at);
         match self.next_after(departure.lane, &event_of(departure), steps) {
             Some(event) => self.by_end(departing(origin, departure.day, departure.lane, event)),

@@ -50,6 +50,13 @@ impl EventRange {
         })
     }
 
+    // How many events there are. It looks at none of them.
+    pub(crate) fn len(&self) -> usize
+        ensures { result ≡ length self.now }
+    {
+        self.len
+    }
+
     // The events.
     pub(crate) fn as_slice(&self) -> &[Event]
         ensures { result.now ≡ self.now }

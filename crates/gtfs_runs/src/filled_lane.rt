@@ -1,4 +1,4 @@
-ghost use Rattle.std.specs.Prelude.{◌≡◌};
+ghost use Rattle.std.specs.Prelude.{◌≡◌, ◌==◌, length};
 
 use crate::event::Event;
 use crate::lane::Lane;
@@ -36,6 +36,13 @@ impl Lane for FilledLane {
 }
 
 impl FilledLane {
+    /// Whether it has one event alone. It is told without a look at the events, and is no step.
+    pub fn is_single(&self) -> bool
+        ensures { result ≡ (length self.now.list.events == 1) }
+    {
+        self.list.is_single()
+    }
+
     // The lane of a list.
     pub(crate) fn new(list: ListLane) -> FilledLane
         ensures { result.list ≡ list }

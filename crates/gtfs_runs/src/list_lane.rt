@@ -1,4 +1,4 @@
-ghost use Rattle.std.specs.Prelude.{◌≡◌};
+ghost use Rattle.std.specs.Prelude.{◌≡◌, ◌==◌, length};
 ghost use Rattle.std.specs.List.{slice_get};
 ghost use Rattle.gtfs_rows.specs.Order.{Ascends};
 ghost use Rattle.gtfs_runs.specs.Order.{event_cmp};
@@ -56,6 +56,13 @@ impl ListLane {
         ensures events { result.events ≡ events }
     {
         ListLane { service, events }
+    }
+
+    /// Whether it has one event alone. It is told without a look at the events, and is no step.
+    pub fn is_single(&self) -> bool
+        ensures { result ≡ (length self.now.events == 1) }
+    {
+        self.events.len() == 1
     }
 
     // The time of the last event, 0 where there is none.

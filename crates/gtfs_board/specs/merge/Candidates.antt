@@ -59,6 +59,10 @@ heads_on events floor day n = filter_map (λ i. find (candidate_lt floor) (event
 unfoldable pub least_from : ℤ → List Candidate → ℤ
 least_from mark cs = fold int_min mark (map (λ c. c.instant) cs)
 
+-- none of them comes before the origin of its day, nor later than the latest after it
+abbrev pub AreFromOrigin : ℤ → ℕ → List Candidate → Type 0
+AreFromOrigin origin latest cs = (c : Candidate) → In c cs → (origin ≤ℤ c.instant) × (c.instant ≤ℤ (origin +ℤ pos latest))
+
 -- the order of the days, the lanes and the instants of candidates
 abbrev pub day_of : Candidate → ℤ
 day_of c = c.day
@@ -77,9 +81,11 @@ abbrev pub AreCandidateLanes : ℕ → ℕ → Events Candidate → Type 0
 AreCandidateLanes count latest events = AreLanes candidate_lt instant_of day_of lane_of count latest events
 
 -- what a source of candidates keeps, which tells the events of `count` lanes on the days from the first to the last
-pub record IsSource (count latest : ℕ) (end first last : ℤ) (days : List ℤ) (events : Events Candidate) (all : List Candidate) : Type 0 where
+pub record IsSource (count latest : ℕ) (end first last : ℤ) (days : List ℤ) (origins : ℤ → ℤ) (events : Events Candidate) (all : List Candidate) : Type 0 where
   -- no event lies beyond the end
   pub ends : (i : ℕ) (d : ℤ) → EndsBy end (events i d)
+  -- each lies close after the origin of its day
+  pub timely : (i : ℕ) (d : ℤ) → AreFromOrigin (origins d) latest (events i d)
   -- the days from the first to the last are the service days, and no other day has events
   pub listed : (d : ℤ) → first ≤ℤ d → d ≤ℤ last → In d days
   pub within : (d : ℤ) → In d days → d ≤ℤ last

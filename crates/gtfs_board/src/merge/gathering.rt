@@ -1,4 +1,4 @@
-ghost use Rattle.std.specs.Prelude.{◌≡◌, ◌≤◌, ◌<◌, ◌+◌, ◌*◌, ◌++◌, [], pos, negsuc, ◌+ℤ◌, ◌-ℤ◌, ◌*ℤ◌, ◌≤ℤ◌, ◌<ℤ◌, OnOk, IfOk, IsTrue, false};
+ghost use Rattle.std.specs.Prelude.{◌≡◌, ◌≤◌, ◌<◌, ◌+◌, ◌*◌, ◌++◌, [], pos, negsuc, ◌+ℤ◌, ◌-ℤ◌, ◌*ℤ◌, ◌≤ℤ◌, ◌<ℤ◌, OnOk, IfOk, IsTrue, false, ◌||◌, int_lt};
 ghost use Rattle.std.specs.Option.{option_to_list};
 ghost use Rattle.gtfs_board.specs.Board.{origin_distance};
 ghost use Rattle.gtfs_board.specs.merge.Order.{Each};
@@ -77,13 +77,13 @@ fn least_waiting(queue: &Queue, end: i64) -> i64
 }
 
 // The heads of all lanes on a day join those that wait, and the least instant so far is answered.
-// The origin of the day is asked for once.
+// The origin of the day is asked for once, and no lane on a day that has no head.
 fn open_day<S: Source>(
     source: &S,
     day: i32,
     floor: &Candidate,
     fresh: &mut Vec<Candidate>,
-    mut least: i64,
+    least: i64,
     steps: &mut Steps,
 ) -> Result<i64, OutOfMemory>
     requires from { S.first source.now ≤ℤ day }
@@ -95,7 +95,42 @@ fn open_day<S: Source>(
         ≡ least_from least (heads_on (S.events source.now) floor.now day (S.count source.now))) }
     ensures steps { OnOk result (steps.new ≤ steps.old + S.count source.now) }
 {
+    source.laws();
     let origin = source.origin(day)?;
+    if is_idle(origin, source.latest(), source.end(), floor.instant) {
+        return Ok(least);
+    }
+    ask_lanes(source, day, origin, floor, fresh, least, steps)
+}
+
+// Whether a day with this origin has no event above a floor: it begins past the end, or its latest
+// event lies below the floor. Its date alone tells that only of days that lie further away.
+fn is_idle(origin: i64, latest: u32, end: i64, floor: i64) -> bool
+    ensures { result ≡ (int_lt end origin || int_lt (origin +ℤ pos latest) floor) }
+{
+    origin > end || floor.saturating_sub(origin) > i64::from(latest)
+}
+
+// The heads of all lanes on a day with this origin join those that wait.
+fn ask_lanes<S: Source>(
+    source: &S,
+    day: i32,
+    origin: i64,
+    floor: &Candidate,
+    fresh: &mut Vec<Candidate>,
+    mut least: i64,
+    steps: &mut Steps,
+) -> Result<i64, OutOfMemory>
+    requires from { S.first source.now ≤ℤ day }
+    requires to { day ≤ℤ S.last source.now }
+    requires origin { origin ≡ S.origins source.now day }
+    requires aside { IsAside floor.now day (S.count source.now) }
+    ensures heads { OnOk result (fresh.new.items
+        ≡ fresh.old.items ++ heads_on (S.events source.now) floor.now day (S.count source.now)) }
+    ensures least { IfOk result (λ t. t
+        ≡ least_from least (heads_on (S.events source.now) floor.now day (S.count source.now))) }
+    ensures steps { OnOk result (steps.new ≤ steps.old + S.count source.now) }
+{
     fresh.reserve(source.count())?;
     let mut serves = false;
     for lane in 0..source.count() {

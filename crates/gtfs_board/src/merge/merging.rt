@@ -48,7 +48,8 @@ impl<S: Source> Model for Merge<S> {
     } };
 
     ghost invariant = { λ b. IsSource (S.count b.source) (S.latest b.source) (S.end b.source)
-        (S.first b.source) (S.last b.source) (S.days b.source) (S.events b.source) (S.all b.source)
+        (S.first b.source) (S.last b.source) (S.days b.source) (S.origins b.source)
+        (S.events b.source) (S.all b.source)
         × IsMerge (S.events b.source) (S.end b.source) (S.first b.source)
         (S.last b.source) b.floor b.first b.others b.day
         (b.start -ℤ pos (S.latest b.source + origin_distance)) };

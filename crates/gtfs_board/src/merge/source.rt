@@ -27,7 +27,7 @@ pub trait Source {
     // All service days.
     ghost days: { Self → List ℤ };
 
-    // The origin of each day.
+    // The origin of each day. No event comes before it, nor later than the latest after it.
     ghost origins: { Self → ℤ → ℤ };
 
     // Whether a lane tells events on a day.
@@ -114,5 +114,5 @@ pub trait Source {
     // What every source keeps, for proofs. It does nothing.
     fn laws(&self)
         ensures { IsSource (count self.now) (latest self.now) (end self.now) (first self.now)
-            (last self.now) (days self.now) (events self.now) (all self.now) };
+            (last self.now) (days self.now) (origins self.now) (events self.now) (all self.now) };
 }

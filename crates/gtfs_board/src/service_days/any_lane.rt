@@ -1,4 +1,4 @@
-ghost use Rattle.std.specs.Prelude.{◌≡◌, ◌≤◌, ◌+◌, find};
+ghost use Rattle.std.specs.Prelude.{◌≡◌, ◌≤◌, ◌+◌, IsTrue, find, length};
 ghost use Rattle.gtfs_runs.specs.Order.{is_above_moment, is_later};
 ghost use Rattle.gtfs_board.specs.LaneDays.{any_value};
 
@@ -39,6 +39,17 @@ impl AnyLane<'_> {
             AnyLane::List(lane) => lane.first_above(feed, moment, steps),
             AnyLane::Period(lane) => lane.first_above(feed, moment, steps),
             AnyLane::Filled(lane) => lane.first_above(feed, moment, steps),
+        }
+    }
+
+    // Whether it has one event alone, as far as that is known without its events.
+    pub(super) fn is_single(self) -> bool
+        ensures { IsTrue result → length (any_value self.entry).events ≡ 1 }
+    {
+        match self {
+            AnyLane::List(lane) => lane.is_single(),
+            AnyLane::Filled(lane) => lane.is_single(),
+            AnyLane::Period(_) => false,
         }
     }
 

@@ -1,10 +1,21 @@
-use Rattle.std.proofs.Common.{rules, ◌≡◌, ◌∙◌, refl, sym, ap, subst, find, pos, negsuc, w32, w64, SFits, to_z, of_z}
+use Rattle.std.proofs.Common.{rules, ◌≡◌, ◌∙◌, refl, sym, ap, subst, find, length, pos, negsuc, w32, w64, SFits, to_z, of_z}
 use Rattle.std.specs.Prelude.{◌-ℤ◌, ◌≤ℤ◌}
 use Rattle.std.proofs.lemmas.Int.{to_z-of_z}
 use Rattle.gtfs_runs.specs.Order.{is_later}
+use Rattle.gtfs_runs.specs.StopLanes.{LaneValue}
 use Rattle.gtfs_board.specs.LaneDays.{departing, lane_at}
-use Rattle.gtfs_board.proofs.LaneDays.{after_found, after_inside, after_origin, fits_small, kept_none, kept_some}
+use Rattle.gtfs_board.proofs.LaneDays.{after_found, after_inside, after_origin, after_single, fits_small, kept_none, kept_some}
 use Rattle.gtfs_board.proofs.service_days.DaysSource.after.Goals as goal
+
+pub lane-requires : goal.lane-requires
+lane-requires c = let s = c.args.self.now in after_inside s.feed.now s.zone.now s.lanes s.end c.args.departure.now c.requires
+
+pub returns-then-is_single-clause-next : goal.returns-then-is_single-clause-next
+returns-then-is_single-clause-next c =
+    let s = c.args.self.now in
+    let departure = c.args.departure.now in
+    let one = ap (λ (l : LaneValue). length l.events) (sym c.lane.ensures) ∙ c.is_single.ensures (search rules) in
+    after_single s.feed.now s.zone.now s.lanes s.end departure c.requires one
 
 pub overflow_sub-origin : goal.overflow_sub-origin
 overflow_sub-origin c =

@@ -1,6 +1,6 @@
 use Rattle.std.proofs.Common.{◌≡◌, ◌<◌, ◌≤◌, ◌+◌, ◌-◌, ◌++◌}
 use Rattle.gtfs_board.specs.merge.Candidates.{heads_on, least_from}
-use Rattle.gtfs_board.proofs.merge.gathering.open_day.Given as goal
+use Rattle.gtfs_board.proofs.merge.gathering.ask_lanes.Given as goal
 
 abbrev pub invariant-loop-lane : goal.invariant-loop-lane
 invariant-loop-lane g l = record {
