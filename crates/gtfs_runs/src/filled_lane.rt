@@ -36,7 +36,7 @@ impl Lane for FilledLane {
 }
 
 impl FilledLane {
-    /// Whether it has one event alone. No event is looked at, so it is told faster than the lane is asked.
+    /// Whether it has one event alone. It is told without a look at the events, and is no step.
     pub fn is_single(&self) -> bool
         ensures { result ≡ (length self.now.list.events == 1) }
     {

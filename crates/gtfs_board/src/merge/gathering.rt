@@ -103,8 +103,8 @@ fn open_day<S: Source>(
     ask_lanes(source, day, origin, floor, fresh, least, steps)
 }
 
-// Whether a day with this origin has no event above a floor: it begins past the end, or its latest event lies below the
-// floor. Its date alone tells so only of days that lie further away.
+// Whether a day with this origin has no event above a floor: it begins past the end, or its latest
+// event lies below the floor. Its date alone tells that only of days that lie further away.
 fn is_idle(origin: i64, latest: u32, end: i64, floor: i64) -> bool
     ensures { result ≡ (int_lt end origin || int_lt (origin +ℤ pos latest) floor) }
 {

@@ -32,7 +32,8 @@ pub(crate) fn lists(alloc: Global, listed: &[Listed]) -> Result<Vec<ListLane>, O
 {
     let events = events_of(alloc, listed)?;
     let all = EventRange::new(alloc, events)?;
-    let mut lists = Vec::new(alloc);
+    // Room for a lane of each event, so that none is moved. What is left of it is not touched.
+    let mut lists = Vec::with_capacity(alloc, listed.len())?;
     let mut at = 0;
     while at < listed.len() {
         at += add_list(&listed[at..], &all, at, &mut lists)?;
