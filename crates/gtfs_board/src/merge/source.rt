@@ -27,7 +27,7 @@ pub trait Source {
     // All service days.
     ghost days: { Self → List ℤ };
 
-    // The origin of each day: no event of the day comes before it, nor later than the latest after it.
+    // The origin of each day. No event comes before it, nor later than the latest after it.
     ghost origins: { Self → ℤ → ℤ };
 
     // Whether a lane tells events on a day.
