@@ -3,8 +3,8 @@ ghost use Rattle.std.specs.Prelude.{◌<◌, length};
 
 use gtfs_days::{Cut, Service};
 use gtfs_feed::{
-    Agency, AgencyNo, Feed, Frequency, Parts, Route, RouteNo, ServiceNo, Stop, StopNo, StopRow,
-    Transfer, Trip, TripNo,
+    Agency, AgencyNo, Feed, FeedDraft, Frequency, Parts, Route, RouteNo, ServiceNo, Stop, StopNo,
+    StopRow, Transfer, Trip, TripNo,
 };
 use gtfs_field::OutOfMemory;
 use gtfs_rules::Passed;
@@ -21,6 +21,12 @@ fn makers(
 fn new(alloc: Global, random: RandomState, passed: &Passed<'_>) -> Result<Feed, OutOfMemory> {
     Feed::new(alloc, random, passed)
 }
+
+fn draft(alloc: Global, random: RandomState, passed: Passed<'_>) -> Result<FeedDraft, OutOfMemory> {
+    FeedDraft::new(alloc, random, passed)
+}
+
+fn draft_becomes(_feed: fn(FeedDraft, Global, RandomState) -> Result<Feed, OutOfMemory>) {}
 
 fn ids(
     _agency: fn(&Feed, &str) -> Option<AgencyNo>,
@@ -90,6 +96,7 @@ fn places(
 #[test]
 fn the_calls_are_these() {
     makers(Feed::assemble, Feed::trimmed, Feed::to_tables);
+    draft_becomes(FeedDraft::into_feed);
     ids(
         Feed::agency,
         Feed::stop,

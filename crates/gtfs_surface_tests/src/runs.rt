@@ -36,6 +36,8 @@ fn stop_lanes(
     are_lanes::<ListLane, StepLane, FilledLane>();
 }
 
+fn singles(_list: fn(&ListLane) -> bool, _filled: fn(&FilledLane) -> bool) {}
+
 fn lanes(lanes: &StopLanes) -> (&[ListLane], &[StepLane], &[FilledLane]) {
     (lanes.lists(), lanes.periods(), lanes.filled())
 }
@@ -82,6 +84,7 @@ fn is_ordered<T: Ord>() {}
 #[test]
 fn the_calls_are_these() {
     stop_lanes(StopLanes::build, StopLanes::greatest, Steps::count);
+    singles(ListLane::is_single, FilledLane::is_single);
     lists(flat_events, patterns);
     is_ordered::<Event>();
 }
