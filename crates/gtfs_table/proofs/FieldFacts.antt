@@ -47,7 +47,7 @@ pub offsets-none : (first : ℕ) (old : List ℕ) (fields : List (List ℕ)) →
 unfolding starts_of
 offsets-none first old fields = (sym (append-nil old), refl)
 
-at-end : (fields : List (List ℕ)) (i : ℕ) → None ≡ field_at fields i → length fields ≤ i
+pub at-end : (fields : List (List ℕ)) (i : ℕ) → None ≡ field_at fields i → length fields ≤ i
 unfolding field_at
 at-end [] i e = omega arith
 at-end (x ∷ fs) zero e = absurd (cc e)

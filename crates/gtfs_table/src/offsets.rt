@@ -1,7 +1,7 @@
-ghost use Rattle.std.specs.Prelude.{◌≡◌, ◌<◌, ◌≤◌, ◌+◌, ◌-◌, ◌^◌, ◌++◌, ◌∷◌, [], length, take, IfOk, OnOk, OnErr, slice_index, slice_index_or};
+ghost use Rattle.std.specs.Prelude.{◌≡◌, ◌<◌, ◌+◌, ◌^◌, ◌++◌, ◌∷◌, [], length, take, IfOk, OnOk, OnErr, slice_index, slice_index_or};
 ghost use Rattle.std.specs.List.{concat};
 ghost use Rattle.csv.specs.Records.{IsRecord, fields_of};
-ghost use Rattle.gtfs_table.specs.Parts.{starts_of, TellsOffsets};
+ghost use Rattle.gtfs_table.specs.Parts.{starts_of};
 
 use crate::blocks::Blocks;
 use csv::ByteRecord;
@@ -48,8 +48,10 @@ impl Offsets {
         })
     }
 
+    #[inline(always)]
     pub(crate) fn len(&self) -> usize
-        ensures { result ≡ length self.now }
+        ensures count { result ≡ length self.now }
+        ensures small { result < 2 ^ 63 }
     {
         self.are_few();
         self.blocks.len() + self.narrow.len() + self.wide.len()
@@ -83,23 +85,12 @@ impl Offsets {
 
     // The same, for the last part and for those that begin far on.
     #[inline(never)]
-    fn span_of_few(&self, i: usize, size: usize) -> (usize, usize)
+    pub(crate) fn span_of_few(&self, i: usize, size: usize) -> (usize, usize)
         requires { i < length self.now }
         ensures start { result.0 ≡ slice_index self.now i }
         ensures end { result.1 ≡ slice_index_or self.now (i + 1) size }
     {
         (self.get(i), self.end_of(i, size))
-    }
-
-    // The offsets with the numbers from `start` to `end` as far as they stand in one block: its base, and
-    // their distances from it. None where the blocks end before.
-    #[inline(always)]
-    pub(crate) fn near(&self, start: usize, end: usize) -> (usize, &[u16])
-        requires { start ≤ end }
-        ensures few { length result.1.now ≤ end - start + 1 }
-        ensures told { TellsOffsets result.0 result.1.now self.now start }
-    {
-        self.blocks.near(start, end)
     }
 
     // The offset with this number, from 0.

@@ -1,5 +1,6 @@
-ghost use Rattle.std.specs.Prelude.{◌≡◌, ◌==◌, ◌≤◌, ◌-◌, true, not, [], length, take, drop, slice_index_or};
+ghost use Rattle.std.specs.Prelude.{◌≡◌, ◌==◌, ◌<◌, ◌≤◌, ◌-◌, true, not, [], length, take, drop, slice_index, slice_index_or};
 ghost use Rattle.std.specs.List.{list_any};
+ghost use Rattle.csv.specs.Records.{AllText, Rising, cut_from, prev};
 ghost use Rattle.gtfs_table.specs.Blanks.{cut};
 ghost use Rattle.gtfs_table.specs.Rows.{is_empty};
 ghost use Rattle.gtfs_table.specs.Tables.{field_cut, field_under};
@@ -13,12 +14,13 @@ use std::marker::Model;
 /// Its fields are numbered from 0, and a field that was read stays valid after the record is let go.
 #[derive(Drop)]
 pub struct Record<'a> {
+    // The bytes of its fields, and where in these each ends: none of a long record.
+    bytes: &'a [u8],
+    ends: &'a [u8],
+    // A long record is these fields from the number `start` to `end`.
     fields: &'a Texts,
     start: usize,
     end: usize,
-    // Where its first fields begin in these bytes, and the last one of those ends: the fields of one block.
-    bytes: &'a [u8],
-    distances: &'a [u16],
 }
 
 impl<'a> Model for Record<'a> {
@@ -34,20 +36,35 @@ impl<'a> Model for Record<'a> {
 }
 
 impl<'a> Record<'a> {
+    // The record of these bytes, whose fields end where `ends` says, and of none of `fields`.
+    #[inline(always)]
+    pub(crate) fn of_short(bytes: &'a [u8], ends: &'a [u8], fields: &'a Texts) -> Record<'a>
+        requires rising { Rising 0 ends.now (length bytes.now) }
+        requires text { AllText (cut_from 0 ends.now bytes.now) }
+        ensures { result ≡ cut_from 0 ends.now bytes.now }
+    {
+        Record {
+            bytes,
+            ends,
+            fields,
+            start: 0,
+            end: 0,
+        }
+    }
+
     // The record of these fields from the number `start` to `end`.
     #[inline(always)]
-    pub(crate) fn new(fields: &'a Texts, start: usize, end: usize) -> Record<'a>
+    pub(crate) fn of_long(fields: &'a Texts, start: usize, end: usize) -> Record<'a>
         requires start { start ≤ end }
         requires end { end ≤ length fields.now }
         ensures { result ≡ take (end - start) (drop start fields.now) }
     {
-        let (bytes, distances) = fields.near(start, end);
         Record {
+            bytes: &[],
+            ends: &[],
             fields,
             start,
             end,
-            bytes,
-            distances,
         }
     }
 
@@ -55,14 +72,14 @@ impl<'a> Record<'a> {
     pub fn len(&self) -> usize
         ensures { result ≡ length self.now }
     {
-        self.end - self.start
+        self.ends.len() + (self.end - self.start)
     }
 
     /// Whether it has no field, as where there is no such row.
     pub fn is_empty(&self) -> bool
         ensures { result ≡ (length self.now == 0) }
     {
-        self.start == self.end
+        self.len() == 0
     }
 
     /// Whether it has a field that is not blank, as a row has.
@@ -119,15 +136,24 @@ impl<'a> Record<'a> {
     pub(crate) fn raw(&self, n: usize) -> &'a str
         ensures { result.now ≡ slice_index_or self.now n [] }
     {
-        if n < self.distances.len().saturating_sub(1) {
-            self.fields.are_utf8();
-            let start = self.distances[n] as usize;
-            let end = self.distances[n + 1] as usize;
+        if n < self.ends.len() {
+            let (start, end) = span(self.ends, n);
             unsafe { str::from_utf8_unchecked(&self.bytes[start..end]) }
-        } else if n < self.end - self.start {
-            self.fields.get_far(self.start + n)
+        } else if n - self.ends.len() < self.end - self.start {
+            self.fields.get(self.start + (n - self.ends.len()))
         } else {
             ""
         }
     }
+}
+
+// Where the field with this number begins and ends, by where each field ends.
+#[inline(always)]
+fn span(ends: &[u8], n: usize) -> (usize, usize)
+    requires { n < length ends.now }
+    ensures start { result.0 ≡ prev 0 ends.now n }
+    ensures end { result.1 ≡ slice_index ends.now n }
+{
+    let start = if n == 0 { 0 } else { ends[n - 1] as usize };
+    (start, ends[n] as usize)
 }
