@@ -5,6 +5,7 @@ pub mod EndingFacts
 pub mod FieldFacts
 pub mod FolderFacts
 pub mod MarkFacts
+mod MarkedFacts
 mod OtherNames
 pub mod PartFacts
 pub mod ReadSteps

@@ -1,7 +1,7 @@
 -- How the texts and records of a file lie in memory.
-use Rattle.std.specs.Prelude.{ℕ, ◌≡◌, ◌<◌, ◌≤◌, ◌+◌, ◌-◌, ◌^◌, ◌++◌, List, [], ◌∷◌, length, take, drop, All, ⊤}
-use Rattle.csv.specs.Records.{AllText, Rising, cut_from}
-use Rattle.gtfs_table.specs.Parts.{parts}
+use Rattle.std.specs.Prelude.{ℕ, ◌≡◌, ◌<◌, ◌≤◌, ◌+◌, ◌-◌, ◌^◌, ◌++◌, List, length, take, drop, map, slice_index_or, All}
+use Rattle.csv.specs.Records.{AllText, Rising, Row, fields_of}
+use Rattle.gtfs_table.specs.Parts.{between, marks_of, parts}
 use Rattle.gtfs_table.specs.Tables.{Records, Table, absent, not_utf8, of_records, table_records}
 use Rattle.gtfs_table.specs.declared.state.State.{State}
 use Rattle.gtfs_table.specs.declared.state.State.TheVariants as state
@@ -30,27 +30,31 @@ runs_of r = parts r.starts r.bytes.items
 abbrev pub IsRunStore : runs.Inside → Type 0
 IsRunStore r = Rising 0 r.starts (length r.bytes.items)
 
--- records of these bytes each, cut where these fields end
-unfoldable pub cut_each : List (List ℕ) → List (List ℕ) → List (List (List ℕ))
-cut_each [] ends = []
-cut_each (text ∷ texts) [] = []
-cut_each (text ∷ texts) (end ∷ ends) = cut_from 0 end text ∷ cut_each texts ends
+-- a record as a run: where in the run its first field begins, where each field ends, and then its bytes
+abbrev pub run_of : Row → List ℕ
+run_of row = marks_of (length (fields_of row) + 1) (fields_of row) ++ row.bytes
+
+-- the marks of a run: the first one tells how many there are
+abbrev pub marks_in : List ℕ → List ℕ
+marks_in run = take (slice_index_or run 0 0) run
+
+-- the fields of a run
+abbrev pub fields_in : List ℕ → List (List ℕ)
+fields_in run = between (marks_in run) run
+
+-- the marks lie in the run and rise, and there is a field, and each is UTF-8
+pub record IsRun (run : List ℕ) : Type 0 where
+  pub some : 0 < length run
+  pub within : slice_index_or run 0 0 ≤ length run
+  pub rising : Rising 0 (marks_in run) (length run)
+  pub filled : 0 < length (fields_in run)
+  pub text : AllText (fields_in run)
 
 abbrev pub short_stored : short.Inside → List (List (List ℕ))
-short_stored s = cut_each s.texts s.ends
+short_stored s = map fields_in s.runs
 
--- the fields of each record end within its bytes
-unfoldable pub EachRising : List (List ℕ) → List (List ℕ) → Type 0
-EachRising [] [] = ⊤
-EachRising [] (end ∷ ends) = ⊥
-EachRising (text ∷ texts) [] = ⊥
-EachRising (text ∷ texts) (end ∷ ends) = Rising 0 end (length text) × EachRising texts ends
-
--- each record has its ends, and no record is without a field
-pub record IsShortStore (s : short.Inside) : Type 0 where
-  pub rising : EachRising s.texts s.ends
-  pub filled : All (λ fields. 0 < length fields) (short_stored s)
-  pub text : All AllText (short_stored s)
+abbrev pub IsShortStore : short.Inside → Type 0
+IsShortStore s = All IsRun s.runs
 
 -- records one after the other, each from its offset among the fields on
 abbrev pub records_stored : long.Inside → List (List (List ℕ))
@@ -61,17 +65,17 @@ pub record IsRecordStore (r : long.Inside) : Type 0 where
   pub rising : Rising 0 r.starts (length r.fields)
   pub filled : All (λ fields. 0 < length fields) (records_stored r)
 
--- one record: the fields that end in its bytes, and those of a store from a number to another
+-- one record: the fields between its marks, and those of a store from a number to another
 abbrev pub record_in : one.Inside → List (List ℕ)
-record_in r = cut_from 0 r.ends.now r.bytes.now ++ take (r.end - r.start) (drop r.start r.fields.now)
+record_in r = between r.marks.now r.bytes.now ++ take (r.end - r.start) (drop r.start r.fields.now)
 
--- the fields end within the bytes and are UTF-8, the numbers are those of fields of the store, and all have numbers
+-- the marks lie in the bytes, the fields between them are UTF-8, the numbers are those of fields of the store, and all have numbers
 pub record IsRecordWithin (r : one.Inside) : Type 0 where
-  pub ends : Rising 0 r.ends.now (length r.bytes.now)
-  pub text : AllText (cut_from 0 r.ends.now r.bytes.now)
+  pub marks : Rising 0 r.marks.now (length r.bytes.now)
+  pub text : AllText (between r.marks.now r.bytes.now)
   pub rising : r.start ≤ r.end
   pub within : r.end ≤ length r.fields.now
-  pub few : length r.ends.now + (r.end - r.start) < 2 ^ 64
+  pub few : length r.marks.now + (r.end - r.start) < 2 ^ 64
 
 -- the records are counted, and the header is among those passed
 pub record AreRowsWithin (r : rows.Inside) : Type 0 where

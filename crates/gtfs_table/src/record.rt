@@ -1,8 +1,8 @@
-ghost use Rattle.std.specs.Prelude.{◌≡◌, ◌==◌, ◌<◌, ◌≤◌, ◌-◌, true, not, [], length, take, drop, slice_index, slice_index_or};
+ghost use Rattle.std.specs.Prelude.{◌≡◌, ◌==◌, ◌≤◌, ◌-◌, true, not, [], length, take, drop, slice_index_or};
 ghost use Rattle.std.specs.List.{list_any};
-ghost use Rattle.csv.specs.Records.{AllText, Rising, cut_from, prev};
 ghost use Rattle.gtfs_table.specs.Blanks.{cut};
 ghost use Rattle.gtfs_table.specs.Rows.{is_empty};
+ghost use Rattle.gtfs_table.specs.Storage.{IsRun, fields_in};
 ghost use Rattle.gtfs_table.specs.Tables.{field_cut, field_under};
 
 use crate::blanks;
@@ -14,9 +14,10 @@ use std::marker::Model;
 /// Its fields are numbered from 0, and a field that was read stays valid after the record is let go.
 #[derive(Drop)]
 pub struct Record<'a> {
-    // The bytes of its fields, and where in these each ends: none of a long record.
+    // The run of a short record: its bytes, and where in these its first field begins and each ends.
+    // A long record has none.
     bytes: &'a [u8],
-    ends: &'a [u8],
+    marks: &'a [u8],
     // A long record is these fields from the number `start` to `end`.
     fields: &'a Texts,
     start: usize,
@@ -36,16 +37,15 @@ impl<'a> Model for Record<'a> {
 }
 
 impl<'a> Record<'a> {
-    // The record of these bytes, whose fields end where `ends` says, and of none of `fields`.
+    // The record of this run, and of none of `fields`.
     #[inline(always)]
-    pub(crate) fn of_short(bytes: &'a [u8], ends: &'a [u8], fields: &'a Texts) -> Record<'a>
-        requires rising { Rising 0 ends.now (length bytes.now) }
-        requires text { AllText (cut_from 0 ends.now bytes.now) }
-        ensures { result ≡ cut_from 0 ends.now bytes.now }
+    pub(crate) fn of_short(run: &'a [u8], fields: &'a Texts) -> Record<'a>
+        requires { IsRun run.now }
+        ensures { result ≡ fields_in run.now }
     {
         Record {
-            bytes,
-            ends,
+            bytes: run,
+            marks: &run[..run[0] as usize],
             fields,
             start: 0,
             end: 0,
@@ -61,7 +61,7 @@ impl<'a> Record<'a> {
     {
         Record {
             bytes: &[],
-            ends: &[],
+            marks: &[],
             fields,
             start,
             end,
@@ -72,7 +72,7 @@ impl<'a> Record<'a> {
     pub fn len(&self) -> usize
         ensures { result ≡ length self.now }
     {
-        self.ends.len() + (self.end - self.start)
+        self.marks.len().saturating_sub(1) + (self.end - self.start)
     }
 
     /// Whether it has no field, as where there is no such row.
@@ -136,24 +136,15 @@ impl<'a> Record<'a> {
     pub(crate) fn raw(&self, n: usize) -> &'a str
         ensures { result.now ≡ slice_index_or self.now n [] }
     {
-        if n < self.ends.len() {
-            let (start, end) = span(self.ends, n);
+        let near = self.marks.len().saturating_sub(1);
+        if n < near {
+            let start = self.marks[n] as usize;
+            let end = self.marks[n + 1] as usize;
             unsafe { str::from_utf8_unchecked(&self.bytes[start..end]) }
-        } else if n - self.ends.len() < self.end - self.start {
-            self.fields.get(self.start + (n - self.ends.len()))
+        } else if n - near < self.end - self.start {
+            self.fields.get(self.start + (n - near))
         } else {
             ""
         }
     }
-}
-
-// Where the field with this number begins and ends, by where each field ends.
-#[inline(always)]
-fn span(ends: &[u8], n: usize) -> (usize, usize)
-    requires { n < length ends.now }
-    ensures start { result.0 ≡ prev 0 ends.now n }
-    ensures end { result.1 ≡ slice_index ends.now n }
-{
-    let start = if n == 0 { 0 } else { ends[n - 1] as usize };
-    (start, ends[n] as usize)
 }

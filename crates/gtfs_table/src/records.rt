@@ -72,8 +72,7 @@ impl Records {
     {
         let short = self.short.len();
         if passed < short {
-            let (bytes, ends) = self.short.get(passed);
-            return Record::of_short(bytes, ends, self.long.fields());
+            return Record::of_short(self.short.get(passed), self.long.fields());
         }
         self.long.record(passed - short)
     }
@@ -131,8 +130,8 @@ fn make_last_long(short: &mut ShortRecords, long: &mut LongRecords) -> Result<()
     }
     short.are_filled_with_text();
     let mut row = ByteRecord::new(short.allocator());
-    let (bytes, ends) = short.get(short.len() - 1);
-    copy_record(&Record::of_short(bytes, ends, long.fields()), &mut row)?;
+    let last = Record::of_short(short.get(short.len() - 1), long.fields());
+    copy_record(&last, &mut row)?;
     long.push_row(&row)?;
     short.pop();
     Ok(())

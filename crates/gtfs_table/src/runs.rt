@@ -1,5 +1,7 @@
 ghost use Rattle.std.specs.Prelude.{◌≡◌, ◌<◌, ◌≤◌, ◌+◌, ◌-◌, ◌^◌, ◌++◌, ◌∷◌, [], length, take, IfOk, OnOk, OnErr, slice_index_or, vec_len, vec_capacity};
 ghost use Rattle.csv.specs.Records.{IsRecord, fields_of};
+ghost use Rattle.gtfs_table.specs.Parts.{marks_of};
+ghost use Rattle.gtfs_table.specs.Storage.{run_of};
 
 use crate::offsets::Offsets;
 use csv::ByteRecord;
@@ -11,8 +13,8 @@ use std::mem;
 // Runs of bytes that lie in one buffer, so that none has an allocation of its own.
 #[derive(Drop)]
 pub(crate) struct Runs {
-    bytes: Vec<u8>,
     starts: Offsets,
+    bytes: Vec<u8>,
 }
 
 impl Model for Runs {
@@ -42,8 +44,8 @@ impl Runs {
         ensures { IfOk result (λ runs. runs ≡ []) }
     {
         Ok(Runs {
-            bytes: Vec::with_capacity(alloc, size)?,
             starts: Offsets::with_room(alloc, count)?,
+            bytes: Vec::with_capacity(alloc, size)?,
         })
     }
 
@@ -70,30 +72,21 @@ impl Runs {
         &bytes[start..end]
     }
 
-    // Adds a run at the end. A refusal leaves the list as it was.
-    pub(crate) fn push(&mut self, run: &[u8]) -> Result<(), OutOfMemory>
-        ensures ok { OnOk result (self.new ≡ self.old ++ run.now ∷ []) }
-        ensures err { OnErr result (self.new ≡ self.old) }
-    {
-        self.bytes.reserve(run.len())?;
-        self.starts.push(self.bytes.len())?;
-        self.bytes.extend_from_slice(run).unwrap();
-        Ok(())
-    }
-
-    // Adds the run of where the fields of a short record end, for each of which a byte is enough.
-    // A refusal leaves the list as it was.
-    pub(crate) fn push_ends(&mut self, row: &ByteRecord) -> Result<(), OutOfMemory>
+    // Adds a record as a run, which it makes no longer than a byte tells. A refusal leaves the list as it
+    // was.
+    pub(crate) fn push(&mut self, row: &ByteRecord) -> Result<(), OutOfMemory>
         requires whole { IsRecord row.now }
-        requires short { length row.now.bytes < 2 ^ 8 }
-        ensures ok { OnOk result (self.new ≡ self.old ++ row.now.ends ∷ []) }
+        requires short { length (fields_of row.now) + length row.now.bytes < 255 }
+        ensures ok { OnOk result (self.new ≡ self.old ++ run_of row.now ∷ []) }
         ensures err { OnErr result (self.new ≡ self.old) }
     {
-        self.bytes.reserve(row.len())?;
+        let text = row.as_slice();
+        self.bytes.reserve(row.len() + 1 + text.len())?;
         self.starts.push(self.bytes.len())?;
         let alloc = *self.bytes.allocator();
         let bytes = mem::replace(&mut self.bytes, Vec::new(alloc));
-        self.bytes = with_ends(bytes, row);
+        self.bytes = with_marks(bytes, row);
+        self.bytes.extend_from_slice(text).unwrap();
         Ok(())
     }
 
@@ -109,15 +102,18 @@ impl Runs {
     }
 }
 
-// The bytes, and after them where the fields of a record end. They come by value, so that their
-// number can stay in a register.
-fn with_ends(mut bytes: Vec<u8>, row: &ByteRecord) -> Vec<u8>
+// The bytes, and after them the marks of a record. They come by value, so that their number can stay
+// in a register.
+fn with_marks(mut bytes: Vec<u8>, row: &ByteRecord) -> Vec<u8>
     requires whole { IsRecord row.now }
-    requires room { vec_len bytes + length (fields_of row.now) ≤ vec_capacity bytes }
-    requires short { length row.now.bytes < 2 ^ 8 }
-    ensures { result.items ≡ bytes.items ++ row.now.ends }
+    requires room { vec_len bytes + length (fields_of row.now) + 1 ≤ vec_capacity bytes }
+    requires short { length (fields_of row.now) + length row.now.bytes < 255 }
+    ensures marks { result.items
+        ≡ bytes.items ++ marks_of (length (fields_of row.now) + 1) (fields_of row.now) }
+    ensures same_room { vec_capacity result ≡ vec_capacity bytes }
 {
-    let mut end = 0;
+    let mut end = row.len() + 1;
+    bytes.push_reserved(end as u8);
     for field in row {
         end += field.len();
         bytes.push_reserved(end as u8);

@@ -1,5 +1,6 @@
-ghost use Rattle.std.specs.Prelude.{All, ◌≡◌, ◌<◌, ◌≤◌, ◌+◌, ◌-◌, ◌^◌, ◌++◌, ◌∷◌, [], length, take, IfOk, OnErr, if◌then◌else◌, slice_index_or};
-ghost use Rattle.csv.specs.Records.{AllText, IsRecord, Rising, cut_from, fields_of};
+ghost use Rattle.std.specs.Prelude.{All, ◌≡◌, ◌<◌, ◌-◌, ◌^◌, ◌++◌, ◌∷◌, [], length, take, IfOk, OnErr, if◌then◌else◌, slice_index_or};
+ghost use Rattle.csv.specs.Records.{AllText, IsRecord, fields_of};
+ghost use Rattle.gtfs_table.specs.Storage.{IsRun, fields_in};
 
 use crate::runs::Runs;
 use csv::ByteRecord;
@@ -7,20 +8,18 @@ use gtfs_field::OutOfMemory;
 use std::alloc::Global;
 use std::marker::Model;
 
-// The most bytes that a record has of which a byte tells where any field ends.
-const LONGEST: usize = u8::MAX as usize;
+// The most that the fields of a short record and their bytes come to: with one mark more it is what a
+// byte tells.
+const LONGEST: usize = u8::MAX as usize - 1;
 
-// Few files have shorter fields, the commas counted, or records of fewer bytes.
-const BYTES_OF_A_FIELD: usize = 4;
-
+// Few files have records of fewer bytes.
 const BYTES_OF_A_RECORD: usize = 16;
 
-// Records of at most 255 bytes each: the bytes of each, and of each field one byte that tells where
-// in its record it ends.
+// Records of which each is a run of at most 255 bytes: where in the run its first field begins, where
+// each field ends, by one byte each, and the bytes of the fields.
 #[derive(Drop)]
 pub(crate) struct ShortRecords {
-    texts: Runs,
-    ends: Runs,
+    runs: Runs,
 }
 
 impl Model for ShortRecords {
@@ -40,20 +39,18 @@ impl ShortRecords {
         ensures { result ≡ [] }
     {
         ShortRecords {
-            texts: Runs::new(alloc),
-            ends: Runs::new(alloc),
+            runs: Runs::new(alloc),
         }
     }
 
-    // No record yet, and room for about as many as a file of this size has. Room that is not used is
-    // asked for and not touched.
+    // No record yet, and room for about as many as a file of this size has, of which each has a mark
+    // for each comma and line end, and one more. Room that is not used is asked for and not touched.
     pub(crate) fn with_room(alloc: Global, size: usize) -> Result<ShortRecords, OutOfMemory>
         ensures { IfOk result (λ records. records ≡ []) }
     {
         let count = size / BYTES_OF_A_RECORD;
         Ok(ShortRecords {
-            texts: Runs::with_room(alloc, count, size)?,
-            ends: Runs::with_room(alloc, count, size / BYTES_OF_A_FIELD)?,
+            runs: Runs::with_room(alloc, count, size.saturating_add(count))?,
         })
     }
 
@@ -62,18 +59,17 @@ impl ShortRecords {
         ensures count { result ≡ length self.now }
         ensures small { result < 2 ^ 63 }
     {
-        self.texts.len()
+        self.runs.len()
     }
 
-    // The bytes of the record with this number, from 0, and where in these its fields end.
+    // The run of the record with this number, from 0.
     #[inline(always)]
-    pub(crate) fn get(&self, i: usize) -> (&[u8], &[u8])
+    pub(crate) fn get(&self, i: usize) -> &[u8]
         requires { i < length self.now }
-        ensures rising { Rising 0 result.1.now (length result.0.now) }
-        ensures text { AllText (cut_from 0 result.1.now result.0.now) }
-        ensures fields { cut_from 0 result.1.now result.0.now ≡ slice_index_or self.now i [] }
+        ensures run { IsRun result.now }
+        ensures fields { fields_in result.now ≡ slice_index_or self.now i [] }
     {
-        (self.texts.get(i), self.ends.get(i))
+        self.runs.get(i)
     }
 
     // Each record has a field, and each field is UTF-8: facts for callers.
@@ -81,11 +77,11 @@ impl ShortRecords {
         ensures filled { All (λ fields. 0 < length fields) self.now }
         ensures text { All AllText self.now }
     {
-        let _ = &self.texts;
+        let _ = &self.runs;
     }
 
     pub(crate) fn allocator(&self) -> Global {
-        self.texts.allocator()
+        self.runs.allocator()
     }
 
     // Adds a record that `csv` read where it is short enough, and tells whether it did. A refusal
@@ -98,15 +94,11 @@ impl ShortRecords {
             ≡ (if added then self.old ++ fields_of row.now ∷ [] else self.old)) }
         ensures err { OnErr result (self.new ≡ self.old) }
     {
-        let bytes = row.as_slice();
-        if bytes.len() > LONGEST {
+        let size = row.as_slice().len();
+        if size > LONGEST || row.len() > LONGEST - size {
             return Ok(false);
         }
-        self.ends.push_ends(row)?;
-        if self.texts.push(bytes).is_err() {
-            self.ends.pop();
-            return Err(OutOfMemory);
-        }
+        self.runs.push(row)?;
         Ok(true)
     }
 
@@ -115,7 +107,6 @@ impl ShortRecords {
         requires { 0 < length self.old }
         ensures { self.new ≡ take (length self.old - 1) self.old }
     {
-        self.texts.pop();
-        self.ends.pop();
+        self.runs.pop();
     }
 }
