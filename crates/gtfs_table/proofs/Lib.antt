@@ -6,6 +6,7 @@ pub mod FieldFacts
 pub mod FolderFacts
 pub mod MarkFacts
 mod MarkedFacts
+mod NearFacts
 mod OtherNames
 pub mod PartFacts
 pub mod ReadSteps

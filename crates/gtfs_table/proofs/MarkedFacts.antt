@@ -51,13 +51,17 @@ near-text marks bytes n all lt =
     let low : n < length (between marks bytes) = omega (arith, lt, count-between marks bytes) in
     rw (between-at marks bytes n lt) at (text-at (between marks bytes) n low all)
 
+-- a field after these
+pub next-field : (marks bytes : List ℕ) (far xs : List (List ℕ)) (n : ℕ) → between marks bytes ++ far ≡ xs → length marks - 1 ≤ n → get_or far (n - (length marks - 1)) [] ≡ get_or xs n []
+next-field marks bytes far xs n e low =
+    sym (get_or-append_right (between marks bytes) far (length marks - 1) n [] (count-between marks bytes) low) ∙ ap (λ (t : List (List ℕ)). get_or t n []) e
+
 -- a field of the store
 pub far-field : (marks bytes : List ℕ) (fields xs : List (List ℕ)) (start few n : ℕ) → between marks bytes ++ take few (drop start fields) ≡ xs → length marks - 1 ≤ n
     → n - (length marks - 1) < few → get_or fields (start + (n - (length marks - 1))) [] ≡ get_or xs n []
 far-field marks bytes fields xs start few n e low lt =
-    let there = get_or-append_right (between marks bytes) (take few (drop start fields)) (length marks - 1) n [] (count-between marks bytes) low in
     let here = get_or-take few (drop start fields) (n - (length marks - 1)) [] lt ∙ get_or-drop start fields (n - (length marks - 1)) [] in
-    sym here ∙ sym there ∙ ap (λ (t : List (List ℕ)). get_or t n []) e
+    sym here ∙ next-field marks bytes (take few (drop start fields)) xs n e low
 
 pub count-record : (marks bytes : List ℕ) (fields xs : List (List ℕ)) (start few : ℕ) → between marks bytes ++ take few (drop start fields) ≡ xs → start + few ≤ length fields
     → length xs ≡ length marks - 1 + few

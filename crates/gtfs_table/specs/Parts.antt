@@ -1,5 +1,5 @@
 -- A list cut at offsets.
-use Rattle.std.specs.Prelude.{ℕ, ◌+◌, ◌-◌, ◌++◌, List, [], ◌∷◌, take, drop, length, slice_index_or}
+use Rattle.std.specs.Prelude.{ℕ, ◌≡◌, ◌<◌, ◌≤◌, ◌+◌, ◌-◌, ◌++◌, List, [], ◌∷◌, take, drop, length, slice_index, slice_index_or}
 
 -- each part goes from its offset to the next one, and the last part to the end
 unfoldable pub parts : {X : Type 0} → List ℕ → List X → List (List X)
@@ -27,3 +27,16 @@ unfoldable pub between : {X : Type 0} → List ℕ → List X → List (List X)
 between [] xs = []
 between (start ∷ []) xs = []
 between (start ∷ end ∷ rest) xs = take (end - start) (drop start xs) ∷ between (end ∷ rest) xs
+
+-- these distances from a base are those of the offsets from a number on
+pub record TellsOffsets (base : ℕ) (distances : List ℕ) (offsets : List ℕ) (start : ℕ) : Type 0 where
+  pub within : (n : ℕ) → n < length distances → start + n < length offsets
+  pub told : (n : ℕ) → n < length distances → base + slice_index distances n ≡ slice_index offsets (start + n)
+
+-- where the first of these fields begin in some bytes, and where the last one of them ends
+pub record TellsFields (bytes distances : List ℕ) (fields : List (List ℕ)) : Type 0 where
+  pub few : length distances ≤ length fields + 1
+  pub rising : (n : ℕ) → n + 1 < length distances → slice_index distances n ≤ slice_index distances (n + 1)
+  pub within : (n : ℕ) → n + 1 < length distances → slice_index distances (n + 1) ≤ length bytes
+  pub told : (n : ℕ) → n + 1 < length distances
+      → take (slice_index distances (n + 1) - slice_index distances n) (drop (slice_index distances n) bytes) ≡ slice_index_or fields n []

@@ -1,7 +1,7 @@
 -- How the texts and records of a file lie in memory.
 use Rattle.std.specs.Prelude.{ℕ, ◌≡◌, ◌<◌, ◌≤◌, ◌+◌, ◌-◌, ◌^◌, ◌++◌, List, length, take, drop, map, slice_index_or, All}
 use Rattle.csv.specs.Records.{AllText, Rising, Row, fields_of}
-use Rattle.gtfs_table.specs.Parts.{between, marks_of, parts}
+use Rattle.gtfs_table.specs.Parts.{between, marks_of, parts, TellsFields}
 use Rattle.gtfs_table.specs.Tables.{Records, Table, absent, not_utf8, of_records, table_records}
 use Rattle.gtfs_table.specs.declared.state.State.{State}
 use Rattle.gtfs_table.specs.declared.state.State.TheVariants as state
@@ -69,12 +69,14 @@ pub record IsRecordStore (r : long.Inside) : Type 0 where
 abbrev pub record_in : one.Inside → List (List ℕ)
 record_in r = between r.marks.now r.bytes.now ++ take (r.end - r.start) (drop r.start r.fields.now)
 
--- the marks lie in the bytes, the fields between them are UTF-8, the numbers are those of fields of the store, and all have numbers
+-- the marks lie in the bytes, the fields between them are UTF-8, the numbers are those of fields of the store, the distances are
+-- those of the first of these, and all fields have numbers
 pub record IsRecordWithin (r : one.Inside) : Type 0 where
   pub marks : Rising 0 r.marks.now (length r.bytes.now)
   pub text : AllText (between r.marks.now r.bytes.now)
   pub rising : r.start ≤ r.end
   pub within : r.end ≤ length r.fields.now
+  pub near : TellsFields r.bytes.now r.distances.now (take (r.end - r.start) (drop r.start r.fields.now))
   pub few : length r.marks.now + (r.end - r.start) < 2 ^ 64
 
 -- the records are counted, and the header is among those passed

@@ -1,7 +1,7 @@
 ghost use Rattle.std.specs.Prelude.{◌≡◌, ◌<◌, ◌≤◌, ◌+◌, ◌-◌, ◌*◌, ◌%◌, ◌^◌, ◌++◌, ◌∷◌, [], length, take, is_some, IfOk, IfSome, OnErr, slice_index, vec_len, vec_capacity, if◌then◌else◌};
 ghost use Rattle.std.specs.List.{concat};
 ghost use Rattle.csv.specs.Records.{IsRecord, fields_of};
-ghost use Rattle.gtfs_table.specs.Parts.{starts_of};
+ghost use Rattle.gtfs_table.specs.Parts.{starts_of, TellsOffsets};
 
 use csv::ByteRecord;
 use gtfs_field::OutOfMemory;
@@ -56,6 +56,15 @@ impl Blocks {
         })
     }
 
+    // Makes room for this many more.
+    pub(crate) fn reserve(&mut self, count: usize) -> Result<(), OutOfMemory>
+        ensures { self.new ≡ self.old }
+    {
+        self.bases.reserve(count / BLOCK + 1)?;
+        self.distances.reserve(count)?;
+        Ok(())
+    }
+
     pub(crate) fn len(&self) -> usize
         ensures count { result ≡ length self.now }
         ensures small { result < 2 ^ 62 }
@@ -70,6 +79,23 @@ impl Blocks {
         ensures { result ≡ slice_index self.now i }
     {
         self.bases[i / BLOCK] as usize + self.distances[i] as usize
+    }
+
+    // The offsets with the numbers from `start` to `end` as far as they stand in one block: its base, and
+    // their distances from it. None where the list ends before.
+    #[inline(always)]
+    pub(crate) fn near(&self, start: usize, end: usize) -> (usize, &[u16])
+        requires { start ≤ end }
+        ensures few { length result.1.now ≤ end - start + 1 }
+        ensures told { TellsOffsets result.0 result.1.now self.now start }
+    {
+        let distances = self.distances.as_slice();
+        let last = start + (end - start).min(BLOCK - 1 - start % BLOCK);
+        if distances.len() <= last {
+            return (0, &[]);
+        }
+        let base = self.bases[start / BLOCK] as usize;
+        (base, &distances[start..last + 1])
     }
 
     // Adds an offset at the end where two bytes are enough for it, and tells whether it did. A refusal

@@ -10,6 +10,9 @@ use gtfs_field::OutOfMemory;
 use std::alloc::Global;
 use std::marker::Model;
 
+// Few files have shorter fields, the commas counted.
+const BYTES_OF_A_FIELD: usize = 4;
+
 // Records of any length. Their fields lie in one buffer, and each is found by an offset of its own.
 #[derive(Drop)]
 pub(crate) struct LongRecords {
@@ -39,6 +42,13 @@ impl LongRecords {
         }
     }
 
+    // Makes room for about as many as a file of this size has.
+    pub(crate) fn reserve(&mut self, size: usize) -> Result<(), OutOfMemory>
+        ensures { self.new ≡ self.old }
+    {
+        self.fields.reserve(size / BYTES_OF_A_FIELD, size)
+    }
+
     pub(crate) fn len(&self) -> usize
         ensures count { result ≡ length self.now }
         ensures small { result < 2 ^ 63 }
@@ -52,7 +62,7 @@ impl LongRecords {
         requires { i < length self.now }
         ensures { result ≡ slice_index_or self.now i [] }
     {
-        let (start, end) = self.starts.span_of_few(i, self.fields.len());
+        let (start, end) = self.starts.span(i, self.fields.len());
         Record::of_long(&self.fields, start, end)
     }
 

@@ -1,7 +1,7 @@
-ghost use Rattle.std.specs.Prelude.{◌≡◌, ◌<◌, ◌+◌, ◌^◌, ◌++◌, ◌∷◌, [], length, take, IfOk, OnOk, OnErr, slice_index, slice_index_or};
+ghost use Rattle.std.specs.Prelude.{◌≡◌, ◌<◌, ◌≤◌, ◌+◌, ◌-◌, ◌^◌, ◌++◌, ◌∷◌, [], length, take, IfOk, OnOk, OnErr, slice_index, slice_index_or};
 ghost use Rattle.std.specs.List.{concat};
 ghost use Rattle.csv.specs.Records.{IsRecord, fields_of};
-ghost use Rattle.gtfs_table.specs.Parts.{starts_of};
+ghost use Rattle.gtfs_table.specs.Parts.{starts_of, TellsOffsets};
 
 use crate::blocks::Blocks;
 use csv::ByteRecord;
@@ -48,6 +48,13 @@ impl Offsets {
         })
     }
 
+    // Makes room for this many more.
+    pub(crate) fn reserve(&mut self, count: usize) -> Result<(), OutOfMemory>
+        ensures { self.new ≡ self.old }
+    {
+        self.blocks.reserve(count)
+    }
+
     #[inline(always)]
     pub(crate) fn len(&self) -> usize
         ensures count { result ≡ length self.now }
@@ -85,12 +92,23 @@ impl Offsets {
 
     // The same, for the last part and for those that begin far on.
     #[inline(never)]
-    pub(crate) fn span_of_few(&self, i: usize, size: usize) -> (usize, usize)
+    fn span_of_few(&self, i: usize, size: usize) -> (usize, usize)
         requires { i < length self.now }
         ensures start { result.0 ≡ slice_index self.now i }
         ensures end { result.1 ≡ slice_index_or self.now (i + 1) size }
     {
         (self.get(i), self.end_of(i, size))
+    }
+
+    // The offsets with the numbers from `start` to `end` as far as they stand in one block: its base, and
+    // their distances from it. None where the blocks end before.
+    #[inline(always)]
+    pub(crate) fn near(&self, start: usize, end: usize) -> (usize, &[u16])
+        requires { start ≤ end }
+        ensures few { length result.1.now ≤ end - start + 1 }
+        ensures told { TellsOffsets result.0 result.1.now self.now start }
+    {
+        self.blocks.near(start, end)
     }
 
     // The offset with this number, from 0.

@@ -14,10 +14,12 @@ use std::marker::Model;
 /// Its fields are numbered from 0, and a field that was read stays valid after the record is let go.
 #[derive(Drop)]
 pub struct Record<'a> {
-    // The run of a short record: its bytes, and where in these its first field begins and each ends.
-    // A long record has none.
+    // The run of a short record, and where in it the first field begins and each ends. Or bytes, and
+    // where in these the first fields of a long record begin and the last one of those ends: the
+    // fields of one block.
     bytes: &'a [u8],
     marks: &'a [u8],
+    distances: &'a [u16],
     // A long record is these fields from the number `start` to `end`.
     fields: &'a Texts,
     start: usize,
@@ -46,6 +48,7 @@ impl<'a> Record<'a> {
         Record {
             bytes: run,
             marks: &run[..run[0] as usize],
+            distances: &[],
             fields,
             start: 0,
             end: 0,
@@ -59,9 +62,11 @@ impl<'a> Record<'a> {
         requires end { end ≤ length fields.now }
         ensures { result ≡ take (end - start) (drop start fields.now) }
     {
+        let (bytes, distances) = fields.near(start, end);
         Record {
-            bytes: &[],
+            bytes,
             marks: &[],
+            distances,
             fields,
             start,
             end,
@@ -136,13 +141,20 @@ impl<'a> Record<'a> {
     pub(crate) fn raw(&self, n: usize) -> &'a str
         ensures { result.now ≡ slice_index_or self.now n [] }
     {
-        let near = self.marks.len().saturating_sub(1);
-        if n < near {
+        let short = self.marks.len().saturating_sub(1);
+        if n < short {
             let start = self.marks[n] as usize;
             let end = self.marks[n + 1] as usize;
+            return unsafe { str::from_utf8_unchecked(&self.bytes[start..end]) };
+        }
+        let i = n - short;
+        if i < self.distances.len().saturating_sub(1) {
+            self.fields.are_utf8();
+            let start = self.distances[i] as usize;
+            let end = self.distances[i + 1] as usize;
             unsafe { str::from_utf8_unchecked(&self.bytes[start..end]) }
-        } else if n - near < self.end - self.start {
-            self.fields.get(self.start + (n - near))
+        } else if i < self.end - self.start {
+            self.fields.get_far(self.start + i)
         } else {
             ""
         }

@@ -102,8 +102,11 @@ impl Records {
         ensures ok { OnOk result (self.new ≡ self.old ++ fields_of row.now ∷ []) }
         ensures err { OnErr result (self.new ≡ self.old) }
     {
-        if self.long.len() == 0 && self.short.push(row)? {
-            return Ok(());
+        if self.long.len() == 0 {
+            if self.short.push(row)? {
+                return Ok(());
+            }
+            self.long.reserve(self.short.room())?;
         }
         self.long.push_row(row)
     }

@@ -61,6 +61,11 @@ impl Runs {
         *self.bytes.allocator()
     }
 
+    // How many bytes there is room for.
+    pub(crate) fn room(&self) -> usize {
+        self.bytes.capacity() - self.bytes.len()
+    }
+
     // The run with this number, from 0.
     #[inline(always)]
     pub(crate) fn get(&self, i: usize) -> &[u8]

@@ -84,6 +84,11 @@ impl ShortRecords {
         self.runs.allocator()
     }
 
+    // How many bytes there is room for.
+    pub(crate) fn room(&self) -> usize {
+        self.runs.room()
+    }
+
     // Adds a record that `csv` read where it is short enough, and tells whether it did. A refusal
     // leaves the records as they were.
     pub(crate) fn push(&mut self, row: &ByteRecord) -> Result<bool, OutOfMemory>

@@ -1,7 +1,7 @@
-ghost use Rattle.std.specs.Prelude.{◌≡◌, ◌<◌, ◌++◌, ◌∷◌, [], length, take, OnOk, OnErr, slice_index_or};
+ghost use Rattle.std.specs.Prelude.{◌≡◌, ◌<◌, ◌≤◌, ◌-◌, ◌++◌, ◌∷◌, [], length, take, drop, OnOk, OnErr, slice_index_or};
 ghost use Rattle.std.specs.List.{concat};
 ghost use Rattle.csv.specs.Records.{AllText, IsRecord, fields_of};
-ghost use Rattle.gtfs_table.specs.Parts.{starts_of};
+ghost use Rattle.gtfs_table.specs.Parts.{starts_of, TellsFields};
 
 use crate::offsets::Offsets;
 use csv::ByteRecord;
@@ -38,6 +38,14 @@ impl Texts {
         }
     }
 
+    // Makes room for this many more texts that come to this many bytes.
+    pub(crate) fn reserve(&mut self, count: usize, size: usize) -> Result<(), OutOfMemory>
+        ensures { self.new ≡ self.old }
+    {
+        self.bytes.reserve(size)?;
+        self.starts.reserve(count)
+    }
+
     pub(crate) fn len(&self) -> usize
         ensures { result ≡ length self.now }
     {
@@ -45,7 +53,7 @@ impl Texts {
     }
 
     // The text with this number, from 0.
-    #[inline(never)]
+    #[inline(always)]
     pub(crate) fn get(&self, i: usize) -> &str
         requires { i < length self.now }
         ensures { result.now ≡ slice_index_or self.now i [] }
@@ -53,6 +61,31 @@ impl Texts {
         let bytes = self.bytes.as_slice();
         let (start, end) = self.starts.span(i, bytes.len());
         unsafe { str::from_utf8_unchecked(&bytes[start..end]) }
+    }
+
+    // The same, where one block of offsets does not tell it.
+    #[inline(never)]
+    pub(crate) fn get_far(&self, i: usize) -> &str
+        requires { i < length self.now }
+        ensures { result.now ≡ slice_index_or self.now i [] }
+    {
+        self.get(i)
+    }
+
+    // The bytes from the base of a block on, and where in these the texts with the numbers from `start` to `end`
+    // begin, as far as they stand in that block.
+    #[inline(always)]
+    pub(crate) fn near(&self, start: usize, end: usize) -> (&[u8], &[u16])
+        requires start { start ≤ end }
+        requires end { end ≤ length self.now }
+        ensures { TellsFields result.0.now result.1.now (take (end - start) (drop start self.now)) }
+    {
+        let bytes = self.bytes.as_slice();
+        let (base, distances) = self.starts.near(start, end);
+        if bytes.len() < base {
+            return (&[], &[]);
+        }
+        (&bytes[base..], distances)
     }
 
     // Each text is UTF-8: a fact for callers.
