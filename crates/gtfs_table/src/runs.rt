@@ -34,8 +34,8 @@ impl Runs {
         ensures { result ≡ [] }
     {
         Runs {
-            bytes: Vec::new(alloc),
             starts: Offsets::new(alloc),
+            bytes: Vec::new(alloc),
         }
     }
 
@@ -77,8 +77,8 @@ impl Runs {
         &bytes[start..end]
     }
 
-    // Adds a record as a run, which it makes no longer than a byte tells. A refusal leaves the list as it
-    // was.
+    // Adds a record, which has to be short, as a run: its marks, and then its bytes. A refusal leaves
+    // the list as it was.
     pub(crate) fn push(&mut self, row: &ByteRecord) -> Result<(), OutOfMemory>
         requires whole { IsRecord row.now }
         requires short { length (fields_of row.now) + length row.now.bytes < 255 }

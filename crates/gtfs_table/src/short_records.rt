@@ -8,8 +8,8 @@ use gtfs_field::OutOfMemory;
 use std::alloc::Global;
 use std::marker::Model;
 
-// The most that the fields of a short record and their bytes come to: with one mark more it is what a
-// byte tells.
+// The most that the fields of a short record and their bytes come to. There is one mark more than
+// fields, so that the last mark is at most what a byte tells.
 const LONGEST: usize = u8::MAX as usize - 1;
 
 // Few files have records of fewer bytes.
@@ -43,8 +43,8 @@ impl ShortRecords {
         }
     }
 
-    // No record yet, and room for about as many as a file of this size has, of which each has a mark
-    // for each comma and line end, and one more. Room that is not used is asked for and not touched.
+    // No record yet, and room for about as many as a file of this size has: a record has a mark for each
+    // comma and line end, and one more. Room that is not used is asked for and not touched.
     pub(crate) fn with_room(alloc: Global, size: usize) -> Result<ShortRecords, OutOfMemory>
         ensures { IfOk result (λ records. records ≡ []) }
     {

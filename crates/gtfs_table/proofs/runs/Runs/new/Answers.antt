@@ -5,8 +5,8 @@ use Rattle.gtfs_table.proofs.runs.Runs.new.Goals as goal
 
 pub invariant_of-result : goal.invariant_of-result
 unfolding Rising
-invariant_of-result c = rw (c.new-2.ensures) (omega arith)
+invariant_of-result c = rw (c.new.ensures) (omega arith)
 
 pub returns : goal.returns
 unfolding parts
-returns c = rw (c.new-2.ensures) refl
+returns c = rw (c.new.ensures) refl
