@@ -14,9 +14,9 @@ use std::marker::Model;
 /// Its fields are numbered from 0, and a field that was read stays valid after the record is let go.
 #[derive(Drop)]
 pub struct Record<'a> {
-    // The run of a short record, and where in it the first field begins and each ends. Or bytes, and
-    // where in these the first fields of a long record begin and the last one of those ends: the
-    // fields of one block.
+    // The run of a short record, and where in it the first field begins and each ends. Or bytes,
+    // and where in these the first fields of a long record begin and the last one of those ends:
+    // the fields of one block.
     bytes: &'a [u8],
     marks: &'a [u8],
     distances: &'a [u16],

@@ -77,8 +77,8 @@ impl Runs {
         &bytes[start..end]
     }
 
-    // Adds a record, which has to be short, as a run: its marks, and then its bytes. A refusal leaves
-    // the list as it was.
+    // Adds a record, which has to be short, as a run: its marks, and then its bytes. A refusal
+    // leaves the list as it was.
     pub(crate) fn push(&mut self, row: &ByteRecord) -> Result<(), OutOfMemory>
         requires whole { IsRecord row.now }
         requires short { length (fields_of row.now) + length row.now.bytes < 255 }
@@ -107,8 +107,8 @@ impl Runs {
     }
 }
 
-// The bytes, and after them the marks of a record. They come by value, so that their number can stay
-// in a register.
+// The bytes, and after them the marks of a record. They come by value, so that their number can
+// stay in a register.
 fn with_marks(mut bytes: Vec<u8>, row: &ByteRecord) -> Vec<u8>
     requires whole { IsRecord row.now }
     requires room { vec_len bytes + length (fields_of row.now) + 1 ≤ vec_capacity bytes }

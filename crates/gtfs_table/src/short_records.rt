@@ -15,8 +15,8 @@ const LONGEST: usize = u8::MAX as usize - 1;
 // Few files have records of fewer bytes.
 const BYTES_OF_A_RECORD: usize = 16;
 
-// Records of which each is a run of at most 255 bytes: where in the run its first field begins, where
-// each field ends, by one byte each, and the bytes of the fields.
+// Records of which each is a run of at most 255 bytes: where in the run its first field begins,
+// where each field ends, by one byte each, and the bytes of the fields.
 #[derive(Drop)]
 pub(crate) struct ShortRecords {
     runs: Runs,
@@ -43,8 +43,8 @@ impl ShortRecords {
         }
     }
 
-    // No record yet, and room for about as many as a file of this size has: a record has a mark for each
-    // comma and line end, and one more. Room that is not used is asked for and not touched.
+    // No record yet, and room for about as many as a file of this size has: a record has a mark for
+    // each comma and line end, and one more. Room that is not used is asked for and not touched.
     pub(crate) fn with_room(alloc: Global, size: usize) -> Result<ShortRecords, OutOfMemory>
         ensures { IfOk result (λ records. records ≡ []) }
     {
