@@ -62,7 +62,7 @@ impl LongRecords {
         requires { i < length self.now }
         ensures { result ≡ slice_index_or self.now i [] }
     {
-        let (start, end) = self.starts.span(i, self.fields.len());
+        let (start, end) = self.starts.span_far(i, self.fields.len());
         Record::of_long(&self.fields, start, end)
     }
 
