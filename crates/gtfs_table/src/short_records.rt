@@ -12,8 +12,8 @@ use std::marker::Model;
 // fields, so that the last mark is at most what a byte tells.
 const LONGEST: usize = u8::MAX as usize - 1;
 
-// Few files have records of fewer bytes.
-const BYTES_OF_A_RECORD: usize = 16;
+// Few large files have shorter records, the commas counted.
+const BYTES_OF_A_RECORD: usize = 32;
 
 // Records of which each is a run of at most 255 bytes: where in the run its first field begins,
 // where each field ends, by one byte each, and the bytes of the fields.
