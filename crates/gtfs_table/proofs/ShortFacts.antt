@@ -1,7 +1,7 @@
 -- Lists of short records, and of long ones after them.
-use Rattle.std.proofs.Common.{◌≡◌, ◌<◌, ◌≤◌, ◌+◌, ◌-◌, ◌∷◌, ◌++◌, ◌∙◌, [], ℕ, List, length, take, get_or, map, refl, sym, ap, arith}
+use Rattle.std.proofs.Common.{◌≡◌, ◌<◌, ◌∷◌, ◌++◌, ◌∙◌, [], ℕ, List, length, take, get_or, map, refl, sym, ap, arith}
 use Rattle.std.specs.List.{All}
-use Rattle.std.proofs.lemmas.List.{get_or_append_left, get_or-append_right, get_or-map, length-map, map-append, take-map, take_all, take_more}
+use Rattle.std.proofs.lemmas.List.{get_or-map, length-map, map-append, take-map}
 use Rattle.std.proofs.lemmas.List.Elements.{All-get_or, All-map, All-push, All-take, All-weaker}
 use Rattle.csv.specs.Records.{AllText, IsRecord, Row, fields_of}
 use Rattle.gtfs_table.specs.Parts.{add_to_last}
@@ -48,18 +48,6 @@ short-take runs new records k e all n =
     })
 
 -- ---- short records, and then long ones
-
-pub at-short : (short long records : List (List (List ℕ))) (i : ℕ) → short ++ long ≡ records → i < length short → get_or short i [] ≡ get_or records i []
-at-short short long records i e lt = sym (get_or_append_left short long [] i lt) ∙ ap (λ (p : List (List (List ℕ))). get_or p i []) e
-
-pub at-long : (short long records : List (List (List ℕ))) (i : ℕ) → short ++ long ≡ records → length short ≤ i → get_or long (i - length short) [] ≡ get_or records i []
-at-long short long records i e low = sym (get_or-append_right short long (length short) i [] refl low) ∙ ap (λ (p : List (List (List ℕ))). get_or p i []) e
-
--- all but the last one, and the last one
-pub last-apart : (records : List (List (List ℕ))) → 0 < length records → take (length records - 1) records ++ get_or records (length records - 1) [] ∷ [] ≡ records
-last-apart records some =
-    let size : length records - 1 + 1 ≡ length records = omega (arith, some) in
-    sym (take_more records (length records - 1) [] (omega (arith, some))) ∙ rw size (take_all (length records) records (omega arith))
 
 add-after : (short long : List (List (List ℕ))) (field : List ℕ) → 0 < length long → short ++ add_to_last long field ≡ add_to_last (short ++ long) field
 unfolding add_to_last
