@@ -15,7 +15,7 @@ starts-more s (x ∷ fs) f =
     let e : s + length x + length (concat fs) ≡ s + length (x ++ concat fs) = omega (arith, length-append x (concat fs)) in
     rw (starts-more (s + length x) fs f, e) refl
 
-concat-more : (fs : List (List ℕ)) (f : List ℕ) → concat (fs ++ f ∷ []) ≡ concat fs ++ f
+pub concat-more : (fs : List (List ℕ)) (f : List ℕ) → concat (fs ++ f ∷ []) ≡ concat fs ++ f
 concat-more [] f = append-nil f
 concat-more (x ∷ fs) f = rw (concat-more fs f) (sym (append_assoc x (concat fs) f))
 
@@ -29,7 +29,7 @@ first-there [] i f e = absurd (cc e)
 first-there (x ∷ fs) zero f e = omega arith
 first-there (x ∷ fs) (suc i) f e = let h = first-there fs i f e in omega arith
 
-one-more : (fields : List (List ℕ)) (i : ℕ) (f : List ℕ) → Some f ≡ field_at fields i → take (i + 1) fields ≡ take i fields ++ f ∷ []
+pub one-more : (fields : List (List ℕ)) (i : ℕ) (f : List ℕ) → Some f ≡ field_at fields i → take (i + 1) fields ≡ take i fields ++ f ∷ []
 one-more fields i f at =
     let lt = first-there fields i f at in
     let here : get_or fields i [] ≡ f = field-get fields i f (sym at) in
@@ -47,7 +47,7 @@ pub offsets-none : (first : ℕ) (old : List ℕ) (fields : List (List ℕ)) →
 unfolding starts_of
 offsets-none first old fields = (sym (append-nil old), refl)
 
-at-end : (fields : List (List ℕ)) (i : ℕ) → None ≡ field_at fields i → length fields ≤ i
+pub at-end : (fields : List (List ℕ)) (i : ℕ) → None ≡ field_at fields i → length fields ≤ i
 unfolding field_at
 at-end [] i e = omega arith
 at-end (x ∷ fs) zero e = absurd (cc e)

@@ -17,6 +17,17 @@ unfoldable pub starts_of : {X : Type 0} → ℕ → List (List X) → List ℕ
 starts_of start [] = []
 starts_of start (xs ∷ rest) = start ∷ starts_of (start + length xs) rest
 
+-- where these lists begin if they stand so, and where the last one ends
+unfoldable pub marks_of : {X : Type 0} → ℕ → List (List X) → List ℕ
+marks_of start [] = start ∷ []
+marks_of start (xs ∷ rest) = start ∷ marks_of (start + length xs) rest
+
+-- the parts from each of these marks to the next one
+unfoldable pub between : {X : Type 0} → List ℕ → List X → List (List X)
+between [] xs = []
+between (start ∷ []) xs = []
+between (start ∷ end ∷ rest) xs = take (end - start) (drop start xs) ∷ between (end ∷ rest) xs
+
 -- these distances from a base are those of the offsets from a number on
 pub record TellsOffsets (base : ℕ) (distances : List ℕ) (offsets : List ℕ) (start : ℕ) : Type 0 where
   pub within : (n : ℕ) → n < length distances → start + n < length offsets

@@ -56,6 +56,15 @@ impl Blocks {
         })
     }
 
+    // Makes room for this many more.
+    pub(crate) fn reserve(&mut self, count: usize) -> Result<(), OutOfMemory>
+        ensures { self.new ≡ self.old }
+    {
+        self.bases.reserve(count / BLOCK + 1)?;
+        self.distances.reserve(count)?;
+        Ok(())
+    }
+
     pub(crate) fn len(&self) -> usize
         ensures count { result ≡ length self.now }
         ensures small { result < 2 ^ 62 }

@@ -35,11 +35,14 @@
 mod blanks;
 mod blocks;
 mod file;
+mod long_records;
 mod offsets;
 mod reader;
 mod record;
 mod records;
 mod rows;
+mod runs;
+mod short_records;
 mod state;
 mod table;
 mod tables;

@@ -48,8 +48,17 @@ impl Offsets {
         })
     }
 
+    // Makes room for this many more.
+    pub(crate) fn reserve(&mut self, count: usize) -> Result<(), OutOfMemory>
+        ensures { self.new ≡ self.old }
+    {
+        self.blocks.reserve(count)
+    }
+
+    #[inline(always)]
     pub(crate) fn len(&self) -> usize
-        ensures { result ≡ length self.now }
+        ensures count { result ≡ length self.now }
+        ensures small { result < 2 ^ 63 }
     {
         self.are_few();
         self.blocks.len() + self.narrow.len() + self.wide.len()
@@ -77,13 +86,14 @@ impl Offsets {
         if i + 1 < self.blocks.len() {
             (self.blocks.get(i), self.blocks.get(i + 1))
         } else {
-            self.span_of_few(i, size)
+            self.span_far(i, size)
         }
     }
 
-    // The same, for the last part and for those that begin far on.
+    // The same by a call, for what is seldom asked: the last part, those that begin far on, and the
+    // fields of a long record.
     #[inline(never)]
-    fn span_of_few(&self, i: usize, size: usize) -> (usize, usize)
+    pub(crate) fn span_far(&self, i: usize, size: usize) -> (usize, usize)
         requires { i < length self.now }
         ensures start { result.0 ≡ slice_index self.now i }
         ensures end { result.1 ≡ slice_index_or self.now (i + 1) size }

@@ -2,6 +2,7 @@ ghost use Rattle.std.specs.Prelude.{◌≡◌, ◌==◌, ◌≤◌, ◌-◌, tru
 ghost use Rattle.std.specs.List.{list_any};
 ghost use Rattle.gtfs_table.specs.Blanks.{cut};
 ghost use Rattle.gtfs_table.specs.Rows.{is_empty};
+ghost use Rattle.gtfs_table.specs.Storage.{IsRun, fields_in};
 ghost use Rattle.gtfs_table.specs.Tables.{field_cut, field_under};
 
 use crate::blanks;
@@ -13,12 +14,16 @@ use std::marker::Model;
 /// Its fields are numbered from 0, and a field that was read stays valid after the record is let go.
 #[derive(Drop)]
 pub struct Record<'a> {
+    // The run of a short record, and where in it the first field begins and each ends. Or bytes,
+    // and where in these the first fields of a long record begin and the last one of those ends:
+    // the fields of one block.
+    bytes: &'a [u8],
+    marks: &'a [u8],
+    distances: &'a [u16],
+    // A long record is these fields from the number `start` to `end`.
     fields: &'a Texts,
     start: usize,
     end: usize,
-    // Where its first fields begin in these bytes, and the last one of those ends: the fields of one block.
-    bytes: &'a [u8],
-    distances: &'a [u16],
 }
 
 impl<'a> Model for Record<'a> {
@@ -34,20 +39,37 @@ impl<'a> Model for Record<'a> {
 }
 
 impl<'a> Record<'a> {
+    // The record of this run, and of none of `fields`.
+    #[inline(always)]
+    pub(crate) fn of_short(run: &'a [u8], fields: &'a Texts) -> Record<'a>
+        requires { IsRun run.now }
+        ensures { result ≡ fields_in run.now }
+    {
+        Record {
+            bytes: run,
+            marks: &run[..run[0] as usize],
+            distances: &[],
+            fields,
+            start: 0,
+            end: 0,
+        }
+    }
+
     // The record of these fields from the number `start` to `end`.
     #[inline(always)]
-    pub(crate) fn new(fields: &'a Texts, start: usize, end: usize) -> Record<'a>
+    pub(crate) fn of_long(fields: &'a Texts, start: usize, end: usize) -> Record<'a>
         requires start { start ≤ end }
         requires end { end ≤ length fields.now }
         ensures { result ≡ take (end - start) (drop start fields.now) }
     {
         let (bytes, distances) = fields.near(start, end);
         Record {
+            bytes,
+            marks: &[],
+            distances,
             fields,
             start,
             end,
-            bytes,
-            distances,
         }
     }
 
@@ -55,14 +77,14 @@ impl<'a> Record<'a> {
     pub fn len(&self) -> usize
         ensures { result ≡ length self.now }
     {
-        self.end - self.start
+        self.marks.len().saturating_sub(1) + (self.end - self.start)
     }
 
     /// Whether it has no field, as where there is no such row.
     pub fn is_empty(&self) -> bool
         ensures { result ≡ (length self.now == 0) }
     {
-        self.start == self.end
+        self.len() == 0
     }
 
     /// Whether it has a field that is not blank, as a row has.
@@ -119,13 +141,20 @@ impl<'a> Record<'a> {
     pub(crate) fn raw(&self, n: usize) -> &'a str
         ensures { result.now ≡ slice_index_or self.now n [] }
     {
-        if n < self.distances.len().saturating_sub(1) {
+        let short = self.marks.len().saturating_sub(1);
+        if n < short {
+            let start = self.marks[n] as usize;
+            let end = self.marks[n + 1] as usize;
+            return unsafe { str::from_utf8_unchecked(&self.bytes[start..end]) };
+        }
+        let i = n - short;
+        if i < self.distances.len().saturating_sub(1) {
             self.fields.are_utf8();
-            let start = self.distances[n] as usize;
-            let end = self.distances[n + 1] as usize;
+            let start = self.distances[i] as usize;
+            let end = self.distances[i + 1] as usize;
             unsafe { str::from_utf8_unchecked(&self.bytes[start..end]) }
-        } else if n < self.end - self.start {
-            self.fields.get_far(self.start + n)
+        } else if i < self.end - self.start {
+            self.fields.get_far(self.start + i)
         } else {
             ""
         }

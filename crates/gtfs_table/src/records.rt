@@ -1,36 +1,30 @@
-ghost use Rattle.std.specs.Prelude.{All, ◌≡◌, ◌<◌, ◌+◌, ◌++◌, ◌∷◌, [], length, IfOk, OnOk, OnErr, slice_index_or};
+ghost use Rattle.std.specs.Prelude.{All, ◌≡◌, ◌<◌, ◌+◌, ◌++◌, ◌∷◌, [], length, IfOk, OnOk, OnErr};
 ghost use Rattle.csv.specs.Records.{AllText, IsRecord, fields_of};
 ghost use Rattle.gtfs_table.specs.Parts.{add_to_last};
 ghost use Rattle.gtfs_table.specs.Tables.{record_at};
 
-use crate::offsets::Offsets;
+use crate::long_records::LongRecords;
 use crate::record::Record;
-use crate::texts::Texts;
+use crate::short_records::ShortRecords;
+use crate::writer::copy_record;
 use csv::ByteRecord;
 use gtfs_field::OutOfMemory;
 use std::alloc::Global;
 use std::marker::Model;
 
-// Few files have shorter fields, the commas counted.
-const BYTES_OF_A_FIELD: usize = 4;
-
-// The records of a file, whose fields lie in one buffer.
+// The records of a file: short ones up to the first that is long or is not read but pushed.
 #[derive(Drop)]
 pub(crate) struct Records {
-    fields: Texts,
-    starts: Offsets,
+    short: ShortRecords,
+    long: LongRecords,
 }
 
 impl Model for Records {
-    ghost use Rattle.std.specs.Prelude.{List, ℕ};
+    ghost use Rattle.std.specs.Prelude.{List, ℕ, ◌++◌};
 
     ghost Value = { List (List (List ℕ)) };
 
-    ghost use Rattle.gtfs_table.specs.Storage.{records_stored, IsRecordStore};
-
-    ghost view = { records_stored };
-
-    ghost invariant = { IsRecordStore };
+    ghost view = { λ r. r.short ++ r.long };
 }
 
 impl Records {
@@ -38,26 +32,25 @@ impl Records {
         ensures { result ≡ [] }
     {
         Records {
-            fields: Texts::new(alloc),
-            starts: Offsets::new(alloc),
+            short: ShortRecords::new(alloc),
+            long: LongRecords::new(alloc),
         }
     }
 
-    // No record yet, and room for about as many fields as a file of this size has. Room that is not used
-    // is asked for and not touched.
+    // No record yet, and room for about as many as a file of this size has.
     pub(crate) fn with_room(alloc: Global, size: usize) -> Result<Records, OutOfMemory>
         ensures { IfOk result (λ records. records ≡ []) }
     {
         Ok(Records {
-            fields: Texts::with_room(alloc, size / BYTES_OF_A_FIELD, size)?,
-            starts: Offsets::new(alloc),
+            short: ShortRecords::with_room(alloc, size)?,
+            long: LongRecords::new(alloc),
         })
     }
 
     pub(crate) fn len(&self) -> usize
         ensures { result ≡ length self.now }
     {
-        self.starts.len()
+        self.short.len() + self.long.len()
     }
 
     // The record of a row, from 1: one with no field where there is no such row.
@@ -65,8 +58,8 @@ impl Records {
     pub(crate) fn record(&self, row: usize) -> Record<'_>
         ensures { result ≡ record_at self.now row }
     {
-        if row == 0 || row > self.starts.len() {
-            return Record::new(&self.fields, 0, 0);
+        if row == 0 || row > self.len() {
+            return self.long.no_record();
         }
         self.record_after(row - 1)
     }
@@ -77,8 +70,11 @@ impl Records {
         requires { passed < length self.now }
         ensures { result ≡ record_at self.now (passed + 1) }
     {
-        let (start, end) = self.starts.span(passed, self.fields.len());
-        Record::new(&self.fields, start, end)
+        let short = self.short.len();
+        if passed < short {
+            return Record::of_short(self.short.get(passed), self.long.fields());
+        }
+        self.long.record(passed - short)
     }
 
     // Each record has a field, and each field is UTF-8: facts for callers.
@@ -86,7 +82,8 @@ impl Records {
         ensures filled { All (λ fields. 0 < length fields) self.now }
         ensures text { All AllText self.now }
     {
-        self.fields.are_utf8();
+        self.short.are_filled_with_text();
+        self.long.are_filled_with_text();
     }
 
     // Adds a record of one field. A refusal leaves the records as they were.
@@ -94,13 +91,7 @@ impl Records {
         ensures ok { OnOk result (self.new ≡ self.old ++ (field.now ∷ []) ∷ []) }
         ensures err { OnErr result (self.new ≡ self.old) }
     {
-        let count = self.starts.len();
-        self.starts.push(self.fields.len())?;
-        let pushed = self.fields.push(field);
-        if pushed.is_err() {
-            self.starts.truncate(count);
-        }
-        pushed
+        self.long.push_record(field)
     }
 
     // Adds a record that `csv` read. A refusal leaves the records as they were.
@@ -111,13 +102,13 @@ impl Records {
         ensures ok { OnOk result (self.new ≡ self.old ++ fields_of row.now ∷ []) }
         ensures err { OnErr result (self.new ≡ self.old) }
     {
-        let count = self.starts.len();
-        self.starts.push(self.fields.len())?;
-        let pushed = self.fields.append(row);
-        if pushed.is_err() {
-            self.starts.truncate(count);
+        if self.long.len() == 0 {
+            if self.short.push(row)? {
+                return Ok(());
+            }
+            self.long.reserve(self.short.room())?;
         }
-        pushed
+        self.long.push_row(row)
     }
 
     // Adds a field to the last record. A refusal leaves the records as they were.
@@ -126,6 +117,25 @@ impl Records {
         ensures ok { OnOk result (self.new ≡ add_to_last self.old field.now) }
         ensures err { OnErr result (self.new ≡ self.old) }
     {
-        self.fields.push(field)
+        make_last_long(&mut self.short, &mut self.long)?;
+        self.long.push_field(field)
     }
+}
+
+// Makes the last record a long one, which can grow. A refusal leaves the records as they were.
+fn make_last_long(short: &mut ShortRecords, long: &mut LongRecords) -> Result<(), OutOfMemory>
+    requires { 0 < length (short.old ++ long.old) }
+    ensures kept { short.new ++ long.new ≡ short.old ++ long.old }
+    ensures long { OnOk result (0 < length long.new) }
+{
+    if long.len() > 0 {
+        return Ok(());
+    }
+    short.are_filled_with_text();
+    let mut row = ByteRecord::new(short.allocator());
+    let last = Record::of_short(short.get(short.len() - 1), long.fields());
+    copy_record(&last, &mut row)?;
+    long.push_row(&row)?;
+    short.pop();
+    Ok(())
 }

@@ -1,4 +1,4 @@
-ghost use Rattle.std.specs.Prelude.{◌≡◌, ◌<◌, ◌≤◌, ◌-◌, ◌++◌, ◌∷◌, [], length, take, drop, IfOk, OnOk, OnErr, slice_index_or};
+ghost use Rattle.std.specs.Prelude.{◌≡◌, ◌<◌, ◌≤◌, ◌-◌, ◌++◌, ◌∷◌, [], length, take, drop, OnOk, OnErr, slice_index_or};
 ghost use Rattle.std.specs.List.{concat};
 ghost use Rattle.csv.specs.Records.{AllText, IsRecord, fields_of};
 ghost use Rattle.gtfs_table.specs.Parts.{starts_of, TellsFields};
@@ -38,14 +38,12 @@ impl Texts {
         }
     }
 
-    // No text yet, and room for this many texts that come to this many bytes.
-    pub(crate) fn with_room(alloc: Global, count: usize, size: usize) -> Result<Texts, OutOfMemory>
-        ensures { IfOk result (λ texts. texts ≡ []) }
+    // Makes room for this many more texts that come to this many bytes.
+    pub(crate) fn reserve(&mut self, count: usize, size: usize) -> Result<(), OutOfMemory>
+        ensures { self.new ≡ self.old }
     {
-        Ok(Texts {
-            bytes: Vec::with_capacity(alloc, size)?,
-            starts: Offsets::with_room(alloc, count)?,
-        })
+        self.bytes.reserve(size)?;
+        self.starts.reserve(count)
     }
 
     pub(crate) fn len(&self) -> usize

@@ -33,7 +33,8 @@ pub(crate) fn write_records(alloc: Global, records: &Records) -> Result<Vec<u8>,
     }
 }
 
-fn copy_record(fields: &Record<'_>, row: &mut ByteRecord) -> Result<(), OutOfMemory>
+// The fields of a record, as one that `csv` writes.
+pub(crate) fn copy_record(fields: &Record<'_>, row: &mut ByteRecord) -> Result<(), OutOfMemory>
     ensures { OnOk result (fields_of row.new ≡ fields.now) }
 {
     row.clear();

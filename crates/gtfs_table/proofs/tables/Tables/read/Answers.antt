@@ -6,7 +6,7 @@ use Rattle.gtfs_table.specs.Reading.{AreOthers}
 use Rattle.gtfs_devices.specs.declared.folders.FolderFault.{FolderFault}
 use Rattle.gtfs_devices.specs.declared.folders.FolderFault.TheVariants.{OutOfMemory}
 use Rattle.gtfs_table.proofs.EndingFacts.{ends-from, of-fault}
-use Rattle.gtfs_table.proofs.FolderFacts.{calls-then, on_err-always}
+use Rattle.gtfs_table.proofs.FolderFacts.{calls-then, on_err-always, sets-all}
 use Rattle.gtfs_table.proofs.OtherNames.{others-of}
 use Rattle.gtfs_table.proofs.tables.Tables.read.Goals as goal
 
@@ -14,6 +14,13 @@ pub of_names-tables-requires : goal.of_names-tables-requires
 of_names-tables-requires g c =
     let names = c.in_ok-names.names.items in
     subst AreOthers (sym c.in_ok-other_names.ensures) (others-of names c.in_ok-names.ensures.ordered)
+
+pub returns-clause-reads : goal.returns-clause-reads
+returns-clause-reads g c =
+    let names = c.in_ok-names.names.items in
+    let told = g.F.Folders.held c.args.folders.now in
+    let sets = rw (c.names.ensures.unchanged) at c.in_ok-read_files.ensures.sets in
+    sets-all told c.args.dir.now names c.of_names-tables.result c.read_files.new.self c.in_ok-names.ensures.lists (rw (← c.in_ok-other_names.ensures) c.of_names-tables.ensures) sets
 
 pub returns-in_err-read_files-clause-called_until : goal.returns-in_err-read_files-clause-called_until
 returns-in_err-read_files-clause-called_until g c =

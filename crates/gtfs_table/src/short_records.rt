@@ -1,0 +1,117 @@
+ghost use Rattle.std.specs.Prelude.{All, ◌≡◌, ◌<◌, ◌-◌, ◌^◌, ◌++◌, ◌∷◌, [], length, take, IfOk, OnErr, if◌then◌else◌, slice_index_or};
+ghost use Rattle.csv.specs.Records.{AllText, IsRecord, fields_of};
+ghost use Rattle.gtfs_table.specs.Storage.{IsRun, fields_in};
+
+use crate::runs::Runs;
+use csv::ByteRecord;
+use gtfs_field::OutOfMemory;
+use std::alloc::Global;
+use std::marker::Model;
+
+// The most that the fields of a short record and their bytes come to. There is one mark more than
+// fields, so that the last mark is at most what a byte tells.
+const LONGEST: usize = u8::MAX as usize - 1;
+
+// Few large files have shorter records, the commas counted.
+const BYTES_OF_A_RECORD: usize = 32;
+
+// Records of which each is a run of at most 255 bytes: where in the run its first field begins,
+// where each field ends, by one byte each, and the bytes of the fields.
+#[derive(Drop)]
+pub(crate) struct ShortRecords {
+    runs: Runs,
+}
+
+impl Model for ShortRecords {
+    ghost use Rattle.std.specs.Prelude.{List, ℕ};
+
+    ghost Value = { List (List (List ℕ)) };
+
+    ghost use Rattle.gtfs_table.specs.Storage.{short_stored, IsShortStore};
+
+    ghost view = { short_stored };
+
+    ghost invariant = { IsShortStore };
+}
+
+impl ShortRecords {
+    pub(crate) fn new(alloc: Global) -> ShortRecords
+        ensures { result ≡ [] }
+    {
+        ShortRecords {
+            runs: Runs::new(alloc),
+        }
+    }
+
+    // No record yet, and room for about as many as a file of this size has: a record has a mark for
+    // each comma and line end, and one more. Room that is not used is asked for and not touched.
+    pub(crate) fn with_room(alloc: Global, size: usize) -> Result<ShortRecords, OutOfMemory>
+        ensures { IfOk result (λ records. records ≡ []) }
+    {
+        let count = size / BYTES_OF_A_RECORD;
+        Ok(ShortRecords {
+            runs: Runs::with_room(alloc, count, size.saturating_add(count))?,
+        })
+    }
+
+    #[inline(always)]
+    pub(crate) fn len(&self) -> usize
+        ensures count { result ≡ length self.now }
+        ensures small { result < 2 ^ 63 }
+    {
+        self.runs.len()
+    }
+
+    // The run of the record with this number, from 0.
+    #[inline(always)]
+    pub(crate) fn get(&self, i: usize) -> &[u8]
+        requires { i < length self.now }
+        ensures run { IsRun result.now }
+        ensures fields { fields_in result.now ≡ slice_index_or self.now i [] }
+    {
+        self.runs.get(i)
+    }
+
+    // Each record has a field, and each field is UTF-8: facts for callers.
+    pub(crate) fn are_filled_with_text(&self)
+        ensures filled { All (λ fields. 0 < length fields) self.now }
+        ensures text { All AllText self.now }
+    {
+        let _ = &self.runs;
+    }
+
+    pub(crate) fn allocator(&self) -> Global {
+        self.runs.allocator()
+    }
+
+    // How many bytes there is room for.
+    pub(crate) fn room(&self) -> usize {
+        self.runs.room()
+    }
+
+    // Adds a record that `csv` read where it is short enough, and tells whether it did. A refusal
+    // leaves the records as they were.
+    pub(crate) fn push(&mut self, row: &ByteRecord) -> Result<bool, OutOfMemory>
+        requires text { AllText (fields_of row.now) }
+        requires filled { 0 < length (fields_of row.now) }
+        requires whole { IsRecord row.now }
+        ensures ok { IfOk result (λ added. self.new
+            ≡ (if added then self.old ++ fields_of row.now ∷ [] else self.old)) }
+        ensures err { OnErr result (self.new ≡ self.old) }
+    {
+        let size = row.as_slice().len();
+        if size > LONGEST || row.len() > LONGEST - size {
+            return Ok(false);
+        }
+        self.runs.push(row)?;
+        Ok(true)
+    }
+
+    // Takes the last record away.
+    pub(crate) fn pop(&mut self)
+        requires { 0 < length self.old }
+        ensures { self.new ≡ take (length self.old - 1) self.old }
+    {
+        self.runs.pop();
+    }
+}
