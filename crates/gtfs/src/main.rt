@@ -7,16 +7,18 @@ ghost use Rattle.std.specs.Prelude.{◌≢◌, ◌≤◌, IfOk, IfErr};
 ghost use Rattle.std.specs.Io.KnownBytes.{Keeps};
 ghost use Rattle.gtfs_cli.specs.declared.fault.Fault.TheVariants.{OutputFailed};
 
+mod memory;
 mod words;
 
 use gtfs_cli::{Fault, close, run, tell};
 use gtfs_table::{DiskFolders, Out, WriteOut};
+use memory::keep_memory;
 use std::hash::RandomState;
 use std::io;
 use std::io::BufWriter;
 use std::process::ExitCode;
 use std::random::RandomSource;
-use std::rt::Runtime;
+use std::rt::{Env, Runtime};
 use words::read_words;
 
 // How many bytes of the output are sent at a time: some hundred lines of a board.
@@ -35,13 +37,14 @@ fn main(rt: HostRuntime) -> ExitCode {
 
 // Answers the words of the command line, and gives the status. The error output is told nothing but by the library that
 // answers them.
-fn answer<R: Runtime + RandomSource + AllocGlobal, E: Out>(rt: &R, err: &mut E) -> Result<u8, Fault>
+fn answer<R: Runtime + Env + RandomSource + AllocGlobal, E: Out>(rt: &R, err: &mut E) -> Result<u8, Fault>
     ensures statuses { IfOk result (λ status. status ≤ 4) }
     ensures untold { IfErr result (λ fault. fault ≢ OutputFailed
         → Keeps (E.told err.old) (E.told err.new)) }
 {
     let words = read_words(rt)?;
     let random = RandomState::new(rt).map_err(|_| Fault::NoRandomSource)?;
+    let _kept = keep_memory(rt, words.as_slice());
     answer_words(rt, random, words.as_slice(), err)
 }
 
