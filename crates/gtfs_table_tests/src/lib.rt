@@ -2,7 +2,7 @@
 //! without. They call public functions alone.
 //!
 //! - `tables` are files with the records and values that they have, and `offsets` such with many fields and with long
-//!   ones.
+//!   ones; `record_lengths` are records about the lengths at which they are kept in another way.
 //! - `memory_folders` and `disk_folders` are the two devices that hold folders, and `outputs` those that take text.
 //! - `sizes` are outputs, files, folders and records that are larger than those.
 //! - `faults` are the lines and numbers of faults, also of those of `gtfs_field` and `gtfs_days`.
@@ -26,6 +26,8 @@ mod memory_folders;
 mod offsets;
 #[cfg(test)]
 mod outputs;
+#[cfg(test)]
+mod record_lengths;
 #[cfg(test)]
 mod sizes;
 #[cfg(test)]
