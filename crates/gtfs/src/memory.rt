@@ -7,8 +7,8 @@ use std::rt::Env;
 // How many bytes a piece has: 31 MiB. From 32 MiB on the C library always maps memory apart.
 const PIECE: usize = 32_505_856;
 
-// How many pieces: 992 MiB in all.
-const PIECES: usize = 32;
+// How many pieces: 372 MiB in all, for feeds of up to some three million stop times.
+const PIECES: usize = 12;
 
 // How many bytes stand behind the pieces.
 const END: usize = 1_048_576;
