@@ -37,7 +37,10 @@ fn main(rt: HostRuntime) -> ExitCode {
 
 // Answers the words of the command line, and gives the status. The error output is told nothing but by the library that
 // answers them.
-fn answer<R: Runtime + Env + RandomSource + AllocGlobal, E: Out>(rt: &R, err: &mut E) -> Result<u8, Fault>
+fn answer<R: Runtime + Env + RandomSource + AllocGlobal, E: Out>(
+    rt: &R,
+    err: &mut E,
+) -> Result<u8, Fault>
     ensures statuses { IfOk result (λ status. status ≤ 4) }
     ensures untold { IfErr result (λ fault. fault ≢ OutputFailed
         → Keeps (E.told err.old) (E.told err.new)) }
