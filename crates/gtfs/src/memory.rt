@@ -35,9 +35,9 @@ pub fn keep_memory<R: Env + AllocGlobal>(rt: &R, words: &[String]) -> Option<Vec
     Some(end)
 }
 
-// This many pieces, none of which was touched.
+// This many pieces, none of which was touched. Their list has its room at once, so that nothing lies between two pieces.
 fn pieces(alloc: Global, count: usize) -> Option<Vec<Vec<u8>>> {
-    let mut pieces = Vec::new(alloc);
+    let mut pieces = Vec::with_capacity(alloc, count).ok()?;
     for _ in 0..count {
         let piece: Vec<u8> = Vec::with_capacity(alloc, PIECE).ok()?;
         pieces.push(piece).ok()?;
