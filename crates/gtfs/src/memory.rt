@@ -2,9 +2,10 @@
 
 use std::alloc::Global;
 use std::env;
+use std::env::VarError;
 use std::rt::Env;
 
-// How many bytes a piece has: 31 MiB. From 32 MiB on the C library always maps memory apart.
+// How many bytes a piece has: 31 MiB. From 32 MiB on the C library maps memory apart where its heap has no room.
 const PIECE: usize = 32_505_856;
 
 // How many pieces: 372 MiB in all, for feeds of up to some three million stop times.
@@ -14,13 +15,13 @@ const PIECES: usize = 12;
 const END: usize = 1_048_576;
 
 /// Has the C library keep what is given back, as long as the answer lives: then tables, rows and lists that follow each
-/// other share pages, where each page that the system gives anew costs more than what is done with it. What is asked for
-/// here is never touched, so it takes no memory.
+/// other share pages, and the system need not give them anew. What is asked for here is never touched, so it takes no
+/// memory.
 ///
 /// None where a merge is asked for, whose two feeds and their texts would leave holes between them, where memory is
 /// refused, and where `GLIBC_TUNABLES` is set: who sets it tunes the library.
 pub fn keep_memory<R: Env + AllocGlobal>(rt: &R, words: &[String]) -> Option<Vec<u8>> {
-    let is_tuned = env::var(rt, "GLIBC_TUNABLES").is_ok();
+    let is_tuned = !matches!(env::var(rt, "GLIBC_TUNABLES"), Err(VarError::NotPresent));
     let is_merge = words.get(1).is_some_and(|word| word.as_str() == "merge");
     if is_tuned || is_merge {
         return None;

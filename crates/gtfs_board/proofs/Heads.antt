@@ -29,9 +29,6 @@ module _ {C : Type 0} {lt : C → C → Bool} (o : IsStrict lt) where
   tally-option x None r = omega arith
   tally-option x (Some y) r = refl
 
-  pub holds-is : (x y : C) → holds lt x (Some y) ≡ true → x ≡ y
-  holds-is x y h = same-is o x y h
-
   pub holds-some : (x : C) (e : Option C) → holds lt x e ≡ true → e ≡ Some x
   holds-some x None h = absurd (false≢true h)
   holds-some x (Some y) h = ap Some (sym (same-is o x y h))

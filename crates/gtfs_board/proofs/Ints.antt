@@ -1,5 +1,5 @@
 use Rattle.std.proofs.Common.{◌≡◌, ◌<◌, false, ◌⊎◌, inl, inr, arith, w32, to_z, of_z}
-use Rattle.std.specs.Prelude.{ℤ, pos, negsuc, ◌+ℤ◌, ◌*ℤ◌, int_lt, ◌<ℤ◌, ◌≤ℤ◌, ◌-ℤ◌, unsigned_abs}
+use Rattle.std.specs.Prelude.{ℤ, pos, negsuc, ◌+ℤ◌, int_lt, ◌<ℤ◌, ◌≤ℤ◌, ◌-ℤ◌, unsigned_abs}
 use Rattle.std.proofs.lemmas.Int.{ints, to_z-of_z}
 use Rattle.gtfs_field.proofs.NumberFacts.{abs-above, cases_int}
 
@@ -18,17 +18,11 @@ closer top day next up to =
     let b = abs-above top next to in
     omega (arith, ints, a, b, up)
 
-pub low_stays : (low a b : ℤ) → low ≤ℤ (a *ℤ pos 86_400) → a ≤ℤ b → low ≤ℤ (b *ℤ pos 86_400)
-low_stays low a b h up = omega (arith, ints, h, up)
-
 pub up_more : (a b d : ℤ) → a ≤ℤ b → (b +ℤ pos 1) ≤ℤ d → a ≤ℤ d
 up_more a b d h up = omega (arith, ints, h, up)
 
 pub le_chain : (a b d : ℤ) → a ≤ℤ b → b ≤ℤ d → a ≤ℤ d
 le_chain a b d h up = omega (arith, ints, h, up)
-
-pub le_self : (a : ℤ) → a ≤ℤ a
-le_self a = omega (arith, ints)
 
 -- ---- days
 

@@ -1,13 +1,13 @@
 -- The order of keys: total, only equal keys tie, and what it says of the instants.
-use Rattle.std.proofs.Common.{◌≡◌, true, ℤ, ◌<ℤ◌, ◌≤ℤ◌, refl, sym, ap, ◌∙◌, arith}
+use Rattle.std.proofs.Common.{◌≡◌, true, ℤ, ◌<ℤ◌, ◌≤ℤ◌, refl, ap, ◌∙◌, arith}
 use Rattle.std.proofs.lemmas.Int.{ints}
-use Rattle.std.proofs.lemmas.Cmp.{nat_cmp_total, int_cmp_total, nat_list_cmp_total, then_total, on_total, tied_itself}
-use Rattle.std.specs.Cmp.{IsTotalOrder, int_ranks, int_cmp_is}
+use Rattle.std.proofs.lemmas.Cmp.{nat_cmp_total, int_cmp_total, nat_list_cmp_total, then_total, on_total}
+use Rattle.std.specs.Cmp.{IsTotalOrder}
 use Rattle.std.specs.FinMap.{IsAntisymmetric, nat_cmp-IsAntisymmetric, int_cmp-IsAntisymmetric, slice_cmp-IsAntisymmetric}
-use Rattle.std.specs.Ordering.{ordering_then, is_lt, int_cmp, MatchOrdering}
+use Rattle.std.specs.Ordering.{ordering_then, is_lt, MatchOrdering}
 use Rattle.std.specs.declared.cmp.Ordering.{Ordering}
 use Rattle.std.specs.declared.cmp.Ordering.TheVariants.{Less, Equal, Greater}
-use Rattle.gtfs_field.proofs.OrderingFacts.{less, tied_first, tied_second}
+use Rattle.gtfs_field.proofs.OrderingFacts.{tied_first, tied_second}
 use Rattle.gtfs_rows.specs.Key.{Key, key_cmp}
 
 -- ---- five comparisons, one after the other
@@ -49,21 +49,9 @@ key_cmp-IsAntisymmetric a b e =
 
 -- ---- the same as tests
 
-pub key_lt_trans : (a b c : Key) → is_lt (key_cmp a b) ≡ true → is_lt (key_cmp b c) ≡ true → is_lt (key_cmp a c) ≡ true
-key_lt_trans a b c h k = ap is_lt (key_cmp_total.trans a b c (less (key_cmp a b) h) (less (key_cmp b c) k))
-
-pub key_lt_irrefl : (a : Key) → is_lt (key_cmp a a) ≡ true → ⊥
-key_lt_irrefl a h = let tied = tied_itself key_cmp_total a in cc (sym (less (key_cmp a a) h) ∙ tied)
-
 -- ---- keys and their instants
 
 not_later : (x y : ℤ) (r s : Ordering) → MatchOrdering r (x <ℤ y) (x ≡ y) (y <ℤ x) → is_lt (ordering_then r s) ≡ true → x ≤ℤ y
 not_later x y Less s ranks h = omega (arith, ints, ranks)
 not_later x y Equal s ranks h = omega (arith, ints, ranks)
 not_later x y Greater s ranks h = cc h
-
-pub key_lt-instant : (a b : Key) → is_lt (key_cmp a b) ≡ true → a.instant ≤ℤ b.instant
-key_lt-instant a b h = not_later a.instant b.instant (int_cmp a.instant b.instant) _ (int_ranks a.instant b.instant) h
-
-pub key_lt-earlier : (a b : Key) → a.instant <ℤ b.instant → is_lt (key_cmp a b) ≡ true
-key_lt-earlier a b h = rw (sym (int_cmp_is a.instant b.instant Less h)) refl

@@ -4,20 +4,19 @@ use Rattle.std.specs.Prelude.{slice_index}
 use Rattle.std.specs.Char.{is_ascii_digit}
 use Rattle.std.specs.Fmt.{decimal, signed_decimal}
 use Rattle.std.specs.Str.{all_ascii_digits}
-use Rattle.std.proofs.lemmas.Bool.{and_from, and_parts, and_right, cases_lt, le-leb as at_most, or_left, or_right}
+use Rattle.std.proofs.lemmas.Bool.{and_from, and_parts, cases_lt, le-leb as at_most, or_left, or_right}
 use Rattle.std.proofs.lemmas.Bool.Decides.{nat_tests}
 use Rattle.std.proofs.lemmas.Fmt.{decimal_digit, decimal_nonempty, first_decimal, length-decimal-le}
 use Rattle.gtfs_field.specs.Calendar.{date_of_day}
 use Rattle.gtfs_field.specs.Canonical.{date_text}
-use Rattle.gtfs_field.specs.Digits.{is_number, number, wide}
+use Rattle.gtfs_field.specs.Digits.{number, wide}
 use Rattle.gtfs_field.specs.Kinds.{date_of, instant_of, is_minus, is_plain_number, shaped, within}
 use Rattle.gtfs_field.specs.declared.fault.FieldFault.{FieldFault}
-use Rattle.gtfs_field.specs.declared.fault.FieldFault.TheVariants.{Form}
 use Rattle.gtfs_field.proofs.Dates.{date_of-text}
 use Rattle.gtfs_field.proofs.Numerals.{digits-append}
 use Rattle.gtfs_field.proofs.Texts.{decimal-digits, decimal-is_number, number-decimal}
 use Rattle.gtfs_field.proofs.Wides.{wide-digits}
-use Rattle.gtfs_field.proofs.Choices.{shaped-false, shaped-true, within-true}
+use Rattle.gtfs_field.proofs.Choices.{shaped-true, within-true}
 use Rattle.gtfs_rows.specs.Key.{Key, IsInRange, last_run, last_sequence}
 use Rattle.gtfs_board.specs.KeyTexts.{key_text, key_of, plain_up_to, and_then}
 use Rattle.gtfs_board.specs.Parts.{LacksSlash, AreTexts}
@@ -51,43 +50,21 @@ key_from has_shape instant trip run sequence day = shaped has_shape (and_then (i
 by_parts : (t i trip r s d : List ℕ) → AreTexts t i trip r s d → key_of t ≡ key_from true i trip r s d
 by_parts t i trip r s d p = λ j. key_from (p.shape j) (p.instant_is j) (p.trip_is j) (p.run_is j) (p.sequence_is j) (p.day_is j)
 
-pub fails-instant : (t i trip r s d : List ℕ) (e : FieldFault) → AreTexts t i trip r s d → instant_of i ≡ Err e → key_of t ≡ Err e
-fails-instant t i trip r s d e p fault = by_parts t i trip r s d p ∙ stops (instant_of i) (with_instant trip r s d) e fault
-
 past_instant : (t i trip r s d : List ℕ) (x : ℤ) → AreTexts t i trip r s d → instant_of i ≡ Ok x → key_of t ≡ with_instant trip r s d x
 past_instant t i trip r s d x p instant = by_parts t i trip r s d p ∙ goes (instant_of i) (with_instant trip r s d) x instant
 
-pub fails-run : (t i trip r s d : List ℕ) (x : ℤ) (e : FieldFault) → AreTexts t i trip r s d → instant_of i ≡ Ok x → plain_up_to last_run r ≡ Err e → key_of t ≡ Err e
-fails-run t i trip r s d x e p instant fault = past_instant t i trip r s d x p instant ∙ stops (plain_up_to last_run r) (with_run x trip s d) e fault
-
 past_run : (t i trip r s d : List ℕ) (x : ℤ) (n : ℕ) → AreTexts t i trip r s d → instant_of i ≡ Ok x → plain_up_to last_run r ≡ Ok n → key_of t ≡ with_run x trip s d n
 past_run t i trip r s d x n p instant run = past_instant t i trip r s d x p instant ∙ goes (plain_up_to last_run r) (with_run x trip s d) n run
-
-pub fails-sequence : (t i trip r s d : List ℕ) (x : ℤ) (n : ℕ) (e : FieldFault) → AreTexts t i trip r s d → instant_of i ≡ Ok x → plain_up_to last_run r ≡ Ok n
-    → plain_up_to last_sequence s ≡ Err e → key_of t ≡ Err e
-fails-sequence t i trip r s d x n e p instant run fault = past_run t i trip r s d x n p instant run ∙ stops (plain_up_to last_sequence s) (with_sequence x trip n d) e fault
 
 past_sequence : (t i trip r s d : List ℕ) (x : ℤ) (n m : ℕ) → AreTexts t i trip r s d → instant_of i ≡ Ok x → plain_up_to last_run r ≡ Ok n
     → plain_up_to last_sequence s ≡ Ok m → key_of t ≡ with_sequence x trip n d m
 past_sequence t i trip r s d x n m p instant run sequence = past_run t i trip r s d x n p instant run ∙ goes (plain_up_to last_sequence s) (with_sequence x trip n d) m sequence
 
-pub fails-day : (t i trip r s d : List ℕ) (x : ℤ) (n m : ℕ) (e : FieldFault) → AreTexts t i trip r s d → instant_of i ≡ Ok x → plain_up_to last_run r ≡ Ok n
-    → plain_up_to last_sequence s ≡ Ok m → date_of d ≡ Err e → key_of t ≡ Err e
-fails-day t i trip r s d x n m e p instant run sequence fault = past_sequence t i trip r s d x n m p instant run sequence ∙ stops (date_of d) (with_day x trip n m) e fault
-
 pub reads : (t i trip r s d : List ℕ) (x : ℤ) (n m : ℕ) (y : ℤ) → AreTexts t i trip r s d → instant_of i ≡ Ok x → plain_up_to last_run r ≡ Ok n
     → plain_up_to last_sequence s ≡ Ok m → date_of d ≡ Ok y → key_of t ≡ with_day x trip n m y
 reads t i trip r s d x n m y p instant run sequence day = past_sequence t i trip r s d x n m p instant run sequence ∙ goes (date_of d) (with_day x trip n m) y day
 
-pub no_shape : (t : List ℕ) (r : Result Key FieldFault) → shaped false r ≡ Err Form
-no_shape t r = refl
-
 -- ---- numbers with no zero in front
-
-pub plain-zero_in_front : (b : ℕ) (t : List ℕ) (limit : ℕ) → plain_up_to limit (48 ∷ b ∷ t) ≡ Err Form
-plain-zero_in_front b t limit =
-    let longer : (length (48 ∷ b ∷ t) == 1) ≡ false = grind (arith, nat_tests) in
-    shaped-false _ _ (and_right (is_number (48 ∷ b ∷ t)) _ (rw longer refl))
 
 plain-decimal : (n : ℕ) → n < 2 ^ 64 → is_plain_number (decimal n) ≡ true
 plain-decimal n fits = and_from _ _ (decimal-is_number n fits) (front n fits (cases_lt 0 n))

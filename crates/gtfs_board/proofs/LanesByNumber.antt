@@ -7,11 +7,6 @@ use Rattle.gtfs_field.proofs.ListFacts.{mapped_at}
 use Rattle.gtfs_runs.specs.StopLanes.{LaneValue, StopLanesValue, lanes_of}
 use Rattle.gtfs_board.specs.LaneDays.{lane_at, no_lane}
 
-got_left : {X : Type 0} (xs ys : List X) (i : ℕ) (x : X) → slice_get xs i ≡ Some x → slice_get (xs ++ ys) i ≡ Some x
-got_left [] ys i x at = cc
-got_left (z ∷ xs) ys zero x at = at
-got_left (z ∷ xs) ys (suc i) x at = got_left xs ys i x at
-
 got_right : {X : Type 0} (xs ys : List X) (i : ℕ) → length xs ≤ i → slice_get (xs ++ ys) i ≡ slice_get ys (i - length xs)
 got_right [] ys i past = ap (slice_get ys) (omega arith)
 got_right (z ∷ xs) ys zero past = absurd (omega (arith, past))
@@ -29,19 +24,9 @@ module _ (lanes : StopLanesValue) (i : ℕ) where
   lane-is l at = sym (get_or_from_slice_get (lanes_of lanes) i l no_lane at)
 
   module _ {A : Type 0} (f : A → LaneValue) (xs : List A) (lists : map f xs ≡ lanes.lists) where
-    pub is_list : (x : A) → i < length xs → x ≡ get_or xs i x → f x ≡ lane_at lanes i
-    is_list x inside is =
-        lane-is (f x) (got_left (lanes.lists ++ lanes.periods) lanes.filled i (f x) (got_left lanes.lists lanes.periods i (f x) (there f xs lanes.lists i x lists inside is)))
-
     module _ {B : Type 0} (g : B → LaneValue) (ys : List B) (periods : map g ys ≡ lanes.periods) (past : length xs ≤ i) where
       many : length lanes.lists ≡ length xs
       many = count f xs lanes.lists lists
-
-      pub is_period : (y : B) → i - length xs < length ys → y ≡ get_or ys (i - length xs) y → g y ≡ lane_at lanes i
-      is_period y inside is =
-          lane-is (g y) (got_left (lanes.lists ++ lanes.periods) lanes.filled i (g y)
-          (got_right lanes.lists lanes.periods i (omega (arith, past, many)) ∙ ap (λ n. slice_get lanes.periods (i - n)) many
-          ∙ there g ys lanes.periods (i - length xs) y periods inside is))
 
       module _ {C : Type 0} (h : C → LaneValue) (zs : List C) (filled : map h zs ≡ lanes.filled) (beyond : length ys ≤ i - length xs) where
         both : length (lanes.lists ++ lanes.periods) ≡ length xs + length ys

@@ -1,5 +1,5 @@
 use Rattle.std.specs.List.{All, AllByRecursion}
-use Rattle.std.proofs.Common.{◌≡◌, ◌<◌, length, get_or, Bool, true, List, [], ◌∷◌, ◌++◌, ◌⊎◌, inl, inr, Some, refl, sym, ◌∙◌, ap, subst, arith, find}
+use Rattle.std.proofs.Common.{◌≡◌, Bool, true, List, [], ◌∷◌, ◌++◌, ◌⊎◌, inl, inr, Some, refl, sym, ◌∙◌, ap, subst, arith, find}
 use Rattle.std.proofs.lemmas.List.Elements.{All-tail}
 use Rattle.std.proofs.lemmas.Bool.{true≢false, false≢true, cases_Bool}
 use Rattle.gtfs_board.specs.merge.Order.{IsStrict, In, Each, AscendsBy, same, IsUpward}
@@ -46,10 +46,6 @@ module _ {C : Type 0} {lt : C → C → Bool} (o : IsStrict lt) where
       | inr later ↦ let r = find-least p up ys a.1 x later is in (r.0, rw isnt r.1, r.2)
     ]
   ]
-
-pub in-first : {C : Type 0} (xs : List C) (x : C) → 0 < length xs → x ≡ get_or xs 0 x → In x xs
-in-first [] x h e = absurd (omega arith)
-in-first (y ∷ ys) x h e = inl e
 
 pub each_from_recursion : {C : Type 0} (P : C → Type 0) (xs : List C) → AllByRecursion P xs → Each P xs
 each_from_recursion P [] h = tt

@@ -63,12 +63,6 @@ nothing_got : {C : Type 0} (xs : List C) → length xs ≤ length xs - 1 → xs 
 nothing_got [] h = refl
 nothing_got (x ∷ xs) h = absurd (omega arith)
 
-pub nothing_last : {C : Type 0} (xs : List C) → slice_get xs (length xs - 1) ≡ None → xs ≡ []
-nothing_last xs none = elim (slice_get_cases xs (length xs - 1)).1 [
-  | inl there ↦ let e = there.2 in absurd (cc)
-  | inr past ↦ nothing_got xs past.0
-]
-
 both : (P : Candidate → Type 0) (xs ys : List Candidate) → Each P xs → Each P ys → Each P (xs ++ ys)
 both P [] ys first second = second
 both P (x ∷ xs) ys first second = (first.0, both P xs ys first.1 second)

@@ -133,17 +133,6 @@ all-in P [] all x there = absurd there
 all-in P (y ∷ ys) all x there = elim there [ inl e ↦ subst P (sym e) (All-head P y ys all) | inr later ↦ all-in P ys (All-tail P y ys all) x later ]
 
 module _ (p : Parts) (sound : IsSoundParts p) where
-  -- the trip of each number
-  pub trip-at : (n : ℕ) → n < length p.trips → (t : Trip) × (slice_get (content_of_parts p).trips n ≡ Some t)
-  trip-at n within =
-      let d = some_of p.trips n within in
-      let rows : n < length (stop_rows_by_trip p) = omega (arith, within, length-parts p.stop_row_starts p.stop_rows, sound.stop_rows.0) in
-      let periods : n < length (frequencies_by_trip p) = omega (arith, within, length-parts p.frequency_starts p.frequencies, sound.frequencies.0) in (
-        trip_of p (get_or p.trips n d) (get_or (stop_rows_by_trip p) n []) (get_or (frequencies_by_trip p) n []),
-        content_trip p n (get_or p.trips n d) (get_or (stop_rows_by_trip p) n []) (get_or (frequencies_by_trip p) n [])
-            (slice_get-get_or p.trips n d within) (slice_get-get_or (stop_rows_by_trip p) n [] rows) (slice_get-get_or (frequencies_by_trip p) n [] periods),
-      )
-
   pub trip-id : (n : ℕ) (t : Trip) → slice_get (content_of_parts p).trips n ≡ Some t → text_of_number (trip_ids p) n ≡ t.trip_id
   trip-id n t at = let r = trip-of p n t at in text_at (λ x. x.trip_id) p.trips n r.row r.at_trip ∙ ap (λ (x : Trip). x.trip_id) r.is
 
@@ -228,7 +217,7 @@ module _ (p : Parts) (sound : IsSoundParts p) where
   -- no stop time is left after 999:59:59
   pub late-rows : (n : ℕ) (rs : List StopRow) → slice_get (stop_rows_by_trip p) n ≡ Some rs → (k : ℕ) (d : StopRow) → k < length rs → unwrap_or (left_at (get_or rs k d)) 0 ≤ 3_599_999
   late-rows n rs at_rows k d inside =
-      let within : n < length p.trips = omega (arith, slice_get_within (stop_rows_by_trip p) n rs at_rows, length-parts p.stop_row_starts p.stop_rows, sound.stop_rows.0) in
+      let within : n < length p.trips = omega (arith, slice_get_within (stop_rows_by_trip p) n rs at_rows, length-parts p.stop_times.starts p.stop_times.rows, sound.stop_rows.0) in
       let periods : n < length (frequencies_by_trip p) = omega (arith, within, length-parts p.frequency_starts p.frequencies, sound.frequencies.0) in
       let e = some_of p.trips n within in
       left-within p sound n (get_or p.trips n e) rs (get_or (frequencies_by_trip p) n []) (slice_get-get_or p.trips n e within) at_rows (slice_get-get_or (frequencies_by_trip p) n [] periods) k d inside
@@ -238,7 +227,7 @@ module _ (p : Parts) (sound : IsSoundParts p) where
       → ((row : TripRow) (fs : List Frequency) → o ≡ option_and_then (time_passed (trip_of p row rs fs) c.start) (row_at (trip_of p row rs fs) position)) → o ≡ time_of_column (content_of_parts p) position c
   column-time c position rs o at_rows is =
       let n = c.trip.0 in
-      let within : n < length p.trips = omega (arith, slice_get_within (stop_rows_by_trip p) n rs at_rows, length-parts p.stop_row_starts p.stop_rows, sound.stop_rows.0) in
+      let within : n < length p.trips = omega (arith, slice_get_within (stop_rows_by_trip p) n rs at_rows, length-parts p.stop_times.starts p.stop_times.rows, sound.stop_rows.0) in
       let periods : n < length (frequencies_by_trip p) = omega (arith, within, length-parts p.frequency_starts p.frequencies, sound.frequencies.0) in
       let e = some_of p.trips n within in
       let row = get_or p.trips n e in

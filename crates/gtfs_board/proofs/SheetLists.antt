@@ -163,11 +163,6 @@ mapped-more g f xs n x old new y within item so_far pushed is =
     rw (add-one, take-suc xs n x within, map-append f (take n xs) (get_or xs n x ∷ []))
     (ap (map g) pushed ∙ map-append g old (y ∷ []) ∙ (λ i. so_far i ++ (is ∙ ap f item) i ∷ []))
 
-pub ranged-more : {Y Z : Type 0} (g : Y → Z) (f : ℕ → Z) (n : ℕ) (old new : List Y) (y : Y) → map g old ≡ map f (range_with_len 0 n) → new ≡ old ++ y ∷ [] → g y ≡ f n
-    → map g new ≡ map f (range_with_len 0 (n + 1))
-ranged-more g f n old new y so_far pushed is =
-    ap (map g) pushed ∙ map-append g old (y ∷ []) ∙ (λ i. so_far i ++ is i ∷ []) ∙ sym (map-range_with_len_more f 0 n n (omega arith))
-
 pub ranged-pushed : {Z : Type 0} (f : ℕ → Z) (n : ℕ) (old new : List Z) (z : Z) → old ≡ map f (range_with_len 0 n) → new ≡ old ++ z ∷ [] → z ≡ f n → new ≡ map f (range_with_len 0 (n + 1))
 ranged-pushed f n old new z so_far pushed is = pushed ∙ (λ i. so_far i ++ is i ∷ []) ∙ sym (map-range_with_len_more f 0 n n (omega arith))
 

@@ -305,7 +305,7 @@ module _ (p : Parts) (sound : IsSoundParts p) (route : ℕ) (xs : List Pattern) 
 
       rows-there : (n : ℕ) → n < length p.trips → slice_get (stop_rows_by_trip p) n ≡ Some (rows_of_number p n)
       rows-there n within =
-          let inside : n < length (stop_rows_by_trip p) = omega (arith, within, length-parts p.stop_row_starts p.stop_rows, sound.stop_rows.0) in
+          let inside : n < length (stop_rows_by_trip p) = omega (arith, within, length-parts p.stop_times.starts p.stop_times.rows, sound.stop_rows.0) in
           let at = slice_get-get_or (stop_rows_by_trip p) n [] inside in
           at ∙ ap Some (sym (ap (λ o. unwrap_or o []) at))
 

@@ -5,7 +5,7 @@ use Rattle.std.specs.Borrow.{Bor}
 use Rattle.std.specs.Char.{is_ascii_digit}
 use Rattle.std.specs.List.{list_any, before_first, after_first, before_last, after_last, position_or_len, suffix_len}
 use Rattle.std.specs.Str.{all_ascii_digits}
-use Rattle.std.proofs.lemmas.Bool.{and_parts, and_left, and_right, and_from, or_parts, or_from}
+use Rattle.std.proofs.lemmas.Bool.{and_parts, and_right, and_from, or_parts, or_from}
 use Rattle.std.proofs.lemmas.Bool.Decides.{nat_tests}
 use Rattle.std.proofs.lemmas.List.{get_or-append_right}
 use Rattle.std.specs.Str.Pattern.{RFindsChar, SplitsAroundMatch}
@@ -141,13 +141,6 @@ below_four n few = grind (arith, nat_tests)
 
 too_few : (t : List ℕ) → count_by is_slash t < 4 → has_key_shape t ≡ false
 too_few t few = and_right (slice_index t 0 == 64) (nat_le 4 (count_by is_slash t)) (below_four (count_by is_slash t) few)
-
-no_at : (b : ℕ) → b ≢ 64 → (b == 64) ≡ false
-no_at b other = grind (arith, nat_tests)
-
-pub shape-no_at : (t : List ℕ) → ((rest : List ℕ) → t ≢ 64 ∷ rest) → has_key_shape t ≡ false
-shape-no_at [] other = refl
-shape-no_at (b ∷ t) other = and_left (b == 64) (nat_le 4 (count_by is_slash (b ∷ t))) (no_at b (λ same. other t (ap (λ x. x ∷ t) same)))
 
 count-at : (t rest : List ℕ) → t ≡ 64 ∷ rest → count_by is_slash t ≡ count_by is_slash rest
 count-at t rest at = ap (count_by is_slash) at ∙ (one_byte 64 rest ∙ zero-add (count_by is_slash rest))

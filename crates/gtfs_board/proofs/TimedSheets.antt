@@ -143,7 +143,7 @@ module _ (p : Parts) (sound : IsSoundParts p) where
       → ((row : TripRow) (fs : List Frequency) → ts ≡ map (λ i. option_and_then (table.time_passed (trip_of p row rs fs) c.start) (row_at (trip_of p row rs fs) i)) (range_with_len 0 n))
       → ts ≡ times_of_column (content_of_parts p) n c
   column-times c n rs ts at_rows is =
-      let within : c.trip.0 < length p.trips = omega (arith, slice_get_within (stop_rows_by_trip p) c.trip.0 rs at_rows, length-parts p.stop_row_starts p.stop_rows, sound.stop_rows.0) in
+      let within : c.trip.0 < length p.trips = omega (arith, slice_get_within (stop_rows_by_trip p) c.trip.0 rs at_rows, length-parts p.stop_times.starts p.stop_times.rows, sound.stop_rows.0) in
       let row = (some_of p.trips c.trip.0 within) in
       is row [] ∙ (λ z. map (λ i. column-time p sound c i rs (option_and_then (table.time_passed (trip_of p row rs []) c.start) (row_at (trip_of p row rs []) i)) at_rows (λ r fs. refl) z) (range_with_len 0 n))
 

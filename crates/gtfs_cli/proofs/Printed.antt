@@ -1,5 +1,5 @@
 -- What was printed of a board, and why there is none.
-use Rattle.std.proofs.Common.{◌≡◌, ℕ, refl, subst, inl, inr, true, false, List, Option, Some, None, codes, arith}
+use Rattle.std.proofs.Common.{◌≡◌, ℕ, refl, subst, inl, inr, true, false, List, Option, Some, None, arith}
 use Rattle.std.specs.Io.KnownBytes.{Keeps}
 use Rattle.gtfs_days.specs.declared.zone.Zone.{Zone}
 use Rattle.gtfs_devices.specs.Folder.{Store}
@@ -12,11 +12,10 @@ use Rattle.gtfs_board.specs.Page.{IsCutShort, IsStopped}
 use Rattle.gtfs_cli.specs.Boards.{request_of, AreValues, EndsBoard, EndsLines, GoesOut, HoldsFeed, IsFeedCause, IsLinesCause, IsOpeningCause, Lists, OfBoard}
 use Rattle.gtfs_commands.specs.Words.{BoardTexts}
 use Rattle.gtfs_cli.specs.Refusals.{IsCause, IsFirstBad, IsReadingCause}
-use Rattle.gtfs_cli.specs.OptionValues.{after_of, first_bad, limit_of, moment_of, HasValues, Request}
+use Rattle.gtfs_cli.specs.OptionValues.{HasValues, Request}
 use Rattle.gtfs_cli.specs.HeldFiles.{HoldsPassing, HoldsTables, HoldsZone}
 use Rattle.gtfs_cli.specs.BoardSetting.{Setting}
 use Rattle.gtfs_cli.specs.Failures.{FailedNowhere, Failures}
-use Rattle.gtfs_cli.specs.declared.commands.moments.Moment.{Moment}
 use Rattle.gtfs_cli.specs.declared.commands.refusal.Refusal.{Refusal}
 use Rattle.gtfs_cli.specs.declared.commands.refusal.Refusal.TheVariants.{BadValue, HasErrors, UnknownStop, UntilBeforeFrom, OutputFailed, OutOfMemory}
 use Rattle.gtfs_cli.specs.declared.commands.values.Values.{Values}
@@ -115,18 +114,3 @@ feed-cause limit held dir before after nowhere d _ holds e = absurd e
 
 pub first-bad-ends : (limit : ℕ) (held : Option Store) (asked : BoardTexts) (r : Refusal) (old new : Option (List ℕ)) → IsFirstBad asked r → Keeps old new → EndsBoard limit held asked old new r
 first-bad-ends limit held asked r old new h keeps = none-out limit held asked 0 0 r old new (λ output. first-bad-cause limit held asked (counts 0 output) (counts 0 output) r h) keeps
-
--- the first option that is bad
-pub bad-from : (asked : BoardTexts) → moment_of asked.from ≡ None → first_bad asked ≡ Some (codes "--from")
-bad-from asked from = rw from refl
-
-pub bad-until : (asked : BoardTexts) (a : Moment) → moment_of asked.from ≡ Some a → moment_of asked.until ≡ None → first_bad asked ≡ Some (codes "--until")
-bad-until asked a from until = rw (from, until) refl
-
-pub bad-limit : (asked : BoardTexts) (a b : Moment) → moment_of asked.from ≡ Some a → moment_of asked.until ≡ Some b → limit_of asked.limit ≡ None
-    → first_bad asked ≡ Some (codes "--limit")
-bad-limit asked a b from until limit = rw (from, until, limit) refl
-
-pub bad-after : (asked : BoardTexts) (a b : Moment) (n : ℕ) → moment_of asked.from ≡ Some a → moment_of asked.until ≡ Some b → limit_of asked.limit ≡ Some n
-    → after_of asked.after ≡ None → first_bad asked ≡ Some (codes "--after")
-bad-after asked a b n from until limit after = rw (from, until, limit, after) refl

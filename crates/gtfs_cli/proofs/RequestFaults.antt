@@ -1,7 +1,6 @@
 -- What is the matter with a line of a file of requests.
-use Rattle.std.proofs.Common.{◌≡◌, ◌∙◌, ℕ, true, false, List, Option, Some, None, refl, sym, ap}
+use Rattle.std.proofs.Common.{◌≡◌, ℕ, true, false, List, Option, Some, None, refl, sym}
 use Rattle.std.specs.Prelude.{bytes_eq, int_lt, is_some, option_map, position}
-use Rattle.std.specs.Option.{option_and_then}
 use Rattle.gtfs_rows.specs.Content.{Content}
 use Rattle.gtfs_rows.specs.Departures.{Origins}
 use Rattle.gtfs_rows.specs.Views.{content_of_parts, stop_ids}
@@ -9,8 +8,8 @@ use Rattle.gtfs_rows.specs.declared.parts.Parts.{Parts}
 use Rattle.gtfs_board.specs.Board.{is_stop}
 use Rattle.gtfs_board.proofs.Opened.{stop_none, stop_some}
 use Rattle.gtfs_times.specs.declared.times.Times.{Times}
-use Rattle.gtfs_cli.specs.Requests.{fault_in, judged, request_from, request_texts, RequestTexts, stop_request, StopRequest}
-use Rattle.gtfs_cli.specs.OptionValues.{instant_at, Request}
+use Rattle.gtfs_cli.specs.Requests.{fault_in, judged, request_from, RequestTexts, stop_request, StopRequest}
+use Rattle.gtfs_cli.specs.OptionValues.{instant_at}
 use Rattle.gtfs_cli.specs.declared.commands.request_fault.RequestFault.TheVariants.{UnknownStop, UntilBeforeFrom}
 
 -- the feed has the stop whose number is found, and no other
@@ -23,18 +22,6 @@ has_stop p s number (Some n) at = (stop_some p s (number n) (sym at)).1.1
 -- its texts, and their values
 abbrev asked_with : Times → RequestTexts → Option StopRequest
 asked_with times t = option_map (λ r. record { texts = t; request = r }) (request_from times t)
-
-pub no_texts : (times : Times) (line : List ℕ) → None ≡ request_texts line → None ≡ stop_request times line
-no_texts times line none = ap (option_and_then (asked_with times)) none
-
-pub no_values : (times : Times) (line : List ℕ) (t : RequestTexts) → Some t ≡ request_texts line → None ≡ request_from times t → None ≡ stop_request times line
-no_values times line t texts none =
-    ap (option_map {T = Request} {U = StopRequest} (λ r. record { texts = t; request = r })) none ∙ ap (option_and_then (asked_with times)) texts
-
-pub asked_for : (times : Times) (line : List ℕ) (t : RequestTexts) (r : Request) → Some t ≡ request_texts line → Some r ≡ request_from times t
-    → Some (record { texts = t; request = r }) ≡ stop_request times line
-asked_for times line t r texts values =
-    ap (option_map {T = Request} {U = StopRequest} (λ q. record { texts = t; request = q })) values ∙ ap (option_and_then (asked_with times)) texts
 
 -- ---- what is the matter with it
 

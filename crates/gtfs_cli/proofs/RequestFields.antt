@@ -19,17 +19,6 @@ pub no_stop : (fs : List (List ℕ)) → slice_get fs 0 ≡ None → None ≡ te
 no_stop [] none = refl
 no_stop (a ∷ rest) none = cc
 
-pub no_from : (fs : List (List ℕ)) → slice_get fs 1 ≡ None → None ≡ texts_in fs
-no_from [] none = refl
-no_from (a ∷ []) none = refl
-no_from (a ∷ b ∷ rest) none = cc
-
-pub no_until : (fs : List (List ℕ)) → slice_get fs 2 ≡ None → None ≡ texts_in fs
-no_until [] none = refl
-no_until (a ∷ []) none = refl
-no_until (a ∷ b ∷ []) none = refl
-no_until (a ∷ b ∷ c ∷ rest) none = cc
-
 pub are_texts : (fs : List (List ℕ)) (stop from until : List ℕ) (limit after : Option (List ℕ)) → is_some (slice_get fs 5) ≡ false
     → slice_get fs 0 ≡ Some stop → slice_get fs 1 ≡ Some from → slice_get fs 2 ≡ Some until
     → limit ≡ option_and_then text_if_any (slice_get fs 3) → after ≡ option_and_then text_if_any (slice_get fs 4)

@@ -1,12 +1,11 @@
 -- Texts of the items of a list that go out one after another.
-use Rattle.std.proofs.Common.{◌≡◌, ◌∙◌, ap, sym, subst, refl, ℕ, ◌+◌, ◌<◌, ◌≤◌, add-one, List, [], ◌∷◌, ◌++◌, append-nil, append_assoc, length, map, take, drop, take-append-drop, get_or, Option}
+use Rattle.std.proofs.Common.{◌≡◌, ◌∙◌, ap, sym, subst, refl, ℕ, ◌+◌, ◌<◌, ◌≤◌, add-one, List, [], ◌∷◌, ◌++◌, append-nil, append_assoc, length, take, drop, take-append-drop, get_or, Option}
 use Rattle.std.specs.Prelude.{flat_map}
 use Rattle.std.specs.Io.KnownBytes.{Appends}
 use Rattle.std.proofs.KnownBytes.{Appends-trans}
 use Rattle.std.proofs.Math.Seq.{take-suc}
 use Rattle.std.proofs.lemmas.List.{take_all}
 use Rattle.std.proofs.lemmas.List.Concat.{flat_map-append}
-use Rattle.std.proofs.lemmas.List.Folds.{flat_map-map}
 use Rattle.gtfs_cli.specs.Sending.{SendsBeginning}
 use Rattle.gtfs_cli.proofs.Parts.{Leaves, all-left, last-cut, one-cut}
 
@@ -44,9 +43,6 @@ module _ {X : Type 0} (f : X → List ℕ) where
       ap (flat_map f) (items-split xs i x inside) ∙ flat_map-append f (take i xs) (get_or xs i x ∷ drop (i + 1) xs) in
       let left : Leaves a b (flat_map f xs) (item ++ past) = record { sent = flat_map f (take i xs); whole = whole; out = out } in
       one-cut a b c (flat_map f xs) (item ++ past) item past left refl begun
-
-pub sequence-of : {X Y : Type 0} (f : Y → List ℕ) (g : X → Y) (xs : List X) (ys : List Y) → map g xs ≡ ys → flat_map (λ x. f (g x)) xs ≡ flat_map f ys
-sequence-of f g xs ys are = sym (flat_map-map f g xs) ∙ ap (flat_map f) are
 
 -- ---- two texts, one after the other
 

@@ -32,11 +32,11 @@ module _ (d : Dataset) (r : FeedRows) (are : AreRowsOf d r) where
       map_alike (stop_named (map (λ s. s.stop_id) r.stops)) (λ s. s.stop_id) (λ s. s.stop_id) (λ s. refl) r.stops ∙ ap (map (λ s. s.stop_id)) are.stops
 
 module _ (d : Dataset) (passes : Passes d) (p : Parts) (are : AreRowsOf d (rows_in p)) (lists : StopTimes) (of : AreStopTimesOf d lists)
-    (rows : p.stop_rows ≡ lists.stop_rows) (starts : p.stop_row_starts ≡ lists.stop_row_starts) (headsigns : p.headsigns ≡ lists.headsigns)
-    (made : map (map (stop_row_of p)) (parts p.stop_row_starts p.stop_rows) ≡ map (λ t. t.stop_rows) (content_of d).trips → content_of_parts p ≡ content_of d) where
+    (times : p.stop_times ≡ lists.stop_times) (headsigns : p.headsigns ≡ lists.headsigns)
+    (made : map (map (stop_row_of p)) (parts p.stop_times.starts p.stop_times.rows) ≡ map (λ t. t.stop_rows) (content_of d).trips → content_of_parts p ≡ content_of d) where
   -- they stand for the content
   pub content_is : content_of_parts p ≡ content_of d
-  content_is = made (rows_in_parts d lists of p rows starts headsigns (stops_named d (rows_in p) are))
+  content_is = made (rows_in_parts d lists of p times headsigns (stops_named d (rows_in p) are))
 
   -- they make a feed
   pub make_a_feed : IsSoundParts p
@@ -45,10 +45,10 @@ module _ (d : Dataset) (passes : Passes d) (p : Parts) (are : AreRowsOf d (rows_
       stops = are.within.stops;
       routes = are.within.routes;
       trips = are.within.trips;
-      stop_rows = numbers_in_parts d lists of p rows starts headsigns (stops_counted d (rows_in p) are);
+      stop_rows = numbers_in_parts d lists of p times headsigns (stops_counted d (rows_in p) are);
       transfers = are.within.transfers;
     };
-    stop_rows = cut_in_parts d lists of p rows starts headsigns (counted d (rows_in p) are);
+    stop_rows = cut_in_parts d lists of p times headsigns (counted d (rows_in p) are);
     frequencies = are.cut;
     content = subst IsSound (sym content_is) (passing_is_sound d passes);
   }

@@ -12,8 +12,8 @@ use std::alloc::Global;
 use std::hash::RandomState;
 use std::marker::Model;
 
-/// A feed of which all is read, before its stop times are copied into their list. It lends nothing of the tables: let
-/// them go first, and the copy finds free what they took. It is seen as the rows of the feed that it becomes.
+/// A feed of which all is read, before its stop times have their places. It lends nothing of the tables: let them go first,
+/// and stop times that have to be copied find free what they took. It is seen as the rows of the feed that it becomes.
 ///
 /// ```text
 /// let draft = FeedDraft::new(alloc, random, passed)?;
@@ -68,7 +68,7 @@ impl FeedDraft {
         ensures { IfOk result (λ feed. feed ≡ self) }
     {
         let FeedDraft { rows, stop_times } = self;
-        let stop_times = stop_times.into_stop_times(alloc)?;
+        let stop_times = stop_times.into_stop_times()?;
         Feed::assemble(alloc, random, joined(rows, stop_times))
     }
 }

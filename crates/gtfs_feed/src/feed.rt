@@ -190,8 +190,7 @@ impl Feed {
         requires { trip.0 < length self.now.trips }
         ensures { slice_get (stop_rows_by_trip self.now) trip.0 ≡ Some result.now }
     {
-        let rows = self.parts.stop_rows.as_slice();
-        stretch(rows, self.parts.stop_row_starts.as_slice(), trip.0)
+        self.parts.stop_times.of_trip(trip.0)
     }
 
     /// The frequencies of the trip of a number, which is below [`Feed::trip_count`], by their start.

@@ -21,6 +21,6 @@ pub use feed::Feed;
 pub use gtfs_rows::{
     Agency, AgencyNo, BikesAllowed, Direction, DropOffType, ExactTimes, Frequency, HeadsignNo,
     LocationType, OptionalClock, OptionalHeadsign, Parts, PickupType, Route, RouteNo, RouteType,
-    ServiceNo, ServiceRow, Stop, StopNo, StopRow, Timepoint, Transfer, TransferType, Trip, TripNo,
-    WheelchairAccessible, WheelchairBoarding,
+    ServiceNo, ServiceRow, Stop, StopNo, StopRow, StopTimesByTrip, Timepoint, Transfer,
+    TransferType, Trip, TripNo, WheelchairAccessible, WheelchairBoarding,
 };

@@ -44,18 +44,16 @@ impl Feed {
 pub(crate) fn joined(rows: FeedRows, stop_times: StopTimes) -> Parts
     ensures whole { result ≡ parts_with rows stop_times }
     ensures rows { rows_in result ≡ rows }
-    ensures stop_rows { result.stop_rows ≡ stop_times.stop_rows }
-    ensures starts { result.stop_row_starts ≡ stop_times.stop_row_starts }
+    ensures stop_times { result.stop_times ≡ stop_times.stop_times }
     ensures headsigns { result.headsigns ≡ stop_times.headsigns }
     ensures content { (d : Dataset) → AreRowsOf d rows
-        → map (map (stop_row_of result)) (parts stop_times.stop_row_starts stop_times.stop_rows)
+        → map (map (stop_row_of result)) (parts stop_times.stop_times.starts stop_times.stop_times.rows)
         ≡ map (λ t. t.stop_rows) (content_of_dataset d).trips
         → content_of_parts result ≡ content_of_dataset d }
 {
     let StopTimes {
-        stop_rows,
-        stop_row_starts,
+        stop_times,
         headsigns,
     } = stop_times;
-    rows.with_stop_times(stop_rows, stop_row_starts, headsigns)
+    rows.with_stop_times(stop_times, headsigns)
 }

@@ -8,7 +8,7 @@ use crate::copied::copied_rows;
 use crate::feed::Feed;
 use gtfs_days::Cut;
 use gtfs_field::{List, OutOfMemory};
-use gtfs_rows::{Parts, ServiceRow};
+use gtfs_rows::{Parts, ServiceRow, StopTimesByTrip};
 use std::alloc::Global;
 use std::hash::RandomState;
 
@@ -51,8 +51,7 @@ fn no_rows(alloc: Global) -> Parts {
         services: List::new(Vec::new(alloc)),
         trips: List::new(Vec::new(alloc)),
         transfers: List::new(Vec::new(alloc)),
-        stop_rows: List::new(Vec::new(alloc)),
-        stop_row_starts: List::new(Vec::new(alloc)),
+        stop_times: StopTimesByTrip::new(List::new(Vec::new(alloc)), List::new(Vec::new(alloc))),
         frequencies: List::new(Vec::new(alloc)),
         frequency_starts: List::new(Vec::new(alloc)),
         headsigns: List::new(Vec::new(alloc)),
@@ -70,8 +69,7 @@ fn fill(alloc: Global, parts: &Parts, cut: &Cut, trimmed: &mut Parts) -> Result<
     trimmed.services = trimmed_services(alloc, parts.services.as_slice(), cut)?;
     trimmed.trips = copied_rows(alloc, parts.trips.as_slice())?;
     trimmed.transfers = same(alloc, parts.transfers.as_slice())?;
-    trimmed.stop_rows = same(alloc, parts.stop_rows.as_slice())?;
-    trimmed.stop_row_starts = same(alloc, parts.stop_row_starts.as_slice())?;
+    trimmed.stop_times = parts.stop_times.copied(alloc)?;
     trimmed.frequencies = same(alloc, parts.frequencies.as_slice())?;
     trimmed.frequency_starts = same(alloc, parts.frequency_starts.as_slice())?;
     trimmed.headsigns = copied_rows(alloc, parts.headsigns.as_slice())?;

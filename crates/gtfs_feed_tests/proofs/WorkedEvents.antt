@@ -82,9 +82,11 @@ small = record {
   services = service (codes "C1") ∷ service (codes "C2") ∷ [];
   trips = trip (codes "T1") 0 ∷ trip (codes "T2") 1 ∷ [];
   transfers = [];
-  stop_rows = row 1 28800 1 pickup.Regular ∷ row 1 28800 2 pickup.Regular ∷ row 1 30600 3 pickup.None ∷ row 1 31000 4 pickup.Regular
-      ∷ row 1 28800 7 pickup.Regular ∷ row 3 29400 9 pickup.Regular ∷ [];
-  stop_row_starts = 0 ∷ 4 ∷ [];
+  stop_times = record {
+    rows = row 1 28800 1 pickup.Regular ∷ row 1 28800 2 pickup.Regular ∷ row 1 30600 3 pickup.None ∷ row 1 31000 4 pickup.Regular
+        ∷ row 1 28800 7 pickup.Regular ∷ row 3 29400 9 pickup.Regular ∷ [];
+    starts = 0 ∷ 4 ∷ [];
+  };
   frequencies = period 21600 25200 1800 ∷ period 25200 28800 1800 ∷ [];
   frequency_starts = 0 ∷ 0 ∷ [];
   headsigns = [];
@@ -154,8 +156,11 @@ untimed s sequence = record (row s 0 sequence pickup.Regular) { arrival_time = N
 
 abbrev between : Parts
 between = record small {
-  stop_rows = row 3 28800 1 pickup.Regular ∷ untimed 1 2 ∷ untimed 1 5 ∷ row 3 29401 9 pickup.Regular
-      ∷ row 1 28800 7 pickup.Regular ∷ row 3 29400 9 pickup.Regular ∷ [];
+  stop_times = record {
+    rows = row 3 28800 1 pickup.Regular ∷ untimed 1 2 ∷ untimed 1 5 ∷ row 3 29401 9 pickup.Regular
+        ∷ row 1 28800 7 pickup.Regular ∷ row 3 29400 9 pickup.Regular ∷ [];
+    starts = 0 ∷ 4 ∷ [];
+  };
 }
 
 -- filled, they are events at 08:03:20 and 08:06:40, and at no other second

@@ -81,8 +81,7 @@ four_trips = record {
   services = [];
   trips = trip 5 None ∷ trip 6 None ∷ trip 5 (Some direction.One) ∷ trip 5 (Some direction.Opposite) ∷ [];
   transfers = [];
-  stop_rows = row 8 1 ∷ row 7 2 ∷ row 7 1 ∷ row 8 2 ∷ row 8 1 ∷ row 7 2 ∷ [];
-  stop_row_starts = 0 ∷ 2 ∷ 4 ∷ 4 ∷ [];
+  stop_times = record { rows = row 8 1 ∷ row 7 2 ∷ row 7 1 ∷ row 8 2 ∷ row 8 1 ∷ row 7 2 ∷ []; starts = 0 ∷ 2 ∷ 4 ∷ 4 ∷ [] };
   frequencies = [];
   frequency_starts = 0 ∷ 0 ∷ 0 ∷ 0 ∷ [];
   headsigns = [];

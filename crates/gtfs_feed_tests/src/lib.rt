@@ -4,7 +4,8 @@
 //!
 //! - `assertions` has assertions as calls, and `named` the numbers of ids and the ids of numbers.
 //! - `full` is one with a value in every column, in texts and orders other than those that are written.
-//! - `ids` has the numbers of ids, `orders` rows in every order, and `rows` what the rows of a feed say.
+//! - `ids` has the numbers of ids, `orders` rows in every order, `places` stop times in every place of their file, and `rows`
+//!   what the rows of a feed say.
 //! - `written` has the written form of feeds, and `again` feeds that are written and read again.
 //! - `events` has what passes a stop, by worked cases, and `lanes` walks the lanes of each of them; `seeks` asks a lane
 //!   from positions between its events, and `unions` all lanes of each stop together.
@@ -38,6 +39,8 @@ mod named;
 mod orders;
 #[cfg(test)]
 mod patterns;
+#[cfg(test)]
+mod places;
 #[cfg(test)]
 mod rows;
 #[cfg(test)]

@@ -78,7 +78,7 @@ fn feed_of(alloc: Global, random: RandomState, tables: &Tables) -> Result<Feed, 
     }
 }
 
-/// The same feed, whose tables are let go before its stop times are copied.
+/// The same feed, whose tables are let go before its stop times have their places.
 pub fn read_by_draft(
     alloc: Global,
     random: RandomState,

@@ -11,7 +11,6 @@ use Rattle.gtfs_rows.specs.Sound.{IsSound}
 use Rattle.gtfs_rows.specs.Trimmed.{first_part, second_part, trimmed, trimmed_row}
 use Rattle.gtfs_rows.proofs.TrimmedSound.{trimmed-sound}
 use Rattle.gtfs_merge.specs.Law.{AreFew}
-use Rattle.gtfs_merge.specs.Merged.{zone_texts_differ}
 use Rattle.gtfs_merge.specs.Merging.{KeepsDepartures}
 use Rattle.gtfs_merge.specs.Near.{nearness}
 use Rattle.gtfs_merge.specs.Renaming.{ids}
@@ -42,10 +41,6 @@ ids-stay c f kind.Trip = refl
 few-parts : (cutoff : Option ℤ) (a b : Content) (k : Kind) → AreFew k a b → AreFew k (first_part cutoff a) (second_part cutoff b)
 few-parts None a b k few = few
 few-parts (Some d) a b k few = subst (λ n. n + 2 < 10 ^ 64) (sym (λ i. length (ids-stay (Before d) a k i) + length (ids-stay (From d) b k i))) few
-
-pub zones-stay : (cutoff : Option ℤ) (a b : Content) → zone_texts_differ (first_part cutoff a) (second_part cutoff b) ≡ zone_texts_differ a b
-zones-stay None a b = refl
-zones-stay (Some d) a b = refl
 
 module _ (near : Option ℕ) (cutoff : Option ℤ) (a b : Content) (day : IsServiceDay cutoff) (sound_a : IsSound a) (sound_b : IsSound b) (few : (k : Kind) → AreFew k a b) where
   pub keeps-departures : KeepsDepartures near cutoff a b

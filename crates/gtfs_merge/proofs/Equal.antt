@@ -8,8 +8,8 @@ use Rattle.gtfs_days.specs.Service.{is_added}
 use Rattle.gtfs_days.specs.declared.exception.Exception.{Exception}
 use Rattle.gtfs_days.specs.declared.exception.Exception.TheVariants.{Added, Removed}
 use Rattle.gtfs_columns.proofs.SiteFacts.{text_is as same_bytes}
-use Rattle.gtfs_rows.specs.Rows.{Agency, Route, Stop, Trip}
-use Rattle.gtfs_merge.specs.Same.{same_agency, same_flag, same_route, same_stop, same_week, same_exception, same_service, same_stop_row, same_frequency, same_trip}
+use Rattle.gtfs_rows.specs.Rows.{Stop, Trip}
+use Rattle.gtfs_merge.specs.Same.{same_flag, same_stop, same_week, same_exception, same_service, same_stop_row, same_frequency, same_trip}
 
 -- a test that only equal values pass
 abbrev pub IsExact : {X : Type 0} → (X → X → Bool) → Type 0
@@ -38,9 +38,6 @@ exact-number = exact-option nat_eq exact-nat
 
 exact-int : IsExact int_eq
 exact-int x y h = (Decides-int_eq x y).0 h
-
-exact-degrees : IsExact (option_eq int_eq)
-exact-degrees = exact-option int_eq exact-int
 
 exact-flag : IsExact same_flag
 exact-flag true true h = refl
@@ -123,75 +120,6 @@ exact-trip a b e h =
       bikes_allowed = exact-nat a.bikes_allowed b.bikes_allowed r.1 i;
       stop_rows = exact-list same_stop_row exact-stop_row a.stop_rows b.stop_rows q.1 i;
       frequencies = exact-list same_frequency exact-frequency a.frequencies b.frequencies p.1 i;
-    }
-
-pub exact-agency : (a b : Agency) → a.agency_id ≡ b.agency_id → same_agency a b ≡ true → a ≡ b
-exact-agency a b e h =
-    let p = and_parts _ _ h in
-    let q = and_parts _ _ p.0 in
-    let r = and_parts _ _ q.0 in
-    let s = and_parts _ _ r.0 in
-    let t = and_parts _ _ s.0 in
-    let u = and_parts _ _ t.0 in
-    λ i. record {
-      agency_id = e i;
-      agency_name = same_bytes a.agency_name b.agency_name u.0 i;
-      agency_url = same_bytes a.agency_url b.agency_url u.1 i;
-      agency_timezone = same_bytes a.agency_timezone b.agency_timezone t.1 i;
-      agency_lang = exact-text a.agency_lang b.agency_lang s.1 i;
-      agency_phone = exact-text a.agency_phone b.agency_phone r.1 i;
-      agency_fare_url = exact-text a.agency_fare_url b.agency_fare_url q.1 i;
-      agency_email = exact-text a.agency_email b.agency_email p.1 i;
-    }
-
-pub exact-stop : (a b : Stop) → a.stop_id ≡ b.stop_id → same_stop a b ≡ true → a ≡ b
-exact-stop a b e h =
-    let p = and_parts _ _ h in
-    let q = and_parts _ _ p.0 in
-    let r = and_parts _ _ q.0 in
-    let s = and_parts _ _ r.0 in
-    let t = and_parts _ _ s.0 in
-    let u = and_parts _ _ t.0 in
-    let v = and_parts _ _ u.0 in
-    let w = and_parts _ _ v.0 in
-    let x = and_parts _ _ w.0 in
-    let y = and_parts _ _ x.0 in
-    λ i. record {
-      stop_id = e i;
-      stop_code = exact-text a.stop_code b.stop_code y.0 i;
-      stop_name = exact-text a.stop_name b.stop_name y.1 i;
-      tts_stop_name = exact-text a.tts_stop_name b.tts_stop_name x.1 i;
-      stop_desc = exact-text a.stop_desc b.stop_desc w.1 i;
-      stop_lat = exact-degrees a.stop_lat b.stop_lat v.1 i;
-      stop_lon = exact-degrees a.stop_lon b.stop_lon u.1 i;
-      stop_url = exact-text a.stop_url b.stop_url t.1 i;
-      location_type = exact-nat a.location_type b.location_type s.1 i;
-      parent_station = exact-text a.parent_station b.parent_station r.1 i;
-      wheelchair_boarding = exact-nat a.wheelchair_boarding b.wheelchair_boarding q.1 i;
-      platform_code = exact-text a.platform_code b.platform_code p.1 i;
-    }
-
-pub exact-route : (a b : Route) → a.route_id ≡ b.route_id → same_route a b ≡ true → a ≡ b
-exact-route a b e h =
-    let p = and_parts _ _ h in
-    let q = and_parts _ _ p.0 in
-    let r = and_parts _ _ q.0 in
-    let s = and_parts _ _ r.0 in
-    let t = and_parts _ _ s.0 in
-    let u = and_parts _ _ t.0 in
-    let v = and_parts _ _ u.0 in
-    let w = and_parts _ _ v.0 in
-    λ i. record {
-      route_id = e i;
-      agency_id = same_bytes a.agency_id b.agency_id w.0 i;
-      route_short_name = exact-text a.route_short_name b.route_short_name w.1 i;
-      route_long_name = exact-text a.route_long_name b.route_long_name v.1 i;
-      route_desc = exact-text a.route_desc b.route_desc u.1 i;
-      route_type = exact-nat a.route_type b.route_type t.1 i;
-      route_url = exact-text a.route_url b.route_url s.1 i;
-      route_color = exact-nat a.route_color b.route_color r.1 i;
-      route_text_color = exact-nat a.route_text_color b.route_text_color q.1 i;
-      route_sort_order = exact-number a.route_sort_order b.route_sort_order p.1 i;
     }
 
 -- of stops the laws of departures read the type and the parent alone

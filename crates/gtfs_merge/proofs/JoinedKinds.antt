@@ -33,8 +33,8 @@ ids-known kind.Agency p sound = map-map (λ a. a.agency_id) agency_of p.agencies
 ids-known kind.Stop p sound = map-map (λ s. s.stop_id) (stop_of p) p.stops
 ids-known kind.Route p sound = map-map (λ r. r.route_id) (route_of p) p.routes
 ids-known kind.Service p sound = map-map (λ s. s.service_id) service_of p.services
-ids-known kind.Trip p sound = trip_ids-kept p p.trips (parts p.stop_row_starts p.stop_rows) (parts p.frequency_starts p.frequencies)
-    (length-parts p.stop_row_starts p.stop_rows ∙ sound.stop_rows.0) (length-parts p.frequency_starts p.frequencies ∙ sound.frequencies.0)
+ids-known kind.Trip p sound = trip_ids-kept p p.trips (parts p.stop_times.starts p.stop_times.rows) (parts p.frequency_starts p.frequencies)
+    (length-parts p.stop_times.starts p.stop_times.rows ∙ sound.stop_rows.0) (length-parts p.frequency_starts p.frequencies ∙ sound.frequencies.0)
 
 pub few-known : (k : Kind) (sides : Sides) → IsSoundParts sides.a.now → IsSoundParts sides.b.now → length (known_ids k sides.a.now) < 2 ^ 64 → length (known_ids k sides.b.now) < 2 ^ 64 → length (ids k (content_of_parts sides.a.now)) + length (ids k (content_of_parts sides.b.now)) < 2 ^ 65
 few-known k sides sound_a sound_b small_p small_q =

@@ -129,7 +129,7 @@ module _ (sides : Sides) (sound_a : IsSoundParts sides.a.now) (sound_b : IsSound
   trips-own : map (as_named m) r.trips ≡ map without_rows (merged_parts sides).trips
   trips-own = (λ i. map (trip_named (routes-are i) (services-are i)) r.trips) ∙ are_r.trips
 
-  trips-rows : map (map (stop_row_of m)) (parts m.stop_row_starts m.stop_rows) ≡ map (λ u. u.stop_rows) (merged_parts sides).trips
+  trips-rows : map (map (stop_row_of m)) (parts m.stop_times.starts m.stop_times.rows) ≡ map (λ u. u.stop_rows) (merged_parts sides).trips
   trips-rows = (λ i. map (map (stop_row_named (stops-are i) hs.texts)) (are_st.stretches i)) ∙ merged-rows sides sound_a sound_b k are hs are_h
 
   trips-periods : map (map frequency_of) (parts m.frequency_starts m.frequencies) ≡ map (λ u. u.frequencies) (merged_parts sides).trips
@@ -152,7 +152,7 @@ module _ (sides : Sides) (sound_a : IsSoundParts sides.a.now) (sound_b : IsSound
     stops = ((λ j. map (stop_named (stops-are j)) r.stops) ∙ are_r.stops) i;
     routes = ((λ j. map (route_named (agencies-are j)) r.routes) ∙ are_r.routes) i;
     services = are_r.services i;
-    trips = trips-made m r.trips (parts m.stop_row_starts m.stop_rows) (parts m.frequency_starts m.frequencies) (merged_parts sides).trips trips-own trips-rows trips-periods i;
+    trips = trips-made m r.trips (parts m.stop_times.starts m.stop_times.rows) (parts m.frequency_starts m.frequencies) (merged_parts sides).trips trips-own trips-rows trips-periods i;
     transfers = ((λ j. map (transfer_named (stops-are j) (routes-are j) (trips-are j)) (are_ts j)) ∙ transfers-named sides sound_a sound_b k are stops-up routes-up trips-up) i;
   }
 

@@ -244,8 +244,8 @@ module _ (sides : Sides) (s : Side) (n : ℕ) (name : List ℕ) where
       ap (text_of_number merged_r) of_route ∙ renamed-at merged_r m.route (route_ids f) routes new_routes source.route_id.0 within_route in
       let renamed_s : text_of_number merged_s service.0 ≡ m.service (text_of_number (service_ids f) source.service_id.0) =
       ap (text_of_number merged_s) of_service ∙ renamed-at merged_s m.service (service_ids f) services new_services source.service_id.0 within_service in
-      let source_at = plain-at f f.trips (parts f.stop_row_starts f.stop_rows) (parts f.frequency_starts f.frequencies) n source
-      (length-parts f.stop_row_starts f.stop_rows ∙ sound.stop_rows.0) (length-parts f.frequency_starts f.frequencies ∙ sound.frequencies.0) at in (
+      let source_at = plain-at f f.trips (parts f.stop_times.starts f.stop_times.rows) (parts f.frequency_starts f.frequencies) n source
+      (length-parts f.stop_times.starts f.stop_times.rows ∙ sound.stop_rows.0) (length-parts f.frequency_starts f.frequencies ∙ sound.frequencies.0) at in (
         ap (λ y. Some (trip_named merged_r merged_s y)) is
             ∙ (λ i. Some (record (trip_named (route_ids f) (service_ids f) source) { trip_id = own i; route_id = renamed_r i; service_id = renamed_s i }))
             ∙ sym (plain-under m _ ∙ ap (option_map (trip_under m)) source_at),

@@ -80,7 +80,7 @@ record HasTrip (p : Parts) (n : ℕ) : Type 0 where
 has-trip : (p : Parts) → IsSoundParts p → (n : ℕ) → n < length p.trips → HasTrip p n
 has-trip p sound n within =
     let some = some_of p.trips n within in
-    let rows = slice_get-get_or (stop_rows_by_trip p) n [] (omega (arith, length-parts p.stop_row_starts p.stop_rows, sound.stop_rows.0)) in
+    let rows = slice_get-get_or (stop_rows_by_trip p) n [] (omega (arith, length-parts p.stop_times.starts p.stop_times.rows, sound.stop_rows.0)) in
     let periods = slice_get-get_or (frequencies_by_trip p) n [] (omega (arith, length-parts p.frequency_starts p.frequencies, sound.frequencies.0)) in
     record {
       row = get_or p.trips n some;

@@ -14,8 +14,7 @@ parts_with rows transfers stop_times frequencies headsigns = record {
   services = rows.services;
   trips = rows.trips;
   transfers = transfers;
-  stop_rows = stop_times.rows.items;
-  stop_row_starts = stop_times.starts.items;
+  stop_times = record { rows = stop_times.rows.items; starts = stop_times.starts.items };
   frequencies = frequencies.rows.items;
   frequency_starts = frequencies.starts.items;
   headsigns = headsigns;

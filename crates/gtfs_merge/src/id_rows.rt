@@ -13,7 +13,7 @@ use crate::merged_stops::merged_stops;
 use crate::merged_trips::merged_trips;
 use crate::sides::Sides;
 use gtfs_field::{List, OutOfMemory, Text};
-use gtfs_rows::{Agency, Parts, Route, ServiceRow, Stop, Transfer, Trip};
+use gtfs_rows::{Agency, Parts, Route, ServiceRow, Stop, StopTimesByTrip, Transfer, Trip};
 use std::alloc::Global;
 
 // The rows with ids of a merged feed, in the order of their new ids.
@@ -79,10 +79,7 @@ impl IdRows {
             services,
             trips,
         } = self;
-        let StopTimes {
-            rows: stop_rows,
-            starts: stop_row_starts,
-        } = stop_times;
+        let StopTimes { rows, starts } = stop_times;
         let Frequencies {
             rows: frequencies,
             starts: frequency_starts,
@@ -94,8 +91,7 @@ impl IdRows {
             services,
             trips,
             transfers,
-            stop_rows: List::new(stop_rows),
-            stop_row_starts: List::new(stop_row_starts),
+            stop_times: StopTimesByTrip::new(List::new(rows), List::new(starts)),
             frequencies: List::new(frequencies),
             frequency_starts: List::new(frequency_starts),
             headsigns,

@@ -1,15 +1,11 @@
 -- A list with each text once, to which one is added; and the parts of a list, one after the other.
-use Rattle.std.proofs.Common.{◌≡◌, ◌+◌, ◌-◌, ◌∙◌, ◌++◌, ◌∷◌, [], ℕ, zero, suc, List, length, take, drop, get_or, Bool, true, false, bytes_eq, Option, Some, None, refl, sym, ap, subst, arith, append-nil, inl, inr}
-use Rattle.std.specs.Prelude.{filter, filter_map, flat_map, if◌then◌else◌, not, unwrap_or}
+use Rattle.std.proofs.Common.{◌≡◌, ◌∙◌, ◌++◌, ◌∷◌, [], ℕ, zero, suc, List, Bool, true, false, bytes_eq, Option, Some, None, refl, sym, ap, subst, append-nil, inl, inr}
+use Rattle.std.specs.Prelude.{filter, filter_map, if◌then◌else◌, not, unwrap_or}
 use Rattle.std.specs.List.{list_any, slice_get}
-use Rattle.std.proofs.Math.Seq.{drop-length}
 use Rattle.std.proofs.lemmas.Bool.{cases_Bool, or_left, or_right}
-use Rattle.std.proofs.lemmas.List.{drop-drop, length-drop, take-append-drop, take_all}
 use Rattle.std.proofs.lemmas.List.Elements.{filter-append, filter_map-append}
 use Rattle.std.proofs.lemmas.Map.Views.{any-filter_same}
 use Rattle.std.proofs.lemmas.Option.{get_or_from_slice_get, slice_get_within}
-use Rattle.csv.specs.Records.{Rising}
-use Rattle.gtfs_table.specs.Parts.{parts}
 use Rattle.gtfs_columns.specs.Values.{plain}
 use Rattle.gtfs_columns.proofs.NamedFacts.{text_turned}
 use Rattle.gtfs_columns.proofs.SiteFacts.{text_is, text_itself}
@@ -86,18 +82,3 @@ headsigns-more h xs x = ap each_once (filter_map-append h xs (x ∷ [])) ∙ met
     met : (ts : List (List ℕ)) (o : Option (List ℕ)) → each_once (ts ++ filter_map (λ (p : Option (List ℕ)). p) (o ∷ [])) ≡ with_headsign (each_once ts) o
     met ts None = ap each_once (append-nil ts)
     met ts (Some t) = once-more ts t
-
--- ---- parts
-
--- parts one after the other are the list from where the first one begins
-pub parts-joined : {X : Type 0} (low : ℕ) (starts : List ℕ) (xs : List X) → Rising low starts (length xs)
-    → flat_map (λ p. p) (parts starts xs) ≡ drop (get_or starts 0 (length xs)) xs
-unfolding parts Rising
-parts-joined low [] xs up = sym (drop-length xs)
-parts-joined low (s ∷ []) xs up =
-    append-nil (take (length xs - s) (drop s xs)) ∙ take_all (length xs - s) (drop s xs) (omega (arith, length-drop s xs))
-parts-joined low (s ∷ e ∷ starts) xs up =
-    let part = take (e - s) (drop s xs) in
-    let end : s + (e - s) ≡ e = omega (arith, up.1.0) in
-    ap (λ later. part ++ later) (parts-joined s (e ∷ starts) xs up.1 ∙ ap (λ n. drop n xs) (sym end) ∙ sym (drop-drop (e - s) s xs))
-    ∙ take-append-drop (e - s) (drop s xs)

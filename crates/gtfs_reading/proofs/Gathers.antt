@@ -1,10 +1,12 @@
 -- The lists of stop times while they are made: none, one more, and all.
 use Rattle.std.proofs.Common.{◌≡◌, ◌<◌, ◌≤◌, ◌+◌, ◌-◌, ◌++◌, ◌∷◌, ◌∙◌, [], ℕ, suc, List, length, map, take, get_or, true, false, Option, refl, sym, ap, subst, arith, inl, inr}
-use Rattle.std.specs.Prelude.{◌&&◌, ◌||◌, drop, filter_map, flat_map, replicate}
-use Rattle.std.specs.List.{All, list_all, list_any}
+use Rattle.std.specs.Prelude.{◌&&◌, ◌||◌, drop, filter_map, flat_map, nat_eq, replicate}
+use Rattle.std.specs.List.{All, IsDistinct, list_all, list_any}
+use Rattle.std.proofs.lemmas.Bool.Decides.{nat_tests}
+use Rattle.gtfs_table.specs.Rows.{rows as rows_of}
 use Rattle.std.specs.Ordering.{nat_cmp}
-use Rattle.std.proofs.lemmas.Bool.{and_from as and_both, cases_lt, or_left, or_right}
-use Rattle.std.proofs.lemmas.Map.Keys.{Less-from_sorted}
+use Rattle.std.proofs.lemmas.Bool.{and_from as and_both, cases_eq, cases_lt, or_left, or_right}
+use Rattle.std.proofs.lemmas.Map.Keys.{IsDistinct-IsPermutation, IsDistinct-from_apart, Less-from_sorted}
 use Rattle.std.proofs.lemmas.List.{get_or-take, get_or_default, length-append, length-map, length-replicate, length-take-le, length_push, map_push, take_all, take_more}
 use Rattle.std.proofs.lemmas.List.Elements.{All-append, All-cons, All-head, All-nil}
 use Rattle.std.proofs.lemmas.List.Folds.{list_all-append}
@@ -24,17 +26,21 @@ use Rattle.gtfs_rows.specs.Reading.{content_of, stop_row_in}
 use Rattle.gtfs_rows.specs.Rows.{StopRow as StopRowOf}
 use Rattle.gtfs_stop_times.specs.declared.stop_row.StopRow.{StopRow}
 use Rattle.gtfs_reading.specs.FirstNamed.{each_once}
-use Rattle.gtfs_reading.specs.Gathering.{AreGathered, IsEmptyFor, by_trip}
-use Rattle.gtfs_reading.specs.StopTimeDraft.{rows_with, with_headsign_at}
+use Rattle.gtfs_reading.specs.Gathering.{AreGathered, AreListsOf, IsEmptyFor, by_trip}
+use Rattle.gtfs_reading.specs.StopTimeDraft.{AreCut, lists_with}
+use Rattle.gtfs_reading.specs.declared.gathered.GatheredLists.{GatheredLists}
+use Rattle.gtfs_trip_rules.specs.Headsigns.{rows_with, with_headsign_at}
 use Rattle.gtfs_rows.specs.Headsigns.{AddsOnly, AreDistinct, KeepsHeadsigns, NamesHeadsign}
 use Rattle.gtfs_reading.specs.HeadsignIndex.{with_headsign}
 use Rattle.gtfs_reading.specs.StopTimeLists.{AreStopTimesOf, content_stop_ids, has_headsign, is_number}
 use Rattle.gtfs_rows.specs.NamedRows.{has_numbers_below, stop_row_named}
 use Rattle.gtfs_reading.specs.declared.gathered.Gathered.{Gathered}
 use Rattle.gtfs_reading.specs.declared.stop_times.StopTimes.{StopTimes}
-use Rattle.gtfs_reading.proofs.EachOnce.{headsigns-more, parts-joined}
+use Rattle.gtfs_stop_times.proofs.Turns.{parts-joined, parts-map}
+use Rattle.gtfs_reading.proofs.EachOnce.{headsigns-more}
+use Rattle.gtfs_reading.proofs.RowKeys.{rows_up}
 use Rattle.gtfs_reading.proofs.RowSays.{numbers_kept, row_below, row_says, rows_kept}
-use Rattle.gtfs_reading.proofs.Starts.{first-filled, parts-map, rising-filled, stretches-filled, stretches-more}
+use Rattle.gtfs_reading.proofs.Starts.{first-filled, rising-filled, stretches-filled, stretches-more}
 use Rattle.gtfs_reading.proofs.TripRows.{rows_by_trip, trip_below}
 
 -- ---- rows with headsigns
@@ -214,15 +220,24 @@ module _ (d : Dataset) (passes : Passes d) (all : List StopTime) (are : AreStopT
 
 -- ---- all
 
-module _ (d : Dataset) (passes : Passes d) (ss : List StopTime) (are : AreStopTimes d ss) (g : Gathered) (so_far : AreGathered d ss g) (lists : StopTimes)
-    (rows : lists.stop_rows ≡ rows_with ss g.numbers.items)
-    (starts : lists.stop_row_starts ≡ take g.trips g.starts.items ++ replicate (g.trips - length g.starts.items) (length ss))
-    (headsigns : lists.headsigns ≡ g.headsigns.texts) (distinct : AreDistinct g.headsigns.texts) where
+module _ (d : Dataset) (passes : Passes d) (ss : List StopTime) (are : AreStopTimes d ss) (g : Gathered) (so_far : AreGathered d ss g) (made : GatheredLists) (of : AreListsOf g made) where
+  abbrev lists : StopTimes
+  lists = lists_with ss made.numbers.items made.starts made.headsigns
+
+  made-rows : lists.stop_times.rows ≡ rows_with ss g.numbers.items
+  made-rows = ap (rows_with ss) of.numbers
+
+  made-starts : lists.stop_times.starts ≡ take g.trips g.starts.items ++ replicate (g.trips - length g.starts.items) (length ss)
+  made-starts = of.starts ∙ ap (λ n. take g.trips g.starts.items ++ replicate (g.trips - length g.starts.items) n) so_far.size
+
+  made-headsigns : lists.headsigns ≡ g.headsigns.texts
+  made-headsigns = of.headsigns
+
   within : length g.starts.items ≤ g.trips
   within = so_far.least g.trips (λ k e h. let below = trip_below d ss are passes (get_or ss k e) (are.say k e h) in omega (arith, below, so_far.trips))
 
-  all-count : length lists.stop_row_starts ≡ g.trips
-  all-count = count-filled g.starts.items lists.stop_row_starts g.trips (length ss) within starts
+  all-count : length lists.stop_times.starts ≡ g.trips
+  all-count = count-filled g.starts.items lists.stop_times.starts g.trips (length ss) within made-starts
 
   abbrev found : List StopRow
   found = rows_with ss g.numbers.items
@@ -230,46 +245,68 @@ module _ (d : Dataset) (passes : Passes d) (ss : List StopTime) (are : AreStopTi
   all-size : length found ≡ length ss
   all-size = count-rows d ss g.headsigns.texts found so_far.named
 
-  all-stretches : parts lists.stop_row_starts ss ≡ by_trip (length (content_of d).trips) ss
+  all-stretches : parts lists.stop_times.starts ss ≡ by_trip (length (content_of d).trips) ss
   all-stretches =
       let m = g.trips - length g.starts.items in
       let last : length g.starts.items + m ≡ length (content_of d).trips = omega (arith, within, so_far.trips) in
-      ap (λ ks. parts ks ss) (filled-is g.starts.items lists.stop_row_starts g.trips (length ss) within starts)
+      ap (λ ks. parts ks ss) (filled-is g.starts.items lists.stop_times.starts g.trips (length ss) within made-starts)
       ∙ stretches-filled ss g.starts.items m so_far.rising so_far.below so_far.stretches
       ∙ ap (λ n. by_trip n ss) last
 
   abbrev row : StopTime → StopRowOf
   row s = stop_row_in d s.row
 
-  all-rising : Rising 0 lists.stop_row_starts (length ss)
-  all-rising = filled-rising g.starts.items lists.stop_row_starts g.trips (length ss) within starts so_far.rising
+  all-rising : Rising 0 lists.stop_times.starts (length ss)
+  all-rising = filled-rising g.starts.items lists.stop_times.starts g.trips (length ss) within made-starts so_far.rising
 
-  all-first : get_or lists.stop_row_starts 0 (length ss) ≡ 0
-  all-first = filled-first g.starts.items lists.stop_row_starts g.trips (length ss) within starts so_far.from_first
+  all-first : get_or lists.stop_times.starts 0 (length ss) ≡ 0
+  all-first = filled-first g.starts.items lists.stop_times.starts g.trips (length ss) within made-starts so_far.from_first
 
   -- the rows of the content's trips, one trip after the other
   all-rows : flat_map (λ t. t.stop_rows) (content_of d).trips ≡ map row ss
   all-rows =
       let size : length ss ≡ length (map row ss) = sym (length-map ss row) in
       sym (flat_map-map (λ rs. rs) (λ t. t.stop_rows) (content_of d).trips)
-      ∙ ap (flat_map (λ rs. rs)) (sym (rows_by_trip d ss are passes) ∙ ap (map (map row)) (sym all-stretches) ∙ sym (parts-map row lists.stop_row_starts ss))
-      ∙ parts-joined 0 lists.stop_row_starts (map row ss) (subst (Rising 0 lists.stop_row_starts) size all-rising)
-      ∙ ap (λ n. drop n (map row ss)) (ap (get_or lists.stop_row_starts 0) (sym size) ∙ all-first)
+      ∙ ap (flat_map (λ rs. rs)) (sym (rows_by_trip d ss are passes) ∙ ap (map (map row)) (sym all-stretches) ∙ sym (parts-map row lists.stop_times.starts ss))
+      ∙ parts-joined 0 lists.stop_times.starts (map row ss) (subst (Rising 0 lists.stop_times.starts) size all-rising)
+      ∙ ap (λ n. drop n (map row ss)) (ap (get_or lists.stop_times.starts 0) (sym size) ∙ all-first)
 
   pub gathered-all : AreStopTimesOf d lists
   gathered-all = record {
     trips = all-count ∙ so_far.trips;
-    rising = subst (λ n. Rising 0 lists.stop_row_starts n) (sym (ap length rows ∙ all-size)) all-rising;
-    from_first = ap (get_or lists.stop_row_starts 0) (ap length rows ∙ all-size) ∙ all-first;
-    by_trip = sym (parts-map (stop_row_named (content_stop_ids d) lists.headsigns) lists.stop_row_starts lists.stop_rows)
-        ∙ ap (parts lists.stop_row_starts) (ap (map (stop_row_named (content_stop_ids d) lists.headsigns)) rows
-        ∙ ap (λ ts. map (stop_row_named (content_stop_ids d) ts) found) headsigns ∙ so_far.named)
-        ∙ parts-map row lists.stop_row_starts ss
+    rising = subst (λ n. Rising 0 lists.stop_times.starts n) (sym (ap length made-rows ∙ all-size)) all-rising;
+    from_first = ap (get_or lists.stop_times.starts 0) (ap length made-rows ∙ all-size) ∙ all-first;
+    by_trip = sym (parts-map (stop_row_named (content_stop_ids d) lists.headsigns) lists.stop_times.starts lists.stop_times.rows)
+        ∙ ap (parts lists.stop_times.starts) (ap (map (stop_row_named (content_stop_ids d) lists.headsigns)) made-rows
+        ∙ ap (λ ts. map (stop_row_named (content_stop_ids d) ts) found) made-headsigns ∙ so_far.named)
+        ∙ parts-map row lists.stop_times.starts ss
         ∙ ap (map (map row)) all-stretches
         ∙ rows_by_trip d ss are passes;
-    numbers = ap (list_all (has_numbers_below (length (content_of d).stops) (length lists.headsigns))) rows
-        ∙ ap (λ ts. list_all (has_numbers_below (length (content_of d).stops) (length ts)) found) headsigns ∙ so_far.numbers;
-    first_named = headsigns ∙ so_far.first_named ∙ ap (λ rs. each_once (filter_map (λ r. r.stop_headsign) rs)) (sym all-rows);
-    distinct = subst AreDistinct (sym headsigns) distinct;
-    used = λ k h. ap (list_any (has_headsign k)) rows ∙ so_far.used k (subst (λ ts. k < length ts) headsigns h);
+    numbers = ap (list_all (has_numbers_below (length (content_of d).stops) (length lists.headsigns))) made-rows
+        ∙ ap (λ ts. list_all (has_numbers_below (length (content_of d).stops) (length ts)) found) made-headsigns ∙ so_far.numbers;
+    first_named = made-headsigns ∙ so_far.first_named ∙ ap (λ rs. each_once (filter_map (λ r. r.stop_headsign) rs)) (sym all-rows);
+    distinct = subst AreDistinct (sym made-headsigns) of.distinct;
+    used = λ k h. ap (list_any (has_headsign k)) made-rows ∙ so_far.used k (subst (λ ts. k < length ts) made-headsigns h);
+  }
+
+  -- each stop time is that of another row
+  once : IsDistinct nat_eq (map (λ s. s.row) ss)
+  once = IsDistinct-IsPermutation nat_eq nat_eq_flips (rows_of d file.StopTimes) (map (λ s. s.row) ss) are.each_row
+      (IsDistinct-from_apart nat_eq (rows_of d file.StopTimes) (λ i j n low high. apart (get_or (rows_of d file.StopTimes) i n) _ (rows_up d file.StopTimes i j n low high)))
+    where
+      apart : (a b : ℕ) → a < b → nat_eq a b ≡ false
+      apart a b low = grind (arith, nat_tests, low)
+
+      nat_eq_flips : (a b : ℕ) → nat_eq a b ≡ nat_eq b a
+      nat_eq_flips a b = elim (cases_eq a b) [
+        | inl same ↦ (λ i. nat_eq (same i) (sym same i))
+        | inr other ↦ grind (arith, nat_tests, other)
+      ]
+
+  pub cut-all : AreCut ss made.numbers.items made.starts
+  cut-all = record {
+    once = once;
+    each = ap length of.numbers ∙ so_far.size;
+    rising = all-rising;
+    from_first = all-first;
   }

@@ -12,20 +12,19 @@ use Rattle.gtfs_rows.specs.NamedRows.{has_numbers_below, stop_row_named}
 use Rattle.gtfs_reading.specs.declared.stop_times.StopTimes.{StopTimes}
 
 module _ (d : Dataset) (lists : StopTimes) (are : AreStopTimesOf d lists) (p : Parts)
-    (rows : p.stop_rows ≡ lists.stop_rows) (starts : p.stop_row_starts ≡ lists.stop_row_starts) (headsigns : p.headsigns ≡ lists.headsigns) where
+    (times : p.stop_times ≡ lists.stop_times) (headsigns : p.headsigns ≡ lists.headsigns) where
   -- the rows of each trip stand for those of the content's trip
-  pub rows_in_parts : stop_ids p ≡ content_stop_ids d → map (map (stop_row_of p)) (parts p.stop_row_starts p.stop_rows) ≡ map (λ t. t.stop_rows) (content_of d).trips
-  rows_in_parts ids = (λ i. map (map (stop_row_named (ids i) (headsigns i))) (parts (starts i) (rows i))) ∙ are.by_trip
+  pub rows_in_parts : stop_ids p ≡ content_stop_ids d → map (map (stop_row_of p)) (parts p.stop_times.starts p.stop_times.rows) ≡ map (λ t. t.stop_rows) (content_of d).trips
+  rows_in_parts ids = (λ i. map (map (stop_row_named (ids i) (headsigns i))) (parts (times i).starts (times i).rows)) ∙ are.by_trip
 
   -- each trip has its stretch
-  pub cut_in_parts : length p.trips ≡ length (content_of d).trips → IsCut p p.stop_row_starts p.stop_rows
+  pub cut_in_parts : length p.trips ≡ length (content_of d).trips → IsCut p p.stop_times.starts p.stop_times.rows
   cut_in_parts trips = (
-    ap length starts ∙ are.trips ∙ sym trips,
-    subst (λ ks. Rising 0 ks (length p.stop_rows)) (sym starts)
-        (subst (λ rs. Rising 0 lists.stop_row_starts (length rs)) (sym rows) are.rising),
-    (λ i. get_or (starts i) 0 (length (rows i))) ∙ are.from_first,
+    ap (λ t. length t.starts) times ∙ are.trips ∙ sym trips,
+    subst (λ t. Rising 0 t.starts (length t.rows)) (sym times) are.rising,
+    ap (λ t. get_or t.starts 0 (length t.rows)) times ∙ are.from_first,
   )
 
   -- each number is that of a row
-  pub numbers_in_parts : length p.stops ≡ length (content_of d).stops → list_all (stop_time_names_rows p) p.stop_rows ≡ true
-  numbers_in_parts stops = (λ i. list_all (has_numbers_below (stops i) (length (headsigns i))) (rows i)) ∙ are.numbers
+  pub numbers_in_parts : length p.stops ≡ length (content_of d).stops → list_all (stop_time_names_rows p) p.stop_times.rows ≡ true
+  numbers_in_parts stops = (λ i. list_all (has_numbers_below (stops i) (length (headsigns i))) (times i).rows) ∙ are.numbers

@@ -1,10 +1,10 @@
 -- Where the stop times of each trip begin.
-use Rattle.std.proofs.Common.{◌≡◌, ◌<◌, ◌≤◌, ◌+◌, ◌-◌, ◌++◌, ◌∷◌, ◌∙◌, [], ℕ, zero, suc, List, length, map, take, drop, get_or, true, false, refl, sym, ap, subst, arith, append-nil, append_assoc, inl, inr}
+use Rattle.std.proofs.Common.{◌≡◌, ◌<◌, ◌≤◌, ◌+◌, ◌++◌, ◌∷◌, ◌∙◌, [], ℕ, zero, suc, List, length, get_or, true, false, refl, sym, ap, subst, arith, append-nil, append_assoc, inl, inr}
 use Rattle.std.specs.Prelude.{◌==◌, replicate}
 use Rattle.std.specs.List.{All}
 use Rattle.std.proofs.lemmas.Bool.{cases_lt}
 use Rattle.std.proofs.lemmas.Bool.Decides.{nat_tests}
-use Rattle.std.proofs.lemmas.List.{drop-map, get_or_append_left, get_or_push, length-map, length_push, replicate_more, take-map}
+use Rattle.std.proofs.lemmas.List.{get_or_append_left, get_or_push, length_push, replicate_more}
 use Rattle.std.proofs.lemmas.List.Elements.{filter-append}
 use Rattle.csv.specs.Records.{Rising}
 use Rattle.csv.proofs.RecordFacts.{rising-end}
@@ -32,15 +32,6 @@ module _ {X : Type 0} where
       ∙ parts-filled m (starts ++ length xs ∷ []) xs (rising-end 0 starts (length xs) up)
       ∙ ap (λ ps. ps ++ replicate m []) (one-filled starts xs up)
       ∙ append_assoc (parts starts xs) ([] ∷ []) (replicate m [])
-
-pub parts-map : {X Y : Type 0} (f : X → Y) (starts : List ℕ) (xs : List X) → parts starts (map f xs) ≡ map (map f) (parts starts xs)
-unfolding parts
-parts-map f [] xs = refl
-parts-map f (s ∷ rest) xs =
-    ap (λ n. take (get_or rest 0 n - s) (drop s (map f xs)) ∷ parts rest (map f xs)) (length-map xs f)
-    ∙ ap (λ ys. take (get_or rest 0 (length xs) - s) ys ∷ parts rest (map f xs)) (drop-map f s xs)
-    ∙ ap (λ ys. ys ∷ parts rest (map f xs)) (take-map f (get_or rest 0 (length xs) - s) (drop s xs))
-    ∙ ap (λ ps. map f (take (get_or rest 0 (length xs) - s) (drop s xs)) ∷ ps) (parts-map f rest xs)
 
 -- the first start is 0
 pub first-filled : (m : ℕ) (starts : List ℕ) (size : ℕ) → get_or starts 0 size ≡ 0 → get_or (starts ++ replicate m size) 0 size ≡ 0

@@ -46,12 +46,12 @@ module _ (p : Parts) where
       ∷ trips_made ts rs fs us (rest_is _ _ _ _ own) (rest_is _ _ _ _ rows) (rest_is _ _ _ _ periods) i
 
 pub content_is : (p : Parts) (d : Dataset) → AreRowsOf d (rows_in p)
-    → map (map (stop_row_of p)) (parts p.stop_row_starts p.stop_rows) ≡ map (λ t. t.stop_rows) (content_of d).trips → content_of_parts p ≡ content_of d
+    → map (map (stop_row_of p)) (parts p.stop_times.starts p.stop_times.rows) ≡ map (λ t. t.stop_rows) (content_of d).trips → content_of_parts p ≡ content_of d
 content_is p d are stop_times = λ i. record {
   agencies = are.agencies i;
   stops = are.stops i;
   routes = are.routes i;
   services = are.services i;
-  trips = trips_made p p.trips (parts p.stop_row_starts p.stop_rows) (parts p.frequency_starts p.frequencies) (content_of d).trips are.trips stop_times are.frequencies i;
+  trips = trips_made p p.trips (parts p.stop_times.starts p.stop_times.rows) (parts p.frequency_starts p.frequencies) (content_of d).trips are.trips stop_times are.frequencies i;
   transfers = are.transfers i;
 }

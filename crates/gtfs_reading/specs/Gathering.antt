@@ -1,5 +1,5 @@
 -- The lists of stop times while they are made.
-use Rattle.std.specs.Prelude.{◌≡◌, ◌<◌, ◌≤◌, ◌==◌, ◌++◌, ℕ, zero, suc, true, List, [], ◌∷◌, filter, filter_map, length, map, slice_index_or}
+use Rattle.std.specs.Prelude.{◌≡◌, ◌<◌, ◌≤◌, ◌==◌, ◌++◌, ◌-◌, ℕ, zero, suc, true, List, [], ◌∷◌, filter, filter_map, length, map, replicate, slice_index_or, take}
 use Rattle.std.specs.List.{All, list_all, list_any}
 use Rattle.csv.specs.Records.{Rising}
 use Rattle.gtfs_table.specs.Parts.{parts}
@@ -9,8 +9,10 @@ use Rattle.gtfs_rows.specs.Reading.{content_of, stop_row_in}
 use Rattle.gtfs_reading.specs.FirstNamed.{each_once}
 use Rattle.gtfs_reading.specs.StopTimeLists.{content_stop_ids, has_headsign}
 use Rattle.gtfs_rows.specs.NamedRows.{has_numbers_below, stop_row_named}
-use Rattle.gtfs_reading.specs.StopTimeDraft.{rows_with}
+use Rattle.gtfs_trip_rules.specs.Headsigns.{rows_with}
+use Rattle.gtfs_rows.specs.Headsigns.{AreDistinct}
 use Rattle.gtfs_reading.specs.declared.gathered.Gathered.{Gathered}
+use Rattle.gtfs_reading.specs.declared.gathered.GatheredLists.{GatheredLists}
 
 -- the stop times of the trip with this number
 abbrev pub of_trip : ℕ → List StopTime → List StopTime
@@ -45,3 +47,10 @@ pub record AreGathered (d : Dataset) (ss : List StopTime) (g : Gathered) : Type 
   pub used : (k : ℕ) → k < length g.headsigns.texts → list_any (has_headsign k) (rows_with ss g.numbers.items) ≡ true
   -- the headsigns in the order in which the stop times name them
   pub first_named : g.headsigns.texts ≡ each_once (filter_map (λ r. r.stop_headsign) (map (λ s. stop_row_in d s.row) ss))
+
+-- the lists that they become: the trips after that of the last stop time begin at the end
+pub record AreListsOf (g : Gathered) (lists : GatheredLists) : Type 0 where
+  pub numbers : lists.numbers.items ≡ g.numbers.items
+  pub starts : lists.starts ≡ take g.trips g.starts.items ++ replicate (g.trips - length g.starts.items) (length g.numbers.items)
+  pub headsigns : lists.headsigns ≡ g.headsigns.texts
+  pub distinct : AreDistinct g.headsigns.texts

@@ -1,19 +1,18 @@
--- Stop times with the numbers of their headsigns, whose rows are not in the list of a feed yet.
-use Rattle.std.specs.Prelude.{ℕ, List, [], Option, ◌∷◌}
-use Rattle.gtfs_stop_times.specs.declared.stop_row.StopRow.{StopRow}
+-- Stop times with the numbers of their headsigns, before they are those of a feed.
+use Rattle.std.specs.Prelude.{◌≡◌, ℕ, List, Option, length, map, nat_eq, slice_index_or}
+use Rattle.std.specs.List.{IsDistinct}
+use Rattle.csv.specs.Records.{Rising}
+use Rattle.gtfs_trip_rules.specs.Headsigns.{rows_with}
 use Rattle.gtfs_trip_rules.specs.declared.trips.row.StopTime.{StopTime}
 use Rattle.gtfs_reading.specs.declared.stop_times.StopTimes.{StopTimes}
 
--- the row of a stop time, with the headsign of this number
-abbrev pub with_headsign_at : StopTime → Option ℕ → StopRow
-with_headsign_at s headsign = record s.stop_row { stop_headsign = headsign }
-
--- the rows of stop times, each with the headsign whose number stands at its index
-unfoldable pub rows_with : List StopTime → List (Option ℕ) → List StopRow
-rows_with [] headsigns = []
-rows_with (s ∷ ss) [] = []
-rows_with (s ∷ ss) (headsign ∷ headsigns) = with_headsign_at s headsign ∷ rows_with ss headsigns
-
 -- the lists of stop times that they become
 abbrev pub lists_with : List StopTime → List (Option ℕ) → List ℕ → List (List ℕ) → StopTimes
-lists_with ss headsigns starts texts = record { stop_rows = rows_with ss headsigns; stop_row_starts = starts; headsigns = texts }
+lists_with ss headsigns starts texts = record { stop_times = record { rows = rows_with ss headsigns; starts = starts }; headsigns = texts }
+
+-- a headsign for each stop time, no row twice, and where the stop times of each trip begin
+pub record AreCut (ss : List StopTime) (headsigns : List (Option ℕ)) (starts : List ℕ) : Type 0 where
+  pub once : IsDistinct nat_eq (map (λ s. s.row) ss)
+  pub each : length headsigns ≡ length ss
+  pub rising : Rising 0 starts (length ss)
+  pub from_first : slice_index_or starts 0 (length ss) ≡ 0

@@ -28,16 +28,16 @@ has_headsign k r = is_number k r.stop_headsign
 -- the lists are the stop times of the content
 pub record AreStopTimesOf (d : Dataset) (lists : StopTimes) : Type 0 where
   -- a stretch of rows for each trip: as many starts as trips, rising to the end, and nothing before the first
-  pub trips : length lists.stop_row_starts ≡ length (content_of d).trips
-  pub rising : Rising 0 lists.stop_row_starts (length lists.stop_rows)
-  pub from_first : slice_index_or lists.stop_row_starts 0 (length lists.stop_rows) ≡ 0
+  pub trips : length lists.stop_times.starts ≡ length (content_of d).trips
+  pub rising : Rising 0 lists.stop_times.starts (length lists.stop_times.rows)
+  pub from_first : slice_index_or lists.stop_times.starts 0 (length lists.stop_times.rows) ≡ 0
   -- the stretch of a trip stands for the rows of the content's trip with that number
-  pub by_trip : map (map (stop_row_named (content_stop_ids d) lists.headsigns)) (parts lists.stop_row_starts lists.stop_rows)
+  pub by_trip : map (map (stop_row_named (content_stop_ids d) lists.headsigns)) (parts lists.stop_times.starts lists.stop_times.rows)
       ≡ map (λ t. t.stop_rows) (content_of d).trips
   -- each number is that of a stop, or of a headsign
-  pub numbers : list_all (has_numbers_below (length (content_of d).stops) (length lists.headsigns)) lists.stop_rows ≡ true
+  pub numbers : list_all (has_numbers_below (length (content_of d).stops) (length lists.headsigns)) lists.stop_times.rows ≡ true
   -- the headsigns have their numbers in the order in which the rows first name them: so no headsign is there twice, and
   -- each is that of a row
   pub first_named : lists.headsigns ≡ headsigns_in (content_of d)
   pub distinct : AreDistinct lists.headsigns
-  pub used : (k : ℕ) → k < length lists.headsigns → list_any (has_headsign k) lists.stop_rows ≡ true
+  pub used : (k : ℕ) → k < length lists.headsigns → list_any (has_headsign k) lists.stop_times.rows ≡ true

@@ -3,7 +3,7 @@ ghost use Rattle.gtfs_rows.specs.Reading.{content_of};
 ghost use Rattle.gtfs_reading.specs.StopTimeDraft.{lists_with};
 ghost use Rattle.gtfs_reading.specs.StopTimeLists.{AreStopTimesOf};
 
-use crate::gathered::{Gathered, rows_with};
+use crate::gathered::{Gathered, GatheredLists};
 use crate::stop_times::StopTimes;
 use gtfs_field::{List, OutOfMemory, Text};
 use gtfs_rows::OptionalHeadsign;
@@ -12,8 +12,8 @@ use std::alloc::Global;
 use std::hash::RandomState;
 use std::marker::Model;
 
-/// The stop times of a dataset before their rows are copied into a list of a feed. It lends nothing of the tables, so
-/// that they can be let go before the copy takes memory. It is seen as the lists that it becomes.
+/// The stop times of a dataset before they are those of a feed. It lends nothing of the tables, so that they can be let go
+/// before rows are copied that have to be. It is seen as the lists that it becomes.
 #[derive(Drop)]
 pub struct StopTimesDraft {
     stop_times: KeptStopTimes,
@@ -24,15 +24,14 @@ pub struct StopTimesDraft {
 }
 
 impl Model for StopTimesDraft {
-    ghost use Rattle.std.specs.Prelude.{◌≡◌, length};
-    ghost use Rattle.gtfs_reading.specs.StopTimeDraft.{lists_with};
+    ghost use Rattle.gtfs_reading.specs.StopTimeDraft.{AreCut, lists_with};
     ghost use Rattle.gtfs_reading.specs.declared.stop_times.StopTimes.{StopTimes as StopTimesValue};
 
     ghost Value = { StopTimesValue };
 
     ghost view = { λ d. lists_with d.stop_times d.numbers.items d.starts d.headsigns };
 
-    ghost invariant = { λ d. length d.numbers.items ≡ length d.stop_times };
+    ghost invariant = { λ d. AreCut d.stop_times d.numbers.items d.starts };
 }
 
 impl StopTimesDraft {
@@ -55,32 +54,25 @@ impl StopTimesDraft {
         let stop_times = passed.into_stop_times();
         let mut gathered = Gathered::new(alloc, random, stop_times.len(), trips)?;
         gathered.push_all(tables, &stop_times)?;
-        gathered.into_draft(stop_times)
-    }
-
-    // Stop times with the numbers of their headsigns.
-    pub(crate) fn of(
-        stop_times: KeptStopTimes,
-        numbers: Vec<OptionalHeadsign>,
-        starts: List<usize>,
-        headsigns: List<Text>,
-    ) -> StopTimesDraft
-        requires { length numbers.items ≡ length stop_times }
-        ensures { result ≡ lists_with stop_times numbers.items starts headsigns }
-    {
-        StopTimesDraft {
+        let GatheredLists {
+            numbers,
+            starts,
+            headsigns,
+        } = gathered.into_lists()?;
+        Ok(StopTimesDraft {
             stop_times,
             numbers,
             starts,
             headsigns,
-        }
+        })
     }
 
-    /// The lists, for which the rows are copied.
+    /// The stop times of a feed. Where the rows of each trip follow each other in the file, they stay where they are. Else
+    /// they are copied.
     ///
     /// # Errors
     /// `OutOfMemory` where memory is refused.
-    pub fn into_stop_times(self, alloc: Global) -> Result<StopTimes, OutOfMemory>
+    pub fn into_stop_times(self) -> Result<StopTimes, OutOfMemory>
         ensures { IfOk result (λ lists. lists ≡ self) }
     {
         let StopTimesDraft {
@@ -89,10 +81,8 @@ impl StopTimesDraft {
             starts,
             headsigns,
         } = self;
-        let rows = rows_with(alloc, &stop_times, &numbers)?;
         Ok(StopTimes {
-            stop_rows: List::new(rows),
-            stop_row_starts: starts,
+            stop_times: stop_times.into_by_trip(&numbers, starts)?,
             headsigns,
         })
     }

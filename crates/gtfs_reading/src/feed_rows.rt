@@ -19,7 +19,9 @@ use crate::transfers::transfers;
 use crate::trips::trips;
 use gtfs_columns::NetworkIds;
 use gtfs_field::{List, OutOfMemory, Text};
-use gtfs_rows::{Agency, Frequency, Parts, Route, ServiceRow, Stop, StopRow, Transfer, Trip};
+use gtfs_rows::{
+    Agency, Frequency, Parts, Route, ServiceRow, Stop, StopTimesByTrip, Transfer, Trip,
+};
 use gtfs_rules::Passed;
 use gtfs_table::Tables;
 use std::alloc::Global;
@@ -176,20 +178,13 @@ impl FeedRows {
         Ok(())
     }
 
-    /// All rows of the feed, with its stop times: those of all trips in one list, where those of each trip begin, and
-    /// the headsigns that they name by their numbers.
-    pub fn with_stop_times(
-        self,
-        stop_rows: List<StopRow>,
-        stop_row_starts: List<usize>,
-        headsigns: List<Text>,
-    ) -> Parts
+    /// All rows of the feed, with its stop times and the headsigns that they name by their numbers.
+    pub fn with_stop_times(self, stop_times: StopTimesByTrip, headsigns: List<Text>) -> Parts
         ensures rows { rows_in result ≡ self }
-        ensures stop_rows { result.stop_rows ≡ stop_rows }
-        ensures stop_row_starts { result.stop_row_starts ≡ stop_row_starts }
+        ensures stop_times { result.stop_times ≡ stop_times }
         ensures headsigns { result.headsigns ≡ headsigns }
         ensures content { (d : Dataset) → AreRowsOf d self
-            → map (map (stop_row_of result)) (parts stop_row_starts stop_rows)
+            → map (map (stop_row_of result)) (parts stop_times.starts stop_times.rows)
             ≡ map (λ t. t.stop_rows) (content_of d).trips
             → content_of_parts result ≡ content_of d }
     {
@@ -210,8 +205,7 @@ impl FeedRows {
             services,
             trips,
             transfers,
-            stop_rows,
-            stop_row_starts,
+            stop_times,
             frequencies,
             frequency_starts,
             headsigns,

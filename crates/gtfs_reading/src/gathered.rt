@@ -4,17 +4,14 @@ ghost use Rattle.std.specs.Prelude.{◌≡◌, length, not, IfOk, OnOk};
 ghost use Rattle.gtfs_columns.specs.Problems.{Passes};
 ghost use Rattle.gtfs_rows.specs.Reading.{content_of};
 ghost use Rattle.gtfs_rules.specs.StopTimes.{AreStopTimes};
-ghost use Rattle.gtfs_reading.specs.Gathering.{AreGathered, IsEmptyFor};
-ghost use Rattle.gtfs_reading.specs.StopTimeDraft.{rows_with};
-ghost use Rattle.gtfs_reading.specs.StopTimeLists.{AreStopTimesOf};
+ghost use Rattle.gtfs_reading.specs.Gathering.{AreGathered, AreListsOf, IsEmptyFor};
 ghost use Rattle.gtfs_table.specs.Rows.{is_empty, records_in};
-ghost use Rattle.gtfs_table.specs.Tables.{Dataset, field_under, record_at};
+ghost use Rattle.gtfs_table.specs.Tables.{field_under, record_at};
 ghost use Rattle.gtfs_table.specs.declared.file.File.TheVariants as file;
+ghost use Rattle.gtfs_trip_rules.specs.Headsigns.{rows_with};
 
-use crate::draft::StopTimesDraft;
 use crate::headsigns::Headsigns;
-use crate::stop_times::StopTimes;
-use gtfs_field::{List, OutOfMemory};
+use gtfs_field::{List, OutOfMemory, Text};
 use gtfs_rows::{OptionalHeadsign, StopRow};
 use gtfs_rules::{KeptStopTimes, StopTime};
 use gtfs_stop_times::room_for;
@@ -33,6 +30,16 @@ pub(crate) struct Gathered {
     // Where the stop times of each trip begin, up to the trip of the last one.
     starts: Vec<usize>,
     headsigns: Headsigns,
+}
+
+// What a feed keeps of its stop times beside their rows.
+#[derive(Drop)]
+pub(crate) struct GatheredLists {
+    // The number of the headsign of each stop time.
+    pub(crate) numbers: Vec<OptionalHeadsign>,
+    // Where the stop times of each trip begin.
+    pub(crate) starts: List<usize>,
+    pub(crate) headsigns: List<Text>,
 }
 
 impl Gathered {
@@ -76,36 +83,9 @@ impl Gathered {
         Ok(())
     }
 
-    // The lists, with the rows of these stop times. The trips after that of the last one begin at the end.
-    pub(crate) fn into_stop_times(
-        self,
-        alloc: Global,
-        stop_times: &KeptStopTimes,
-    ) -> Result<StopTimes, OutOfMemory>
-        requires { length self.numbers.items ≡ length stop_times.now }
-        ensures { (d : Dataset) → Passes d → AreStopTimes d stop_times.now
-            → AreGathered d stop_times.now self → IfOk result (AreStopTimesOf d) }
-    {
-        let Gathered {
-            trips,
-            numbers,
-            mut starts,
-            headsigns,
-        } = self;
-        let rows = rows_with(alloc, stop_times, &numbers)?;
-        starts.resize(trips, stop_times.len())?;
-        Ok(StopTimes {
-            stop_rows: List::new(rows),
-            stop_row_starts: List::new(starts),
-            headsigns: headsigns.into_list()?,
-        })
-    }
-
-    // The same with these stop times, whose rows are copied later.
-    pub(crate) fn into_draft(self, stop_times: KeptStopTimes) -> Result<StopTimesDraft, OutOfMemory>
-        requires { length self.numbers.items ≡ length stop_times }
-        ensures { (d : Dataset) → Passes d → AreStopTimes d stop_times
-            → AreGathered d stop_times self → IfOk result (AreStopTimesOf d) }
+    // The lists. The trips after that of the last stop time begin at the end.
+    pub(crate) fn into_lists(self) -> Result<GatheredLists, OutOfMemory>
+        ensures { IfOk result (AreListsOf self) }
     {
         let Gathered {
             trips,
@@ -114,8 +94,11 @@ impl Gathered {
             headsigns,
         } = self;
         starts.resize(trips, numbers.len())?;
-        let headsigns = headsigns.into_list()?;
-        Ok(StopTimesDraft::of(stop_times, numbers, List::new(starts), headsigns))
+        Ok(GatheredLists {
+            numbers,
+            starts: List::new(starts),
+            headsigns: headsigns.into_list()?,
+        })
     }
 }
 

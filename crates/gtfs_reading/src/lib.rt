@@ -9,7 +9,7 @@
 //! let rows = FeedRows::new(alloc, passed)?;
 //! let trips = rows.trips.as_slice().len();
 //! let stop_times = StopTimes::new(alloc, random, passed, trips)?;
-//! rows.with_stop_times(stop_rows, stop_row_starts, headsigns)
+//! rows.with_stop_times(stop_times, headsigns)
 //! ```
 //!
 //! Each list stands in the order of its keys: ids by their bytes, transfers by the six parts of their keys, frequencies

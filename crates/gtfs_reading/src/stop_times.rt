@@ -2,23 +2,21 @@ ghost use Rattle.std.specs.Prelude.{◌≡◌, IfOk, length};
 ghost use Rattle.gtfs_rows.specs.Reading.{content_of};
 ghost use Rattle.gtfs_reading.specs.StopTimeLists.{AreStopTimesOf};
 
-use crate::gathered::Gathered;
+use crate::gathered::{Gathered, GatheredLists, rows_with};
 use gtfs_field::{List, OutOfMemory, Text};
-use gtfs_rows::StopRow;
+use gtfs_rows::StopTimesByTrip;
 use gtfs_rules::Passed;
 use std::alloc::Global;
 use std::hash::RandomState;
 
-/// The stop times of a dataset, as the lists of [`gtfs_rows::Parts`] with the same names (GTFS Schedule Reference,
+/// The stop times of a dataset, as [`gtfs_rows::Parts`] has them (GTFS Schedule Reference,
 /// `stop_times.txt`).
 #[derive(Drop)]
 pub struct StopTimes {
-    /// The stop times of all trips, by the numbers of trips and in each trip by sequence.
-    pub stop_rows: List<StopRow>,
-    /// Where the stop times of each trip begin, also of a trip that has none; they end where those of the next one begin.
-    pub stop_row_starts: List<usize>,
-    /// The headsigns that stop times name by their numbers, each once, in the order in which `stop_rows` first name them. A
-    /// control character is a space.
+    /// The stop times of all trips, also of those that have none.
+    pub stop_times: StopTimesByTrip,
+    /// The headsigns that stop times name by their numbers, each once, in the order in which the stop times first name them,
+    /// trip after trip. A control character is a space.
     pub headsigns: List<Text>,
 }
 
@@ -42,6 +40,15 @@ impl StopTimes {
         let stop_times = passed.stop_times();
         let mut gathered = Gathered::new(alloc, random, stop_times.len(), trips)?;
         gathered.push_all(passed.tables(), stop_times)?;
-        gathered.into_stop_times(alloc, stop_times)
+        let GatheredLists {
+            numbers,
+            starts,
+            headsigns,
+        } = gathered.into_lists()?;
+        let rows = rows_with(alloc, stop_times, &numbers)?;
+        Ok(StopTimes {
+            stop_times: StopTimesByTrip::new(List::new(rows), starts),
+            headsigns,
+        })
     }
 }

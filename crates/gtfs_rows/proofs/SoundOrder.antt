@@ -46,6 +46,6 @@ in_order p sound =
       routes = same_order (λ r. r.route_id) (λ r. r.route_id) c.routes p.routes (map-map (λ r. r.route_id) (route_of p) p.routes) order.routes;
       services = same_order (λ s. s.service_id) (λ s. s.service_id) c.services p.services (map-map (λ s. s.service_id) service_of p.services) order.services;
       trips = same_order (λ t. t.trip_id) (λ t. t.trip_id) c.trips p.trips
-          (trip_ids-kept p p.trips (parts p.stop_row_starts p.stop_rows) (parts p.frequency_starts p.frequencies)
-          (length-parts p.stop_row_starts p.stop_rows ∙ sound.stop_rows.0) (length-parts p.frequency_starts p.frequencies ∙ sound.frequencies.0)) order.trips;
+          (trip_ids-kept p p.trips (parts p.stop_times.starts p.stop_times.rows) (parts p.frequency_starts p.frequencies)
+          (length-parts p.stop_times.starts p.stop_times.rows ∙ sound.stop_rows.0) (length-parts p.frequency_starts p.frequencies ∙ sound.frequencies.0)) order.trips;
     }

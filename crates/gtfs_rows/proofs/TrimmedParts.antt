@@ -34,7 +34,7 @@ module _ (c : Cut) (p : Parts) where
   pub content-trimmed : content_of_parts (trimmed_parts c p) ≡ trimmed c (content_of_parts p)
   content-trimmed = λ i. record (content_of_parts p) {
     services = services-are i;
-    trips = trips-are p.trips (parts p.stop_row_starts p.stop_rows) (parts p.frequency_starts p.frequencies) i;
+    trips = trips-are p.trips (parts p.stop_times.starts p.stop_times.rows) (parts p.frequency_starts p.frequencies) i;
   }
 
   pub sound-parts : is_service_day (cut_day c) ≡ true → IsSoundParts p → IsSoundParts (trimmed_parts c p)

@@ -58,7 +58,7 @@ record IsTrip (p : Parts) (t : ℕ) (rs : List StopRow) (fs : List Frequency) : 
 module _ (p : Parts) (sound : IsSoundParts p) where
   trip : (t : ℕ) (rs : List StopRow) (fs : List Frequency) → slice_get (stop_rows_by_trip p) t ≡ Some rs → slice_get (frequencies_by_trip p) t ≡ Some fs → IsTrip p t rs fs
   trip t rs fs at_rows at_periods =
-      let within : t < length p.trips = omega (arith, slice_get_within (stop_rows_by_trip p) t rs at_rows, length-parts p.stop_row_starts p.stop_rows, sound.stop_rows.0) in
+      let within : t < length p.trips = omega (arith, slice_get_within (stop_rows_by_trip p) t rs at_rows, length-parts p.stop_times.starts p.stop_times.rows, sound.stop_rows.0) in
       let some = some_of p.trips t within in
       record { row = get_or p.trips t some; there = content_trip p t (get_or p.trips t some) rs fs (slice_get-get_or p.trips t some within) at_rows at_periods }
 
@@ -194,14 +194,14 @@ module _ (p : Parts) (sound : IsSoundParts p) where
       let within : t < length (frequencies_by_trip p) = omega (
         arith,
         slice_get_within (stop_rows_by_trip p) t rs at_rows,
-        length-parts p.stop_row_starts p.stop_rows,
+        length-parts p.stop_times.starts p.stop_times.rows,
         sound.stop_rows.0,
         length-parts p.frequency_starts p.frequencies,
         sound.frequencies.0,
       ) in
       let fs = get_or (frequencies_by_trip p) t [] in
       let u = trip t rs fs at_rows (slice_get-get_or (frequencies_by_trip p) t [] within) in
-      let named = all_in_part (stop_time_names_rows p) p.stop_row_starts p.stop_rows t rs sound.names_rows.stop_rows at_rows in
+      let named = all_in_part (stop_time_names_rows p) p.stop_times.starts p.stop_times.rows t rs sound.names_rows.stop_rows at_rows in
       let names = λ (k : ℕ) (d : StopRow) (h : k < length rs). and_parts (nat_lt (get_or rs k d).stop_id.0 (length p.stops)) (is_number_within (length p.headsigns) (get_or rs k d).stop_headsign)
       (all_at (stop_time_names_rows p) rs k d named h) in
       record {
@@ -219,7 +219,7 @@ module _ (p : Parts) (sound : IsSoundParts p) where
       let within : t < length (stop_rows_by_trip p) = omega (
         arith,
         slice_get_within (frequencies_by_trip p) t fs at_periods,
-        length-parts p.stop_row_starts p.stop_rows,
+        length-parts p.stop_times.starts p.stop_times.rows,
         sound.stop_rows.0,
         length-parts p.frequency_starts p.frequencies,
         sound.frequencies.0,

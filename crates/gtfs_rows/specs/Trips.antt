@@ -8,7 +8,7 @@ use Rattle.gtfs_stop_times.specs.declared.stop_row.StopRow.{StopRow}
 
 -- the stop times of each trip, at its number
 abbrev pub stop_rows_by_trip : Parts → List (List StopRow)
-stop_rows_by_trip p = parts p.stop_row_starts p.stop_rows
+stop_rows_by_trip p = parts p.stop_times.starts p.stop_times.rows
 
 -- the frequencies of each trip, at its number
 abbrev pub frequencies_by_trip : Parts → List (List Frequency)

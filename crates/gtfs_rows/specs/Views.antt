@@ -1,5 +1,5 @@
 -- What the rows of a feed stand for: the plain records, with ids and headsigns as texts in place of their numbers.
-use Rattle.std.specs.Prelude.{◌≡◌, ℕ, ◌&&◌, Bool, true, nat_lt, List, [], ◌∷◌, length, map, slice_index_or, Option, Some, None, option_map}
+use Rattle.std.specs.Prelude.{◌≡◌, ℕ, ◌&&◌, Bool, true, nat_lt, List, [], ◌∷◌, length, map, slice_index_or, Option, option_map}
 use Rattle.std.specs.List.{list_all}
 use Rattle.csv.specs.Records.{Rising}
 use Rattle.gtfs_table.specs.Parts.{parts}
@@ -98,7 +98,7 @@ content_of_parts p = record {
   stops = map (stop_of p) p.stops;
   routes = map (route_of p) p.routes;
   services = map service_of p.services;
-  trips = trips_of p p.trips (parts p.stop_row_starts p.stop_rows) (parts p.frequency_starts p.frequencies);
+  trips = trips_of p p.trips (parts p.stop_times.starts p.stop_times.rows) (parts p.frequency_starts p.frequencies);
   transfers = map (transfer_of p) p.transfers;
 }
 
@@ -128,7 +128,7 @@ pub record NamesRows (p : Parts) : Type 0 where
   pub stops : list_all (λ s. names_stop p s.parent_station) p.stops ≡ true
   pub routes : list_all (λ r. nat_lt r.agency_id.0 (length p.agencies)) p.routes ≡ true
   pub trips : list_all (trip_names_rows p) p.trips ≡ true
-  pub stop_rows : list_all (stop_time_names_rows p) p.stop_rows ≡ true
+  pub stop_rows : list_all (stop_time_names_rows p) p.stop_times.rows ≡ true
   pub transfers : list_all (transfer_names_rows p) p.transfers ≡ true
 
 -- a list in which each trip has its stretch: as many starts as trips, rising to the end, and nothing before the first
@@ -138,6 +138,6 @@ IsCut p starts xs = (length starts ≡ length p.trips) × Rising 0 starts (lengt
 -- what `Feed::assemble` asks of parts
 pub record IsSoundParts (p : Parts) : Type 0 where
   pub names_rows : NamesRows p
-  pub stop_rows : IsCut p p.stop_row_starts p.stop_rows
+  pub stop_rows : IsCut p p.stop_times.starts p.stop_times.rows
   pub frequencies : IsCut p p.frequency_starts p.frequencies
   pub content : IsSound (content_of_parts p)

@@ -25,7 +25,6 @@ mod parts;
 mod route;
 mod service;
 mod stop;
-mod stretches;
 mod transfer;
 mod trip;
 
@@ -36,14 +35,13 @@ pub use choices::{
 };
 pub use frequency::Frequency;
 pub use gtfs_stop_times::{
-    DropOffType, HeadsignNo, OptionalClock, OptionalHeadsign, PickupType, StopNo, StopRow,
-    Timepoint,
+    DropOffType, HeadsignNo, OptionalClock, OptionalHeadsign, PickupType, RowRange, StopNo,
+    StopRow, StopTimesByTrip, Timepoint, stretch,
 };
 pub use numbers::{AgencyNo, RouteNo, ServiceNo, TripNo};
 pub use parts::Parts;
 pub use route::{Route, RouteType};
 pub use service::ServiceRow;
 pub use stop::Stop;
-pub use stretches::stretch;
 pub use transfer::Transfer;
 pub use trip::Trip;

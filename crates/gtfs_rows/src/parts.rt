@@ -6,12 +6,12 @@ use crate::stop::Stop;
 use crate::transfer::Transfer;
 use crate::trip::Trip;
 use gtfs_field::{List, Text};
-use gtfs_stop_times::StopRow;
+use gtfs_stop_times::StopTimesByTrip;
 
 /// All rows of a feed, each list in the order of its keys: ids by their bytes, transfers by the six parts of their key.
 ///
-/// The stop times of all trips stand in one list, trip after trip and in each trip by sequence, and so do the
-/// frequencies, in each trip by start.
+/// The stop times of all trips are seen as one list, trip after trip and in each trip by sequence. So are the frequencies,
+/// in each trip by start.
 pub struct Parts {
     pub agencies: List<Agency>,
     pub stops: List<Stop>,
@@ -19,9 +19,7 @@ pub struct Parts {
     pub services: List<ServiceRow>,
     pub trips: List<Trip>,
     pub transfers: List<Transfer>,
-    pub stop_rows: List<StopRow>,
-    /// Where the stop times of each trip begin; they end where those of the next one begin.
-    pub stop_row_starts: List<usize>,
+    pub stop_times: StopTimesByTrip,
     pub frequencies: List<Frequency>,
     /// Where the frequencies of each trip begin.
     pub frequency_starts: List<usize>,
@@ -39,8 +37,7 @@ impl Drop for Parts {
             services: _,
             trips: _,
             transfers: _,
-            stop_rows: _,
-            stop_row_starts: _,
+            stop_times: _,
             frequencies: _,
             frequency_starts: _,
             headsigns: _,

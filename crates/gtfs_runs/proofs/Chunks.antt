@@ -123,12 +123,3 @@ course_more p xs n a b numbers inside first last same so_far k d below = elim (c
       ap (λ m. (stopping_of p (get_or xs m d)).course) here
       ∙ sym (ap (λ x. (stopping_of p x).course) (sym (first ∙ get_or_default xs 0 a d filled)) ∙ equal ∙ ap (λ x. (stopping_of p x).course) (last ∙ get_or_default xs n b d inside))
 ]
-
--- and none more
-pub course_ends : (p : Parts) (xs : List Listed) (n : ℕ) (a b : Listed) → AreNumbered p xs → n < length xs → a ≡ get_or xs 0 a → b ≡ get_or xs n b
-    → (IsNumbered p a b → is_same_course (stopping_of p a).course (stopping_of p b).course ≡ false)
-    → (d : Listed) → is_same_course (stopping_of p (get_or xs 0 d)).course (stopping_of p (get_or xs n d)).course ≡ false
-course_ends p xs n a b numbers inside first last other d =
-    let filled : 0 < length xs = omega (arith, inside) in
-    (λ i. is_same_course (stopping_of p (sym (first ∙ get_or_default xs 0 a d filled) i)).course (stopping_of p (sym (last ∙ get_or_default xs n b d inside) i)).course)
-    ∙ other (numbered_pair p xs n a b numbers inside first last)

@@ -19,7 +19,7 @@ use Rattle.gtfs_rows.specs.Trips.{left_at}
 use Rattle.gtfs_rows.proofs.SoundOrder.{in_order}
 use Rattle.gtfs_runs.specs.Lanes.{departure_rows}
 use Rattle.gtfs_rows.specs.Places.{is_in_place, members}
-use Rattle.gtfs_rows.specs.Runs.{is_departure_row, is_run, passes_at, starts_run, trip_start}
+use Rattle.gtfs_rows.specs.Runs.{is_departure_row, is_run, starts_run, trip_start}
 use Rattle.gtfs_runs.proofs.PlaceFacts.{id_at, same_number}
 
 -- ---- lists
@@ -81,14 +81,6 @@ module _ (p : Parts) where
       ∙ ap (map f) (same_filter (λ r. r.stop_id.0 < length p.stops) (λ x. test (f x)) (leaves_place s row rs fs) 0 rs known
       (λ n x h. ap (λ b. is_departure_row t (stop_row_of p x) && b) (sym (flag_at s x.stop_id.0 h))))
 
-  -- and so are their positions
-  pub positions_are : (s : ℕ) (row : Trip) (rs : List StopRow) (fs : List Frequency) → All (λ r. r.stop_id.0 < length p.stops) rs
-      → map (λ x. x.0) (filter (leaves_place s row rs fs) (enumerate_from 0 rs))
-      ≡ map (λ x. x.0) (departure_rows (content_of_parts p) (text_of_number (stop_ids p) s) (trip_of p row rs fs))
-  positions_are s row rs fs known =
-      sym (ap (map {A = ℕ × content.StopRow} {B = ℕ} (λ x. x.0)) (departure_rows_are s row rs fs known)
-      ∙ map-map {A = ℕ × StopRow} (λ x. x.0) (λ x. (x.0, stop_row_of p x.1)) (filter (leaves_place s row rs fs) (enumerate_from 0 rs)))
-
   -- ---- runs
 
   -- when the vehicle of a stop time leaves, 0 where there is no time
@@ -98,10 +90,6 @@ module _ (p : Parts) where
   pub start_is : (row : Trip) (rs : List StopRow) (fs : List Frequency) (d : StopRow) → 0 < length rs → trip_start (trip_of p row rs fs) ≡ left (get_or rs 0 d)
   start_is row [] fs d filled = absurd (omega arith)
   start_is row (r ∷ rs) fs d filled = refl
-
-  pub passes_is : (row : Trip) (rs : List StopRow) (fs : List Frequency) (d x : StopRow) (run : ℕ) → 0 < length rs
-      → passes_at (trip_of p row rs fs) run (stop_row_of p x) ≡ run + left x - left (get_or rs 0 d)
-  passes_is row rs fs d x run filled = ap (λ n. run + left x - n) (start_is row rs fs d filled)
 
   -- a trip without stop times has no run
   pub no_run : (row : Trip) (fs : List Frequency) (run : ℕ) → is_run (trip_of p row [] fs) run ≡ false

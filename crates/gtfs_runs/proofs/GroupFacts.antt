@@ -46,18 +46,6 @@ group_is p t u rs at_trip at_rows =
 
 -- ---- all trips
 
-pub no_trips_yet : (p : Parts) → AreOfTrips p 0 []
-no_trips_yet p = record { once = λ t. none (nat_lt t 0) (ltb-none t); groups = λ k d within. absurd (omega arith) }
-  where
-    ltb-none : (t : ℕ) → nat_lt t 0 ≡ false
-    ltb-none t = elim (cases_Bool (nat_lt t 0)) [
-      | inl is ↦ let low = ltb-true t 0 is in absurd (omega (arith, low))
-      | inr isnt ↦ isnt
-    ]
-
-    none : (b : Bool) → b ≡ false → ◌≡◌ {A = ℕ} 0 (cond b 1 0)
-    none b is = ap (λ a. cond a 1 0) (sym is)
-
 pub one_trip_more : (p : Parts) (n : ℕ) (xs new : List GroupedTrip) (x : GroupedTrip) → x.trip.0 ≡ n → group_of x ≡ trip_group p n → new ≡ xs ++ x ∷ [] → AreOfTrips p n xs
     → AreOfTrips p (n + 1) new
 one_trip_more p n xs new x is group pushed are = record {
@@ -277,7 +265,7 @@ pub starts_at : (p : Parts) → IsSoundParts p → (trips : List IndexedTrip) �
     → (get_or trips t e).start ≡ first_left (get_or (stop_rows_by_trip p) t [])
 starts_at p sound trips started t e within =
     let rows = stop_rows_by_trip p in
-    let size : length rows ≡ length p.trips = omega (arith, length-parts p.stop_row_starts p.stop_rows, sound.stop_rows.0) in
+    let size : length rows ≡ length p.trips = omega (arith, length-parts p.stop_times.starts p.stop_times.rows, sound.stop_rows.0) in
     let same : length trips ≡ length rows = sym (length-map trips (λ x. x.start)) ∙ ap length started ∙ length-map rows first_left in
     sym (get_or-map (λ x. x.start) trips t e 0 (omega (arith, within, size, same))) ∙ ap (λ l. get_or l t 0) started ∙ get_or-map first_left rows t [] 0 (omega (arith, within, size))
 
@@ -293,7 +281,7 @@ marked_at p sound trips are t e within fs at =
 
 pub trips_counted : (p : Parts) → IsSoundParts p → (trips : List IndexedTrip) → AreStarted p trips → length trips ≡ length p.trips
 trips_counted p sound trips started =
-    let size : length (stop_rows_by_trip p) ≡ length p.trips = omega (arith, length-parts p.stop_row_starts p.stop_rows, sound.stop_rows.0) in
+    let size : length (stop_rows_by_trip p) ≡ length p.trips = omega (arith, length-parts p.stop_times.starts p.stop_times.rows, sound.stop_rows.0) in
     sym (length-map trips (λ x. x.start)) ∙ ap length started ∙ length-map (stop_rows_by_trip p) first_left ∙ size
 
 -- ---- the events of an index

@@ -1,30 +1,29 @@
 -- The numbers of groups: what they count, and that they compare like the groups. And what steps keep of the order and the services
 -- of events that have them.
-use Rattle.std.proofs.Common.{rules, ◌≡◌, ◌≤◌, ◌<◌, ◌+◌, ◌-◌, ◌++◌, ◌∙◌, ℕ, true, List, [], ◌∷◌, cond, false, length, map, take, drop, get_or, nat_lt, sym, ap, subst, arith, inl, inr, ◌≢◌, ◌==◌, ◌&&◌, get_or-set_other, get_or-set_same, Result, Ok, Err}
+use Rattle.std.proofs.Common.{rules, ◌≡◌, ◌≤◌, ◌<◌, ◌+◌, ◌-◌, ◌++◌, ◌∙◌, ℕ, true, List, [], ◌∷◌, cond, false, length, map, take, drop, get_or, nat_lt, sym, ap, subst, arith, inl, inr, ◌≢◌, ◌==◌, get_or-set_other, get_or-set_same, Result, Ok, Err}
 use Rattle.std.specs.Prelude.{IfOk}
 use Rattle.std.specs.List.{All, slice_set}
 use Rattle.std.specs.List.Sorted.{IsPermutation, IsSorted}
-use Rattle.std.specs.Cmp.{IsTotalOrder, both_ways, tied_itself}
-use Rattle.std.specs.Cmp.Derive.{both_true}
+use Rattle.std.specs.Cmp.{IsTotalOrder, tied_itself}
 use Rattle.std.specs.Cmp.Rules.{comparing}
 use Rattle.std.specs.FinMap.{IsAntisymmetric, nat_cmp-IsAntisymmetric, slice_cmp-IsAntisymmetric}
 use Rattle.std.specs.declared.cmp.Ordering.{Ordering}
 use Rattle.std.specs.declared.cmp.Ordering.TheVariants.{Less, Equal, Greater}
 use Rattle.std.specs.Ordering.{is_eq, is_lt, nat_cmp, on, ordering_then, then_cmp}
 use Rattle.std.proofs.Math.Seq.{map-set_same}
-use Rattle.std.proofs.lemmas.Bool.{and_parts, cases_Bool, eq-eqb as equal_holds, eqb-true, ltb-false, ltb-true}
+use Rattle.std.proofs.lemmas.Bool.{and_parts, cases_Bool, eqb-true, ltb-false, ltb-true}
 use Rattle.std.proofs.lemmas.Cmp.{nat_cmp_total}
 use Rattle.std.proofs.lemmas.List.{get_or-map, get_or-take, get_or_default, length-map, length-take-le}
 use Rattle.std.proofs.lemmas.List.Elements.{All-drop, All-map, All-nil, All-set}
 use Rattle.std.proofs.lemmas.List.Sorted.{All-permutation}
-use Rattle.gtfs_field.proofs.OrderingFacts.{equal, tied as both_equal}
+use Rattle.gtfs_field.proofs.OrderingFacts.{tied as both_equal}
 use Rattle.gtfs_rows.proofs.SameElements.{pairs-map}
 use Rattle.gtfs_rows.specs.Order.{Ascends}
 use Rattle.gtfs_rows.specs.declared.parts.Parts.{Parts}
 use Rattle.gtfs_runs.specs.Order.{event_cmp}
 use Rattle.gtfs_runs.specs.declared.grouped_trip.GroupedTrip.{GroupedTrip}
 use Rattle.gtfs_runs.specs.declared.stop_lanes.listed.Listed.{Listed}
-use Rattle.gtfs_runs.specs.steps.Courses.{AreServed, course_no_cmp, event_of, is_same_course, stopping_cmp, stopping_of}
+use Rattle.gtfs_runs.specs.steps.Courses.{AreServed, course_no_cmp, event_of, stopping_cmp, stopping_of}
 use Rattle.gtfs_runs.specs.steps.Groups.{Group, below, group_cmp, group_of, sharing, trip_group}
 use Rattle.gtfs_runs.specs.steps.Numbers.{AreNumbered, IsNumbered, is_alike, listed_cmp}
 use Rattle.gtfs_runs.proofs.Chunks.{all_mapped}
@@ -146,22 +145,6 @@ same_order p x y is =
     same_course_order : (q : Parts) (a b : Listed) → ordering_then (group_cmp (trip_group q a.trip) (trip_group q b.trip)) (nat_cmp a.row b.row)
         ≡ course_no_cmp (stopping_of q a).course (stopping_of q b).course
     same_course_order q a b = then_assoc (nat_cmp (trip_group q a.trip).0 (trip_group q b.trip).0) _ (nat_cmp a.row b.row)
-
-same_pair : (a b m n : ℕ) → ((a == b) && (m == n)) ≡ is_eq (ordering_then (nat_cmp a b) (nat_cmp m n))
-same_pair a b m n = both_ways ((a == b) && (m == n)) (is_eq (ordering_then (nat_cmp a b) (nat_cmp m n)))
-    (λ holds.
-    let both = and_parts (a == b) (m == n) holds in
-    (λ i. is_eq (ordering_then (nat_cmp a (sym (eqb-true a b both.0) i)) (nat_cmp m (sym (eqb-true m n both.1) i))))
-    ∙ (λ i. is_eq (ordering_then (tied_itself nat_cmp_total a i) (tied_itself nat_cmp_total m i))))
-    (λ holds.
-    let both = both_equal _ _ (equal _ holds) in
-    both_true (equal_holds a b (nat_cmp-IsAntisymmetric a b both.0)) (equal_holds m n (nat_cmp-IsAntisymmetric m n both.1)))
-
--- two events of one course
-pub same_course : (p : Parts) (x y : Listed) → IsNumbered p x y → ((x.group == y.group) && (x.row == y.row)) ≡ is_same_course (stopping_of p x).course (stopping_of p y).course
-same_course p x y is =
-    same_pair x.group y.group x.row y.row
-    ∙ ap is_eq (ap (λ o. ordering_then o (nat_cmp x.row y.row)) is ∙ then_assoc (nat_cmp (trip_group p x.trip).0 (trip_group p y.trip).0) _ (nat_cmp x.row y.row))
 
 -- that of the fields, of which the service is the last
 abbrev pub field_cmp : Listed → Listed → Ordering

@@ -192,7 +192,7 @@ module _ (p : Parts) (sound : IsSoundParts p) (s : ℕ) where
 
     at_rows : slice_get (stop_rows_by_trip p) t ≡ Some rows
     at_rows =
-        let here : t < length (stop_rows_by_trip p) = omega (arith, within, length-parts p.stop_row_starts p.stop_rows, sound.stop_rows.0) in
+        let here : t < length (stop_rows_by_trip p) = omega (arith, within, length-parts p.stop_times.starts p.stop_times.rows, sound.stop_rows.0) in
         slice_get-get_or (stop_rows_by_trip p) t [] here
 
     at_periods : slice_get (frequencies_by_trip p) t ≡ Some fs

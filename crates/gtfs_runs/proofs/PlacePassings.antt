@@ -5,8 +5,8 @@ use Rattle.std.specs.List.{All, slice_get}
 use Rattle.std.proofs.lemmas.Bool.{ltb-true}
 use Rattle.std.specs.declared.cmp.Ordering.TheVariants.{Less}
 use Rattle.std.proofs.Math.Seq.{take-add}
-use Rattle.std.proofs.lemmas.List.{append_assoc as append-assoc, drop-map, get_or_default, get_or-take, length-map, length-take-le, map-append, take-append-drop, take-map}
-use Rattle.std.proofs.lemmas.List.Elements.{All-drop, All-head, All-tail, All-take}
+use Rattle.std.proofs.lemmas.List.{append_assoc as append-assoc, drop-map, get_or_default, get_or-take, length-map, length-take-le, map-append, take-append-drop}
+use Rattle.std.proofs.lemmas.List.Elements.{All-drop, All-head, All-tail}
 use Rattle.std.proofs.lemmas.Option.{get_or_from_slice_get}
 use Rattle.gtfs_columns.specs.Values.{if_there}
 use Rattle.gtfs_rows.specs.Order.{Ascends}
@@ -43,7 +43,7 @@ no_row = record { trip = 0; row = 0 }
 pub trip_inside : (p : Parts) → IsSoundParts p → (x : DepartureRow) → IsStopTime p x → x.trip < length p.trips
 trip_inside p sound x is =
     let here = asked_within true (λ rows. nat_lt x.row (length rows)) (stop_rows_by_trip p) x.trip is in
-    omega (arith, here, length-parts p.stop_row_starts p.stop_rows, sound.stop_rows.0)
+    omega (arith, here, length-parts p.stop_times.starts p.stop_times.rows, sound.stop_rows.0)
 
 -- that of the first of these rows
 pub first_inside : (choice : Times) (p : Parts) → IsSoundParts p → (xs : List DepartureRow) (t : ℕ) → 0 < length xs → t ≡ (get_or xs 0 no_row).trip → All (IsStopTime (timed_parts choice p)) xs
@@ -132,12 +132,6 @@ pub more_passings : (f : DepartureRow → Passing) (xs : List DepartureRow) (at 
 more_passings f xs at n old mid new so_far more =
     more ∙ ap (λ l. l ++ map f (take n (drop at xs))) so_far ∙ append-assoc old (map f (take at xs)) (map f (take n (drop at xs)))
     ∙ ap (λ l. old ++ l) (sym (ap (map f) (take-add at n xs) ∙ map-append f (take at xs) (take n (drop at xs))))
-
-pub first_passings : (p : Parts) (n : ℕ) (rows : List DepartureRow) (xs : List Passing) → ArePassingsAt p rows xs → ArePassingsAt p (take n rows) (take n xs)
-first_passings p n rows xs are = record {
-  passings = λ d. ap (take n) (are.passings d) ∙ take-map (passing_in p d) n rows;
-  after = All-take (λ x. x.after ≤ 3_599_999) n xs are.after;
-}
 
 pub left_passings : (p : Parts) (n : ℕ) (rows : List DepartureRow) (xs : List Passing) → ArePassingsAt p rows xs → ArePassingsAt p (drop n rows) (drop n xs)
 left_passings p n rows xs are = record {

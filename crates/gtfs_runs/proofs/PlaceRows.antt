@@ -217,7 +217,7 @@ module _ (p : Parts) (sound : IsSoundParts p) (s : ℕ) (within : s < length p.s
   place_sum t r = elim (cases_Bool (nat_lt t (length p.trips))) [
     | inl is ↦
         let inside : t < length p.trips = ltb-true t (length p.trips) is in
-        let here : t < length (stop_rows_by_trip p) = omega (arith, inside, length-parts p.stop_row_starts p.stop_rows, sound.stop_rows.0) in
+        let here : t < length (stop_rows_by_trip p) = omega (arith, inside, length-parts p.stop_times.starts p.stop_times.rows, sound.stop_rows.0) in
         let periods : t < length (frequencies_by_trip p) = omega (arith, inside, length-parts p.frequency_starts p.frequencies, sound.frequencies.0) in
         let some = some_of p.trips t inside in
         let u = get_or p.trips t some in

@@ -186,7 +186,7 @@ module _ (p : Parts) (sound : IsSoundParts p) (s t : ℕ) (row : Trip) (rs : Lis
 pub row_of_trip : (p : Parts) (sound : IsSoundParts p) (s t k : ℕ) (rs : List StopRow) (e : Event) → slice_get (stop_rows_by_trip p) t ≡ Some rs
     → ((e.trip.0 == t) && is_event_of p s k e) ≡ true → e.row < length rs
 row_of_trip p sound s t k rs e at_rows holds =
-    let within : t < length p.trips = omega (arith, slice_get_within (stop_rows_by_trip p) t rs at_rows, length-parts p.stop_row_starts p.stop_rows, sound.stop_rows.0) in
+    let within : t < length p.trips = omega (arith, slice_get_within (stop_rows_by_trip p) t rs at_rows, length-parts p.stop_times.starts p.stop_times.rows, sound.stop_rows.0) in
     let periods : t < length (frequencies_by_trip p) = omega (arith, within, length-parts p.frequency_starts p.frequencies, sound.frequencies.0) in
     let some = some_of p.trips t within in
     row_known p sound s t (get_or p.trips t some) rs (get_or (frequencies_by_trip p) t []) (slice_get-get_or p.trips t some within) at_rows

@@ -1,6 +1,5 @@
 -- The seconds at which the runs of a trip start, each once: no two of its periods start a run at one second.
 use Rattle.std.proofs.Common.{◌≡◌, ◌≤◌, ◌<◌, ◌+◌, ◌-◌, ◌%◌, ◌∙◌, ◌&&◌, ◌==◌, ℕ, suc, Bool, true, false, cond, List, [], ◌∷◌, length, get_or, take, add-one, nat_lt, nat_le, refl, sym, ap, arith, inl, inr}
-use Rattle.std.specs.Prelude.{unwrap_or}
 use Rattle.std.specs.List.{list_any}
 use Rattle.std.proofs.Math.Seq.{take-suc}
 use Rattle.std.proofs.lemmas.Bool.{and_parts, cases_Bool, leb-true, ltb-true}
@@ -9,10 +8,10 @@ use Rattle.gtfs_rows.specs.declared.parts.Parts.{Parts}
 use Rattle.gtfs_stop_times.specs.declared.stop_row.StopRow.{StopRow}
 use Rattle.gtfs_rows.specs.declared.trip.Trip.{Trip}
 use Rattle.gtfs_rows.specs.Views.{frequency_of, trip_of}
-use Rattle.gtfs_rows.specs.Trips.{ArePeriods, left_at}
+use Rattle.gtfs_rows.specs.Trips.{ArePeriods}
 use Rattle.gtfs_runs.specs.Counts.{tally}
 use Rattle.gtfs_rows.specs.Runs.{is_run, starts_run}
-use Rattle.gtfs_runs.proofs.ContentRows.{own_run, period_run}
+use Rattle.gtfs_runs.proofs.ContentRows.{period_run}
 use Rattle.gtfs_runs.proofs.Tallies.{tally-none, tally-push}
 
 abbrev pub starts : ℕ → Frequency → Bool
@@ -60,12 +59,3 @@ period_more fs n f r old new within item so_far more =
 pub starts_all : (p : Parts) (t : Trip) (rs : List StopRow) (fs : List Frequency) (r : ℕ) (found : List ℕ) → 0 < length rs → 0 < length fs → ArePeriods fs
     → tally (λ x. r == x) found ≡ tally (starts r) fs → tally (λ x. r == x) found ≡ cond (is_run (trip_of p t rs fs) r) 1 0
 starts_all p t rs fs r found filled periodic are is = is ∙ one_period fs r are ∙ ap (λ b. cond b 1 0) (sym (period_run p t rs fs r filled periodic))
-
-pub starts_own : (p : Parts) (t : Trip) (rs : List StopRow) (fs : List Frequency) (d : StopRow) (r n : ℕ) (found : List ℕ) → 0 < length rs → fs ≡ []
-    → n ≡ unwrap_or (left_at (get_or rs 0 d)) 0 → found ≡ n ∷ [] → tally (λ x. r == x) found ≡ cond (is_run (trip_of p t rs fs) r) 1 0
-starts_own p t rs fs d r n found filled none is one =
-    ap (tally (λ x. r == x)) one ∙ (alone (cond (r == n) 1 0) ∙ ap (λ m. cond (r == m) 1 0) is)
-    ∙ ap (λ b. cond b 1 0) (sym (ap (λ gs. is_run (trip_of p t rs gs) r) none ∙ own_run p t rs d r filled))
-  where
-    alone : (m : ℕ) → m + 0 ≡ m
-    alone m = omega arith

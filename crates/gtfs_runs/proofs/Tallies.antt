@@ -98,9 +98,6 @@ second_left start headway second r old before after kept from never so_far =
     ] in
     ap (tally (λ x. r == x)) kept ∙ so_far ∙ ap (λ b. tally (λ x. r == x) old + cond b 1 0) (second_passes start headway second r from test)
 
-pub none_yet : (start headway r n : ℕ) → n ≡ n + cond (starts_before start headway start r) 1 0
-none_yet start headway r n = rw (none_before start headway r) (omega arith)
-
 -- ---- tests
 
 pub tally-same : {X : Type 0} (q r : X → Bool) (xs : List X) → ((x : X) → q x ≡ r x) → tally q xs ≡ tally r xs

@@ -43,7 +43,7 @@ at_most (Some a) h = h
 pub left_within : (p : Parts) → IsSoundParts p → (t : ℕ) (rs : List StopRow) → slice_get (stop_rows_by_trip p) t ≡ Some rs → (k : ℕ) (d : StopRow) → k < length rs
     → unwrap_or (left_at (get_or rs k d)) 0 ≤ 3_599_999
 left_within p sound t rs at_rows k d within =
-    let trips : t < length p.trips = omega (arith, slice_get_within (stop_rows_by_trip p) t rs at_rows, length-parts p.stop_row_starts p.stop_rows, sound.stop_rows.0) in
+    let trips : t < length p.trips = omega (arith, slice_get_within (stop_rows_by_trip p) t rs at_rows, length-parts p.stop_times.starts p.stop_times.rows, sound.stop_rows.0) in
     let periods : t < length (frequencies_by_trip p) = omega (arith, trips, length-parts p.frequency_starts p.frequencies, sound.frequencies.0) in
     let some = some_of p.trips t trips in
     let fs = get_or (frequencies_by_trip p) t [] in
@@ -55,7 +55,7 @@ starts_within p sound t (r ∷ rs) at = left_within p sound t (r ∷ rs) at 0 r 
 
 pub rows_at : (p : Parts) → IsSoundParts p → (t : ℕ) → t < length p.trips → slice_get (stop_rows_by_trip p) t ≡ Some (get_or (stop_rows_by_trip p) t [])
 rows_at p sound t within =
-    let here : t < length (stop_rows_by_trip p) = omega (arith, within, length-parts p.stop_row_starts p.stop_rows, sound.stop_rows.0) in
+    let here : t < length (stop_rows_by_trip p) = omega (arith, within, length-parts p.stop_times.starts p.stop_times.rows, sound.stop_rows.0) in
     slice_get-get_or (stop_rows_by_trip p) t [] here
 
 pub periods_run : (p : Parts) → IsSoundParts p → (t : ℕ) (fs : List Frequency) → slice_get (frequencies_by_trip p) t ≡ Some fs → All HasRuns fs

@@ -34,7 +34,7 @@ entry_value t = record { heading = record { direction = t.direction; stops = t.s
 -- ---- the trips of a route
 
 abbrev pub rows_of_number : Parts → ℕ → List StopRow
-rows_of_number p n = unwrap_or (slice_get (parts p.stop_row_starts p.stop_rows) n) []
+rows_of_number p n = unwrap_or (slice_get (parts p.stop_times.starts p.stop_times.rows) n) []
 
 -- the trip of this number is one of the route, and has a stop row
 abbrev pub is_of_route : Parts → ℕ → ℕ → Bool

@@ -4,8 +4,8 @@ use gtfs_days::Service;
 use gtfs_feed::{
     Agency, AgencyNo, BikesAllowed, Direction, DropOffType, ExactTimes, Frequency, LocationType,
     OptionalClock, OptionalHeadsign, Parts, PickupType, Route, RouteNo, RouteType, ServiceNo,
-    ServiceRow, Stop, StopNo, StopRow, Timepoint, Transfer, TransferType, Trip, TripNo,
-    WheelchairAccessible, WheelchairBoarding,
+    ServiceRow, Stop, StopNo, StopRow, StopTimesByTrip, Timepoint, Transfer, TransferType, Trip,
+    TripNo, WheelchairAccessible, WheelchairBoarding,
 };
 use gtfs_field::{Clock, Colour, Coord, List, Text};
 
@@ -184,7 +184,7 @@ fn service(row: &ServiceRow) -> (&Text, &Service) {
     (service_id, service)
 }
 
-// A list for each kind of row. Those of all trips stand in one list, with where each trip's begin.
+// A list for each kind of row. The frequencies of all trips stand in one list, with where each trip's begin.
 fn parts(parts: &Parts) {
     let Parts {
         agencies,
@@ -193,15 +193,14 @@ fn parts(parts: &Parts) {
         services,
         trips,
         transfers,
-        stop_rows,
-        stop_row_starts,
+        stop_times,
         frequencies,
         frequency_starts,
         headsigns,
     } = parts;
     rows(agencies, stops, routes, services, trips, transfers);
-    rows_of_trips(stop_rows, frequencies, headsigns);
-    starts(stop_row_starts, frequency_starts);
+    rows_of_trips(stop_times, frequencies, headsigns);
+    starts(frequency_starts);
 }
 
 fn rows(
@@ -214,9 +213,9 @@ fn rows(
 ) {}
 
 fn rows_of_trips(
-    _stop_rows: &List<StopRow>,
+    _stop_times: &StopTimesByTrip,
     _frequencies: &List<Frequency>,
     _headsigns: &List<Text>,
 ) {}
 
-fn starts(_stop_rows: &List<usize>, _frequencies: &List<usize>) {}
+fn starts(_frequencies: &List<usize>) {}

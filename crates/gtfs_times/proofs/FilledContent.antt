@@ -164,20 +164,20 @@ module _ (p : Parts) (sound : IsSoundParts p) where
   pub sound-timed : (choice : Times) → IsSoundParts (timed_parts choice p)
   sound-timed choice =
       let by = stop_rows_by_trip p in
-      let size : length (timed_parts choice p).stop_rows ≡ length p.stop_rows =
-      omega (arith, changed-length (timed_stop_times choice) (timed-length choice) 0 p.stop_row_starts p.stop_rows sound.stop_rows.1, sound.stop_rows.2) in
+      let size : length (timed_parts choice p).stop_times.rows ≡ length p.stop_times.rows =
+      omega (arith, changed-length (timed_stop_times choice) (timed-length choice) 0 p.stop_times.starts p.stop_times.rows sound.stop_rows.1, sound.stop_rows.2) in
       record {
         names_rows = record {
           stops = sound.names_rows.stops;
           routes = sound.names_rows.routes;
           trips = sound.names_rows.trips;
-          stop_rows = all-names choice by (λ k within. all_in_part (stop_time_names_rows p) p.stop_row_starts p.stop_rows k (get_or by k []) sound.names_rows.stop_rows (slice_get-get_or by k [] within));
+          stop_rows = all-names choice by (λ k within. all_in_part (stop_time_names_rows p) p.stop_times.starts p.stop_times.rows k (get_or by k []) sound.names_rows.stop_rows (slice_get-get_or by k [] within));
           transfers = sound.names_rows.transfers;
         };
         stop_rows = (
           sound.stop_rows.0,
-          subst (λ n. Rising 0 p.stop_row_starts n) (sym size) sound.stop_rows.1,
-          ap (get_or p.stop_row_starts 0) size ∙ sound.stop_rows.2,
+          subst (λ n. Rising 0 p.stop_times.starts n) (sym size) sound.stop_rows.1,
+          ap (get_or p.stop_times.starts 0) size ∙ sound.stop_rows.2,
         );
         frequencies = sound.frequencies;
         content = subst IsSound (sym (content-timed choice p sound)) (timed-content choice);

@@ -55,7 +55,7 @@ timed-length times.Interpolated rows = length-map (enumerate_from 0 rows) (fille
 module _ (choice : Times) (p : Parts) (sound : IsSoundParts p) where
   -- the rows of each trip
   pub by_trip : stop_rows_by_trip (timed_parts choice p) ≡ map (timed_stop_times choice) (stop_rows_by_trip p)
-  by_trip = parts-changed (timed_stop_times choice) (timed-length choice) 0 p.stop_row_starts p.stop_rows [] sound.stop_rows.1 (sym sound.stop_rows.2)
+  by_trip = parts-changed (timed_stop_times choice) (timed-length choice) 0 p.stop_times.starts p.stop_times.rows [] sound.stop_rows.1 (sym sound.stop_rows.2)
 
   pub content-timed : content_of_parts (timed_parts choice p) ≡ timed choice (content_of_parts p)
   content-timed =

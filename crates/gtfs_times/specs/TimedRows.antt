@@ -28,7 +28,7 @@ timed_stop_times times.Interpolated rows = filled_stop_times rows
 
 -- all rows, each trip's under the choice
 abbrev pub timed_parts : Times → Parts → Parts
-timed_parts times p = record p { stop_rows = flat_map (timed_stop_times times) (stop_rows_by_trip p) }
+timed_parts times p = record p { stop_times = record p.stop_times { rows = flat_map (timed_stop_times times) (stop_rows_by_trip p) } }
 
 -- ---- what tells whether a trip's stop times are changed
 

@@ -1,3 +1,4 @@
+pub mod ByTripFacts
 pub mod CoveredTripFacts
 pub mod DayFacts
 pub mod IdleFacts

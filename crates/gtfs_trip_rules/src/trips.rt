@@ -1,3 +1,4 @@
+pub(crate) mod by_trip;
 pub(crate) mod counts;
 pub(crate) mod judge;
 pub(crate) mod kept;

@@ -24,7 +24,7 @@ item_passes q all xs i x same each within is = ap q is ∙ all_at q xs i x (ap (
 -- ---- trips
 
 abbrev pub stop_rows_by_trip : Parts → List (List StopRow)
-stop_rows_by_trip p = parts p.stop_row_starts p.stop_rows
+stop_rows_by_trip p = parts p.stop_times.starts p.stop_times.rows
 
 abbrev pub frequencies_by_trip : Parts → List (List Frequency)
 frequencies_by_trip p = parts p.frequency_starts p.frequencies
@@ -46,7 +46,7 @@ module _ (p : Parts) (sound : IsSoundParts p) (ts : List Trip) (same : ts ≡ p.
       → trips_left p i ≡ trip_of p (get_or ts i d) (get_or (stop_rows_by_trip p) i []) (get_or (frequencies_by_trip p) i []) ∷ trips_left p (suc i)
   left-at d within =
       let inside : i < length p.trips = omega (arith, within, ap length same) in
-      let rows : i < length (stop_rows_by_trip p) = omega (arith, inside, length-parts p.stop_row_starts p.stop_rows, sound.stop_rows.0) in
+      let rows : i < length (stop_rows_by_trip p) = omega (arith, inside, length-parts p.stop_times.starts p.stop_times.rows, sound.stop_rows.0) in
       let periods : i < length (frequencies_by_trip p) = omega (arith, inside, length-parts p.frequency_starts p.frequencies, sound.frequencies.0) in
       trips-at p p.trips (stop_rows_by_trip p) (frequencies_by_trip p) i d inside rows periods
       ∙ ap (λ u. trip_of p u (get_or (stop_rows_by_trip p) i []) (get_or (frequencies_by_trip p) i []) ∷ trips_left p (suc i))

@@ -127,7 +127,7 @@ module _ (p : Parts) where
       ∙ and_from _ _ (rows-short t.trip_id r (leb-true (length t.trip_id) longest_id both.0)) (trips-short ts rs fs both.1)
 
   all-short : have_texts most (stop_times_of (content_of_parts p)) ≡ true
-  all-short = trips-short p.trips (parts p.stop_row_starts p.stop_rows) (parts p.frequency_starts p.frequencies) (no-longer (λ t. t.trip_id) p.trips)
+  all-short = trips-short p.trips (parts p.stop_times.starts p.stop_times.rows) (parts p.frequency_starts p.frequencies) (no-longer (λ t. t.trip_id) p.trips)
 
   held-length : (id : List ℕ) (rs : List StopTime) → length {A = List ℕ × StopRow} (map (λ y. (id, y)) (map (stop_row_of p) rs)) ≡ length rs
   held-length id [] = refl
@@ -168,7 +168,7 @@ header-length : length (row_text default_writer (map (λ c. c.name) (columns_of 
 unfolding fields_text is_blank
 header-length = refl
 
-text-most : (p : Parts) → IsSoundParts p → length (written_text (content_of_parts p) file.StopTimes) ≤ 108 + length p.stop_rows * (2 * most p + 46)
+text-most : (p : Parts) → IsSoundParts p → length (written_text (content_of_parts p) file.StopTimes) ≤ 108 + length p.stop_times.rows * (2 * most p + 46)
 unfolding text_of_records
 text-most p sound =
     let columns = columns_of file.StopTimes in
@@ -179,17 +179,17 @@ text-most p sound =
     let both = and_parts (are_cells columns (stop_time_cells y)) (nat_le (texts_length y) (most p)) h in
     row-most (most p) y both.0 (leb-true (texts_length y) (most p) both.1) in
     let rows = rows-bound columns stop_time_cells passes (2 * most p + 46) each ys all in
-    let count : length ys ≤ length p.stop_rows = omega (arith, count-from p p.trips p.stop_row_starts p.stop_rows (parts p.frequency_starts p.frequencies) 0 sound.stop_rows.1) in
+    let count : length ys ≤ length p.stop_times.rows = omega (arith, count-from p p.trips p.stop_times.starts p.stop_times.rows (parts p.frequency_starts p.frequencies) 0 sound.stop_rows.1) in
     let total = mul-le-mul_right (2 * most p + 46) count in
     let header = row_text default_writer (map (λ c. c.name) columns) in
     let records = text_of_records (map (record_text columns) (map stop_time_cells ys)) in
     omega (arith, rows, total, header-length, length-append header records, ap length (text-of-cells (content_of_parts p) file.StopTimes))
 
 -- where there is room for as many rows as there are, each as long as it can be, the file is not longer
-pub not-longer : (p : Parts) (limit room rows texts : ℕ) → IsSoundParts p → limit ≡ 108 + room → rows ≡ length p.stop_rows → texts ≡ most p
+pub not-longer : (p : Parts) (limit room rows texts : ℕ) → IsSoundParts p → limit ≡ 108 + room → rows ≡ length p.stop_times.rows → texts ≡ most p
     → nat_le rows (room / (2 * texts + 46)) ≡ true → is_longer (content_of_parts p) limit file.StopTimes ≡ false
 not-longer p limit room rows texts sound split rows_is texts_is fits =
     let row = 2 * texts + 46 in
     let total = mul-le-mul_right row (leb-true rows (room / row) fits) in
-    let same : rows * row ≡ length p.stop_rows * (2 * most p + 46) = rw (rows_is, texts_is) refl in
+    let same : rows * row ≡ length p.stop_times.rows * (2 * most p + 46) = rw (rows_is, texts_is) refl in
     le-ltb limit (length (written_text (content_of_parts p) file.StopTimes)) (omega (arith, split, total, same, text-most p sound, div-mul-le_self room row))

@@ -40,7 +40,7 @@ fn are_stop_times_within(parts: &Parts, limit: u64) -> bool
         + longest_stop_id(parts.stops.as_slice()) as u128
         + longest_headsign(parts.headsigns.as_slice()) as u128;
     let row = 2 * texts + WITHOUT_TEXTS;
-    parts.stop_rows.len() as u128 <= room as u128 / row
+    parts.stop_times.len() as u128 <= room as u128 / row
 }
 
 fn longest_trip_id(trips: &[Trip]) -> usize

@@ -14,7 +14,7 @@ use crate::names::{headsign_if_any, stop_id};
 use crate::quoting::is_quoted;
 use crate::sink::Sink;
 use gtfs_field::OutOfMemory;
-use gtfs_rows::{Parts, Stop, StopRow, Timepoint, stretch};
+use gtfs_rows::{Parts, Stop, StopRow, Timepoint};
 
 // The rows of stop_times.txt, trip after trip.
 pub(crate) fn write_stop_times<S: Sink>(
@@ -26,8 +26,6 @@ pub(crate) fn write_stop_times<S: Sink>(
         (rows.new
         ≡ with_rows S.takes rows.old (rows_in (content_of_parts parts.now) file.StopTimes)) }
 {
-    let starts = parts.stop_row_starts.as_slice();
-    let stop_rows = parts.stop_rows.as_slice();
     let trips = parts.trips.as_slice();
     let has_plain_stops = has_plain_stop_ids(parts.stops.as_slice());
     for (n, trip) in trips.iter().enumerate() {
@@ -35,7 +33,7 @@ pub(crate) fn write_stop_times<S: Sink>(
             parts,
             trip.trip_id.as_str(),
             has_plain_stops,
-            stretch(stop_rows, starts, n),
+            parts.stop_times.of_trip(n),
             rows,
         )?;
     }

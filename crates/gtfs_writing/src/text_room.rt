@@ -7,7 +7,7 @@ use crate::room_rows::RoomRows;
 use crate::stop_times::write_trip_rows;
 use crate::text_rows::TextRows;
 use gtfs_field::OutOfMemory;
-use gtfs_rows::{Parts, stretch};
+use gtfs_rows::Parts;
 use gtfs_table::File;
 use std::alloc::Global;
 
@@ -45,7 +45,7 @@ fn likely_stop_times(alloc: Global, parts: &Parts) -> Result<usize, OutOfMemory>
     let left = rows.into_rows().left();
     let counted = outcome?.max(1) as u64;
     let bytes = u64::MAX - left.unwrap_or(0);
-    let all = bytes.saturating_mul(parts.stop_rows.len() as u64) / counted;
+    let all = bytes.saturating_mul(parts.stop_times.len() as u64) / counted;
     Ok(all.saturating_add(all / 32).min(MOST) as usize)
 }
 
@@ -53,13 +53,11 @@ fn likely_stop_times(alloc: Global, parts: &Parts) -> Result<usize, OutOfMemory>
 fn count_some_trips(parts: &Parts, rows: &mut Fields<RoomRows>) -> Result<usize, OutOfMemory>
     requires { IsSoundParts parts.now }
 {
-    let starts = parts.stop_row_starts.as_slice();
-    let stop_rows = parts.stop_rows.as_slice();
     let trips = parts.trips.as_slice();
     let mut counted: usize = 0;
     for (n, trip) in trips.iter().enumerate() {
         if n % TRIPS == 0 {
-            let of_trip = stretch(stop_rows, starts, n);
+            let of_trip = parts.stop_times.of_trip(n);
             write_trip_rows(parts, trip.trip_id.as_str(), false, of_trip, rows)?;
             counted = counted.saturating_add(of_trip.len());
         }

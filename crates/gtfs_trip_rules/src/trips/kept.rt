@@ -1,6 +1,6 @@
 ghost use Rattle.std.specs.Prelude.{◌≡◌, ◌<◌, ◌∷◌, ◌++◌, [], filter, length, slice_get, slice_index_or, IfOk, IsPermutation, OnErr, OnOk, Some};
 ghost use Rattle.std.specs.List.Sorted.{IsSorted};
-ghost use Rattle.gtfs_trip_rules.specs.KeptLists.{no_note, KeepsBefore};
+ghost use Rattle.gtfs_trip_rules.specs.KeptLists.{no_note, AreRowsOf, KeepsBefore};
 ghost use Rattle.gtfs_trip_rules.specs.KeptStretches.{AreRising};
 ghost use Rattle.gtfs_trip_rules.specs.KeptTimes.{is_placed};
 ghost use Rattle.gtfs_trip_rules.specs.TripNotes.{AreEarlier};
@@ -100,6 +100,18 @@ impl KeptStopTimes {
             times: note.times,
             stop_row: self.rows[row as usize],
         }
+    }
+
+    // The rows by their numbers, and the numbers of the stop times.
+    pub(crate) fn into_rows(self) -> (Vec<StopRow>, Vec<u32>)
+        ensures { AreRowsOf self result.0.items result.1.items }
+    {
+        let KeptStopTimes {
+            rows,
+            notes: _,
+            order,
+        } = self;
+        (rows, order)
     }
 
     // Those whose rows have a sequence.

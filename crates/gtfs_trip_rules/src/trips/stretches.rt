@@ -17,15 +17,17 @@ pub(crate) struct Stretch<'a> {
 }
 
 // Rows whose trips stand together, by the numbers of their trips. No row is looked at, but where a trip does not stand together.
-pub(crate) fn by_trips(ranks: &Ranks<'_>, order: Vec<u32>) -> Result<Vec<u32>, OutOfMemory>
+// They come in the list that was handed in, so that what is freed lies behind it.
+pub(crate) fn by_trips(ranks: &Ranks<'_>, mut order: Vec<u32>) -> Result<Vec<u32>, OutOfMemory>
     ensures { IfOk result
         (λ rows. AreByTrips ranks.now.rows.now ranks.now.notes.now order.items rows.items) }
 {
     let alloc = *order.allocator();
-    match moved(alloc, ranks, &order)? {
-        Some(moved) => Ok(moved),
-        None => Ok(order),
+    if let Some(moved) = moved(alloc, ranks, &order)? {
+        order.clear();
+        order.extend_from_slice(&moved)?;
     }
+    Ok(order)
 }
 
 // The same, where they do not stand so already.

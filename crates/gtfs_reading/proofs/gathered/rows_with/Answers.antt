@@ -1,7 +1,7 @@
 use Rattle.std.proofs.Common.{◌∙◌, ◌++◌, ◌∷◌, [], ◌<◌, ap, arith, get_or, length, sym, take}
 use Rattle.std.proofs.lemmas.List.{take_all}
 use Rattle.std.proofs.lemmas.Option.{get_or_from_slice_get}
-use Rattle.gtfs_reading.specs.StopTimeDraft.{rows_with, with_headsign_at}
+use Rattle.gtfs_trip_rules.specs.Headsigns.{rows_with, with_headsign_at}
 use Rattle.gtfs_reading.proofs.Gathers.{rows_with-next, rows_with-none}
 use Rattle.gtfs_reading.proofs.gathered.rows_with.Goals as goal
 

@@ -1,5 +1,5 @@
 use Rattle.std.proofs.Common.{◌≡◌, take}
-use Rattle.gtfs_reading.specs.StopTimeDraft.{rows_with}
+use Rattle.gtfs_trip_rules.specs.Headsigns.{rows_with}
 use Rattle.gtfs_reading.proofs.gathered.rows_with.Given as goal
 
 -- the rows so far

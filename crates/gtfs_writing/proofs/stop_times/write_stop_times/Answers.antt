@@ -1,5 +1,6 @@
-use Rattle.std.proofs.Common.{◌∙◌, ap, map, sym}
+use Rattle.std.proofs.Common.{◌∙◌, [], ap, map, sym}
 use Rattle.std.specs.List.{list_all}
+use Rattle.std.proofs.lemmas.Option.{get_or_from_slice_get}
 use Rattle.gtfs_columns.specs.Columns.{columns_of}
 use Rattle.gtfs_rows.specs.Cells.{record_text}
 use Rattle.gtfs_rows.specs.RowCells.{stop_time_cells, held_by}
@@ -8,7 +9,7 @@ use Rattle.gtfs_table.specs.declared.file.File.TheVariants as file
 use Rattle.gtfs_table.proofs.PartFacts.{all_in_part}
 use Rattle.gtfs_writing.specs.Plain.{is_plain_stop}
 use Rattle.gtfs_writing.specs.Taking.{with_rows}
-use Rattle.gtfs_writing.proofs.Items.{after_trip, left-none, stretch_is}
+use Rattle.gtfs_writing.proofs.Items.{after_trip, left-none, stop_rows_by_trip}
 use Rattle.gtfs_writing.proofs.stop_times.write_stop_times.Goals as goal
 
 pub write_trip_rows-requires-clause-plain : goal.write_trip_rows-requires-clause-plain
@@ -17,13 +18,12 @@ write_trip_rows-requires-clause-plain g c =
 
 pub write_trip_rows-requires-clause-names : goal.write_trip_rows-requires-clause-names
 write_trip_rows-requires-clause-names g c =
-    let q = stop_time_names_rows c.args.parts.now in
-    all_in_part q _ _ _ _ (ap (list_all q) c.as_slice-stop_rows.ensures ∙ c.requires.names_rows.stop_rows) c.stretch.ensures
+    all_in_part (stop_time_names_rows c.args.parts.now) _ _ _ _ c.requires.names_rows.stop_rows c.of_trip.ensures
 
 pub loop-n-preserved : goal.loop-n-preserved
 loop-n-preserved g c =
     let p = c.args.parts.now in
-    let held = ap (map (stop_row_of p)) (stretch_is _ p.stop_row_starts _ p.stop_rows _ _ c.as_slice-starts.ensures c.as_slice-stop_rows.ensures c.stretch.ensures) in
+    let held = ap (map (stop_row_of p)) (sym (get_or_from_slice_get (stop_rows_by_trip p) c.loop-n.n _ [] c.of_trip.ensures)) in
     after_trip p c.requires _ c.as_slice-trips.ensures c.loop-n.n g.S.Sink.takes (record_text (columns_of file.StopTimes)) stop_time_cells (λ t. t.stop_rows) c.index-trips-n.result
     c.loop-n-test.true _ (c.as_str.ensures ∙ ap (λ t. t.trip_id) c.index-trips-n.is) _ held _ _ _ c.loop-n.invariant c.in_ok-write_trip_rows.ensures
 

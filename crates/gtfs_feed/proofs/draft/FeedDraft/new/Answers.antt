@@ -12,14 +12,14 @@ invariant_of-result c =
     let d = c.args.passed in
     let are = c.in_ok-rows.ensures.rows in
     let p = parts_with c.in_ok-rows.rows c.in_ok-stop_times.stop_times in
-    make_a_feed d c.in_ok-rows.ensures.passes p are c.in_ok-stop_times.stop_times c.in_ok-stop_times.ensures refl refl refl (content_with p d are)
+    make_a_feed d c.in_ok-rows.ensures.passes p are c.in_ok-stop_times.stop_times c.in_ok-stop_times.ensures refl refl (content_with p d are)
 
 pub returns-clause-content : goal.returns-clause-content
 returns-clause-content c =
     let d = c.args.passed in
     let are = c.in_ok-rows.ensures.rows in
     let p = parts_with c.in_ok-rows.rows c.in_ok-stop_times.stop_times in
-    content_is d c.in_ok-rows.ensures.passes p are c.in_ok-stop_times.stop_times c.in_ok-stop_times.ensures refl refl refl (content_with p d are)
+    content_is d c.in_ok-rows.ensures.passes p are c.in_ok-stop_times.stop_times c.in_ok-stop_times.ensures refl refl (content_with p d are)
 
 pub returns-clause-headsigns : goal.returns-clause-headsigns
 returns-clause-headsigns c = c.in_ok-stop_times.ensures.first_named

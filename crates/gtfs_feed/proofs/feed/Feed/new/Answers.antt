@@ -17,8 +17,8 @@ assemble-requires c =
     let w = c.joined-parts.ensures in
     let p = c.joined-parts.result in
     make_a_feed d c.new.ensures.passes p (subst (AreRowsOf d) (sym w.rows) c.in_ok-rows.ensures.rows) c.in_ok-stop_times.stop_times c.in_ok-stop_times.ensures
-    w.stop_rows w.starts w.headsigns
-    (λ h. w.content d c.in_ok-rows.ensures.rows ((λ i. map (map (stop_row_of p)) (parts (sym w.starts i) (sym w.stop_rows i))) ∙ h))
+    w.stop_times w.headsigns
+    (λ h. w.content d c.in_ok-rows.ensures.rows (ap (λ t. map (map (stop_row_of p)) (parts t.starts t.rows)) (sym w.stop_times) ∙ h))
 
 pub returns-clause-content : goal.returns-clause-content
 returns-clause-content c =
@@ -27,8 +27,8 @@ returns-clause-content c =
     let p = c.joined-parts.result in
     let is : content_of_parts p ≡ content_of_dataset d =
     content_is d c.new.ensures.passes p (subst (AreRowsOf d) (sym w.rows) c.in_ok-rows.ensures.rows) c.in_ok-stop_times.stop_times c.in_ok-stop_times.ensures
-    w.stop_rows w.starts w.headsigns
-    (λ h. w.content d c.in_ok-rows.ensures.rows ((λ i. map (map (stop_row_of p)) (parts (sym w.starts i) (sym w.stop_rows i))) ∙ h)) in
+    w.stop_times w.headsigns
+    (λ h. w.content d c.in_ok-rows.ensures.rows (ap (λ t. map (map (stop_row_of p)) (parts t.starts t.rows)) (sym w.stop_times) ∙ h)) in
     IfOk-weaker c.assemble.result (λ feed. feed ≡ p) (λ feed. content_of_parts feed ≡ content_of_dataset d) (λ feed same. ap content_of_parts same ∙ is) c.assemble.ensures.value
 
 pub returns-clause-headsigns : goal.returns-clause-headsigns

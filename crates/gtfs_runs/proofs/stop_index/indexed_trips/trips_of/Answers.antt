@@ -20,7 +20,7 @@ loop-number-preserved c =
     let none : List Frequency = [] in
     let x : IndexedTrip = record { group = 0; start = c.trip_start.result; has_frequencies = c.has_frequencies.result } in
     let within : n < length rows =
-    omega (arith, c.loop-number-test.true, c.trip_count-number-end.ensures, length-parts p.stop_row_starts p.stop_rows, c.soundness.ensures.stop_rows.0) in
+    omega (arith, c.loop-number-test.true, c.trip_count-number-end.ensures, length-parts p.stop_times.starts p.stop_times.rows, c.soundness.ensures.stop_rows.0) in
     let counted : n < length lists =
     omega (arith, c.loop-number-test.true, c.trip_count-number-end.ensures, length-parts p.frequency_starts p.frequencies, c.soundness.ensures.frequencies.0) in
     let fs = get_or lists n none in
@@ -38,7 +38,7 @@ returns-clause-started c =
     let p = c.args.feed.now in
     let rows = stop_rows_by_trip p in
     let past : length rows ≤ c.loop-number.number =
-    omega (arith, c.loop-number-test.false, c.trip_count-number-end.ensures, length-parts p.stop_row_starts p.stop_rows, c.soundness.ensures.stop_rows.0) in
+    omega (arith, c.loop-number-test.false, c.trip_count-number-end.ensures, length-parts p.stop_times.starts p.stop_times.rows, c.soundness.ensures.stop_rows.0) in
     mapped-all first_left rows c.loop-number.number _ past c.loop-number.invariant.started
 
 pub returns-clause-marked : goal.returns-clause-marked

@@ -2,7 +2,7 @@ use Rattle.std.proofs.Common.{◌∙◌, ap, Some, [], length, arith}
 use Rattle.std.proofs.lemmas.Option.{slice_get-get_or}
 use Rattle.gtfs_table.specs.Parts.{parts}
 use Rattle.gtfs_table.proofs.PartFacts.{length-parts, part-at, part-bounds}
-use Rattle.gtfs_rows.proofs.stretches.stretch.Goals as goal
+use Rattle.gtfs_stop_times.proofs.stretches.stretch.Goals as goal
 
 pub offset_bounds-rows-start : goal.offset_bounds-rows-start
 offset_bounds-rows-start g c =

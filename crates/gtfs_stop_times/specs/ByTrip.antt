@@ -1,0 +1,34 @@
+-- The stop times of all trips: as they are seen, and where they stand.
+use Rattle.std.specs.Prelude.{◌≡◌, ◌≤◌, ◌-◌, ℕ, List, drop, flat_map, length, map, take, ⊤}
+use Rattle.std.specs.List.{All}
+use Rattle.gtfs_table.specs.Parts.{starts_of}
+use Rattle.gtfs_stop_times.specs.declared.by_trip.Places.TheVariants as places
+use Rattle.gtfs_stop_times.specs.declared.by_trip.Places.{Places}
+use Rattle.gtfs_stop_times.specs.declared.by_trip.RowRange.{RowRange}
+use Rattle.gtfs_stop_times.specs.declared.stop_row.StopRow.{StopRow}
+
+-- the stop times in one list, trip after trip, and where those of each trip begin
+pub record StopTimesOfTrips : Type 0 where
+  pub rows : List StopRow
+  pub starts : List ℕ
+
+-- these stop times of each trip, one trip after the other
+abbrev pub in_turn : List (List StopRow) → StopTimesOfTrips
+in_turn trips = record { rows = flat_map (λ rs. rs) trips; starts = starts_of 0 trips }
+
+-- the rows of a range
+abbrev pub rows_in : List StopRow → RowRange → List StopRow
+rows_in rows s = take (s.end - s.start) (drop s.start rows)
+
+-- each range ends where it begins or later, and in a list of this length
+abbrev pub AreWithin : ℕ → List RowRange → Type 0
+AreWithin size ranges = All (λ s. (s.start ≤ s.end) × (s.end ≤ size)) ranges
+
+-- the stop times whose rows stand so
+abbrev pub at_places : List StopRow → Places → StopTimesOfTrips
+at_places rows (places.InTurn starts) = record { rows = rows; starts = starts.items }
+at_places rows (places.Anywhere ranges len) = in_turn (map (rows_in rows) ranges.items)
+
+abbrev pub AreSoundPlaces : List StopRow → Places → Type 0
+AreSoundPlaces rows (places.InTurn starts) = ⊤
+AreSoundPlaces rows (places.Anywhere ranges len) = AreWithin (length rows) ranges.items × (length (in_turn (map (rows_in rows) ranges.items)).rows ≡ len)
