@@ -193,6 +193,25 @@ module _ (old rows : List StopRow) (order : List ℕ) (hs : List (Option ℕ)) (
       other row k (λ e. eqb-false (number at) (number k) (apart_from_distinct nat_eq order at k 0 once later high) (sym e))
       ∙ left k (omega (arith, low)) high
 
+  -- the same of a number that is that of the row
+  module _ (n : ℕ) (here : number at ≡ n) where
+    pub long-after : (row : StopRow) → length (set rows n row) ≡ length old
+    long-after row = subst (λ m. length (set rows m row) ≡ length old) here (still-long row)
+
+    pub named-after : (row d : StopRow) → row ≡ headed (get_or hs at None) (get_or rows n d)
+        → ((k : ℕ) → k < at → get_or rows (number k) no_row ≡ headed (get_or hs k None) (get_or old (number k) no_row))
+        → ((k : ℕ) → at ≤ k → k < length order → get_or rows (number k) no_row ≡ get_or old (number k) no_row)
+        → (k : ℕ) → k < at + 1 → get_or (set rows n row) (number k) no_row ≡ headed (get_or hs k None) (get_or old (number k) no_row)
+    named-after row d is named left k below =
+        subst (λ m. get_or (set rows m row) (number k) no_row ≡ headed (get_or hs k None) (get_or old (number k) no_row)) here
+        (named-more row d (is ∙ ap (λ m. headed (get_or hs at None) (get_or rows m d)) (sym here)) named left k below)
+
+    pub left-after : (row : StopRow)
+        → ((k : ℕ) → at ≤ k → k < length order → get_or rows (number k) no_row ≡ get_or old (number k) no_row)
+        → (k : ℕ) → at + 1 ≤ k → k < length order → get_or (set rows n row) (number k) no_row ≡ get_or old (number k) no_row
+    left-after row left k low high =
+        subst (λ m. get_or (set rows m row) (number k) no_row ≡ get_or old (number k) no_row) here (left-more row left k low high)
+
 -- ---- stop times as they are kept
 
 pub own-numbers : (rows : List StopRow) (notes : List RowNote) (order : List ℕ) → map (λ s. s.row) (stop_times_at rows notes order) ≡ order
